@@ -1,0 +1,21 @@
+use Rattle.std.proofs.Common.{◌≡◌, ◌≤◌, List, [], ◌++◌, drop, length, subst, sym, ap, ◌∙◌, append-nil, arith}
+use Rattle.std.proofs.lemmas.List.{drop_all}
+use Rattle.std.specs.Prelude.{Result}
+use Rattle.bibtex.specs.declared.edit.Edit.{Edit}
+use Rattle.bibtex.specs.declared.edit.Refusal.{Refusal}
+use Rattle.bibtex.specs.declared.edit.Report.{Report}
+use Rattle.bibtex.specs.Headline.{AnswersInTurn, behind_all}
+use Rattle.bibtex.proofs.edits.edit_all.Goals as goal
+
+pub returns-clause-answers : goal.returns-clause-answers
+returns-clause-answers c =
+    let none : drop c.edits.edit-index c.args.edits.now ≡ [] = drop_all c.edits.edit-index c.args.edits.now c.edits-test.false in
+    let h = c.edits.invariant.answers [] (subst (λ (es : List Edit). AnswersInTurn es [] c.edits.session) (sym none) tt) in
+    subst (λ (answers : List (Result Report Refusal)). AnswersInTurn c.args.edits.now answers c.args.session.now) (append-nil c.edits.answers.items) h
+
+pub returns-clause-state : goal.returns-clause-state
+returns-clause-state c =
+    let none : drop c.edits.edit-index c.args.edits.now ≡ [] = drop_all c.edits.edit-index c.args.edits.now c.edits-test.false in
+    sym (ap (λ es. behind_all es [] c.edits.session) none)
+    ∙ c.edits.invariant.state []
+    ∙ ap (λ answers. behind_all c.args.edits.now answers c.args.session.now) (append-nil c.edits.answers.items)

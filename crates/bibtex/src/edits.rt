@@ -1,0 +1,30 @@
+//! Lists of edits.
+
+ghost use Rattle.std.specs.Prelude.{◌≡◌, IfOk, OnErr};
+ghost use Rattle.bibtex.specs.Headline.{AnswersInTurn, behind_all};
+
+use crate::edit::{Edit, Refusal, Report};
+use crate::session::Session;
+use std::alloc::{AllocError, Global};
+
+/// Carries out edits in order, and answers what each reported, or why it was refused. The one error is that there is no
+/// room for the answers; then nothing is changed.
+///
+/// This is the whole promise in one sentence: after any list of edits the session's state, of which `bbl`, `blg`,
+/// `status` and the rest show the meaning from scratch, is the result of the accepted edits, and a refused one, for want
+/// of memory too, changes nothing.
+pub fn edit_all(
+    alloc: Global,
+    session: &mut Session,
+    edits: &[Edit<'_>],
+) -> Result<Vec<Result<Report, Refusal>>, AllocError>
+    ensures answers { IfOk result (λ answers. AnswersInTurn edits.now answers.items session.old) }
+    ensures state { IfOk result (λ answers. session.new ≡ behind_all edits.now answers.items session.old) }
+    ensures err { OnErr result (session.new ≡ session.old) }
+{
+    let mut answers = Vec::with_capacity(alloc, edits.len())?;
+    'edits: for edit in edits {
+        answers.push_reserved(session.edit(*edit));
+    }
+    Ok(answers)
+}

@@ -1,0 +1,5 @@
+mod Rows
+pub mod Ticks
+pub mod Equations
+pub mod Steps
+pub mod Local

@@ -1,0 +1,42 @@
+-- The definitions at small programs.
+use Rattle.std.specs.Prelude.{◌≡◌, false, pos, [], ◌∷◌, ◌++◌, None, Some, codes, refl, replicate}
+use Rattle.bt_machine.specs.declared.style.Builtin.TheVariants.{Cite, Newline, Skip, Write}
+use Rattle.bt_machine.specs.declared.style.Target.TheVariants.{Builtin, Field, Function}
+use Rattle.bt_machine.specs.declared.input.Entry.{Entry}
+use Rattle.bt_machine.specs.declared.message.Rank.TheVariants.{Error, Fatal}
+use Rattle.bt_machine.specs.Tree.{Amount, Words, Called, End, Then}
+use Rattle.bt_machine.specs.Held.{line_ended}
+use Rattle.bt_machine.specs.World.{World, no_variables}
+use Rattle.bt_machine.specs.Eval.{eval_within}
+use Rattle.bt_machine.specs.Step.{step}
+
+blank_line : (line_ended (codes "  ")).lines ≡ []
+blank_line = refl
+
+empty_line : (line_ended []).lines ≡ [] ∷ []
+empty_line = refl
+
+trimmed_line : (line_ended (codes " a b \t")).lines ≡ codes " a b" ∷ []
+trimmed_line = refl
+
+cited : Entry
+cited = record { key = codes "b"; kind = codes "book"; function = None; fields = None ∷ []; variables = no_variables }
+
+start : World
+start =
+    record {
+      entries = cited ∷ [];
+      current = None;
+      globals = no_variables;
+      preamble = [];
+      held = [];
+      lines = [];
+      messages = [];
+      stack = [];
+      calls = [];
+    }
+
+-- "key " write$ cite$ write$ newline$
+written_key : step (record { name = codes "f"; body = Then (Words (codes "key ")) (Then (Called (Builtin Write)) (Then (Called (Builtin Cite)) (Then (Called (Builtin Write)) (Then (Called (Builtin Newline)) End)))) } ∷ []) (Some 0) (Function 0) start ≡ record { world = record start { lines = codes "key b" ∷ [] }; stopped = false; cost = 6; calls = replicate 11 0 ++ 1 ∷ replicate 7 0 ++ 1 ∷ replicate 16 0 ++ 2 ∷ [] }
+unfolding eval_within start cited
+written_key = refl

@@ -1,0 +1,58 @@
+-- What the machine's values and state are as items and worlds.
+use Rattle.std.specs.Prelude.{ℕ, List, [], ◌∷◌, Option, Some, None, map, option_map, reverse}
+use Rattle.bt_machine.specs.declared.value.Code.{Code as HeldCode}
+use Rattle.bt_machine.specs.declared.value.Code.TheVariants as code
+use Rattle.bt_machine.specs.declared.value.Value.{Value}
+use Rattle.bt_machine.specs.declared.value.Value.TheVariants as value
+use Rattle.bt_machine.specs.declared.input.Entry.{Entry}
+use Rattle.bt_machine.specs.declared.state.Flow.{Flow}
+use Rattle.bt_machine.specs.declared.state.Flow.TheVariants.{Go, Stop}
+use Rattle.bt_machine.specs.declared.state.Current.{Current}
+use Rattle.bt_machine.specs.declared.state.State.{State}
+use Rattle.bt_machine.specs.Tree.{ops_body}
+use Rattle.bt_machine.specs.Item.{Code, Name, Block, Item, Num, Txt, Fun, Gap}
+use Rattle.bt_machine.specs.Words.{message_of}
+use Rattle.bt_machine.specs.World.{World, Act, Goes, Stops, key_in}
+use Rattle.bt_machine.specs.Step.{entries_in}
+
+abbrev pub code_seen : HeldCode → Code
+code_seen (code.Name t) = Name t
+code_seen (code.Braced ops) = Block (ops_body ops.now)
+
+abbrev pub item_of : Value → Item
+item_of (value.Number n) = Num n
+item_of (value.Text t) = Txt t
+item_of (value.Code c) = Fun (code_seen c)
+item_of (value.Missing n) = Gap n
+
+-- the step's entry, with its variables as they are now
+abbrev pub entry_seen : Current → Entry
+entry_seen c = record c.entry.now { variables = c.variables }
+
+abbrev pub entries_seen : Option Current → List Entry
+entries_seen c = entries_in (option_map entry_seen c)
+
+abbrev pub place_seen : Option Current → Option ℕ
+place_seen c = option_map (λ e. 0) c
+
+abbrev pub key_seen : Option Current → Option (List ℕ)
+key_seen c = key_in (entries_seen c) (place_seen c)
+
+-- the world of a step, which has its entry alone
+abbrev pub world_of : State → World
+world_of s =
+    record {
+      entries = entries_seen s.current;
+      current = place_seen s.current;
+      globals = s.globals;
+      preamble = s.preamble.now;
+      held = s.held;
+      lines = s.lines;
+      messages = map (message_of (key_seen s.current)) s.complaints;
+      stack = reverse (map item_of s.stack.items);
+      calls = s.tally.calls;
+    }
+
+abbrev pub act_of : Flow → World → Act
+act_of Go w = Goes w
+act_of Stop w = Stops w

@@ -1,0 +1,23 @@
+//! What a step leaves.
+
+use crate::builtin::BUILTIN_COUNT;
+use crate::held::Held;
+use crate::input::Variables;
+use crate::message::Message;
+use bt_text::{Bytes, Sequence};
+
+/// What a step leaves.
+#[derive(Debug, Drop)]
+pub struct Outcome {
+    pub globals: Variables,
+    /// The variables of the step's entry, if it has one.
+    pub variables: Option<Variables>,
+    pub held: Held,
+    /// The step's own lines and messages, in their order.
+    pub lines: Sequence<Bytes>,
+    pub messages: Sequence<Message>,
+    /// Whether a limit was passed, so that the run stops.
+    pub stop: bool,
+    /// How often each built-in function was called, by its place in the table.
+    pub calls: [u32; BUILTIN_COUNT],
+}

@@ -1,0 +1,143 @@
+//! A step of a style: one call for an entry or for none.
+
+ghost use Rattle.std.specs.Prelude.{◌≡◌, ◌∷◌, [], ◌+◌, ◌^◌, ◌<◌, ◌≤◌, IfOk, OnOk, OnErr};
+ghost use Rattle.bt_machine.specs.Program.{program_of};
+ghost use Rattle.bt_machine.specs.Item.{Name};
+ghost use Rattle.bt_machine.specs.Step.{begun, finished_at, step_in, entries_in, world_in, place_in, outcome_of};
+ghost use Rattle.bt_machine.specs.View.{world_of, entries_seen, place_seen};
+ghost use Rattle.bt_machine.specs.Control.{codes_of, ticks_of, is_stop, checked_at};
+
+use crate::complaint::Complaint;
+use crate::input::{Input, Variables};
+use crate::machine::Machine;
+use crate::meter::Meter;
+use crate::outcome::Outcome;
+use crate::state::{Current, Flow, State};
+use crate::style::Style;
+use crate::tally::{TICK_LIMIT, Tally};
+use crate::value::Code;
+use bt_text::{Bytes, Sequence};
+use std::alloc::{AllocError, Global};
+
+/// The same texts again.
+fn copy_texts(alloc: Global, texts: &[Bytes]) -> Result<Sequence<Bytes>, AllocError>
+    ensures { IfOk result (λ copies. copies ≡ texts.now) }
+{
+    let mut copies = Sequence::new(alloc);
+    for text in texts {
+        copies.push(Bytes::copied(alloc, text.as_slice())?)?;
+    }
+    Ok(copies)
+}
+
+/// The same variables again.
+fn copy_variables(alloc: Global, variables: &Variables) -> Result<Variables, AllocError>
+    ensures { IfOk result (λ copies. copies ≡ variables.now) }
+{
+    Ok(Variables {
+        numbers: Sequence::from_vec(Vec::from_slice(alloc, variables.numbers.as_slice())?),
+        texts: copy_texts(alloc, variables.texts.as_slice())?,
+    })
+}
+
+/// The entry of a step, with variables of the step's own.
+fn current_entry<'a>(alloc: Global, input: &'a Input) -> Result<Option<Current<'a>>, AllocError>
+    ensures entries { IfOk result (λ current. entries_seen current ≡ entries_in input.now.entry) }
+    ensures place { IfOk result (λ current. place_seen current ≡ place_in input.now) }
+{
+    match &input.entry {
+        None => Ok(None),
+        Some(entry) => Ok(Some(Current {
+            entry,
+            variables: copy_variables(alloc, &entry.variables)?,
+        })),
+    }
+}
+
+/// The machine before a step.
+fn begin<'a>(alloc: Global, input: &'a Input) -> Result<Machine<'a>, AllocError>
+    ensures world { IfOk result (λ m. world_of m.state ≡ begun (place_in input.now) (world_in input.now)) }
+    ensures codes { IfOk result (λ m. codes_of m ≡ Name input.now.target ∷ []) }
+    ensures ticks { IfOk result (λ m. ticks_of m ≡ 1000000) }
+{
+    let current = current_entry(alloc, input)?;
+    let globals = copy_variables(alloc, &input.globals)?;
+    let held = input.held.copy(alloc)?;
+    let mut control = Vec::new(alloc);
+    control.push(Code::Name(input.target))?;
+    Ok(Machine {
+        state: State {
+            current,
+            globals,
+            preamble: input.preamble.as_slice(),
+            held,
+            lines: Sequence::new(alloc),
+            complaints: Sequence::new(alloc),
+            stack: Vec::new(alloc),
+            tally: Tally::new(),
+        },
+        control,
+    })
+}
+
+/// Tells of a stack that isn't empty at the end.
+fn check_stack(state: &mut State, flow: Flow) -> Result<(), AllocError>
+    ensures world { OnOk result (world_of state.new ≡ checked_at flow (world_of state.old)) }
+    ensures tally { state.new.tally ≡ state.old.tally }
+{
+    if flow == Flow::Go && !state.stack.is_empty() {
+        state.tell(Complaint::LeftOver)?;
+    }
+    Ok(())
+}
+
+/// What a run leaves.
+fn leave(alloc: Global, state: State, flow: Flow) -> Result<Outcome, AllocError>
+    ensures { IfOk result (λ outcome. outcome ≡ outcome_of (finished_at (world_of state.entry) (is_stop flow) state.entry.tally.ticks)) }
+{
+    let messages = state.messages(alloc)?;
+    let State {
+        current,
+        globals,
+        preamble: _,
+        held,
+        lines,
+        complaints: _,
+        stack: _,
+        tally,
+    } = state;
+    let calls = tally.calls;
+    Ok(Outcome {
+        globals,
+        variables: current.map(|current| current.variables),
+        held,
+        lines,
+        messages,
+        stop: flow == Flow::Stop,
+        calls,
+    })
+}
+
+/// Carries out a step of a style: the call of the input's target for its entry, or for none. The meter rises by
+/// exactly the step's ticks. The one error is want of memory, after which the meter is as before.
+pub fn activate(
+    alloc: Global,
+    style: &Style,
+    input: &Input,
+    meter: &mut Meter,
+) -> Result<Outcome, AllocError>
+    requires { meter.old + 1000000 < 2 ^ 128 }
+    ensures outcome { IfOk result (λ outcome. outcome ≡ outcome_of (step_in (program_of style.now).functions input.now)) }
+    ensures cost { OnOk result (meter.new ≡ meter.old + (step_in (program_of style.now).functions input.now).cost) }
+    ensures within { OnOk result (meter.new ≤ meter.old + 1000000) }
+    ensures err { OnErr result (meter.new ≡ meter.old) }
+{
+    let mut machine = begin(alloc, input)?;
+    let flow = machine.run(alloc, &style.functions)?;
+    check_stack(&mut machine.state, flow)?;
+    let cost = TICK_LIMIT - machine.state.tally.ticks;
+    let Machine { state, control: _ } = machine;
+    let outcome = leave(alloc, state, flow)?;
+    meter.raise(cost);
+    Ok(outcome)
+}

@@ -1,0 +1,10 @@
+pub mod SmallWord
+pub mod PlainItem
+pub mod StyleToken
+pub mod StyleCursor
+pub mod StyleRefusal
+pub mod StyleArgument
+pub mod StyleName
+pub mod StyleBody
+pub mod StyleCommand
+pub mod StyleReader

@@ -1,0 +1,75 @@
+-- The tokens of a plain style's text.
+use Rattle.std.specs.Prelude.{ℕ, zero, suc, ◌+◌, ◌-◌, Bool, true, ◌||◌, ◌==◌, if◌then◌else◌, List, [], ◌∷◌, length, drop, Option, Some, None}
+use Rattle.std.specs.List.{before_first}
+
+-- tab, line feed, carriage return, space
+abbrev pub is_white : ℕ → Bool
+is_white b = b == 9 || b == 10 || b == 13 || b == 32
+
+-- white space, a percent sign, a brace
+abbrev pub ends_word : ℕ → Bool
+ends_word b = is_white b || b == 37 || b == 123 || b == 125
+
+abbrev pub is_line_feed : ℕ → Bool
+is_line_feed b = b == 10
+
+abbrev pub is_quote : ℕ → Bool
+is_quote b = b == 34
+
+pub data Token : Type 0 where
+  Open : Token
+  Close : Token
+  -- a word and the number of its line
+  Word : (bytes : List ℕ) → (line : ℕ) → Token
+  -- the bytes between two quotes
+  Literal : (bytes : List ℕ) → Token
+  -- what no plain text has: a comment, a literal without end, a literal and a word without space between them
+  Stray : Token
+
+-- how many bytes stand together, as a token or as none
+pub record Piece : Type 0 where
+  pub token : Option Token
+  pub size : ℕ
+
+-- what stands behind a literal may stand there
+abbrev pub may_follow : List ℕ → Bool
+may_follow [] = true
+may_follow (b ∷ _) = ends_word b
+
+-- the piece that begins with a quote, by the bytes up to the next quote and those from there on
+abbrev pub literal_end : List ℕ → List ℕ → Piece
+literal_end inside [] = record { token = Some Stray; size = 1 + length inside }
+literal_end inside (_ ∷ behind) = record { token = Some (if may_follow behind then Literal inside else Stray); size = 2 + length inside }
+
+unfoldable pub literal_piece : List ℕ → Piece
+literal_piece bytes = let inside = before_first is_quote bytes in literal_end inside (drop (length inside) bytes)
+
+-- the piece that begins with a byte of a line, by what stands behind the byte
+unfoldable pub piece_at : ℕ → ℕ → List ℕ → Piece
+piece_at line b bytes =
+    let more = before_first ends_word bytes in
+    if is_white b then record { token = None; size = 1 }
+    else if b == 37 then record { token = Some Stray; size = 1 }
+    else if b == 123 then record { token = Some Open; size = 1 }
+    else if b == 125 then record { token = Some Close; size = 1 }
+    else if b == 34 then literal_piece bytes
+    else record { token = Some (Word (b ∷ more) line); size = 1 + length more }
+
+abbrev pub line_after : ℕ → ℕ → ℕ
+line_after b line = if b == 10 then line + 1 else line
+
+abbrev pub with_token : Option Token → List Token → List Token
+with_token None rest = rest
+with_token (Some token) rest = token ∷ rest
+
+-- the tokens of the rest of a text from a line on; the first so many bytes belong to a piece that began before
+unfoldable pub tokens_behind : ℕ → ℕ → List ℕ → List Token
+tokens_behind covered line [] = []
+tokens_behind (suc covered) line (b ∷ bytes) = tokens_behind covered (line_after b line) bytes
+tokens_behind zero line (b ∷ bytes) =
+    let piece = piece_at line b bytes in
+    with_token piece.token (tokens_behind (piece.size - 1) (line_after b line) bytes)
+
+-- the tokens of a text
+abbrev pub tokens_of : List ℕ → List Token
+tokens_of text = tokens_behind 0 1 text
