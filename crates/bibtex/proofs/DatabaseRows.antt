@@ -9,8 +9,8 @@ use Rattle.bt_machine.specs.declared.input.Entry.{Entry}
 use Rattle.bibtex.specs.declared.files.File.{File}
 use Rattle.bibtex.specs.declared.log.Message.{Message}
 use Rattle.bibtex.specs.declared.log.Rank.TheVariants.{FileLine, Warning}
-use Rattle.bt_plain.specs.PlainItem.{items_of}
-use Rattle.bibtex.specs.Databases.{entry_for, file_words, place_words, type_words, missing_words, type_messages, database_messages, missing_messages, found_in}
+use Rattle.bt_plain.specs.PlainItem.{bib_items}
+use Rattle.bibtex.specs.Databases.{entry_for, file_words, place_words, type_words, missing_words, type_messages, database_messages, missing_messages, resolved}
 
 abbrev file : List ℕ → List ℕ → File
 file name text = record { name = name; text = text }
@@ -40,7 +40,7 @@ abbrev functions : List Definition
 functions = function (codes "book") ∷ function (codes "misc") ∷ function (codes "book") ∷ []
 
 abbrev found : List (List ℕ) → List (List ℕ) → Found
-found databases keys = found_in files databases keys functions
+found databases keys = resolved files databases keys functions
 
 -- entries in citation order; the first item of a key; a type without function; a key without an item
 two_databases : found (codes "x.bib" ∷ codes "y.bib" ∷ []) (codes "c" ∷ codes "m" ∷ codes "b" ∷ codes "a" ∷ []) ≡ record {
@@ -53,7 +53,7 @@ two_databases : found (codes "x.bib" ∷ codes "y.bib" ∷ []) (codes "c" ∷ co
       ∷ warning (codes "Warning--I didn't find a database entry for \"m\"")
       ∷ [];
 }
-unfolding digits items_of entry_for file_words place_words type_words missing_words type_messages database_messages missing_messages found_in
+unfolding digits bib_items entry_for file_words place_words type_words missing_words type_messages database_messages missing_messages resolved
 two_databases = refl
 
 -- a database that isn't plain and one that isn't there hold nothing
@@ -66,10 +66,10 @@ no_items : found (codes "z.bib" ∷ codes "w.bib" ∷ []) (codes "d" ∷ codes "
       ∷ warning (codes "Warning--I didn't find a database entry for \"a\"")
       ∷ [];
 }
-unfolding digits items_of entry_for file_words place_words type_words missing_words type_messages database_messages missing_messages found_in
+unfolding digits bib_items entry_for file_words place_words type_words missing_words type_messages database_messages missing_messages resolved
 no_items = refl
 
 -- with no citation nothing but the files is told
 nothing_cited : found (codes "x.bib" ∷ []) [] ≡ record { entries = []; messages = line (codes "Database file #1: x.bib") ∷ [] }
-unfolding digits items_of entry_for file_words place_words type_words missing_words type_messages database_messages missing_messages found_in
+unfolding digits bib_items entry_for file_words place_words type_words missing_words type_messages database_messages missing_messages resolved
 nothing_cited = refl

@@ -10,7 +10,7 @@ use Rattle.bibtex.specs.declared.edit.Refusal.TheVariants.{BadName, FileTooLarge
 use Rattle.bibtex.specs.Naming.{is_file_name}
 use Rattle.bibtex.specs.AdmittedAux.{is_admitted_aux}
 use Rattle.bt_plain.specs.StyleReader.{style_of}
-use Rattle.bt_plain.specs.PlainItem.{items_of}
+use Rattle.bt_plain.specs.PlainItem.{bib_items}
 use Rattle.bibtex.specs.Present.{State, place_of, with_text}
 
 -- how long a text may be, and how many files there may be
@@ -24,7 +24,7 @@ file_limit = 64
 abbrev pub is_admitted : List ℕ → List ℕ → Bool
 is_admitted name text =
     if ends_with eqb name (codes ".aux") then is_admitted_aux text
-    else if ends_with eqb name (codes ".bib") then is_some (items_of text)
+    else if ends_with eqb name (codes ".bib") then is_some (bib_items text)
     else if ends_with eqb name (codes ".bst") then is_some (style_of text)
     else true
 

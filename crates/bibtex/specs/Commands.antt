@@ -9,7 +9,7 @@ use Rattle.bibtex.specs.declared.files.File.{File}
 use Rattle.bibtex.specs.declared.log.Message.{Message}
 use Rattle.bibtex.specs.declared.course.Course.{Course}
 use Rattle.bibtex.specs.declared.databases.Found.{Found}
-use Rattle.bibtex.specs.Databases.{found_in}
+use Rattle.bibtex.specs.Databases.{resolved}
 use Rattle.bibtex.specs.declared.course.Site.{Site}
 use Rattle.bibtex.specs.Course.{stepped}
 
@@ -26,7 +26,7 @@ abbrev pub entered : Found → Course → Course
 entered found r = record r { entries = found.entries; log = r.log ++ found.messages }
 
 abbrev pub read : Job → Course → Course
-read job r = entered (found_in job.files job.databases job.keys job.functions) r
+read job r = entered (resolved job.files job.databases job.keys job.functions) r
 
 -- after a step that stopped nothing follows
 abbrev pub unless_stopped : Bool → Course → Course → Course

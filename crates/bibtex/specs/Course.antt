@@ -11,7 +11,8 @@ use Rattle.bt_machine.specs.declared.message.Rank.{Rank as StepRank}
 use Rattle.bt_machine.specs.declared.message.Rank.TheVariants as step_rank
 use Rattle.bt_machine.specs.Program.{Definition}
 use Rattle.bt_machine.specs.World.{World, entry_in, no_entry}
-use Rattle.bt_machine.specs.Step.{Finish, step, step_in, outcome_of}
+use Rattle.bt_machine.specs.Step.{Finish, step}
+use Rattle.bt_machine.specs.Place.{Own, own}
 use Rattle.bibtex.specs.declared.log.Message.{Message}
 use Rattle.bibtex.specs.declared.log.Rank.{Rank}
 use Rattle.bibtex.specs.declared.log.Rank.TheVariants.{Note, Warning, Error, Fatal}
@@ -41,14 +42,14 @@ all_told line style messages = map (λ m. told_by line style m.rank m.words) mes
 abbrev pub input_at : Target → Option ℕ → World → Input
 input_at t x w = record { target = t; entry = entry_in w.entries x; globals = w.globals; held = w.held; preamble = w.preamble }
 
--- the step of a run: its command, its entry's key, its input, its outcome and its cost
-abbrev pub kept : List Definition → ℕ → Input → Step
-kept defs command i =
-    record { command = command; key = option_map (λ (e : Entry). e.key) i.entry; input = i; outcome = outcome_of (step_in defs i); cost = (step_in defs i).cost }
+-- The step of a run: its command, its entry's key, its input, and what it left of the run that was its own.
+abbrev pub kept : ℕ → Input → Own → Step
+kept command i o =
+    record { command = command; key = option_map (λ (e : Entry). e.key) i.entry; input = i; outcome = o.outcome; cost = o.cost }
 
 -- the run behind a step that left this in the world of all entries
-abbrev pub left_by : List Definition → Site → Target → Option ℕ → Course → Finish → Course
-left_by defs site t x r s =
+abbrev pub left_by : Site → Target → Option ℕ → Course → Finish → Course
+left_by site t x r s =
     record {
       entries = s.world.entries;
       globals = s.world.globals;
@@ -56,13 +57,13 @@ left_by defs site t x r s =
       held = s.world.held;
       lines = s.world.lines;
       log = r.log ++ all_told site.line site.style s.world.messages;
-      trace = r.trace ++ kept defs site.command (input_at t x (world_of r)) ∷ [];
+      trace = r.trace ++ kept site.command (input_at t x (world_of r)) (own x (world_of r) s) ∷ [];
       stopped = s.stopped;
     }
 
 -- A step in the world of all entries.
 abbrev pub stepped : List Definition → Site → Target → Option ℕ → Course → Course
-stepped defs site t x r = left_by defs site t x r (step defs x t (world_of r))
+stepped defs site t x r = left_by site t x r (step defs x t (world_of r))
 
 -- The same by an outcome: the entry's variables are replaced, and lines, messages and the step itself go to the ends.
 abbrev pub with_variables : Option Variables → Entry → Entry

@@ -11,11 +11,11 @@ use Rattle.bibtex.specs.declared.log.Rank.{Rank}
 use Rattle.bibtex.specs.declared.log.Rank.TheVariants.{FileLine, Warning}
 use Rattle.bt_plain.specs.declared.plain_item.PlainItem.{PlainItem}
 use Rattle.bibtex.specs.Naming.{text_of}
-use Rattle.bt_plain.specs.PlainItem.{items_of}
+use Rattle.bt_plain.specs.PlainItem.{bib_items}
 
 -- the items of a database, which has none if it isn't there or isn't plain
 abbrev pub items_in : List File → List ℕ → List PlainItem
-items_in files name = unwrap_or (option_and_then items_of (text_of files name)) []
+items_in files name = unwrap_or (option_and_then bib_items (text_of files name)) []
 
 -- the first item of a key
 abbrev pub item_for : List PlainItem → List ℕ → Option PlainItem
@@ -103,8 +103,8 @@ abbrev pub all_items : List File → List (List ℕ) → List PlainItem
 all_items files databases = flat_map (items_in files) databases
 
 -- what the databases of these names give for the cited keys, under a style with these functions
-unfoldable pub found_in : List File → List (List ℕ) → List (List ℕ) → List Definition → Found
-found_in files databases keys functions = record {
+unfoldable pub resolved : List File → List (List ℕ) → List (List ℕ) → List Definition → Found
+resolved files databases keys functions = record {
   entries = flat_map (entry_for functions (all_items files databases)) keys;
   messages = databases_messages files keys functions 1 databases ++ flat_map (missing_messages (all_items files databases)) keys;
 }

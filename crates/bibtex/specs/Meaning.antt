@@ -61,7 +61,7 @@ pub record Meaning : Type 0 where
 abbrev pub shown : Course → List (List ℕ) → Meaning
 shown r wanted = record { bbl = lines_bytes r.lines; blg = log_bytes r.log; terse = terse_bytes r.log; status = status_of r.log; wanted = wanted }
 
--- what an edit reports behind which this is the run: every step was run
+-- what an edit that left this run reports: every step was run
 abbrev pub reported : Course → Report
 reported r = record { status = status_of r.log; ran = length r.trace; reused = 0; ticks = total_cost r.trace }
 

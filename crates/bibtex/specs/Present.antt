@@ -4,8 +4,12 @@ use Rattle.std.specs.Str.{bytes_eq}
 use Rattle.bibtex.specs.declared.files.File.{File}
 use Rattle.bibtex.specs.Naming.{is_file_name}
 
+-- the present texts, each under its name
+abbrev pub Texts : Type 0
+Texts = List File
+
 pub record State : Type 0 where
-  pub texts : List File
+  pub texts : Texts
   pub root : List ℕ
   pub min : ℕ
 

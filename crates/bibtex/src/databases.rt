@@ -4,7 +4,7 @@ ghost use Rattle.std.specs.Prelude.{◌≡◌, ◌++◌, bytes_eq, position, IfO
 ghost use Rattle.std.specs.List.{flat_map};
 ghost use Rattle.std.specs.Option.{option_copied};
 ghost use Rattle.bt_machine.specs.Program.{definitions_of};
-ghost use Rattle.bibtex.specs.Databases.{items_in, item_for, function_for, entry_of, entry_for, file_words, place_words, type_words, missing_words, is_cited, type_messages, database_messages, databases_messages, missing_messages, all_items, found_in};
+ghost use Rattle.bibtex.specs.Databases.{items_in, item_for, function_for, entry_of, entry_for, file_words, place_words, type_words, missing_words, is_cited, type_messages, database_messages, databases_messages, missing_messages, all_items, resolved};
 
 use crate::files::File;
 use crate::log::{Message, Rank};
@@ -259,7 +259,7 @@ fn look_for_all(
 
 /// What the databases of these names give for the cited keys, under a style with these functions. The
 /// one error is want of memory.
-#[tactic(auto, unfolding(crate::specs::Databases::found_in))]
+#[tactic(auto, unfolding(crate::specs::Databases::resolved))]
 pub fn find_entries(
     alloc: Global,
     files: &[File],
@@ -267,7 +267,7 @@ pub fn find_entries(
     keys: &[Bytes],
     functions: &[Function],
 ) -> Result<Found, AllocError>
-    ensures { IfOk result (λ found. found ≡ found_in files.now databases.now keys.now (definitions_of functions.now)) }
+    ensures { IfOk result (λ found. found ≡ resolved files.now databases.now keys.now (definitions_of functions.now)) }
 {
     let Reading { items, messages } = read_databases(alloc, files, databases, keys, functions)?;
     let mut found = Found {

@@ -22,6 +22,7 @@ mod session;
 mod stepping;
 mod taking;
 
+pub use bt_text::Bytes;
 pub use edit::{Edit, Refusal, Report};
 pub use edits::edit_all;
 pub use nesting::{always_fit, any_bound_serves, nested_in_place};

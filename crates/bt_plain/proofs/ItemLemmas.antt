@@ -9,7 +9,7 @@ use Rattle.std.proofs.lemmas.List.Sums.{fails_before_first}
 use Rattle.std.proofs.lemmas.List.Splits.{slice_split_none, slice_split_first}
 use Rattle.std.proofs.lemmas.List.Elements.{All-from_get_or}
 use Rattle.bt_plain.specs.declared.plain_item.PlainItem.{PlainItem}
-use Rattle.bt_plain.specs.PlainItem.{is_white, is_line_feed, is_at, item_of, with_later, items_from, are_distinct, keys_once, items_of_pieces, items_of}
+use Rattle.bt_plain.specs.PlainItem.{is_white, is_line_feed, is_at, item_of, with_later, items_from, are_distinct, keys_once, items_of_pieces, bib_items}
 
 -- later items behind these
 abbrev pub behind : List PlainItem → Option (List PlainItem) → Option (List PlainItem)
@@ -77,8 +77,8 @@ room_behind line lines k text room lt le = omega (arith, ap length (take_rest te
 -- A whole text
 
 -- a text with words before its first at sign
-pub text_with_words : (text : List ℕ) (k : ℕ) → IsCut text k → k ≤ length text → list_all is_white (take k text) ≡ false → items_of text ≡ None
-unfolding items_of
+pub text_with_words : (text : List ℕ) (k : ℕ) → IsCut text k → k ≤ length text → list_all is_white (take k text) ≡ false → bib_items text ≡ None
+unfolding bib_items
 text_with_words text k is le words =
     elim (cases_Bool (k == length text)) [
       | inl y ↦ ap items_of_pieces (last_piece text k is (eqb-true _ _ y)) ∙ rw words refl
@@ -86,14 +86,14 @@ text_with_words text k is le words =
     ]
 
 -- a text of white space
-pub text_of_white : (text : List ℕ) (k : ℕ) → IsCut text k → k ≡ length text → list_all is_white (take k text) ≡ true → items_of text ≡ Some []
-unfolding items_of
+pub text_of_white : (text : List ℕ) (k : ℕ) → IsCut text k → k ≡ length text → list_all is_white (take k text) ≡ true → bib_items text ≡ Some []
+unfolding bib_items
 text_of_white text k is end white = ap items_of_pieces (last_piece text k is end) ∙ rw white refl
 
 -- a text with an at sign
 pub text_of_items : (text : List ℕ) (k lines : ℕ) (items : Option (List PlainItem)) → IsCut text k → k < length text → list_all is_white (take k text) ≡ true
-    → lines ≡ count_by is_line_feed (take k text) → items ≡ items_from (1 + lines) (slice_split is_at (rest_behind text k)) → items_of text ≡ keys_once items
-unfolding items_of
+    → lines ≡ count_by is_line_feed (take k text) → items ≡ items_from (1 + lines) (slice_split is_at (rest_behind text k)) → bib_items text ≡ keys_once items
+unfolding bib_items
 text_of_items text k lines items is lt white lines_is items_is =
     ap items_of_pieces (first_piece text k is lt) ∙ ap (λ b. if b then keys_once (items_from (1 + count_by is_line_feed (take k text)) (slice_split is_at (drop (k + 1) text))) else None) white
     ∙ sym (ap keys_once (items_is ∙ ap (λ r. items_from (1 + lines) (slice_split is_at r)) (take_rest text (k + 1)) ∙ ap (λ n. items_from (1 + n) (slice_split is_at (drop (k + 1) text))) lines_is))

@@ -73,5 +73,5 @@ items_of_pieces [] = None
 items_of_pieces (front ∷ pieces) = if list_all is_white front then keys_once (items_from (1 + count_by is_line_feed front) pieces) else None
 
 -- the items of a text, if it is plain
-unfoldable pub items_of : List ℕ → Option (List PlainItem)
-items_of text = items_of_pieces (slice_split is_at text)
+unfoldable pub bib_items : List ℕ → Option (List PlainItem)
+bib_items text = items_of_pieces (slice_split is_at text)

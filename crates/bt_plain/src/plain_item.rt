@@ -2,7 +2,7 @@
 
 ghost use Rattle.std.specs.Prelude.{◌≡◌, ◌≤◌, ◌<◌, ◌+◌, ◌-◌, ◌^◌, List, length, take, map, count_by, bytes_eq, IfOk};
 ghost use Rattle.std.specs.List.{position_or_len, suffix_len, after_first, slice_split, list_any, list_all};
-ghost use Rattle.bt_plain.specs.PlainItem.{is_white, is_line_feed, is_at, is_open, trimmed, is_reserved, is_item, kind_of, key_of, item_of, items_from, are_distinct, items_of};
+ghost use Rattle.bt_plain.specs.PlainItem.{is_white, is_line_feed, is_at, is_open, trimmed, is_reserved, is_item, kind_of, key_of, item_of, items_from, are_distinct, bib_items};
 
 use crate::small_word::is_small_word;
 use bt_text::{Bytes, Sequence};
@@ -178,7 +178,7 @@ fn have_distinct_keys(alloc: Global, items: &[PlainItem]) -> Result<bool, AllocE
 
 /// The items of a text, or `None` if it isn't plain. The one error is want of memory.
 pub fn read_items(alloc: Global, text: &[u8]) -> Result<Option<Sequence<PlainItem>>, AllocError>
-    ensures { IfOk result (λ items. items ≡ items_of text.now) }
+    ensures { IfOk result (λ items. items ≡ bib_items text.now) }
 {
     let end = piece_len(text);
     let front = &text[..end];
