@@ -17,8 +17,8 @@ use crate::nesting::read_citations;
 use crate::log::{Message, lines_bytes, log_bytes, status, terse_bytes};
 use crate::edit::Report;
 use bt_plain::read_style;
-use bt_machine::{Held, Meter, Style, Variables};
-use bt_text::{Bytes, Sequence};
+use bt_machine::{Meter, Style, Variables};
+use bt_text::{Bytes, Held, Sequence};
 use std::alloc::{AllocError, Global};
 
 /// What a session shows of a run.

@@ -1,8 +1,8 @@
 //! How far a run has come: the world of all entries in the program's form, the log, and the steps so far.
 
 use crate::log::Message;
-use bt_machine::{Entry, Held, Input, Outcome, Variables};
-use bt_text::{Bytes, Sequence};
+use bt_machine::{Entry, Input, Outcome, Variables};
+use bt_text::{Bytes, Held, Sequence};
 
 /// A step of a run: which command ran it, for which entry, what it was given and left, and its cost in ticks.
 #[derive(Debug, Drop)]

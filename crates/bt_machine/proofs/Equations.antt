@@ -9,10 +9,12 @@ use Rattle.bt_machine.specs.World.{World, Ending, Done, Stopped, say}
 use Rattle.bt_machine.specs.Eval.{Runner, then_go, act, body_at, counted, eval_within, eval, IsEvaluation}
 use Rattle.bt_machine.proofs.Ticks.{ticks_in, act_ticks, eval_ticks}
 
+-- what goes on the same from all states within k ticks
 then_same : (o : Ending) (go go' : World → ℕ → Ending) (k : ℕ) → ticks_in o ≤ k → ((w : World) (j : ℕ) → j ≤ k → go w j ≡ go' w j) → then_go o go ≡ then_go o go'
 then_same (Done w j) go go' k h f = f w j h
 then_same (Stopped w j) go go' k h f = refl
 
+-- an element, where what it runs is the same
 act_same : (defs : List Definition) (run run' : Runner) (k : ℕ) → ((b : Body) (w : World) → run b w k ≡ run' b w k) → (e : Element) (w : World) → act defs run e w k ≡ act defs run' e w k
 act_same defs run run' k same (Called (Function n)) w = same (body_at defs n) w
 act_same defs run run' k same _ w = refl

@@ -1,23 +1,12 @@
 -- The definitions at small programs.
-use Rattle.std.specs.Prelude.{◌≡◌, false, pos, [], ◌∷◌, ◌++◌, None, Some, codes, refl, replicate}
-use Rattle.bt_machine.specs.declared.style.Builtin.TheVariants.{Cite, Newline, Skip, Write}
-use Rattle.bt_machine.specs.declared.style.Target.TheVariants.{Builtin, Field, Function}
+use Rattle.std.specs.Prelude.{◌≡◌, false, [], ◌∷◌, ◌++◌, None, Some, codes, refl, replicate}
+use Rattle.bt_machine.specs.declared.style.Builtin.TheVariants.{Cite, Newline, Write}
+use Rattle.bt_machine.specs.declared.style.Target.TheVariants.{Builtin, Function}
 use Rattle.bt_machine.specs.declared.input.Entry.{Entry}
-use Rattle.bt_machine.specs.declared.message.Rank.TheVariants.{Error, Fatal}
-use Rattle.bt_machine.specs.Tree.{Amount, Words, Called, End, Then}
-use Rattle.bt_machine.specs.Held.{line_ended}
+use Rattle.bt_machine.specs.Tree.{Words, Called, End, Then}
 use Rattle.bt_machine.specs.World.{World, no_variables}
 use Rattle.bt_machine.specs.Eval.{eval_within}
 use Rattle.bt_machine.specs.Step.{step}
-
-blank_line : (line_ended (codes "  ")).lines ≡ []
-blank_line = refl
-
-empty_line : (line_ended []).lines ≡ [] ∷ []
-empty_line = refl
-
-trimmed_line : (line_ended (codes " a b \t")).lines ≡ codes " a b" ∷ []
-trimmed_line = refl
 
 cited : Entry
 cited = record { key = codes "b"; kind = codes "book"; function = None; fields = None ∷ []; variables = no_variables }

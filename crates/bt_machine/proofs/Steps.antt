@@ -1,6 +1,6 @@
 -- What is left to run on the control stack leads to.
-use Rattle.std.proofs.Common.{◌≡◌, ℕ, zero, suc, ◌+◌, ◌-◌, ◌≤◌, ◌<◌, List, [], ◌∷◌, length, refl, sym, ap, subst, ◌∙◌, arith}
-use Rattle.std.specs.Prelude.{Option, slice_index_or, Vec}
+use Rattle.std.proofs.Common.{◌≡◌, ℕ, suc, ◌+◌, ◌≤◌, List, [], ◌∷◌, length, refl, sym, ap, subst, ◌∙◌, arith}
+use Rattle.std.specs.Prelude.{Option, Vec}
 use Rattle.std.specs.declared.alloc.Global.{Global}
 use Rattle.std.proofs.lemmas.List.{get_or_past, length-map}
 use Rattle.bt_machine.specs.declared.style.Op.{Op, Row_of-Op, end_of-Op, more_of-Op, items-the_row-Op, items_hidden-the_row-Op-0}
@@ -14,13 +14,13 @@ use Rattle.bt_machine.specs.declared.complaint.Complaint.TheVariants.{TicksPasse
 use Rattle.bt_machine.specs.Tree.{Element, Braced, Called, Body, End, Then, element_of, row_body, ops_body}
 use Rattle.bt_machine.specs.Program.{Definition, definitions_of, definition_of}
 use Rattle.bt_machine.specs.Item.{Code, Name, Block}
-use Rattle.bt_machine.specs.World.{World, Act, Ending, Done, Stopped, say}
-use Rattle.bt_machine.specs.Eval.{then_go, acted, body_of, body_at, no_definition, act, called, counted, eval}
+use Rattle.bt_machine.specs.World.{World, Ending, Done, Stopped, say}
+use Rattle.bt_machine.specs.Eval.{then_go, body_at, no_definition, act, called, counted, eval}
 use Rattle.bt_machine.specs.Step.{tick_limit, begun, finished_at, finished, step}
-use Rattle.bt_machine.specs.View.{act_of}
 use Rattle.bt_machine.specs.Control.{left, load, LeadsTo, is_stop, checked_at, ended}
 use Rattle.bt_machine.proofs.Equations.{eval-end, eval-no_tick, eval-then}
 
+-- the elements of a row, as a body
 row_items : {m : _} (r : Row_of-Op m) → row_body r ≡ ops_body (items-the_row-Op m r)
 row_items end_of-Op = refl
 row_items (more_of-Op op rest) = ap (λ b. Then (element_of op) b) (row_items rest)
@@ -29,19 +29,17 @@ row_items (more_of-Op op rest) = ap (λ b. Then (element_of op) b) (row_items re
 pub element_of_block : (v : Vec Op Global) → element_of (OpBlock v) ≡ Braced (ops_body v.items)
 element_of_block v = ap Braced (row_items (hidden-the_row-Op-0 v) ∙ ap ops_body (items_hidden-the_row-Op-0 v))
 
+-- an equal ending and a higher bound
 LeadsTo_along : (defs : List Definition) (flow : Flow) (cs : List Code) (w : World) (k : ℕ) (o o' : Ending) (bound bound' : ℕ) → o ≡ o' → bound ≤ bound' → LeadsTo defs flow cs w k o bound → LeadsTo defs flow cs w k o' bound'
 LeadsTo_along defs Go cs w k o o' bound bound' e b h = (h.0 ∙ e, omega arith)
 LeadsTo_along defs Stop cs w k o o' bound bound' e b h = h ∙ e
 
--- an action that runs no function
-pub leads_acted : (defs : List Definition) (flow : Flow) (cs : List Code) (w w' : World) (k k' : ℕ) (a : Act) → act_of flow w' ≡ a → k' ≡ k → LeadsTo defs flow cs w' k' (then_go (acted a k) (left defs cs)) (load cs k + 1)
-leads_acted defs Go cs w w' k k' a e t = rw t (ap (λ a. then_go (acted a k) (left defs cs)) e, omega arith)
-leads_acted defs Stop cs w w' k k' a e t = rw t (ap (λ a. then_go (acted a k) (left defs cs)) e)
-
+-- two runs after one
 then_go-then_go : (o : Ending) (f g : World → ℕ → Ending) → then_go (then_go o f) g ≡ then_go o (λ w k. then_go (f w k) g)
 then_go-then_go (Done w k) f g = refl
 then_go-then_go (Stopped w k) f g = refl
 
+-- a run of nothing between two
 then_go-eval_end : (defs : List Definition) (o : Ending) (g : World → ℕ → Ending) → then_go (then_go o (eval defs End)) g ≡ then_go o g
 then_go-eval_end defs (Done w k) g = ap (λ o. then_go o g) (eval-end defs w k)
 then_go-eval_end defs (Stopped w k) g = refl
@@ -58,6 +56,7 @@ left-name defs t cs w k = ap (λ o. then_go o (left defs cs)) (eval-then defs (C
 left_end : (defs : List Definition) (cs : List Code) (w : World) (k : ℕ) → left defs cs w k ≡ then_go (eval defs End w k) (left defs cs)
 left_end defs cs w k = sym (ap (λ o. then_go o (left defs cs)) (eval-end defs w k))
 
+-- an empty slice
 pub left_nothing : (defs : List Definition) (ops : List Op) (cs : List Code) (w : World) (k : ℕ) → length ops ≡ 0 → left defs cs w k ≡ then_go (eval defs (ops_body ops) w k) (left defs cs)
 left_nothing defs [] cs w k e = left_end defs cs w k
 left_nothing defs (op ∷ ops) cs w k e = absurd (omega arith)
@@ -96,10 +95,12 @@ pub leads_elements : (defs : List Definition) (flow : Flow) (first : Op) (rest o
 leads_elements defs flow first rest ops cs cs1 cs' w w1 w' k k1 k' eo p ec ew h =
     subst (λ ops. LeadsTo defs flow cs' w' k' (then_go (eval defs (ops_body ops) w k) (left defs cs)) (load cs k + 0)) (sym eo) (leads_then defs flow (element_of first) (ops_body rest) cs cs1 cs' w w1 w' k k1 k' p ec ew h)
 
+-- nothing left to run
 then_go-done : (defs : List Definition) (o : Ending) → then_go o (left defs []) ≡ o
 then_go-done defs (Done w k) = refl
 then_go-done defs (Stopped w k) = refl
 
+-- how the code looks at a run's end
 finished-ended : (flow : Flow) (w : World) (k : ℕ) → finished_at (checked_at flow w) (is_stop flow) k ≡ finished (ended flow w k)
 finished-ended Go w k = refl
 finished-ended Stop w k = refl

@@ -6,7 +6,7 @@ use Rattle.bt_machine.specs.declared.style.Builtin.TheVariants.{Cite, Newline, S
 use Rattle.bt_machine.specs.declared.complaint.Complaint.{Complaint}
 use Rattle.bt_machine.specs.declared.complaint.Complaint.TheVariants.{EmptyStack, WrongKind, NoEntry, StackPassed, TextPassed}
 use Rattle.bt_machine.specs.Item.{Item, Num, Txt, Fun, Gap}
-use Rattle.bt_machine.specs.Held.{written, line_ended}
+use Rattle.bt_text.specs.Held.{written, line_ended}
 use Rattle.bt_machine.specs.World.{World, Act, Goes, Stops, entry_of, say, with_stack, with_output}
 
 -- the bytes of a text; any other value has none
@@ -32,6 +32,7 @@ abbrev pub popped_from : List Item → World → Option Item × World
 popped_from [] w = (None, say EmptyStack w)
 popped_from (v ∷ vs) w = (Some v, with_stack vs w)
 
+-- a world without its topmost value
 abbrev pub popped : World → Option Item × World
 popped w = popped_from w.stack w
 
@@ -62,6 +63,7 @@ abbrev pub given : (Entry → Item) → Item → Option Entry → World → Act
 given value default None w = pushed_in_error NoEntry default w
 given value default (Some e) w = pushed (value e) w
 
+-- the same of the step's entry
 abbrev pub of_entry : (Entry → Item) → Item → World → Act
 of_entry value default w = given value default (entry_of w) w
 
@@ -70,6 +72,7 @@ abbrev pub field_item : ℕ → Option (List ℕ) → Item
 field_item n None = Gap n
 field_item n (Some t) = Txt t
 
+-- a field of an entry
 abbrev pub field_at : ℕ → Entry → Item
 field_at n e = field_item n (slice_index_or e.fields n None)
 
@@ -80,11 +83,19 @@ number_at n e = Num (slice_index_or e.variables.numbers n (pos 0))
 abbrev pub text_at : ℕ → Entry → Item
 text_at n e = Txt (slice_index_or e.variables.texts n [])
 
+-- variables of the style
+abbrev pub global_number : ℕ → World → Act
+global_number n w = pushed (Num (slice_index_or w.globals.numbers n (pos 0))) w
+
+abbrev pub global_text : ℕ → World → Act
+global_text n w = pushed (Txt (slice_index_or w.globals.texts n [])) w
+
 -- a text goes behind what is held, unless the held line would be too long
 abbrev pub appended : List ℕ → World → Act
 appended t w =
     if nat_le (length w.held + length t) 65536 then Goes (with_output (written w.held t) w) else Stops (say TextPassed w)
 
+-- a text that was taken
 abbrev pub appended_if : Option (List ℕ) × World → Act
 appended_if (None, w) = Goes w
 appended_if (Some t, w) = appended t w

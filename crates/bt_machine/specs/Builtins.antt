@@ -10,6 +10,7 @@ place_of Newline = 19
 place_of Skip = 25
 place_of Write = 36
 
+-- the name
 abbrev pub name_of : Builtin → List ℕ
 name_of Cite = codes "cite$"
 name_of Newline = codes "newline$"

@@ -25,12 +25,14 @@ abbrev pub LeadsTo : List Definition → Flow → List Code → World → ℕ �
 LeadsTo defs Go cs w k o bound = (left defs cs w k ≡ o) × (load cs k ≤ bound)
 LeadsTo defs Stop cs w k o bound = Stopped w k ≡ o
 
+-- what is left to run on a machine, and its ticks
 abbrev pub codes_of : Machine → List Code
 codes_of m = reverse (map code_seen m.control.items)
 
 abbrev pub ticks_of : Machine → ℕ
 ticks_of m = m.state.tally.ticks
 
+-- a machine's load
 abbrev pub load_of : Machine → ℕ
 load_of m = load (codes_of m) (ticks_of m)
 
@@ -44,6 +46,7 @@ CarriesOut functions old new run more flow =
     let defs = definitions_of functions in
     LeadsTo defs flow (codes_of new) (world_of new.state) (ticks_of new) (then_go (run defs (world_of old.state) (ticks_of old)) (left defs (codes_of old))) (load_of old + more)
 
+-- whether the run was stopped
 abbrev pub is_stop : Flow → Bool
 is_stop Go = false
 is_stop Stop = true
@@ -58,5 +61,6 @@ abbrev pub ended : Flow → World → ℕ → Ending
 ended Go w k = Done w k
 ended Stop w k = Stopped w k
 
+-- how a machine's run ended
 abbrev pub ended_at : Flow → Machine → Ending
 ended_at flow m = ended flow (world_of m.state) (ticks_of m)

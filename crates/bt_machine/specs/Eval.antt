@@ -9,7 +9,7 @@ use Rattle.bt_machine.specs.Program.{Definition}
 use Rattle.bt_machine.specs.Builtins.{with_call}
 use Rattle.bt_machine.specs.Item.{Code, Name, Block, Num, Txt, Fun}
 use Rattle.bt_machine.specs.World.{World, Act, Goes, Stops, Ending, Done, Stopped, say}
-use Rattle.bt_machine.specs.Actions.{pushed, of_entry, field_at, number_at, text_at, basic}
+use Rattle.bt_machine.specs.Actions.{pushed, of_entry, field_at, number_at, text_at, global_number, global_text, basic}
 
 -- how a body is carried out, with so many ticks left
 abbrev pub Runner : Type 0
@@ -34,6 +34,7 @@ body_of (Block b) = b
 abbrev pub no_definition : Definition
 no_definition = record { name = []; body = End }
 
+-- the body of the function of a number
 abbrev pub body_at : List Definition → ℕ → Body
 body_at defs n = (slice_index_or defs n no_definition).body
 
@@ -43,8 +44,8 @@ called defs run (Builtin b) w k = acted (basic b w) k
 called defs run (Field n) w k = acted (of_entry (field_at n) (Txt []) w) k
 called defs run (EntryNumber n) w k = acted (of_entry (number_at n) (Num (pos 0)) w) k
 called defs run (EntryText n) w k = acted (of_entry (text_at n) (Txt []) w) k
-called defs run (GlobalNumber n) w k = acted (pushed (Num (slice_index_or w.globals.numbers n (pos 0))) w) k
-called defs run (GlobalText n) w k = acted (pushed (Txt (slice_index_or w.globals.texts n [])) w) k
+called defs run (GlobalNumber n) w k = acted (global_number n w) k
+called defs run (GlobalText n) w k = acted (global_text n w) k
 called defs run (Function n) w k = run (body_at defs n) w k
 
 -- one element, after its tick

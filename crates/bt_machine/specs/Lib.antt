@@ -2,7 +2,6 @@ pub mod Tree
 pub mod Program
 pub mod Builtins
 pub mod Item
-pub mod Held
 pub mod Words
 pub mod World
 pub mod Actions

@@ -1,5 +1,5 @@
 -- Where a step's entry stands: in the world of all entries, or alone.
-use Rattle.std.specs.Prelude.{◌≡◌, ℕ, ◌<◌, List, [], ◌∷◌, ◌++◌, length, drop, Option, Some, None, option_map, slice_index_or, slice_set}
+use Rattle.std.specs.Prelude.{◌≡◌, ℕ, ◌<◌, List, [], ◌++◌, length, drop, Option, Some, None, option_map, slice_index_or, slice_set}
 use Rattle.bt_machine.specs.declared.style.Target.{Target}
 use Rattle.bt_machine.specs.declared.input.Variables.{Variables}
 use Rattle.bt_machine.specs.declared.input.Entry.{Entry}

@@ -9,7 +9,7 @@ use Rattle.bt_machine.specs.declared.outcome.Outcome.{Outcome}
 use Rattle.bt_machine.specs.Tree.{End, Then, Called}
 use Rattle.bt_machine.specs.Program.{Definition}
 use Rattle.bt_machine.specs.Item.{Item}
-use Rattle.bt_machine.specs.World.{World, Ending, Done, Stopped, say, with_stack}
+use Rattle.bt_machine.specs.World.{World, Ending, Done, Stopped, say}
 use Rattle.bt_machine.specs.Eval.{eval}
 
 -- how many ticks a step may take
@@ -37,9 +37,11 @@ pub record Finish : Type 0 where
   -- how often each of the 37 built-in functions was called
   pub calls : List ℕ
 
+-- what is left of a run that ended in this world, with so many ticks
 abbrev pub finished_at : World → Bool → ℕ → Finish
 finished_at w stopped k = record { world = rested w; stopped = stopped; cost = tick_limit - k; calls = w.calls }
 
+-- what an evaluation leaves
 abbrev pub finished : Ending → Finish
 finished (Done w k) = finished_at (checked w.stack w) false k
 finished (Stopped w k) = finished_at w true k
@@ -48,11 +50,12 @@ finished (Stopped w k) = finished_at w true k
 abbrev pub step : List Definition → Option ℕ → Target → World → Finish
 step defs x t w = finished (eval defs (Then (Called t) End) (begun x w) tick_limit)
 
--- the world of an input, which has its entry alone
+-- one entry or none, as a list
 abbrev pub entries_in : Option Entry → List Entry
 entries_in None = []
 entries_in (Some e) = e ∷ []
 
+-- the world of an input, which has its entry alone
 abbrev pub world_in : Input → World
 world_in i =
     record {
@@ -71,6 +74,7 @@ world_in i =
 abbrev pub place_in : Input → Option ℕ
 place_in i = option_map (λ e. 0) i.entry
 
+-- the variables of a list's first entry
 abbrev pub first_variables : List Entry → Option Variables
 first_variables [] = None
 first_variables (e ∷ es) = Some e.variables

@@ -1,5 +1,5 @@
 -- What the machine's values and state are as items and worlds.
-use Rattle.std.specs.Prelude.{ℕ, List, [], ◌∷◌, Option, Some, None, map, option_map, reverse}
+use Rattle.std.specs.Prelude.{◌≡◌, ℕ, List, Option, map, option_map, reverse}
 use Rattle.bt_machine.specs.declared.value.Code.{Code as HeldCode}
 use Rattle.bt_machine.specs.declared.value.Code.TheVariants as code
 use Rattle.bt_machine.specs.declared.value.Value.{Value}
@@ -15,6 +15,7 @@ use Rattle.bt_machine.specs.Words.{message_of}
 use Rattle.bt_machine.specs.World.{World, Act, Goes, Stops, key_in}
 use Rattle.bt_machine.specs.Step.{entries_in}
 
+-- what the program's values are
 abbrev pub code_seen : HeldCode → Code
 code_seen (code.Name t) = Name t
 code_seen (code.Braced ops) = Block (ops_body ops.now)
@@ -29,12 +30,14 @@ item_of (value.Missing n) = Gap n
 abbrev pub entry_seen : Current → Entry
 entry_seen c = record c.entry.now { variables = c.variables }
 
+-- the entries of the step's world, and the entry's place among them
 abbrev pub entries_seen : Option Current → List Entry
 entries_seen c = entries_in (option_map entry_seen c)
 
 abbrev pub place_seen : Option Current → Option ℕ
 place_seen c = option_map (λ e. 0) c
 
+-- the entry's key, as messages show it
 abbrev pub key_seen : Option Current → Option (List ℕ)
 key_seen c = key_in (entries_seen c) (place_seen c)
 
@@ -53,6 +56,11 @@ world_of s =
       calls = s.tally.calls;
     }
 
+-- how an action leaves the run
 abbrev pub act_of : Flow → World → Act
 act_of Go w = Goes w
 act_of Stop w = Stops w
+
+-- the action takes the one state to the other
+abbrev pub Acts : (World → Act) → State → State → Flow → Type 0
+Acts action old new flow = act_of flow (world_of new) ≡ action (world_of old)

@@ -17,6 +17,7 @@ rank_of TicksPassed = Fatal
 rank_of StackPassed = Fatal
 rank_of TextPassed = Fatal
 
+-- what a complaint says of itself
 abbrev pub words_of : Complaint → List ℕ
 words_of EmptyStack = codes "You can't pop an empty literal stack"
 words_of (WrongKind b) = name_of b ++ codes " got a value of the wrong kind"
@@ -31,5 +32,6 @@ abbrev pub place_words : Option (List ℕ) → List ℕ
 place_words None = []
 place_words (Some key) = codes " for entry " ++ key
 
+-- a complaint in a step for the entry with this key, or for none
 abbrev pub message_of : Option (List ℕ) → Complaint → Message
 message_of key m = record { rank = rank_of m; words = words_of m ++ place_words key }

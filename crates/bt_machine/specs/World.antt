@@ -5,9 +5,10 @@ use Rattle.bt_machine.specs.declared.input.Entry.{Entry}
 use Rattle.bt_machine.specs.declared.message.Message.{Message}
 use Rattle.bt_machine.specs.declared.complaint.Complaint.{Complaint}
 use Rattle.bt_machine.specs.Item.{Item}
-use Rattle.bt_machine.specs.Held.{Output}
+use Rattle.bt_text.specs.declared.output.Output.{Output}
 use Rattle.bt_machine.specs.Words.{message_of}
 
+-- what a step works on
 pub record World : Type 0 where
   -- all entries in list order
   pub entries : List Entry
@@ -46,9 +47,11 @@ abbrev pub entry_in : List Entry → Option ℕ → Option Entry
 entry_in es None = None
 entry_in es (Some x) = Some (slice_index_or es x no_entry)
 
+-- the entry of a world's step
 abbrev pub entry_of : World → Option Entry
 entry_of w = entry_in w.entries w.current
 
+-- its key
 abbrev pub key_in : List Entry → Option ℕ → Option (List ℕ)
 key_in es x = option_map (λ e. e.key) (entry_in es x)
 
@@ -56,11 +59,14 @@ key_in es x = option_map (λ e. e.key) (entry_in es x)
 abbrev pub told : World → Complaint → Message
 told w m = message_of (key_in w.entries w.current) m
 
+-- a complaint is told
 abbrev pub say : Complaint → World → World
 say m w = record w { messages = w.messages ++ told w m ∷ [] }
 
+-- a world with another stack
 abbrev pub with_stack : List Item → World → World
 with_stack s w = record w { stack = s }
 
+-- a world in which lines were written
 abbrev pub with_output : Output → World → World
 with_output o w = record w { lines = w.lines ++ o.lines; held = o.held }

@@ -1,10 +1,9 @@
 //! What calls do that run no function of the style.
 
-ghost use Rattle.std.specs.Prelude.{◌≡◌, IfOk, OnOk, Some, None, [], pos, option_map, slice_index_or};
+ghost use Rattle.std.specs.Prelude.{◌≡◌, IfOk, OnOk, None, [], pos, slice_index_or};
 ghost use Rattle.bt_machine.specs.Item.{Num, Txt};
-ghost use Rattle.bt_machine.specs.World.{entry_in};
-ghost use Rattle.bt_machine.specs.Actions.{taken, text_of, basic, field_item, field_at, number_at, text_at, of_entry, pushed};
-ghost use Rattle.bt_machine.specs.View.{world_of, item_of, act_of};
+ghost use Rattle.bt_machine.specs.Actions.{taken, text_of, basic, field_item, field_at, number_at, text_at, of_entry, global_number, global_text};
+ghost use Rattle.bt_machine.specs.View.{world_of, item_of, Acts};
 ghost use Rattle.bt_machine.specs.declared.style.Builtin.TheVariants as builtin;
 
 use crate::complaint::Complaint;
@@ -32,7 +31,7 @@ fn take_text(state: &mut State, builtin: Builtin) -> Result<Option<Bytes>, Alloc
 
 /// The key of the step's entry.
 fn cite(state: &mut State, alloc: Global) -> Result<Flow, AllocError>
-    ensures world { IfOk result (λ flow. act_of flow (world_of state.new) ≡ basic builtin.Cite (world_of state.old)) }
+    ensures world { IfOk result (Acts (basic builtin.Cite) state.old state.new) }
     ensures tally { state.new.tally ≡ state.old.tally }
 {
     match &state.current {
@@ -46,7 +45,7 @@ fn cite(state: &mut State, alloc: Global) -> Result<Flow, AllocError>
 
 /// Ends the held line.
 fn newline(state: &mut State, alloc: Global) -> Result<Flow, AllocError>
-    ensures world { IfOk result (λ flow. act_of flow (world_of state.new) ≡ basic builtin.Newline (world_of state.old)) }
+    ensures world { IfOk result (Acts (basic builtin.Newline) state.old state.new) }
     ensures tally { state.new.tally ≡ state.old.tally }
 {
     state.end_line(alloc)?;
@@ -55,7 +54,7 @@ fn newline(state: &mut State, alloc: Global) -> Result<Flow, AllocError>
 
 /// Writes a text behind the held line.
 fn write(state: &mut State, alloc: Global) -> Result<Flow, AllocError>
-    ensures world { IfOk result (λ flow. act_of flow (world_of state.new) ≡ basic builtin.Write (world_of state.old)) }
+    ensures world { IfOk result (Acts (basic builtin.Write) state.old state.new) }
     ensures tally { state.new.tally ≡ state.old.tally }
 {
     match take_text(state, Builtin::Write)? {
@@ -66,7 +65,7 @@ fn write(state: &mut State, alloc: Global) -> Result<Flow, AllocError>
 
 /// A built-in function that runs no other.
 pub fn call_builtin(state: &mut State, alloc: Global, builtin: Builtin) -> Result<Flow, AllocError>
-    ensures world { IfOk result (λ flow. act_of flow (world_of state.new) ≡ basic builtin (world_of state.old)) }
+    ensures world { IfOk result (Acts (basic builtin) state.old state.new) }
     ensures tally { state.new.tally ≡ state.old.tally }
 {
     match builtin {
@@ -109,7 +108,7 @@ fn field_in<'a>(alloc: Global, fields: &[Option<Bytes>], n: usize) -> Result<Val
 
 /// The value of a field of the step's entry.
 pub fn call_field(state: &mut State, alloc: Global, n: usize) -> Result<Flow, AllocError>
-    ensures world { IfOk result (λ flow. act_of flow (world_of state.new) ≡ of_entry (field_at n) (Txt []) (world_of state.old)) }
+    ensures world { IfOk result (Acts (of_entry (field_at n) (Txt [])) state.old state.new) }
     ensures tally { state.new.tally ≡ state.old.tally }
 {
     match &state.current {
@@ -123,7 +122,7 @@ pub fn call_field(state: &mut State, alloc: Global, n: usize) -> Result<Flow, Al
 
 /// The value of a number variable of the step's entry.
 pub fn call_entry_number(state: &mut State, n: usize) -> Result<Flow, AllocError>
-    ensures world { IfOk result (λ flow. act_of flow (world_of state.new) ≡ of_entry (number_at n) (Num (pos 0)) (world_of state.old)) }
+    ensures world { IfOk result (Acts (of_entry (number_at n) (Num (pos 0))) state.old state.new) }
     ensures tally { state.new.tally ≡ state.old.tally }
 {
     match &state.current {
@@ -137,7 +136,7 @@ pub fn call_entry_number(state: &mut State, n: usize) -> Result<Flow, AllocError
 
 /// The value of a text variable of the step's entry.
 pub fn call_entry_text(state: &mut State, alloc: Global, n: usize) -> Result<Flow, AllocError>
-    ensures world { IfOk result (λ flow. act_of flow (world_of state.new) ≡ of_entry (text_at n) (Txt []) (world_of state.old)) }
+    ensures world { IfOk result (Acts (of_entry (text_at n) (Txt [])) state.old state.new) }
     ensures tally { state.new.tally ≡ state.old.tally }
 {
     match &state.current {
@@ -151,7 +150,7 @@ pub fn call_entry_text(state: &mut State, alloc: Global, n: usize) -> Result<Flo
 
 /// The value of a number variable of the style.
 pub fn call_global_number(state: &mut State, n: usize) -> Result<Flow, AllocError>
-    ensures world { IfOk result (λ flow. act_of flow (world_of state.new) ≡ pushed (Num (slice_index_or (world_of state.old).globals.numbers n (pos 0))) (world_of state.old)) }
+    ensures world { IfOk result (Acts (global_number n) state.old state.new) }
     ensures tally { state.new.tally ≡ state.old.tally }
 {
     let number = number_in(state.globals.numbers.as_slice(), n);
@@ -160,7 +159,7 @@ pub fn call_global_number(state: &mut State, n: usize) -> Result<Flow, AllocErro
 
 /// The value of a text variable of the style.
 pub fn call_global_text(state: &mut State, alloc: Global, n: usize) -> Result<Flow, AllocError>
-    ensures world { IfOk result (λ flow. act_of flow (world_of state.new) ≡ pushed (Txt (slice_index_or (world_of state.old).globals.texts n [])) (world_of state.old)) }
+    ensures world { IfOk result (Acts (global_text n) state.old state.new) }
     ensures tally { state.new.tally ≡ state.old.tally }
 {
     let text = text_in(alloc, state.globals.texts.as_slice(), n)?;

@@ -1,8 +1,7 @@
 //! What a step is given.
 
-use crate::held::Held;
 use crate::style::Target;
-use bt_text::{Bytes, Sequence};
+use bt_text::{Bytes, Held, Sequence};
 
 /// The values of variables: the numbers and the texts, each by the number of its variable.
 #[derive(Debug, Drop)]

@@ -4,7 +4,6 @@
 mod actions;
 mod builtin;
 mod complaint;
-mod held;
 mod input;
 mod laws;
 mod machine;
@@ -18,7 +17,6 @@ mod tally;
 mod value;
 
 pub use builtin::BUILTIN_COUNT;
-pub use held::{Held, HeldFault};
 pub use input::{Entry, Input, Variables};
 pub use laws::{equal_inputs_give_equal_outcomes, evaluation, step_depends_on_its_input};
 pub use message::{Message, Rank};

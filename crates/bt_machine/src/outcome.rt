@@ -1,10 +1,9 @@
 //! What a step leaves.
 
 use crate::builtin::BUILTIN_COUNT;
-use crate::held::Held;
 use crate::input::Variables;
 use crate::message::Message;
-use bt_text::{Bytes, Sequence};
+use bt_text::{Bytes, Held, Sequence};
 
 /// What a step leaves.
 #[derive(Debug, Drop)]

@@ -1,12 +1,11 @@
 //! What a step works on.
 
 use crate::complaint::{self, Complaint};
-use crate::held::{Held, HeldFault};
 use crate::input::{Entry, Variables};
 use crate::message::Message;
 use crate::tally::Tally;
 use crate::value::Value;
-use bt_text::{Bytes, Sequence};
+use bt_text::{Bytes, Held, HeldFault, Sequence};
 use std::alloc::{AllocError, Global};
 
 /// Whether the run goes on.
@@ -44,10 +43,10 @@ pub struct State<'a> {
 
 impl<'a> State<'a> {
     ghost use Rattle.std.specs.Prelude.{◌≡◌, IfOk, OnOk, option_map};
-    ghost use Rattle.bt_machine.specs.Held.{line_ended};
+    ghost use Rattle.bt_text.specs.Held.{line_ended};
     ghost use Rattle.bt_machine.specs.World.{say, with_output};
     ghost use Rattle.bt_machine.specs.Actions.{popped, pushed, pushed_in_error, appended};
-    ghost use Rattle.bt_machine.specs.View.{world_of, item_of, act_of};
+    ghost use Rattle.bt_machine.specs.View.{world_of, item_of, Acts};
 
     /// Adds a complaint.
     pub fn tell(&mut self, complaint: Complaint) -> Result<(), AllocError>
@@ -86,7 +85,7 @@ impl<'a> State<'a> {
 
     /// Puts a value on the stack, unless that would pass a limit.
     pub fn push(&mut self, value: Value<'a>) -> Result<Flow, AllocError>
-        ensures world { IfOk result (λ flow. act_of flow (world_of self.new) ≡ pushed (item_of value.entry) (world_of self.old)) }
+        ensures world { IfOk result (Acts (pushed (item_of value.entry)) self.old self.new) }
         ensures tally { self.new.tally ≡ self.old.tally }
     {
         if self.stack.len() >= STACK_LIMIT {
@@ -107,7 +106,7 @@ impl<'a> State<'a> {
         complaint: Complaint,
         value: Value<'a>,
     ) -> Result<Flow, AllocError>
-        ensures world { IfOk result (λ flow. act_of flow (world_of self.new) ≡ pushed_in_error complaint (item_of value.entry) (world_of self.old)) }
+        ensures world { IfOk result (Acts (pushed_in_error complaint (item_of value.entry)) self.old self.new) }
         ensures tally { self.new.tally ≡ self.old.tally }
     {
         if self.stack.len() < STACK_LIMIT {
@@ -118,7 +117,7 @@ impl<'a> State<'a> {
 
     /// Writes a text behind the held line, unless that would pass the limit.
     pub fn write(&mut self, alloc: Global, text: &[u8]) -> Result<Flow, AllocError>
-        ensures world { IfOk result (λ flow. act_of flow (world_of self.new) ≡ appended text.now (world_of self.old)) }
+        ensures world { IfOk result (Acts (appended text.now) self.old self.new) }
         ensures tally { self.new.tally ≡ self.old.tally }
     {
         match self.held.write(alloc, text, &mut self.lines) {

@@ -59,7 +59,6 @@ impl Bytes {
         self.bytes.len()
     }
 
-
     /// Puts bytes behind those that are there. After want of memory the text is as before.
     pub fn append(&mut self, more: &[u8]) -> Result<(), AllocError>
         ensures ok { OnOk result (self.new ≡ self.old ++ more.now) }

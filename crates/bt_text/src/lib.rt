@@ -1,11 +1,51 @@
-//! Texts and lists as every layer keeps them.
+//! What every layer knows of texts: bytes and their classes, special characters, the functions on texts, and how lines
+//! are broken.
 #![tactic(auto)]
 
+mod blocks;
+mod breaking;
+mod byte_tests;
 mod bytes;
+mod casing;
+mod classes;
+mod cutting;
+mod depth;
+mod folding;
+mod held;
+mod length;
+mod modes;
+mod name_bytes;
+mod output;
+mod period;
+mod purifying;
 mod sequence;
+mod special;
+mod title_place;
+mod white;
+mod widths;
 
+pub use blocks::{begins_special, block_len};
+pub use byte_tests::{class, is_digit, is_letter, is_separator, is_white};
 pub use bytes::Bytes;
+pub use casing::change_case;
+pub use classes::Class;
+pub use cutting::{substring, text_prefix};
+pub use depth::{balanced, depth_behind, depth_of};
+pub use folding::{eq_ignore_ascii_case, to_ascii_lowercase};
+pub use held::{Held, HeldFault, MOST_BYTES};
+pub use length::text_length;
+pub use modes::Mode;
+pub use name_bytes::{is_name, is_name_byte, name_len};
+pub use period::add_period;
+pub use purifying::purify;
 pub use sequence::Sequence;
+pub use special::{control_name_len, is_foreign};
+pub use white::{join_white, trim_end, white_run};
+pub use widths::width;
 
 #[cfg(test)]
+mod line_tests;
+#[cfg(test)]
 mod tests;
+#[cfg(test)]
+mod worked;

@@ -7,6 +7,7 @@ use Rattle.bt_machine.specs.View.{world_of}
 use Rattle.bt_machine.specs.Actions.{taken, text_of, appended, appended_if}
 use Rattle.bt_machine.proofs.actions.write.Goals as goal
 
+-- a text that was taken
 appended_some : (p : Option (List ℕ) × World) (t : List ℕ) (w : World) → Some t ≡ p.0 → w ≡ p.1 → appended t w ≡ appended_if p
 appended_some p t w e f = ap (λ o. appended_if (o, w)) e ∙ ap (λ v. appended_if (p.0, v)) f
 

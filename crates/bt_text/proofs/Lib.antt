@@ -1,0 +1,11 @@
+mod Rows
+pub mod BlockLemmas
+pub mod SpecialLemmas
+pub mod PieceLemmas
+pub mod CuttingLemmas
+pub mod PeriodLemmas
+pub mod CasingLemmas
+pub mod TitlePlaceLemmas
+pub mod WidthsLemmas
+pub mod BreakingLemmas
+pub mod HeldLemmas

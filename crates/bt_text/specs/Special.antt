@@ -1,0 +1,57 @@
+-- What stands in a special character.
+use Rattle.std.specs.Prelude.{ℕ, zero, suc, Bool, ◌||◌, ◌+◌, ◌==◌, if◌then◌else◌, List, [], ◌∷◌, length, take, drop, take_while, bytes_eq, codes}
+use Rattle.std.specs.List.{list_any}
+use Rattle.bt_text.specs.ByteTests.{backslash, is_brace, is_letter, is_white}
+
+-- a control sequence by its name, with the white space directly behind it, or a byte outside of these
+pub data Symbol : Type 0 where
+  control : (name gap : List ℕ) → Symbol
+  plain : ℕ → Symbol
+
+-- The name of the control sequence whose backslash stands before t: the longest run of letters;
+-- without one, a byte that is no brace; else nothing.
+abbrev pub control_name : List ℕ → List ℕ
+control_name [] = []
+control_name (b ∷ t) = if is_letter b then take_while is_letter (b ∷ t) else (if is_brace b then [] else b ∷ [])
+
+-- the white space directly behind that control sequence
+abbrev pub control_gap : List ℕ → List ℕ
+control_gap t = take_while is_white (drop (length (control_name t)) t)
+
+-- the symbol that begins with the byte b, before t, and how many bytes of t belong to it
+abbrev pub symbol_at : ℕ → List ℕ → Symbol
+symbol_at b t = if b == backslash then control (control_name t) (control_gap t) else plain b
+
+abbrev pub taken_by : ℕ → List ℕ → ℕ
+taken_by b t = if b == backslash then length (control_name t) + length (control_gap t) else 0
+
+-- the symbols of a text whose first n bytes belong to a symbol before it
+abbrev pub symbols_behind : ℕ → List ℕ → List Symbol
+symbols_behind n [] = []
+symbols_behind zero (b ∷ t) = symbol_at b t ∷ symbols_behind (taken_by b t) t
+symbols_behind (suc n) (b ∷ t) = symbols_behind n t
+
+abbrev pub symbols : List ℕ → List Symbol
+symbols t = symbols_behind 0 t
+
+-- The foreign letters: what these control sequences print is spelled by their whole name ..
+abbrev pub two_letters : List (List ℕ)
+two_letters = codes "oe" ∷ codes "OE" ∷ codes "ae" ∷ codes "AE" ∷ codes "ss" ∷ []
+
+-- .. and what these print by their first letter.
+abbrev pub one_letter : List (List ℕ)
+one_letter = codes "i" ∷ codes "j" ∷ codes "o" ∷ codes "O" ∷ codes "l" ∷ codes "L" ∷ codes "aa" ∷ codes "AA" ∷ []
+
+-- Of these no control sequence has the large form.
+abbrev pub without_large_form : List (List ℕ)
+without_large_form = codes "i" ∷ codes "j" ∷ codes "ss" ∷ []
+
+abbrev pub is_one_of : List (List ℕ) → List ℕ → Bool
+is_one_of names name = list_any (λ w. bytes_eq w name) names
+
+abbrev pub is_foreign : List ℕ → Bool
+is_foreign name = is_one_of two_letters name || is_one_of one_letter name
+
+-- the letters that stand for a control sequence where it is left out: nothing for one that isn't foreign
+abbrev pub letters_of : List ℕ → List ℕ
+letters_of name = if is_one_of two_letters name then name else (if is_one_of one_letter name then take 1 name else [])

@@ -1,0 +1,179 @@
+//! The line that is written and has not ended yet.
+
+ghost use Rattle.std.specs.Prelude.{◌≡◌, ◌≢◌, ◌<◌, ◌≤◌, ◌+◌, ◌++◌, ◌↔◌, [], length, drop, is_some, IfOk, OnOk, OnErr, Err};
+ghost use Rattle.std.specs.List.{list_any};
+ghost use Rattle.bt_text.specs.Breaking.{break_place};
+ghost use Rattle.bt_text.specs.ByteTests.{is_white};
+ghost use Rattle.bt_text.specs.Held.{ended_lines, line_ended, written};
+
+use crate::breaking::{break_lines, push_line};
+use crate::bytes::Bytes;
+use crate::output::Output;
+use crate::sequence::Sequence;
+use crate::white::has_white;
+use std::alloc::{AllocError, Global};
+use std::marker::Model;
+use thiserror::Error;
+
+/// How many bytes the held line and what is written behind it may have together.
+pub const MOST_BYTES: usize = 65_536;
+
+/// Why nothing was written.
+#[derive(Clone, Copy, PartialEq, Eq, Debug, Error)]
+pub enum HeldFault {
+    /// The held line and the new bytes together would have more than 65,536 bytes.
+    #[error("TooLong")]
+    TooLong,
+    /// There is no memory left.
+    #[error("OutOfMemory")]
+    OutOfMemory,
+}
+
+impl From<AllocError> for HeldFault {
+    ghost use Rattle.bt_text.specs.declared.held.HeldFault.TheVariants.{OutOfMemory};
+
+    ghost from_gives = { λ _ e. e ≡ OutOfMemory };
+
+    fn from(_error: AllocError) -> HeldFault {
+        HeldFault::OutOfMemory
+    }
+}
+
+/// What was written and isn't a line yet. Contracts see its bytes. It is broken as soon as it can be, so a held line
+/// of more than 79 bytes has no white space behind place 2.
+#[derive(Debug, Drop)]
+pub struct Held {
+    bytes: Bytes,
+}
+
+impl Model for Held {
+    ghost use Rattle.std.specs.Prelude.{◌≡◌, ◌≤◌, length, List, ℕ, None};
+    ghost use Rattle.bt_text.specs.Breaking.{break_place};
+
+    ghost Value = { List ℕ };
+
+    ghost view = { λ held. held.bytes };
+
+    ghost invariant = { λ held. (length held.bytes ≤ 65536) × (break_place held.bytes ≡ None) };
+}
+
+/// What stands behind the first bytes of a text.
+fn behind(text: &[u8], place: usize) -> &[u8]
+    ensures { result.now ≡ drop place text.now }
+{
+    text.get(place..).unwrap_or(&[])
+}
+
+/// Puts what the end of a held line gives behind `lines`.
+fn end_line(alloc: Global, held: &[u8], lines: &mut Sequence<Bytes>) -> Result<(), AllocError>
+    ensures ok { OnOk result (lines.new ≡ lines.old ++ ended_lines held.now) }
+    ensures err { OnErr result (lines.new ≡ lines.old) }
+{
+    if held.is_empty() {
+        lines.push(Bytes::new(alloc))?;
+        Ok(())
+    } else {
+        push_line(alloc, lines, held)
+    }
+}
+
+impl Held {
+    /// A line with nothing in it. It takes no memory.
+    pub fn new(alloc: Global) -> Held
+        ensures { result ≡ [] }
+    {
+        Held {
+            bytes: Bytes::new(alloc),
+        }
+    }
+
+    /// The same line again. The one error is want of memory.
+    pub fn copy(&self, alloc: Global) -> Result<Held, AllocError>
+        ensures { IfOk result (λ held. held ≡ self.now) }
+    {
+        Ok(Held {
+            bytes: Bytes::copied(alloc, self.bytes.as_slice())?,
+        })
+    }
+
+    /// What is held.
+    pub fn bytes(&self) -> &[u8]
+        ensures { result.now ≡ self.now }
+    {
+        self.bytes.as_slice()
+    }
+
+    /// Writes a text behind what is held, and puts the lines that are broken off behind `lines`. `TooLong` comes
+    /// exactly where both together have more than 65,536 bytes, and before any memory is asked for. After a fault the
+    /// held line and `lines` are as before.
+    #[tactic(auto, using(crate::proofs::BreakingLemmas::broken_whole, crate::proofs::BreakingLemmas::lines_whole))]
+    pub fn write(
+        &mut self,
+        alloc: Global,
+        text: &[u8],
+        lines: &mut Sequence<Bytes>,
+    ) -> Result<(), HeldFault>
+        ensures held { OnOk result (self.new ≡ (written self.old text.now).held) }
+        ensures lines { OnOk result (lines.new ≡ lines.old ++ (written self.old text.now).lines) }
+        ensures too_long { (result ≡ Err HeldFault.TooLong)
+            ↔ (65536 < length self.old + length text.now) }
+        ensures held_stays { OnErr result (self.new ≡ self.old) }
+        ensures lines_stay { OnErr result (lines.new ≡ lines.old) }
+    {
+        if text.len() > MOST_BYTES - self.bytes.len() {
+            return Err(HeldFault::TooLong);
+        }
+        if self.breaks_with(text) {
+            let output = self.broken_with(alloc, text)?;
+            lines.append(output.lines)?;
+            self.bytes = output.held;
+        } else {
+            self.bytes.append(text)?;
+        }
+        Ok(())
+    }
+
+    /// Whether white space is held behind place 2. Of a longer line it is known that there is none.
+    fn has_white(&self) -> bool
+        ensures { result ≡ list_any is_white (drop 3 self.now) }
+    {
+        self.bytes.len() <= 79 && has_white(behind(self.bytes.as_slice(), 3))
+    }
+
+    /// Whether lines are broken off where a text is written behind what is held.
+    #[tactic(auto, using(crate::proofs::HeldLemmas::written_where))]
+    fn breaks_with(&self, text: &[u8]) -> bool
+        requires { length self.now + length text.now ≤ 65536 }
+        ensures { result ≡ is_some (break_place (self.now ++ text.now)) }
+    {
+        let held = self.bytes.len();
+        79 < held + text.len()
+            && (self.has_white() || has_white(behind(text, 3usize.saturating_sub(held))))
+    }
+
+    /// What is held with a text behind it, broken into lines.
+    fn broken_with(&self, alloc: Global, text: &[u8]) -> Result<Output, AllocError>
+        ensures output { IfOk result (λ output. output ≡ written self.now text.now) }
+        ensures whole { IfOk result (λ output. break_place output.held ≡ None) }
+        ensures shorter { IfOk result (λ output. length output.held
+            ≤ length self.now + length text.now) }
+    {
+        let mut all = Vec::from_slice(alloc, self.bytes.as_slice())?;
+        all.extend_from_slice(text)?;
+        break_lines(alloc, all)
+    }
+
+    /// Ends the held line, and puts the line that this gives behind `lines`. The one fault is want of memory, after
+    /// which the held line and `lines` are as before.
+    pub fn newline(&mut self, alloc: Global, lines: &mut Sequence<Bytes>) -> Result<(), HeldFault>
+        ensures held { OnOk result (self.new ≡ (line_ended self.old).held) }
+        ensures lines { OnOk result (lines.new ≡ lines.old ++ (line_ended self.old).lines) }
+        ensures memory { result ≢ Err HeldFault.TooLong }
+        ensures held_stays { OnErr result (self.new ≡ self.old) }
+        ensures lines_stay { OnErr result (lines.new ≡ lines.old) }
+    {
+        end_line(alloc, self.bytes.as_slice(), lines)?;
+        self.bytes = Bytes::new(alloc);
+        Ok(())
+    }
+}
