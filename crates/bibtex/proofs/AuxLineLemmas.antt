@@ -11,7 +11,9 @@ use Rattle.bibtex.specs.declared.aux_line.AuxFault.{AuxFault}
 use Rattle.bibtex.specs.declared.aux_line.AuxFault.TheVariants.{NoBrace, WhiteSpace, StuffAfter}
 use Rattle.bibtex.specs.declared.aux_line.AuxItem.{AuxItem}
 use Rattle.bibtex.specs.declared.aux_line.Command.{Command}
-use Rattle.bibtex.specs.AuxLine.{is_white, is_line_end, ends_part, closed, parts_behind, trimmed, command_of, counted, items_from}
+use Rattle.bt_text.specs.ByteTests.{is_white}
+use Rattle.bt_text.specs.White.{trimmed_end}
+use Rattle.bibtex.specs.AuxLine.{is_line_end, ends_part, closed, parts_behind, command_of, counted, items_from}
 
 -- the parts of an argument, and what is wrong behind them
 abbrev pub Parts : Type 0
@@ -157,16 +159,16 @@ first_line text k is lt =
 
 -- the lines are at their end
 pub lines_end : (n k : ℕ) (text line : List ℕ) (front all x : List AuxItem) → k ≡ position_or_len is_line_end text → k ≡ length text
-    → line ≡ trimmed (take k text) → all ≡ front ++ counted n line (command_of line) [] → front ++ items_from n (slice_split is_line_end text) ≡ x → all ≡ x
+    → line ≡ trimmed_end (take k text) → all ≡ front ++ counted n line (command_of line) [] → front ++ items_from n (slice_split is_line_end text) ≡ x → all ≡ x
 lines_end n k text line front all x is end line_is all_is same =
     all_is ∙ ap (λ l. front ++ counted n l (command_of l) []) line_is ∙ sym (ap (λ ls. front ++ items_from n ls) (last_line text k is end)) ∙ same
 
 -- one line more
 pub line_added : (n k : ℕ) (text line : List ℕ) (front all x : List AuxItem) → k ≡ position_or_len is_line_end text → k < length text
-    → line ≡ trimmed (take k text) → all ≡ front ++ counted n line (command_of line) [] → front ++ items_from n (slice_split is_line_end text) ≡ x
+    → line ≡ trimmed_end (take k text) → all ≡ front ++ counted n line (command_of line) [] → front ++ items_from n (slice_split is_line_end text) ≡ x
     → all ++ items_from (n + 1) (slice_split is_line_end (behind text k)) ≡ x
 line_added n k text line front all x is lt line_is all_is same =
-    let t = trimmed (take k text) in
+    let t = trimmed_end (take k text) in
     let later = items_from (n + 1) (slice_split is_line_end (drop (k + 1) text)) in
     rw (all_is, line_is, take_rest text (k + 1))
     (append_assoc front (counted n t (command_of t) []) later ∙ ap (λ l. front ++ l) (counted_onto n t (command_of t) later)

@@ -1,5 +1,5 @@
 -- One more step of an ITERATE.
-use Rattle.std.proofs.Common.{◌≡◌, ℕ, suc, ◌+◌, ◌-◌, ◌<◌, List, [], ◌∷◌, length, drop, Some, sym, ap, ◌∙◌, arith, add-one}
+use Rattle.std.proofs.Common.{◌≡◌, ℕ, suc, ◌+◌, ◌-◌, ◌<◌, List, Some, sym, ap, ◌∙◌, arith, add-one}
 use Rattle.bt_machine.specs.declared.style.Target.{Target}
 use Rattle.bt_machine.specs.Program.{Definition}
 use Rattle.bibtex.specs.declared.course.Course.{Course}

@@ -1,18 +1,17 @@
 -- A step in the world of all entries, by its outcome on its input alone.
 use Rattle.std.specs.Prelude.{slice_index_or}
 use Rattle.std.specs.Option.{option_map}
-use Rattle.std.proofs.Common.{◌≡◌, ℕ, ◌<◌, List, [], ◌∷◌, ◌++◌, length, Option, Some, None, refl, sym, ap, ◌∙◌, arith}
+use Rattle.std.proofs.Common.{◌≡◌, ℕ, ◌<◌, List, [], ◌∷◌, ◌++◌, length, Option, Some, sym, ap, ◌∙◌, arith}
 use Rattle.std.proofs.Math.Seq.{drop-append_seam}
 use Rattle.std.proofs.lemmas.List.{get_or-set_same}
 use Rattle.bt_machine.specs.declared.style.Target.{Target}
-use Rattle.bt_machine.specs.declared.input.Variables.{Variables}
 use Rattle.bt_machine.specs.declared.input.Entry.{Entry}
 use Rattle.bt_machine.specs.declared.input.Input.{Input}
 use Rattle.bt_machine.specs.declared.outcome.Outcome.{Outcome}
 use Rattle.bt_machine.specs.Program.{Definition}
 use Rattle.bt_machine.specs.World.{World, no_entry}
 use Rattle.bt_machine.specs.Step.{Finish, step, step_in, first_variables, outcome_of}
-use Rattle.bt_machine.specs.Place.{DependsOnInput, cut, finish_back, Own, own}
+use Rattle.bt_machine.specs.Place.{DependsOnInput, cut, finish_back, own}
 use Rattle.bibtex.specs.declared.course.Course.{Course}
 use Rattle.bibtex.specs.declared.course.Step.{Step}
 use Rattle.bibtex.specs.declared.log.Message.{Message}

@@ -1,5 +1,5 @@
 -- Worked examples: what whole states mean.
-use Rattle.std.proofs.Common.{◌≡◌, ℕ, List, [], ◌∷◌, ◌++◌, map, Some, refl}
+use Rattle.std.proofs.Common.{◌≡◌, ℕ, List, [], ◌∷◌, refl}
 use Rattle.std.specs.Prelude.{codes}
 use Rattle.std.specs.Fmt.{digits}
 use Rattle.bt_machine.specs.Eval.{eval_within}
@@ -14,9 +14,9 @@ use Rattle.bibtex.specs.AuxLine.{parts_behind, aux_lines}
 use Rattle.bibtex.specs.Naming.{name_fault}
 use Rattle.bibtex.specs.Taking.{cited, named, item_taken}
 use Rattle.bibtex.specs.Citations.{lines_taken, file_taken, ended, citations}
-use Rattle.bibtex.specs.Databases.{entry_for, file_words, place_words, type_words, missing_words, type_messages, database_messages, missing_messages, resolved}
+use Rattle.bibtex.specs.Databases.{entry_for, file_words, type_messages, database_messages, missing_messages, resolved}
 use Rattle.bibtex.specs.Present.{State, no_texts}
-use Rattle.bibtex.specs.Meaning.{Meaning, run_of, meaning, trace, report_of}
+use Rattle.bibtex.specs.Meaning.{run_of, meaning, trace, report_of}
 
 abbrev file : List ℕ → List ℕ → File
 file name text = record { name = name; text = text }

@@ -1,5 +1,5 @@
 -- What an edit makes of the present state, or the first reason that refuses it.
-use Rattle.std.specs.Prelude.{ℕ, List, length, Bool, not, true, false, ◌≡◌, ◌⊎◌, ◌&&◌, nat_lt, nat_le, IfErr, IsErr, IsErrAnd, Option, Result, Ok, Err, if◌then◌else◌, codes, eqb}
+use Rattle.std.specs.Prelude.{ℕ, List, length, Bool, not, true, false, ◌≡◌, ◌⊎◌, ◌&&◌, nat_lt, nat_le, IfErr, IsErr, IsErrAnd, Result, Ok, Err, if◌then◌else◌, codes, eqb}
 use Rattle.std.specs.List.{ends_with}
 use Rattle.std.specs.Option.{is_some, is_none}
 use Rattle.bibtex.specs.declared.edit.Edit.{Edit}

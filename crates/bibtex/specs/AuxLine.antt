@@ -1,24 +1,18 @@
 -- The counted lines of one .aux text.
-use Rattle.std.specs.Prelude.{ℕ, ◌+◌, ◌-◌, Bool, true, false, ◌==◌, ◌&&◌, ◌||◌, List, [], ◌∷◌, ◌++◌, length, take, drop, codes, Option, Some, None, if◌then◌else◌}
-use Rattle.std.specs.List.{slice_split, suffix_len, starts_with}
+use Rattle.std.specs.Prelude.{ℕ, ◌+◌, Bool, true, false, ◌==◌, ◌&&◌, ◌||◌, List, [], ◌∷◌, ◌++◌, length, drop, codes, Option, Some, None, if◌then◌else◌}
+use Rattle.std.specs.List.{slice_split, starts_with}
 use Rattle.std.specs.Prelude.{eqb}
+use Rattle.bt_text.specs.ByteTests.{is_white}
+use Rattle.bt_text.specs.White.{trimmed_end}
 use Rattle.bibtex.specs.declared.aux_line.Command.{Command}
 use Rattle.bibtex.specs.declared.aux_line.Command.TheVariants.{Citation, Database, Style, Nested}
 use Rattle.bibtex.specs.declared.aux_line.AuxFault.{AuxFault}
 use Rattle.bibtex.specs.declared.aux_line.AuxFault.TheVariants.{NoBrace, WhiteSpace, StuffAfter}
 use Rattle.bibtex.specs.declared.aux_line.AuxItem.{AuxItem}
 
--- a tab, a line feed, a carriage return or a space
-abbrev pub is_white : ℕ → Bool
-is_white b = b == 9 || b == 10 || b == 13 || b == 32
-
 -- a line feed
 abbrev pub is_line_end : ℕ → Bool
 is_line_end b = b == 10
-
--- a line without the white space at its end
-abbrev pub trimmed : List ℕ → List ℕ
-trimmed line = take (length line - suffix_len is_white line) line
 
 -- what a line that counts begins with
 abbrev pub word : Command → List ℕ
@@ -80,7 +74,7 @@ counted n line (Some c) later = item n line c ∷ later
 -- the counted ones among lines that are numbered from n on
 abbrev pub items_from : ℕ → List (List ℕ) → List AuxItem
 items_from n [] = []
-items_from n (l ∷ ls) = counted n (trimmed l) (command_of (trimmed l)) (items_from (n + 1) ls)
+items_from n (l ∷ ls) = counted n (trimmed_end l) (command_of (trimmed_end l)) (items_from (n + 1) ls)
 
 -- the counted lines of a text
 unfoldable pub aux_lines : List ℕ → List AuxItem

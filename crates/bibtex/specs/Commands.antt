@@ -1,12 +1,11 @@
 -- The commands of a style in order.
-use Rattle.std.specs.Prelude.{ℕ, zero, suc, pos, ◌+◌, List, [], ◌∷◌, ◌++◌, length, Option, Some, None, if◌then◌else◌, Bool, true, false}
+use Rattle.std.specs.Prelude.{ℕ, zero, suc, List, [], ◌∷◌, ◌++◌, length, Some, Bool, true, false}
 use Rattle.bt_machine.specs.declared.style.Target.{Target}
 use Rattle.bt_machine.specs.declared.style.Command.{Command}
 use Rattle.bt_machine.specs.declared.style.Action.{Action}
 use Rattle.bt_machine.specs.declared.style.Action.TheVariants.{Entry, Function, Iterate, Read}
-use Rattle.bt_machine.specs.Program.{Definition, Program}
+use Rattle.bt_machine.specs.Program.{Definition}
 use Rattle.bibtex.specs.declared.files.File.{File}
-use Rattle.bibtex.specs.declared.log.Message.{Message}
 use Rattle.bibtex.specs.declared.course.Course.{Course}
 use Rattle.bibtex.specs.declared.databases.Found.{Found}
 use Rattle.bibtex.specs.Databases.{resolved}

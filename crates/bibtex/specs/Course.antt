@@ -1,5 +1,5 @@
 -- How far a run has come, and what a step does to it.
-use Rattle.std.specs.Prelude.{ℕ, pos, ◌+◌, List, [], ◌∷◌, ◌++◌, ◌≡◌, ◌*◌, ◌≤◌, length, map, sum_by, slice_set, slice_index_or, codes, decimal, Option, Some, None, if◌then◌else◌, Bool, true, false}
+use Rattle.std.specs.Prelude.{ℕ, List, [], ◌∷◌, ◌++◌, ◌≡◌, ◌*◌, ◌≤◌, length, map, sum_by, slice_set, slice_index_or, codes, decimal, Option, Some, None}
 use Rattle.std.specs.Option.{option_map}
 use Rattle.bt_machine.specs.declared.style.Target.{Target}
 use Rattle.bt_machine.specs.declared.input.Variables.{Variables}
@@ -14,7 +14,6 @@ use Rattle.bt_machine.specs.World.{World, entry_in, no_entry}
 use Rattle.bt_machine.specs.Step.{Finish, step}
 use Rattle.bt_machine.specs.Place.{Own, own}
 use Rattle.bibtex.specs.declared.log.Message.{Message}
-use Rattle.bibtex.specs.declared.log.Rank.{Rank}
 use Rattle.bibtex.specs.declared.log.Rank.TheVariants.{Note, Warning, Error, Fatal}
 use Rattle.bibtex.specs.declared.course.Step.{Step}
 use Rattle.bibtex.specs.declared.course.Course.{Course}

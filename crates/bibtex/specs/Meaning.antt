@@ -1,5 +1,5 @@
 -- What the present texts mean: a run from scratch, which knows no edit and no earlier run.
-use Rattle.std.specs.Prelude.{ℕ, pos, List, [], ◌∷◌, length, Option, Some, None, unwrap_or, Bool, false}
+use Rattle.std.specs.Prelude.{ℕ, pos, List, [], ◌∷◌, length, Option, Some, None, unwrap_or, false}
 use Rattle.bt_machine.specs.Program.{Program}
 use Rattle.bibtex.specs.declared.files.File.{File}
 use Rattle.bibtex.specs.declared.log.Message.{Message}
@@ -12,7 +12,7 @@ use Rattle.bibtex.specs.Citations.{citations}
 use Rattle.bt_plain.specs.StyleReader.{style_of}
 use Rattle.bibtex.specs.Log.{status_of, log_bytes, terse_bytes, lines_bytes}
 use Rattle.bibtex.specs.Course.{total_cost}
-use Rattle.bibtex.specs.Commands.{Job, commands_from}
+use Rattle.bibtex.specs.Commands.{commands_from}
 use Rattle.bibtex.specs.Present.{State}
 
 -- a run that has told what the .aux files made it tell; entry.max$ is 250 and global.max$ 20000

@@ -11,13 +11,13 @@ ghost use Rattle.bibtex.specs.Shown.{meaning_of};
 use crate::citations::Citations;
 use crate::commands::{Job, run_commands};
 use crate::course::Course;
+use crate::edit::Report;
 use crate::files::File;
+use crate::log::{Message, lines_bytes, log_bytes, status, terse_bytes};
 use crate::naming::text_of;
 use crate::nesting::read_citations;
-use crate::log::{Message, lines_bytes, log_bytes, status, terse_bytes};
-use crate::edit::Report;
-use bt_plain::read_style;
 use bt_machine::{Meter, Style, Variables};
+use bt_plain::read_style;
 use bt_text::{Bytes, Held, Sequence};
 use std::alloc::{AllocError, Global};
 
@@ -112,11 +112,7 @@ fn run_style(
 }
 
 /// What a run shows.
-fn show(
-    alloc: Global,
-    course: &Course,
-    wanted: Sequence<Bytes>,
-) -> Result<Answers, AllocError>
+fn show(alloc: Global, course: &Course, wanted: Sequence<Bytes>) -> Result<Answers, AllocError>
     ensures { IfOk result (λ answers. meaning_of answers ≡ shown course.now wanted) }
 {
     Ok(Answers {

@@ -2,9 +2,9 @@
 
 ghost use Rattle.std.specs.Prelude.{◌≡◌, ◌≤◌, ◌<◌, ◌+◌, ◌^◌, [], ◌++◌, length, IfOk, OnOk, IfSome};
 ghost use Rattle.std.specs.List.{position_or_len, suffix_len};
-ghost use Rattle.bibtex.specs.AuxLine.{is_white, is_line_end, ends_part, trimmed, command_of, word, has_list, parts_behind, item, counted, aux_lines};
+ghost use Rattle.bibtex.specs.AuxLine.{is_line_end, ends_part, command_of, word, has_list, parts_behind, item, counted, aux_lines};
 
-use bt_text::{Bytes, Sequence};
+use bt_text::{Bytes, Sequence, is_white, trim_end};
 use std::alloc::{AllocError, Global};
 
 /// The commands that count.
@@ -64,12 +64,6 @@ pub struct AuxItem {
     pub fault: Option<AuxFault>,
 }
 
-fn is_white(byte: u8) -> bool
-    ensures { result ≡ is_white byte }
-{
-    matches!(byte, b'\t' | b'\n' | b'\r' | b' ')
-}
-
 /// Whether a byte ends a part, in a list or alone.
 fn ends_part(byte: u8, list: bool) -> bool
     ensures { result ≡ ends_part list byte }
@@ -96,24 +90,6 @@ fn line_len(text: &[u8]) -> usize
     ensures room { result + 1 < 2 ^ 64 }
 {
     text.iter().take_while(|byte| **byte != b'\n').count()
-}
-
-/// How much white space stands at the end.
-fn white_len(line: &[u8]) -> usize
-    ensures value { result ≡ suffix_len is_white line.now }
-    ensures within { result ≤ length line.now }
-{
-    line.iter()
-        .rev()
-        .take_while(|byte| is_white(**byte))
-        .count()
-}
-
-/// A line without the white space at its end.
-fn trimmed(line: &[u8]) -> &[u8]
-    ensures { result.now ≡ trimmed line.now }
-{
-    &line[..line.len() - white_len(line)]
 }
 
 /// The command of a line that counts.
@@ -206,7 +182,7 @@ pub fn read_aux(alloc: Global, text: &[u8]) -> Result<Sequence<AuxItem>, AllocEr
     let mut number = 1;
     'lines: loop {
         let end = line_len(rest);
-        add_line(alloc, &mut items, number, trimmed(&rest[..end]))?;
+        add_line(alloc, &mut items, number, trim_end(&rest[..end]))?;
         if end == rest.len() {
             return Ok(items);
         }

@@ -29,7 +29,13 @@ pub struct Job<'a> {
 fn read(alloc: Global, job: Job<'_>, course: &mut Course) -> Result<(), AllocError>
     ensures { OnOk result (course.new ≡ read (job_of job.entry) course.old) }
 {
-    let found = find_entries(alloc, job.files, job.databases, job.keys, &job.style.functions)?;
+    let found = find_entries(
+        alloc,
+        job.files,
+        job.databases,
+        job.keys,
+        &job.style.functions,
+    )?;
     course.log.append(found.messages)?;
     course.entries = found.entries;
     Ok(())

@@ -29,6 +29,6 @@ pub use nesting::{always_fit, any_bound_serves, nested_in_place};
 pub use session::Session;
 
 #[cfg(test)]
-mod session_tests;
-#[cfg(test)]
 mod database_tests;
+#[cfg(test)]
+mod session_tests;

@@ -6,12 +6,14 @@ use std::test::Fail;
 
 const AUX: &[u8] = b"\\citation{b,a}\n\\bibdata{x}\n\\bibstyle{s}\n";
 
-const STYLE: &[u8] = b"ENTRY {}{}{}\nFUNCTION {misc} {}\nFUNCTION {f} {\"key \" write$ cite$ write$ newline$}\nREAD\nITERATE {f}\n";
+const STYLE: &[u8] =
+    b"ENTRY {}{}{}\nFUNCTION {misc} {}\nFUNCTION {f} {\"key \" write$ cite$ write$ newline$}\nREAD\nITERATE {f}\n";
 
 const DATABASE: &[u8] = b"@misc{a}@misc{b}";
 
 /// The log of a run over these three files without a message.
-const FILE_LINES: &[u8] = b"The top-level auxiliary file: job.aux\nThe style file: s.bst\nDatabase file #1: x.bib\n";
+const FILE_LINES: &[u8] =
+    b"The top-level auxiliary file: job.aux\nThe style file: s.bst\nDatabase file #1: x.bib\n";
 
 /// A session with the three files.
 fn whole(alloc: Global) -> Result<Session, Refusal> {
@@ -51,11 +53,27 @@ fn three_texts_give_a_bibliography(rt: HostRuntime) -> Result<(), Fail> {
     let mut session = Session::new(rt.alloc(), b"job", 2)?;
     session.edit(Edit::Write(b"job.aux", AUX))?;
     let report = session.edit(Edit::Write(b"s.bst", STYLE))?;
-    assert_eq!(rt; report, Report { status: 2, ran: 0, reused: 0, ticks: 0 });
+    assert_eq!(rt;
+        report,
+        Report {
+            status: 2,
+            ran: 0,
+            reused: 0,
+            ticks: 0
+        }
+    );
     assert_eq!(rt; session.wanted().len(), 1);
     assert_eq!(rt; session.wanted()[0].as_slice(), b"x.bib".as_slice());
     let report = session.edit(Edit::Write(b"x.bib", DATABASE))?;
-    assert_eq!(rt; report, Report { status: 0, ran: 2, reused: 0, ticks: 12 });
+    assert_eq!(rt;
+        report,
+        Report {
+            status: 0,
+            ran: 2,
+            reused: 0,
+            ticks: 12
+        }
+    );
     assert!(rt; shows_whole(&session));
     Ok(())
 }
@@ -66,8 +84,14 @@ fn a_refused_text_changes_nothing(rt: HostRuntime) -> Result<(), Fail> {
     let answer = session.edit(Edit::Write(b"x.bib", b"@misc{a, title = {T}}"));
     assert_eq!(rt; answer, Err(Refusal::NotYet));
     assert!(rt; shows_whole(&session));
-    assert_eq!(rt; session.edit(Edit::Write(b"s.bst", b"READ")), Err(Refusal::NotYet));
-    assert_eq!(rt; session.edit(Edit::Write(b"job.aux", b"\\citation{A}")), Err(Refusal::NotYet));
+    assert_eq!(rt;
+        session.edit(Edit::Write(b"s.bst", b"READ")),
+        Err(Refusal::NotYet)
+    );
+    assert_eq!(rt;
+        session.edit(Edit::Write(b"job.aux", b"\\citation{A}")),
+        Err(Refusal::NotYet)
+    );
     assert!(rt; shows_whole(&session));
     Ok(())
 }
@@ -77,15 +101,31 @@ fn names_and_sizes_are_tested_in_order(rt: HostRuntime) -> Result<(), Fail> {
     let alloc = rt.alloc();
     let mut session = whole(alloc)?;
     let long = vec![in alloc; b'a'; 1_048_577]?;
-    assert_eq!(rt; session.edit(Edit::Write(b"a b", &long)), Err(Refusal::BadName));
+    assert_eq!(rt;
+        session.edit(Edit::Write(b"a b", &long)),
+        Err(Refusal::BadName)
+    );
     assert_eq!(rt; session.edit(Edit::Write(b"", b"")), Err(Refusal::BadName));
-    assert_eq!(rt; session.edit(Edit::Write(b"y.bib", &long)), Err(Refusal::FileTooLarge));
+    assert_eq!(rt;
+        session.edit(Edit::Write(b"y.bib", &long)),
+        Err(Refusal::FileTooLarge)
+    );
     let name = [b'n'; 65];
-    assert_eq!(rt; session.edit(Edit::Write(&name, b"")), Err(Refusal::BadName));
+    assert_eq!(rt;
+        session.edit(Edit::Write(&name, b"")),
+        Err(Refusal::BadName)
+    );
     assert!(rt; shows_whole(&session));
     assert!(rt; session.edit(Edit::Write(&name[..64], b"")).is_ok());
-    assert!(rt; session.edit(Edit::Write(b"y.txt", &long[..1_048_576])).is_ok());
-    assert_eq!(rt; Session::new(alloc, &name[..61], 2).err(), Some(Refusal::BadName));
+    assert!(rt;
+        session
+            .edit(Edit::Write(b"y.txt", &long[..1_048_576]))
+            .is_ok()
+    );
+    assert_eq!(rt;
+        Session::new(alloc, &name[..61], 2).err(),
+        Some(Refusal::BadName)
+    );
     assert!(rt; Session::new(alloc, &name[..60], 2).is_ok());
     Ok(())
 }
@@ -96,10 +136,21 @@ fn sixty_four_files_are_the_most(rt: HostRuntime) -> Result<(), Fail> {
     for number in 0..61u8 {
         session.edit(Edit::Write(&[b'f', b'0' + number / 10, b'0' + number % 10], b""))?;
     }
-    assert_eq!(rt; session.edit(Edit::Write(b"y.bib", b"@")), Err(Refusal::TooManyFiles));
+    assert_eq!(rt;
+        session.edit(Edit::Write(b"y.bib", b"@")),
+        Err(Refusal::TooManyFiles)
+    );
     assert!(rt; shows_whole(&session));
     let report = session.edit(Edit::Write(b"x.bib", DATABASE))?;
-    assert_eq!(rt; report, Report { status: 0, ran: 2, reused: 0, ticks: 12 });
+    assert_eq!(rt;
+        report,
+        Report {
+            status: 0,
+            ran: 2,
+            reused: 0,
+            ticks: 12
+        }
+    );
     assert!(rt; shows_whole(&session));
     Ok(())
 }
@@ -117,7 +168,15 @@ fn a_list_of_edits_is_answered_in_turn(rt: HostRuntime) -> Result<(), Fail> {
     assert_eq!(rt; answers.len(), 4);
     assert!(rt; answers[0].is_ok());
     assert_eq!(rt; answers[2], Err(Refusal::NotYet));
-    assert_eq!(rt; answers[3], Ok(Report { status: 0, ran: 2, reused: 0, ticks: 12 }));
+    assert_eq!(rt;
+        answers[3],
+        Ok(Report {
+            status: 0,
+            ran: 2,
+            reused: 0,
+            ticks: 12
+        })
+    );
     assert!(rt; shows_whole(&session));
     Ok(())
 }
@@ -126,7 +185,15 @@ fn a_list_of_edits_is_answered_in_turn(rt: HostRuntime) -> Result<(), Fail> {
 fn entries_and_types_that_are_missing_are_told(rt: HostRuntime) -> Result<(), Fail> {
     let mut session = whole(rt.alloc())?;
     let report = session.edit(Edit::Write(b"x.bib", b"@odd{a}\n"))?;
-    assert_eq!(rt; report, Report { status: 1, ran: 1, reused: 0, ticks: 6 });
+    assert_eq!(rt;
+        report,
+        Report {
+            status: 1,
+            ran: 1,
+            reused: 0,
+            ticks: 6
+        }
+    );
     assert_eq!(rt; session.bbl(), b"key a\n".as_slice());
     let warnings = b"Warning--entry type for \"a\" isn't style-file defined
 --line 1 of file x.bib

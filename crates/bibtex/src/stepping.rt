@@ -47,11 +47,7 @@ fn while_executing(alloc: Global, site: &Site) -> Result<Bytes, AllocError>
 }
 
 /// A step's message as the log has it.
-fn told(
-    alloc: Global,
-    message: &bt_machine::Message,
-    site: &Site,
-) -> Result<Message, AllocError>
+fn told(alloc: Global, message: &bt_machine::Message, site: &Site) -> Result<Message, AllocError>
     ensures { IfOk result (λ m. m ≡ told_by site.now.line site.now.style message.now.rank message.now.words) }
 {
     let mut words = Bytes::copied(alloc, message.words.as_slice())?;
@@ -113,7 +109,9 @@ fn put_back(
     }
     course.globals = copied_variables(alloc, &outcome.globals)?;
     course.held = outcome.held.copy(alloc)?;
-    course.lines.append(copied_texts(alloc, outcome.lines.as_slice())?)?;
+    course
+        .lines
+        .append(copied_texts(alloc, outcome.lines.as_slice())?)?;
     course.stopped = outcome.stop;
     Ok(())
 }

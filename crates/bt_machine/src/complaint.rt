@@ -67,7 +67,8 @@ impl Complaint {
 
     /// The message of a complaint, in a step for the entry with this key or for none.
     fn message(self, alloc: Global, key: Option<&[u8]>) -> Result<Message, AllocError>
-        ensures { IfOk result (λ message. message ≡ message_of (option_map (λ bytes. bytes.now) key.entry) self) }
+        ensures { IfOk result (λ message.
+            message ≡ message_of (option_map (λ bytes. bytes.now) key.entry) self) }
     {
         let mut words = self.words(alloc)?;
         if let Some(key) = key {
@@ -87,7 +88,8 @@ pub fn messages(
     complaints: &[Complaint],
     key: Option<&[u8]>,
 ) -> Result<Sequence<Message>, AllocError>
-    ensures { IfOk result (λ messages. messages ≡ map (message_of (option_map (λ bytes. bytes.now) key.entry)) complaints.now) }
+    ensures { IfOk result (λ messages.
+        messages ≡ map (message_of (option_map (λ bytes. bytes.now) key.entry)) complaints.now) }
 {
     let mut messages = Sequence::new(alloc);
     for complaint in complaints {

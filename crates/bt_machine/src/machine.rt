@@ -175,7 +175,8 @@ impl<'a> Machine<'a> {
 
     /// Takes what is to be run next.
     fn take_code(&mut self) -> Option<Code<'a>>
-        ensures codes { MatchOption result (codes_of self.old ≡ []) (λ code. codes_of self.old ≡ code_seen code ∷ codes_of self.new) }
+        ensures codes { MatchOption result (codes_of self.old ≡ [])
+            (λ code. codes_of self.old ≡ code_seen code ∷ codes_of self.new) }
         ensures empty { IfNone result (codes_of self.new ≡ []) }
         ensures state { self.new.state ≡ self.old.state }
     {

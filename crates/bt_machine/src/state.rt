@@ -132,7 +132,8 @@ impl<'a> State<'a> {
 
     /// Ends the held line.
     pub fn end_line(&mut self, alloc: Global) -> Result<(), AllocError>
-        ensures world { OnOk result (world_of self.new ≡ with_output (line_ended (world_of self.old).held) (world_of self.old)) }
+        ensures world { OnOk result (world_of self.new
+            ≡ with_output (line_ended (world_of self.old).held) (world_of self.old)) }
         ensures tally { self.new.tally ≡ self.old.tally }
     {
         match self.held.newline(alloc, &mut self.lines) {

@@ -93,7 +93,8 @@ fn check_stack(state: &mut State, flow: Flow) -> Result<(), AllocError>
 
 /// What a run leaves.
 fn leave(alloc: Global, state: State, flow: Flow) -> Result<Outcome, AllocError>
-    ensures { IfOk result (λ outcome. outcome ≡ outcome_of (finished_at (world_of state.entry) (is_stop flow) state.entry.tally.ticks)) }
+    ensures { IfOk result (λ outcome. outcome ≡ outcome_of
+        (finished_at (world_of state.entry) (is_stop flow) state.entry.tally.ticks)) }
 {
     let messages = state.messages(alloc)?;
     let State {
@@ -119,7 +120,8 @@ fn leave(alloc: Global, state: State, flow: Flow) -> Result<Outcome, AllocError>
 }
 
 /// Carries out a step of a style: the call of the input's target for its entry, or for none. The meter rises by
-/// exactly the step's ticks. The one error is want of memory, after which the meter is as before.
+/// exactly the step's ticks. A number out of range stands for the number 0, an empty text, a missing field or a function
+/// without elements. The one error is want of memory, after which the meter is as before.
 pub fn activate(
     alloc: Global,
     style: &Style,
@@ -127,8 +129,10 @@ pub fn activate(
     meter: &mut Meter,
 ) -> Result<Outcome, AllocError>
     requires { meter.old + 1000000 < 2 ^ 128 }
-    ensures outcome { IfOk result (λ outcome. outcome ≡ outcome_of (step_in (program_of style.now).functions input.now)) }
-    ensures cost { OnOk result (meter.new ≡ meter.old + (step_in (program_of style.now).functions input.now).cost) }
+    ensures outcome { IfOk result (λ outcome.
+        outcome ≡ outcome_of (step_in (program_of style.now).functions input.now)) }
+    ensures cost { OnOk result (meter.new
+        ≡ meter.old + (step_in (program_of style.now).functions input.now).cost) }
     ensures within { OnOk result (meter.new ≤ meter.old + 1000000) }
     ensures err { OnErr result (meter.new ≡ meter.old) }
 {

@@ -9,7 +9,8 @@ use Rattle.std.proofs.lemmas.List.Sums.{fails_before_first}
 use Rattle.std.proofs.lemmas.List.Splits.{slice_split_none, slice_split_first}
 use Rattle.std.proofs.lemmas.List.Elements.{All-from_get_or}
 use Rattle.bt_plain.specs.declared.plain_item.PlainItem.{PlainItem}
-use Rattle.bt_plain.specs.PlainItem.{is_white, is_line_feed, is_at, item_of, with_later, items_from, are_distinct, keys_once, items_of_pieces, bib_items}
+use Rattle.bt_text.specs.ByteTests.{is_white}
+use Rattle.bt_plain.specs.PlainItem.{is_line_feed, is_at, item_of, with_later, items_from, are_distinct, keys_once, items_of_pieces, bib_items}
 
 -- later items behind these
 abbrev pub behind : List PlainItem → Option (List PlainItem) → Option (List PlainItem)

@@ -1,13 +1,11 @@
 -- The items of a plain database.
 use Rattle.std.specs.Prelude.{ℕ, ◌+◌, ◌-◌, Bool, true, not, ◌==◌, eqb, ◌&&◌, ◌||◌, List, [], ◌∷◌, length, take, map, codes, count_by, bytes_eq, Option, Some, None, if◌then◌else◌}
-use Rattle.std.specs.List.{slice_split, suffix_len, before_first, after_first, ends_with, list_any, list_all}
+use Rattle.std.specs.List.{slice_split, before_first, after_first, ends_with, list_any, list_all}
 use Rattle.std.specs.Option.{option_map}
+use Rattle.bt_text.specs.ByteTests.{is_white}
+use Rattle.bt_text.specs.White.{trimmed_end}
 use Rattle.bt_plain.specs.declared.plain_item.PlainItem.{PlainItem}
 use Rattle.bt_plain.specs.SmallWord.{is_small_word}
-
--- a tab, a line feed, a carriage return or a blank
-abbrev pub is_white : ℕ → Bool
-is_white b = b == 9 || b == 10 || b == 13 || b == 32
 
 -- what ends a line
 abbrev pub is_line_feed : ℕ → Bool
@@ -20,10 +18,6 @@ is_at b = b == 64
 -- an opening brace
 abbrev pub is_open : ℕ → Bool
 is_open b = b == 123
-
--- a piece without the white space at its end
-abbrev pub trimmed : List ℕ → List ℕ
-trimmed piece = take (length piece - suffix_len is_white piece) piece
 
 -- the types of what is no entry
 abbrev pub is_reserved : List ℕ → Bool
@@ -44,7 +38,7 @@ is_item item = is_small_word (kind_of item) && not (is_reserved (kind_of item)) 
 -- the item of a piece at this line
 abbrev pub item_of : ℕ → List ℕ → Option PlainItem
 item_of line piece =
-    if is_item (trimmed piece) then Some (record { kind = kind_of (trimmed piece); key = key_of (trimmed piece); line = line })
+    if is_item (trimmed_end piece) then Some (record { kind = kind_of (trimmed_end piece); key = key_of (trimmed_end piece); line = line })
     else None
 
 -- an item with the later ones, if all are items

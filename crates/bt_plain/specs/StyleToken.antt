@@ -1,10 +1,7 @@
 -- The tokens of a plain style's text.
 use Rattle.std.specs.Prelude.{ℕ, zero, suc, ◌+◌, ◌-◌, Bool, true, ◌||◌, ◌==◌, if◌then◌else◌, List, [], ◌∷◌, length, drop, Option, Some, None}
 use Rattle.std.specs.List.{before_first}
-
--- tab, line feed, carriage return, space
-abbrev pub is_white : ℕ → Bool
-is_white b = b == 9 || b == 10 || b == 13 || b == 32
+use Rattle.bt_text.specs.ByteTests.{is_white}
 
 -- white space, a percent sign, a brace
 abbrev pub ends_word : ℕ → Bool

@@ -2,10 +2,11 @@
 
 ghost use Rattle.std.specs.Prelude.{◌≡◌, ◌≤◌, ◌<◌, ◌+◌, ◌-◌, ◌^◌, List, length, take, map, count_by, bytes_eq, IfOk};
 ghost use Rattle.std.specs.List.{position_or_len, suffix_len, after_first, slice_split, list_any, list_all};
-ghost use Rattle.bt_plain.specs.PlainItem.{is_white, is_line_feed, is_at, is_open, trimmed, is_reserved, is_item, kind_of, key_of, item_of, items_from, are_distinct, bib_items};
+ghost use Rattle.bt_text.specs.ByteTests.{is_white};
+ghost use Rattle.bt_plain.specs.PlainItem.{is_line_feed, is_at, is_open, is_reserved, is_item, kind_of, key_of, item_of, items_from, are_distinct, bib_items};
 
 use crate::small_word::is_small_word;
-use bt_text::{Bytes, Sequence};
+use bt_text::{Bytes, Sequence, is_white, trim_end};
 use std::alloc::{AllocError, Global};
 use std::collections::HashSet;
 
@@ -15,12 +16,6 @@ pub struct PlainItem {
     pub kind: Bytes,
     pub key: Bytes,
     pub line: usize,
-}
-
-fn is_white(byte: u8) -> bool
-    ensures { result ≡ is_white byte }
-{
-    matches!(byte, b'\t' | b'\n' | b'\r' | b' ')
 }
 
 fn is_blank(text: &[u8]) -> bool
@@ -53,25 +48,6 @@ fn line_feeds(text: &[u8]) -> usize
     ensures within { result ≤ length text.now }
 {
     text.iter().filter(|byte| **byte == b'\n').count()
-}
-
-/// How much white space stands at the end.
-fn white_len(piece: &[u8]) -> usize
-    ensures value { result ≡ suffix_len is_white piece.now }
-    ensures within { result ≤ length piece.now }
-{
-    piece
-        .iter()
-        .rev()
-        .take_while(|byte| is_white(**byte))
-        .count()
-}
-
-/// A piece without the white space at its end.
-fn trimmed(piece: &[u8]) -> &[u8]
-    ensures { result.now ≡ trimmed piece.now }
-{
-    &piece[..piece.len() - white_len(piece)]
 }
 
 fn is_reserved(kind: &[u8]) -> bool
@@ -125,7 +101,7 @@ fn is_item(item: &[u8]) -> bool
 fn item_of(alloc: Global, line: usize, piece: &[u8]) -> Result<Option<PlainItem>, AllocError>
     ensures { IfOk result (λ item. item ≡ item_of line piece.now) }
 {
-    let item = trimmed(piece);
+    let item = trim_end(piece);
     if !is_item(item) {
         return Ok(None);
     }

@@ -2,8 +2,10 @@
 
 ghost use Rattle.std.specs.Prelude.{◌≡◌, ◌+◌, ◌<◌, length};
 ghost use Rattle.std.specs.List.{before_first};
-ghost use Rattle.bt_plain.specs.StyleToken.{is_white, ends_word, is_quote, may_follow, literal_piece};
+ghost use Rattle.bt_plain.specs.StyleToken.{ends_word, is_quote, may_follow, literal_piece};
 ghost use Rattle.bt_plain.specs.StyleCursor.{IsPiece, front_piece};
+
+use bt_text::is_white;
 
 /// A token, a word with its line, or the end.
 #[derive(Clone, Copy)]
@@ -15,13 +17,6 @@ pub enum Token<'a> {
     Literal(&'a [u8]),
     /// What no plain text has: a comment, a literal without end, or one joined to a word.
     Stray,
-}
-
-/// Tab, line feed, carriage return or space.
-fn is_white(b: u8) -> bool
-    ensures { result ≡ is_white b }
-{
-    b == b'\t' || b == b'\n' || b == b'\r' || b == b' '
 }
 
 /// White space, a percent sign or a brace.

@@ -2,6 +2,7 @@ mod Rows
 pub mod BlockLemmas
 pub mod SpecialLemmas
 pub mod PieceLemmas
+pub mod JoinLemmas
 pub mod CuttingLemmas
 pub mod PeriodLemmas
 pub mod CasingLemmas

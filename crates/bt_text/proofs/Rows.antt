@@ -1,5 +1,5 @@
 -- The definitions at literal texts.
-use Rattle.std.specs.Prelude.{◌≡◌, [], ◌∷◌, ◌++◌, refl, codes, pos, negsuc, replicate, ◌+◌, length, true, false, map}
+use Rattle.std.specs.Prelude.{◌≡◌, [], ◌∷◌, ◌++◌, refl, codes, pos, negsuc, replicate, ◌+◌, length, true, map}
 use Rattle.bt_text.specs.declared.classes.Class.TheVariants.{White, Letter, Digit, Sep, Other}
 use Rattle.bt_text.specs.declared.modes.Mode.TheVariants.{Title, Lower, Upper}
 use Rattle.bt_text.specs.Breaking.{broken, near_break}

@@ -3,7 +3,6 @@ use Rattle.std.proofs.Common.{◌≡◌, ℕ, ◌+◌, ◌-◌, ◌≤◌, Bool,
 use Rattle.std.specs.List.{prefix_len, suffix_len}
 use Rattle.std.proofs.lemmas.Bool.{lt-ltb}
 use Rattle.std.proofs.lemmas.List.{reverse-append, take-append-le, take_all}
-use Rattle.std.proofs.lemmas.List.Sums.{suffix_len-le-length}
 use Rattle.bt_text.specs.declared.modes.Mode.{Mode}
 use Rattle.bt_text.specs.declared.modes.Mode.TheVariants.{Title, Lower, Upper}
 use Rattle.bt_text.specs.declared.title_place.TitlePlace.{TitlePlace}

@@ -3,7 +3,7 @@ use Rattle.std.specs.Prelude.{ℕ, Bool, false, ◌&&◌, not, nat_le, ◌==◌,
 use Rattle.std.specs.List.{list_all, list_any}
 use Rattle.bt_text.specs.ByteTests.{is_digit}
 
--- A byte from 33 on, but for nine signs.
+-- A byte from 33 on, but for ten signs.
 abbrev pub is_name_byte : ℕ → Bool
 is_name_byte b = nat_le 33 b && not (list_any (λ sign. sign == b) (codes "\"#%'(),={}"))
 

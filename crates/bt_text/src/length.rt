@@ -21,7 +21,7 @@ pub fn block_characters(block: &[u8]) -> usize
     }
 }
 
-/// How many text characters a text has.
+/// How many text characters a text has: special characters, and bytes outside of these that are no braces.
 pub fn text_length(text: &[u8]) -> usize
     ensures { result ≡ text_length_of text.now }
 {

@@ -95,6 +95,26 @@ fn holds_a_long_line(rt: HostRuntime) -> Result<(), Fail> {
 }
 
 #[test]
+fn the_limit_is_tested_before_a_line_is_broken(rt: HostRuntime) -> Result<(), Fail> {
+    let alloc = rt.alloc();
+    let spaces = vec![in alloc; b' '; MOST_BYTES + 1]?;
+    let mut line = Held::new(alloc);
+    let mut lines = Sequence::new(alloc);
+    assert_eq!(rt;
+        line.write(alloc, &spaces, &mut lines),
+        Err(HeldFault::TooLong)
+    );
+    assert_eq!(rt; line.bytes().len(), 0);
+    line.write(alloc, b"ab", &mut lines)?;
+    assert_eq!(rt;
+        line.write(alloc, &spaces[2..], &mut lines),
+        Err(HeldFault::TooLong)
+    );
+    assert!(rt; line.write(alloc, &spaces[3..], &mut lines).is_ok());
+    Ok(())
+}
+
+#[test]
 fn breaks_a_long_text(rt: HostRuntime) -> Result<(), Fail> {
     let alloc = rt.alloc();
     let mut text = Bytes::new(alloc);

@@ -3,10 +3,11 @@
 /// How the case of a text is changed.
 #[derive(Clone, Copy, PartialEq, Eq, Debug)]
 pub enum Mode {
-    /// The first letter, and one behind a colon and white space, are spared, all others made small.
+    /// As `Lower`, but a letter at depth 0, or a whole special character, is spared at place 0 and behind white space
+    /// with a colon in front of it.
     Title,
-    /// All letters are made small.
+    /// Letters at depth 0, and those of special characters outside control sequences, are made small.
     Lower,
-    /// All letters are made large.
+    /// The same letters are made large.
     Upper,
 }

@@ -35,18 +35,20 @@ pub fn control_name_len(text: &[u8]) -> usize
     }
 }
 
-/// The name of the control sequence whose backslash stands before the text, and what follows the white space behind it.
+/// The name of the control sequence whose backslash stands before the text, and what follows the white space behind
+/// it.
 pub fn control_split(text: &[u8]) -> (&[u8], &[u8])
     ensures name { result.0.now ≡ control_name text.now }
     ensures behind { result.1.now
         ≡ drop (length (control_gap text.now)) (drop (length (control_name text.now)) text.now) }
     ensures shorter { length result.1.now ≤ length text.now }
 {
-    let (name, after) = text.split_at(control_name_len(text));
-    (name, &after[white_run(after)..])
+    let (name, _, behind) = control_parts(text);
+    (name, behind)
 }
 
-/// The name of that control sequence, the white space behind it, and what follows.
+/// The name of the control sequence whose backslash stands before the text, the white space behind it, and what
+/// follows.
 pub fn control_parts(text: &[u8]) -> (&[u8], &[u8], &[u8])
     ensures name { result.0.now ≡ control_name text.now }
     ensures gap { result.1.now ≡ control_gap text.now }

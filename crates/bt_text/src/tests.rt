@@ -1,3 +1,5 @@
+//! Byte texts and lists, each call once.
+
 use crate::{Bytes, Sequence};
 use std::test::Fail;
 

@@ -120,7 +120,8 @@ fn block_width(block: &[u8]) -> u32
     }
 }
 
-/// The width of a text.
+/// The width of a text, by the table of widths. In special characters braces have none, and control sequences but for
+/// the foreign ones have none.
 pub fn width(text: &[u8]) -> u32
     requires { length text.now ≤ 65536 }
     ensures { result ≡ width_of text.now }

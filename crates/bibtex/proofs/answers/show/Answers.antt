@@ -1,5 +1,5 @@
 -- Each part is what its call makes of the run's lines or log.
-use Rattle.std.proofs.Common.{◌≡◌, ℕ, List, ap, ◌∙◌}
+use Rattle.std.proofs.Common.{◌≡◌, ap, ◌∙◌}
 use Rattle.bibtex.specs.Log.{status_of, log_bytes, terse_bytes, lines_bytes}
 use Rattle.bibtex.proofs.answers.show.Goals as goal
 

@@ -9,13 +9,13 @@ lines-init c = record { number = omega arith; same = search rules }
 
 pub returns-then-end-rest : goal.returns-then-end-rest
 returns-then-end-rest c =
-    lines_end c.lines.number c.line_len-end.result c.lines.rest.now c.trimmed.result.now c.lines.items c.add_line.new.items _
-    c.line_len-end.ensures.value c.if-end-rest.true c.trimmed.ensures c.in_ok-add_line.ensures c.lines.invariant.same
+    lines_end c.lines.number c.line_len-end.result c.lines.rest.now c.trim_end.result.now c.lines.items c.add_line.new.items _
+    c.line_len-end.ensures.value c.if-end-rest.true c.trim_end.ensures c.in_ok-add_line.ensures c.lines.invariant.same
 
 pub lines-preserved : goal.lines-preserved
 lines-preserved c =
     let lt : c.line_len-end.result < length c.lines.rest.now = omega arith in record {
       number = omega (arith, behind_shorter c.lines.rest.now c.line_len-end.result lt);
-      same = line_added c.lines.number c.line_len-end.result c.lines.rest.now c.trimmed.result.now c.lines.items c.add_line.new.items _
-          c.line_len-end.ensures.value lt c.trimmed.ensures c.in_ok-add_line.ensures c.lines.invariant.same;
+      same = line_added c.lines.number c.line_len-end.result c.lines.rest.now c.trim_end.result.now c.lines.items c.add_line.new.items _
+          c.line_len-end.ensures.value lt c.trim_end.ensures c.in_ok-add_line.ensures c.lines.invariant.same;
     }

@@ -1,4 +1,4 @@
-use Rattle.std.proofs.Common.{◌∙◌, length}
+use Rattle.std.proofs.Common.{◌∙◌}
 use Rattle.bt_machine.specs.Program.{definitions_of}
 use Rattle.bibtex.proofs.CommandLemmas.{one_step}
 use Rattle.bibtex.proofs.commands.iterate.Goals as goal

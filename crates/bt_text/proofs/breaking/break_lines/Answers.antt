@@ -1,6 +1,5 @@
-use Rattle.std.proofs.Common.{◌≡◌, ◌+◌, ◌-◌, ◌<◌, ◌≤◌, length, drop, set, sym, ap, ◌∙◌, length-drop, length-set, arith}
+use Rattle.std.proofs.Common.{◌≡◌, ◌+◌, ◌-◌, ◌<◌, ◌≤◌, length, drop, set, sym, ◌∙◌, length-drop, length-set, arith}
 use Rattle.std.proofs.lemmas.List.{take_rest}
-use Rattle.bt_text.specs.Breaking.{broken}
 use Rattle.bt_text.proofs.BreakingLemmas.{broken_end, broken_step, next_text}
 use Rattle.bt_text.proofs.breaking.break_lines.Goals as goal
 

@@ -1,5 +1,5 @@
 -- The new answers are what the new files mean.
-use Rattle.std.proofs.Common.{◌≡◌, ℕ, List, ap, ◌∙◌}
+use Rattle.std.proofs.Common.{ℕ, List, ap, ◌∙◌}
 use Rattle.bibtex.specs.declared.files.File.{File}
 use Rattle.bibtex.specs.Citations.{citations}
 use Rattle.bibtex.specs.Meaning.{run_of, shown, meaning}
