@@ -1,6 +1,8 @@
 //! Answers cases of the functions on texts: a line of input is a call, its answer a line of output.
 #![tactic(auto)]
 
+ghost use Rattle.std.specs.Prelude.{◌<◌};
+
 use bt_text::{
     Bytes, Class, Held, HeldFault, Mode, Sequence, add_period, balanced, change_case, class,
     purify, substring, text_length, text_prefix, width,
@@ -23,10 +25,10 @@ fn digit(byte: u8) -> u8
 /// The bytes that a word spells to base 16, none for `-`.
 fn unspelled(alloc: Global, word: &str) -> Result<Vec<u8>, AllocError> {
     let mut bytes = Vec::new(alloc);
-    let mut rest = word.as_bytes();
-    while let [high, low, behind @ ..] = rest {
-        bytes.push(digit(*high) * 16 + digit(*low))?;
-        rest = behind;
+    for pair in word.as_bytes().chunks(2) {
+        if let [high, low] = pair {
+            bytes.push(digit(*high) * 16 + digit(*low))?;
+        }
     }
     Ok(bytes)
 }
