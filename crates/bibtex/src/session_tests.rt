@@ -1,7 +1,7 @@
 //! What no clause says: that sessions take edits with ample memory, on texts whose outputs were worked out by hand.
 
 use crate::{Edit, Refusal, Report, Session, edit_all};
-use std::alloc::Global;
+use std::alloc::{AllocError, Global};
 use std::test::Fail;
 
 const AUX: &[u8] = b"\\citation{b,a}\n\\bibdata{x}\n\\bibstyle{s}\n";
@@ -96,37 +96,60 @@ fn a_refused_text_changes_nothing(rt: HostRuntime) -> Result<(), Fail> {
     Ok(())
 }
 
+/// So many letters.
+fn letters(alloc: Global, count: usize) -> Result<Vec<u8>, AllocError> {
+    vec![in alloc; b'a'; count]
+}
+
 #[test]
-fn names_and_sizes_are_tested_in_order(rt: HostRuntime) -> Result<(), Fail> {
+fn names_have_1_to_64_bytes(rt: HostRuntime) -> Result<(), Fail> {
     let alloc = rt.alloc();
     let mut session = whole(alloc)?;
-    let long = vec![in alloc; b'a'; 1_048_577]?;
+    let longer = letters(alloc, 65)?;
     assert_eq!(rt;
-        session.edit(Edit::Write(b"a b", &long)),
+        session.edit(Edit::Write(b"a b", b"")),
         Err(Refusal::BadName)
     );
     assert_eq!(rt; session.edit(Edit::Write(b"", b"")), Err(Refusal::BadName));
     assert_eq!(rt;
-        session.edit(Edit::Write(b"y.bib", &long)),
-        Err(Refusal::FileTooLarge)
-    );
-    let name = [b'n'; 65];
-    assert_eq!(rt;
-        session.edit(Edit::Write(&name, b"")),
+        session.edit(Edit::Write(&longer, b"")),
         Err(Refusal::BadName)
     );
     assert!(rt; shows_whole(&session));
-    assert!(rt; session.edit(Edit::Write(&name[..64], b"")).is_ok());
-    assert!(rt;
-        session
-            .edit(Edit::Write(b"y.txt", &long[..1_048_576]))
-            .is_ok()
+    let longest = letters(alloc, 64)?;
+    assert!(rt; session.edit(Edit::Write(&longest, b"")).is_ok());
+    Ok(())
+}
+
+#[test]
+fn texts_have_at_most_1048576_bytes(rt: HostRuntime) -> Result<(), Fail> {
+    let alloc = rt.alloc();
+    let mut session = whole(alloc)?;
+    let longer = letters(alloc, 1_048_577)?;
+    assert_eq!(rt;
+        session.edit(Edit::Write(b"a b", &longer)),
+        Err(Refusal::BadName)
     );
     assert_eq!(rt;
-        Session::new(alloc, &name[..61], 2).err(),
+        session.edit(Edit::Write(b"y.bib", &longer)),
+        Err(Refusal::FileTooLarge)
+    );
+    assert!(rt; shows_whole(&session));
+    let longest = letters(alloc, 1_048_576)?;
+    assert!(rt; session.edit(Edit::Write(b"y.txt", &longest)).is_ok());
+    Ok(())
+}
+
+#[test]
+fn roots_have_at_most_60_bytes(rt: HostRuntime) -> Result<(), Fail> {
+    let alloc = rt.alloc();
+    let longer = letters(alloc, 61)?;
+    assert_eq!(rt;
+        Session::new(alloc, &longer, 2).err(),
         Some(Refusal::BadName)
     );
-    assert!(rt; Session::new(alloc, &name[..60], 2).is_ok());
+    let longest = letters(alloc, 60)?;
+    assert!(rt; Session::new(alloc, &longest, 2).is_ok());
     Ok(())
 }
 
