@@ -1,9 +1,10 @@
 //! A growing list, seen in contracts as the list of its elements.
 
-ghost use Rattle.std.specs.Prelude.{◌≡◌, ◌<◌, [], ◌∷◌, ◌++◌, length, slice_set, OnOk, OnErr};
+ghost use Rattle.std.specs.Prelude.{◌≡◌, ◌<◌, [], ◌∷◌, ◌++◌, length, slice_get, slice_set, Some, OnOk, OnErr};
 
 use std::alloc::{AllocError, AllocFailed, Global};
 use std::marker::Model;
+use std::mem;
 
 /// A list. Contracts see its elements in order, and no capacity.
 #[derive(Debug, Drop)]
@@ -68,6 +69,15 @@ impl<T> Sequence<T> {
         self.items[place] = item;
     }
 
+    /// Puts an element in the place of another, which is given back.
+    pub fn replace(&mut self, place: usize, item: T) -> T
+        requires { place < length self.old }
+        ensures after { self.new ≡ slice_set self.old place item }
+        ensures value { slice_get self.old place ≡ Some result }
+    {
+        mem::replace(&mut self.items[place], item)
+    }
+
     /// Moves elements behind the others, in their order. After want of memory the list is as before.
     pub fn append(&mut self, mut more: Sequence<T>) -> Result<(), AllocError>
     where
@@ -76,5 +86,13 @@ impl<T> Sequence<T> {
         ensures err { OnErr result (self.new ≡ self.old) }
     {
         self.items.append(&mut more.items)
+    }
+
+    /// The elements as a vector, which takes no memory.
+    pub fn into_vec(self) -> Vec<T>
+        ensures { result.items ≡ self }
+    {
+        let Sequence { items } = self;
+        items
     }
 }

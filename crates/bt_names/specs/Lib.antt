@@ -1,0 +1,10 @@
+pub mod Listing
+pub mod Cutting
+pub mod Vons
+pub mod Splitting
+pub mod Patterns
+pub mod Spelling
+pub mod Joining
+pub mod Groups
+pub mod Growth
+pub mod Calls

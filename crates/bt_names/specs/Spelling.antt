@@ -1,0 +1,34 @@
+-- How a pattern spells the tokens of a part: whole, or by their initials.
+use Rattle.std.specs.Prelude.{ℕ, if◌then◌else◌, List, [], ◌∷◌, map}
+use Rattle.bt_text.specs.Blocks.{blocks, begins_special}
+use Rattle.bt_text.specs.ByteTests.{is_letter}
+use Rattle.bt_names.specs.declared.tokens.Token.{Token}
+use Rattle.bt_names.specs.declared.tokens.Parts.{Parts}
+use Rattle.bt_names.specs.declared.spelling.Form.{Form}
+use Rattle.bt_names.specs.declared.spelling.Form.TheVariants.{Whole, Initials}
+use Rattle.bt_names.specs.Cutting.{first_or_none}
+
+abbrev pub first_block : List ℕ → List ℕ
+first_block t = first_or_none (blocks t)
+
+-- the first letter at any depth, or the group of the first left brace that has a backslash behind it, whichever begins
+-- first
+abbrev pub initial : List ℕ → List ℕ
+initial [] = []
+initial (b ∷ t) = if is_letter b then b ∷ [] else (if begins_special (b ∷ t) then first_block (b ∷ t) else initial t)
+
+abbrev pub by_initial : Token → Token
+by_initial w = record { text = initial w.text; before = w.before }
+
+-- some tokens in this form
+abbrev pub spelled : Form → List Token → List Token
+spelled Whole ws = ws
+spelled Initials ws = map by_initial ws
+
+-- the parts by their initials
+abbrev pub abbreviated : Parts → Parts
+abbreviated p = record { first = map by_initial p.first; von = map by_initial p.von; last = map by_initial p.last; jr = map by_initial p.jr }
+
+abbrev pub in_form : Form → Parts → Parts
+in_form Whole p = p
+in_form Initials p = abbreviated p

@@ -1,0 +1,51 @@
+//! Texts that grow up to a limit.
+
+ghost use Rattle.std.specs.Prelude.{◌≡◌, ◌≤◌, ◌+◌, ◌++◌, OnOk, IfErr, length};
+ghost use Rattle.bt_names.specs.Growth.{StopsAt};
+
+use std::alloc::AllocError;
+
+/// Why a text was not finished.
+#[derive(Clone, Copy, PartialEq, Eq, Debug)]
+pub enum Stop {
+    /// It gets longer than the limit.
+    Longer,
+    /// There is no memory left.
+    OutOfMemory,
+}
+
+impl From<AllocError> for Stop {
+    ghost use Rattle.bt_names.specs.declared.growth.Stop.TheVariants.{OutOfMemory};
+
+    ghost from_gives = { λ _ e. e ≡ OutOfMemory };
+
+    fn from(_error: AllocError) -> Stop {
+        Stop::OutOfMemory
+    }
+}
+
+/// Puts bytes behind a text, unless it gets longer than the limit.
+pub fn push_within(out: &mut Vec<u8>, limit: usize, more: &[u8]) -> Result<(), Stop>
+    ensures ok { OnOk result (out.new.items ≡ out.old.items ++ more.now) }
+    ensures within { OnOk result (length out.new.items ≤ limit) }
+    ensures stop { IfErr result (StopsAt limit (out.old.items ++ more.now)) }
+{
+    if limit < out.len() + more.len() {
+        return Err(Stop::Longer);
+    }
+    out.extend_from_slice(more)?;
+    Ok(())
+}
+
+/// Puts bytes behind a group's output, unless it gets more than a byte longer than the limit: the end of a group may
+/// take one byte away.
+pub fn push_in_group(out: &mut Vec<u8>, limit: usize, more: &[u8]) -> Result<(), Stop>
+    ensures ok { OnOk result (out.new.items ≡ out.old.items ++ more.now) }
+    ensures stop { IfErr result (StopsAt (limit + 1) (out.old.items ++ more.now)) }
+{
+    if limit < (out.len() + more.len()).saturating_sub(1) {
+        return Err(Stop::Longer);
+    }
+    out.extend_from_slice(more)?;
+    Ok(())
+}

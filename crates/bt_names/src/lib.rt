@@ -1,0 +1,25 @@
+//! Names of people: how many a text lists, the parts of one, and one in a pattern.
+#![tactic(auto)]
+
+mod calls;
+mod cutting;
+mod faults;
+mod groups;
+mod growth;
+mod joining;
+mod listing;
+mod patterns;
+mod spelling;
+mod splitting;
+mod tokens;
+mod vons;
+
+pub use calls::{Formatted, format, format_within, parts};
+pub use faults::{FormatFault, NameFault};
+pub use listing::count;
+pub use tokens::{Parts, Token};
+
+#[cfg(test)]
+mod format_tests;
+#[cfg(test)]
+mod list_tests;

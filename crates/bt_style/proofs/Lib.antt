@@ -1,0 +1,13 @@
+pub mod TokenLemmas
+pub mod DecimalLemmas
+pub mod BodyLemmas
+pub mod CommandLemmas
+pub mod NameLemmas
+pub mod SpelledLemmas
+pub mod ApartLemmas
+pub mod ReadBackLemmas
+pub mod PresetLemmas
+mod Rows
+pub mod ReachLemmas
+pub mod FoundLemmas
+pub mod SearchLemmas

@@ -1,0 +1,14 @@
+use Rattle.std.proofs.Common.{◌≤◌, map, drop, length}
+use Rattle.std.specs.Option.{option_map}
+use Rattle.bt_style.specs.declared.style.Target.TheVariants as targets
+use Rattle.bt_style.specs.Names.{Holds, row_of, builtin_among}
+use Rattle.bt_style.proofs.names.put_builtins.Given as goal
+
+abbrev pub invariant-builtins : goal.invariant-builtins
+invariant-builtins l = record {
+  within : l.left ≤ length l.builtins;
+  so_far : Holds l.targets (λ name. option_map targets.Builtin (builtin_among (map row_of (drop l.left l.builtins)) name));
+}
+
+abbrev pub decreases-builtins : goal.decreases-builtins
+decreases-builtins l = l.left

@@ -1,0 +1,13 @@
+use Rattle.std.proofs.Common.{◌≡◌}
+use Rattle.bt_style.specs.Tree.{ops_body}
+use Rattle.bt_style.specs.Reach.{Knows, noted_all, waiting_names, waiting_size, body_names}
+use Rattle.bt_style.proofs.reach.note_body.Given as goal
+
+abbrev pub invariant-parts : goal.invariant-parts
+invariant-parts l = record {
+  seen : Knows l.seen l.found;
+  same : noted_all l.found (waiting_names l.waiting.items) ≡ noted_all l.fn.found (body_names (ops_body l.body));
+}
+
+abbrev pub decreases-parts : goal.decreases-parts
+decreases-parts l = waiting_size l.waiting.items

@@ -1,0 +1,43 @@
+-- The arguments of commands. A literal has no place in them but as a macro's text; elsewhere its quote makes a word that is no name.
+use Rattle.std.specs.Prelude.{ℕ, List, Result, Ok, codes}
+use Rattle.bt_style.specs.declared.fault.FaultKind.TheVariants.{UnclosedText, UnclosedBrace, StrayByte, MissingArgument}
+use Rattle.bt_style.specs.declared.fault.Fault.{Fault}
+use Rattle.bt_style.specs.Fault.{fault, ◌>>=◌}
+use Rattle.bt_style.specs.Token.{Open, Close, Word, Literal, Unclosed, Joined, Tokens, AtEnd, Front}
+
+-- the brace that opens an argument
+abbrev pub open_at : Tokens → Result Tokens Fault
+open_at (AtEnd line) = fault MissingArgument line
+open_at (Front Open line rest) = Ok rest
+open_at (Front _ line rest) = fault MissingArgument line
+
+-- the brace that closes it
+abbrev pub close_at : Tokens → Result Tokens Fault
+close_at (AtEnd line) = fault UnclosedBrace line
+close_at (Front Close line rest) = Ok rest
+close_at (Front _ line rest) = fault UnclosedBrace line
+
+-- a word with its line
+abbrev pub word_at : Tokens → Result ((List ℕ × ℕ) × Tokens) Fault
+word_at (AtEnd line) = fault MissingArgument line
+word_at (Front Open line rest) = fault MissingArgument line
+word_at (Front Close line rest) = fault MissingArgument line
+word_at (Front (Word word) line rest) = Ok ((word, line), rest)
+word_at (Front _ line rest) = Ok ((codes "\"", line), rest)
+
+-- one word in braces, taken as the test says
+abbrev pub braced_word : {A : Type 0} → (List ℕ → ℕ → Result A Fault) → Tokens → Result (A × Tokens) Fault
+braced_word take tokens = do
+  inside ← open_at tokens
+  word ← word_at inside
+  value ← take word.0.0 word.0.1
+  rest ← close_at word.1
+  Ok (value, rest)
+
+-- the text of a macro
+abbrev pub literal_at : Tokens → Result (List ℕ × Tokens) Fault
+literal_at (Front (Literal bytes) line rest) = Ok (bytes, rest)
+literal_at (Front Unclosed line rest) = fault UnclosedText line
+literal_at (Front Joined line rest) = fault StrayByte line
+literal_at (Front _ line rest) = fault MissingArgument line
+literal_at (AtEnd line) = fault MissingArgument line

@@ -1,0 +1,70 @@
+-- Commands with their arguments.
+use Rattle.std.specs.Prelude.{ℕ, List, [], length, Result, Ok}
+use Rattle.bt_style.specs.declared.fault.Fault.{Fault}
+use Rattle.bt_style.specs.declared.style.Target.{Target}
+use Rattle.bt_style.specs.declared.style.Action.{Action}
+use Rattle.bt_style.specs.declared.style.Action.TheVariants as actions
+use Rattle.bt_style.specs.declared.verbs.Verb.{Verb}
+use Rattle.bt_style.specs.declared.verbs.Verb.TheVariants as verbs
+use Rattle.bt_style.specs.declared.verbs.Stage.{Stage}
+use Rattle.bt_style.specs.declared.names.Names.{Names}
+use Rattle.bt_style.specs.declared.names.Names.TheVariants.{Fields, EntryNumbers, EntryTexts, GlobalNumbers, GlobalTexts}
+use Rattle.bt_style.specs.Program.{Program}
+use Rattle.bt_style.specs.Fault.{◌>>=◌}
+use Rattle.bt_style.specs.Token.{Tokens}
+use Rattle.bt_style.specs.Names.{is_taken, is_macro}
+use Rattle.bt_style.specs.Draft.{with_macro, with_function, with_command}
+use Rattle.bt_style.specs.Arguments.{open_at, close_at, braced_word, literal_at}
+use Rattle.bt_style.specs.Declares.{new_name, target_of, runnable, braced_names}
+use Rattle.bt_style.specs.Bodies.{body_at}
+use Rattle.bt_style.specs.Verbs.{verb_named, verb_of, in_order, out_of_order, stage_after}
+
+-- what a word stands for, where it can be run
+abbrev pub run_target : Program → List ℕ → ℕ → Result Target Fault
+run_target p word line = target_of p word line >>= λ target. runnable target line
+
+-- a command that runs a function
+abbrev pub run_at : (Target → Action) → ℕ → Program → Tokens → Result (Program × Tokens) Fault
+run_at action line p tokens = do
+  target ← braced_word (run_target p) tokens
+  Ok (with_command (action target.0) line p, target.1)
+
+-- a command that declares global variables
+abbrev pub variables_at : Names → Action → ℕ → Program → Tokens → Result (Program × Tokens) Fault
+variables_at names action line p tokens = do
+  declared ← braced_names names p tokens
+  Ok (with_command action line declared.0, declared.1)
+
+-- what a command with its arguments makes of a program
+unfoldable pub arguments_at : Verb → ℕ → Program → Tokens → Result (Program × Tokens) Fault
+arguments_at verbs.Entry line p tokens = do
+  fields ← braced_names Fields p tokens
+  numbers ← braced_names EntryNumbers fields.0 fields.1
+  texts ← braced_names EntryTexts numbers.0 numbers.1
+  Ok (with_command actions.Entry line texts.0, texts.1)
+arguments_at verbs.Execute line p tokens = run_at actions.Execute line p tokens
+arguments_at verbs.Function line p tokens = do
+  name ← braced_word (new_name (is_taken p)) tokens
+  inside ← open_at name.1
+  body ← body_at p [] [] inside
+  Ok (with_command (actions.Function (length p.functions)) line (with_function name.0 body.0 p), body.1)
+arguments_at verbs.Integers line p tokens = variables_at GlobalNumbers actions.Integers line p tokens
+arguments_at verbs.Iterate line p tokens = run_at actions.Iterate line p tokens
+arguments_at verbs.Macro line p tokens = do
+  name ← braced_word (new_name (is_macro p)) tokens
+  inside ← open_at name.1
+  text ← literal_at inside
+  rest ← close_at text.1
+  Ok (with_command (actions.Macro (length p.macros)) line (with_macro name.0 text.0 p), rest)
+arguments_at verbs.Read line p tokens = Ok (with_command actions.Read line p, tokens)
+arguments_at verbs.Reverse line p tokens = run_at actions.Reverse line p tokens
+arguments_at verbs.Sort line p tokens = Ok (with_command actions.Sort line p, tokens)
+arguments_at verbs.Strings line p tokens = variables_at GlobalTexts actions.Strings line p tokens
+
+-- a command that begins with this word: how far the commands have come then, the program, and what stands behind
+unfoldable pub command_at : Stage → Program → List ℕ → ℕ → Tokens → Result (Stage × Program × Tokens) Fault
+command_at stage p word line tokens = do
+  verb ← verb_of (verb_named word) line
+  allowed ← in_order (out_of_order verb stage) line
+  next ← arguments_at verb line p tokens
+  Ok (stage_after verb stage, next.0, next.1)

@@ -1,0 +1,49 @@
+-- Names that are declared, and names that are used.
+use Rattle.std.specs.Prelude.{ℕ, Bool, not, if◌then◌else◌, List, Option, Some, None, Result, Ok}
+use Rattle.bt_text.specs.Folding.{folded}
+use Rattle.bt_text.specs.NameBytes.{is_name}
+use Rattle.bt_style.specs.declared.fault.FaultKind.TheVariants.{UnknownName, NameTaken, UnclosedBrace, BadName, NotAFunction}
+use Rattle.bt_style.specs.declared.fault.Fault.{Fault}
+use Rattle.bt_style.specs.declared.style.Target.{Target}
+use Rattle.bt_style.specs.declared.style.Target.TheVariants as targets
+use Rattle.bt_style.specs.declared.names.Names.{Names}
+use Rattle.bt_style.specs.Program.{Program}
+use Rattle.bt_style.specs.Fault.{fault, ◌>>=◌}
+use Rattle.bt_style.specs.Token.{Open, Close, Word, Tokens, AtEnd, Front}
+use Rattle.bt_style.specs.Names.{meaning, is_taken}
+use Rattle.bt_style.specs.Draft.{with_name}
+use Rattle.bt_style.specs.Arguments.{open_at}
+
+-- The name that a word declares: one that may be a name, and that isn't taken.
+abbrev pub new_name : (List ℕ → Bool) → List ℕ → ℕ → Result (List ℕ) Fault
+new_name taken word line =
+    if not (is_name word) then fault BadName line
+    else if taken (folded word) then fault NameTaken line
+    else Ok (folded word)
+
+abbrev pub known : Option Target → ℕ → Result Target Fault
+known None line = fault UnknownName line
+known (Some target) line = Ok target
+
+-- what a word stands for
+abbrev pub target_of : Program → List ℕ → ℕ → Result Target Fault
+target_of p word line = known (meaning p (folded word)) line
+
+-- functions of the style and built-in ones can be run
+abbrev pub runnable : Target → ℕ → Result Target Fault
+runnable (targets.Function n) line = Ok (targets.Function n)
+runnable (targets.Builtin b) line = Ok (targets.Builtin b)
+runnable _ line = fault NotAFunction line
+
+-- the names up to the closing brace, each declared before the next is read
+unfoldable pub names_at : Names → Program → Tokens → Result (Program × Tokens) Fault
+names_at names p (AtEnd line) = fault UnclosedBrace line
+names_at names p (Front Open line rest) = fault UnclosedBrace line
+names_at names p (Front Close line rest) = Ok (p, rest)
+names_at names p (Front (Word word) line rest) = do
+  name ← new_name (is_taken p) word line
+  names_at names (with_name names name p) rest
+names_at names p (Front _ line rest) = fault BadName line
+
+abbrev pub braced_names : Names → Program → Tokens → Result (Program × Tokens) Fault
+braced_names names p tokens = open_at tokens >>= names_at names p

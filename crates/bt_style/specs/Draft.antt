@@ -1,0 +1,55 @@
+-- A style while it is read: where it starts, and what each declaration adds.
+use Rattle.std.specs.Prelude.{ℕ, List, [], ◌∷◌, ◌++◌, codes, length}
+use Rattle.bt_style.specs.declared.style.Target.{Target}
+use Rattle.bt_style.specs.declared.style.Target.TheVariants as targets
+use Rattle.bt_style.specs.declared.style.Action.{Action}
+use Rattle.bt_style.specs.declared.names.Names.{Names}
+use Rattle.bt_style.specs.declared.names.Names.TheVariants.{Fields, EntryNumbers, EntryTexts, GlobalNumbers, GlobalTexts}
+use Rattle.bt_style.specs.Tree.{Body}
+use Rattle.bt_style.specs.Program.{Program}
+
+-- nothing is declared
+abbrev pub bare : Program
+bare = record {
+  fields = [];
+  entry_numbers = [];
+  entry_texts = [];
+  global_numbers = [];
+  global_texts = [];
+  macros = [];
+  functions = [];
+  commands = [];
+}
+
+-- a style with a name more
+abbrev pub with_name : Names → List ℕ → Program → Program
+with_name Fields name p = record p { fields = p.fields ++ name ∷ [] }
+with_name EntryNumbers name p = record p { entry_numbers = p.entry_numbers ++ name ∷ [] }
+with_name EntryTexts name p = record p { entry_texts = p.entry_texts ++ name ∷ [] }
+with_name GlobalNumbers name p = record p { global_numbers = p.global_numbers ++ name ∷ [] }
+with_name GlobalTexts name p = record p { global_texts = p.global_texts ++ name ∷ [] }
+
+-- what such a name then stands for
+abbrev pub next_target : Names → Program → Target
+next_target Fields p = targets.Field (length p.fields)
+next_target EntryNumbers p = targets.EntryNumber (length p.entry_numbers)
+next_target EntryTexts p = targets.EntryText (length p.entry_texts)
+next_target GlobalNumbers p = targets.GlobalNumber (length p.global_numbers)
+next_target GlobalTexts p = targets.GlobalText (length p.global_texts)
+
+abbrev pub with_macro : List ℕ → List ℕ → Program → Program
+with_macro name text p = record p { macros = p.macros ++ (record { name = name; text = text }) ∷ [] }
+
+abbrev pub with_function : List ℕ → Body → Program → Program
+with_function name body p = record p { functions = p.functions ++ (record { name = name; body = body }) ∷ [] }
+
+abbrev pub with_command : Action → ℕ → Program → Program
+with_command action line p = record p { commands = p.commands ++ (record { action = action; line = line }) ∷ [] }
+
+-- what is there before the first command
+abbrev pub preset : Program
+preset = record bare {
+  fields = codes "crossref" ∷ [];
+  entry_texts = codes "sort.key$" ∷ [];
+  global_numbers = codes "entry.max$" ∷ codes "global.max$" ∷ [];
+}

@@ -1,0 +1,50 @@
+-- The elements of a body that are words: numbers, quoted names and calls.
+use Rattle.std.specs.Prelude.{ℕ, ◌-◌, ◌+◌, ◌*◌, ◌^◌, Bool, ◌==◌, nat_lt, if◌then◌else◌, List, [], ◌∷◌, length, drop, slice_index, ℤ, pos, neg_ℤ, Result, Ok}
+use Rattle.std.specs.List.{take_while}
+use Rattle.std.specs.Char.{is_ascii_digit}
+use Rattle.bt_style.specs.declared.fault.FaultKind.TheVariants.{NumberTooLarge, BadName, StrayByte}
+use Rattle.bt_style.specs.declared.fault.Fault.{Fault}
+use Rattle.bt_style.specs.Tree.{Element, Amount, Quoted, Called}
+use Rattle.bt_style.specs.Program.{Program}
+use Rattle.bt_style.specs.Fault.{fault, ◌>>=◌}
+use Rattle.bt_style.specs.Declares.{target_of}
+
+-- the number that digits spell, behind digits that spelled n
+abbrev pub decimal : ℕ → List ℕ → ℕ
+decimal n [] = n
+decimal n (d ∷ digits) = decimal (n * 10 + (d - 48)) digits
+
+-- the size of a number, by its digits and what follows them
+abbrev pub size_of : ℕ → List ℕ → List ℕ → ℕ → Result ℕ Fault
+size_of greatest digits behind line =
+    if length digits == 0 then fault StrayByte line
+    else if nat_lt greatest (decimal 0 digits) then fault NumberTooLarge line
+    else if length behind == 0 then Ok (decimal 0 digits) else fault StrayByte line
+
+unfoldable pub size_at : ℕ → List ℕ → ℕ → Result ℕ Fault
+size_at greatest bytes line =
+    let digits = take_while is_ascii_digit bytes in
+    size_of greatest digits (drop (length digits) bytes) line
+
+abbrev pub is_minus : List ℕ → Bool
+is_minus bytes = slice_index bytes 0 == 45
+
+-- behind the number sign
+unfoldable pub number_at : List ℕ → ℕ → Result ℤ Fault
+number_at bytes line =
+    if is_minus bytes then (size_at (2 ^ 31) (drop 1 bytes) line >>= λ n. Ok (neg_ℤ (pos n)))
+    else size_at (2 ^ 31 - 1) bytes line >>= λ n. Ok (pos n)
+
+-- behind the apostrophe
+unfoldable pub quoted_at : Program → List ℕ → ℕ → Result Element Fault
+quoted_at p bytes line =
+    if length bytes == 0 then fault BadName line
+    else target_of p bytes line >>= λ target. Ok (Quoted target)
+
+-- a number, a quoted name or a call
+unfoldable pub word_element : Program → List ℕ → ℕ → Result Element Fault
+word_element p word line =
+    let first = slice_index word 0 in
+    if first == 35 then (number_at (drop 1 word) line >>= λ n. Ok (Amount n))
+    else if first == 39 then quoted_at p (drop 1 word) line
+    else target_of p word line >>= λ target. Ok (Called target)

@@ -1,0 +1,72 @@
+-- What names stand for.
+use Rattle.std.specs.Prelude.{◌≡◌, ℕ, suc, Bool, if◌then◌else◌, List, [], ◌∷◌, map, Option, Some, None, is_some, bytes_eq, Vec}
+use Rattle.std.specs.declared.alloc.Global.{Global}
+use Rattle.std.specs.Option.{option_map}
+use Rattle.std.specs.HashMap.{HashMap, get_by}
+use Rattle.bt_style.specs.declared.builtin.Builtin.{Builtin}
+use Rattle.bt_style.specs.declared.style.Target.{Target}
+use Rattle.bt_style.specs.declared.style.Target.TheVariants as targets
+use Rattle.bt_style.specs.Builtins.{Row, name_of, table}
+use Rattle.bt_style.specs.Program.{Program}
+
+-- the row of a built-in function
+abbrev pub row_of : Builtin → Row
+row_of b = record { builtin = b; name = name_of b }
+
+-- the built-in function of a name, among rows of the table
+abbrev pub builtin_among : List Row → List ℕ → Option Builtin
+builtin_among [] name = None
+builtin_among (row ∷ rows) name = if bytes_eq row.name name then Some row.builtin else builtin_among rows name
+
+-- the built-in function of a name
+unfoldable pub builtin_named : List ℕ → Option Builtin
+builtin_named name = builtin_among table name
+
+-- the number of a name in a list
+abbrev pub place_in : List (List ℕ) → List ℕ → Option ℕ
+place_in [] name = None
+place_in (first ∷ names) name = if bytes_eq first name then Some 0 else option_map (λ n. suc n) (place_in names name)
+
+-- the first that is there
+abbrev pub first_some : {A : Type 0} → List (Option A) → Option A
+first_some [] = None
+first_some (Some x ∷ rest) = Some x
+first_some (None ∷ rest) = first_some rest
+
+abbrev pub function_names : Program → List (List ℕ)
+function_names p = map (λ f. f.name) p.functions
+
+abbrev pub macro_names : Program → List (List ℕ)
+macro_names p = map (λ m. m.name) p.macros
+
+-- What a name in small letters stands for. Fields, variables, functions and built-in functions share one space of names.
+abbrev pub meanings : Program → List ℕ → List (Option Target)
+meanings p name =
+    option_map targets.Builtin (builtin_named name) ∷
+    option_map targets.Field (place_in p.fields name) ∷
+    option_map targets.EntryNumber (place_in p.entry_numbers name) ∷
+    option_map targets.EntryText (place_in p.entry_texts name) ∷
+    option_map targets.GlobalNumber (place_in p.global_numbers name) ∷
+    option_map targets.GlobalText (place_in p.global_texts name) ∷
+    option_map targets.Function (place_in (function_names p) name) ∷ []
+
+unfoldable pub meaning : Program → List ℕ → Option Target
+meaning p name = first_some (meanings p name)
+
+abbrev pub is_taken : Program → List ℕ → Bool
+is_taken p name = is_some (meaning p name)
+
+-- Macros have a space of their own.
+unfoldable pub macro_named : Program → List ℕ → Option ℕ
+macro_named p name = place_in (macro_names p) name
+
+abbrev pub is_macro : Program → List ℕ → Bool
+is_macro p name = is_some (macro_named p name)
+
+-- what a hashed map has at a key
+abbrev pub at_key : {X S : Type 0} → HashMap (Vec ℕ Global) X S → Vec ℕ Global → Option X
+at_key m key = get_by (λ k. bytes_eq key.items k.items) m
+
+-- a hashed map has at each name what a function gives
+abbrev pub Holds : {X S : Type 0} → HashMap (Vec ℕ Global) X S → (List ℕ → Option X) → Type 0
+Holds m f = (key : Vec ℕ Global) → at_key m key ≡ f key.items

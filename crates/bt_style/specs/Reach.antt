@@ -1,0 +1,109 @@
+-- The names that a step may come to: from a name, through bodies, and from `call.type$` to the entry's function.
+use Rattle.std.specs.Prelude.{◌≡◌, ℕ, ◌+◌, Bool, true, false, if◌then◌else◌, List, [], ◌∷◌, ◌++◌, Option, Some, None, Contains, codes, slice_get}
+use Rattle.std.specs.List.{list_any}
+use Rattle.std.specs.Option.{option_map_or}
+use Rattle.std.specs.HashSet.{HashSet, contains}
+use Rattle.std.proofs.Common.{Bor}
+use Rattle.bt_style.specs.contracts.style.TargetPartialEq.TheImpl as target_comparison
+use Rattle.bt_style.specs.declared.builtin.Builtin.{Builtin}
+use Rattle.bt_style.specs.declared.builtin.Builtin.TheVariants as builtins
+use Rattle.bt_style.specs.declared.style.Op.{Op}
+use Rattle.bt_style.specs.declared.style.Target.{Target}
+use Rattle.bt_style.specs.declared.style.Target.TheVariants as targets
+use Rattle.bt_style.specs.Tree.{Element, Amount, Words, Quoted, Braced, Called, Body, End, Then, ops_body}
+use Rattle.bt_style.specs.Program.{Program, Definition}
+use Rattle.bt_style.specs.Names.{place_in, function_names}
+
+-- the names called or quoted in a body, inner braces too
+abbrev mutual
+  pub element_names : Element → List Target
+  element_names (Amount n) = []
+  element_names (Words t) = []
+  element_names (Quoted name) = name ∷ []
+  element_names (Braced inner) = body_names inner
+  element_names (Called name) = name ∷ []
+
+  pub body_names : Body → List Target
+  body_names End = []
+  body_names (Then first rest) = element_names first ++ body_names rest
+
+-- the names in the body of a function of the style
+abbrev pub function_body_names : Program → ℕ → List Target
+function_body_names p n = option_map_or (λ f. body_names f.body) (slice_get p.functions n) []
+
+-- the function of this number, if there is one
+abbrev pub maybe_function : Option ℕ → List Target
+maybe_function None = []
+maybe_function (Some n) = targets.Function n ∷ []
+
+abbrev pub is_call_type : Builtin → Bool
+is_call_type builtins.CallType = true
+is_call_type _ = false
+
+-- the number of `default.type`
+abbrev pub default_type : Program → Option ℕ
+default_type p = place_in (function_names p) (codes "default.type")
+
+-- The names that are reached at once from a name: those in its body, and from `call.type$` the function of the entry's type, if it has one, and `default.type`.
+abbrev pub leads_to : Program → Option ℕ → Target → List Target
+leads_to p type_function (targets.Function n) = function_body_names p n
+leads_to p type_function (targets.Builtin b) = if is_call_type b then maybe_function type_function ++ maybe_function (default_type p) else []
+leads_to p type_function _ = []
+
+-- the least set that has the start and, with a name, each name that is reached from it at once
+pub data Reaches (p : Program) (type_function : Option ℕ) (start : Target) : Target → Type 0 where
+  Start : Reaches p type_function start start
+  Next : {here next : Target} → Reaches p type_function start here → Contains (leads_to p type_function here) next → Reaches p type_function start next
+
+-- whether two targets are equal
+abbrev pub target_eq : Target → Target → Bool
+target_eq = (target_comparison.ghosts).eq
+
+-- whether a target is among some
+abbrev pub is_among : List Target → Target → Bool
+is_among found t = list_any (λ x. target_eq x t) found
+
+-- a target behind those that are found, unless it is among them
+abbrev pub noted : List Target → Target → List Target
+noted found t = if is_among found t then found else found ++ t ∷ []
+
+-- the same of some targets in turn
+abbrev pub noted_all : List Target → List Target → List Target
+noted_all found [] = found
+noted_all found (t ∷ ts) = noted_all (noted found t) ts
+
+-- a hashed set has the targets that are found
+abbrev pub Knows : {S : Type 0} → HashSet Target S → List Target → Type 0
+Knows seen found = (t : Target) → contains target_eq seen t ≡ is_among found t
+
+-- parts of bodies that are still to be gone over, the next one last: the names in them
+abbrev pub waiting_names : List (Bor (List Op)) → List Target
+waiting_names [] = []
+waiting_names (ops ∷ above) = waiting_names above ++ body_names (ops_body ops.now)
+
+-- how many elements a body has, inner ones too, and its end
+abbrev mutual
+  pub element_size : Element → ℕ
+  element_size (Amount n) = 1
+  element_size (Words t) = 1
+  element_size (Quoted name) = 1
+  element_size (Braced inner) = 1 + body_size inner
+  element_size (Called name) = 1
+
+  pub body_size : Body → ℕ
+  body_size End = 1
+  body_size (Then first rest) = element_size first + body_size rest
+
+-- the same of parts of bodies
+abbrev pub waiting_size : List (Bor (List Op)) → ℕ
+waiting_size [] = 0
+waiting_size (ops ∷ above) = waiting_size above + body_size (ops_body ops.now)
+
+-- the names of all bodies
+abbrev pub all_body_names : List Definition → List Target
+all_body_names [] = []
+all_body_names (f ∷ fs) = body_names f.body ++ all_body_names fs
+
+-- the names that may be reached at all
+abbrev pub reachable : Program → Option ℕ → Target → List Target
+reachable p type_function start = start ∷ (maybe_function type_function ++ maybe_function (default_type p)) ++ all_body_names p.functions

@@ -1,0 +1,87 @@
+-- The tokens of a style's text, each with its line.
+use Rattle.std.specs.Prelude.{ℕ, zero, suc, ◌+◌, ◌-◌, Bool, true, ◌||◌, ◌==◌, if◌then◌else◌, List, [], ◌∷◌, length, drop, Option, Some, None}
+use Rattle.std.specs.List.{before_first}
+use Rattle.bt_text.specs.ByteTests.{is_white}
+
+-- white space, a percent sign, a brace
+abbrev pub ends_word : ℕ → Bool
+ends_word b = is_white b || b == 37 || b == 123 || b == 125
+
+abbrev pub is_line_feed : ℕ → Bool
+is_line_feed b = b == 10
+
+-- a quote, or the line's end
+abbrev pub ends_literal : ℕ → Bool
+ends_literal b = b == 34 || b == 10
+
+pub data Token : Type 0 where
+  Open : Token
+  Close : Token
+  Word : (bytes : List ℕ) → Token
+  -- the bytes between two quotes of one line
+  Literal : (bytes : List ℕ) → Token
+  -- a quote with no other on its line
+  Unclosed : Token
+  -- two quotes of one line, and behind them a byte that doesn't end a word
+  Joined : Token
+
+-- tokens with their lines, up to the text's end with its line
+pub data Tokens : Type 0 where
+  AtEnd : (line : ℕ) → Tokens
+  Front : (token : Token) → (line : ℕ) → (rest : Tokens) → Tokens
+
+-- how many bytes stand together, as a token or as none
+pub record Piece : Type 0 where
+  pub token : Option Token
+  pub size : ℕ
+
+-- what stands behind a literal may stand there
+abbrev pub may_follow : List ℕ → Bool
+may_follow [] = true
+may_follow (b ∷ _) = ends_word b
+
+-- the piece that begins with a quote, by the bytes up to the next quote or the line's end and those from there on
+abbrev pub literal_end : List ℕ → List ℕ → Piece
+literal_end inside [] = record { token = Some Unclosed; size = 1 + length inside }
+literal_end inside (b ∷ behind) =
+    if b == 34 then record { token = Some (if may_follow behind then Literal inside else Joined); size = 2 + length inside }
+    else record { token = Some Unclosed; size = 1 + length inside }
+
+unfoldable pub literal_piece : List ℕ → Piece
+literal_piece bytes = let inside = before_first ends_literal bytes in literal_end inside (drop (length inside) bytes)
+
+-- the piece that begins with a byte, by what stands behind the byte
+unfoldable pub piece_at : ℕ → List ℕ → Piece
+piece_at b bytes =
+    let comment = before_first is_line_feed bytes in
+    let more = before_first ends_word bytes in
+    if is_white b then record { token = None; size = 1 }
+    else if b == 37 then record { token = None; size = 1 + length comment }
+    else if b == 123 then record { token = Some Open; size = 1 }
+    else if b == 125 then record { token = Some Close; size = 1 }
+    else if b == 34 then literal_piece bytes
+    else record { token = Some (Word (b ∷ more)); size = 1 + length more }
+
+abbrev pub line_after : ℕ → ℕ → ℕ
+line_after b line = if b == 10 then line + 1 else line
+
+abbrev pub with_token : Option Token → ℕ → Tokens → Tokens
+with_token None line rest = rest
+with_token (Some token) line rest = Front token line rest
+
+-- the tokens of the rest of a text from a line on; the first so many bytes belong to a piece that began before
+unfoldable pub tokens_behind : ℕ → ℕ → List ℕ → Tokens
+tokens_behind covered line [] = AtEnd line
+tokens_behind (suc covered) line (b ∷ bytes) = tokens_behind covered (line_after b line) bytes
+tokens_behind zero line (b ∷ bytes) =
+    let piece = piece_at b bytes in
+    with_token piece.token line (tokens_behind (piece.size - 1) (line_after b line) bytes)
+
+-- the tokens of a text
+abbrev pub tokens_of : List ℕ → Tokens
+tokens_of text = tokens_behind 0 1 text
+
+-- how many tokens there are
+abbrev pub count : Tokens → ℕ
+count (AtEnd line) = 0
+count (Front token line rest) = suc (count rest)

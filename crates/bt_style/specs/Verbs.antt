@@ -1,0 +1,73 @@
+-- The words of commands, and the order in which commands may stand.
+use Rattle.std.specs.Prelude.{ℕ, if◌then◌else◌, List, [], ◌∷◌, Option, Some, None, Result, Ok, codes}
+use Rattle.bt_text.specs.Folding.{is_same_folded}
+use Rattle.bt_style.specs.declared.fault.FaultKind.{FaultKind}
+use Rattle.bt_style.specs.declared.fault.FaultKind.TheVariants.{UnknownCommand, CommandOrder, SecondEntry, SecondRead, NoEntry}
+use Rattle.bt_style.specs.declared.fault.Fault.{Fault}
+use Rattle.bt_style.specs.declared.verbs.Verb.{Verb}
+use Rattle.bt_style.specs.declared.verbs.Verb.TheVariants as verbs
+use Rattle.bt_style.specs.declared.verbs.Stage.{Stage}
+use Rattle.bt_style.specs.declared.verbs.Stage.TheVariants.{BeforeEntry, BeforeRead, AfterRead}
+use Rattle.bt_style.specs.Fault.{fault}
+
+-- the word of a command
+abbrev pub word_of : Verb → List ℕ
+word_of verbs.Entry = codes "ENTRY"
+word_of verbs.Execute = codes "EXECUTE"
+word_of verbs.Function = codes "FUNCTION"
+word_of verbs.Integers = codes "INTEGERS"
+word_of verbs.Iterate = codes "ITERATE"
+word_of verbs.Macro = codes "MACRO"
+word_of verbs.Read = codes "READ"
+word_of verbs.Reverse = codes "REVERSE"
+word_of verbs.Sort = codes "SORT"
+word_of verbs.Strings = codes "STRINGS"
+
+-- all commands
+unfoldable pub all_verbs : List Verb
+all_verbs =
+    verbs.Entry ∷ verbs.Execute ∷ verbs.Function ∷ verbs.Integers ∷ verbs.Iterate ∷ verbs.Macro ∷ verbs.Read ∷ verbs.Reverse ∷ verbs.Sort ∷ verbs.Strings ∷ []
+
+-- the command of a word in either case, among some
+abbrev pub verb_among : List Verb → List ℕ → Option Verb
+verb_among [] word = None
+verb_among (verb ∷ others) word = if is_same_folded word (word_of verb) then Some verb else verb_among others word
+
+unfoldable pub verb_named : List ℕ → Option Verb
+verb_named word = verb_among all_verbs word
+
+-- what stands in the way of a command at a stage
+abbrev pub out_of_order : Verb → Stage → Option FaultKind
+out_of_order verbs.Entry BeforeEntry = None
+out_of_order verbs.Entry _ = Some SecondEntry
+out_of_order verbs.Read BeforeEntry = Some NoEntry
+out_of_order verbs.Read BeforeRead = None
+out_of_order verbs.Read AfterRead = Some SecondRead
+out_of_order verbs.Macro AfterRead = Some CommandOrder
+out_of_order verbs.Macro _ = None
+out_of_order verbs.Execute AfterRead = None
+out_of_order verbs.Execute _ = Some CommandOrder
+out_of_order verbs.Iterate AfterRead = None
+out_of_order verbs.Iterate _ = Some CommandOrder
+out_of_order verbs.Reverse AfterRead = None
+out_of_order verbs.Reverse _ = Some CommandOrder
+out_of_order verbs.Sort AfterRead = None
+out_of_order verbs.Sort _ = Some CommandOrder
+out_of_order verbs.Function _ = None
+out_of_order verbs.Integers _ = None
+out_of_order verbs.Strings _ = None
+
+abbrev pub stage_after : Verb → Stage → Stage
+stage_after verbs.Entry stage = BeforeRead
+stage_after verbs.Read stage = AfterRead
+stage_after _ stage = stage
+
+-- a command may stand there
+abbrev pub in_order : Option FaultKind → ℕ → Result (Unit {0}) Fault
+in_order None line = Ok tt
+in_order (Some kind) line = fault kind line
+
+-- the word is that of a command
+abbrev pub verb_of : Option Verb → ℕ → Result Verb Fault
+verb_of None line = fault UnknownCommand line
+verb_of (Some verb) line = Ok verb

@@ -1,0 +1,103 @@
+//! The bodies of functions.
+
+ghost use Rattle.std.specs.Prelude.{◌≡◌, ◌≤◌, ◌++◌, ◌∷◌, [], OnOk, MatchOption, length, not, nat_lt};
+ghost use Rattle.bt_style.specs.Fault.{Gives};
+ghost use Rattle.bt_style.specs.Token.{count};
+ghost use Rattle.bt_style.specs.Program.{program_of};
+ghost use Rattle.bt_style.specs.Tree.{body_of, ops_body, element_of, elements_of, Braced, Words};
+ghost use Rattle.bt_style.specs.Bodies.{opened, body_at};
+
+use crate::arguments::fault;
+use crate::cursor::Cursor;
+use crate::draft::Draft;
+use crate::elements::element;
+use crate::fault::{FaultKind, StyleRefusal};
+use crate::style::Op;
+use crate::token::Token;
+use bt_text::Bytes;
+use std::alloc::{AllocError, Global};
+use std::mem;
+
+/// Adds an element.
+fn push(ops: &mut Vec<Op>, op: Op) -> Result<(), AllocError>
+    ensures { OnOk result (elements_of ops.new.items ≡ elements_of ops.old.items ++ element_of op ∷ []) }
+{
+    ops.push(op)?;
+    Ok(())
+}
+
+/// Adds a braced function.
+fn push_block(ops: &mut Vec<Op>, inner: Vec<Op>) -> Result<(), AllocError>
+    ensures { OnOk result (elements_of ops.new.items ≡ elements_of ops.old.items ++ Braced (ops_body inner.items) ∷ []) }
+{
+    push(ops, Op::Block(inner))
+}
+
+/// Adds a text.
+fn push_text(alloc: Global, ops: &mut Vec<Op>, bytes: &[u8]) -> Result<(), AllocError>
+    ensures { OnOk result (elements_of ops.new.items ≡ elements_of ops.old.items ++ Words bytes.now ∷ []) }
+{
+    let text = Bytes::copied(alloc, bytes)?;
+    push(ops, Op::Text(text))
+}
+
+/// Keeps what stands before a brace that opens.
+#[tactic(auto, using(crate::proofs::BodyLemmas::opened_push))]
+fn enter(outer: &mut Vec<Vec<Op>>, before: Vec<Op>) -> Result<(), AllocError>
+    ensures { OnOk result (opened outer.new.items ≡ elements_of before.items ∷ opened outer.old.items) }
+{
+    outer.push(before)?;
+    Ok(())
+}
+
+/// What stands before the brace that a brace closes, if one is open.
+#[tactic(auto, using(crate::proofs::BodyLemmas::opened_push))]
+fn leave(outer: &mut Vec<Vec<Op>>) -> Option<Vec<Op>>
+    ensures { MatchOption result (opened outer.old.items ≡ []) (λ before. opened outer.old.items ≡ elements_of before.items ∷ opened outer.new.items) }
+{
+    outer.pop()
+}
+
+/// Whether no more braces may stand open.
+#[tactic(auto, using(crate::proofs::BodyLemmas::length_opened))]
+fn is_deep(outer: &[Vec<Op>]) -> bool
+    ensures { result ≡ not (nat_lt (length (opened outer.now)) 99) }
+{
+    outer.len() >= 99
+}
+
+/// Reads a body up to the brace that closes it.
+#[tactic(auto, unfolding(crate::specs::Bodies::body_at))]
+pub fn body(alloc: Global, cursor: &mut Cursor, draft: &Draft) -> Result<Vec<Op>, StyleRefusal>
+    ensures gives { Gives (λ v. (ops_body v.items, cursor.new)) result (body_at (program_of draft.now) [] [] cursor.old) }
+    ensures shorter { OnOk result (count cursor.new ≤ count cursor.old) }
+{
+    let mut outer: Vec<Vec<Op>> = Vec::new(alloc);
+    let mut now: Vec<Op> = Vec::new(alloc);
+    'elements: loop {
+        match cursor.next() {
+            Token::Open(line) => {
+                if is_deep(&outer) {
+                    return Err(fault(FaultKind::UnclosedBrace, line));
+                }
+                let before = mem::replace(&mut now, Vec::new(alloc));
+                enter(&mut outer, before)?;
+            }
+            Token::Close(_) => {
+                let Some(before) = leave(&mut outer) else {
+                    return Ok(now);
+                };
+                let inner = mem::replace(&mut now, before);
+                push_block(&mut now, inner)?;
+            }
+            Token::Word(word, line) => {
+                let op = element(alloc, draft, word, line)?;
+                push(&mut now, op)?;
+            }
+            Token::Literal(bytes, _) => push_text(alloc, &mut now, bytes)?,
+            Token::End(line) => return Err(fault(FaultKind::UnclosedBrace, line)),
+            Token::Unclosed(line) => return Err(fault(FaultKind::UnclosedText, line)),
+            Token::Joined(line) => return Err(fault(FaultKind::StrayByte, line)),
+        }
+    }
+}

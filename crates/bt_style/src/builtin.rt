@@ -1,0 +1,180 @@
+//! The functions that need no definition, in one table: their names, and their places in it.
+
+ghost use Rattle.std.specs.Prelude.{◌≡◌, ◌<◌};
+ghost use Rattle.bt_style.specs.Builtins.{place_of, name_of};
+
+/// How many functions need no definition.
+pub const BUILTIN_COUNT: usize = 37;
+
+/// A function that needs no definition: the built-in functions of *Designing BibTeX Styles*, in the order of their table.
+/// Arguments are named from the lowest on the literal stack to the top.
+#[derive(Clone, Copy, PartialEq, Eq, Hash, Debug)]
+pub enum Builtin {
+    /// `>`. Two numbers: 1 where the lower one on the stack is greater, else 0.
+    Greater,
+    /// `<`. Two numbers: 1 where the lower one on the stack is less, else 0.
+    Less,
+    /// `=`. Two numbers or two texts: 1 where they are equal, else 0.
+    Equals,
+    /// `+`. Two numbers: their sum.
+    Plus,
+    /// `-`. Two numbers: the lower one on the stack without the upper one.
+    Minus,
+    /// `*`. Two texts: the lower one followed by the upper one.
+    Join,
+    /// `:=`. A value and a quoted variable: gives the variable the value.
+    Assign,
+    /// `add.period$`. A text: the text with a period at its end, unless a sentence ends there.
+    AddPeriod,
+    /// `call.type$`. Runs the function of the entry's type, else `default.type`.
+    CallType,
+    /// `change.case$`. A text and `t`, `l` or `u`: the text as a title, in small letters or in large ones.
+    ChangeCase,
+    /// `chr.to.int$`. A text of one byte: the byte's number.
+    ChrToInt,
+    /// `cite$`. The entry's key.
+    Cite,
+    /// `duplicate$`. A value: the value twice.
+    Duplicate,
+    /// `empty$`. A text or a missing field: 1 where it is missing or white, else 0.
+    Empty,
+    /// `format.name$`. A list of names, a number and a pattern: the name of that number by the pattern.
+    FormatName,
+    /// `if$`. A number and two functions: runs the lower one where the number is above 0, else the upper one.
+    If,
+    /// `int.to.chr$`. A number from 0 to 127: the text of that byte.
+    IntToChr,
+    /// `int.to.str$`. A number: its decimal digits.
+    IntToStr,
+    /// `missing$`. A text or a missing field: 1 where it is missing, else 0.
+    Missing,
+    /// `newline$`. Writes the held line.
+    Newline,
+    /// `num.names$`. A list of names: how many there are.
+    NumNames,
+    /// `pop$`. A value: nothing.
+    Pop,
+    /// `preamble$`. The preambles of all databases, joined.
+    Preamble,
+    /// `purify$`. A text: its letters, digits and spaces.
+    Purify,
+    /// `quote$`. A double quote.
+    Quote,
+    /// `skip$`. Nothing.
+    Skip,
+    /// `stack$`. All values: tells each in the log, from the top.
+    Stack,
+    /// `substring$`. A text, a start and a length: that part of the text.
+    Substring,
+    /// `swap$`. Two values: exchanges them.
+    Swap,
+    /// `text.length$`. A text: how many text characters it has.
+    TextLength,
+    /// `text.prefix$`. A text and a number: the text's first text characters.
+    TextPrefix,
+    /// `top$`. A value: tells it in the log.
+    Top,
+    /// `type$`. The entry's type, or nothing where it has no function.
+    Type,
+    /// `warning$`. A text: tells it in the log as a warning.
+    Warning,
+    /// `while$`. Two functions: runs the lower one, and where it leaves a number above 0, the upper one, and so on.
+    While,
+    /// `width$`. A text: its width.
+    Width,
+    /// `write$`. A text: puts it behind the held line.
+    Write,
+}
+
+impl Builtin {
+    /// The function's place in the table, from 0.
+    pub fn place(self) -> usize
+        ensures value { result ≡ place_of self }
+        ensures within { result < 37 }
+    {
+        match self {
+            Builtin::Greater => 0,
+            Builtin::Less => 1,
+            Builtin::Equals => 2,
+            Builtin::Plus => 3,
+            Builtin::Minus => 4,
+            Builtin::Join => 5,
+            Builtin::Assign => 6,
+            Builtin::AddPeriod => 7,
+            Builtin::CallType => 8,
+            Builtin::ChangeCase => 9,
+            Builtin::ChrToInt => 10,
+            Builtin::Cite => 11,
+            Builtin::Duplicate => 12,
+            Builtin::Empty => 13,
+            Builtin::FormatName => 14,
+            Builtin::If => 15,
+            Builtin::IntToChr => 16,
+            Builtin::IntToStr => 17,
+            Builtin::Missing => 18,
+            Builtin::Newline => 19,
+            Builtin::NumNames => 20,
+            Builtin::Pop => 21,
+            Builtin::Preamble => 22,
+            Builtin::Purify => 23,
+            Builtin::Quote => 24,
+            Builtin::Skip => 25,
+            Builtin::Stack => 26,
+            Builtin::Substring => 27,
+            Builtin::Swap => 28,
+            Builtin::TextLength => 29,
+            Builtin::TextPrefix => 30,
+            Builtin::Top => 31,
+            Builtin::Type => 32,
+            Builtin::Warning => 33,
+            Builtin::While => 34,
+            Builtin::Width => 35,
+            Builtin::Write => 36,
+        }
+    }
+
+    /// The function's name.
+    pub fn name(self) -> &'static [u8]
+        ensures { result.now ≡ name_of self }
+    {
+        match self {
+            Builtin::Greater => b">",
+            Builtin::Less => b"<",
+            Builtin::Equals => b"=",
+            Builtin::Plus => b"+",
+            Builtin::Minus => b"-",
+            Builtin::Join => b"*",
+            Builtin::Assign => b":=",
+            Builtin::AddPeriod => b"add.period$",
+            Builtin::CallType => b"call.type$",
+            Builtin::ChangeCase => b"change.case$",
+            Builtin::ChrToInt => b"chr.to.int$",
+            Builtin::Cite => b"cite$",
+            Builtin::Duplicate => b"duplicate$",
+            Builtin::Empty => b"empty$",
+            Builtin::FormatName => b"format.name$",
+            Builtin::If => b"if$",
+            Builtin::IntToChr => b"int.to.chr$",
+            Builtin::IntToStr => b"int.to.str$",
+            Builtin::Missing => b"missing$",
+            Builtin::Newline => b"newline$",
+            Builtin::NumNames => b"num.names$",
+            Builtin::Pop => b"pop$",
+            Builtin::Preamble => b"preamble$",
+            Builtin::Purify => b"purify$",
+            Builtin::Quote => b"quote$",
+            Builtin::Skip => b"skip$",
+            Builtin::Stack => b"stack$",
+            Builtin::Substring => b"substring$",
+            Builtin::Swap => b"swap$",
+            Builtin::TextLength => b"text.length$",
+            Builtin::TextPrefix => b"text.prefix$",
+            Builtin::Top => b"top$",
+            Builtin::Type => b"type$",
+            Builtin::Warning => b"warning$",
+            Builtin::While => b"while$",
+            Builtin::Width => b"width$",
+            Builtin::Write => b"write$",
+        }
+    }
+}

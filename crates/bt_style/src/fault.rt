@@ -1,0 +1,108 @@
+//! What can be wrong with a style's text.
+
+ghost use Rattle.std.specs.Prelude.{◌≡◌};
+ghost use Rattle.bt_style.specs.Fault.{words_of};
+
+use std::alloc::AllocError;
+use thiserror::Error;
+
+/// What is wrong with a style's text.
+#[derive(Clone, Copy, PartialEq, Eq, Debug, Error)]
+pub enum FaultKind {
+    /// A word stands where a command must stand, and is no command's.
+    #[error("UnknownCommand")]
+    UnknownCommand,
+    /// MACRO stands behind READ, or EXECUTE, ITERATE, REVERSE or SORT before it.
+    #[error("CommandOrder")]
+    CommandOrder,
+    /// A second ENTRY.
+    #[error("SecondEntry")]
+    SecondEntry,
+    /// A second READ.
+    #[error("SecondRead")]
+    SecondRead,
+    /// READ stands before ENTRY.
+    #[error("NoEntry")]
+    NoEntry,
+    /// A name is used that isn't defined before.
+    #[error("UnknownName")]
+    UnknownName,
+    /// A name or a macro is declared that exists.
+    #[error("NameTaken")]
+    NameTaken,
+    /// A number doesn't fit 32 signed bits.
+    #[error("NumberTooLarge")]
+    NumberTooLarge,
+    /// A text has no second quote on its line.
+    #[error("UnclosedText")]
+    UnclosedText,
+    /// The end or something else stands where a right brace must stand, or braces stand over 100 deep.
+    #[error("UnclosedBrace")]
+    UnclosedBrace,
+    /// A word is declared that is no name, or nothing is quoted.
+    #[error("BadName")]
+    BadName,
+    /// A number has no digits or a wrong byte behind it, a text has a wrong byte behind it, or a brace stands where a
+    /// command must stand.
+    #[error("StrayByte")]
+    StrayByte,
+    /// A field or variable is to be run.
+    #[error("NotAFunction")]
+    NotAFunction,
+    /// An argument, the name in it or a macro's text is missing.
+    #[error("MissingArgument")]
+    MissingArgument,
+}
+
+impl FaultKind {
+    /// What the log says of such a fault.
+    pub fn words(self) -> &'static [u8]
+        ensures { result.now ≡ words_of self }
+    {
+        match self {
+            FaultKind::UnknownCommand => b"This isn't a command",
+            FaultKind::CommandOrder => b"This command stands in the wrong order",
+            FaultKind::SecondEntry => b"Illegal, another ENTRY command",
+            FaultKind::SecondRead => b"Illegal, another READ command",
+            FaultKind::NoEntry => b"READ stands before ENTRY",
+            FaultKind::UnknownName => b"This name isn't defined",
+            FaultKind::NameTaken => b"This name is taken",
+            FaultKind::NumberTooLarge => b"This number is too large",
+            FaultKind::UnclosedText => b"This text has no end",
+            FaultKind::UnclosedBrace => b"A brace isn't closed",
+            FaultKind::BadName => b"This isn't a name",
+            FaultKind::StrayByte => b"This byte can't stand here",
+            FaultKind::NotAFunction => b"This isn't a function",
+            FaultKind::MissingArgument => b"An argument is missing",
+        }
+    }
+}
+
+/// A fault in a style's text.
+#[derive(Clone, Copy, PartialEq, Eq, Debug)]
+pub struct Fault {
+    pub kind: FaultKind,
+    /// The line of the token at which it was found, from 1.
+    pub line: usize,
+}
+
+/// Why there is no style.
+#[derive(Clone, Copy, PartialEq, Eq, Debug, Error)]
+pub enum StyleRefusal {
+    /// The text has a fault, and this is the first one.
+    #[error("Fault")]
+    Fault(Fault),
+    /// There is no memory left.
+    #[error("OutOfMemory")]
+    OutOfMemory,
+}
+
+impl From<AllocError> for StyleRefusal {
+    ghost use Rattle.bt_style.specs.declared.fault.StyleRefusal.TheVariants.{OutOfMemory};
+
+    ghost from_gives = { λ _ e. e ≡ OutOfMemory };
+
+    fn from(_error: AllocError) -> StyleRefusal {
+        StyleRefusal::OutOfMemory
+    }
+}

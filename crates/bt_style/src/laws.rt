@@ -1,0 +1,24 @@
+//! Laws of the definitions, each the contract of a call that does nothing.
+
+ghost use Rattle.std.specs.Prelude.{◌≡◌, ◌≤◌, [], Ok};
+ghost use Rattle.bt_style.specs.Program.{Program};
+ghost use Rattle.bt_style.specs.Tree.{Body};
+ghost use Rattle.bt_style.specs.Token.{Tokens};
+ghost use Rattle.bt_style.specs.Bodies.{body_at};
+ghost use Rattle.bt_style.specs.Apart.{FieldsAreApart};
+ghost use Rattle.bt_style.specs.Spelled.{SpellsBody, depth_of};
+
+/// The body that is read from tokens is one that they spell, by the grammar of bodies.
+pub fn bodies_are_spelled()
+    ensures { (p : Program) (tokens : Tokens) (b : Body) (rest : Tokens) → body_at p [] [] tokens ≡ Ok (b, rest) → SpellsBody p b tokens rest }
+{}
+
+/// A body that tokens spell by the grammar of bodies is the one that is read from them, where its braces stand at most 100 deep.
+pub fn spelled_bodies_are_read()
+    ensures { (p : Program) (tokens : Tokens) (b : Body) (rest : Tokens) → SpellsBody p b tokens rest → depth_of b ≤ 100 → body_at p [] [] tokens ≡ Ok (b, rest) }
+{}
+
+/// No two fields of a style that a text spells match, without regard to case.
+pub fn fields_are_apart()
+    ensures { FieldsAreApart }
+{}

@@ -1,0 +1,31 @@
+//! Styles: what a style is, and the reader of its text.
+#![tactic(auto)]
+
+mod arguments;
+mod bodies;
+mod builtin;
+mod commands;
+mod cursor;
+mod declares;
+mod draft;
+mod elements;
+mod fault;
+mod laws;
+mod names;
+mod reach;
+mod reader;
+mod style;
+mod token;
+mod verbs;
+
+pub use builtin::{BUILTIN_COUNT, Builtin};
+pub use fault::{Fault, FaultKind, StyleRefusal};
+pub use laws::{bodies_are_spelled, fields_are_apart, spelled_bodies_are_read};
+pub use reach::Reach;
+pub use reader::read_style;
+pub use style::{Action, Command, Function, Macro, Op, Style, Target};
+
+#[cfg(test)]
+mod reach_tests;
+#[cfg(test)]
+mod tests;

@@ -1,0 +1,269 @@
+//! The names that a step may come to.
+
+ghost use Rattle.std.specs.Prelude.{◌≡◌, ◌+◌, ◌<◌, ◌++◌, ◌↔◌, ◌||◌, true, IfOk, OnOk, MatchOption, [], map, codes, slice_get};
+ghost use Rattle.std.specs.List.{IsDistinct};
+ghost use Rattle.bt_style.specs.Tree.{ops_body};
+ghost use Rattle.bt_style.specs.Program.{program_of, definitions_of};
+ghost use Rattle.bt_style.specs.Names.{place_in};
+ghost use Rattle.bt_style.specs.Reach.{Knows, Reaches, noted, noted_all, waiting_names, waiting_size, body_names, body_size, function_body_names, maybe_function, is_call_type, default_type, leads_to, target_eq, is_among};
+
+use crate::builtin::Builtin;
+use crate::style::{Function, Op, Style, Target};
+use bt_text::Sequence;
+use std::alloc::{AllocError, Global};
+use std::collections::HashSet;
+
+/// The names that a step may come to from a name.
+#[derive(Debug, Drop)]
+pub struct Reach {
+    /// Each of them once.
+    pub targets: Sequence<Target>,
+    /// Whether the held line is among what the step may read or write.
+    pub held: bool,
+    /// Whether the preamble is.
+    pub preamble: bool,
+    /// Whether the entry's type is.
+    pub kind: bool,
+}
+
+/// Puts a target behind those that are found, unless it is among them.
+fn note(
+    found: &mut Sequence<Target>,
+    seen: &mut HashSet<Target>,
+    target: Target,
+) -> Result<(), AllocError>
+    requires { Knows seen.old found.old }
+    ensures found { OnOk result (found.new ≡ noted found.old target) }
+    ensures seen { OnOk result (Knows seen.new found.new) }
+{
+    if seen.insert(target)? {
+        found.push(target)?;
+    }
+    Ok(())
+}
+
+/// Leaves a part of a body for later.
+#[tactic(auto, using(crate::proofs::ReachLemmas::waiting_names_push, crate::proofs::ReachLemmas::waiting_size_push))]
+fn put_off<'a>(waiting: &mut Vec<&'a [Op]>, ops: &'a [Op]) -> Result<(), AllocError>
+    ensures names { OnOk result (waiting_names waiting.new.items ≡ body_names (ops_body ops.now) ++ waiting_names waiting.old.items) }
+    ensures size { OnOk result (waiting_size waiting.new.items ≡ body_size (ops_body ops.now) + waiting_size waiting.old.items) }
+{
+    waiting.push(ops)?;
+    Ok(())
+}
+
+/// Takes the part of a body that was left last.
+#[tactic(auto, using(crate::proofs::ReachLemmas::waiting_names_push, crate::proofs::ReachLemmas::waiting_size_push))]
+fn take_up<'a>(waiting: &mut Vec<&'a [Op]>) -> Option<&'a [Op]>
+    ensures names { MatchOption result (waiting_names waiting.old.items ≡ []) (λ ops. waiting_names waiting.old.items ≡ body_names (ops_body ops.now) ++ waiting_names waiting.new.items) }
+    ensures size { MatchOption result (waiting_size waiting.new.items ≡ 0) (λ ops. waiting_size waiting.old.items ≡ body_size (ops_body ops.now) + waiting_size waiting.new.items) }
+{
+    waiting.pop()
+}
+
+/// Goes over the first element of a part of a body, and leaves what stands in it and behind it for later.
+fn go_over<'a>(
+    found: &mut Sequence<Target>,
+    seen: &mut HashSet<Target>,
+    waiting: &mut Vec<&'a [Op]>,
+    ops: &'a [Op],
+) -> Result<(), AllocError>
+    requires { Knows seen.old found.old }
+    ensures same { OnOk result (noted_all found.new (waiting_names waiting.new.items) ≡ noted_all found.old (body_names (ops_body ops.now) ++ waiting_names waiting.old.items)) }
+    ensures seen { OnOk result (Knows seen.new found.new) }
+    ensures shorter { OnOk result (waiting_size waiting.new.items < body_size (ops_body ops.now) + waiting_size waiting.old.items) }
+{
+    let [first, rest @ ..] = ops else {
+        return Ok(());
+    };
+    put_off(waiting, rest)?;
+    match first {
+        Op::Number(_) | Op::Text(_) => Ok(()),
+        Op::Quote(target) => note(found, seen, *target),
+        Op::Block(inner) => put_off(waiting, inner.as_slice()),
+        Op::Call(target) => note(found, seen, *target),
+    }
+}
+
+/// Notes the names in a body, inner braces too.
+fn note_body(
+    alloc: Global,
+    found: &mut Sequence<Target>,
+    seen: &mut HashSet<Target>,
+    body: &[Op],
+) -> Result<(), AllocError>
+    requires { Knows seen.old found.old }
+    ensures found { OnOk result (found.new ≡ noted_all found.old (body_names (ops_body body.now))) }
+    ensures seen { OnOk result (Knows seen.new found.new) }
+{
+    let mut waiting = Vec::new(alloc);
+    put_off(&mut waiting, body)?;
+    'parts: while let Some(ops) = take_up(&mut waiting) {
+        go_over(found, seen, &mut waiting, ops)?;
+    }
+    Ok(())
+}
+
+/// The body of the function of a number, none where there is no such function.
+fn function_body(style: &Style, place: usize) -> &[Op]
+    ensures { body_names (ops_body result.now) ≡ function_body_names (program_of style.now) place }
+{
+    match style.functions.get(place) {
+        Some(function) => &function.body,
+        None => &[],
+    }
+}
+
+/// Whether a function is `call.type$`.
+fn is_call_type(builtin: Builtin) -> bool
+    ensures { result ≡ is_call_type builtin }
+{
+    matches!(builtin, Builtin::CallType)
+}
+
+/// The number of the function `default.type`, if there is one.
+fn default_type(functions: &[Function]) -> Option<usize>
+    ensures { result ≡ place_in (map (λ f. f.name) (definitions_of functions.now)) (codes "default.type") }
+{
+    for (place, function) in functions.iter().enumerate() {
+        if function.name.as_slice() == b"default.type".as_slice() {
+            return Some(place);
+        }
+    }
+    None
+}
+
+/// Notes the function of a number, if there is one.
+fn note_function(
+    found: &mut Sequence<Target>,
+    seen: &mut HashSet<Target>,
+    place: Option<usize>,
+) -> Result<(), AllocError>
+    requires { Knows seen.old found.old }
+    ensures found { OnOk result (found.new ≡ noted_all found.old (maybe_function place)) }
+    ensures seen { OnOk result (Knows seen.new found.new) }
+{
+    match place {
+        Some(place) => note(found, seen, Target::Function(place)),
+        None => Ok(()),
+    }
+}
+
+/// Notes the names that `call.type$` leads to.
+#[tactic(auto, using(crate::proofs::ReachLemmas::noted_all_append))]
+fn note_types(
+    style: &Style,
+    type_function: Option<usize>,
+    found: &mut Sequence<Target>,
+    seen: &mut HashSet<Target>,
+) -> Result<(), AllocError>
+    requires { Knows seen.old found.old }
+    ensures found { OnOk result (found.new ≡ noted_all found.old (maybe_function type_function ++ maybe_function (default_type (program_of style.now)))) }
+    ensures seen { OnOk result (Knows seen.new found.new) }
+{
+    note_function(found, seen, type_function)?;
+    note_function(found, seen, default_type(&style.functions))
+}
+
+/// Notes the names that are reached at once from a name.
+fn note_next(
+    alloc: Global,
+    style: &Style,
+    type_function: Option<usize>,
+    found: &mut Sequence<Target>,
+    seen: &mut HashSet<Target>,
+    target: Target,
+) -> Result<(), AllocError>
+    requires { Knows seen.old found.old }
+    ensures found { OnOk result (found.new ≡ noted_all found.old (leads_to (program_of style.now) type_function target)) }
+    ensures seen { OnOk result (Knows seen.new found.new) }
+{
+    match target {
+        Target::Function(place) => note_body(alloc, found, seen, function_body(style, place)),
+        Target::Builtin(builtin) => {
+            if is_call_type(builtin) {
+                note_types(style, type_function, found, seen)
+            } else {
+                Ok(())
+            }
+        }
+        Target::Field(_)
+        | Target::EntryNumber(_)
+        | Target::EntryText(_)
+        | Target::GlobalNumber(_)
+        | Target::GlobalText(_) => Ok(()),
+    }
+}
+
+/// Whether a function that needs no definition is found.
+fn has(found: &Sequence<Target>, seen: &HashSet<Target>, builtin: Builtin) -> bool
+    requires { Knows seen.now found.now }
+    ensures { result ≡ is_among found.now (Target.Builtin builtin) }
+{
+    let _ = found;
+    seen.contains(&Target::Builtin(builtin))
+}
+
+/// The target at a place.
+fn target_at(found: &Sequence<Target>, place: usize) -> Option<Target>
+    ensures { result ≡ slice_get found.now place }
+{
+    found.as_slice().get(place).copied()
+}
+
+/// Finds what is reached from a name, each once.
+fn find_all(
+    alloc: Global,
+    style: &Style,
+    type_function: Option<usize>,
+    target: Target,
+    found: &mut Sequence<Target>,
+    seen: &mut HashSet<Target>,
+) -> Result<(), AllocError>
+    requires nothing { found.old ≡ [] }
+    requires seen { Knows seen.old found.old }
+    ensures seen { OnOk result (Knows seen.new found.new) }
+    ensures once { OnOk result (IsDistinct target_eq found.new) }
+    ensures all { OnOk result ((t : Target) → (is_among found.new t ≡ true) ↔ Reaches (program_of style.now) type_function target t) }
+{
+    note(found, seen, target)?;
+    let mut place = 0usize;
+    'targets: while let Some(here) = target_at(found, place) {
+        // The length fits, and so does the place behind an element.
+        let _len = found.len();
+        note_next(alloc, style, type_function, found, seen, here)?;
+        place += 1;
+    }
+    Ok(())
+}
+
+impl Style {
+    /// What is reached from a name: the name itself, each name that is called or quoted in the bodies of its functions, inner braces too, and,
+    /// where `call.type$` is reached, the function of the entry's type (`type_function`, if it has one) and `default.type`. A number without
+    /// a function reaches nothing more. The one error is want of memory.
+    pub fn reach(
+        &self,
+        alloc: Global,
+        target: Target,
+        type_function: Option<usize>,
+    ) -> Result<Reach, AllocError>
+        ensures targets { IfOk result (λ reach. (t : Target) → (is_among reach.targets t ≡ true) ↔ Reaches (program_of self.now) type_function target t) }
+        ensures once { IfOk result (λ reach. IsDistinct target_eq reach.targets) }
+        ensures held { IfOk result (λ reach. reach.held ≡ (is_among reach.targets (Target.Builtin Builtin.Write) || is_among reach.targets (Target.Builtin Builtin.Newline))) }
+        ensures preamble { IfOk result (λ reach. reach.preamble ≡ is_among reach.targets (Target.Builtin Builtin.Preamble)) }
+        ensures kind { IfOk result (λ reach. reach.kind ≡ (is_among reach.targets (Target.Builtin Builtin.Type) || is_among reach.targets (Target.Builtin Builtin.CallType))) }
+    {
+        let mut found = Sequence::new(alloc);
+        let mut seen = HashSet::new(alloc);
+        find_all(alloc, self, type_function, target, &mut found, &mut seen)?;
+        let held = has(&found, &seen, Builtin::Write) || has(&found, &seen, Builtin::Newline);
+        let preamble = has(&found, &seen, Builtin::Preamble);
+        let kind = has(&found, &seen, Builtin::Type) || has(&found, &seen, Builtin::CallType);
+        Ok(Reach {
+            targets: found,
+            held,
+            preamble,
+            kind,
+        })
+    }
+}

@@ -1,0 +1,104 @@
+//! The tokens of a style's text.
+
+ghost use Rattle.std.specs.Prelude.{◌≡◌, ◌+◌, ◌<◌, length};
+ghost use Rattle.std.specs.List.{before_first};
+ghost use Rattle.bt_style.specs.Token.{ends_word, is_line_feed, ends_literal, may_follow, literal_piece};
+ghost use Rattle.bt_style.specs.Cursor.{IsPiece, front_piece};
+
+use bt_text::is_white;
+
+/// A token with its line, or the end with its line.
+#[derive(Clone, Copy)]
+pub enum Token<'a> {
+    End(usize),
+    Open(usize),
+    Close(usize),
+    Word(&'a [u8], usize),
+    Literal(&'a [u8], usize),
+    Unclosed(usize),
+    Joined(usize),
+}
+
+/// White space, a percent sign or a brace.
+fn ends_word(b: u8) -> bool
+    ensures { result ≡ ends_word b }
+{
+    is_white(b) || b == b'%' || b == b'{' || b == b'}'
+}
+
+/// How many bytes of a word stand in front.
+fn word_length(bytes: &[u8]) -> usize
+    ensures { result ≡ length (before_first ends_word bytes.now) }
+{
+    bytes.iter().take_while(|b| !ends_word(**b)).count()
+}
+
+/// How many bytes stand in front of the line's end.
+fn comment_length(bytes: &[u8]) -> usize
+    ensures { result ≡ length (before_first is_line_feed bytes.now) }
+{
+    bytes.iter().take_while(|b| **b != b'\n').count()
+}
+
+/// How many bytes stand in front of a quote or the line's end.
+fn literal_length(bytes: &[u8]) -> usize
+    ensures { result ≡ length (before_first ends_literal bytes.now) }
+{
+    bytes
+        .iter()
+        .take_while(|b| !(**b == b'"' || **b == b'\n'))
+        .count()
+}
+
+/// Whether these bytes may stand behind a literal.
+fn may_follow(bytes: &[u8]) -> bool
+    ensures { result ≡ may_follow bytes.now }
+{
+    match bytes {
+        [] => true,
+        [first, ..] => ends_word(*first),
+    }
+}
+
+/// The piece that begins with a quote, which these bytes follow.
+#[tactic(auto, unfolding(crate::specs::Token::literal_piece))]
+fn literal(behind: &[u8], line: usize) -> (Token<'_>, usize)
+    ensures { IsPiece (literal_piece behind.now) line (Some result.0) result.1 (length behind.now + 1) }
+{
+    let length = literal_length(behind);
+    match &behind[length..] {
+        [b'"', rest @ ..] => {
+            if may_follow(rest) {
+                (Token::Literal(&behind[..length], line), length + 2)
+            } else {
+                (Token::Joined(line), length + 2)
+            }
+        }
+        _ => (Token::Unclosed(line), length + 1),
+    }
+}
+
+/// The piece in front: a token or none, and how many bytes it has.
+#[tactic(auto, unfolding(crate::specs::Token::piece_at))]
+pub fn piece(rest: &[u8], line: usize) -> (Option<Token<'_>>, usize)
+    requires { 0 < length rest.now }
+    ensures { IsPiece (front_piece rest.now) line result.0 result.1 (length rest.now) }
+{
+    let behind = &rest[1..];
+    let first = rest[0];
+    if is_white(first) {
+        (None, 1)
+    } else if first == b'%' {
+        (None, 1 + comment_length(behind))
+    } else if first == b'{' {
+        (Some(Token::Open(line)), 1)
+    } else if first == b'}' {
+        (Some(Token::Close(line)), 1)
+    } else if first == b'"' {
+        let (token, size) = literal(behind, line);
+        (Some(token), size)
+    } else {
+        let size = 1 + word_length(behind);
+        (Some(Token::Word(&rest[..size], line)), size)
+    }
+}
