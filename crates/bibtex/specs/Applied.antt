@@ -1,54 +1,108 @@
 -- What an edit makes of the present state, or the first reason that refuses it.
-use Rattle.std.specs.Prelude.{ℕ, List, length, Bool, not, true, false, ◌≡◌, ◌⊎◌, ◌&&◌, nat_lt, nat_le, IfErr, IsErr, IsErrAnd, Result, Ok, Err, if◌then◌else◌, codes, eqb}
-use Rattle.std.specs.List.{ends_with}
-use Rattle.std.specs.Option.{is_some, is_none}
+use Rattle.std.specs.Prelude.{ℕ, ◌+◌, ◌-◌, List, [], length, Bool, not, true, false, ◌≡◌, ◌&&◌, ◌||◌, nat_lt, nat_le, IfErr, IsErr, Option, Some, None, Result, Ok, Err, if◌then◌else◌, unwrap_or}
+use Rattle.std.specs.Option.{is_none}
 use Rattle.bibtex.specs.declared.edit.Edit.{Edit}
-use Rattle.bibtex.specs.declared.edit.Edit.TheVariants.{Write}
+use Rattle.bibtex.specs.declared.edit.Edit.TheVariants.{Write, Splice, Remove, Root, MinCrossrefs}
 use Rattle.bibtex.specs.declared.edit.Refusal.{Refusal}
-use Rattle.bibtex.specs.declared.edit.Report.{Report}
-use Rattle.bibtex.specs.declared.edit.Refusal.TheVariants.{BadName, FileTooLarge, TooManyFiles, NotYet, OutOfMemory}
-use Rattle.bibtex.specs.Naming.{is_file_name}
-use Rattle.bibtex.specs.AdmittedAux.{is_admitted_aux}
-use Rattle.bt_plain.specs.StyleReader.{style_of}
-use Rattle.bt_plain.specs.PlainItem.{bib_items}
-use Rattle.bibtex.specs.Present.{State, place_of, with_text}
+use Rattle.bibtex.specs.declared.edit.Refusal.TheVariants.{BadName, NoSuchFile, RangeOutside, FileTooLarge, TooManyFiles, OutOfMemory}
+use Rattle.bt_run.specs.declared.answers.Report.{Report}
+use Rattle.bt_job.specs.declared.files.File.{File}
+use Rattle.bt_job.specs.Naming.{is_file_name, text_of}
+use Rattle.bibtex.specs.Changes.{Change, write, splice, remove, root_name, min_crossrefs}
+use Rattle.bibtex.specs.Present.{State, place_of, with_text, without, replaced, is_root_name}
 
--- how long a text may be, and how many files there may be
+-- how many bytes a text may have
 abbrev pub text_limit : ℕ
 text_limit = 1048576
 
+-- how many files there may be
 abbrev pub file_limit : ℕ
 file_limit = 64
 
--- whether a text of this name can be taken in already
-abbrev pub is_admitted : List ℕ → List ℕ → Bool
-is_admitted name text =
-    if ends_with eqb name (codes ".aux") then is_admitted_aux text
-    else if ends_with eqb name (codes ".bib") then is_some (bib_items text)
-    else if ends_with eqb name (codes ".bst") then is_some (style_of text)
-    else true
+-- Refusals, each the first whose condition holds
 
-abbrev pub written : List ℕ → List ℕ → State → Result State Refusal
-written name text s =
-    if not (is_file_name name) then Err BadName
-    else if nat_lt text_limit (length text) then Err FileTooLarge
-    else if is_none (place_of name s.texts) && nat_le file_limit (length s.texts) then Err TooManyFiles
-    else if not (is_admitted name text) then Err NotYet
-    else Ok (record s { texts = with_text name text s.texts })
+-- against a text of so many bytes under a name
+abbrev pub write_refusal : List File → List ℕ → ℕ → Option Refusal
+write_refusal files name size =
+    if not (is_file_name name) then Some BadName
+    else if nat_lt text_limit size then Some FileTooLarge
+    else if is_none (place_of name files) && nat_le file_limit (length files) then Some TooManyFiles
+    else None
+
+-- against so many bytes in the place of the bytes of a text from one place up to another
+abbrev pub range_refusal : List ℕ → ℕ → ℕ → ℕ → Option Refusal
+range_refusal text start end size =
+    if nat_lt end start || nat_lt (length text) end then Some RangeOutside
+    else if nat_lt text_limit (start + (length text - end) + size) then Some FileTooLarge
+    else None
+
+-- the same, where this text was found
+abbrev pub found_refusal : Option (List ℕ) → ℕ → ℕ → ℕ → Option Refusal
+found_refusal None start end size = Some NoSuchFile
+found_refusal (Some text) start end size = range_refusal text start end size
+
+-- the same of the text of a name
+abbrev pub splice_refusal : List File → List ℕ → ℕ → ℕ → ℕ → Option Refusal
+splice_refusal files name start end size =
+    if not (is_file_name name) then Some BadName
+    else found_refusal (text_of files name) start end size
+
+-- against the removal of a file
+abbrev pub remove_refusal : List File → List ℕ → Option Refusal
+remove_refusal files name =
+    if not (is_file_name name) then Some BadName
+    else if is_none (text_of files name) then Some NoSuchFile
+    else None
+
+-- against a root name
+abbrev pub root_refusal : List ℕ → Option Refusal
+root_refusal root = if is_root_name root then None else Some BadName
+
+-- against a change that brings so many bytes
+abbrev pub refusal_of : Change → ℕ → State → Option Refusal
+refusal_of (write name) size s = write_refusal s.texts name size
+refusal_of (splice name start end) size s = splice_refusal s.texts name start end size
+refusal_of (remove name) size s = remove_refusal s.texts name
+refusal_of (root_name name) size s = root_refusal name
+refusal_of (min_crossrefs n) size s = None
+
+-- What becomes of the state
+
+-- the state after a change that nothing stands against
+abbrev pub changed : Change → List ℕ → State → State
+changed (write name) bytes s = record s { texts = with_text name bytes s.texts }
+changed (splice name start end) bytes s =
+    record s { texts = with_text name (replaced start end bytes (unwrap_or (text_of s.texts name) [])) s.texts }
+changed (remove name) bytes s = record s { texts = without name s.texts }
+changed (root_name name) bytes s = record s { root = name }
+changed (min_crossrefs n) bytes s = record s { min = n }
+
+-- this state, unless there is a refusal
+abbrev pub unless_refused : Option Refusal → State → Result State Refusal
+unless_refused None s = Ok s
+unless_refused (Some refusal) s = Err refusal
+
+-- the state behind a change that brings these bytes, or the first refusal whose condition holds
+abbrev pub outcome : Change → List ℕ → State → Result State Refusal
+outcome change bytes s = unless_refused (refusal_of change (length bytes) s) (changed change bytes s)
 
 -- the state behind an edit, or the first refusal whose condition holds
 abbrev pub applied : Edit → State → Result State Refusal
-applied (Write name text) s = written name.now text.now s
+applied (Write name text) s = outcome (write name.now) text.now s
+applied (Splice name start end bytes) s = outcome (splice name.now start end) bytes.now s
+applied (Remove name) s = outcome (remove name.now) [] s
+applied (Root name) s = outcome (root_name name.now) [] s
+applied (MinCrossrefs n) s = outcome (min_crossrefs n) [] s
+
+-- an edit that asks for this change and brings these bytes
+abbrev pub IsEditOf : Change → List ℕ → Edit → Type 0
+IsEditOf change bytes e = (s : State) → applied e s ≡ outcome change bytes s
 
 -- What answers an edit of which this is applied: each refusal where it is that refusal, and want of memory only where
--- the edit, or the look into its text, needs memory.
+-- there is no other.
 abbrev pub IsAnswer : Result State Refusal → Result Report Refusal → Type 0
 IsAnswer (Ok s) result = IfErr result (λ refusal. refusal ≡ OutOfMemory)
-IsAnswer (Err BadName) result = result ≡ Err BadName
-IsAnswer (Err FileTooLarge) result = result ≡ Err FileTooLarge
-IsAnswer (Err TooManyFiles) result = result ≡ Err TooManyFiles
-IsAnswer (Err NotYet) result = IsErrAnd result (λ refusal. (refusal ≡ NotYet) ⊎ (refusal ≡ OutOfMemory))
-IsAnswer (Err OutOfMemory) result = ⊥
+IsAnswer (Err refusal) result = result ≡ Err refusal
 
 -- what answers a new session, where this says whether its root name is one
 abbrev pub IsNew : {A : Type 0} → Bool → Result A Refusal → Type 0

@@ -2,10 +2,9 @@
 use Rattle.std.specs.Prelude.{◌≡◌, List, [], ◌∷◌, IfOk, Result, Ok, Err}
 use Rattle.bibtex.specs.declared.edit.Edit.{Edit}
 use Rattle.bibtex.specs.declared.edit.Refusal.{Refusal}
-use Rattle.bibtex.specs.declared.edit.Report.{Report}
-use Rattle.bibtex.specs.Present.{State}
+use Rattle.bt_run.specs.declared.answers.Report.{Report}
+use Rattle.bibtex.specs.Present.{State, reported}
 use Rattle.bibtex.specs.Applied.{applied, IsAnswer}
-use Rattle.bibtex.specs.Meaning.{report_of}
 
 -- the state behind an edit that was answered: what the edit makes of it where it was accepted, else the state as it was
 abbrev pub behind : Result Report Refusal → Result State Refusal → State → State
@@ -20,7 +19,7 @@ AnswersInTurn [] (a ∷ rest) s = ⊥
 AnswersInTurn (e ∷ es) [] s = ⊥
 AnswersInTurn (e ∷ es) (a ∷ rest) s =
     IsAnswer (applied e s) a
-    × IfOk a (λ report. report ≡ report_of (behind a (applied e s) s))
+    × IfOk a (λ report. report ≡ reported (behind a (applied e s) s))
     × AnswersInTurn es rest (behind a (applied e s) s)
 
 -- the present state is the result of the accepted edits

@@ -1,16 +1,4 @@
-pub mod Log
-pub mod AuxLine
-pub mod Naming
-pub mod Taking
-pub mod Citations
-pub mod Fit
-pub mod AdmittedAux
-pub mod Databases
-pub mod Course
-pub mod Commands
-pub mod JobView
 pub mod Present
-pub mod Meaning
-pub mod Shown
+pub mod Changes
 pub mod Applied
 pub mod Headline

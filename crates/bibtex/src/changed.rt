@@ -1,10 +1,10 @@
-//! The files with one of them changed, beside those that are there.
+//! Texts and files with a part of them changed, beside those that are there.
 
-ghost use Rattle.std.specs.Prelude.{◌≡◌, ◌<◌, length, IfOk, IfSome};
-ghost use Rattle.bibtex.specs.Present.{place_of, with_text};
+ghost use Rattle.std.specs.Prelude.{◌≡◌, ◌<◌, ◌≤◌, ◌++◌, take, length, IfOk, IfSome};
+ghost use Rattle.bibtex.specs.Present.{place_of, with_text, without, replaced};
 
-use crate::files::{File, SharedText};
-use bt_text::Sequence;
+use bt_job::{File, SharedText};
+use bt_text::{Bytes, Sequence};
 use std::alloc::{AllocError, Global};
 
 /// Which of some files has a name.
@@ -15,21 +15,29 @@ pub fn place_of(files: &[File], name: &[u8]) -> Option<usize>
     files.iter().position(|file| file.name.as_slice() == name)
 }
 
-/// The same files, which share their names and texts.
-fn shared(alloc: Global, files: &[File]) -> Result<Sequence<File>, AllocError>
+/// The same file, which shares its name and its text. The one error is want of memory.
+fn shared(file: &File) -> Result<File, AllocError>
+    ensures { IfOk result (λ again. again ≡ file.now) }
+{
+    Ok(File {
+        name: file.name.share()?,
+        text: file.text.share()?,
+    })
+}
+
+/// The same files, which share their names and texts. The one error is want of memory.
+fn all_shared(alloc: Global, files: &[File]) -> Result<Sequence<File>, AllocError>
     ensures { IfOk result (λ again. again ≡ files.now) }
 {
     let mut again = Sequence::new(alloc);
-    for file in files {
-        again.push(File {
-            name: file.name.share()?,
-            text: file.text.share()?,
-        })?;
+    'files: for file in files {
+        again.push(shared(file)?)?;
     }
     Ok(again)
 }
 
-/// The files with a text in the place of that of its name, or behind the others where none has it.
+/// The files with a text in the place of that of its name, or behind the others where none has it. The one error is
+/// want of memory.
 pub fn with_text(
     alloc: Global,
     files: &[File],
@@ -42,10 +50,41 @@ pub fn with_text(
         name: SharedText::copied(alloc, name)?,
         text: SharedText::copied(alloc, text)?,
     };
-    let mut changed = shared(alloc, files)?;
+    let mut changed = all_shared(alloc, files)?;
     match place_of(files, name) {
         Some(place) => changed.set(place, file),
         None => changed.push(file)?,
     }
+    Ok(changed)
+}
+
+/// The files but those of a name. The one error is want of memory.
+pub fn without(alloc: Global, files: &[File], name: &[u8]) -> Result<Sequence<File>, AllocError>
+    ensures { IfOk result (λ left. left ≡ without name.now files.now) }
+{
+    let mut left = Sequence::new(alloc);
+    'files: for file in files {
+        if file.name.as_slice() != name {
+            left.push(shared(file)?)?;
+        }
+    }
+    Ok(left)
+}
+
+/// A text with other bytes in the place of its bytes `start..end`. The one error is want of memory.
+pub fn replaced(
+    alloc: Global,
+    text: &[u8],
+    start: usize,
+    end: usize,
+    bytes: &[u8],
+) -> Result<Bytes, AllocError>
+    requires in_order { start ≤ end }
+    requires within { end ≤ length text.now }
+    ensures { IfOk result (λ changed. changed ≡ replaced start end bytes.now text.now) }
+{
+    let mut changed = Bytes::copied(alloc, &text[..start])?;
+    changed.append(bytes)?;
+    changed.append(&text[end..])?;
     Ok(changed)
 }

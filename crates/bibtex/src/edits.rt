@@ -3,8 +3,9 @@
 ghost use Rattle.std.specs.Prelude.{◌≡◌, IfOk, OnErr};
 ghost use Rattle.bibtex.specs.Headline.{AnswersInTurn, behind_all};
 
-use crate::edit::{Edit, Refusal, Report};
+use crate::edit::{Edit, Refusal};
 use crate::session::Session;
+use bt_run::Report;
 use std::alloc::{AllocError, Global};
 
 /// Carries out edits in order, and answers what each reported, or why it was refused. The one error is that there is no

@@ -1,26 +1,16 @@
-//! A session: it keeps the present texts and what they mean, and changes both by edits.
+//! A session: it keeps the present state and what it means, and changes both by edits.
 
-ghost use Rattle.std.specs.Prelude.{◌≡◌, IfOk, IfErr, OnErr, Ok, Err};
+ghost use Rattle.std.specs.Prelude.{◌≡◌, [], length, IfOk, IfErr, OnErr, Ok, Err};
 ghost use Rattle.std.specs.Option.{option_map};
 
-use crate::admitted::is_admitted;
-use crate::answers::{Answers, answers_for};
-use crate::changed::{place_of, with_text};
-use crate::edit::{Edit, Refusal, Report};
-use crate::files::File;
-use crate::naming::{is_file_name, text_of};
+use crate::changed::{replaced, with_text, without};
+use crate::edit::{Change, Edit, Refusal};
+use crate::refusal::{is_root_name, remove_refusal, root_refusal, splice_refusal, write_refusal};
+use bt_job::{File, text_of};
+use bt_run::{Answers, Report, answers_for};
 use bt_text::{Bytes, Sequence};
 use std::alloc::Global;
 use std::marker::Model;
-
-/// How many bytes a text may have.
-const TEXT_LIMIT: usize = 1_048_576;
-
-/// How many files there may be.
-const FILE_LIMIT: usize = 64;
-
-/// How many bytes a root name may have: with `.aux` behind it it is a file's name.
-const ROOT_LIMIT: usize = 60;
 
 /// A session over the texts of `.aux`, `.bib` and `.bst` files. Contracts see its present state: the texts by name, the
 /// root name and min-crossrefs. What else it keeps is what these mean, computed from scratch.
@@ -36,34 +26,33 @@ pub struct Session {
 impl Model for Session {
     ghost use Rattle.std.specs.Prelude.{◌≡◌};
     ghost use Rattle.bibtex.specs.Present.{State};
-    ghost use Rattle.bibtex.specs.Meaning.{meaning};
-    ghost use Rattle.bibtex.specs.Shown.{meaning_of};
+    ghost use Rattle.bt_run.specs.Meaning.{meaning};
+    ghost use Rattle.bt_run.specs.Shown.{meaning_of};
 
     ghost Value = { State };
 
     ghost view = { λ s. record { texts = s.files; root = s.root; min = s.min } };
 
-    ghost invariant = { λ s. meaning_of s.answers ≡ meaning (record { texts = s.files; root = s.root; min = s.min }) };
+    ghost invariant = { λ s. meaning_of s.answers ≡ meaning s.files s.root s.min };
 }
 
 impl Session {
-    ghost use Rattle.bibtex.specs.Present.{is_root_name, no_texts};
-    ghost use Rattle.bibtex.specs.Applied.{applied, written, IsAnswer, IsNew};
-    ghost use Rattle.bibtex.specs.Meaning.{meaning, report_of};
-    ghost use Rattle.bibtex.specs.Naming.{text_of};
+    ghost use Rattle.bibtex.specs.Present.{is_root_name, no_texts, shown, reported};
+    ghost use Rattle.bibtex.specs.Changes.{change_of, write, splice, remove, root_name, min_crossrefs};
+    ghost use Rattle.bibtex.specs.Applied.{applied, outcome, refusal_of, IsAnswer, IsNew};
+    ghost use Rattle.bt_job.specs.Naming.{text_of};
 
     /// A session without files, whose run begins at the root name followed by `.aux`. The errors are `BadName`, exactly
     /// where the root isn't a file name of at most 60 bytes, and `OutOfMemory`.
-    #[tactic(auto, unfolding(crate::specs::Meaning::meaning))]
     pub fn new(alloc: Global, root: &[u8], min: u32) -> Result<Session, Refusal>
         ensures ok { IfOk result (λ session. session ≡ no_texts root.now min) }
         ensures refused { IsNew (is_root_name root.now) result }
     {
-        if !is_file_name(root) || root.len() > ROOT_LIMIT {
+        if !is_root_name(root) {
             return Err(Refusal::BadName);
         }
         let files = Sequence::new(alloc);
-        let (answers, _report) = answers_for(alloc, files.as_slice(), root)?;
+        let (answers, _report) = answers_for(alloc, files.as_slice(), root, min)?;
         Ok(Session {
             alloc,
             root: Bytes::copied(alloc, root)?,
@@ -73,77 +62,186 @@ impl Session {
         })
     }
 
-    /// Puts a text in the place of that of its name, or behind the others where none has it.
-    #[tactic(auto, unfolding(crate::specs::Meaning::meaning, crate::specs::Meaning::trace))]
-    fn write(&mut self, name: &[u8], text: &[u8]) -> Result<Report, Refusal>
-        ensures ok { IfOk result (λ report. written name.now text.now self.old ≡ Ok self.new) }
-        ensures report { IfOk result (λ report. report ≡ report_of self.new) }
-        ensures refused { IsAnswer (written name.now text.now self.old) result }
+    /// The first reason against a change that brings so many bytes; want of memory is none. It takes no memory.
+    pub fn refusal(&self, change: Change<'_>, size: usize) -> Option<Refusal>
+        ensures { result ≡ refusal_of (change_of change.entry) size self.now }
+    {
+        let files = self.files.as_slice();
+        match change {
+            Change::Write(name) => write_refusal(files, name, size),
+            Change::Splice(name, start, end) => splice_refusal(files, name, start, end, size),
+            Change::Remove(name) => remove_refusal(files, name),
+            Change::Root(name) => root_refusal(name),
+            Change::MinCrossrefs(_) => None,
+        }
+    }
+
+    /// Goes over to these files.
+    fn put_files(&mut self, files: Sequence<File>) -> Result<Report, Refusal>
+        ensures ok { IfOk result (λ _. self.new ≡ record self.old { texts = files }) }
+        ensures report { IfOk result (λ report. report ≡ reported self.new) }
+        ensures refused { IfErr result (λ refusal. refusal ≡ Refusal.OutOfMemory) }
         ensures err { OnErr result (self.new ≡ self.old) }
     {
-        if !is_file_name(name) {
-            return Err(Refusal::BadName);
-        }
-        if text.len() > TEXT_LIMIT {
-            return Err(Refusal::FileTooLarge);
-        }
-        if place_of(self.files.as_slice(), name).is_none() && self.files.len() >= FILE_LIMIT {
-            return Err(Refusal::TooManyFiles);
-        }
-        if !is_admitted(self.alloc, name, text)? {
-            return Err(Refusal::NotYet);
-        }
-        let files = with_text(self.alloc, self.files.as_slice(), name, text)?;
-        let (answers, report) = answers_for(self.alloc, files.as_slice(), self.root.as_slice())?;
+        let (answers, report) = answers_for(
+            self.alloc,
+            files.as_slice(),
+            self.root.as_slice(),
+            self.min,
+        )?;
         self.files = files;
         self.answers = answers;
         Ok(report)
     }
 
+    /// Goes over to this root name.
+    fn put_root(&mut self, root: Bytes) -> Result<Report, Refusal>
+        ensures ok { IfOk result (λ _. self.new ≡ record self.old { root = root }) }
+        ensures report { IfOk result (λ report. report ≡ reported self.new) }
+        ensures refused { IfErr result (λ refusal. refusal ≡ Refusal.OutOfMemory) }
+        ensures err { OnErr result (self.new ≡ self.old) }
+    {
+        let (answers, report) = answers_for(
+            self.alloc,
+            self.files.as_slice(),
+            root.as_slice(),
+            self.min,
+        )?;
+        self.root = root;
+        self.answers = answers;
+        Ok(report)
+    }
+
+    /// Goes over to this min-crossrefs.
+    fn put_min(&mut self, min: u32) -> Result<Report, Refusal>
+        ensures ok { IfOk result (λ _. self.new ≡ record self.old { min = min }) }
+        ensures report { IfOk result (λ report. report ≡ reported self.new) }
+        ensures refused { IfErr result (λ refusal. refusal ≡ Refusal.OutOfMemory) }
+        ensures err { OnErr result (self.new ≡ self.old) }
+    {
+        let (answers, report) = answers_for(
+            self.alloc,
+            self.files.as_slice(),
+            self.root.as_slice(),
+            min,
+        )?;
+        self.min = min;
+        self.answers = answers;
+        Ok(report)
+    }
+
+    /// Puts a text in the place of that of its name, or behind the others where none has it.
+    fn write(&mut self, name: &[u8], text: &[u8]) -> Result<Report, Refusal>
+        ensures ok { IfOk result (λ _. outcome (write name.now) text.now self.old ≡ Ok self.new) }
+        ensures report { IfOk result (λ report. report ≡ reported self.new) }
+        ensures refused { IsAnswer (outcome (write name.now) text.now self.old) result }
+        ensures err { OnErr result (self.new ≡ self.old) }
+    {
+        if let Some(refusal) = self.refusal(Change::Write(name), text.len()) {
+            return Err(refusal);
+        }
+        let files = with_text(self.alloc, self.files.as_slice(), name, text)?;
+        self.put_files(files)
+    }
+
+    /// Puts bytes in the place of the bytes `start..end` of a text.
+    fn splice(
+        &mut self,
+        name: &[u8],
+        start: usize,
+        end: usize,
+        bytes: &[u8],
+    ) -> Result<Report, Refusal>
+        ensures ok { IfOk result (λ _. outcome (splice name.now start end) bytes.now self.old ≡ Ok self.new) }
+        ensures report { IfOk result (λ report. report ≡ reported self.new) }
+        ensures refused { IsAnswer (outcome (splice name.now start end) bytes.now self.old) result }
+        ensures err { OnErr result (self.new ≡ self.old) }
+    {
+        if let Some(refusal) = self.refusal(Change::Splice(name, start, end), bytes.len()) {
+            return Err(refusal);
+        }
+        let text = text_of(self.files.as_slice(), name).unwrap_or(b"");
+        let text = replaced(self.alloc, text, start, end, bytes)?;
+        let files = with_text(self.alloc, self.files.as_slice(), name, text.as_slice())?;
+        self.put_files(files)
+    }
+
+    /// Takes a file away.
+    fn remove(&mut self, name: &[u8]) -> Result<Report, Refusal>
+        ensures ok { IfOk result (λ _. outcome (remove name.now) [] self.old ≡ Ok self.new) }
+        ensures report { IfOk result (λ report. report ≡ reported self.new) }
+        ensures refused { IsAnswer (outcome (remove name.now) [] self.old) result }
+        ensures err { OnErr result (self.new ≡ self.old) }
+    {
+        if let Some(refusal) = self.refusal(Change::Remove(name), 0) {
+            return Err(refusal);
+        }
+        let files = without(self.alloc, self.files.as_slice(), name)?;
+        self.put_files(files)
+    }
+
+    /// Begins the run at another root name.
+    fn rename_root(&mut self, root: &[u8]) -> Result<Report, Refusal>
+        ensures ok { IfOk result (λ _. outcome (root_name root.now) [] self.old ≡ Ok self.new) }
+        ensures report { IfOk result (λ report. report ≡ reported self.new) }
+        ensures refused { IsAnswer (outcome (root_name root.now) [] self.old) result }
+        ensures err { OnErr result (self.new ≡ self.old) }
+    {
+        if let Some(refusal) = self.refusal(Change::Root(root), 0) {
+            return Err(refusal);
+        }
+        let root = Bytes::copied(self.alloc, root)?;
+        self.put_root(root)
+    }
+
     /// Carries out an edit and reports what it did. On a refusal nothing is changed. Refusals are tested in the order of
-    /// their cases; want of memory comes last, but may come in the place of `NotYet`, whose test needs memory.
+    /// their cases, want of memory last.
     pub fn edit(&mut self, edit: Edit<'_>) -> Result<Report, Refusal>
-        ensures ok { IfOk result (λ report. applied edit.entry self.old ≡ Ok self.new) }
-        ensures report { IfOk result (λ report. report ≡ report_of self.new) }
+        ensures ok { IfOk result (λ _. applied edit.entry self.old ≡ Ok self.new) }
+        ensures report { IfOk result (λ report. report ≡ reported self.new) }
         ensures refused { IsAnswer (applied edit.entry self.old) result }
         ensures err { OnErr result (self.new ≡ self.old) }
     {
         match edit {
             Edit::Write(name, text) => self.write(name, text),
+            Edit::Splice(name, start, end, bytes) => self.splice(name, start, end, bytes),
+            Edit::Remove(name) => self.remove(name),
+            Edit::Root(name) => self.rename_root(name),
+            Edit::MinCrossrefs(min) => self.put_min(min),
         }
     }
 
     /// The bytes of the `.bbl` file.
     pub fn bbl(&self) -> &[u8]
-        ensures { result.now ≡ (meaning self.now).bbl }
+        ensures { result.now ≡ (shown self.now).bbl }
     {
         self.answers.bbl.as_slice()
     }
 
     /// The bytes of the `.blg` file, the log.
     pub fn blg(&self) -> &[u8]
-        ensures { result.now ≡ (meaning self.now).blg }
+        ensures { result.now ≡ (shown self.now).blg }
     {
         self.answers.blg.as_slice()
     }
 
-    /// The log without its file lines.
+    /// The log without the lines of files and the counts of calls.
     pub fn terse(&self) -> &[u8]
-        ensures { result.now ≡ (meaning self.now).terse }
+        ensures { result.now ≡ (shown self.now).terse }
     {
         self.answers.terse.as_slice()
     }
 
     /// 0 where the run was clean, 1 behind warnings, 2 behind errors, 3 behind a fatal error.
     pub fn status(&self) -> u8
-        ensures { result ≡ (meaning self.now).status }
+        ensures { result ≡ (shown self.now).status }
     {
         self.answers.status
     }
 
     /// The names of the files that were looked for and not found, in order, each once.
     pub fn wanted(&self) -> &[Bytes]
-        ensures { result.now ≡ (meaning self.now).wanted }
+        ensures { result.now ≡ (shown self.now).wanted }
     {
         self.answers.wanted.as_slice()
     }

@@ -1,31 +1,71 @@
-//! A session that is given three texts in order, and its bibliography on standard output.
+//! The program `bibtex`: writes the bibliography of a document once, or stays and answers commands.
 #![tactic(auto)]
 
+mod disk;
+
+ghost use Rattle.std.specs.Prelude.{◌≡◌, true};
+ghost use Rattle.bibtex.specs.Present.{is_root_name};
+
+use crate::disk::Disk;
 use anyhow::Result;
-use bibtex::{Edit, Session};
-use std::io;
-use std::io::Write;
+use bibtex::Session;
+use bt_one_shot::{Options, OptionsFault, one_shot, parse_options};
+use bt_serve::{ReaderSource, WriterSink, serve};
+use std::io::{BufReader, BufWriter};
+use std::process::ExitCode;
+use std::{env, io};
 
-/// What is cited, from which database, in which style.
-const AUX: &[u8] = b"\\citation{b,a}
-\\bibdata{x}
-\\bibstyle{s}
-";
+/// Prints the help that was asked for, or tells why the command line asks for nothing that can be done.
+fn refuse(rt: &(impl Print + Eprint), fault: OptionsFault) -> Result<ExitCode> {
+    let OptionsFault::Parser(fault) = fault else {
+        eprintln!(rt; "bibtex: {fault}")?;
+        return Ok(ExitCode::FAILURE);
+    };
+    fault.print(rt)?;
+    Ok(ExitCode::from(if fault.exit_code() == 0 { 0 } else { 1 }))
+}
 
-const STYLE: &[u8] = b"ENTRY {}{}{}
-FUNCTION {misc} {}
-FUNCTION {f} {\"key \" write$ cite$ write$ newline$}
-READ
-ITERATE {f}
-";
+fn out_of_memory(rt: &impl Eprint) -> Result<ExitCode> {
+    eprintln!(rt; "bibtex: out of memory")?;
+    Ok(ExitCode::FAILURE)
+}
 
-const DATABASE: &[u8] = b"@misc{a}@misc{b}";
+/// Answers the commands of standard input on standard output.
+fn stay(rt: &HostRuntime, options: &Options) -> Result<ExitCode> {
+    let alloc = rt.alloc();
+    let Ok(mut session) = Session::new(alloc, options.root.as_slice(), options.min) else {
+        return out_of_memory(rt);
+    };
+    let mut source = ReaderSource::new(BufReader::new(alloc, rt.reader())?);
+    let mut sink = WriterSink::new(BufWriter::new(alloc, io::writer(rt))?);
+    match serve(alloc, &mut source, &mut sink, &mut session) {
+        Ok(()) => Ok(ExitCode::SUCCESS),
+        Err(fault) => {
+            eprintln!(rt; "bibtex: fault {}", fault.number())?;
+            Ok(ExitCode::FAILURE)
+        }
+    }
+}
 
-fn main(rt: HostRuntime) -> Result<()> {
-    let mut session = Session::new(rt.alloc(), b"job", 2)?;
-    session.edit(Edit::Write(b"job.aux", AUX))?;
-    session.edit(Edit::Write(b"s.bst", STYLE))?;
-    session.edit(Edit::Write(b"x.bib", DATABASE))?;
-    io::writer(&rt).write_all(session.bbl())?;
-    Ok(())
+/// Runs the job once, in the folder that the program was started in.
+fn run_once(rt: &HostRuntime, options: &Options) -> Result<ExitCode>
+    requires { is_root_name options.now.root ≡ true }
+{
+    let alloc = rt.alloc();
+    let mut folder = Disk::new(alloc, rt);
+    let mut out = WriterSink::new(io::writer(rt));
+    let mut err = WriterSink::new(rt.stderr());
+    match one_shot(alloc, options, &mut folder, &mut out, &mut err) {
+        Ok(status) => Ok(ExitCode::from(status)),
+        Err(_) => out_of_memory(rt),
+    }
+}
+
+fn main(rt: HostRuntime) -> Result<ExitCode> {
+    let words: Vec<String> = env::args(&rt)?.collect(rt.alloc())?;
+    match parse_options(rt.alloc(), words.as_slice()) {
+        Ok(options) if options.resident => stay(&rt, &options),
+        Ok(options) => run_once(&rt, &options),
+        Err(fault) => refuse(&rt, fault),
+    }
 }

@@ -1,52 +1,118 @@
--- The evaluation's equations, without a bound on how deep calls stand.
-use Rattle.std.proofs.Common.{◌≡◌, ℕ, zero, suc, ◌≤◌, refl, ap, ◌∙◌, arith}
-use Rattle.std.specs.Prelude.{List}
-use Rattle.bt_machine.specs.declared.style.Target.TheVariants.{Function}
-use Rattle.bt_machine.specs.declared.complaint.Complaint.TheVariants.{TicksPassed}
-use Rattle.bt_machine.specs.Tree.{Element, Called, Body, End, Then}
-use Rattle.bt_machine.specs.Program.{Definition}
-use Rattle.bt_machine.specs.World.{World, Ending, Done, Stopped, say}
-use Rattle.bt_machine.specs.Eval.{Runner, then_go, act, body_at, counted, eval_within, eval, IsEvaluation}
-use Rattle.bt_machine.proofs.Ticks.{ticks_in, act_ticks, eval_ticks}
+-- The evaluation's equations, without a bound on how deep calls stand and on how often loops turn.
+use Rattle.std.proofs.Common.{◌≡◌, ℕ, zero, suc, ◌+◌, ◌≤◌, ◌<◌, length, Option, Some, None, refl, ap, ◌∙◌, arith}
+use Rattle.std.specs.Prelude.{ℤ, pos, negsuc}
+use Rattle.bt_style.specs.declared.builtin.Builtin.{Builtin as Primitive}
+use Rattle.bt_style.specs.declared.builtin.Builtin.TheVariants.{CallType, If, While}
+use Rattle.bt_style.specs.declared.style.Target.TheVariants.{Builtin, Function}
+use Rattle.bt_style.specs.Tree.{Element, Called, Body, End, Then}
+use Rattle.bt_style.specs.Program.{Program}
+use Rattle.bt_actions.specs.declared.entry.Entry.{Entry}
+use Rattle.bt_actions.specs.declared.complaint.Complaint.TheVariants.{TicksPassed}
+use Rattle.bt_actions.specs.Item.{Code}
+use Rattle.bt_actions.specs.World.{World, entry_of, say}
+use Rattle.bt_actions.specs.Arguments.{number_of, code_of, taken, taken_two, taken_three}
+use Rattle.bt_machine.specs.Eval.{Ending, Done, Stopped, Runner, then_go, code_body, body_at, type_function, run_function, run_type, by_sign, run_chosen, turn, turns, looped, run_loop, built_in, act, counted, eval_within, eval, IsEvaluation}
+use Rattle.bt_machine.proofs.Bounds.{Shrinks, AllShrink, act_shrinks, eval_shrinks, taken_len, taken_some_len}
 
--- what goes on the same from all states within k ticks
-then_same : (o : Ending) (go go' : World → ℕ → Ending) (k : ℕ) → ticks_in o ≤ k → ((w : World) (j : ℕ) → j ≤ k → go w j ≡ go' w j) → then_go o go ≡ then_go o go'
-then_same (Done w j) go go' k h f = f w j h
-then_same (Stopped w j) go go' k h f = refl
+-- the same from everywhere with at most k ticks
+abbrev Agree : ℕ → (World → ℕ → Ending) → (World → ℕ → Ending) → Type 0
+Agree k go go' = (w : World) (j : ℕ) → j ≤ k → go w j ≡ go' w j
+
+-- what goes on the same within the bounds of an ending
+then_same : (o : Ending) (go go' : World → ℕ → Ending) (k s : ℕ) → Shrinks k s o → ((w : World) (j : ℕ) → j ≤ k → j + length w.stack ≤ s → go w j ≡ go' w j) → then_go o go ≡ then_go o go'
+then_same (Done w j) go go' k s h f = f w j h.0 h.1
+then_same (Stopped w j) go go' k s h f = refl
+
+-- a turn of a loop, where the body and what comes after it are the same
+turn_same : (o : Option ℤ) (w : World) (j : ℕ) (body body' again again' : World → ℕ → Ending) → AllShrink body → body w j ≡ body' w j → ((n : ℤ) → o ≡ Some n → (w' : World) (i : ℕ) → i ≤ j → i + length w'.stack ≤ j + length w.stack → again w' i ≡ again' w' i) → turn (o, w) j body again ≡ turn (o, w) j body' again'
+turn_same None w j body body' again again' s e f = refl
+turn_same (Some (pos zero)) w j body body' again again' s e f = refl
+turn_same (Some (pos (suc n))) w j body body' again again' s e f =
+    then_same (body w j) again again' j (j + length w.stack) (s w j) (f (pos (suc n)) refl) ∙ ap (λ o. then_go o again') e
+turn_same (Some (negsuc n)) w j body body' again again' s e f = refl
+
+-- Turns of a loop, where its test and body are the same and no bound on the turns is reached: each turn that isn't the
+-- last takes a value from the stack.
+turns_same : (m m' : ℕ) (test test' body body' : World → ℕ → Ending) (top : ℕ) → AllShrink test → AllShrink body → Agree top test test' → Agree top body body' → (w : World) (k : ℕ) → k ≤ top → k + length w.stack < m → k + length w.stack < m' → turns m test body w k ≡ turns m' test' body' w k
+turns_same zero m' test test' body body' top ts bs t b w k hk h h' = absurd (omega arith)
+turns_same (suc m) zero test test' body body' top ts bs t b w k hk h h' = absurd (omega arith)
+turns_same (suc m) (suc m') test test' body body' top ts bs t b w k hk h h' =
+    then_same (test w k) _ _ k (k + length w.stack) (ts w k)
+    (λ w1 j hj hs. let l = taken_len While number_of w1 in turn_same (taken While number_of w1).0 (taken While number_of w1).1 j body body' (turns m test body) (turns m' test' body') bs (b (taken While number_of w1).1 j (omega arith))
+    (λ n e w2 i hi hs2. let l = taken_some_len While number_of w1 n e in turns_same m m' test test' body body' top ts bs t b w2 i (omega arith) (omega arith) (omega arith)))
+    ∙ ap (λ o. then_go o (λ w k. turn (taken While number_of w) k body' (turns m' test' body'))) (t w k hk)
 
 -- an element, where what it runs is the same
-act_same : (defs : List Definition) (run run' : Runner) (k : ℕ) → ((b : Body) (w : World) → run b w k ≡ run' b w k) → (e : Element) (w : World) → act defs run e w k ≡ act defs run' e w k
-act_same defs run run' k same (Called (Function n)) w = same (body_at defs n) w
-act_same defs run run' k same _ w = refl
+module _ (p : Program) (run run' : Runner) (k : ℕ) (s : (b : Body) → AllShrink (run b)) (same : (b : Body) → Agree k (run b) (run' b)) where
+  chosen_same : (o : Option (ℤ × Code × Code)) (w : World) → run_chosen run (o, w) k ≡ run_chosen run' (o, w) k
+  chosen_same None w = refl
+  chosen_same (Some q) w = same (code_body (by_sign q.0 q.1 q.2)) w k (omega arith)
+
+  loop_same : (o : Option (Code × Code)) (w : World) → run_loop run (o, w) k ≡ run_loop run' (o, w) k
+  loop_same None w = refl
+  loop_same (Some q) w =
+      turns_same (suc (k + length w.stack)) (suc (k + length w.stack)) _ _ _ _ k (s (code_body q.0)) (s (code_body q.1)) (same (code_body q.0)) (same (code_body q.1)) w k (omega arith) (omega arith) (omega arith)
+
+  function_same : (o : Option ℕ) (w : World) → run_function p.functions run o w k ≡ run_function p.functions run' o w k
+  function_same None w = refl
+  function_same (Some n) w = same (body_at p.functions n) w k (omega arith)
+
+  type_same : (o : Option Entry) (w : World) → run_type p.functions run o w k ≡ run_type p.functions run' o w k
+  type_same None w = refl
+  type_same (Some e) w = function_same (type_function p.functions e.function) w
+
+  built_in_same : (b : Primitive) (w : World) → built_in p run b w k ≡ built_in p run' b w k
+  built_in_same If w = chosen_same (taken_three If number_of code_of code_of w).0 _
+  built_in_same While w = loop_same (taken_two While code_of code_of w).0 _
+  built_in_same CallType w = type_same (entry_of w) w
+  built_in_same _ w = refl
+
+  act_same : (e : Element) (w : World) → act p run e w k ≡ act p run' e w k
+  act_same (Called (Builtin b)) w = built_in_same b w
+  act_same (Called (Function n)) w = same (body_at p.functions n) w k (omega arith)
+  act_same _ w = refl
 
 -- where calls may stand deeper than there are ticks, more changes nothing
-eval_stable : (defs : List Definition) (deep deep' : ℕ) (b : Body) (w : World) (k : ℕ) → k ≤ deep → k ≤ deep' → eval_within defs deep b w k ≡ eval_within defs deep' b w k
+eval_stable : (p : Program) (deep deep' : ℕ) (b : Body) (w : World) (k : ℕ) → k ≤ deep → k ≤ deep' → eval_within p deep b w k ≡ eval_within p deep' b w k
 unfolding eval_within
-eval_stable defs deep deep' End w k h h' = refl
-eval_stable defs deep deep' (Then e rest) w zero h h' = refl
-eval_stable defs zero deep' (Then e rest) w (suc k) h h' = absurd (omega arith)
-eval_stable defs (suc deep) zero (Then e rest) w (suc k) h h' = absurd (omega arith)
-eval_stable defs (suc deep) (suc deep') (Then e rest) w (suc k) h h' =
-    then_same (act defs (eval_within defs deep) e (counted e w) k) _ _ k (act_ticks defs (eval_within defs deep) (eval_ticks defs deep) e (counted e w) k) (λ w' j hj. eval_stable defs deep deep' rest w' j (omega arith) (omega arith))
-    ∙ ap (λ o. then_go o (eval_within defs deep' rest)) (act_same defs (eval_within defs deep) (eval_within defs deep') k (λ b w'. eval_stable defs deep deep' b w' k (omega arith) (omega arith)) e (counted e w))
+eval_stable p deep deep' End w k h h' = refl
+eval_stable p deep deep' (Then e rest) w zero h h' = refl
+eval_stable p zero deep' (Then e rest) w (suc k) h h' = absurd (omega arith)
+eval_stable p (suc deep) zero (Then e rest) w (suc k) h h' = absurd (omega arith)
+eval_stable p (suc deep) (suc deep') (Then e rest) w (suc k) h h' =
+    then_same (act p (eval_within p deep) e (counted e w) k) _ _ k (suc (k + length w.stack)) (act_shrinks p _ (eval_shrinks p deep) e (counted e w) k)
+    (λ w' j hj hs. eval_stable p deep deep' rest w' j (omega arith) (omega arith))
+    ∙ ap (λ o. then_go o (eval_within p deep' rest)) (act_same p _ _ k (eval_shrinks p deep) (λ b w' j hj. eval_stable p deep deep' b w' j (omega arith) (omega arith)) e (counted e w))
 
 -- no element
-pub eval-end : (defs : List Definition) (w : World) (k : ℕ) → eval defs End w k ≡ Done w k
+pub eval-end : (p : Program) (w : World) (k : ℕ) → eval p End w k ≡ Done w k
 unfolding eval_within
-eval-end defs w k = refl
+eval-end p w k = refl
 
 -- no tick left
-pub eval-no_tick : (defs : List Definition) (e : Element) (rest : Body) (w : World) → eval defs (Then e rest) w 0 ≡ Stopped (say TicksPassed w) 0
+pub eval-no_tick : (p : Program) (e : Element) (rest : Body) (w : World) → eval p (Then e rest) w 0 ≡ Stopped (say TicksPassed w) 0
 unfolding eval_within
-eval-no_tick defs e rest w = refl
+eval-no_tick p e rest w = refl
 
 -- an element and the rest
-pub eval-then : (defs : List Definition) (e : Element) (rest : Body) (w : World) (k : ℕ) → eval defs (Then e rest) w (suc k) ≡ then_go (act defs (eval defs) e (counted e w) k) (eval defs rest)
+pub eval-then : (p : Program) (e : Element) (rest : Body) (w : World) (k : ℕ) → eval p (Then e rest) w (suc k) ≡ then_go (act p (eval p) e (counted e w) k) (eval p rest)
 unfolding eval_within
-eval-then defs e rest w k =
-    then_same (act defs (eval_within defs k) e (counted e w) k) _ _ k (act_ticks defs (eval_within defs k) (eval_ticks defs k) e (counted e w) k) (λ w' j hj. eval_stable defs k j rest w' j (omega arith) (omega arith))
-    ∙ ap (λ o. then_go o (eval defs rest)) (act_same defs (eval_within defs k) (eval defs) k (λ b w'. refl) e (counted e w))
+eval-then p e rest w k =
+    then_same (act p (eval_within p k) e (counted e w) k) _ _ k (suc (k + length w.stack)) (act_shrinks p _ (eval_shrinks p k) e (counted e w) k)
+    (λ w' j hj hs. eval_stable p k j rest w' j (omega arith) (omega arith))
+    ∙ ap (λ o. then_go o (eval p rest)) (act_same p _ _ k (eval_shrinks p k) (λ b w' j hj. eval_stable p k j b w' j (omega arith) (omega arith)) e (counted e w))
+
+pub eval-shrinks : (p : Program) (b : Body) → AllShrink (eval p b)
+eval-shrinks p b w k = eval_shrinks p k b w k
+
+-- a loop: its test, a number, its body, and the loop again
+pub looped-turn : (p : Program) (test body : Code) (w : World) (k : ℕ) → looped (eval p) test body w k ≡ then_go (eval p (code_body test) w k) (λ w k. turn (taken While number_of w) k (eval p (code_body body)) (looped (eval p) test body))
+looped-turn p test body w k =
+    then_same (eval p (code_body test) w k) _ _ k (k + length w.stack) (eval-shrinks p (code_body test) w k)
+    (λ w1 j hj hs. turn_same (taken While number_of w1).0 (taken While number_of w1).1 j (eval p (code_body body)) (eval p (code_body body)) (turns (k + length w.stack) (eval p (code_body test)) (eval p (code_body body))) (looped (eval p) test body) (eval-shrinks p (code_body body)) refl
+    (λ n e w2 i hi hs2. let l = taken_some_len While number_of w1 n e in turns_same (k + length w.stack) (suc (i + length w2.stack)) _ _ _ _ i (eval-shrinks p (code_body test)) (eval-shrinks p (code_body body)) (λ w' j' h. refl) (λ w' j' h. refl) w2 i (omega arith) (omega arith) (omega arith)))
 
 -- all of them
-pub is_evaluation : (defs : List Definition) → IsEvaluation defs (eval defs)
-is_evaluation defs = record { no_element = eval-end defs; no_tick = eval-no_tick defs; an_element = eval-then defs }
+pub is_evaluation : (p : Program) → IsEvaluation p (eval p)
+is_evaluation p =
+    record { no_element = eval-end p; no_tick = eval-no_tick p; an_element = eval-then p; a_loop = looped-turn p }

@@ -1,17 +1,19 @@
 -- A step is the same wherever its entry stands.
 use Rattle.std.proofs.Common.{◌≡◌, ℕ, List, [], ◌++◌, Option, Some, None, refl, sym, ap, ◌∙◌, append-nil}
-use Rattle.std.specs.Prelude.{option_map, replicate, slice_index_or}
+use Rattle.std.specs.Prelude.{option_map, replicate, slice_index_or, slice_set}
 use Rattle.std.proofs.Math.Seq.{drop-append_seam}
-use Rattle.std.proofs.lemmas.List.{get_or-set_same, set-get_or}
-use Rattle.bt_machine.specs.declared.input.Variables.{Variables}
-use Rattle.bt_machine.specs.declared.input.Entry.{Entry}
-use Rattle.bt_machine.specs.Tree.{Called, End, Then}
-use Rattle.bt_machine.specs.Program.{Definition}
-use Rattle.bt_machine.specs.World.{World, no_variables, no_entry, entry_in}
+use Rattle.std.proofs.lemmas.List.{get_or-set_same, set-get_or, set-set}
+use Rattle.bt_actions.specs.declared.entry.Variables.{Variables}
+use Rattle.bt_actions.specs.declared.entry.Entry.{Entry}
+use Rattle.bt_style.specs.Tree.{Called, End, Then}
+use Rattle.bt_style.specs.Program.{Program}
+use Rattle.bt_actions.specs.World.{World, no_variables, no_entry, entry_in}
 use Rattle.bt_machine.specs.Eval.{eval}
-use Rattle.bt_machine.specs.Step.{tick_limit, begun, rested, Finish, finished, step, entries_in}
+use Rattle.bt_machine.specs.Step.{tick_limit, begun, rested, Finish, finished, step}
+use Rattle.bt_actions.specs.View.{entries_in}
 use Rattle.bt_machine.specs.Place.{IsPlace, cut, alone, with_variables, put_back, finish_back, DependsOnInput, Own, own, SameInputSameOutcome}
-use Rattle.bt_machine.proofs.Places.{Part, Place, varied, embed, eval_alike, finished_alike}
+use Rattle.bt_machine.proofs.Places.{Part, Place, varied, embed}
+use Rattle.bt_machine.proofs.Alike.{eval_alike, finished_alike}
 
 -- the entry at a place of a list, with other variables
 reads_in : (x : Option ℕ) (es : List Entry) (w : World) → es ≡ w.entries → IsPlace x w → (v : Variables) → entry_in (with_variables x es v) x ≡ varied v (entry_in es x)
@@ -19,15 +21,34 @@ reads_in None es w q h v = refl
 reads_in (Some n) es w q h v =
     ap Some (get_or-set_same es n (record (slice_index_or es n no_entry) { variables = v }) no_entry (rw q h))
 
+-- other variables take the place of the first ones
+writes_in : (x : Option ℕ) (es : List Entry) (w : World) → es ≡ w.entries → IsPlace x w → (v u : Variables) → with_variables x (with_variables x es v) u ≡ with_variables x es u
+writes_in None es w q h v u = refl
+writes_in (Some n) es w q h v u =
+    let d = slice_index_or es n no_entry in
+    ap (λ (b : Entry). slice_set (slice_set es n (record d { variables = v })) n (record b { variables = u })) (get_or-set_same es n (record d { variables = v }) no_entry (rw q h))
+    ∙ set-set es n (record d { variables = v }) (record d { variables = u })
+
 -- among all entries
 in_world : (x : Option ℕ) (w : World) → IsPlace x w → Place (entry_in w.entries x)
 in_world x w h =
-    record { entries = with_variables x w.entries; index = x; before = w.lines; heard = w.messages; reads = reads_in x w.entries w refl h }
+    record {
+      entries = with_variables x w.entries;
+      index = x;
+      before = w.lines;
+      heard = w.messages;
+      reads = reads_in x w.entries w refl h;
+      writes = writes_in x w.entries w refl h;
+    }
 
 -- the same where it is alone
 reads_alone : (x : Option ℕ) (es : List Entry) (v : Variables) → entry_in (entries_in (varied v (entry_in es x))) (alone x) ≡ varied v (entry_in es x)
 reads_alone None es v = refl
 reads_alone (Some n) es v = refl
+
+writes_alone : (x : Option ℕ) (es : List Entry) (v u : Variables) → with_variables (alone x) (entries_in (varied v (entry_in es x))) u ≡ entries_in (varied u (entry_in es x))
+writes_alone None es v u = refl
+writes_alone (Some n) es v u = refl
 
 -- alone
 by_itself : (x : Option ℕ) (w : World) → Place (entry_in w.entries x)
@@ -38,6 +59,7 @@ by_itself x w =
       before = [];
       heard = [];
       reads = reads_alone x w.entries;
+      writes = writes_alone x w.entries;
     }
 
 -- an entry's variables
@@ -97,15 +119,15 @@ finish_eq : (a b : Finish) → a.world ≡ b.world → a.stopped ≡ b.stopped �
 finish_eq a b p q r t = λ j. record { world = p j; stopped = q j; cost = r j; calls = t j }
 
 -- a step depends on its input alone, and changes its own part alone
-pub step_local : (defs : List Definition) → DependsOnInput defs
-step_local defs x t w h =
+pub step_local : (p : Program) → DependsOnInput p
+step_local p x t w h =
     let e = entry_in w.entries x in
     let b = Then (Called t) End in
     let P = in_world x w h in
     let P' = by_itself x w in
-    let a = finished_alike e w.preamble P P' (eval defs b (embed e w.preamble P (start x w)) tick_limit) (eval defs b (embed e w.preamble P' (start x w)) tick_limit) (eval_alike e w.preamble P P' defs tick_limit b (start x w) tick_limit) in
-    let begins : step defs x t w ≡ finished (eval defs b (embed e w.preamble P (start x w)) tick_limit) = ap (λ v. finished (eval defs b v tick_limit)) (sym (start_in_world x w h)) in
-    let begins_alone : finished (eval defs b (embed e w.preamble P' (start x w)) tick_limit) ≡ step defs (alone x) t (cut x w) = ap (λ v. finished (eval defs b v tick_limit)) (start_alone x w) in
+    let a = finished_alike e w.preamble P P' (eval p b (embed e w.preamble P (start x w)) tick_limit) (eval p b (embed e w.preamble P' (start x w)) tick_limit) (eval_alike e w.preamble P P' p tick_limit b (start x w) tick_limit) in
+    let begins : step p x t w ≡ finished (eval p b (embed e w.preamble P (start x w)) tick_limit) = ap (λ v. finished (eval p b v tick_limit)) (sym (start_in_world x w h)) in
+    let begins_alone : finished (eval p b (embed e w.preamble P' (start x w)) tick_limit) ≡ step p (alone x) t (cut x w) = ap (λ v. finished (eval p b v tick_limit)) (start_alone x w) in
     begins ∙ finish_eq _ _ (a.here ∙ part_back x w h a.part ∙ ap (put_back x w) (sym a.there)) a.stopped a.cost a.calls ∙ ap (finish_back x w) begins_alone
 
 -- what is a step's own, where its entry stands alone
@@ -158,12 +180,12 @@ alone_same (Some n) None es es' q = cc
 alone_same (Some n) (Some n') es es' q = refl
 
 -- equal inputs give equal outcomes and costs
-pub same_input : (defs : List Definition) → SameInputSameOutcome defs
-same_input defs x x' t w w' h h' e =
+pub same_input : (p : Program) → SameInputSameOutcome p
+same_input p x x' t w w' h h' e =
     let a = alone_same x x' w.entries w'.entries (ap (λ (v : World). v.entries) e) in
-    ap (own x w) (step_local defs x t w h)
-    ∙ own_back x w (step defs (alone x) t (cut x w)) h
-    ∙ ap (λ i. own_alone (alone x) (step defs (alone x) t i)) e
-    ∙ ap (λ y. own_alone y (step defs y t (cut x' w'))) a
-    ∙ sym (own_back x' w' (step defs (alone x') t (cut x' w')) h')
-    ∙ sym (ap (own x' w') (step_local defs x' t w' h'))
+    ap (own x w) (step_local p x t w h)
+    ∙ own_back x w (step p (alone x) t (cut x w)) h
+    ∙ ap (λ i. own_alone (alone x) (step p (alone x) t i)) e
+    ∙ ap (λ y. own_alone y (step p y t (cut x' w'))) a
+    ∙ sym (own_back x' w' (step p (alone x') t (cut x' w')) h')
+    ∙ sym (ap (own x' w') (step_local p x' t w' h'))

@@ -1,25 +1,34 @@
--- An evaluation does the same at two places of an entry.
-use Rattle.std.proofs.Common.{◌≡◌, ℕ, zero, suc, ◌+◌, ◌-◌, Bool, true, false, List, [], ◌∷◌, ◌++◌, length, Option, Some, None, refl, sym, ap, subst, ◌∙◌, append_assoc}
-use Rattle.std.specs.Prelude.{pos, option_and_then, option_map, if◌then◌else◌, slice_index_or, nat_lt, nat_le}
-use Rattle.bt_machine.specs.declared.style.Builtin.{Builtin as Primitive}
-use Rattle.bt_machine.specs.declared.style.Builtin.TheVariants.{Cite, Newline, Skip, Write}
-use Rattle.bt_machine.specs.declared.style.Target.TheVariants.{Builtin, Field, EntryNumber, EntryText, GlobalNumber, GlobalText, Function}
-use Rattle.bt_machine.specs.declared.input.Variables.{Variables}
-use Rattle.bt_machine.specs.declared.input.Entry.{Entry}
-use Rattle.bt_machine.specs.declared.message.Message.{Message}
-use Rattle.bt_machine.specs.declared.complaint.Complaint.{Complaint}
-use Rattle.bt_machine.specs.declared.complaint.Complaint.TheVariants.{EmptyStack, WrongKind, NoEntry, LeftOver, TicksPassed, StackPassed, TextPassed}
-use Rattle.bt_machine.specs.Tree.{Element, Amount, Words, Quoted, Braced, Called, Body, End, Then}
-use Rattle.bt_machine.specs.Program.{Definition}
-use Rattle.bt_machine.specs.Builtins.{with_call}
-use Rattle.bt_machine.specs.Item.{Item, Num, Txt, Fun, Name, Block}
+-- An action does the same at two places of an entry.
+use Rattle.std.proofs.Common.{◌≡◌, ℕ, ◌+◌, Bool, true, false, ◌||◌, List, [], ◌∷◌, ◌++◌, length, Option, Some, None, refl, sym, ap, subst, ◌∙◌, append_assoc}
+use Rattle.std.specs.Prelude.{option_and_then, option_map, if◌then◌else◌, map, nat_lt, nat_le}
 use Rattle.bt_text.specs.declared.output.Output.{Output}
 use Rattle.bt_text.specs.Held.{written, line_ended}
-use Rattle.bt_machine.specs.Words.{message_of}
-use Rattle.bt_machine.specs.World.{World, Act, Goes, Stops, Ending, Done, Stopped, entry_in, told, say, with_stack, with_output}
-use Rattle.bt_machine.specs.Actions.{text_len, pushed, pushed_in_error, popped_from, popped, text_of, is_wrong, judged, taken, given, of_entry, field_at, number_at, text_at, appended_if, basic}
-use Rattle.bt_machine.specs.Eval.{Runner, then_go, acted, body_at, act, builtin_called, eval_within}
-use Rattle.bt_machine.specs.Step.{tick_limit, checked, rested, Finish, finished_at, finished}
+use Rattle.bt_style.specs.declared.builtin.Builtin.{Builtin as Primitive}
+use Rattle.bt_style.specs.declared.builtin.Builtin.TheVariants as builtin
+use Rattle.bt_style.specs.declared.style.Target.{Target}
+use Rattle.bt_style.specs.declared.style.Target.TheVariants.{Builtin, Field, EntryNumber, EntryText, GlobalNumber, GlobalText, Function}
+use Rattle.bt_style.specs.Program.{Program}
+use Rattle.bt_actions.specs.declared.entry.Variables.{Variables}
+use Rattle.bt_actions.specs.declared.entry.Entry.{Entry}
+use Rattle.bt_actions.specs.declared.message.Message.{Message}
+use Rattle.bt_actions.specs.declared.complaint.Complaint.{Complaint}
+use Rattle.bt_actions.specs.declared.complaint.Complaint.TheVariants.{EmptyStack, WrongKind, NoEntry, NotVariable, Warned, Shown, StackPassed, TextPassed}
+use Rattle.bt_actions.specs.Item.{Item, Txt}
+use Rattle.bt_actions.specs.Words.{message_of}
+use Rattle.bt_actions.specs.World.{World, Act, Goes, Stops, entry_in, entry_of, key_in, say, with_stack, with_output}
+use Rattle.bt_actions.specs.State.{text_len, pushed, pushed_in_error, popped_from, popped, appended}
+use Rattle.bt_actions.specs.Arguments.{number_of, text_of, field_text_of, target_of, any_of, is_wrong, judged, both, all_three, taken, taken_two, taken_three}
+use Rattle.bt_actions.specs.Given.{Given, Gives, Errs, answered, valued, zero_item, empty_item}
+use Rattle.bt_actions.specs.Numbers.{greater_of, less_of, sum_of, difference_of, byte_number, ascii_text, digits_text}
+use Rattle.bt_actions.specs.Comparing.{equality_of, emptiness_of, missing_of}
+use Rattle.bt_actions.specs.Texts.{join_of, period_of, case_of, purified_of, substring_given, prefix_of, length_of, width_given, quote}
+use Rattle.bt_actions.specs.Names.{names_counted, name_formatted}
+use Rattle.bt_actions.specs.Reading.{given, of_entry, key_item, kind_item}
+use Rattle.bt_actions.specs.Assigning.{with_number, with_text, with_globals, stored, own_changed, assigned}
+use Rattle.bt_actions.specs.Logging.{shown, log_value, log_stack, log_warning}
+use Rattle.bt_actions.specs.Stacking.{duplicated, swapped}
+use Rattle.bt_actions.specs.Actions.{done_with, goes_with, basic}
+use Rattle.bt_machine.specs.Place.{with_variables}
 
 -- what a step may change
 pub record Part : Type 0 where
@@ -42,7 +51,9 @@ pub record Place (e : Option Entry) : Type 0 where
   pub before : List (List ℕ)
   pub heard : List Message
   pub reads : (v : Variables) → entry_in (entries v) index ≡ varied v e
+  pub writes : (v u : Variables) → with_variables index (entries v) u ≡ entries u
 
+-- the world of a part at a place
 abbrev pub embed : (e : Option Entry) → List ℕ → Place e → Part → World
 embed e pre P s =
     record {
@@ -57,10 +68,37 @@ embed e pre P s =
       calls = s.calls;
     }
 
--- other variables leave the key
-key_varied : (v : Variables) (e : Option Entry) → option_map (λ (d : Entry). d.key) (varied v e) ≡ option_map (λ (d : Entry). d.key) e
+-- an entry's key
+abbrev key_of : Option Entry → Option (List ℕ)
+key_of e = option_map (λ (d : Entry). d.key) e
+
+-- other variables leave it
+key_varied : (v : Variables) (e : Option Entry) → key_of (varied v e) ≡ key_of e
 key_varied v None = refl
 key_varied v (Some d) = refl
+
+-- a world in which the entry at a place has other variables
+abbrev with_place : Option ℕ → Variables → World → World
+with_place x vs w = record w { entries = with_variables x w.entries vs }
+
+-- a change of the variables v of an entry, which stands at this place
+abbrev own_by : (Variables → Option Variables) → Option ℕ → Option Entry → Variables → World → World
+own_by change x None v w = say NoEntry w
+own_by change x (Some d) v w = stored (with_place x) (change v) w
+
+-- the variables of an entry that was read
+variables_of : (a d : Entry) (v : Variables) → Some a ≡ Some (record d { variables = v }) → a.variables ≡ v
+variables_of a d v h = ap (own_variables d) h
+  where
+    own_variables : Entry → Option Entry → Variables
+    own_variables d None = d.variables
+    own_variables d (Some b) = b.variables
+
+own_read : (change : Variables → Option Variables) (x : Option ℕ) (e : Option Entry) (w : World) (v : Variables) → entry_in w.entries x ≡ varied v e → own_changed change x w ≡ own_by change x e v w
+own_read change None None w v h = refl
+own_read change None (Some d) w v h = cc
+own_read change (Some n) None w v h = cc
+own_read change (Some n) (Some d) w v h = ap (λ vs. stored (with_place (Some n)) (change vs) w) (variables_of _ d v h)
 
 module _ (e : Option Entry) (pre : List ℕ) (P P' : Place e) where
   -- worlds of one part at the two places
@@ -74,35 +112,40 @@ module _ (e : Option Entry) (pre : List ℕ) (P P' : Place e) where
   ActsAlike (Stops w) (Goes w') = ⊥
   ActsAlike (Stops w) (Stops w') = WorldsAlike w w'
 
-  -- evaluations that leave such worlds and equal ticks
-  abbrev pub EndingsAlike : Ending → Ending → Type 0
-  EndingsAlike (Done w k) (Done w' k') = WorldsAlike w w' × (k ≡ k')
-  EndingsAlike (Done w k) (Stopped w' k') = ⊥
-  EndingsAlike (Stopped w k) (Done w' k') = ⊥
-  EndingsAlike (Stopped w k) (Stopped w' k') = WorldsAlike w w' × (k ≡ k')
-
   -- equal values and such worlds
   abbrev pub PairsAlike : {A : Type 0} → A × World → A × World → Type 0
-  PairsAlike p p' = (p.0 ≡ p'.0) × WorldsAlike p.1 p'.1
+  PairsAlike q q' = (q.0 ≡ q'.0) × WorldsAlike q.1 q'.1
 
   -- one part
-  same_part : (s : Part) → WorldsAlike (embed e pre P s) (embed e pre P' s)
+  pub same_part : (s : Part) → WorldsAlike (embed e pre P s) (embed e pre P' s)
   same_part s = (s, refl, refl)
 
   -- what holds of each part holds of worlds alike
-  on_alike : (Q : World → World → Type 0) (w w' : World) → WorldsAlike w w' → ((s : Part) → Q (embed e pre P s) (embed e pre P' s)) → Q w w'
+  pub on_alike : (Q : World → World → Type 0) (w w' : World) → WorldsAlike w w' → ((s : Part) → Q (embed e pre P s) (embed e pre P' s)) → Q w w'
   on_alike Q w w' h f = subst (λ v. Q v w') (sym h.1) (subst (λ v. Q (embed e pre P h.0) v) (sym h.2) (f h.0))
 
-  -- a complaint is told
-  say_alike : (m : Complaint) (s : Part) → WorldsAlike (say m (embed e pre P s)) (say m (embed e pre P' s))
-  say_alike m s =
-      (record s { said = s.said ++ message_of (option_map (λ (d : Entry). d.key) e) m ∷ [] }, said P, said P')
+  -- and of equal values with such worlds
+  pub on_pairs : {A B : Type 0} (Q : B → B → Type 0) (F : A × World → B) (q q' : A × World) → PairsAlike q q' → ((a : A) (s : Part) → Q (F (a, embed e pre P s)) (F (a, embed e pre P' s))) → Q (F q) (F q')
+  on_pairs Q F q q' h f =
+      subst (λ a. Q (F q) (F (a, q'.1))) h.0 (on_alike (λ w w'. Q (F (q.0, w)) (F (q.0, w'))) q.1 q'.1 h.1 (f q.0))
+
+  -- the key of the step's entry
+  key_at : (R : Place e) (s : Part) → key_in (R.entries s.variables) R.index ≡ key_of e
+  key_at R s = ap key_of (R.reads s.variables) ∙ key_varied s.variables e
+
+  -- messages are told, and then the stack is another one
+  told_alike : (ms : Option (List ℕ) → List Message) (vs : List Item) (s : Part) → WorldsAlike (record (embed e pre P s) { messages = (P.heard ++ s.said) ++ ms (key_in (P.entries s.variables) P.index); stack = vs }) (record (embed e pre P' s) { messages = (P'.heard ++ s.said) ++ ms (key_in (P'.entries s.variables) P'.index); stack = vs })
+  told_alike ms vs s =
+      (record s { said = s.said ++ ms (key_of e); stack = vs }, at P, at P')
     where
-      said : (R : Place e) → say m (embed e pre R s) ≡ embed e pre R (record s { said = s.said ++ message_of (option_map (λ (d : Entry). d.key) e) m ∷ [] })
-      said R =
-          ap (λ ms. record (embed e pre R s) { messages = ms }) (append_assoc R.heard s.said (told (embed e pre R s) m ∷ []))
-          ∙ ap (λ (o : Option Entry). record (embed e pre R s) { messages = R.heard ++ (s.said ++ message_of (option_map (λ (d : Entry). d.key) o) m ∷ []) }) (R.reads s.variables)
-          ∙ ap (λ o. record (embed e pre R s) { messages = R.heard ++ (s.said ++ message_of o m ∷ []) }) (key_varied s.variables e)
+      at : (R : Place e) → record (embed e pre R s) { messages = (R.heard ++ s.said) ++ ms (key_in (R.entries s.variables) R.index); stack = vs } ≡ embed e pre R (record s { said = s.said ++ ms (key_of e); stack = vs })
+      at R =
+          ap (λ key. record (embed e pre R s) { messages = (R.heard ++ s.said) ++ ms key; stack = vs }) (key_at R s)
+          ∙ ap (λ ms. record (embed e pre R s) { messages = ms; stack = vs }) (append_assoc R.heard s.said (ms (key_of e)))
+
+  -- a complaint is told
+  pub say_alike : (m : Complaint) (s : Part) → WorldsAlike (say m (embed e pre P s)) (say m (embed e pre P' s))
+  say_alike m s = told_alike (λ key. message_of key m ∷ []) s.stack s
 
   -- a test
   if_alike : (b : Bool) (a a' c c' : Act) → ActsAlike a a' → ActsAlike c c' → ActsAlike (if b then a else c) (if b then a' else c')
@@ -110,7 +153,7 @@ module _ (e : Option Entry) (pre : List ℕ) (P P' : Place e) where
   if_alike false a a' c c' h i = i
 
   -- a value is pushed
-  pushed_alike : (v : Item) (s : Part) → ActsAlike (pushed v (embed e pre P s)) (pushed v (embed e pre P' s))
+  pub pushed_alike : (v : Item) (s : Part) → ActsAlike (pushed v (embed e pre P s)) (pushed v (embed e pre P' s))
   pushed_alike v s =
       let on = λ (R : Place e). Goes (with_stack (v ∷ s.stack) (embed e pre R s)) in
       let long = λ (R : Place e). Stops (say TextPassed (embed e pre R s)) in
@@ -128,47 +171,116 @@ module _ (e : Option Entry) (pre : List ℕ) (P P' : Place e) where
   in_error_alike m v s =
       if_alike (nat_lt (length s.stack) 1000) (pushed v (say m (embed e pre P s))) (pushed v (say m (embed e pre P' s))) (Stops (say StackPassed (embed e pre P s))) (Stops (say StackPassed (embed e pre P' s))) (pushed_by v _ _ (say_alike m s)) (say_alike StackPassed s)
 
-  -- a value is popped
+  -- arguments are taken
+
   popped_by : (vs : List Item) (s : Part) → PairsAlike (popped_from vs (embed e pre P s)) (popped_from vs (embed e pre P' s))
   popped_by [] s = (refl, say_alike EmptyStack s)
   popped_by (v ∷ vs) s = (refl, same_part (record s { stack = vs }))
 
-  -- the same at worlds alike
   popped_alike : (w w' : World) → WorldsAlike w w' → PairsAlike (popped w) (popped w')
   popped_alike w w' h = on_alike (λ w w'. PairsAlike (popped w) (popped w')) w w' h (λ s. popped_by s.stack s)
 
-  -- an error of a wrong kind
   judged_at : (b : Primitive) (wrong : Bool) (s : Part) → WorldsAlike (judged b wrong (embed e pre P s)) (judged b wrong (embed e pre P' s))
   judged_at b true s = say_alike (WrongKind b) s
   judged_at b false s = same_part s
 
-  -- the same at worlds alike
   judged_alike : (b : Primitive) (wrong wrong' : Bool) (w w' : World) → wrong ≡ wrong' → WorldsAlike w w' → WorldsAlike (judged b wrong w) (judged b wrong' w')
   judged_alike b wrong wrong' w w' q h =
       subst (λ c. WorldsAlike (judged b wrong w) (judged b c w')) q (on_alike (λ w w'. WorldsAlike (judged b wrong w) (judged b wrong w')) w w' h (judged_at b wrong))
 
-  -- an argument is taken
-  taken_alike : {A : Type 0} (b : Primitive) (kind : Item → Option A) (w w' : World) → WorldsAlike w w' → PairsAlike (taken b kind w) (taken b kind w')
-  taken_alike b kind w w' h =
-      let p = popped_alike w w' h in
-      (ap (option_and_then kind) p.0, judged_alike b (is_wrong kind (popped w).0) (is_wrong kind (popped w').0) (popped w).1 (popped w').1 (ap (is_wrong kind) p.0) p.1)
+  pub taken_alike : {A : Type 0} (b : Primitive) (kind : Item → Option A) (s : Part) → PairsAlike (taken b kind (embed e pre P s)) (taken b kind (embed e pre P' s))
+  taken_alike b kind s =
+      let h = popped_alike _ _ (same_part s) in
+      (ap (option_and_then kind) h.0, judged_alike b _ _ _ _ (ap (is_wrong kind) h.0) h.1)
 
-  -- an action on what was taken
-  by_pair : {A : Type 0} (F : A × World → Act) (p p' : A × World) → PairsAlike p p' → ((o : A) (s : Part) → ActsAlike (F (o, embed e pre P s)) (F (o, embed e pre P' s))) → ActsAlike (F p) (F p')
-  by_pair F p p' h f =
-      subst (λ o. ActsAlike (F p) (F (o, p'.1))) h.0 (on_alike (λ w w'. ActsAlike (F (p.0, w)) (F (p.0, w'))) p.1 p'.1 h.1 (f p.0))
+  pub taken_two_alike : {A B : Type 0} (b : Primitive) (lower : Item → Option A) (upper : Item → Option B) (s : Part) → PairsAlike (taken_two b lower upper (embed e pre P s)) (taken_two b lower upper (embed e pre P' s))
+  taken_two_alike b lower upper s =
+      let h = popped_alike _ _ (same_part s) in
+      let i = popped_alike _ _ h.1 in
+      (λ d. both (option_and_then lower (i.0 d)) (option_and_then upper (h.0 d)), judged_alike b _ _ _ _ (λ d. is_wrong upper (h.0 d) || is_wrong lower (i.0 d)) i.1)
 
-  -- what an entry gives
+  pub taken_three_alike : {A B C : Type 0} (b : Primitive) (lower : Item → Option A) (middle : Item → Option B) (upper : Item → Option C) (s : Part) → PairsAlike (taken_three b lower middle upper (embed e pre P s)) (taken_three b lower middle upper (embed e pre P' s))
+  taken_three_alike b lower middle upper s =
+      let h = popped_alike _ _ (same_part s) in
+      let i = popped_alike _ _ h.1 in
+      let j = popped_alike _ _ i.1 in
+      (λ d. all_three (option_and_then lower (j.0 d)) (option_and_then middle (i.0 d)) (option_and_then upper (h.0 d)), judged_alike b _ _ _ _ (λ d. is_wrong upper (h.0 d) || is_wrong middle (i.0 d) || is_wrong lower (j.0 d)) j.1)
+
+  -- functions of their arguments
+
+  answered_alike : (g : Given) (s : Part) → ActsAlike (answered g (embed e pre P s)) (answered g (embed e pre P' s))
+  answered_alike (Gives v) s = pushed_alike v s
+  answered_alike (Errs m v) s = in_error_alike m v s
+
+  valued_alike : {A : Type 0} (f : A → Given) (default : Item) (o : Option A) (s : Part) → ActsAlike (valued f default (o, embed e pre P s)) (valued f default (o, embed e pre P' s))
+  valued_alike f default None s = pushed_alike default s
+  valued_alike f default (Some a) s = answered_alike (f a) s
+
+  one_alike : {A : Type 0} (b : Primitive) (kind : Item → Option A) (f : A → Given) (default : Item) (s : Part) → ActsAlike (valued f default (taken b kind (embed e pre P s))) (valued f default (taken b kind (embed e pre P' s)))
+  one_alike b kind f default s = on_pairs ActsAlike (valued f default) _ _ (taken_alike b kind s) (valued_alike f default)
+
+  two_alike : {A B : Type 0} (b : Primitive) (lower : Item → Option A) (upper : Item → Option B) (f : A × B → Given) (default : Item) (s : Part) → ActsAlike (valued f default (taken_two b lower upper (embed e pre P s))) (valued f default (taken_two b lower upper (embed e pre P' s)))
+  two_alike b lower upper f default s =
+      on_pairs ActsAlike (valued f default) _ _ (taken_two_alike b lower upper s) (valued_alike f default)
+
+  three_alike : {A B C : Type 0} (b : Primitive) (lower : Item → Option A) (middle : Item → Option B) (upper : Item → Option C) (f : A × B × C → Given) (default : Item) (s : Part) → ActsAlike (valued f default (taken_three b lower middle upper (embed e pre P s))) (valued f default (taken_three b lower middle upper (embed e pre P' s)))
+  three_alike b lower middle upper f default s =
+      on_pairs ActsAlike (valued f default) _ _ (taken_three_alike b lower middle upper s) (valued_alike f default)
+
+  -- what the step's entry gives
+
   given_alike : (value : Entry → Item) (default : Item) (o : Option Entry) (s : Part) → ActsAlike (given value default o (embed e pre P s)) (given value default o (embed e pre P' s))
   given_alike value default None s = in_error_alike NoEntry default s
   given_alike value default (Some d) s = pushed_alike (value d) s
 
-  -- what the step's entry gives
-  of_entry_alike : (value : Entry → Item) (default : Item) (s : Part) → ActsAlike (of_entry value default (embed e pre P s)) (of_entry value default (embed e pre P' s))
+  -- the entry is the same at both places
+  pub by_entry : {B : Type 0} (Q : B → B → Type 0) (F : Option Entry → World → B) (s : Part) → ((o : Option Entry) → Q (F o (embed e pre P s)) (F o (embed e pre P' s))) → Q (F (entry_of (embed e pre P s)) (embed e pre P s)) (F (entry_of (embed e pre P' s)) (embed e pre P' s))
+  by_entry Q F s f =
+      subst (λ o. Q (F o (embed e pre P s)) (F (entry_of (embed e pre P' s)) (embed e pre P' s))) (sym (P.reads s.variables)) (subst (λ o. Q (F (varied s.variables e) (embed e pre P s)) (F o (embed e pre P' s))) (sym (P'.reads s.variables)) (f (varied s.variables e)))
+
+  pub of_entry_alike : (value : Entry → Item) (default : Item) (s : Part) → ActsAlike (of_entry value default (embed e pre P s)) (of_entry value default (embed e pre P' s))
   of_entry_alike value default s =
-      subst (λ o. ActsAlike (given value default o (embed e pre P s)) (of_entry value default (embed e pre P' s))) (sym (P.reads s.variables)) (subst (λ o. ActsAlike (given value default (varied s.variables e) (embed e pre P s)) (given value default o (embed e pre P' s))) (sym (P'.reads s.variables)) (given_alike value default (varied s.variables e) s))
+      by_entry ActsAlike (given value default) s (λ o. given_alike value default o s)
+
+  -- variables get values
+
+  stored_alike : (o : Option Variables) (s : Part) → WorldsAlike (stored (with_place P.index) o (embed e pre P s)) (stored (with_place P'.index) o (embed e pre P' s))
+  stored_alike None s = say_alike (WrongKind builtin.Assign) s
+  stored_alike (Some vs) s =
+      (record s { variables = vs }, at P, at P')
+    where
+      at : (R : Place e) → with_place R.index vs (embed e pre R s) ≡ embed e pre R (record s { variables = vs })
+      at R = ap (λ es. record (embed e pre R s) { entries = es }) (R.writes s.variables vs)
+
+  own_by_alike : (change : Variables → Option Variables) (o : Option Entry) (s : Part) → WorldsAlike (own_by change P.index o s.variables (embed e pre P s)) (own_by change P'.index o s.variables (embed e pre P' s))
+  own_by_alike change None s = say_alike NoEntry s
+  own_by_alike change (Some d) s = stored_alike (change s.variables) s
+
+  own_changed_alike : (change : Variables → Option Variables) (s : Part) → WorldsAlike (own_changed change P.index (embed e pre P s)) (own_changed change P'.index (embed e pre P' s))
+  own_changed_alike change s =
+      let read = λ (R : Place e). own_read change R.index e (embed e pre R s) s.variables (R.reads s.variables) in
+      subst (λ w. WorldsAlike w (own_changed change P'.index (embed e pre P' s))) (sym (read P)) (subst (λ w. WorldsAlike (own_by change P.index e s.variables (embed e pre P s)) w) (sym (read P')) (own_by_alike change e s))
+
+  globals_alike : (o : Option Variables) (s : Part) → WorldsAlike (stored with_globals o (embed e pre P s)) (stored with_globals o (embed e pre P' s))
+  globals_alike None s = say_alike (WrongKind builtin.Assign) s
+  globals_alike (Some vs) s = same_part (record s { globals = vs })
+
+  assigned_alike : (a : Item × Target) (s : Part) → WorldsAlike (assigned a (embed e pre P s)) (assigned a (embed e pre P' s))
+  assigned_alike (v, Builtin b) s = say_alike NotVariable s
+  assigned_alike (v, Field n) s = say_alike NotVariable s
+  assigned_alike (v, EntryNumber n) s = own_changed_alike (with_number n v) s
+  assigned_alike (v, EntryText n) s = own_changed_alike (with_text n v) s
+  assigned_alike (v, GlobalNumber n) s = globals_alike (with_number n v s.globals) s
+  assigned_alike (v, GlobalText n) s = globals_alike (with_text n v s.globals) s
+  assigned_alike (v, Function n) s = say_alike NotVariable s
+
+  -- actions where the run goes on
+  goes_alike : {A : Type 0} (f : A → World → World) → ((a : A) (s : Part) → WorldsAlike (f a (embed e pre P s)) (f a (embed e pre P' s))) → (o : Option A) (s : Part) → ActsAlike (goes_with f (o, embed e pre P s)) (goes_with f (o, embed e pre P' s))
+  goes_alike f h None s = same_part s
+  goes_alike f h (Some a) s = h a s
 
   -- lines are written
+
   output_alike : (o : Output) (s : Part) → WorldsAlike (with_output o (embed e pre P s)) (with_output o (embed e pre P' s))
   output_alike o s =
       (record s { out = s.out ++ o.lines; held = o.held }, put P, put P')
@@ -176,103 +288,65 @@ module _ (e : Option Entry) (pre : List ℕ) (P P' : Place e) where
       put : (R : Place e) → with_output o (embed e pre R s) ≡ embed e pre R (record s { out = s.out ++ o.lines; held = o.held })
       put R = ap (λ ls. record (embed e pre R s) { lines = ls; held = o.held }) (append_assoc R.before s.out o.lines)
 
-  -- a text that was taken is written
-  appended_if_alike : (o : Option (List ℕ)) (s : Part) → ActsAlike (appended_if (o, embed e pre P s)) (appended_if (o, embed e pre P' s))
-  appended_if_alike None s = same_part s
-  appended_if_alike (Some t) s =
+  appended_alike : (o : Option (List ℕ)) (s : Part) → ActsAlike (done_with appended (o, embed e pre P s)) (done_with appended (o, embed e pre P' s))
+  appended_alike None s = same_part s
+  appended_alike (Some t) s =
       if_alike (nat_le (length s.held + length t) 65536) (Goes (with_output (written s.held t) (embed e pre P s))) (Goes (with_output (written s.held t) (embed e pre P' s))) (Stops (say TextPassed (embed e pre P s))) (Stops (say TextPassed (embed e pre P' s))) (output_alike (written s.held t) s) (say_alike TextPassed s)
 
-  -- a built-in function
-  basic_alike : (b : Primitive) (s : Part) → ActsAlike (basic b (embed e pre P s)) (basic b (embed e pre P' s))
-  basic_alike Cite s = of_entry_alike (λ d. Txt d.key) (Txt []) s
-  basic_alike Newline s = output_alike (line_ended s.held) s
-  basic_alike Skip s = same_part s
-  basic_alike Write s = by_pair appended_if (taken Write text_of (embed e pre P s)) (taken Write text_of (embed e pre P' s)) (taken_alike Write text_of _ _ (same_part s)) appended_if_alike
+  -- the functions of the stack alone
 
-  -- an action
-  acted_alike : (a a' : Act) (k : ℕ) → ActsAlike a a' → EndingsAlike (acted a k) (acted a' k)
-  acted_alike (Goes w) (Goes w') k h = (h, refl)
-  acted_alike (Goes w) (Stops w') k h = elim h [ ]
-  acted_alike (Stops w) (Goes w') k h = elim h [ ]
-  acted_alike (Stops w) (Stops w') k h = (h, refl)
+  duplicated_alike : (vs : List Item) (s : Part) → ActsAlike (duplicated vs (embed e pre P s)) (duplicated vs (embed e pre P' s))
+  duplicated_alike [] s = say_alike EmptyStack s
+  duplicated_alike (v ∷ vs) s = pushed_alike v s
 
-  -- the same from every part
-  abbrev pub GoAlike : (World → ℕ → Ending) → Type 0
-  GoAlike go = (s : Part) (k : ℕ) → EndingsAlike (go (embed e pre P s) k) (go (embed e pre P' s) k)
+  swapped_alike : (vs : List Item) (s : Part) → WorldsAlike (swapped vs (embed e pre P s)) (swapped vs (embed e pre P' s))
+  swapped_alike [] s = say_alike EmptyStack s
+  swapped_alike (v ∷ []) s = say_alike EmptyStack s
+  swapped_alike (v ∷ u ∷ vs) s = same_part (record s { stack = u ∷ v ∷ vs })
 
-  -- the same at worlds alike
-  go_at : (go : World → ℕ → Ending) (w w' : World) (k : ℕ) → GoAlike go → WorldsAlike w w' → EndingsAlike (go w k) (go w' k)
-  go_at go w w' k f h = on_alike (λ w w'. EndingsAlike (go w k) (go w' k)) w w' h (λ s. f s k)
+  log_stack_alike : (p : Program) (s : Part) → WorldsAlike (log_stack p (embed e pre P s)) (log_stack p (embed e pre P' s))
+  log_stack_alike p s = told_alike (λ key. map (λ v. message_of key (Shown (shown p v))) s.stack) [] s
 
-  -- two runs, one after the other
-  then_alike : (o o' : Ending) (go : World → ℕ → Ending) → EndingsAlike o o' → GoAlike go → EndingsAlike (then_go o go) (then_go o' go)
-  then_alike (Done w k) (Done w' k') go h f = subst (λ j. EndingsAlike (go w k) (go w' j)) h.1 (go_at go w w' k f h.0)
-  then_alike (Done w k) (Stopped w' k') go h f = elim h [ ]
-  then_alike (Stopped w k) (Done w' k') go h f = elim h [ ]
-  then_alike (Stopped w k) (Stopped w' k') go h f = h
-
-  module _ (defs : List Definition) (run : Runner) (f : (b : Body) → GoAlike (run b)) where
-    -- a value is pushed, in an evaluation
-    pushed_at : (v : Item) (s : Part) (k : ℕ) → EndingsAlike (acted (pushed v (embed e pre P s)) k) (acted (pushed v (embed e pre P' s)) k)
-    pushed_at v s k = acted_alike (pushed v (embed e pre P s)) (pushed v (embed e pre P' s)) k (pushed_alike v s)
-
-    -- what the step's entry gives, in an evaluation
-    of_entry_at : (value : Entry → Item) (default : Item) (s : Part) (k : ℕ) → EndingsAlike (acted (of_entry value default (embed e pre P s)) k) (acted (of_entry value default (embed e pre P' s)) k)
-    of_entry_at value default s k = acted_alike (of_entry value default (embed e pre P s)) (of_entry value default (embed e pre P' s)) k (of_entry_alike value default s)
-
-    -- an element, where what it runs is alike
-    act_alike : (d : Element) → GoAlike (act defs run d)
-    act_alike (Amount n) s k = pushed_at (Num n) s k
-    act_alike (Words t) s k = pushed_at (Txt t) s k
-    act_alike (Quoted t) s k = pushed_at (Fun (Name t)) s k
-    act_alike (Braced b) s k = pushed_at (Fun (Block b)) s k
-    act_alike (Called (Builtin b)) s k = acted_alike (basic b (embed e pre P s)) (basic b (embed e pre P' s)) k (basic_alike b s)
-    act_alike (Called (Field n)) s k = of_entry_at (field_at n) (Txt []) s k
-    act_alike (Called (EntryNumber n)) s k = of_entry_at (number_at n) (Num (pos 0)) s k
-    act_alike (Called (EntryText n)) s k = of_entry_at (text_at n) (Txt []) s k
-    act_alike (Called (GlobalNumber n)) s k = pushed_at (Num (slice_index_or s.globals.numbers n (pos 0))) s k
-    act_alike (Called (GlobalText n)) s k = pushed_at (Txt (slice_index_or s.globals.texts n [])) s k
-    act_alike (Called (Function n)) s k = f (body_at defs n) s k
-
-  -- a body
-  pub eval_alike : (defs : List Definition) (deep : ℕ) (b : Body) → GoAlike (eval_within defs deep b)
-  unfolding eval_within
-  eval_alike defs deep End s k = (same_part s, refl)
-  eval_alike defs deep (Then d rest) s zero = (say_alike TicksPassed s, refl)
-  eval_alike defs zero (Then d rest) s (suc k) = (same_part s, refl)
-  eval_alike defs (suc deep) (Then d rest) s (suc k) =
-      then_alike _ _ (eval_within defs deep rest) (act_alike defs (eval_within defs deep) (eval_alike defs deep) d (record s { calls = with_call (builtin_called d) s.calls }) k) (eval_alike defs deep rest)
-
-  -- the stack is looked at
-  checked_alike : (vs : List Item) (s : Part) → WorldsAlike (checked vs (embed e pre P s)) (checked vs (embed e pre P' s))
-  checked_alike [] s = same_part s
-  checked_alike (v ∷ vs) s = say_alike LeftOver s
-
-  -- a step leaves the same part at both places
-  pub record FinishesAlike (a a' : Finish) : Type 0 where
-    pub part : Part
-    pub here : a.world ≡ rested (embed e pre P part)
-    pub there : a'.world ≡ rested (embed e pre P' part)
-    pub stopped : a.stopped ≡ a'.stopped
-    pub cost : a.cost ≡ a'.cost
-    pub calls : a.calls ≡ a'.calls
-
-  -- a run's end
-  finished_at_alike : (w w' : World) (b : Bool) (k k' : ℕ) → WorldsAlike w w' → k ≡ k' → FinishesAlike (finished_at w b k) (finished_at w' b k')
-  finished_at_alike w w' b k k' h q =
-      record {
-        part = h.0;
-        here = ap rested h.1;
-        there = ap rested h.2;
-        stopped = refl;
-        cost = ap (λ j. tick_limit - j) q;
-        calls = ap (λ (v : World). v.calls) h.1 ∙ sym (ap (λ (v : World). v.calls) h.2);
-      }
-
-  -- an evaluation's end
-  pub finished_alike : (o o' : Ending) → EndingsAlike o o' → FinishesAlike (finished o) (finished o')
-  finished_alike (Done w k) (Done w' k') h =
-      finished_at_alike _ _ false k k' (on_alike (λ w w'. WorldsAlike (checked w.stack w) (checked w'.stack w')) w w' h.0 (λ s. checked_alike s.stack s)) h.1
-  finished_alike (Done w k) (Stopped w' k') h = elim h [ ]
-  finished_alike (Stopped w k) (Done w' k') h = elim h [ ]
-  finished_alike (Stopped w k) (Stopped w' k') h = finished_at_alike w w' true k k' h.0 h.1
+  -- a built-in function that runs no other
+  pub basic_alike : (p : Program) (b : Primitive) (s : Part) → ActsAlike (basic p b (embed e pre P s)) (basic p b (embed e pre P' s))
+  basic_alike p builtin.Greater s = two_alike builtin.Greater number_of number_of greater_of zero_item s
+  basic_alike p builtin.Less s = two_alike builtin.Less number_of number_of less_of zero_item s
+  basic_alike p builtin.Equals s = two_alike builtin.Equals any_of any_of equality_of zero_item s
+  basic_alike p builtin.Plus s = two_alike builtin.Plus number_of number_of sum_of zero_item s
+  basic_alike p builtin.Minus s = two_alike builtin.Minus number_of number_of difference_of zero_item s
+  basic_alike p builtin.Join s = two_alike builtin.Join text_of text_of join_of empty_item s
+  basic_alike p builtin.Assign s =
+      on_pairs ActsAlike (goes_with assigned) _ _ (taken_two_alike builtin.Assign any_of target_of s) (goes_alike assigned assigned_alike)
+  basic_alike p builtin.AddPeriod s = one_alike builtin.AddPeriod text_of period_of empty_item s
+  basic_alike p builtin.CallType s = same_part s
+  basic_alike p builtin.ChangeCase s = two_alike builtin.ChangeCase text_of text_of case_of empty_item s
+  basic_alike p builtin.ChrToInt s = one_alike builtin.ChrToInt text_of byte_number zero_item s
+  basic_alike p builtin.Cite s = of_entry_alike key_item empty_item s
+  basic_alike p builtin.Duplicate s = duplicated_alike s.stack s
+  basic_alike p builtin.Empty s = one_alike builtin.Empty field_text_of emptiness_of zero_item s
+  basic_alike p builtin.FormatName s = three_alike builtin.FormatName text_of number_of text_of name_formatted empty_item s
+  basic_alike p builtin.If s = same_part s
+  basic_alike p builtin.IntToChr s = one_alike builtin.IntToChr number_of ascii_text empty_item s
+  basic_alike p builtin.IntToStr s = one_alike builtin.IntToStr number_of digits_text empty_item s
+  basic_alike p builtin.Missing s = one_alike builtin.Missing field_text_of missing_of zero_item s
+  basic_alike p builtin.Newline s = output_alike (line_ended s.held) s
+  basic_alike p builtin.NumNames s = one_alike builtin.NumNames text_of names_counted zero_item s
+  basic_alike p builtin.Pop s = (popped_by s.stack s).1
+  basic_alike p builtin.Preamble s = pushed_alike (Txt pre) s
+  basic_alike p builtin.Purify s = one_alike builtin.Purify text_of purified_of empty_item s
+  basic_alike p builtin.Quote s = pushed_alike (Txt quote) s
+  basic_alike p builtin.Skip s = same_part s
+  basic_alike p builtin.Stack s = log_stack_alike p s
+  basic_alike p builtin.Substring s =
+      three_alike builtin.Substring text_of number_of number_of substring_given empty_item s
+  basic_alike p builtin.Swap s = swapped_alike s.stack s
+  basic_alike p builtin.TextLength s = one_alike builtin.TextLength text_of length_of zero_item s
+  basic_alike p builtin.TextPrefix s = two_alike builtin.TextPrefix text_of number_of prefix_of empty_item s
+  basic_alike p builtin.Top s =
+      on_pairs ActsAlike (goes_with (log_value p)) _ _ (taken_alike builtin.Top any_of s) (goes_alike (log_value p) (λ v s. say_alike (Shown (shown p v)) s))
+  basic_alike p builtin.Type s = of_entry_alike kind_item empty_item s
+  basic_alike p builtin.Warning s =
+      on_pairs ActsAlike (goes_with log_warning) _ _ (taken_alike builtin.Warning text_of s) (goes_alike log_warning (λ t s. say_alike (Warned t) s))
+  basic_alike p builtin.While s = same_part s
+  basic_alike p builtin.Width s = one_alike builtin.Width text_of width_given zero_item s
+  basic_alike p builtin.Write s = on_pairs ActsAlike (done_with appended) _ _ (taken_alike builtin.Write text_of s) appended_alike

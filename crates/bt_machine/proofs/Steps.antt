@@ -1,38 +1,50 @@
--- What is left to run on the control stack leads to.
-use Rattle.std.proofs.Common.{◌≡◌, ℕ, suc, ◌+◌, ◌≤◌, List, [], ◌∷◌, length, refl, sym, ap, subst, ◌∙◌, arith}
-use Rattle.std.specs.Prelude.{Option, Vec}
-use Rattle.std.specs.declared.alloc.Global.{Global}
+-- What is left to do on the control stack leads to.
+use Rattle.std.proofs.Common.{◌≡◌, ◌≢◌, ℕ, zero, suc, ◌+◌, ◌≤◌, List, [], ◌∷◌, length, Option, Some, refl, sym, ap, subst, ◌∙◌, arith}
+use Rattle.std.specs.Prelude.{ℤ, pos, negsuc, ◌<ℤ◌}
 use Rattle.std.proofs.lemmas.List.{get_or_past, length-map}
-use Rattle.bt_machine.specs.declared.style.Op.{Op, Row_of-Op, end_of-Op, more_of-Op, items-the_row-Op, items_hidden-the_row-Op-0}
-use Rattle.bt_machine.specs.declared.style.Op.TheVariants.{Block as OpBlock}
-use Rattle.bt_machine.specs.declared.style.Op.TheBlock.{hidden-the_row-Op-0}
-use Rattle.bt_machine.specs.declared.style.Function.{Function}
-use Rattle.bt_machine.specs.declared.style.Target.{Target}
-use Rattle.bt_machine.specs.declared.state.Flow.{Flow}
-use Rattle.bt_machine.specs.declared.state.Flow.TheVariants.{Go, Stop}
-use Rattle.bt_machine.specs.declared.complaint.Complaint.TheVariants.{TicksPassed}
-use Rattle.bt_machine.specs.Tree.{Element, Braced, Called, Body, End, Then, element_of, row_body, ops_body}
-use Rattle.bt_machine.specs.Program.{Definition, definitions_of, definition_of}
-use Rattle.bt_machine.specs.Item.{Code, Name, Block}
-use Rattle.bt_machine.specs.World.{World, Ending, Done, Stopped, say}
-use Rattle.bt_machine.specs.Eval.{then_go, body_at, no_definition, act, called, counted, eval}
+use Rattle.bt_style.specs.declared.builtin.Builtin.{Builtin as Primitive}
+use Rattle.bt_style.specs.declared.builtin.Builtin.TheVariants.{CallType, If, While}
+use Rattle.bt_style.specs.declared.style.Function.{Function}
+use Rattle.bt_style.specs.declared.style.Op.{Op}
+use Rattle.bt_style.specs.declared.style.Target.{Target}
+use Rattle.bt_style.specs.Tree.{Element, Called, Body, End, Then, element_of, ops_body}
+use Rattle.bt_style.specs.Program.{Definition, Program, definitions_of, definition_of}
+use Rattle.bt_actions.specs.declared.state.Flow.{Flow}
+use Rattle.bt_actions.specs.declared.state.Flow.TheVariants.{Go, Stop}
+use Rattle.bt_actions.specs.declared.complaint.Complaint.TheVariants.{TicksPassed}
+use Rattle.bt_actions.specs.Item.{Code, Name, Block}
+use Rattle.bt_actions.specs.World.{World, Act, say}
+use Rattle.bt_actions.specs.Arguments.{number_of, taken}
+use Rattle.bt_actions.specs.Actions.{basic}
+use Rattle.bt_actions.specs.View.{act_of}
+use Rattle.bt_machine.specs.Eval.{Ending, Done, Stopped, Runner, then_go, acted, code_body, body_at, no_definition, turn, looped, built_in, act, called, counted, eval}
 use Rattle.bt_machine.specs.Step.{tick_limit, begun, finished_at, finished, step}
-use Rattle.bt_machine.specs.Control.{left, load, LeadsTo, is_stop, checked_at, ended}
-use Rattle.bt_machine.proofs.Equations.{eval-end, eval-no_tick, eval-then}
-
--- the elements of a row, as a body
-row_items : {m : _} (r : Row_of-Op m) → row_body r ≡ ops_body (items-the_row-Op m r)
-row_items end_of-Op = refl
-row_items (more_of-Op op rest) = ap (λ b. Then (element_of op) b) (row_items rest)
-
--- a braced function's elements
-pub element_of_block : (v : Vec Op Global) → element_of (OpBlock v) ≡ Braced (ops_body v.items)
-element_of_block v = ap Braced (row_items (hidden-the_row-Op-0 v) ∙ ap ops_body (items_hidden-the_row-Op-0 v))
+use Rattle.bt_machine.specs.Control.{Frame, Run, Test, left, load, LeadsTo, is_stop, checked_at, ended}
+use Rattle.bt_machine.proofs.Bounds.{Grows, basic_grows, taken_some_len}
+use Rattle.bt_machine.proofs.Equations.{eval-end, eval-no_tick, eval-then, looped-turn}
 
 -- an equal ending and a higher bound
-LeadsTo_along : (defs : List Definition) (flow : Flow) (cs : List Code) (w : World) (k : ℕ) (o o' : Ending) (bound bound' : ℕ) → o ≡ o' → bound ≤ bound' → LeadsTo defs flow cs w k o bound → LeadsTo defs flow cs w k o' bound'
-LeadsTo_along defs Go cs w k o o' bound bound' e b h = (h.0 ∙ e, omega arith)
-LeadsTo_along defs Stop cs w k o o' bound bound' e b h = h ∙ e
+LeadsTo_along : (p : Program) (flow : Flow) (fs : List Frame) (w : World) (k : ℕ) (o o' : Ending) (bound bound' : ℕ) → o ≡ o' → bound ≤ bound' → LeadsTo p flow fs w k o bound → LeadsTo p flow fs w k o' bound'
+LeadsTo_along p Go fs w k o o' bound bound' e b h = (h.0 ∙ e, omega arith)
+LeadsTo_along p Stop fs w k o o' bound bound' e b h = h ∙ e
+
+-- an action that runs no function
+pub leads_acted : (p : Program) (flow : Flow) (fs : List Frame) (w w' : World) (k : ℕ) (a : Act) → act_of flow w' ≡ a → Grows (suc (length w.stack)) a → LeadsTo p flow fs w' k (then_go (acted a k) (left p fs)) (load fs w k + 4)
+leads_acted p Go fs w w' k a e g =
+    let g' : length w'.stack ≤ suc (length w.stack) = subst (Grows (suc (length w.stack))) (sym e) g in
+    (ap (λ a. then_go (acted a k) (left p fs)) e, omega arith)
+leads_acted p Stop fs w w' k a e g = ap (λ a. then_go (acted a k) (left p fs)) e
+
+-- a built-in function that runs no other
+built_in_basic : (p : Program) (run : Runner) (b : Primitive) (w : World) (k : ℕ) → b ≢ CallType → b ≢ If → b ≢ While → built_in p run b w k ≡ acted (basic p b w) k
+built_in_basic p run CallType w k t i l = absurd (t refl)
+built_in_basic p run If w k t i l = absurd (i refl)
+built_in_basic p run While w k t i l = absurd (l refl)
+built_in_basic p run _ w k t i l = refl
+
+pub leads_basic : (p : Program) (flow : Flow) (fs : List Frame) (w w' : World) (k k' : ℕ) (b : Primitive) → b ≢ CallType → b ≢ If → b ≢ While → k' ≡ k → act_of flow w' ≡ basic p b w → LeadsTo p flow fs w' k' (then_go (built_in p (eval p) b w k) (left p fs)) (load fs w k + 4)
+leads_basic p flow fs w w' k k' b t i l q e =
+    subst (λ j. LeadsTo p flow fs w' j (then_go (built_in p (eval p) b w k) (left p fs)) (load fs w k + 4)) (sym q) (LeadsTo_along p flow fs w' k _ _ _ _ (ap (λ o. then_go o (left p fs)) (sym (built_in_basic p (eval p) b w k t i l))) (omega arith) (leads_acted p flow fs w w' k (basic p b w) e (basic_grows p b w)))
 
 -- two runs after one
 then_go-then_go : (o : Ending) (f g : World → ℕ → Ending) → then_go (then_go o f) g ≡ then_go o (λ w k. then_go (f w k) g)
@@ -40,65 +52,99 @@ then_go-then_go (Done w k) f g = refl
 then_go-then_go (Stopped w k) f g = refl
 
 -- a run of nothing between two
-then_go-eval_end : (defs : List Definition) (o : Ending) (g : World → ℕ → Ending) → then_go (then_go o (eval defs End)) g ≡ then_go o g
-then_go-eval_end defs (Done w k) g = ap (λ o. then_go o g) (eval-end defs w k)
-then_go-eval_end defs (Stopped w k) g = refl
+then_go-eval_end : (p : Program) (o : Ending) (g : World → ℕ → Ending) → then_go (then_go o (eval p End)) g ≡ then_go o g
+then_go-eval_end p (Done w k) g = ap (λ o. then_go o g) (eval-end p w k)
+then_go-eval_end p (Stopped w k) g = refl
 
 -- an element, with the rest of its body planned
-left-then : (defs : List Definition) (e : Element) (rest : Body) (cs : List Code) (w : World) (k : ℕ) → then_go (eval defs (Then e rest) w (suc k)) (left defs cs) ≡ then_go (act defs (eval defs) e (counted e w) k) (left defs (Block rest ∷ cs))
-left-then defs e rest cs w k = ap (λ o. then_go o (left defs cs)) (eval-then defs e rest w k) ∙ then_go-then_go _ (eval defs rest) (left defs cs)
+left-then : (p : Program) (e : Element) (rest : Body) (fs : List Frame) (w : World) (k : ℕ) → then_go (eval p (Then e rest) w (suc k)) (left p fs) ≡ then_go (act p (eval p) e (counted e w) k) (left p (Run (Block rest) ∷ fs))
+left-then p e rest fs w k = ap (λ o. then_go o (left p fs)) (eval-then p e rest w k) ∙ then_go-then_go _ (eval p rest) (left p fs)
 
 -- a name alone
-left-name : (defs : List Definition) (t : Target) (cs : List Code) (w : World) (k : ℕ) → then_go (eval defs (Then (Called t) End) w (suc k)) (left defs cs) ≡ then_go (called defs (eval defs) t (counted (Called t) w) k) (left defs cs)
-left-name defs t cs w k = ap (λ o. then_go o (left defs cs)) (eval-then defs (Called t) End w k) ∙ then_go-eval_end defs _ (left defs cs)
+left-name : (p : Program) (t : Target) (fs : List Frame) (w : World) (k : ℕ) → then_go (eval p (Then (Called t) End) w (suc k)) (left p fs) ≡ then_go (called p (eval p) t (counted (Called t) w) k) (left p fs)
+left-name p t fs w k = ap (λ o. then_go o (left p fs)) (eval-then p (Called t) End w k) ∙ then_go-eval_end p _ (left p fs)
+
+-- a loop, with its test planned and then the look at the number
+pub left-loop : (p : Program) (test body : Code) (fs : List Frame) (w : World) (k : ℕ) → left p (Run test ∷ Test test body ∷ fs) w k ≡ then_go (looped (eval p) test body w k) (left p fs)
+left-loop p test body fs w k =
+    sym (ap (λ o. then_go o (left p fs)) (looped-turn p test body w k) ∙ then_go-then_go (eval p (code_body test) w k) _ (left p fs))
+
+-- a turn's body, with the loop planned behind it
+pub left-turn : (p : Program) (test body : Code) (fs : List Frame) (w : World) (k : ℕ) → left p (Run body ∷ Run test ∷ Test test body ∷ fs) w k ≡ then_go (then_go (eval p (code_body body) w k) (looped (eval p) test body)) (left p fs)
+left-turn p test body fs w k =
+    (λ i. then_go (eval p (code_body body) w k) (λ w' k'. left-loop p test body fs w' k' i))
+    ∙ sym (then_go-then_go (eval p (code_body body) w k) (looped (eval p) test body) (left p fs))
+
+-- a loop was planned
+pub leads_loop : (p : Program) (test body : Code) (fs fs2 : List Frame) (w w2 : World) (k k2 : ℕ) → fs2 ≡ Run test ∷ Test test body ∷ fs → w2 ≡ w → k2 ≡ k → LeadsTo p Go fs2 w2 k2 (then_go (looped (eval p) test body w k) (left p fs)) (load fs w k + 2)
+leads_loop p test body fs fs2 w w2 k k2 ef ew ek = rw (ef, ew, ek) (left-loop p test body fs w k, omega arith)
+
+-- a turn after a number above 0
+turn_above : (n : ℤ) (w : World) (k : ℕ) (body again : World → ℕ → Ending) → pos 0 <ℤ n → turn (Some n, w) k body again ≡ then_go (body w k) again
+turn_above (pos zero) w k body again h = absurd (omega arith)
+turn_above (pos (suc n)) w k body again h = refl
+turn_above (negsuc n) w k body again h = absurd (omega arith)
+
+-- a turn of a loop was planned, with n the number that its test left
+pub leads_turn : (p : Program) (test body : Code) (n : ℤ) (fs fs3 : List Frame) (w w3 : World) (k k3 : ℕ) → pos 0 <ℤ n → Some n ≡ (taken While number_of w).0 → fs3 ≡ Run body ∷ Run test ∷ Test test body ∷ fs → w3 ≡ (taken While number_of w).1 → k3 ≡ k → LeadsTo p Go fs3 w3 k3 (then_go (turn (taken While number_of w) k (eval p (code_body body)) (looped (eval p) test body)) (left p fs)) (load fs w k + 0)
+leads_turn p test body n fs fs3 w w3 k k3 h e ef ew ek =
+    let v = (taken While number_of w).1 in
+    let l = taken_some_len While number_of w n (sym e) in
+    let m : length w3.stack ≡ length v.stack = ap (λ (u : World). length u.stack) ew in
+    let f = ap length ef in
+    let same : left p fs3 w3 k3 ≡ left p (Run body ∷ Run test ∷ Test test body ∷ fs) v k = rw (ef, ew, ek) refl in
+    let turned : then_go (eval p (code_body body) v k) (looped (eval p) test body) ≡ turn (taken While number_of w) k (eval p (code_body body)) (looped (eval p) test body) = sym (turn_above n v k (eval p (code_body body)) (looped (eval p) test body) h) ∙ ap (λ o. turn (o, v) k (eval p (code_body body)) (looped (eval p) test body)) e in
+    (same ∙ left-turn p test body fs v k ∙ ap (λ o. then_go o (left p fs)) turned, omega arith)
 
 -- nothing to run
-left_end : (defs : List Definition) (cs : List Code) (w : World) (k : ℕ) → left defs cs w k ≡ then_go (eval defs End w k) (left defs cs)
-left_end defs cs w k = sym (ap (λ o. then_go o (left defs cs)) (eval-end defs w k))
+left_end : (p : Program) (fs : List Frame) (w : World) (k : ℕ) → left p fs w k ≡ then_go (eval p End w k) (left p fs)
+left_end p fs w k = sym (ap (λ o. then_go o (left p fs)) (eval-end p w k))
 
 -- an empty slice
-pub left_nothing : (defs : List Definition) (ops : List Op) (cs : List Code) (w : World) (k : ℕ) → length ops ≡ 0 → left defs cs w k ≡ then_go (eval defs (ops_body ops) w k) (left defs cs)
-left_nothing defs [] cs w k e = left_end defs cs w k
-left_nothing defs (op ∷ ops) cs w k e = absurd (omega arith)
+pub left_nothing : (p : Program) (ops : List Op) (fs : List Frame) (w : World) (k : ℕ) → length ops ≡ 0 → left p fs w k ≡ then_go (eval p (ops_body ops) w k) (left p fs)
+left_nothing p [] fs w k e = left_end p fs w k
+left_nothing p (op ∷ ops) fs w k e = absurd (omega arith)
 
 -- no function of this number: nothing is run
-pub left_past : (functions : List Function) (n : ℕ) (cs : List Code) (w : World) (k : ℕ) → length functions ≤ n → left (definitions_of functions) cs w k ≡ then_go (eval (definitions_of functions) (body_at (definitions_of functions) n) w k) (left (definitions_of functions) cs)
-left_past functions n cs w k h =
-    let defs = definitions_of functions in
+pub left_past : (p : Program) (functions : List Function) (n : ℕ) (fs : List Frame) (w : World) (k : ℕ) → p.functions ≡ definitions_of functions → length functions ≤ n → left p fs w k ≡ then_go (eval p (body_at p.functions n) w k) (left p fs)
+left_past p functions n fs w k e h =
     let l = length-map functions definition_of in
-    left_end defs cs w k ∙ ap (λ (d : Definition). then_go (eval defs d.body w k) (left defs cs)) (sym (get_or_past defs n no_definition (omega arith)))
+    let m = ap length e in
+    left_end p fs w k ∙ ap (λ (d : Definition). then_go (eval p d.body w k) (left p fs)) (sym (get_or_past p.functions n no_definition (omega arith)))
 
 -- no tick left
-pub left_no_tick : (defs : List Definition) (e : Element) (rest : Body) (cs : List Code) (w : World) → Stopped (say TicksPassed w) 0 ≡ then_go (eval defs (Then e rest) w 0) (left defs cs)
-left_no_tick defs e rest cs w = sym (ap (λ o. then_go o (left defs cs)) (eval-no_tick defs e rest w))
+pub left_no_tick : (p : Program) (e : Element) (rest : Body) (fs : List Frame) (w : World) → Stopped (say TicksPassed w) 0 ≡ then_go (eval p (Then e rest) w 0) (left p fs)
+left_no_tick p e rest fs w = sym (ap (λ o. then_go o (left p fs)) (eval-no_tick p e rest w))
 
 -- an element took its tick and was carried out, with the rest of its body planned
-pub leads_then : (defs : List Definition) (flow : Flow) (e : Element) (rest : Body) (cs cs1 cs' : List Code) (w w1 w' : World) (k k1 k' : ℕ) → k1 + 1 ≡ k → cs1 ≡ Block rest ∷ cs → w1 ≡ counted e w → LeadsTo defs flow cs' w' k' (then_go (act defs (eval defs) e w1 k1) (left defs cs1)) (load cs1 k1 + 1) → LeadsTo defs flow cs' w' k' (then_go (eval defs (Then e rest) w k) (left defs cs)) (load cs k + 0)
-leads_then defs flow e rest cs cs1 cs' w w1 w' k k1 k' p ec ew h =
-    let q : k ≡ suc k1 = omega arith in
-    let l = ap length ec in
-    let same : then_go (act defs (eval defs) e w1 k1) (left defs cs1) ≡ then_go (eval defs (Then e rest) w k) (left defs cs) =
-    ap (λ cs. then_go (act defs (eval defs) e w1 k1) (left defs cs)) ec ∙ ap (λ w. then_go (act defs (eval defs) e w k1) (left defs (Block rest ∷ cs))) ew ∙ sym (left-then defs e rest cs w k1) ∙ ap (λ k. then_go (eval defs (Then e rest) w k) (left defs cs)) (sym q) in
-    LeadsTo_along defs flow cs' w' k' _ _ _ _ same (omega arith) h
+pub leads_then : (p : Program) (flow : Flow) (e : Element) (rest : Body) (fs fs1 fs' : List Frame) (w w1 w' : World) (k k1 k' : ℕ) → k1 + 1 ≡ k → fs1 ≡ Run (Block rest) ∷ fs → w1 ≡ counted e w → LeadsTo p flow fs' w' k' (then_go (act p (eval p) e w1 k1) (left p fs1)) (load fs1 w1 k1 + 4) → LeadsTo p flow fs' w' k' (then_go (eval p (Then e rest) w k) (left p fs)) (load fs w k + 0)
+leads_then p flow e rest fs fs1 fs' w w1 w' k k1 k' q ef ew h =
+    let r : k ≡ suc k1 = omega arith in
+    let l = ap length ef in
+    let m : length w1.stack ≡ length w.stack = ap (λ (v : World). length v.stack) ew in
+    let same : then_go (act p (eval p) e w1 k1) (left p fs1) ≡ then_go (eval p (Then e rest) w k) (left p fs) =
+    ap (λ fs. then_go (act p (eval p) e w1 k1) (left p fs)) ef ∙ ap (λ w. then_go (act p (eval p) e w k1) (left p (Run (Block rest) ∷ fs))) ew ∙ sym (left-then p e rest fs w k1) ∙ ap (λ k. then_go (eval p (Then e rest) w k) (left p fs)) (sym r) in
+    LeadsTo_along p flow fs' w' k' _ _ _ _ same (omega arith) h
 
 -- a name took its tick and was called
-pub leads_name : (defs : List Definition) (flow : Flow) (t : Target) (cs cs1 cs' : List Code) (w w1 w' : World) (k k1 k' : ℕ) → k1 + 1 ≡ k → cs1 ≡ cs → w1 ≡ counted (Called t) w → LeadsTo defs flow cs' w' k' (then_go (called defs (eval defs) t w1 k1) (left defs cs1)) (load cs1 k1 + 1) → LeadsTo defs flow cs' w' k' (then_go (eval defs (Then (Called t) End) w k) (left defs cs)) (load cs k + 0)
-leads_name defs flow t cs cs1 cs' w w1 w' k k1 k' p ec ew h =
-    let q : k ≡ suc k1 = omega arith in
-    let l = ap length ec in
-    let same : then_go (called defs (eval defs) t w1 k1) (left defs cs1) ≡ then_go (eval defs (Then (Called t) End) w k) (left defs cs) =
-    ap (λ cs. then_go (called defs (eval defs) t w1 k1) (left defs cs)) ec ∙ ap (λ w. then_go (called defs (eval defs) t w k1) (left defs cs)) ew ∙ sym (left-name defs t cs w k1) ∙ ap (λ k. then_go (eval defs (Then (Called t) End) w k) (left defs cs)) (sym q) in
-    LeadsTo_along defs flow cs' w' k' _ _ _ _ same (omega arith) h
+pub leads_name : (p : Program) (flow : Flow) (t : Target) (fs fs1 fs' : List Frame) (w w1 w' : World) (k k1 k' : ℕ) → k1 + 1 ≡ k → fs1 ≡ fs → w1 ≡ counted (Called t) w → LeadsTo p flow fs' w' k' (then_go (called p (eval p) t w1 k1) (left p fs1)) (load fs1 w1 k1 + 4) → LeadsTo p flow fs' w' k' (then_go (eval p (Then (Called t) End) w k) (left p fs)) (load fs w k + 0)
+leads_name p flow t fs fs1 fs' w w1 w' k k1 k' q ef ew h =
+    let r : k ≡ suc k1 = omega arith in
+    let l = ap length ef in
+    let m : length w1.stack ≡ length w.stack = ap (λ (v : World). length v.stack) ew in
+    let same : then_go (called p (eval p) t w1 k1) (left p fs1) ≡ then_go (eval p (Then (Called t) End) w k) (left p fs) =
+    ap (λ fs. then_go (called p (eval p) t w1 k1) (left p fs)) ef ∙ ap (λ w. then_go (called p (eval p) t w k1) (left p fs)) ew ∙ sym (left-name p t fs w k1) ∙ ap (λ k. then_go (eval p (Then (Called t) End) w k) (left p fs)) (sym r) in
+    LeadsTo_along p flow fs' w' k' _ _ _ _ same (omega arith) h
 
 -- the same, as `elements` comes by it
-pub leads_elements : (defs : List Definition) (flow : Flow) (first : Op) (rest ops : List Op) (cs cs1 cs' : List Code) (w w1 w' : World) (k k1 k' : ℕ) → ops ≡ first ∷ rest → k1 + 1 ≡ k → cs1 ≡ Block (ops_body rest) ∷ cs → w1 ≡ counted (element_of first) w → LeadsTo defs flow cs' w' k' (then_go (act defs (eval defs) (element_of first) w1 k1) (left defs cs1)) (load cs1 k1 + 1) → LeadsTo defs flow cs' w' k' (then_go (eval defs (ops_body ops) w k) (left defs cs)) (load cs k + 0)
-leads_elements defs flow first rest ops cs cs1 cs' w w1 w' k k1 k' eo p ec ew h =
-    subst (λ ops. LeadsTo defs flow cs' w' k' (then_go (eval defs (ops_body ops) w k) (left defs cs)) (load cs k + 0)) (sym eo) (leads_then defs flow (element_of first) (ops_body rest) cs cs1 cs' w w1 w' k k1 k' p ec ew h)
+pub leads_elements : (p : Program) (flow : Flow) (first : Op) (rest ops : List Op) (fs fs1 fs' : List Frame) (w w1 w' : World) (k k1 k' : ℕ) → ops ≡ first ∷ rest → k1 + 1 ≡ k → fs1 ≡ Run (Block (ops_body rest)) ∷ fs → w1 ≡ counted (element_of first) w → LeadsTo p flow fs' w' k' (then_go (act p (eval p) (element_of first) w1 k1) (left p fs1)) (load fs1 w1 k1 + 4) → LeadsTo p flow fs' w' k' (then_go (eval p (ops_body ops) w k) (left p fs)) (load fs w k + 0)
+leads_elements p flow first rest ops fs fs1 fs' w w1 w' k k1 k' eo q ef ew h =
+    subst (λ ops. LeadsTo p flow fs' w' k' (then_go (eval p (ops_body ops) w k) (left p fs)) (load fs w k + 0)) (sym eo) (leads_then p flow (element_of first) (ops_body rest) fs fs1 fs' w w1 w' k k1 k' q ef ew h)
 
--- nothing left to run
-then_go-done : (defs : List Definition) (o : Ending) → then_go o (left defs []) ≡ o
-then_go-done defs (Done w k) = refl
-then_go-done defs (Stopped w k) = refl
+-- nothing left to do
+then_go-done : (p : Program) (o : Ending) → then_go o (left p []) ≡ o
+then_go-done p (Done w k) = refl
+then_go-done p (Stopped w k) = refl
 
 -- how the code looks at a run's end
 finished-ended : (flow : Flow) (w : World) (k : ℕ) → finished_at (checked_at flow w) (is_stop flow) k ≡ finished (ended flow w k)
@@ -106,8 +152,8 @@ finished-ended Go w k = refl
 finished-ended Stop w k = refl
 
 -- what a run from a step's beginning leaves, with w1 and k1 at its end and w2 and k2 once the stack was looked at
-pub step_finished : (defs defs0 : List Definition) (x : Option ℕ) (t : Target) (w w0 w1 w2 : World) (flow : Flow) (k0 k1 k2 : ℕ) (cs : List Code) → defs0 ≡ defs → cs ≡ Name t ∷ [] → w0 ≡ begun x w → k0 ≡ tick_limit → ended flow w1 k1 ≡ left defs0 cs w0 k0 → w2 ≡ checked_at flow w1 → k2 ≡ k1 → finished_at w2 (is_stop flow) k2 ≡ step defs x t w
-step_finished defs defs0 x t w w0 w1 w2 flow k0 k1 k2 cs ed ec ew ek e e2 q2 =
-    let start : left defs0 cs w0 k0 ≡ left defs (Name t ∷ []) (begun x w) tick_limit = rw (ed, ec, ew, ek) refl in
+pub step_finished : (p q : Program) (x : Option ℕ) (t : Target) (w w0 w1 w2 : World) (flow : Flow) (k0 k1 k2 : ℕ) (fs : List Frame) → q ≡ p → fs ≡ Run (Name t) ∷ [] → w0 ≡ begun x w → k0 ≡ tick_limit → ended flow w1 k1 ≡ left q fs w0 k0 → w2 ≡ checked_at flow w1 → k2 ≡ k1 → finished_at w2 (is_stop flow) k2 ≡ step p x t w
+step_finished p q x t w w0 w1 w2 flow k0 k1 k2 fs ep ef ew ek e e2 q2 =
+    let start : left q fs w0 k0 ≡ left p (Run (Name t) ∷ []) (begun x w) tick_limit = rw (ep, ef, ew, ek) refl in
     let end : finished_at w2 (is_stop flow) k2 ≡ finished_at (checked_at flow w1) (is_stop flow) k1 = rw (e2, q2) refl in
-    end ∙ finished-ended flow w1 k1 ∙ ap finished (e ∙ start ∙ then_go-done defs (eval defs (Then (Called t) End) (begun x w) tick_limit))
+    end ∙ finished-ended flow w1 k1 ∙ ap finished (e ∙ start ∙ then_go-done p (eval p (Then (Called t) End) (begun x w) tick_limit))

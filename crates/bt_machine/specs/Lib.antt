@@ -1,12 +1,5 @@
-pub mod Tree
-pub mod Program
-pub mod Builtins
-pub mod Item
-pub mod Words
-pub mod World
-pub mod Actions
 pub mod Eval
 pub mod Step
 pub mod Place
-pub mod View
 pub mod Control
+pub mod Fits

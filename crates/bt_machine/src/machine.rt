@@ -1,24 +1,37 @@
 //! The machine: a control stack in place of calls.
 
-ghost use Rattle.std.specs.Prelude.{◌≡◌, ◌∷◌, [], IfOk, OnOk, IfNone, MatchOption};
-ghost use Rattle.bt_machine.specs.Tree.{End, Then, Called, element_of, ops_body};
-ghost use Rattle.bt_machine.specs.Actions.{pushed};
-ghost use Rattle.bt_machine.specs.Eval.{eval, act, called, acted, body_of, body_at, builtin_in, builtin_called};
-ghost use Rattle.bt_machine.specs.View.{item_of, code_seen};
+ghost use Rattle.std.specs.Prelude.{◌≡◌, ◌≤◌, ◌∷◌, [], IfOk, OnOk, IfNone, MatchOption, Some};
+ghost use Rattle.bt_style.specs.Tree.{End, Then, Called, element_of, ops_body};
+ghost use Rattle.bt_style.specs.declared.builtin.Builtin.TheVariants as builtin;
+ghost use Rattle.bt_actions.specs.World.{entry_of};
+ghost use Rattle.bt_actions.specs.Arguments.{number_of, code_of, taken, taken_two, taken_three};
+ghost use Rattle.bt_actions.specs.State.{text_len, pushed};
+ghost use Rattle.bt_actions.specs.View.{code_seen, item_of};
+ghost use Rattle.bt_machine.specs.Eval.{eval, act, acted, called, built_in, run_chosen, run_loop, run_function, run_type, looped, turn, code_body, builtin_in, builtin_called};
 
-use crate::actions;
-use crate::complaint::Complaint;
-use crate::state::{Flow, State};
-use crate::style::{Builtin, Function, Op, Target};
-use crate::value::{Code, Value};
+use crate::script::Script;
+use bt_actions::{
+    Code, Complaint, Flow, State, Value, call_basic, call_entry_number, call_entry_text,
+    call_field, call_global_number, call_global_text, take_choice, take_number, take_two_codes,
+};
+use bt_style::{Builtin, Op, Target};
 use bt_text::Bytes;
 use std::alloc::{AllocError, Global};
 
-/// A step that is under way, and what is left to run, the next at the end.
+/// One thing that is left to do.
+#[derive(Clone, Copy)]
+pub enum Frame<'a> {
+    /// This is to be run.
+    Run(Code<'a>),
+    /// The first, a loop's test, was run: the number that it left decides on a turn of the second, the loop's body.
+    Test(Code<'a>, Code<'a>),
+}
+
+/// A step that is under way, and what is left to do, the next at the end.
 #[derive(Drop)]
 pub struct Machine<'a> {
     pub state: State<'a>,
-    pub control: Vec<Code<'a>>,
+    pub control: Vec<Frame<'a>>,
 }
 
 /// The built-in function that a name stands for.
@@ -42,31 +55,116 @@ fn builtin_called(op: &Op) -> Option<Builtin>
 }
 
 impl<'a> Machine<'a> {
-    ghost use Rattle.bt_machine.specs.Control.{CarriesOut, codes_of, rest_of, ended_at};
+    ghost use Rattle.bt_machine.specs.Control.{CarriesOut, Test, program_in, frames_of, frame_seen, meant, rest_of, ended_at};
 
-    /// Puts code on top of what is left to run.
-    fn plan(&mut self, code: Code<'a>) -> Result<(), AllocError>
-        ensures codes { OnOk result (codes_of self.new ≡ code_seen code.entry ∷ codes_of self.old) }
+    /// Puts something on top of what is left to do.
+    fn plan(&mut self, frame: Frame<'a>) -> Result<(), AllocError>
+        ensures frames { OnOk result (frames_of self.new ≡ frame_seen frame.entry ∷ frames_of self.old) }
         ensures state { OnOk result (self.new.state ≡ self.old.state) }
     {
-        self.control.push(code)?;
+        self.control.push(frame)?;
         Ok(())
     }
 
-    /// Runs a function of the style, later.
-    fn enter(&mut self, functions: &'a [Function], n: usize) -> Result<Flow, AllocError>
-        ensures { IfOk result (CarriesOut functions.now self.old self.new (λ defs. eval defs (body_at defs n)) 1) }
+    /// Runs a function, later.
+    fn plan_run(&mut self, script: Script<'a>, code: Code<'a>) -> Result<Flow, AllocError>
+        ensures { IfOk result (CarriesOut script.entry self.old self.new
+            (λ p. eval p (code_body (code_seen code.entry))) 2) }
     {
-        if n < functions.len() {
-            self.plan(Code::Braced(&functions[n].body))?;
+        self.plan(Frame::Run(code))?;
+        Ok(Flow::Go)
+    }
+
+    /// Runs a function of the style, later.
+    fn enter(&mut self, script: Script<'a>, n: usize) -> Result<Flow, AllocError>
+        ensures { IfOk result (CarriesOut script.entry self.old self.new
+            (λ p. run_function p.functions (eval p) (Some n)) 2) }
+    {
+        if n < script.style.functions.len() {
+            self.plan(Frame::Run(Code::Braced(&script.style.functions[n].body)))?;
         }
         Ok(Flow::Go)
     }
 
+    /// Runs a loop, later.
+    fn plan_loop(
+        &mut self,
+        script: Script<'a>,
+        test: Code<'a>,
+        body: Code<'a>,
+    ) -> Result<Flow, AllocError>
+        ensures { IfOk result (CarriesOut script.entry self.old self.new
+            (λ p. looped (eval p) (code_seen test.entry) (code_seen body.entry)) 2) }
+    {
+        self.plan(Frame::Test(test, body))?;
+        self.plan(Frame::Run(test))?;
+        Ok(Flow::Go)
+    }
+
+    /// `call.type$`.
+    fn call_type(&mut self, script: Script<'a>) -> Result<Flow, AllocError>
+        ensures { IfOk result (CarriesOut script.entry self.old self.new
+            (λ p. built_in p (eval p) builtin.CallType) 4) }
+    {
+        match &self.state.current {
+            None => {
+                self.state.tell(Complaint::NoEntry)?;
+                Ok(Flow::Go)
+            }
+            Some(current) => match current.entry.function.or(script.fallback) {
+                None => Ok(Flow::Go),
+                Some(n) => self.enter(script, n),
+            },
+        }
+    }
+
+    /// `if$`.
+    fn choose(&mut self, script: Script<'a>) -> Result<Flow, AllocError>
+        ensures { IfOk result (CarriesOut script.entry self.old self.new
+            (λ p. built_in p (eval p) builtin.If) 4) }
+    {
+        match take_choice(&mut self.state, Builtin::If)? {
+            None => Ok(Flow::Go),
+            Some((number, above, other)) => {
+                self.plan_run(script, if number > 0 { above } else { other })
+            }
+        }
+    }
+
+    /// `while$`.
+    fn begin_loop(&mut self, script: Script<'a>) -> Result<Flow, AllocError>
+        ensures { IfOk result (CarriesOut script.entry self.old self.new
+            (λ p. built_in p (eval p) builtin.While) 4) }
+    {
+        match take_two_codes(&mut self.state, Builtin::While)? {
+            None => Ok(Flow::Go),
+            Some((test, body)) => self.plan_loop(script, test, body),
+        }
+    }
+
+    /// A built-in function.
+    fn call_builtin(
+        &mut self,
+        alloc: Global,
+        script: Script<'a>,
+        builtin: Builtin,
+    ) -> Result<Flow, AllocError>
+        ensures { IfOk result (CarriesOut script.entry self.old self.new
+            (λ p. built_in p (eval p) builtin) 4) }
+    {
+        match builtin {
+            Builtin::CallType => self.call_type(script),
+            Builtin::If => self.choose(script),
+            Builtin::While => self.begin_loop(script),
+            _ => call_basic(&mut self.state, alloc, script.style, builtin),
+        }
+    }
+
     /// Puts a value on the stack.
-    fn push(&mut self, functions: &'a [Function], value: Value<'a>) -> Result<Flow, AllocError>
-        ensures { IfOk result (CarriesOut functions.now self.old self.new
-            (λ defs w k. acted (pushed (item_of value.entry) w) k) 1) }
+    fn push(&mut self, script: Script<'a>, value: Value<'a>) -> Result<Flow, AllocError>
+        requires { text_len (item_of value) ≤ 65536 }
+        ensures { IfOk result (CarriesOut script.entry self.old self.new
+            (λ p w k. acted (pushed (item_of value.entry) w) k) 4) }
     {
         self.state.push(value)
     }
@@ -75,43 +173,37 @@ impl<'a> Machine<'a> {
     fn call(
         &mut self,
         alloc: Global,
-        functions: &'a [Function],
+        script: Script<'a>,
         target: Target,
     ) -> Result<Flow, AllocError>
-        ensures { IfOk result (CarriesOut functions.now self.old self.new
-            (λ defs. called defs (eval defs) target) 1) }
+        ensures { IfOk result (CarriesOut script.entry self.old self.new
+            (λ p. called p (eval p) target) 4) }
     {
         match target {
-            Target::Builtin(builtin) => actions::call_builtin(&mut self.state, alloc, builtin),
-            Target::Field(n) => actions::call_field(&mut self.state, alloc, n),
-            Target::EntryNumber(n) => actions::call_entry_number(&mut self.state, n),
-            Target::EntryText(n) => actions::call_entry_text(&mut self.state, alloc, n),
-            Target::GlobalNumber(n) => actions::call_global_number(&mut self.state, n),
-            Target::GlobalText(n) => actions::call_global_text(&mut self.state, alloc, n),
-            Target::Function(n) => self.enter(functions, n),
+            Target::Builtin(builtin) => self.call_builtin(alloc, script, builtin),
+            Target::Field(n) => call_field(&mut self.state, alloc, n),
+            Target::EntryNumber(n) => call_entry_number(&mut self.state, n),
+            Target::EntryText(n) => call_entry_text(&mut self.state, alloc, n),
+            Target::GlobalNumber(n) => call_global_number(&mut self.state, n),
+            Target::GlobalText(n) => call_global_text(&mut self.state, alloc, n),
+            Target::Function(n) => self.enter(script, n),
         }
     }
 
     /// One element, after its tick.
-    #[tactic(auto, using(crate::proofs::Steps::element_of_block))]
-    fn element(
-        &mut self,
-        alloc: Global,
-        functions: &'a [Function],
-        op: &'a Op,
-    ) -> Result<Flow, AllocError>
-        ensures { IfOk result (CarriesOut functions.now self.old self.new
-            (λ defs. act defs (eval defs) (element_of op.now)) 1) }
+    fn element(&mut self, alloc: Global, script: Script<'a>, op: &'a Op) -> Result<Flow, AllocError>
+        ensures { IfOk result (CarriesOut script.entry self.old self.new
+            (λ p. act p (eval p) (element_of op.now)) 4) }
     {
         match op {
-            Op::Number(n) => self.push(functions, Value::Number(*n)),
+            Op::Number(n) => self.state.push_number(*n),
             Op::Text(text) => {
                 let text = Bytes::copied(alloc, text.as_slice())?;
-                self.push(functions, Value::Text(text))
+                self.state.push_text(text)
             }
-            Op::Quote(target) => self.push(functions, Value::Code(Code::Name(*target))),
-            Op::Block(ops) => self.push(functions, Value::Code(Code::Braced(ops))),
-            Op::Call(target) => self.call(alloc, functions, *target),
+            Op::Quote(target) => self.push(script, Value::Code(Code::Name(*target))),
+            Op::Block(ops) => self.push(script, Value::Code(Code::Braced(ops))),
+            Op::Call(target) => self.call(alloc, script, *target),
         }
     }
 
@@ -119,11 +211,11 @@ impl<'a> Machine<'a> {
     fn elements(
         &mut self,
         alloc: Global,
-        functions: &'a [Function],
+        script: Script<'a>,
         ops: &'a [Op],
     ) -> Result<Flow, AllocError>
-        ensures { IfOk result (CarriesOut functions.now self.old self.new
-            (λ defs. eval defs (ops_body ops.now)) 0) }
+        ensures { IfOk result (CarriesOut script.entry self.old self.new
+            (λ p. eval p (ops_body ops.now)) 0) }
     {
         match ops.split_first() {
             None => Ok(Flow::Go),
@@ -133,62 +225,83 @@ impl<'a> Machine<'a> {
                     return Ok(Flow::Stop);
                 }
                 self.state.tally.take(builtin_called(first));
-                self.plan(Code::Braced(rest))?;
-                self.element(alloc, functions, first)
+                self.plan(Frame::Run(Code::Braced(rest)))?;
+                self.element(alloc, script, first)
             }
         }
     }
 
-    /// A name, as one call.
+    /// A quoted name, as one call.
     fn name(
         &mut self,
         alloc: Global,
-        functions: &'a [Function],
+        script: Script<'a>,
         target: Target,
     ) -> Result<Flow, AllocError>
-        ensures { IfOk result (CarriesOut functions.now self.old self.new
-            (λ defs. eval defs (Then (Called target) End)) 0) }
+        ensures { IfOk result (CarriesOut script.entry self.old self.new
+            (λ p. eval p (Then (Called target) End)) 0) }
     {
         if self.state.tally.ticks == 0 {
             self.state.tell(Complaint::TicksPassed)?;
             return Ok(Flow::Stop);
         }
         self.state.tally.take(builtin_in(target));
-        self.call(alloc, functions, target)
+        self.call(alloc, script, target)
     }
 
-    /// What stood on top of what is left to run.
+    /// Looks at the number that a loop's test left.
+    fn look(
+        &mut self,
+        script: Script<'a>,
+        test: Code<'a>,
+        body: Code<'a>,
+    ) -> Result<Flow, AllocError>
+        ensures { IfOk result (CarriesOut script.entry self.old self.new
+            (λ p. meant p (Test (code_seen test.entry) (code_seen body.entry))) 0) }
+    {
+        if let Some(number) = take_number(&mut self.state, Builtin::While)? {
+            if number > 0 {
+                self.plan(Frame::Test(test, body))?;
+                self.plan(Frame::Run(test))?;
+                self.plan(Frame::Run(body))?;
+            }
+        }
+        Ok(Flow::Go)
+    }
+
+    /// What stood on top of what is left to do.
     fn advance(
         &mut self,
         alloc: Global,
-        functions: &'a [Function],
-        code: Code<'a>,
+        script: Script<'a>,
+        frame: Frame<'a>,
     ) -> Result<Flow, AllocError>
-        ensures { IfOk result (CarriesOut functions.now self.old self.new
-            (λ defs. eval defs (body_of (code_seen code.entry))) 0) }
+        ensures { IfOk result (CarriesOut script.entry self.old self.new
+            (λ p. meant p (frame_seen frame.entry)) 0) }
     {
-        match code {
-            Code::Name(target) => self.name(alloc, functions, target),
-            Code::Braced(ops) => self.elements(alloc, functions, ops),
+        match frame {
+            Frame::Run(Code::Name(target)) => self.name(alloc, script, target),
+            Frame::Run(Code::Braced(ops)) => self.elements(alloc, script, ops),
+            Frame::Test(test, body) => self.look(script, test, body),
         }
     }
 
-    /// Takes what is to be run next.
-    fn take_code(&mut self) -> Option<Code<'a>>
-        ensures codes { MatchOption result (codes_of self.old ≡ [])
-            (λ code. codes_of self.old ≡ code_seen code ∷ codes_of self.new) }
-        ensures empty { IfNone result (codes_of self.new ≡ []) }
+    /// Takes what is to be done next.
+    fn take_frame(&mut self) -> Option<Frame<'a>>
+        ensures frames { MatchOption result (frames_of self.old ≡ [])
+            (λ frame. frames_of self.old ≡ frame_seen frame ∷ frames_of self.new) }
+        ensures empty { IfNone result (frames_of self.new ≡ []) }
         ensures state { self.new.state ≡ self.old.state }
     {
         self.control.pop()
     }
 
-    /// Runs all that is left.
-    pub fn run(&mut self, alloc: Global, functions: &'a [Function]) -> Result<Flow, AllocError>
-        ensures { IfOk result (λ flow. ended_at flow self.new ≡ rest_of functions.now self.old) }
+    /// Does all that is left to do.
+    pub fn run(&mut self, alloc: Global, script: Script<'a>) -> Result<Flow, AllocError>
+        ensures { IfOk result (λ flow. ended_at flow self.new ≡ rest_of (program_in script.entry) self.old) }
     {
-        while let Some(code) = self.take_code() {
-            match self.advance(alloc, functions, code)? {
+        'frames: while let Some(frame) = self.take_frame() {
+            match self.advance(alloc, script, frame)? {
                 Flow::Go => {}
                 Flow::Stop => return Ok(Flow::Stop),
             }

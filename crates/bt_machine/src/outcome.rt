@@ -1,8 +1,7 @@
 //! What a step leaves.
 
-use crate::builtin::BUILTIN_COUNT;
-use crate::input::Variables;
-use crate::message::Message;
+use bt_actions::{Message, Variables};
+use bt_style::BUILTIN_COUNT;
 use bt_text::{Bytes, Held, Sequence};
 
 /// What a step leaves.

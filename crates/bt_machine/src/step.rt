@@ -1,21 +1,19 @@
 //! A step of a style: one call for an entry or for none.
 
 ghost use Rattle.std.specs.Prelude.{◌≡◌, ◌∷◌, [], ◌+◌, ◌^◌, ◌<◌, ◌≤◌, IfOk, OnOk, OnErr};
-ghost use Rattle.bt_machine.specs.Program.{program_of};
-ghost use Rattle.bt_machine.specs.Item.{Name};
-ghost use Rattle.bt_machine.specs.Step.{begun, finished_at, step_in, entries_in, world_in, place_in, outcome_of};
-ghost use Rattle.bt_machine.specs.View.{world_of, entries_seen, place_seen};
-ghost use Rattle.bt_machine.specs.Control.{codes_of, ticks_of, is_stop, checked_at};
+ghost use Rattle.bt_style.specs.Program.{program_of};
+ghost use Rattle.bt_actions.specs.Item.{Name};
+ghost use Rattle.bt_actions.specs.View.{entries_in, world_of, entries_seen, place_seen};
+ghost use Rattle.bt_machine.specs.Step.{begun, finished_at, step_in, world_in, place_in, outcome_of};
+ghost use Rattle.bt_machine.specs.Control.{Run, frames_of, ticks_of, is_stop, checked_at};
 
-use crate::complaint::Complaint;
-use crate::input::{Input, Variables};
-use crate::machine::Machine;
+use crate::input::Input;
+use crate::machine::{Frame, Machine};
 use crate::meter::Meter;
 use crate::outcome::Outcome;
-use crate::state::{Current, Flow, State};
-use crate::style::Style;
-use crate::tally::{TICK_LIMIT, Tally};
-use crate::value::Code;
+use crate::script::Script;
+use bt_actions::{Code, Complaint, Current, Flow, State, TICK_LIMIT, Tally, Variables};
+use bt_style::Style;
 use bt_text::{Bytes, Sequence};
 use std::alloc::{AllocError, Global};
 
@@ -24,7 +22,7 @@ fn copy_texts(alloc: Global, texts: &[Bytes]) -> Result<Sequence<Bytes>, AllocEr
     ensures { IfOk result (λ copies. copies ≡ texts.now) }
 {
     let mut copies = Sequence::new(alloc);
-    for text in texts {
+    'texts: for text in texts {
         copies.push(Bytes::copied(alloc, text.as_slice())?)?;
     }
     Ok(copies)
@@ -57,14 +55,14 @@ fn current_entry<'a>(alloc: Global, input: &'a Input) -> Result<Option<Current<'
 /// The machine before a step.
 fn begin<'a>(alloc: Global, input: &'a Input) -> Result<Machine<'a>, AllocError>
     ensures world { IfOk result (λ m. world_of m.state ≡ begun (place_in input.now) (world_in input.now)) }
-    ensures codes { IfOk result (λ m. codes_of m ≡ Name input.now.target ∷ []) }
+    ensures frames { IfOk result (λ m. frames_of m ≡ Run (Name input.now.target) ∷ []) }
     ensures ticks { IfOk result (λ m. ticks_of m ≡ 1000000) }
 {
     let current = current_entry(alloc, input)?;
     let globals = copy_variables(alloc, &input.globals)?;
     let held = input.held.copy(alloc)?;
     let mut control = Vec::new(alloc);
-    control.push(Code::Name(input.target))?;
+    control.push(Frame::Run(Code::Name(input.target)))?;
     Ok(Machine {
         state: State {
             current,
@@ -130,14 +128,14 @@ pub fn activate(
 ) -> Result<Outcome, AllocError>
     requires { meter.old + 1000000 < 2 ^ 128 }
     ensures outcome { IfOk result (λ outcome.
-        outcome ≡ outcome_of (step_in (program_of style.now).functions input.now)) }
+        outcome ≡ outcome_of (step_in (program_of style.now) input.now)) }
     ensures cost { OnOk result (meter.new
-        ≡ meter.old + (step_in (program_of style.now).functions input.now).cost) }
+        ≡ meter.old + (step_in (program_of style.now) input.now).cost) }
     ensures within { OnOk result (meter.new ≤ meter.old + 1000000) }
     ensures err { OnErr result (meter.new ≡ meter.old) }
 {
     let mut machine = begin(alloc, input)?;
-    let flow = machine.run(alloc, &style.functions)?;
+    let flow = machine.run(alloc, Script::new(style))?;
     check_stack(&mut machine.state, flow)?;
     let cost = TICK_LIMIT - machine.state.tally.ticks;
     let Machine { state, control: _ } = machine;

@@ -3,7 +3,7 @@ use Rattle.std.proofs.lemmas.List.{drop_all}
 use Rattle.std.specs.Prelude.{Result}
 use Rattle.bibtex.specs.declared.edit.Edit.{Edit}
 use Rattle.bibtex.specs.declared.edit.Refusal.{Refusal}
-use Rattle.bibtex.specs.declared.edit.Report.{Report}
+use Rattle.bt_run.specs.declared.answers.Report.{Report}
 use Rattle.bibtex.specs.Headline.{AnswersInTurn, behind_all}
 use Rattle.bibtex.proofs.edits.edit_all.Goals as goal
 

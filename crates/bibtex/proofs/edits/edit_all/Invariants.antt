@@ -1,7 +1,7 @@
 use Rattle.std.proofs.Common.{◌≡◌, ◌≤◌, List, ◌++◌, drop, length, vec_len, vec_capacity}
 use Rattle.std.specs.Prelude.{Result}
 use Rattle.bibtex.specs.declared.edit.Refusal.{Refusal}
-use Rattle.bibtex.specs.declared.edit.Report.{Report}
+use Rattle.bt_run.specs.declared.answers.Report.{Report}
 use Rattle.bibtex.specs.Headline.{AnswersInTurn, behind_all}
 use Rattle.bibtex.proofs.edits.edit_all.Given as goal
 

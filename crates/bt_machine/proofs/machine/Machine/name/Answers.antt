@@ -1,18 +1,17 @@
 use Rattle.std.proofs.Common.{refl, ap, ◌∙◌}
 use Rattle.std.proofs.lemmas.Result.{IfOk-weaker}
-use Rattle.bt_machine.specs.Tree.{Called, End}
-use Rattle.bt_machine.specs.Program.{definitions_of}
-use Rattle.bt_machine.specs.Builtins.{with_call}
-use Rattle.bt_machine.specs.View.{world_of}
-use Rattle.bt_machine.specs.Control.{codes_of, ticks_of}
+use Rattle.bt_style.specs.Tree.{Called, End}
+use Rattle.bt_actions.specs.Tally.{with_call}
+use Rattle.bt_actions.specs.View.{world_of}
+use Rattle.bt_machine.specs.Control.{program_in, frames_of, ticks_of}
 use Rattle.bt_machine.proofs.Steps.{left_no_tick, leads_name}
 use Rattle.bt_machine.proofs.machine.Machine.name.Goals as goal
 
 pub returns-then-self-eq0 : goal.returns-then-self-eq0
 returns-then-self-eq0 c =
-    rw (c.in_ok-tell.ensures.world, c.in_ok-tell.ensures.tally, c.if-self-eq0.true) (left_no_tick (definitions_of c.args.functions.now) (Called c.args.target) End (codes_of c.args.self.now) (world_of c.args.self.now.state))
+    rw (c.in_ok-tell.ensures.world, c.in_ok-tell.ensures.tally, c.if-self-eq0.true) (left_no_tick (program_in c.args.script) (Called c.args.target) End (frames_of c.args.self.now) (world_of c.args.self.now.state))
 
 pub returns : goal.returns
 returns c =
     let calls = c.take.ensures.calls ∙ ap (λ called. with_call called c.args.self.now.state.tally.calls) c.builtin_in.ensures in
-    IfOk-weaker c.call.result _ _ (λ flow h. leads_name (definitions_of c.args.functions.now) flow c.args.target (codes_of c.args.self.now) (codes_of c.args.self.now) _ (world_of c.args.self.now.state) _ _ (ticks_of c.args.self.now) c.take.new.self.ticks _ c.take.ensures.ticks refl (ap (λ calls. record (world_of c.args.self.now.state) { calls = calls }) calls) h) c.call.ensures
+    IfOk-weaker c.call.result _ _ (λ flow h. leads_name (program_in c.args.script) flow c.args.target (frames_of c.args.self.now) (frames_of c.args.self.now) _ (world_of c.args.self.now.state) _ _ (ticks_of c.args.self.now) c.take.new.self.ticks _ c.take.ensures.ticks refl (ap (λ calls. record (world_of c.args.self.now.state) { calls = calls }) calls) h) c.call.ensures

@@ -1,6 +1,0 @@
-use Rattle.std.proofs.Common.{◌≡◌, ◌++◌, drop}
-use Rattle.bibtex.specs.Log.{lines_bytes}
-use Rattle.bibtex.proofs.log.lines_bytes.Given as goal
-
-abbrev pub invariant-lines : goal.invariant-lines
-invariant-lines l = l.text ++ lines_bytes (drop l.line-index l.lines) ≡ lines_bytes l.lines

@@ -1,5 +1,0 @@
-use Rattle.bibtex.proofs.BoundLemmas.{any_bound_serves}
-use Rattle.bibtex.proofs.nesting.any_bound_serves.Goals as goal
-
-pub returns : goal.returns
-returns c = any_bound_serves

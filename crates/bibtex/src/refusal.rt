@@ -1,0 +1,99 @@
+//! The first reason that stands against a change.
+
+ghost use Rattle.std.specs.Prelude.{◌≡◌, length};
+ghost use Rattle.std.specs.Option.{option_map};
+ghost use Rattle.bibtex.specs.Present.{is_root_name};
+ghost use Rattle.bibtex.specs.Applied.{write_refusal, range_refusal, splice_refusal, remove_refusal, root_refusal};
+
+use crate::changed::place_of;
+use crate::edit::Refusal;
+use bt_job::{File, is_file_name, text_of};
+
+/// How many bytes a text may have.
+const TEXT_LIMIT: usize = 1_048_576;
+
+/// How many files there may be.
+const FILE_LIMIT: usize = 64;
+
+/// How many bytes a root name may have: with `.aux` behind it it is a file's name.
+const ROOT_LIMIT: usize = 60;
+
+/// Whether a run may begin at this name followed by `.aux`.
+pub fn is_root_name(root: &[u8]) -> bool
+    ensures { result ≡ is_root_name root.now }
+{
+    is_file_name(root) && root.len() <= ROOT_LIMIT
+}
+
+/// What stands against a text of so many bytes under a name.
+pub fn write_refusal(files: &[File], name: &[u8], size: usize) -> Option<Refusal>
+    ensures { result ≡ write_refusal files.now name.now size }
+{
+    if !is_file_name(name) {
+        return Some(Refusal::BadName);
+    }
+    if size > TEXT_LIMIT {
+        return Some(Refusal::FileTooLarge);
+    }
+    if place_of(files, name).is_none() && files.len() >= FILE_LIMIT {
+        return Some(Refusal::TooManyFiles);
+    }
+    None
+}
+
+/// What stands against so many bytes in the place of a text's bytes `start..end`.
+fn range_refusal(text: &[u8], start: usize, end: usize, size: usize) -> Option<Refusal>
+    ensures { result ≡ range_refusal text.now start end size }
+{
+    if start > end || end > text.len() {
+        return Some(Refusal::RangeOutside);
+    }
+    let kept = start + (text.len() - end);
+    if kept > TEXT_LIMIT || size > TEXT_LIMIT - kept {
+        return Some(Refusal::FileTooLarge);
+    }
+    None
+}
+
+/// What stands against so many bytes in the place of the bytes `start..end` of the text of a name.
+pub fn splice_refusal(
+    files: &[File],
+    name: &[u8],
+    start: usize,
+    end: usize,
+    size: usize,
+) -> Option<Refusal>
+    ensures { result ≡ splice_refusal files.now name.now start end size }
+{
+    if !is_file_name(name) {
+        return Some(Refusal::BadName);
+    }
+    match text_of(files, name) {
+        Some(text) => range_refusal(text, start, end, size),
+        None => Some(Refusal::NoSuchFile),
+    }
+}
+
+/// What stands against the removal of a file.
+pub fn remove_refusal(files: &[File], name: &[u8]) -> Option<Refusal>
+    ensures { result ≡ remove_refusal files.now name.now }
+{
+    if !is_file_name(name) {
+        return Some(Refusal::BadName);
+    }
+    match text_of(files, name) {
+        Some(_) => None,
+        None => Some(Refusal::NoSuchFile),
+    }
+}
+
+/// What stands against a root name.
+pub fn root_refusal(root: &[u8]) -> Option<Refusal>
+    ensures { result ≡ root_refusal root.now }
+{
+    if is_root_name(root) {
+        None
+    } else {
+        Some(Refusal::BadName)
+    }
+}

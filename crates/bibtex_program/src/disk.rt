@@ -1,0 +1,53 @@
+//! The folder that the program was started in.
+
+ghost use Rattle.std.specs.Prelude.{None};
+
+use bibtex::Bytes;
+use bt_one_shot::{Folder, Found};
+use std::alloc::Global;
+use std::fs;
+use std::io::{ErrorKind, Read};
+use std::rt::Files;
+
+/// How many bytes of a file are read: one more than a text may have, so that a longer one is refused.
+const MOST_READ: u64 = 1_048_577;
+
+/// The files of the folder that the program was started in.
+#[derive(Drop)]
+pub struct Disk<'a, R> {
+    alloc: Global,
+    rt: &'a R,
+}
+
+impl<'a, R: Files> Disk<'a, R> {
+    /// The folder, as this runtime reaches it.
+    pub fn new(alloc: Global, rt: &'a R) -> Self {
+        Disk { alloc, rt }
+    }
+}
+
+impl<R: Files> Folder for Disk<'_, R> {
+    ghost written = { λ _. None };
+
+    fn read(&mut self, name: &[u8]) -> Found {
+        let Ok(path) = str::from_utf8(name) else {
+            return Found::Missing;
+        };
+        let Ok(file) = fs::open(self.rt, path) else {
+            return Found::Missing;
+        };
+        let mut bytes = Vec::new(self.alloc);
+        match file.take(MOST_READ).read_to_end(&mut bytes) {
+            Ok(_) => Found::Bytes(Bytes::from_vec(bytes)),
+            Err(fault) if fault.kind() == ErrorKind::OutOfMemory => Found::NoRoom,
+            Err(_) => Found::Missing,
+        }
+    }
+
+    fn write(&mut self, name: &[u8], bytes: &[u8]) -> bool {
+        match str::from_utf8(name) {
+            Ok(path) => fs::write(self.rt, path, bytes).is_ok(),
+            Err(_) => false,
+        }
+    }
+}

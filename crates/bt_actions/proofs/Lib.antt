@@ -1,0 +1,3 @@
+mod ActionRows
+pub mod LoggingLemmas
+pub mod NameLemmas

@@ -1,0 +1,92 @@
+-- How built-in functions take their arguments: all of them from the top on, with an error for each that isn't there;
+-- then, where one that was there is of a wrong kind, one error more.
+use Rattle.std.specs.Prelude.{ℕ, ℤ, Bool, false, ◌||◌, List, Option, Some, None, if◌then◌else◌, is_none, option_and_then}
+use Rattle.bt_style.specs.declared.builtin.Builtin.{Builtin as Primitive}
+use Rattle.bt_style.specs.declared.style.Target.{Target}
+use Rattle.bt_actions.specs.declared.complaint.Complaint.TheVariants.{WrongKind}
+use Rattle.bt_actions.specs.Item.{Code, Name, Block, Item, Num, Txt, Fun, Gap}
+use Rattle.bt_actions.specs.World.{World, say}
+use Rattle.bt_actions.specs.State.{popped}
+
+-- what a value is, as an argument that must be a number
+abbrev pub number_of : Item → Option ℤ
+number_of (Num n) = Some n
+number_of (Txt t) = None
+number_of (Fun c) = None
+number_of (Gap n) = None
+
+-- a text
+abbrev pub text_of : Item → Option (List ℕ)
+text_of (Num n) = None
+text_of (Txt t) = Some t
+text_of (Fun c) = None
+text_of (Gap n) = None
+
+-- a text, or a field that is missing
+abbrev pub field_text_of : Item → Option (Option (List ℕ))
+field_text_of (Num n) = None
+field_text_of (Txt t) = Some (Some t)
+field_text_of (Fun c) = None
+field_text_of (Gap n) = Some None
+
+-- a function
+abbrev pub code_of : Item → Option Code
+code_of (Num n) = None
+code_of (Txt t) = None
+code_of (Fun c) = Some c
+code_of (Gap n) = None
+
+-- a quoted name
+abbrev pub quoted_name : Code → Option Target
+quoted_name (Name t) = Some t
+quoted_name (Block b) = None
+
+abbrev pub target_of : Item → Option Target
+target_of v = option_and_then quoted_name (code_of v)
+
+-- a value of any kind
+abbrev pub any_of : Item → Option Item
+any_of v = Some v
+
+-- a value was there, and is of the wrong kind
+abbrev pub is_wrong : {A : Type 0} → (Item → Option A) → Option Item → Bool
+is_wrong kind None = false
+is_wrong kind (Some v) = is_none (kind v)
+
+-- the error of a wrong kind, where there was one
+abbrev pub judged : Primitive → Bool → World → World
+judged b wrong w = if wrong then say (WrongKind b) w else w
+
+-- two values, where both are there
+abbrev pub both : {A B : Type 0} → Option A → Option B → Option (A × B)
+both None o = None
+both (Some a) None = None
+both (Some a) (Some b) = Some (a, b)
+
+-- three values, where all are there
+abbrev pub all_three : {A B C : Type 0} → Option A → Option B → Option C → Option (A × B × C)
+all_three None o p = None
+all_three (Some a) None p = None
+all_three (Some a) (Some b) None = None
+all_three (Some a) (Some b) (Some c) = Some (a, b, c)
+
+-- one argument of a kind
+abbrev pub taken : {A : Type 0} → Primitive → (Item → Option A) → World → Option A × World
+taken b kind w =
+    let top = popped w in
+    (option_and_then kind top.0, judged b (is_wrong kind top.0) top.1)
+
+-- two arguments, each of its kind: the lower one and the top
+abbrev pub taken_two : {A B : Type 0} → Primitive → (Item → Option A) → (Item → Option B) → World → Option (A × B) × World
+taken_two b lower upper w =
+    let top = popped w in
+    let next = popped top.1 in
+    (both (option_and_then lower next.0) (option_and_then upper top.0), judged b (is_wrong upper top.0 || is_wrong lower next.0) next.1)
+
+-- three arguments, each of its kind: the lowest one, the middle one and the top
+abbrev pub taken_three : {A B C : Type 0} → Primitive → (Item → Option A) → (Item → Option B) → (Item → Option C) → World → Option (A × B × C) × World
+taken_three b lower middle upper w =
+    let top = popped w in
+    let next = popped top.1 in
+    let last = popped next.1 in
+    (all_three (option_and_then lower last.0) (option_and_then middle next.0) (option_and_then upper top.0), judged b (is_wrong upper top.0 || is_wrong middle next.0 || is_wrong lower last.0) last.1)

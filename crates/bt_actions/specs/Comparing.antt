@@ -1,0 +1,30 @@
+-- What the functions give that look at values of several kinds.
+use Rattle.std.specs.Prelude.{ℕ, Bool, true, false, bytes_eq, List, Option, Some, None}
+use Rattle.std.specs.List.{list_all}
+use Rattle.std.specs.Ordering.{int_eq}
+use Rattle.bt_style.specs.declared.builtin.Builtin.TheVariants.{Equals}
+use Rattle.bt_text.specs.ByteTests.{is_white}
+use Rattle.bt_actions.specs.declared.complaint.Complaint.TheVariants.{WrongKind}
+use Rattle.bt_actions.specs.Item.{Item, Num, Txt}
+use Rattle.bt_actions.specs.Given.{Given, Gives, Errs, truth, zero_item}
+
+-- two numbers or two texts; any others are of the wrong kind
+abbrev pub equality_of : Item × Item → Given
+equality_of (Num n, Num m) = Gives (truth (int_eq n m))
+equality_of (Txt t, Txt u) = Gives (truth (bytes_eq t u))
+equality_of (v, u) = Errs (WrongKind Equals) zero_item
+
+-- a field that is missing, or a text of white space alone
+abbrev pub is_blank : Option (List ℕ) → Bool
+is_blank None = true
+is_blank (Some t) = list_all is_white t
+
+abbrev pub emptiness_of : Option (List ℕ) → Given
+emptiness_of o = Gives (truth (is_blank o))
+
+abbrev pub is_missing : Option (List ℕ) → Bool
+is_missing None = true
+is_missing (Some t) = false
+
+abbrev pub missing_of : Option (List ℕ) → Given
+missing_of o = Gives (truth (is_missing o))

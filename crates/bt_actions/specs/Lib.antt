@@ -1,0 +1,17 @@
+pub mod Item
+pub mod Words
+pub mod Tally
+pub mod World
+pub mod State
+pub mod Arguments
+pub mod Given
+pub mod Numbers
+pub mod Comparing
+pub mod Texts
+pub mod Names
+pub mod Reading
+pub mod Assigning
+pub mod Logging
+pub mod Stacking
+pub mod Actions
+pub mod View

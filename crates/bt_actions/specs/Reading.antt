@@ -1,0 +1,51 @@
+-- What fields and variables, the key, the type and the preamble put on the stack.
+use Rattle.std.specs.Prelude.{ℕ, List, [], Option, Some, None, slice_index_or, pos}
+use Rattle.bt_actions.specs.declared.entry.Entry.{Entry}
+use Rattle.bt_actions.specs.declared.complaint.Complaint.TheVariants.{NoEntry}
+use Rattle.bt_actions.specs.Item.{Item, Num, Txt, Gap}
+use Rattle.bt_actions.specs.World.{World, Act, entry_of}
+use Rattle.bt_actions.specs.State.{pushed, pushed_in_error}
+
+-- what the current entry gives, or without one an error and a default
+abbrev pub given : (Entry → Item) → Item → Option Entry → World → Act
+given value default None w = pushed_in_error NoEntry default w
+given value default (Some e) w = pushed (value e) w
+
+-- the same of the step's entry
+abbrev pub of_entry : (Entry → Item) → Item → World → Act
+of_entry value default w = given value default (entry_of w) w
+
+-- a field's value
+abbrev pub field_item : ℕ → Option (List ℕ) → Item
+field_item n None = Gap n
+field_item n (Some t) = Txt t
+
+-- a field of an entry
+abbrev pub field_at : ℕ → Entry → Item
+field_at n e = field_item n (slice_index_or e.fields n None)
+
+-- an entry's variables
+abbrev pub number_at : ℕ → Entry → Item
+number_at n e = Num (slice_index_or e.variables.numbers n (pos 0))
+
+abbrev pub text_at : ℕ → Entry → Item
+text_at n e = Txt (slice_index_or e.variables.texts n [])
+
+-- its key
+abbrev pub key_item : Entry → Item
+key_item e = Txt e.key
+
+-- the text of a type that has a function; any other is empty
+abbrev pub kind_shown : Option ℕ → List ℕ → List ℕ
+kind_shown None kind = []
+kind_shown (Some f) kind = kind
+
+abbrev pub kind_item : Entry → Item
+kind_item e = Txt (kind_shown e.function e.kind)
+
+-- variables of the style
+abbrev pub global_number : ℕ → World → Act
+global_number n w = pushed (Num (slice_index_or w.globals.numbers n (pos 0))) w
+
+abbrev pub global_text : ℕ → World → Act
+global_text n w = pushed (Txt (slice_index_or w.globals.texts n [])) w

@@ -1,0 +1,17 @@
+-- What the functions do that look at the stack alone.
+use Rattle.std.specs.Prelude.{List, [], ◌∷◌}
+use Rattle.bt_actions.specs.declared.complaint.Complaint.TheVariants.{EmptyStack}
+use Rattle.bt_actions.specs.Item.{Item}
+use Rattle.bt_actions.specs.World.{World, Act, Goes, say, with_stack}
+use Rattle.bt_actions.specs.State.{pushed}
+
+-- the topmost value goes on the stack once more
+abbrev pub duplicated : List Item → World → Act
+duplicated [] w = Goes (say EmptyStack w)
+duplicated (v ∷ vs) w = pushed v w
+
+-- the two topmost values change places; a stack of fewer stays
+abbrev pub swapped : List Item → World → World
+swapped [] w = say EmptyStack w
+swapped (v ∷ []) w = say EmptyStack w
+swapped (v ∷ u ∷ vs) w = with_stack (u ∷ v ∷ vs) w

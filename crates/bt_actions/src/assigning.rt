@@ -1,0 +1,140 @@
+//! How variables get values.
+
+ghost use Rattle.std.specs.Prelude.{◌≡◌, IfOk, OnOk, slice_set};
+ghost use Rattle.bt_actions.specs.World.{say};
+ghost use Rattle.bt_actions.specs.Actions.{goes_with};
+ghost use Rattle.bt_actions.specs.Arguments.{any_of, target_of, taken_two};
+ghost use Rattle.bt_actions.specs.Assigning.{assigned};
+ghost use Rattle.bt_actions.specs.View.{world_of, item_of, Acts};
+ghost use Rattle.bt_style.specs.declared.builtin.Builtin.TheVariants as builtin;
+ghost use Rattle.bt_style.specs.declared.style.Target.TheVariants as target;
+
+use crate::arguments::take_assignment;
+use crate::complaint::Complaint;
+use crate::entry::Variables;
+use crate::state::{Flow, State};
+use crate::value::Value;
+use bt_style::{Builtin, Target};
+use bt_text::Bytes;
+use std::alloc::AllocError;
+
+/// Gives the number variable at a place a value, if there is one.
+fn put_number(variables: &mut Variables, n: usize, number: i32)
+    ensures { variables.new ≡ record variables.old { numbers = slice_set variables.old.numbers n number } }
+{
+    if n < variables.numbers.len() {
+        variables.numbers.set(n, number);
+    }
+}
+
+/// Gives the text variable at a place a value, if there is one.
+fn put_text(variables: &mut Variables, n: usize, text: Bytes)
+    ensures { variables.new ≡ record variables.old { texts = slice_set variables.old.texts n text } }
+{
+    if n < variables.texts.len() {
+        variables.texts.set(n, text);
+    }
+}
+
+/// What a value of another kind than its variable's is told as.
+fn tell_wrong_kind(state: &mut State) -> Result<(), AllocError>
+    ensures world { OnOk result (world_of state.new
+        ≡ say (Complaint.WrongKind builtin.Assign) (world_of state.old)) }
+    ensures tally { state.new.tally ≡ state.old.tally }
+{
+    state.tell(Complaint::WrongKind(Builtin::Assign))
+}
+
+/// Gives a number variable of the style a value.
+fn assign_global_number(state: &mut State, n: usize, value: Value) -> Result<(), AllocError>
+    ensures world { OnOk result (world_of state.new
+        ≡ assigned (item_of value.entry, target.GlobalNumber n) (world_of state.old)) }
+    ensures tally { state.new.tally ≡ state.old.tally }
+{
+    match value {
+        Value::Number(number) => {
+            put_number(&mut state.globals, n, number);
+            Ok(())
+        }
+        _ => tell_wrong_kind(state),
+    }
+}
+
+/// Gives a text variable of the style a value.
+fn assign_global_text(state: &mut State, n: usize, value: Value) -> Result<(), AllocError>
+    ensures world { OnOk result (world_of state.new
+        ≡ assigned (item_of value.entry, target.GlobalText n) (world_of state.old)) }
+    ensures tally { state.new.tally ≡ state.old.tally }
+{
+    match value {
+        Value::Text(text) => {
+            put_text(&mut state.globals, n, text.into_bytes());
+            Ok(())
+        }
+        _ => tell_wrong_kind(state),
+    }
+}
+
+/// Gives a number variable of the step's entry a value.
+fn assign_entry_number(state: &mut State, n: usize, value: Value) -> Result<(), AllocError>
+    ensures world { OnOk result (world_of state.new
+        ≡ assigned (item_of value.entry, target.EntryNumber n) (world_of state.old)) }
+    ensures tally { state.new.tally ≡ state.old.tally }
+{
+    match &mut state.current {
+        None => state.tell(Complaint::NoEntry),
+        Some(current) => match value {
+            Value::Number(number) => {
+                put_number(&mut current.variables, n, number);
+                Ok(())
+            }
+            _ => tell_wrong_kind(state),
+        },
+    }
+}
+
+/// Gives a text variable of the step's entry a value.
+fn assign_entry_text(state: &mut State, n: usize, value: Value) -> Result<(), AllocError>
+    ensures world { OnOk result (world_of state.new
+        ≡ assigned (item_of value.entry, target.EntryText n) (world_of state.old)) }
+    ensures tally { state.new.tally ≡ state.old.tally }
+{
+    match &mut state.current {
+        None => state.tell(Complaint::NoEntry),
+        Some(current) => match value {
+            Value::Text(text) => {
+                put_text(&mut current.variables, n, text.into_bytes());
+                Ok(())
+            }
+            _ => tell_wrong_kind(state),
+        },
+    }
+}
+
+/// Gives what a name stands for a value.
+fn assign_to(state: &mut State, target: Target, value: Value) -> Result<(), AllocError>
+    ensures world { OnOk result (world_of state.new ≡ assigned (item_of value.entry, target) (world_of state.old)) }
+    ensures tally { state.new.tally ≡ state.old.tally }
+{
+    match target {
+        Target::EntryNumber(n) => assign_entry_number(state, n, value),
+        Target::EntryText(n) => assign_entry_text(state, n, value),
+        Target::GlobalNumber(n) => assign_global_number(state, n, value),
+        Target::GlobalText(n) => assign_global_text(state, n, value),
+        Target::Builtin(_) | Target::Field(_) | Target::Function(_) => {
+            state.tell(Complaint::NotVariable)
+        }
+    }
+}
+
+/// `:=`.
+pub fn assign(state: &mut State) -> Result<Flow, AllocError>
+    ensures world { IfOk result (Acts (λ world.
+        goes_with assigned (taken_two builtin.Assign any_of target_of world)) state.old state.new) }
+    ensures tally { state.new.tally ≡ state.old.tally }
+{
+    if let Some((value, target)) = take_assignment(state, Builtin::Assign)? {
+        assign_to(state, target, value)?;
+    }
+    Ok(Flow::Go)
+}

@@ -1,0 +1,44 @@
+//! The world of a style's step, and what each literal, field, variable and built-in function does in it.
+#![tactic(auto)]
+
+mod actions;
+mod arguments;
+mod assigning;
+mod comparing;
+mod complaint;
+mod entry;
+mod kinds;
+mod logging;
+mod message;
+mod names;
+mod numbers;
+mod reading;
+mod short_text;
+mod stacking;
+mod state;
+mod tally;
+mod texts;
+mod value;
+mod writing;
+
+pub use actions::call_basic;
+pub use arguments::{take_choice, take_number, take_two_codes};
+pub use complaint::Complaint;
+pub use entry::{Entry, Variables};
+pub use message::{Message, Rank};
+pub use reading::{
+    call_entry_number, call_entry_text, call_field, call_global_number, call_global_text,
+};
+pub use short_text::{ShortText, TEXT_LIMIT};
+pub use state::{Current, Flow, State};
+pub use tally::{TICK_LIMIT, Tally};
+pub use value::{Code, Value};
+
+#[cfg(test)]
+mod function_tests;
+#[cfg(test)]
+mod limit_tests;
+#[cfg(test)]
+mod test_states;
+#[cfg(test)]
+mod variable_tests;

@@ -1,0 +1,89 @@
+//! The functions on lists of names.
+
+ghost use Rattle.std.specs.Prelude.{◌≡◌, IfOk, pos, ℤ, List, ℕ};
+ghost use Rattle.bt_actions.specs.Arguments.{number_of, text_of, taken, taken_three};
+ghost use Rattle.bt_actions.specs.Given.{valued, answered, zero_item, empty_item};
+ghost use Rattle.bt_actions.specs.Names.{names_counted, name_formatted, pushed_within};
+ghost use Rattle.bt_actions.specs.View.{world_of, Acts};
+ghost use Rattle.bt_style.specs.declared.builtin.Builtin.TheVariants as builtin;
+
+use crate::arguments::{take_names_and_pattern, take_text};
+use crate::complaint::Complaint;
+use crate::short_text::{ShortText, TEXT_LIMIT};
+use crate::state::{Flow, State};
+use crate::texts::push_count;
+use bt_names::{FormatFault, Formatted, count, format_within};
+use bt_style::Builtin;
+use bt_text::Bytes;
+use std::alloc::{AllocError, Global};
+
+/// `num.names$`.
+pub fn num_names(state: &mut State) -> Result<Flow, AllocError>
+    ensures world { IfOk result (Acts (λ world.
+        valued names_counted zero_item (taken builtin.NumNames text_of world)) state.old state.new) }
+    ensures tally { state.new.tally ≡ state.old.tally }
+{
+    match take_text(state, Builtin::NumNames)? {
+        None => state.push_number(0),
+        Some(names) => push_count(state, Builtin::NumNames, count(names.as_slice())),
+    }
+}
+
+/// Puts a formatted name on the stack, unless it is too long for it.
+fn push_within(state: &mut State, formatted: Formatted) -> Result<Flow, AllocError>
+    ensures world { IfOk result (Acts (pushed_within formatted) state.old state.new) }
+    ensures tally { state.new.tally ≡ state.old.tally }
+{
+    match formatted {
+        Formatted::Text(text) => state.push_text(text),
+        Formatted::Longer => state.pass_text_limit(),
+    }
+}
+
+/// Puts a name in the form of a pattern on the stack, or tells what is wrong with the list of names or the pattern.
+fn push_formatted(
+    state: &mut State,
+    alloc: Global,
+    names: ShortText,
+    number: i32,
+    pattern: ShortText,
+) -> Result<Flow, AllocError>
+    ensures world { IfOk result (Acts (answered (name_formatted (names, number, pattern))) state.old state.new) }
+    ensures tally { state.new.tally ≡ state.old.tally }
+{
+    match format_within(
+        alloc,
+        names.as_slice(),
+        number,
+        pattern.as_slice(),
+        TEXT_LIMIT,
+    ) {
+        Ok(formatted) => push_within(state, formatted),
+        Err(FormatFault::NoSuchName) => {
+            let complaint = Complaint::NoSuchName(number, names.into_bytes());
+            state.push_text_in_error(complaint, Bytes::new(alloc))
+        }
+        Err(FormatFault::TooManyCommas) => {
+            let complaint = Complaint::TooManyCommas(number, names.into_bytes());
+            state.push_text_in_error(complaint, Bytes::new(alloc))
+        }
+        Err(FormatFault::PatternFault(place)) => {
+            let complaint = Complaint::PatternFault(pattern.into_bytes(), place);
+            state.push_text_in_error(complaint, Bytes::new(alloc))
+        }
+        Err(FormatFault::OutOfMemory) => Err(AllocError),
+    }
+}
+
+/// `format.name$`.
+pub fn format_name(state: &mut State, alloc: Global) -> Result<Flow, AllocError>
+    ensures world { IfOk result (Acts (λ world.
+        valued name_formatted empty_item (taken_three builtin.FormatName text_of number_of text_of world))
+        state.old state.new) }
+    ensures tally { state.new.tally ≡ state.old.tally }
+{
+    match take_names_and_pattern(state, Builtin::FormatName)? {
+        None => state.push_text(Bytes::new(alloc)),
+        Some((names, number, pattern)) => push_formatted(state, alloc, names, number, pattern),
+    }
+}

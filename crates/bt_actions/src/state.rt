@@ -1,0 +1,224 @@
+//! What a step works on.
+
+use crate::complaint::{self, Complaint};
+use crate::entry::{Entry, Variables};
+use crate::message::Message;
+use crate::short_text::ShortText;
+use crate::tally::Tally;
+use crate::value::Value;
+use bt_style::Builtin;
+use bt_text::{Bytes, Held, HeldFault, Sequence};
+use std::alloc::{AllocError, Global};
+
+/// Whether the run goes on.
+#[derive(Clone, Copy, PartialEq, Eq, Debug)]
+pub enum Flow {
+    Go,
+    Stop,
+}
+
+/// How many values the stack may hold.
+const STACK_LIMIT: usize = 1000;
+
+/// The entry of a step, with variables of the step's own.
+#[derive(Drop)]
+pub struct Current<'a> {
+    pub entry: &'a Entry,
+    pub variables: Variables,
+}
+
+/// A step's own part of the world.
+#[derive(Drop)]
+pub struct State<'a> {
+    pub current: Option<Current<'a>>,
+    pub globals: Variables,
+    pub preamble: &'a [u8],
+    pub held: Held,
+    pub lines: Sequence<Bytes>,
+    pub complaints: Sequence<Complaint>,
+    /// Its top last.
+    pub stack: Vec<Value<'a>>,
+    pub tally: Tally,
+}
+
+impl<'a> State<'a> {
+    ghost use Rattle.std.specs.Prelude.{◌≡◌, ◌≤◌, ◌<◌, [], ◌∷◌, length, IfOk, OnOk, IfNone, IfSome, OnSome, option_map, vec_len};
+    ghost use Rattle.bt_actions.specs.Item.{Num, Txt};
+    ghost use Rattle.bt_actions.specs.World.{say, with_stack};
+    ghost use Rattle.bt_actions.specs.State.{popped, pushed, pushed_in_error, told_with_room, limit_passed, appended, ended, text_len};
+    ghost use Rattle.bt_actions.specs.Arguments.{judged};
+    ghost use Rattle.bt_actions.specs.Given.{zero_item, truth};
+    ghost use Rattle.bt_actions.specs.View.{world_of, item_of, Acts};
+
+    /// Adds a complaint.
+    pub fn tell(&mut self, complaint: Complaint) -> Result<(), AllocError>
+        ensures world { OnOk result (world_of self.new ≡ say complaint (world_of self.old)) }
+        ensures tally { self.new.tally ≡ self.old.tally }
+    {
+        self.complaints.push(complaint)?;
+        Ok(())
+    }
+
+    /// Takes the topmost value, or tells that there is none.
+    pub fn pop(&mut self) -> Result<Option<Value<'a>>, AllocError>
+        ensures value { IfOk result (λ top. option_map item_of top ≡ (popped (world_of self.old)).0) }
+        ensures world { OnOk result (world_of self.new ≡ (popped (world_of self.old)).1) }
+        ensures tally { self.new.tally ≡ self.old.tally }
+    {
+        match self.stack.pop() {
+            Some(value) => Ok(Some(value)),
+            None => {
+                self.tell(Complaint::EmptyStack)?;
+                Ok(None)
+            }
+        }
+    }
+
+    /// Takes the topmost value, and tells nothing.
+    pub fn take_top(&mut self) -> Option<Value<'a>>
+        ensures some { IfSome result (λ value. (world_of self.old).stack ≡ item_of value ∷ (world_of self.new).stack) }
+        ensures none { IfNone result ((world_of self.old).stack ≡ []) }
+        ensures world { world_of self.new ≡ with_stack (world_of self.new).stack (world_of self.old) }
+        ensures same { IfNone result (world_of self.new ≡ world_of self.old) }
+        ensures shorter { OnSome result (vec_len self.new.stack < vec_len self.old.stack) }
+        ensures tally { self.new.tally ≡ self.old.tally }
+    {
+        self.stack.pop()
+    }
+
+    /// Tells of an argument of the wrong kind, where there was one.
+    pub fn judge(&mut self, builtin: Builtin, wrong: bool) -> Result<(), AllocError>
+        ensures world { OnOk result (world_of self.new ≡ judged builtin wrong (world_of self.old)) }
+        ensures tally { self.new.tally ≡ self.old.tally }
+    {
+        if wrong {
+            self.tell(Complaint::WrongKind(builtin))?;
+        }
+        Ok(())
+    }
+
+    /// Puts a value on the stack, unless that would pass its limit.
+    pub fn push(&mut self, value: Value<'a>) -> Result<Flow, AllocError>
+        requires { text_len (item_of value) ≤ 65536 }
+        ensures world { IfOk result (Acts (pushed (item_of value.entry)) self.old self.new) }
+        ensures tally { self.new.tally ≡ self.old.tally }
+    {
+        if self.stack.len() < STACK_LIMIT {
+            self.stack.push(value)?;
+            Ok(Flow::Go)
+        } else {
+            self.tell(Complaint::StackPassed)?;
+            Ok(Flow::Stop)
+        }
+    }
+
+    /// Puts a text on the stack, unless that would pass a limit.
+    pub fn push_text(&mut self, text: Bytes) -> Result<Flow, AllocError>
+        ensures world { IfOk result (Acts (pushed (Txt text)) self.old self.new) }
+        ensures tally { self.new.tally ≡ self.old.tally }
+    {
+        match ShortText::within(text) {
+            Some(text) => self.push(Value::Text(text)),
+            None => self.pass_text_limit(),
+        }
+    }
+
+    /// Tells that a text has more bytes than the stack takes, unless the stack is full.
+    pub fn pass_text_limit(&mut self) -> Result<Flow, AllocError>
+        ensures world { IfOk result (Acts limit_passed self.old self.new) }
+        ensures tally { self.new.tally ≡ self.old.tally }
+    {
+        if self.stack.len() < STACK_LIMIT {
+            self.tell(Complaint::TextPassed)?;
+        } else {
+            self.tell(Complaint::StackPassed)?;
+        }
+        Ok(Flow::Stop)
+    }
+
+    /// Puts a number on the stack, unless it is full.
+    pub fn push_number(&mut self, number: i32) -> Result<Flow, AllocError>
+        ensures world { IfOk result (Acts (pushed (Num number)) self.old self.new) }
+        ensures tally { self.new.tally ≡ self.old.tally }
+    {
+        self.push(Value::Number(number))
+    }
+
+    /// Puts 1 on the stack for what holds, else 0, unless it is full.
+    pub fn push_truth(&mut self, holds: bool) -> Result<Flow, AllocError>
+        ensures world { IfOk result (Acts (pushed (truth holds)) self.old self.new) }
+        ensures tally { self.new.tally ≡ self.old.tally }
+    {
+        self.push_number(if holds { 1 } else { 0 })
+    }
+
+    /// Tells of an error, unless the stack is full, so that a value in place of the right one will pass its limit.
+    fn tell_unless_full(&mut self, complaint: Complaint) -> Result<(), AllocError>
+        ensures world { OnOk result (world_of self.new ≡ told_with_room complaint (world_of self.old)) }
+        ensures tally { self.new.tally ≡ self.old.tally }
+    {
+        if self.stack.len() < STACK_LIMIT {
+            self.tell(complaint)?;
+        }
+        Ok(())
+    }
+
+    /// Tells of an error, and puts 0 on the stack. Where it is full only the limit is told of.
+    pub fn push_zero_in_error(&mut self, complaint: Complaint) -> Result<Flow, AllocError>
+        ensures world { IfOk result (Acts (pushed_in_error complaint zero_item) self.old self.new) }
+        ensures tally { self.new.tally ≡ self.old.tally }
+    {
+        self.tell_unless_full(complaint)?;
+        self.push_number(0)
+    }
+
+    /// Tells of an error, and puts a text on the stack. Where it is full only the limit is told of.
+    pub fn push_text_in_error(
+        &mut self,
+        complaint: Complaint,
+        text: Bytes,
+    ) -> Result<Flow, AllocError>
+        ensures world { IfOk result (Acts (pushed_in_error complaint (Txt text)) self.old self.new) }
+        ensures tally { self.new.tally ≡ self.old.tally }
+    {
+        self.tell_unless_full(complaint)?;
+        self.push_text(text)
+    }
+
+    /// Writes a text behind the held line, unless that would pass the limit.
+    pub fn write(&mut self, alloc: Global, text: &[u8]) -> Result<Flow, AllocError>
+        ensures world { IfOk result (Acts (appended text.now) self.old self.new) }
+        ensures tally { self.new.tally ≡ self.old.tally }
+    {
+        match self.held.write(alloc, text, &mut self.lines) {
+            Ok(()) => Ok(Flow::Go),
+            Err(HeldFault::TooLong) => {
+                self.tell(Complaint::TextPassed)?;
+                Ok(Flow::Stop)
+            }
+            Err(HeldFault::OutOfMemory) => Err(AllocError),
+        }
+    }
+
+    /// Ends the held line.
+    pub fn end_line(&mut self, alloc: Global) -> Result<(), AllocError>
+        ensures world { OnOk result (world_of self.new ≡ ended (world_of self.old)) }
+        ensures tally { self.new.tally ≡ self.old.tally }
+    {
+        match self.held.newline(alloc, &mut self.lines) {
+            Ok(()) => Ok(()),
+            Err(_) => Err(AllocError),
+        }
+    }
+
+    /// The messages of all complaints, in their order.
+    pub fn messages(&self, alloc: Global) -> Result<Sequence<Message>, AllocError>
+        ensures { IfOk result (λ messages. messages ≡ (world_of self.now).messages) }
+    {
+        let key = match &self.current {
+            None => None,
+            Some(current) => Some(current.entry.key.as_slice()),
+        };
+        complaint::messages(alloc, self.complaints.as_slice(), key)
+    }
+}

@@ -1,0 +1,188 @@
+//! The functions on texts.
+
+ghost use Rattle.std.specs.Prelude.{◌≡◌, IfOk, pos};
+ghost use Rattle.bt_actions.specs.Item.{Txt};
+ghost use Rattle.bt_actions.specs.Arguments.{number_of, text_of, taken, taken_two, taken_three};
+ghost use Rattle.bt_actions.specs.Given.{valued, answered, zero_item, empty_item, number_given};
+ghost use Rattle.bt_actions.specs.Texts.{join_of, period_of, mode_of, case_of, purified_of, substring_given, prefix_of, length_of, width_given, quote};
+ghost use Rattle.bt_actions.specs.State.{pushed, appended, ended};
+ghost use Rattle.bt_actions.specs.View.{world_of, Acts};
+ghost use Rattle.bt_style.specs.declared.builtin.Builtin.TheVariants as builtin;
+
+use crate::arguments::{
+    take_text, take_text_and_number, take_text_and_two_numbers, take_two_texts,
+};
+use crate::complaint::Complaint;
+use crate::short_text::ShortText;
+use crate::state::{Flow, State};
+use bt_style::Builtin;
+use bt_text::{
+    Bytes, Mode, add_period, change_case, purify, substring, text_length, text_prefix, width,
+};
+use std::alloc::{AllocError, Global};
+
+/// `*`.
+pub fn join(state: &mut State, alloc: Global) -> Result<Flow, AllocError>
+    ensures world { IfOk result (Acts (λ world.
+        valued join_of empty_item (taken_two builtin.Join text_of text_of world)) state.old state.new) }
+    ensures tally { state.new.tally ≡ state.old.tally }
+{
+    match take_two_texts(state, Builtin::Join)? {
+        None => state.push_text(Bytes::new(alloc)),
+        Some((lower, upper)) => {
+            let mut text = lower.into_bytes();
+            text.append(upper.as_slice())?;
+            state.push_text(text)
+        }
+    }
+}
+
+/// `add.period$`.
+pub fn end_with_period(state: &mut State, alloc: Global) -> Result<Flow, AllocError>
+    ensures world { IfOk result (Acts (λ world.
+        valued period_of empty_item (taken builtin.AddPeriod text_of world)) state.old state.new) }
+    ensures tally { state.new.tally ≡ state.old.tally }
+{
+    match take_text(state, Builtin::AddPeriod)? {
+        None => state.push_text(Bytes::new(alloc)),
+        Some(text) => {
+            let ended = add_period(alloc, text.as_slice())?;
+            state.push_text(ended)
+        }
+    }
+}
+
+/// The change of case that a text names.
+fn mode_of(name: &[u8]) -> Option<Mode>
+    ensures { result ≡ mode_of name.now }
+{
+    match name {
+        [b't' | b'T'] => Some(Mode::Title),
+        [b'l' | b'L'] => Some(Mode::Lower),
+        [b'u' | b'U'] => Some(Mode::Upper),
+        _ => None,
+    }
+}
+
+/// Changes the case of a text as another one names it. Where that names no change the text stays.
+fn push_case(
+    state: &mut State,
+    alloc: Global,
+    text: ShortText,
+    name: ShortText,
+) -> Result<Flow, AllocError>
+    ensures world { IfOk result (Acts (answered (case_of (text, name))) state.old state.new) }
+    ensures tally { state.new.tally ≡ state.old.tally }
+{
+    match mode_of(name.as_slice()) {
+        None => {
+            state.push_text_in_error(Complaint::BadCase(name.into_bytes()), text.into_bytes())
+        }
+        Some(mode) => {
+            let changed = change_case(alloc, text.as_slice(), mode)?;
+            state.push_text(changed)
+        }
+    }
+}
+
+/// `change.case$`.
+pub fn convert_case(state: &mut State, alloc: Global) -> Result<Flow, AllocError>
+    ensures world { IfOk result (Acts (λ world.
+        valued case_of empty_item (taken_two builtin.ChangeCase text_of text_of world)) state.old state.new) }
+    ensures tally { state.new.tally ≡ state.old.tally }
+{
+    match take_two_texts(state, Builtin::ChangeCase)? {
+        None => state.push_text(Bytes::new(alloc)),
+        Some((text, name)) => push_case(state, alloc, text, name),
+    }
+}
+
+/// `purify$`.
+pub fn purified(state: &mut State, alloc: Global) -> Result<Flow, AllocError>
+    ensures world { IfOk result (Acts (λ world.
+        valued purified_of empty_item (taken builtin.Purify text_of world)) state.old state.new) }
+    ensures tally { state.new.tally ≡ state.old.tally }
+{
+    match take_text(state, Builtin::Purify)? {
+        None => state.push_text(Bytes::new(alloc)),
+        Some(text) => {
+            let pure = purify(alloc, text.as_slice())?;
+            state.push_text(pure)
+        }
+    }
+}
+
+/// `substring$`.
+pub fn cut(state: &mut State, alloc: Global) -> Result<Flow, AllocError>
+    ensures world { IfOk result (Acts (λ world.
+        valued substring_given empty_item (taken_three builtin.Substring text_of number_of number_of world))
+        state.old state.new) }
+    ensures tally { state.new.tally ≡ state.old.tally }
+{
+    match take_text_and_two_numbers(state, Builtin::Substring)? {
+        None => state.push_text(Bytes::new(alloc)),
+        Some((text, start, len)) => {
+            let part = substring(alloc, text.as_slice(), start, len)?;
+            state.push_text(part)
+        }
+    }
+}
+
+/// `text.prefix$`.
+pub fn prefix(state: &mut State, alloc: Global) -> Result<Flow, AllocError>
+    ensures world { IfOk result (Acts (λ world.
+        valued prefix_of empty_item (taken_two builtin.TextPrefix text_of number_of world)) state.old state.new) }
+    ensures tally { state.new.tally ≡ state.old.tally }
+{
+    match take_text_and_number(state, Builtin::TextPrefix)? {
+        None => state.push_text(Bytes::new(alloc)),
+        Some((text, most)) => {
+            let prefix = text_prefix(alloc, text.as_slice(), most)?;
+            state.push_text(prefix)
+        }
+    }
+}
+
+/// Puts a count on the stack, or tells that it doesn't fit.
+pub fn push_count(state: &mut State, builtin: Builtin, count: usize) -> Result<Flow, AllocError>
+    ensures world { IfOk result (Acts (answered (number_given builtin (pos count))) state.old state.new) }
+    ensures tally { state.new.tally ≡ state.old.tally }
+{
+    match i32::try_from(count) {
+        Ok(number) => state.push_number(number),
+        Err(_) => state.push_zero_in_error(Complaint::OutOfRange(builtin)),
+    }
+}
+
+/// `text.length$`.
+pub fn length(state: &mut State) -> Result<Flow, AllocError>
+    ensures world { IfOk result (Acts (λ world.
+        valued length_of zero_item (taken builtin.TextLength text_of world)) state.old state.new) }
+    ensures tally { state.new.tally ≡ state.old.tally }
+{
+    match take_text(state, Builtin::TextLength)? {
+        None => state.push_number(0),
+        Some(text) => push_count(state, Builtin::TextLength, text_length(text.as_slice())),
+    }
+}
+
+/// `width$`.
+pub fn printed_width(state: &mut State) -> Result<Flow, AllocError>
+    ensures world { IfOk result (Acts (λ world.
+        valued width_given zero_item (taken builtin.Width text_of world)) state.old state.new) }
+    ensures tally { state.new.tally ≡ state.old.tally }
+{
+    match take_text(state, Builtin::Width)? {
+        None => state.push_number(0),
+        Some(text) => push_count(state, Builtin::Width, width(text.as_slice()) as usize),
+    }
+}
+
+/// `quote$`.
+pub fn push_quote(state: &mut State, alloc: Global) -> Result<Flow, AllocError>
+    ensures world { IfOk result (Acts (pushed (Txt quote)) state.old state.new) }
+    ensures tally { state.new.tally ≡ state.old.tally }
+{
+    let text = Bytes::copied(alloc, b"\"")?;
+    state.push_text(text)
+}

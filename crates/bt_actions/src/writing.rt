@@ -1,0 +1,34 @@
+//! The functions that write lines.
+
+ghost use Rattle.std.specs.Prelude.{◌≡◌, IfOk};
+ghost use Rattle.bt_actions.specs.World.{Goes};
+ghost use Rattle.bt_actions.specs.State.{appended, ended};
+ghost use Rattle.bt_actions.specs.Arguments.{text_of, taken};
+ghost use Rattle.bt_actions.specs.Actions.{done_with};
+ghost use Rattle.bt_actions.specs.View.{world_of, Acts};
+ghost use Rattle.bt_style.specs.declared.builtin.Builtin.TheVariants as builtin;
+
+use crate::arguments::take_text;
+use crate::state::{Flow, State};
+use bt_style::Builtin;
+use std::alloc::{AllocError, Global};
+
+/// `newline$`.
+pub fn newline(state: &mut State, alloc: Global) -> Result<Flow, AllocError>
+    ensures world { IfOk result (Acts (λ world. Goes (ended world)) state.old state.new) }
+    ensures tally { state.new.tally ≡ state.old.tally }
+{
+    state.end_line(alloc)?;
+    Ok(Flow::Go)
+}
+
+/// `write$`.
+pub fn write(state: &mut State, alloc: Global) -> Result<Flow, AllocError>
+    ensures world { IfOk result (Acts (λ world. done_with appended (taken builtin.Write text_of world)) state.old state.new) }
+    ensures tally { state.new.tally ≡ state.old.tally }
+{
+    match take_text(state, Builtin::Write)? {
+        None => Ok(Flow::Go),
+        Some(text) => state.write(alloc, text.as_slice()),
+    }
+}

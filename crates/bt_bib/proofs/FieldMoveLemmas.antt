@@ -1,0 +1,135 @@
+-- Values and fields go alike too.
+use Rattle.std.specs.Prelude.{◌==◌}
+use Rattle.std.proofs.Common.{◌≡◌, ℕ, zero, suc, ◌+◌, ◌<◌, List, [], ◌∷◌, ◌++◌, length, map, Option, Some, None, Result, Ok, Err, refl, sym, ap, subst, ◌∙◌, arith}
+use Rattle.std.proofs.lemmas.List.{map-append}
+use Rattle.bt_bib.specs.declared.spot.Spot.{Spot}
+use Rattle.bt_bib.specs.declared.fault.What.TheVariants.{FieldName}
+use Rattle.bt_bib.specs.declared.fault.Fault.TheVariants.{EndOfFile, ExpectedEquals, ExpectedCommaOrClose}
+use Rattle.bt_bib.specs.declared.item.Closing.{Closing}
+use Rattle.bt_bib.specs.declared.item.Part.{Part}
+use Rattle.bt_bib.specs.declared.item.Field.{Field}
+use Rattle.bt_bib.specs.Spot.{Here, behind}
+use Rattle.bt_bib.specs.Stop.{Stop, ◌>>=◌}
+use Rattle.bt_bib.specs.Scan.{first, white, sign, closing_sign}
+use Rattle.bt_bib.specs.Names.{name}
+use Rattle.bt_bib.specs.Many.{all, many_by, collected}
+use Rattle.bt_bib.specs.Values.{part, joined, joined_from, value}
+use Rattle.bt_bib.specs.Fields.{field, field_or_close, next_field, next_field_from, name_ends}
+use Rattle.bt_bib.specs.Moved.{moved_part, moved_field, moved_option}
+use Rattle.bt_bib.proofs.ReachLemmas.{reaches_self, reaches_place, Advances, Moves, advances_bind, advances_ok, advances_white, moves_bind, sign_moves, part_advances, joined_advances, joined_advances_from, value_advances, field_or_close_advances, next_field_advances_from, many_moves}
+use Rattle.bt_bib.proofs.ManyLemmas.{IsLess, all_is}
+use Rattle.bt_bib.proofs.FieldLemmas.{joined_less}
+use Rattle.bt_bib.proofs.AlikeLemmas.{Alike, alike_behind, alike_first, alike_past}
+use Rattle.bt_bib.proofs.SameLemmas.{Same, same_ok, same_err, same_when, same_if, same_bind, find_bind, same_value, name_same, sign_same, part_same}
+
+-- what was read up to an end goes alike
+abbrev pub ReadsAlike : {X : Type 0} → Spot → ℕ → (X → X) → X × Result Here Stop → X × Result Here Stop → Type 0
+ReadsAlike m limit f (x, Ok e) y = e.spot.place < limit → (k : Here) × (y ≡ (f x, Ok k)) × Alike m limit e k
+ReadsAlike m limit f (x, Err s) y = s.1.spot.place < limit → (k : Here) × (y ≡ (f x, Err (s.0, k))) × Alike m limit s.1 k
+
+pub record SameRead {X : Type 0} (m : Spot) (limit : ℕ) (f : X → X) (x y : X × Result Here Stop) : Type 0 where
+  pub alike : ReadsAlike m limit f x y
+
+pub read_when : {X : Type 0} (m : Spot) (limit : ℕ) (f : X → X) (h : Here) (x y : X × Result Here Stop) → Moves h x.1 → (h.spot.place < limit → SameRead m limit f x y) → SameRead m limit f x y
+read_when m limit f h (xs, Ok e) y r s = record { alike = λ lt. (s (omega (arith, reaches_place h e r.ahead))).alike lt }
+read_when m limit f h (xs, Err e) y r s = record { alike = λ lt. (s (omega (arith, reaches_place h e.1 r.ahead))).alike lt }
+
+all_cons : {A : Type 0} (m : Spot) (limit : ℕ) (f : A → A) (a : A) (x y : List A × Result Here Stop) → SameRead m limit (map f) x y → SameRead m limit (map f) (a ∷ x.0, x.1) (f a ∷ y.0, y.1)
+all_cons {A = A} m limit f a (xs, Ok e) y s = record { alike = λ lt. (let t = s.alike lt in (t.0, ap (λ (z : List A × Result Here Stop). (f a ∷ z.0, z.1)) t.1, t.2)) }
+all_cons {A = A} m limit f a (xs, Err e) y s = record { alike = λ lt. (let t = s.alike lt in (t.0, ap (λ (z : List A × Result Here Stop). (f a ∷ z.0, z.1)) t.1, t.2)) }
+
+by_alike : {A : Type 0} (m : Spot) (limit : ℕ) (f : A → A) (later : Here → List A × Result Here Stop) (h : Here) (r q : Result (Option A × Here) Stop) → Same m limit (moved_option f) r q → IsLess h r → ((e : Here) → Moves e (later e).1) → ((e k : Here) → length e.rest < length h.rest → Alike m limit e k → SameRead m limit (map f) (later e) (later k)) → SameRead m limit (map f) (many_by later r) (many_by later q)
+by_alike m limit f later h (Err x) q s less ahead step = record { alike = λ lt. (let t = s.alike lt in (t.0, ap (many_by later) t.1, t.2)) }
+by_alike m limit f later h (Ok (None, e)) q s less ahead step = record { alike = λ lt. (let t = s.alike lt in (t.0, ap (many_by later) t.1, t.2)) }
+by_alike m limit f later h (Ok (Some a, e)) q s less ahead step =
+    read_when m limit (map f) e (a ∷ (later e).0, (later e).1) (many_by later q) (ahead e) (λ lt.
+    let t = s.alike lt in
+    subst (λ z. SameRead m limit (map f) (a ∷ (later e).0, (later e).1) z) (sym (ap (many_by later) t.1)) (all_cons m limit f a (later e) (later t.0) (step e t.0 less t.2)))
+
+all_alike_below : {A : Type 0} (m : Spot) (limit : ℕ) (f : A → A) (next : Here → Result (Option A × Here) Stop) → ((h : Here) → IsLess h (next h)) → ((h : Here) → Advances h (next h)) → ((h k : Here) → Alike m limit h k → Same m limit (moved_option f) (next h) (next k)) → (n : ℕ) (h k : Here) → length h.rest < n → Alike m limit h k → SameRead m limit (map f) (all next h) (all next k)
+all_alike_below m limit f next less adv same zero h k lt a = absurd (omega arith)
+all_alike_below m limit f next less adv same (suc n) h k lt a =
+    let one = by_alike m limit f (all next) h (next h) (next k) (same h k a) (less h) (λ e. many_moves next adv (suc (length e.rest)) e) (λ e g below b. all_alike_below m limit f next less adv same n e g (omega arith) b) in
+    subst (λ z. SameRead m limit (map f) z (all next k)) (sym (all_is next less h)) (subst (λ z. SameRead m limit (map f) (many_by (all next) (next h)) z) (sym (all_is next less k)) one)
+
+pub all_alike : {A : Type 0} (m : Spot) (limit : ℕ) (f : A → A) (next : Here → Result (Option A × Here) Stop) → ((h : Here) → IsLess h (next h)) → ((h : Here) → Advances h (next h)) → ((h k : Here) → Alike m limit h k → Same m limit (moved_option f) (next h) (next k)) → (h k : Here) → Alike m limit h k → SameRead m limit (map f) (all next h) (all next k)
+all_alike m limit f next less adv same h k a = all_alike_below m limit f next less adv same (suc (length h.rest)) h k (omega arith) a
+
+collected_alike : {A : Type 0} (m : Spot) (limit : ℕ) (f : A → A) (front : List A) (x y : List A × Result Here Stop) → SameRead m limit (map f) x y → Same m limit (map f) (collected front x) (collected (map f front) y)
+collected_alike m limit f front (xs, Ok e) y s = record { alike = λ lt. (let t = s.alike lt in (t.0, ap (collected (map f front)) t.1 ∙ ap (λ l. Ok (l, t.0)) (sym (map-append f front xs)), t.2)) }
+collected_alike m limit f front (xs, Err e) y s = record { alike = λ lt. (let t = s.alike lt in (t.0, ap (collected (map f front)) t.1, t.2)) }
+
+-- behind one byte, white space and one after the other
+white_alike : {A : Type 0} (m : Spot) (limit : ℕ) (f : A → A) (h k : Here) (r : Here → Result (A × Here) Stop) → Alike m limit h k → ((e : Here) → Advances e (r e)) → ((e g : Here) → Alike m limit e g → Same m limit f (r e) (r g)) → Same m limit f (r (white h)) (r (white k))
+white_alike m limit f h k r a adv same = same_when m limit f (white h) (r (white h)) (r (white k)) (adv (white h)) (λ lt. same (white h) (white k) (alike_past m limit _ h k a lt))
+
+joined_same_from : (m : Spot) (limit : ℕ) (close : Closing) (h k : Here) (o : Option ℕ) → h.spot.place < limit → Alike m limit h k → Same m limit (moved_option (moved_part m)) (joined_from close h o) (joined_from close k o)
+joined_same_from m limit close h k None lt a = same_ok m limit (moved_option (moved_part m)) None None h k refl (λ _. a)
+joined_same_from m limit close h k (Some b) lt a =
+    let f = moved_option (moved_part m) in
+    let read : Here → Result (Option Part × Here) Stop = λ e. part close e >>= λ x. Ok (Some x.0, x.1) in
+    let adv : (e : Here) → Advances e (read e) = λ e. advances_bind e (part close e) (λ x. Ok (Some x.0, x.1)) (part_advances close e) (λ x. advances_ok x.1 x.1 (Some x.0) (reaches_self x.1)) in
+    let next = white_alike m limit f (behind h) (behind k) read (alike_behind m limit h k lt a) adv (λ e g c. same_bind m limit (moved_part m) f (part close e) (part close g) (λ x. Ok (Some x.0, x.1)) (λ x. Ok (Some x.0, x.1)) (part_same m limit close e g c) (λ x. advances_ok x.1 x.1 (Some x.0) (reaches_self x.1)) (λ x p q d is. same_ok m limit f (Some x) (Some (moved_part m x)) p q refl (λ _. d))) in
+    same_if m limit f (b == 35) _ _ _ _ next (same_ok m limit f None None h k refl (λ _. a))
+
+pub joined_same : (m : Spot) (limit : ℕ) (close : Closing) (h k : Here) → Alike m limit h k → Same m limit (moved_option (moved_part m)) (joined close h) (joined close k)
+unfolding joined
+joined_same m limit close h k a = same_when m limit (moved_option (moved_part m)) h (joined_from close h (first h.rest)) (joined_from close k (first k.rest)) (joined_advances_from close h (first h.rest)) (λ lt.
+    subst (λ o. Same m limit (moved_option (moved_part m)) (joined_from close h (first h.rest)) (joined_from close k o)) (sym (alike_first m limit h k lt a)) (joined_same_from m limit close h k (first h.rest) lt a))
+
+value_rest_advances : (close : Closing) (x : Part × Here) → Advances x.1 (collected (x.0 ∷ []) (all (joined close) x.1))
+value_rest_advances close x = moves_bind x.1 (all (joined close) x.1).1 (λ e. Ok ((x.0 ∷ []) ++ (all (joined close) x.1).0, e)) (many_moves (joined close) (joined_advances close) (suc (length x.1.rest)) x.1) (λ e. advances_ok e e ((x.0 ∷ []) ++ (all (joined close) x.1).0) (reaches_self e))
+
+pub value_same : (m : Spot) (limit : ℕ) (close : Closing) (h k : Here) → Alike m limit h k → Same m limit (map (moved_part m)) (value close h) (value close k)
+unfolding value
+value_same m limit close h k a = same_bind m limit (moved_part m) (map (moved_part m)) (part close h) (part close k) (λ x. collected (x.0 ∷ []) (all (joined close) x.1)) (λ x. collected (x.0 ∷ []) (all (joined close) x.1)) (part_same m limit close h k a) (value_rest_advances close) (λ x e g c is.
+    collected_alike m limit (moved_part m) (x ∷ []) (all (joined close) e) (all (joined close) g) (all_alike m limit (moved_part m) (joined close) (joined_less close) (joined_advances close) (joined_same m limit close) e g c))
+
+-- the parts of a field's reading
+abbrev valued : Closing → List ℕ → ℕ → Here → Result (Field × Here) Stop
+valued close n line e = value close e >>= λ v. Ok (record { name = n; line = line; value = v.0 }, v.1)
+
+abbrev equalled : Closing → List ℕ → ℕ → Here → Result (Field × Here) Stop
+equalled close n line e = sign 61 ExpectedEquals e >>= λ q. valued close n line (white q)
+
+valued_advances : (close : Closing) (n : List ℕ) (line : ℕ) (e : Here) → Advances e (valued close n line e)
+valued_advances close n line e = advances_bind e (value close e) (λ v. Ok (record { name = n; line = line; value = v.0 }, v.1)) (value_advances close e) (λ v. advances_ok v.1 v.1 _ (reaches_self v.1))
+
+equalled_advances : (close : Closing) (n : List ℕ) (line : ℕ) (e : Here) → Advances e (equalled close n line e)
+equalled_advances close n line e = moves_bind e (sign 61 ExpectedEquals e) (λ q. valued close n line (white q)) (sign_moves 61 ExpectedEquals e) (λ q. advances_white q _ (valued_advances close n line (white q)))
+
+valued_same : (m : Spot) (limit : ℕ) (close : Closing) (n : List ℕ) (line : ℕ) (h k : Here) → Alike m limit h k → Same m limit (moved_field m) (valued close n line h) (valued close n (line + m.line) k)
+valued_same m limit close n line h k a = same_bind m limit (map (moved_part m)) (moved_field m) (value close h) (value close k) (λ v. Ok (record { name = n; line = line; value = v.0 }, v.1)) (λ v. Ok (record { name = n; line = line + m.line; value = v.0 }, v.1)) (value_same m limit close h k a) (λ v. advances_ok v.1 v.1 _ (reaches_self v.1)) (λ v e g c is.
+    same_ok m limit (moved_field m) (record { name = n; line = line; value = v }) (record { name = n; line = line + m.line; value = map (moved_part m) v }) e g refl (λ _. c))
+
+equalled_same : (m : Spot) (limit : ℕ) (close : Closing) (n : List ℕ) (line : ℕ) (h k : Here) → Alike m limit h k → Same m limit (moved_field m) (equalled close n line h) (equalled close n (line + m.line) k)
+equalled_same m limit close n line h k a = find_bind m limit (moved_field m) (sign 61 ExpectedEquals h) (sign 61 ExpectedEquals k) (λ q. valued close n line (white q)) (λ q. valued close n (line + m.line) (white q)) (sign_same m limit 61 ExpectedEquals h k a) (λ q. advances_white q _ (valued_advances close n line (white q))) (λ q g c is.
+    same_when m limit (moved_field m) (white q) (valued close n line (white q)) (valued close n (line + m.line) (white g)) (valued_advances close n line (white q)) (λ lt. valued_same m limit close n line (white q) (white g) (alike_past m limit _ q g c lt)))
+
+pub field_same : (m : Spot) (limit : ℕ) (close : Closing) (h k : Here) → Alike m limit h k → Same m limit (moved_field m) (field close h) (field close k)
+unfolding field
+field_same m limit close h k a = same_bind m limit same_value (moved_field m) (name FieldName name_ends h) (name FieldName name_ends k) (λ n. equalled close n.0 h.spot.line (white n.1)) (λ n. equalled close n.0 k.spot.line (white n.1)) (name_same m limit FieldName name_ends h k a) (λ n. advances_white n.1 _ (equalled_advances close n.0 h.spot.line (white n.1))) (λ n e g c is.
+    subst (λ line. Same m limit (moved_field m) (equalled close n h.spot.line (white e)) (equalled close n line (white g))) (sym (ap (λ (s : Spot). s.line) a.spot)) (same_when m limit (moved_field m) (white e) (equalled close n h.spot.line (white e)) (equalled close n (h.spot.line + m.line) (white g)) (equalled_advances close n h.spot.line (white e)) (λ lt. equalled_same m limit close n h.spot.line (white e) (white g) (alike_past m limit _ e g c lt))))
+
+field_or_close_same : (m : Spot) (limit : ℕ) (close : Closing) (h k : Here) (o : Option ℕ) → h.spot.place < limit → Alike m limit h k → Same m limit (moved_option (moved_field m)) (field_or_close close h o) (field_or_close close k o)
+field_or_close_same m limit close h k None lt a = same_err m limit (moved_option (moved_field m)) EndOfFile h k (λ _. a)
+field_or_close_same m limit close h k (Some b) lt a =
+    let f = moved_option (moved_field m) in
+    let next = same_bind m limit (moved_field m) f (field close h) (field close k) (λ x. Ok (Some x.0, x.1)) (λ x. Ok (Some x.0, x.1)) (field_same m limit close h k a) (λ x. advances_ok x.1 x.1 (Some x.0) (reaches_self x.1)) (λ x e g c is. same_ok m limit f (Some x) (Some (moved_field m x)) e g refl (λ _. c)) in
+    same_if m limit f (b == closing_sign close) _ _ _ _ (same_ok m limit f None None (behind h) (behind k) refl (λ _. alike_behind m limit h k lt a)) next
+
+next_field_same_from : (m : Spot) (limit : ℕ) (close : Closing) (h k : Here) (o : Option ℕ) → h.spot.place < limit → Alike m limit h k → Same m limit (moved_option (moved_field m)) (next_field_from close h o) (next_field_from close k o)
+next_field_same_from m limit close h k None lt a = same_err m limit (moved_option (moved_field m)) EndOfFile h k (λ _. a)
+next_field_same_from m limit close h k (Some b) lt a =
+    let f = moved_option (moved_field m) in
+    let w = white (behind h) in
+    let v = white (behind k) in
+    let comma = same_when m limit f w (field_or_close close w (first w.rest)) (field_or_close close v (first v.rest)) (field_or_close_advances close w (first w.rest)) (λ below.
+    let c = alike_past m limit _ (behind h) (behind k) (alike_behind m limit h k lt a) below in
+    subst (λ o. Same m limit f (field_or_close close w (first w.rest)) (field_or_close close v o)) (sym (alike_first m limit w v below c)) (field_or_close_same m limit close w v (first w.rest) below c)) in
+    same_if m limit f (b == closing_sign close) _ _ _ _ (same_ok m limit f None None (behind h) (behind k) refl (λ _. alike_behind m limit h k lt a)) (same_if m limit f (b == 44) _ _ _ _ comma (same_err m limit f ExpectedCommaOrClose h k (λ _. a)))
+
+pub next_field_same : (m : Spot) (limit : ℕ) (close : Closing) (h k : Here) → Alike m limit h k → Same m limit (moved_option (moved_field m)) (next_field close h) (next_field close k)
+unfolding next_field
+next_field_same m limit close h k a = same_when m limit (moved_option (moved_field m)) h (next_field_from close h (first h.rest)) (next_field_from close k (first k.rest)) (next_field_advances_from close h (first h.rest)) (λ lt.
+    subst (λ o. Same m limit (moved_option (moved_field m)) (next_field_from close h (first h.rest)) (next_field_from close k o)) (sym (alike_first m limit h k lt a)) (next_field_same_from m limit close h k (first h.rest) lt a))

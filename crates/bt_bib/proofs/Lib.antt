@@ -1,0 +1,22 @@
+pub mod AuxLemmas
+mod AuxRows
+pub mod RunLemmas
+pub mod EnclosedLemmas
+pub mod ReachLemmas
+pub mod ManyLemmas
+pub mod FieldLemmas
+pub mod LoopLemmas
+pub mod SeekLemmas
+pub mod PieceLemmas
+mod BibRows
+pub mod AlikeLemmas
+pub mod SameLemmas
+pub mod FieldMoveLemmas
+pub mod PieceMoveLemmas
+pub mod BoundaryLemmas
+pub mod KeptLemmas
+pub mod RiseLemmas
+pub mod SmallLemmas
+pub mod SpliceLemmas
+pub mod LawLemmas
+pub mod LineLemmas

@@ -1,0 +1,50 @@
+-- The argument of a command in an .aux text: its parts, and what is wrong with it.
+use Rattle.std.specs.Prelude.{ℕ, ◌-◌, Bool, true, false, ◌==◌, ◌||◌, List, [], ◌∷◌, length, take, drop, Option, Some, None, if◌then◌else◌}
+use Rattle.std.specs.List.{slice_split, before_first}
+use Rattle.bt_text.specs.ByteTests.{is_white}
+use Rattle.bt_bib.specs.declared.aux_argument.AuxFault.{AuxFault}
+use Rattle.bt_bib.specs.declared.aux_argument.AuxFault.TheVariants.{NoBrace, WhiteSpace, StuffAfter}
+use Rattle.bt_bib.specs.declared.aux_argument.Parting.{Parting}
+use Rattle.bt_bib.specs.declared.aux_argument.Parting.TheVariants.{Commas, Whole}
+
+-- what ends an argument: a closing brace, or white space
+abbrev pub ends_argument : ℕ → Bool
+ends_argument b = b == 125 || is_white b
+
+-- the argument: what stands before the first such byte
+abbrev pub inside : List ℕ → List ℕ
+inside rest = before_first ends_argument rest
+
+-- that byte and what stands behind it
+abbrev pub behind : List ℕ → List ℕ
+behind rest = drop (length (inside rest)) rest
+
+abbrev pub is_comma : ℕ → Bool
+is_comma b = b == 44
+
+-- the parts of an argument
+abbrev pub parts_in : Parting → List ℕ → List (List ℕ)
+parts_in Commas argument = slice_split is_comma argument
+parts_in Whole argument = argument ∷ []
+
+-- a brace must be the last byte of its line
+abbrev pub stuff_after : List ℕ → Option AuxFault
+stuff_after [] = None
+stuff_after (b ∷ bs) = Some StuffAfter
+
+-- what is wrong, by what ends the argument and stands behind it
+abbrev pub fault_at : List ℕ → Option AuxFault
+fault_at [] = Some NoBrace
+fault_at (b ∷ bs) = if is_white b then Some WhiteSpace else stuff_after bs
+
+-- a fault drops the part at which it stands, the last one
+abbrev pub kept : Option AuxFault → List (List ℕ) → List (List ℕ)
+kept None parts = parts
+kept (Some fault) parts = take (length parts - 1) parts
+
+-- the parts in front of a fault, and the fault, of what stands behind a command's opening brace
+abbrev pub fault_of : List ℕ → Option AuxFault
+fault_of rest = fault_at (behind rest)
+
+abbrev pub parts_of : Parting → List ℕ → List (List ℕ)
+parts_of parting rest = kept (fault_of rest) (parts_in parting (inside rest))

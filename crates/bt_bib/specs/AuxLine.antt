@@ -1,0 +1,62 @@
+-- The counted lines of one .aux text.
+use Rattle.std.specs.Prelude.{ℕ, ◌+◌, Bool, true, false, ◌==◌, ◌&&◌, ◌||◌, List, [], ◌∷◌, ◌++◌, length, drop, codes, Option, Some, None, if◌then◌else◌}
+use Rattle.std.specs.List.{slice_split, starts_with}
+use Rattle.std.specs.Prelude.{eqb}
+use Rattle.bt_text.specs.White.{trimmed_end}
+use Rattle.bt_bib.specs.declared.aux_line.Command.{Command}
+use Rattle.bt_bib.specs.declared.aux_line.Command.TheVariants.{Citation, Database, Style, Nested}
+use Rattle.bt_bib.specs.declared.aux_argument.Parting.{Parting}
+use Rattle.bt_bib.specs.declared.aux_argument.Parting.TheVariants.{Commas, Whole}
+use Rattle.bt_bib.specs.declared.aux_line.AuxItem.{AuxItem}
+use Rattle.bt_bib.specs.AuxArgument.{parts_of, fault_of}
+
+-- a line feed
+abbrev pub is_line_end : ℕ → Bool
+is_line_end b = b == 10
+
+-- what a line that counts begins with
+abbrev pub word : Command → List ℕ
+word Citation = codes "\\citation{"
+word Database = codes "\\bibdata{"
+word Style = codes "\\bibstyle{"
+word Nested = codes "\\@input{"
+
+-- whether a line begins with a command
+abbrev pub begins : Command → List ℕ → Bool
+begins c line = starts_with eqb line (word c)
+
+-- the command of a line that counts
+abbrev pub command_of : List ℕ → Option Command
+command_of line =
+    if begins Citation line then Some Citation
+    else if begins Database line then Some Database
+    else if begins Style line then Some Style
+    else if begins Nested line then Some Nested
+    else None
+
+-- how a command's argument is parted
+abbrev pub parting : Command → Parting
+parting Citation = Commas
+parting Database = Commas
+parting Style = Whole
+parting Nested = Whole
+
+-- a counted line
+abbrev pub item : ℕ → List ℕ → Command → AuxItem
+item n line c =
+    let rest = drop (length (word c)) line in
+    record { line = n; command = c; parts = parts_of (parting c) rest; fault = fault_of rest }
+
+-- a line in front of later ones, if it counts
+abbrev pub counted : ℕ → List ℕ → Option Command → List AuxItem → List AuxItem
+counted n line None later = later
+counted n line (Some c) later = item n line c ∷ later
+
+-- the counted ones among lines that are numbered from n on
+abbrev pub items_from : ℕ → List (List ℕ) → List AuxItem
+items_from n [] = []
+items_from n (l ∷ ls) = counted n (trimmed_end l) (command_of (trimmed_end l)) (items_from (n + 1) ls)
+
+-- the counted lines of a text
+unfoldable pub aux_lines : List ℕ → List AuxItem
+aux_lines text = items_from 1 (slice_split is_line_end text)

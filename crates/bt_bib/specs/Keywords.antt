@@ -1,0 +1,13 @@
+-- Types that are words of the format itself.
+use Rattle.std.specs.Prelude.{ℕ, List, codes, if◌then◌else◌}
+use Rattle.bt_text.specs.Folding.{is_same_folded}
+use Rattle.bt_bib.specs.declared.keywords.Keyword.{Keyword}
+use Rattle.bt_bib.specs.declared.keywords.Keyword.TheVariants.{Comment, String, Preamble, Entry}
+
+-- what a type begins, without regard to case
+abbrev pub keyword_of : List ℕ → Keyword
+keyword_of kind =
+    if is_same_folded kind (codes "comment") then Comment
+    else if is_same_folded kind (codes "string") then String
+    else if is_same_folded kind (codes "preamble") then Preamble
+    else Entry

@@ -1,0 +1,39 @@
+-- Splices of a text, and what is read again behind one.
+use Rattle.std.specs.Prelude.{◌≡◌, ℕ, ◌+◌, ◌-◌, ◌≤◌, nat_lt, nat_le, ◌==◌, Bool, ◌&&◌, max, min, List, [], ◌∷◌, ◌++◌, length, take, drop}
+use Rattle.std.specs.List.{filter, list_any}
+use Rattle.bt_bib.specs.declared.item.Piece.{Piece}
+use Rattle.bt_bib.specs.Boundaries.{boundaries}
+use Rattle.bt_bib.specs.Reading.{pieces_of}
+
+-- new is old with the bytes from begin up to end replaced by so many others
+pub record IsSplice (old new : List ℕ) (begin end inserted : ℕ) : Type 0 where
+  pub order : begin ≤ end
+  pub inside : end ≤ length old
+  pub bytes : List ℕ
+  pub count : length bytes ≡ inserted
+  pub text : new ≡ take begin old ++ bytes ++ drop end old
+
+-- the greatest of some places, else 0
+abbrev pub greatest : List ℕ → ℕ
+greatest [] = 0
+greatest (x ∷ xs) = max x (greatest xs)
+
+-- the least of some places and one that is no less than they are
+abbrev pub least : ℕ → List ℕ → ℕ
+least most [] = most
+least most (x ∷ xs) = min x (least most xs)
+
+abbrev pub is_boundary : List Piece → ℕ → Bool
+is_boundary ps place = list_any (λ b. b == place) (boundaries ps)
+
+-- a place of the new text, at or behind the inserted bytes, that is a boundary of the old one when moved back
+abbrev pub is_common : List Piece → ℕ → ℕ → ℕ → ℕ → Bool
+is_common old begin end inserted place = nat_le (begin + inserted) place && is_boundary old (place - (begin + inserted) + end)
+
+-- Reading begins again at the greatest boundary of the old text below the splice, else at 0.
+abbrev pub reread_from : List ℕ → ℕ → ℕ
+reread_from old begin = greatest (filter (λ place. nat_lt place begin) (boundaries (pieces_of old)))
+
+-- It goes on up to the least boundary of the new text that both have, else to the new text's end.
+abbrev pub reread_upto : List ℕ → List ℕ → ℕ → ℕ → ℕ → ℕ
+reread_upto old new begin end inserted = least (length new) (filter (is_common (pieces_of old) begin end inserted) (boundaries (pieces_of new)))

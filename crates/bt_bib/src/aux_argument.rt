@@ -1,0 +1,119 @@
+//! The argument of a command in an `.aux` text: its parts, and what is wrong with it.
+
+ghost use Rattle.std.specs.Prelude.{◌≡◌, ◌≤◌, length, map, IfOk};
+ghost use Rattle.std.specs.List.{slice_split};
+ghost use Rattle.bt_bib.specs.AuxArgument.{ends_argument, inside, is_comma, parts_in, fault_at, kept, fault_of, parts_of};
+
+use bt_text::{Bytes, Sequence, is_white};
+use std::alloc::{AllocError, Global};
+
+/// What is wrong with an argument.
+#[derive(Clone, Copy, Debug, PartialEq, Eq)]
+pub enum AuxFault {
+    /// No brace ends it.
+    NoBrace,
+    /// White space stands in it.
+    WhiteSpace,
+    /// Something stands behind its brace.
+    StuffAfter,
+}
+
+/// How an argument is parted.
+#[derive(Clone, Copy, Debug, PartialEq, Eq)]
+pub enum Parting {
+    /// At its commas.
+    Commas,
+    /// Not at all.
+    Whole,
+}
+
+fn ends_argument(byte: u8) -> bool
+    ensures { result ≡ ends_argument byte }
+{
+    byte == b'}' || is_white(byte)
+}
+
+/// How long the argument is.
+fn inside_len(rest: &[u8]) -> usize
+    ensures value { result ≡ length (inside rest.now) }
+    ensures within { result ≤ length rest.now }
+{
+    rest.iter()
+        .take_while(|byte| !ends_argument(**byte))
+        .count()
+}
+
+/// The parts between commas.
+fn between_commas<'a>(alloc: Global, argument: &'a [u8]) -> Result<Vec<&'a [u8]>, AllocError>
+    ensures { IfOk result (λ parts. map (λ p. p.now) parts.items ≡ slice_split is_comma argument.now) }
+{
+    argument.split(|byte| *byte == b',').collect(alloc)
+}
+
+/// The parts of an argument.
+fn parts_in<'a>(
+    alloc: Global,
+    argument: &'a [u8],
+    parting: Parting,
+) -> Result<Vec<&'a [u8]>, AllocError>
+    ensures { IfOk result (λ parts. map (λ p. p.now) parts.items ≡ parts_in parting argument.now) }
+{
+    match parting {
+        Parting::Commas => between_commas(alloc, argument),
+        Parting::Whole => Ok(Vec::from_array(alloc, [argument])?),
+    }
+}
+
+/// The parts that a fault leaves.
+fn kept<'p, 'a>(fault: Option<AuxFault>, parts: &'p [&'a [u8]]) -> &'p [&'a [u8]]
+    ensures { map (λ p. p.now) result.now ≡ kept fault (map (λ p. p.now) parts.now) }
+{
+    match fault {
+        None => parts,
+        Some(_) => &parts[..parts.len().saturating_sub(1)],
+    }
+}
+
+/// Copies of some texts.
+fn copied(alloc: Global, parts: &[&[u8]]) -> Result<Sequence<Bytes>, AllocError>
+    ensures { IfOk result (λ copies. copies ≡ map (λ p. p.now) parts.now) }
+{
+    let mut copies = Sequence::new(alloc);
+    'parts: for part in parts {
+        copies.push(Bytes::copied(alloc, part)?)?;
+    }
+    Ok(copies)
+}
+
+/// What is wrong, by what ends the argument and stands behind it.
+fn fault_at(behind: &[u8]) -> Option<AuxFault>
+    ensures { result ≡ fault_at behind.now }
+{
+    match behind.split_first() {
+        None => Some(AuxFault::NoBrace),
+        Some((end, stuff)) => {
+            if is_white(*end) {
+                Some(AuxFault::WhiteSpace)
+            } else if stuff.is_empty() {
+                None
+            } else {
+                Some(AuxFault::StuffAfter)
+            }
+        }
+    }
+}
+
+/// The parts in front of a fault, and the fault, of what stands behind a command's opening brace.
+/// The one error is want of memory.
+pub fn read_argument(
+    alloc: Global,
+    rest: &[u8],
+    parting: Parting,
+) -> Result<(Sequence<Bytes>, Option<AuxFault>), AllocError>
+    ensures { IfOk result (λ read. read ≡ (parts_of parting rest.now, fault_of rest.now)) }
+{
+    let (argument, behind) = rest.split_at(inside_len(rest));
+    let fault = fault_at(behind);
+    let parts = parts_in(alloc, argument, parting)?;
+    Ok((copied(alloc, kept(fault, parts.as_slice()))?, fault))
+}

@@ -1,0 +1,132 @@
+//! The counted lines of one .aux text.
+
+ghost use Rattle.std.specs.Prelude.{◌≡◌, ◌≤◌, ◌<◌, ◌+◌, ◌^◌, [], ◌++◌, length, IfOk, OnOk, IfSome};
+ghost use Rattle.std.specs.List.{position_or_len, suffix_len};
+ghost use Rattle.bt_bib.specs.AuxLine.{is_line_end, command_of, word, parting, item, counted, aux_lines};
+
+use crate::aux_argument::{AuxFault, Parting, read_argument};
+use bt_text::{Bytes, Sequence, trim_end};
+use memchr::memchr;
+use std::alloc::{AllocError, Global};
+
+/// The commands that count.
+#[derive(Clone, Copy, Debug, PartialEq, Eq)]
+pub enum Command {
+    /// `\citation{..}`
+    Citation,
+    /// `\bibdata{..}`
+    Database,
+    /// `\bibstyle{..}`
+    Style,
+    /// `\@input{..}`
+    Nested,
+}
+
+impl Command {
+    /// What a line of the command begins with.
+    pub fn word(self) -> &'static [u8]
+        ensures { result.now ≡ word self }
+    {
+        match self {
+            Command::Citation => b"\\citation{",
+            Command::Database => b"\\bibdata{",
+            Command::Style => b"\\bibstyle{",
+            Command::Nested => b"\\@input{",
+        }
+    }
+
+    /// How its argument is parted.
+    fn parting(self) -> Parting
+        ensures { result ≡ parting self }
+    {
+        match self {
+            Command::Citation | Command::Database => Parting::Commas,
+            Command::Style | Command::Nested => Parting::Whole,
+        }
+    }
+}
+
+/// A counted line: the parts in front of its fault, if it has one.
+#[derive(Debug, Drop)]
+pub struct AuxItem {
+    pub line: usize,
+    pub command: Command,
+    pub parts: Sequence<Bytes>,
+    pub fault: Option<AuxFault>,
+}
+
+/// How long the first line is.
+#[tactic(auto, using(crate::proofs::AuxLemmas::line_is_first))]
+fn line_len(text: &[u8]) -> usize
+    ensures value { result ≡ position_or_len is_line_end text.now }
+    ensures within { result ≤ length text.now }
+    ensures room { result + 1 < 2 ^ 64 }
+{
+    memchr(b'\n', text).unwrap_or(text.len())
+}
+
+/// The command of a line that counts.
+fn command_of(line: &[u8]) -> Option<Command>
+    ensures value { result ≡ command_of line.now }
+    ensures within { IfSome result (λ command. length (word command) ≤ length line.now) }
+{
+    if line.starts_with(b"\\citation{") {
+        Some(Command::Citation)
+    } else if line.starts_with(b"\\bibdata{") {
+        Some(Command::Database)
+    } else if line.starts_with(b"\\bibstyle{") {
+        Some(Command::Style)
+    } else if line.starts_with(b"\\@input{") {
+        Some(Command::Nested)
+    } else {
+        None
+    }
+}
+
+/// A counted line.
+fn item(alloc: Global, number: usize, line: &[u8], command: Command) -> Result<AuxItem, AllocError>
+    requires { length (word command) ≤ length line.now }
+    ensures { IfOk result (λ found. found ≡ item number line.now command) }
+{
+    let rest = &line[command.word().len()..];
+    let (parts, fault) = read_argument(alloc, rest, command.parting())?;
+    Ok(AuxItem {
+        line: number,
+        command,
+        parts,
+        fault,
+    })
+}
+
+/// Puts a line behind others, if it counts.
+fn add_line(
+    alloc: Global,
+    items: &mut Sequence<AuxItem>,
+    number: usize,
+    line: &[u8],
+) -> Result<(), AllocError>
+    ensures { OnOk result (items.new ≡ items.old ++ counted number line.now (command_of line.now) []) }
+{
+    if let Some(command) = command_of(line) {
+        items.push(item(alloc, number, line, command)?)?;
+    }
+    Ok(())
+}
+
+/// The counted lines of a text, in order. The one error is want of memory.
+pub fn read_aux(alloc: Global, text: &[u8]) -> Result<Sequence<AuxItem>, AllocError>
+    ensures { IfOk result (λ items. items ≡ aux_lines text.now) }
+{
+    let mut items = Sequence::new(alloc);
+    let mut rest = text;
+    let mut number = 1;
+    'lines: loop {
+        let end = line_len(rest);
+        add_line(alloc, &mut items, number, trim_end(&rest[..end]))?;
+        if end == rest.len() {
+            return Ok(items);
+        }
+        rest = &rest[end + 1..];
+        number += 1;
+    }
+}

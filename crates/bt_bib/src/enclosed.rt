@@ -1,0 +1,75 @@
+//! What braces and quotes enclose.
+
+ghost use Rattle.std.specs.Prelude.{◌≡◌, ◌<◌, ◌+◌, ◌^◌};
+ghost use Rattle.bt_bib.specs.Spot.{here, IsIn};
+ghost use Rattle.bt_bib.specs.Enclosed.{enclosed, enclosed_end, turn, IsNear};
+ghost use Rattle.bt_bib.specs.Stop.{Finds, Gives};
+
+use crate::fault::Fault;
+use crate::spot::Spot;
+use crate::stop::Halt;
+use bt_text::Bytes;
+use std::alloc::Global;
+
+/// What a byte does inside braces or quotes.
+#[derive(Clone, Copy, Debug, PartialEq, Eq)]
+pub enum Turn {
+    /// It ends what they enclose.
+    Closes,
+    /// It is a right brace without its left one.
+    Breaks,
+    /// It leaves so many further braces open.
+    Goes(usize),
+}
+
+impl Turn {
+    /// What a byte does where `depth` further braces are open.
+    fn of(close: u8, depth: usize, byte: u8) -> Turn
+        requires { depth + 1 < 2 ^ 64 }
+        ensures value { result ≡ turn close depth byte }
+        ensures near { IsNear (depth + 1) result }
+    {
+        if byte == close && depth == 0 {
+            Turn::Closes
+        } else if byte == b'{' {
+            Turn::Goes(depth + 1)
+        } else if byte == b'}' {
+            if depth == 0 {
+                Turn::Breaks
+            } else {
+                Turn::Goes(depth - 1)
+            }
+        } else {
+            Turn::Goes(depth)
+        }
+    }
+}
+
+/// The byte that closes what stands here.
+fn enclosed_end(text: &[u8], from: Spot, close: u8) -> Result<Spot, Halt>
+    requires { IsIn text.now from }
+    ensures { Finds text.now from result (enclosed_end close (here text.now from)) }
+{
+    let mut at = from;
+    let mut depth = 0;
+    'bytes: while at.place < text.len() {
+        let byte = text[at.place];
+        match Turn::of(close, depth, byte) {
+            Turn::Closes => return Ok(at),
+            Turn::Breaks => return Err(Halt::Stopped(Fault::UnbalancedBraces, at)),
+            Turn::Goes(next) => depth = next,
+        }
+        at = at.after(byte);
+    }
+    Err(Halt::Stopped(Fault::EndOfFile, at))
+}
+
+/// What stands from here up to the byte that closes it, and that byte's place.
+#[tactic(auto, using(crate::proofs::EnclosedLemmas::enclosed_found, crate::proofs::EnclosedLemmas::enclosed_stopped))]
+pub fn enclosed(alloc: Global, text: &[u8], from: Spot, close: u8) -> Result<(Bytes, Spot), Halt>
+    requires { IsIn text.now from }
+    ensures { Gives text.now from result (enclosed close (here text.now from)) }
+{
+    let end = enclosed_end(text, from, close)?;
+    Ok((Bytes::copied(alloc, &text[from.place..end.place])?, end))
+}

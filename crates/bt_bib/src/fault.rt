@@ -1,0 +1,35 @@
+//! What is wrong with an item.
+
+/// What a name stands for.
+#[derive(Clone, Copy, Debug, PartialEq, Eq)]
+pub enum What {
+    /// The word behind `@`.
+    EntryType,
+    /// The name that `@string` gives a value.
+    StringName,
+    /// The name of a field.
+    FieldName,
+    /// A macro's name, as a part of a value.
+    FieldPart,
+}
+
+/// What is wrong at the first place where no rule goes on: that place is the end of the item.
+#[derive(Clone, Copy, Debug, PartialEq, Eq)]
+pub enum Fault {
+    /// The text ends inside the item.
+    EndOfFile,
+    /// No name stands where one must. A field part that is missing is `MissingPart`.
+    MissingName(What),
+    /// This byte stands right behind a name, and may not.
+    BadNameEnd(What, u8),
+    /// Neither `{` nor `(` stands behind the type.
+    ExpectedOpen,
+    /// Neither a comma nor the closing sign stands behind a key or a value (in a string or preamble: no closing sign).
+    ExpectedCommaOrClose,
+    /// No `=` stands behind the name of a field or string.
+    ExpectedEquals,
+    /// A `}` stands between quotes without its `{`.
+    UnbalancedBraces,
+    /// No part of a value stands where one must.
+    MissingPart,
+}

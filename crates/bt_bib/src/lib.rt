@@ -1,0 +1,41 @@
+//! The readers of `.aux` texts and of databases, and the rereading of a database that was changed.
+#![tactic(auto)]
+
+mod aux_argument;
+mod aux_line;
+mod boundaries;
+mod enclosed;
+mod fault;
+mod fields;
+mod item;
+mod items;
+mod keywords;
+mod laws;
+mod meter;
+mod moving;
+mod names;
+mod pieces;
+mod reading;
+mod rereading;
+mod scan;
+mod splice;
+mod spot;
+mod stop;
+mod values;
+
+pub use aux_argument::AuxFault;
+pub use aux_line::{AuxItem, Command, read_aux};
+pub use fault::{Fault, What};
+pub use item::{Closing, Content, Definition, Entry, Field, Item, Part, Piece};
+pub use items::Items;
+pub use laws::{boundary_stays, fault_is_final, lines_lie_inside, rest_is_moved, spans_rise};
+pub use meter::ReadMeter;
+pub use reading::read_bib;
+pub use spot::Spot;
+
+#[cfg(test)]
+mod aux_tests;
+#[cfg(test)]
+mod reading_tests;
+#[cfg(test)]
+mod splice_tests;

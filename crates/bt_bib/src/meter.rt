@@ -1,0 +1,43 @@
+//! A count of the bytes that were read again.
+
+ghost use Rattle.std.specs.Prelude.{◌≡◌, ◌<◌, ◌+◌, ◌^◌};
+
+use std::marker::Model;
+
+/// A count of the bytes that were read again. Contracts see the number.
+#[derive(Debug, Drop)]
+pub struct ReadMeter {
+    count: u128,
+}
+
+impl Model for ReadMeter {
+    ghost use Rattle.std.specs.Prelude.{ℕ};
+
+    ghost Value = { ℕ };
+
+    ghost view = { λ meter. meter.count };
+}
+
+impl ReadMeter {
+    /// A meter that stands at 0.
+    pub fn new() -> Self
+        ensures { result ≡ 0 }
+    {
+        ReadMeter { count: 0 }
+    }
+
+    /// How many bytes were read again.
+    pub fn value(&self) -> u128
+        ensures { result ≡ self.now }
+    {
+        self.count
+    }
+
+    /// Counts bytes that the cursor passed.
+    pub(crate) fn raise(&mut self, bytes: usize)
+        requires { self.old + bytes < 2 ^ 128 }
+        ensures { self.new ≡ self.old + bytes }
+    {
+        self.count += bytes as u128;
+    }
+}

@@ -1,0 +1,70 @@
+//! Names, and what may stand behind them.
+
+ghost use Rattle.std.specs.Prelude.{◌≡◌, ◌==◌};
+ghost use Rattle.std.specs.List.{list_any};
+ghost use Rattle.bt_bib.specs.Spot.{here, IsIn};
+ghost use Rattle.bt_bib.specs.Stop.{Finds, Gives};
+ghost use Rattle.bt_bib.specs.Names.{ended, name, word};
+
+use crate::fault::{Fault, What};
+use crate::scan::{Class, peek, run};
+use crate::spot::Spot;
+use crate::stop::Halt;
+use bt_text::{Bytes, is_digit, is_name_byte, is_white};
+use std::alloc::Global;
+
+/// The longest run of name bytes, which doesn't begin with a digit.
+#[tactic(auto, unfolding(crate::specs::Names::word))]
+pub fn word(alloc: Global, text: &[u8], from: Spot, what: What) -> Result<(Bytes, Spot), Halt>
+    requires { IsIn text.now from }
+    ensures { Gives text.now from result (word what (here text.now from)) }
+{
+    let Some(byte) = peek(text, from) else {
+        return Err(Halt::Stopped(Fault::EndOfFile, from));
+    };
+    if is_name_byte(byte) && !is_digit(byte) {
+        Ok(run(alloc, text, from, Class::Name)?)
+    } else {
+        Err(Halt::Stopped(Fault::MissingName(what), from))
+    }
+}
+
+/// Whether a byte is one of some signs.
+fn is_one_of(signs: &[u8], byte: u8) -> bool
+    ensures { result ≡ list_any (λ sign. sign == byte) signs.now }
+{
+    signs.iter().any(|sign| *sign == byte)
+}
+
+/// This place, where white space, the text's end or one of some signs stands.
+#[tactic(auto, unfolding(crate::specs::Names::ended))]
+pub fn ended(text: &[u8], from: Spot, what: What, signs: &[u8]) -> Result<Spot, Halt>
+    requires { IsIn text.now from }
+    ensures { Finds text.now from result (ended what signs.now (here text.now from)) }
+{
+    let Some(byte) = peek(text, from) else {
+        return Ok(from);
+    };
+    if is_white(byte) || is_one_of(signs, byte) {
+        Ok(from)
+    } else {
+        Err(Halt::Stopped(Fault::BadNameEnd(what, byte), from))
+    }
+}
+
+/// A name behind which white space, the text's end or one of some signs stands.
+#[tactic(auto, unfolding(crate::specs::Names::name))]
+pub fn name(
+    alloc: Global,
+    text: &[u8],
+    from: Spot,
+    what: What,
+    signs: &[u8],
+) -> Result<(Bytes, Spot), Halt>
+    requires { IsIn text.now from }
+    ensures { Gives text.now from result (name what signs.now (here text.now from)) }
+{
+    let (word, end) = word(alloc, text, from, what)?;
+    let end = ended(text, end, what, signs)?;
+    Ok((word, end))
+}

@@ -1,0 +1,77 @@
+//! Reading on up to a boundary that another text has too.
+
+ghost use Rattle.std.specs.Prelude.{◌≡◌, ◌≤◌, ◌+◌, ◌-◌, ◌<◌, ◌^◌, ◌++◌, [], None, length, IfOk};
+ghost use Rattle.bt_bib.specs.Spot.{here, IsAhead, IsIn};
+ghost use Rattle.bt_bib.specs.Reading.{pieces_from};
+ghost use Rattle.bt_bib.specs.Boundaries.{last_end, InOrder};
+ghost use Rattle.bt_bib.specs.Splice.{is_common};
+ghost use Rattle.bt_bib.specs.Rereading.{until, IsJoint};
+
+use crate::boundaries::{count_below, last_boundary};
+use crate::item::Piece;
+use crate::items::Items;
+use crate::reading::next_piece;
+use crate::spot::Spot;
+use std::alloc::{AllocError, Global};
+
+/// A splice of a text: its bytes from `begin` up to `end` became others, so many.
+#[derive(Clone, Copy, Debug)]
+pub struct Splice {
+    pub begin: usize,
+    pub end: usize,
+    pub inserted: usize,
+}
+
+/// How many pieces of the old text end at or before this place of the new one, where it is a boundary of both.
+fn joint(old: &[Piece], splice: Splice, place: usize) -> Option<usize>
+    requires order { InOrder old.now }
+    requires first { splice.begin + splice.inserted < 2 ^ 64 }
+    requires back { place - (splice.begin + splice.inserted) + splice.end + 1 < 2 ^ 64 }
+    ensures { IsJoint old.now splice.begin splice.end splice.inserted place result }
+{
+    let first = splice.begin + splice.inserted;
+    if place < first {
+        return None;
+    }
+    let back = place - first + splice.end;
+    let count = count_below(old, back + 1);
+    if last_boundary(old, count).place == back {
+        Some(count)
+    } else {
+        None
+    }
+}
+
+/// Reads on from a place, behind the pieces that are there, up to a boundary of both texts, or to the text's end.
+pub fn reread(
+    alloc: Global,
+    items: Items,
+    text: &[u8],
+    from: Spot,
+    old: &[Piece],
+    splice: Splice,
+) -> Result<(Items, Spot, Option<usize>), AllocError>
+    requires at { IsIn text.now from }
+    requires order { InOrder old.now }
+    requires first { splice.begin + splice.inserted < 2 ^ 64 }
+    requires back { length text.now - (splice.begin + splice.inserted) + splice.end + 1 < 2 ^ 64 }
+    ensures pieces { IfOk result (λ r. r.0 ≡ items ++ until (is_common old.now splice.begin splice.end splice.inserted) from (pieces_from (here text.now from))) }
+    ensures ends { IfOk result (λ r. r.1 ≡ last_end from (until (is_common old.now splice.begin splice.end splice.inserted) from (pieces_from (here text.now from)))) }
+    ensures joint { IfOk result (λ r. IsJoint old.now splice.begin splice.end splice.inserted r.1.place r.2) }
+    ensures last { IfOk result (λ r. r.2 ≡ None → pieces_from (here text.now r.1) ≡ []) }
+    ensures inside { IfOk result (λ r. IsAhead text.now from r.1) }
+{
+    let mut items = items;
+    let mut at = from;
+    'again: loop {
+        if let Some(count) = joint(old, splice, at.place) {
+            return Ok((items, at, Some(count)));
+        }
+        let (next, end) = next_piece(alloc, text, at)?;
+        match next {
+            None => return Ok((items, at, None)),
+            Some(piece) => items.push(piece)?,
+        }
+        at = end;
+    }
+}

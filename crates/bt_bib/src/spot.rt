@@ -1,0 +1,36 @@
+//! A place of a text, with its line.
+
+ghost use Rattle.std.specs.Prelude.{◌≡◌, ◌+◌, ◌<◌, ◌^◌};
+ghost use Rattle.bt_bib.specs.Spot.{after, start};
+
+/// A place of a text: how many bytes stand before it, and its line, which is 1 plus the number of line feeds among
+/// them. The text's end is a place too.
+#[derive(Clone, Copy, Debug, PartialEq, Eq)]
+pub struct Spot {
+    /// How many bytes stand before it.
+    pub place: usize,
+    /// Its line, from 1.
+    pub line: usize,
+}
+
+impl Spot {
+    /// The first place of a text.
+    pub const START: Spot = Spot { place: 0, line: 1 };
+
+    /// The place behind a byte that stands here.
+    pub(crate) fn after(self, byte: u8) -> Spot
+        requires place { self.place + 1 < 2 ^ 64 }
+        requires line { self.line + 1 < 2 ^ 64 }
+        ensures { result ≡ after byte self }
+    {
+        let line = if byte == b'\n' {
+            self.line + 1
+        } else {
+            self.line
+        };
+        Spot {
+            place: self.place + 1,
+            line,
+        }
+    }
+}

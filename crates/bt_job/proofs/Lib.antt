@@ -1,0 +1,5 @@
+pub mod BoundLemmas
+pub mod FitLemmas
+pub mod NestingLemmas
+mod CitationsRows
+mod LogRows

@@ -1,0 +1,115 @@
+-- What the .aux files of a run ask for: the root file, with the lines of each nested file in its place.
+use Rattle.std.specs.Prelude.{◌≡◌, ◌<◌, ℕ, zero, suc, ◌+◌, Bool, false, not, ◌==◌, ◌&&◌, List, [], ◌∷◌, ◌++◌, length, codes, decimal, Option, Some, None, if◌then◌else◌}
+use Rattle.std.specs.Option.{is_none}
+use Rattle.bt_bib.specs.declared.aux_line.Command.TheVariants.{Nested}
+use Rattle.bt_bib.specs.declared.aux_line.AuxItem.{AuxItem}
+use Rattle.bt_job.specs.declared.files.File.{File}
+use Rattle.bt_job.specs.declared.log.Rank.TheVariants.{FileLine, Error, Fatal}
+use Rattle.bt_job.specs.declared.citations.Citations.{Citations}
+use Rattle.bt_job.specs.declared.citations.Outcome.{Outcome}
+use Rattle.bt_job.specs.declared.citations.Outcome.TheVariants.{Taken, Wrong, Opens}
+use Rattle.bt_bib.specs.AuxLine.{aux_lines}
+use Rattle.bt_job.specs.Naming.{is_among, text_of}
+use Rattle.bt_job.specs.Taking.{told, told_at, meeting, wanting, item_taken}
+
+-- Files in their places
+
+-- the line of the log where a file begins, which is so many levels below the root
+abbrev pub file_line : ℕ → List ℕ → List ℕ
+file_line level file =
+    if level == 0 then codes "The top-level auxiliary file: " ++ file
+    else codes "A level-" ++ decimal level ++ codes " auxiliary file: " ++ file
+
+-- What a line leaves behind it: its error is told, and the lines of a file that it opens stand in its place.
+abbrev pub in_place : (List ℕ → Citations → Citations) → List ℕ → ℕ → Citations × Outcome → Citations
+in_place nested file line (r, Taken) = r
+in_place nested file line (r, Wrong words) = told_at file line words r
+in_place nested file line (r, Opens name) = nested name r
+
+-- the counted lines of a file in order
+unfoldable pub lines_taken : (List ℕ → Citations → Citations) → List File → List ℕ → List AuxItem → Citations → Citations
+lines_taken nested files file [] r = r
+lines_taken nested files file (item ∷ items) r =
+    lines_taken nested files file items (in_place nested file item.line (item_taken files item r))
+
+-- a file that has this text
+abbrev pub opened : (List ℕ → Citations → Citations) → List File → ℕ → List ℕ → Option (List ℕ) → Citations → Citations
+opened nested files level file None r = r
+opened nested files level file (Some text) r = lines_taken nested files file (aux_lines text) (told FileLine (file_line level file) r)
+
+-- A file so many levels below the root, and below it as many levels as the bound allows. Which bound it is doesn't matter,
+-- where it is above the number of files that weren't met: a file is opened at most once.
+unfoldable pub file_taken : ℕ → List File → ℕ → List ℕ → Citations → Citations
+file_taken zero files level file r = r
+file_taken (suc bound) files level file r = opened (file_taken bound files (level + 1)) files level file (text_of files file) r
+
+-- Whole runs
+
+-- what is asked for before a file was read
+abbrev pub nothing_met : Citations
+nothing_met = record {
+  keys = [];
+  star = None;
+  databases = [];
+  style = None;
+  log = [];
+  wanted = [];
+  met = [];
+  citation_met = false;
+  database_met = false;
+  style_met = false;
+}
+
+-- with an error for what the root's files lack
+abbrev pub missing : List ℕ → List ℕ → Citations → Citations
+missing what file r = told Error (codes "I found no " ++ what ++ codes "---while reading file " ++ file) r
+
+-- whether a list has no element
+abbrev pub is_empty : {A : Type 0} → List A → Bool
+is_empty xs = length xs == 0
+
+-- the error for a command that wasn't met, else for one that named nothing
+abbrev pub missing_one : Bool → Bool → List ℕ → List ℕ → List ℕ → Citations → Citations
+missing_one met nothing command named file r =
+    if not met then missing command file r
+    else if nothing then missing named file r
+    else r
+
+-- the errors at the end of the root
+unfoldable pub ended : List ℕ → Citations → Citations
+ended file r =
+    missing_one r.style_met (is_none r.style) (codes "\\bibstyle command") (codes "style file") file
+    (missing_one r.database_met (is_empty r.databases) (codes "\\bibdata command") (codes "database files") file
+    (missing_one r.citation_met (is_empty r.keys && is_none r.star) (codes "\\citation commands") (codes "cite keys") file r))
+
+-- a root file that has this text
+abbrev pub rooted : List File → List ℕ → Option (List ℕ) → Citations
+rooted files file None = wanting file (told Fatal (codes "I couldn't open auxiliary file " ++ file) nothing_met)
+rooted files file (Some text) = ended file (file_taken (length files + 1) files 0 file (meeting Nested file nothing_met))
+
+-- what the files of a session with this root name ask for
+unfoldable pub citations : List File → List ℕ → Citations
+citations files root = (let file = root ++ codes ".aux" in rooted files file (text_of files file))
+
+-- Laws
+
+-- how many of the files weren't met
+abbrev pub unmet : List File → List (List ℕ) → ℕ
+unmet [] met = 0
+unmet (f ∷ fs) met = (if is_among met f.name then 0 else 1) + unmet fs met
+
+-- Any two bounds above the number of files that weren't met come to the same.
+abbrev pub AnyBoundServes : Type 0
+AnyBoundServes =
+    (m n : ℕ) (files : List File) (level : ℕ) (file : List ℕ) (r : Citations)
+    → unmet files r.met < m → unmet files r.met < n → file_taken m files level file r ≡ file_taken n files level file r
+
+-- a file with the lines of all files that it nests in their places
+abbrev pub whole_file_taken : List File → ℕ → List ℕ → Citations → Citations
+whole_file_taken files level file r = file_taken (length files + 1) files level file r
+
+-- The same without a bound: a file's lines are taken in order, and those of a file that it opens in their place.
+abbrev pub NestedInPlace : Type 0
+NestedInPlace =
+    (files : List File) (level : ℕ) (file : List ℕ) (r : Citations)
+    → whole_file_taken files level file r ≡ opened (whole_file_taken files (level + 1)) files level file (text_of files file) r

@@ -1,0 +1,5 @@
+pub mod Log
+pub mod Naming
+pub mod Taking
+pub mod Citations
+pub mod Fit

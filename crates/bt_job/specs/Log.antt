@@ -1,0 +1,75 @@
+-- The log: its bytes, and the status that it comes to.
+use Rattle.std.specs.Prelude.{ℕ, Bool, true, false, ◌==◌, List, [], ◌∷◌, ◌++◌, map, filter, count_by, codes, decimal, if◌then◌else◌}
+use Rattle.std.specs.List.{list_any}
+use Rattle.bt_job.specs.declared.log.Rank.{Rank}
+use Rattle.bt_job.specs.declared.log.Rank.TheVariants.{FileLine, Note, CallCount, Warning, Error, Fatal}
+use Rattle.bt_job.specs.declared.log.Message.{Message}
+
+-- The status
+
+-- the status of a log that has a message of this rank alone
+abbrev pub rank_status : Rank → ℕ
+rank_status FileLine = 0
+rank_status Note = 0
+rank_status CallCount = 0
+rank_status Warning = 1
+rank_status Error = 2
+rank_status Fatal = 3
+
+-- whether a message brings the log to this status
+abbrev pub has_status : ℕ → Message → Bool
+has_status status m = rank_status m.rank == status
+
+-- 3 where a message is fatal, else 2 where one is an error, else 1 where one is a warning, else 0
+abbrev pub status_of : List Message → ℕ
+status_of log =
+    if list_any (has_status 3) log then 3
+    else if list_any (has_status 2) log then 2
+    else if list_any (has_status 1) log then 1
+    else 0
+
+-- whether the terse log has messages of a rank: all but the lines of files and the counts of calls
+abbrev pub is_told_tersely : Rank → Bool
+is_told_tersely FileLine = false
+is_told_tersely CallCount = false
+is_told_tersely Note = true
+is_told_tersely Warning = true
+is_told_tersely Error = true
+is_told_tersely Fatal = true
+
+-- The bytes
+
+-- each line with a line feed behind it
+abbrev pub lines_bytes : List (List ℕ) → List ℕ
+lines_bytes [] = []
+lines_bytes (line ∷ lines) = line ++ 10 ∷ lines_bytes lines
+
+-- how many there were of a thing that has this name
+abbrev pub count_line : ℕ → List ℕ → List ℕ
+count_line n name =
+    if n == 1 then codes "(There was 1 " ++ name ++ codes ")\n"
+    else codes "(There were " ++ decimal n ++ codes " " ++ name ++ codes "s)\n"
+
+-- the last line of a log that comes to this status
+abbrev pub last_line_of : ℕ → List Message → List ℕ
+last_line_of status log =
+    if status == 3 then codes "(That was a fatal error)\n"
+    else if status == 2 then count_line (count_by (has_status 2) log) (codes "error message")
+    else if status == 1 then count_line (count_by (has_status 1) log) (codes "warning")
+    else []
+
+-- the last line: what the status stands for, and nothing where all is well
+abbrev pub last_line : List Message → List ℕ
+last_line log = last_line_of (status_of log) log
+
+-- the words of each message
+abbrev pub words_of : List Message → List (List ℕ)
+words_of log = map (λ m. m.words) log
+
+-- the log's messages in order, then the last line
+abbrev pub log_bytes : List Message → List ℕ
+log_bytes log = lines_bytes (words_of log) ++ last_line log
+
+-- the same without the lines of files and the counts of calls
+abbrev pub terse_bytes : List Message → List ℕ
+terse_bytes log = lines_bytes (words_of (filter (λ m. is_told_tersely m.rank) log)) ++ last_line log

@@ -1,0 +1,226 @@
+//! The log: its messages, its bytes, and the status that it comes to.
+
+ghost use Rattle.std.specs.Prelude.{◌≡◌, [], ◌∷◌, ◌++◌, count_by, filter, decimal, IfOk, OnOk};
+ghost use Rattle.std.specs.List.{list_any};
+ghost use Rattle.bt_job.specs.Log.{rank_status, has_status, status_of, lines_bytes, count_line, last_line_of, last_line, words_of, log_bytes, is_told_tersely, terse_bytes};
+
+use bt_text::Bytes;
+use itoa::Buffer;
+use std::alloc::{AllocError, Global};
+
+/// What a message counts as.
+#[derive(Clone, Copy, Debug, PartialEq, Eq)]
+pub enum Rank {
+    /// The line of a file that is read.
+    FileLine,
+    /// It counts as nothing.
+    Note,
+    /// How often a built-in function was called. It counts as nothing.
+    CallCount,
+    Warning,
+    Error,
+    /// It ends the run.
+    Fatal,
+}
+
+impl Rank {
+    /// The status of a log that has a message of this rank alone.
+    fn status(self) -> u8
+        ensures { result ≡ rank_status self }
+    {
+        match self {
+            Rank::FileLine | Rank::Note | Rank::CallCount => 0,
+            Rank::Warning => 1,
+            Rank::Error => 2,
+            Rank::Fatal => 3,
+        }
+    }
+
+    /// Whether the terse log has messages of this rank.
+    fn is_told_tersely(self) -> bool
+        ensures { result ≡ is_told_tersely self }
+    {
+        match self {
+            Rank::FileLine | Rank::CallCount => false,
+            Rank::Note | Rank::Warning | Rank::Error | Rank::Fatal => true,
+        }
+    }
+}
+
+/// A message of the log; its words may hold a line feed.
+#[derive(Debug, Drop)]
+pub struct Message {
+    pub rank: Rank,
+    pub words: Bytes,
+}
+
+fn has_status(log: &[Message], status: u8) -> bool
+    ensures { result ≡ list_any (has_status status) log.now }
+{
+    log.iter().any(|message| message.rank.status() == status)
+}
+
+fn count(log: &[Message], status: u8) -> usize
+    ensures { result ≡ count_by (has_status status) log.now }
+{
+    log.iter()
+        .filter(|message| message.rank.status() == status)
+        .count()
+}
+
+/// The status of a log: 3 where a message is fatal, else 2 where one is an error, else 1 where one
+/// is a warning, else 0.
+pub fn status(log: &[Message]) -> u8
+    ensures { result ≡ status_of log.now }
+{
+    if has_status(log, 3) {
+        3
+    } else if has_status(log, 2) {
+        2
+    } else if has_status(log, 1) {
+        1
+    } else {
+        0
+    }
+}
+
+/// The line that says how many there were of a thing that has this name.
+fn count_line(alloc: Global, count: usize, name: &[u8]) -> Result<Bytes, AllocError>
+    ensures { IfOk result (λ line. line ≡ count_line count name.now) }
+{
+    if count == 1 {
+        let mut line = Bytes::copied(alloc, b"(There was 1 ")?;
+        line.append(name)?;
+        line.append(b")\n")?;
+        return Ok(line);
+    }
+    let mut buffer = Buffer::new();
+    let mut line = Bytes::copied(alloc, b"(There were ")?;
+    line.append(buffer.format(count).as_bytes())?;
+    line.append(b" ")?;
+    line.append(name)?;
+    line.append(b"s)\n")?;
+    Ok(line)
+}
+
+fn last_line(alloc: Global, log: &[Message]) -> Result<Bytes, AllocError>
+    ensures { IfOk result (λ line. line ≡ last_line log.now) }
+{
+    match status(log) {
+        3 => Bytes::copied(alloc, b"(That was a fatal error)\n"),
+        2 => count_line(alloc, count(log, 2), b"error message"),
+        1 => count_line(alloc, count(log, 1), b"warning"),
+        _ => Ok(Bytes::new(alloc)),
+    }
+}
+
+/// Puts a line and a line feed behind a text.
+fn add_line(text: &mut Bytes, line: &[u8]) -> Result<(), AllocError>
+    ensures { OnOk result (text.new ≡ text.old ++ line.now ++ 10 ∷ []) }
+{
+    text.append(line)?;
+    text.append(b"\n")
+}
+
+/// The lines, each with a line feed behind it. The one error is want of memory.
+pub fn lines_bytes(alloc: Global, lines: &[Bytes]) -> Result<Bytes, AllocError>
+    ensures { IfOk result (λ bytes. bytes ≡ lines_bytes lines.now) }
+{
+    let mut text = Bytes::new(alloc);
+    'lines: for line in lines {
+        add_line(&mut text, line.as_slice())?;
+    }
+    Ok(text)
+}
+
+/// The words of each message, with a line feed behind them.
+fn words_bytes(alloc: Global, log: &[Message]) -> Result<Bytes, AllocError>
+    ensures { IfOk result (λ bytes. bytes ≡ lines_bytes (words_of log.now)) }
+{
+    let mut text = Bytes::new(alloc);
+    'messages: for message in log {
+        add_line(&mut text, message.words.as_slice())?;
+    }
+    Ok(text)
+}
+
+/// Puts the words of a message behind a text, if the terse log has them.
+fn add_tersely(text: &mut Bytes, message: &Message) -> Result<(), AllocError>
+    ensures { OnOk result (text.new ≡ text.old ++ lines_bytes (words_of (filter (λ m. is_told_tersely m.rank) (message.now ∷ [])))) }
+{
+    if message.rank.is_told_tersely() {
+        add_line(text, message.words.as_slice())
+    } else {
+        Ok(())
+    }
+}
+
+/// The words of each message that the terse log has, with a line feed behind them.
+fn terse_words(alloc: Global, log: &[Message]) -> Result<Bytes, AllocError>
+    ensures { IfOk result (λ bytes. bytes ≡ lines_bytes (words_of (filter (λ m. is_told_tersely m.rank) log.now))) }
+{
+    let mut text = Bytes::new(alloc);
+    'messages: for message in log {
+        add_tersely(&mut text, message)?;
+    }
+    Ok(text)
+}
+
+/// The bytes of the log: its messages and the last line. The one error is want of memory.
+pub fn log_bytes(alloc: Global, log: &[Message]) -> Result<Bytes, AllocError>
+    ensures { IfOk result (λ bytes. bytes ≡ log_bytes log.now) }
+{
+    let mut text = words_bytes(alloc, log)?;
+    text.append(last_line(alloc, log)?.as_slice())?;
+    Ok(text)
+}
+
+/// The same without the lines of files and the counts of calls; the last line is that of the whole log. The one error
+/// is want of memory.
+pub fn terse_bytes(alloc: Global, log: &[Message]) -> Result<Bytes, AllocError>
+    ensures { IfOk result (λ bytes. bytes ≡ terse_bytes log.now) }
+{
+    let mut text = terse_words(alloc, log)?;
+    text.append(last_line(alloc, log)?.as_slice())?;
+    Ok(text)
+}
+
+#[cfg(test)]
+mod tests {
+    use super::*;
+    use bt_text::Sequence;
+    use std::test::Fail;
+
+    fn message(alloc: Global, rank: Rank, words: &[u8]) -> Result<Message, AllocError> {
+        Ok(Message {
+            rank,
+            words: Bytes::copied(alloc, words)?,
+        })
+    }
+
+    #[test]
+    fn logs_are_told_whole_and_tersely(rt: HostRuntime) -> Result<(), Fail> {
+        let alloc = rt.alloc();
+        let mut log = Sequence::new(alloc);
+        log.push(message(alloc, Rank::FileLine, b"The style file: s.bst")?)?;
+        log.push(message(alloc, Rank::Warning, b"w")?)?;
+        log.push(message(alloc, Rank::Warning, b"v")?)?;
+        log.push(message(alloc, Rank::CallCount, b"skip$ -- 3")?)?;
+        let log = log.as_slice();
+        let whole = b"The style file: s.bst\nw\nv\nskip$ -- 3\n(There were 2 warnings)\n";
+        let terse = b"w\nv\n(There were 2 warnings)\n";
+        assert_eq!(rt; status(log), 1);
+        assert_eq!(rt; log_bytes(alloc, log)?.as_slice(), whole.as_slice());
+        assert_eq!(rt; terse_bytes(alloc, log)?.as_slice(), terse.as_slice());
+        Ok(())
+    }
+
+    #[test]
+    fn lines_end_with_line_feeds(rt: HostRuntime) -> Result<(), Fail> {
+        let alloc = rt.alloc();
+        let lines = [Bytes::copied(alloc, b"a")?, Bytes::new(alloc)];
+        let bytes = lines_bytes(alloc, &lines)?;
+        assert_eq!(rt; bytes.as_slice(), b"a\n\n".as_slice());
+        Ok(())
+    }
+}

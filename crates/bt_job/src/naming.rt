@@ -1,0 +1,132 @@
+//! Names of files: which are allowed, which text each has, and what is wrong with one.
+
+ghost use Rattle.std.specs.Prelude.{◌≡◌, ◌++◌, IfOk};
+ghost use Rattle.std.specs.List.{list_all};
+ghost use Rattle.std.specs.Option.{option_map};
+ghost use Rattle.bt_job.specs.Naming.{is_name_byte, is_file_name, with_ending, is_among, text_of, named_by, has_ending, met_before, name_fault};
+
+use crate::files::File;
+use bt_bib::Command;
+use bt_text::{Bytes, Sequence};
+use std::alloc::{AllocError, Global};
+
+fn is_name_byte(byte: u8) -> bool
+    ensures { result ≡ is_name_byte byte }
+{
+    matches!(byte, b'A'..=b'Z' | b'a'..=b'z' | b'0'..=b'9' | b'.' | b'-' | b'_' | b'+' | b'/')
+}
+
+fn has_name_bytes(name: &[u8]) -> bool
+    ensures { result ≡ list_all is_name_byte name.now }
+{
+    name.iter().all(|byte| is_name_byte(*byte))
+}
+
+/// Whether a file may have this name.
+pub fn is_file_name(name: &[u8]) -> bool
+    ensures { result ≡ is_file_name name.now }
+{
+    name.len() >= 1 && name.len() <= 64 && has_name_bytes(name)
+}
+
+/// Whether a name is among some.
+pub fn is_among(names: &Sequence<Bytes>, name: &[u8]) -> bool
+    ensures { result ≡ is_among names.now name.now }
+{
+    names
+        .as_slice()
+        .iter()
+        .any(|known| known.as_slice() == name)
+}
+
+/// The text of a name, if there is one.
+pub fn text_of<'a>(files: &'a [File], name: &[u8]) -> Option<&'a [u8]>
+    ensures { option_map (λ t. t.now) result ≡ text_of files.now name.now }
+{
+    'files: for file in files {
+        if file.name.as_slice() == name {
+            return Some(file.text.as_slice());
+        }
+    }
+    None
+}
+
+/// Two texts, one behind the other. The one error is want of memory.
+pub fn pair(alloc: Global, front: &[u8], back: &[u8]) -> Result<Bytes, AllocError>
+    ensures { IfOk result (λ text. text ≡ front.now ++ back.now) }
+{
+    let mut text = Bytes::copied(alloc, front)?;
+    text.append(back)?;
+    Ok(text)
+}
+
+/// A name with an ending, which is put behind it unless it is there.
+fn with_ending(alloc: Global, ending: &[u8], name: &[u8]) -> Result<Bytes, AllocError>
+    ensures { IfOk result (λ text. text ≡ with_ending ending.now name.now) }
+{
+    if name.ends_with(ending) {
+        Bytes::copied(alloc, name)
+    } else {
+        pair(alloc, name, ending)
+    }
+}
+
+/// The name that a part of a command stands for. The one error is want of memory.
+pub fn named_by(alloc: Global, command: Command, part: &[u8]) -> Result<Bytes, AllocError>
+    ensures { IfOk result (λ name. name ≡ named_by command part.now) }
+{
+    match command {
+        Command::Database => with_ending(alloc, b".bib", part),
+        Command::Style => with_ending(alloc, b".bst", part),
+        Command::Nested | Command::Citation => Bytes::copied(alloc, part),
+    }
+}
+
+fn has_ending(command: Command, name: &[u8]) -> bool
+    ensures { result ≡ has_ending command name.now }
+{
+    match command {
+        Command::Nested => name.ends_with(b".aux"),
+        Command::Database | Command::Style | Command::Citation => true,
+    }
+}
+
+/// What is wrong with a name that was met before.
+fn met_before(alloc: Global, command: Command, name: &[u8]) -> Result<Option<Bytes>, AllocError>
+    ensures { IfOk result (λ fault. fault ≡ met_before command name.now) }
+{
+    match command {
+        Command::Database => {
+            let words = pair(alloc, b"This database file appears more than once: ", name)?;
+            Ok(Some(words))
+        }
+        Command::Nested => {
+            let words = pair(alloc, b"Already encountered file ", name)?;
+            Ok(Some(words))
+        }
+        Command::Style | Command::Citation => Ok(None),
+    }
+}
+
+/// What is wrong with a name, where these files were met. The one error is want of memory.
+#[tactic(auto, unfolding(crate::specs::Naming::name_fault))]
+pub fn name_fault(
+    alloc: Global,
+    command: Command,
+    met: &Sequence<Bytes>,
+    name: &[u8],
+) -> Result<Option<Bytes>, AllocError>
+    ensures { IfOk result (λ fault. fault ≡ name_fault command met.now name.now) }
+{
+    if !has_ending(command, name) {
+        let words = pair(alloc, name, b" has a wrong extension")?;
+        Ok(Some(words))
+    } else if !is_file_name(name) {
+        let words = pair(alloc, name, b" isn't a file name of this profile")?;
+        Ok(Some(words))
+    } else if is_among(met, name) {
+        met_before(alloc, command, name)
+    } else {
+        Ok(None)
+    }
+}

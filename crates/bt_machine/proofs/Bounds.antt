@@ -1,0 +1,297 @@
+-- An evaluation never gains ticks, and ticks and values on the stack together grow by no action beyond its own tick.
+use Rattle.std.proofs.Common.{◌≡◌, ℕ, zero, suc, ◌+◌, ◌≤◌, ◌<◌, Bool, true, false, List, [], ◌∷◌, length, Option, Some, None, refl, ap, arith}
+use Rattle.std.specs.Prelude.{ℤ, pos, negsuc, if◌then◌else◌, nat_lt, nat_le, option_and_then, slice_index_or}
+use Rattle.bt_style.specs.declared.builtin.Builtin.{Builtin as Primitive}
+use Rattle.bt_style.specs.declared.builtin.Builtin.TheVariants as builtin
+use Rattle.bt_style.specs.declared.style.Target.{Target}
+use Rattle.bt_style.specs.declared.style.Target.TheVariants.{Builtin, Field, EntryNumber, EntryText, GlobalNumber, GlobalText, Function}
+use Rattle.bt_style.specs.Tree.{Element, Amount, Words, Quoted, Braced, Called, Body, End, Then}
+use Rattle.bt_style.specs.Program.{Program}
+use Rattle.bt_actions.specs.declared.entry.Entry.{Entry}
+use Rattle.bt_actions.specs.declared.entry.Variables.{Variables}
+use Rattle.bt_actions.specs.declared.complaint.Complaint.{Complaint}
+use Rattle.bt_actions.specs.declared.complaint.Complaint.TheVariants.{NoEntry, StackPassed, TextPassed}
+use Rattle.bt_actions.specs.Item.{Code, Name, Block, Item, Num, Txt, Fun}
+use Rattle.bt_actions.specs.World.{World, Act, Goes, Stops, entry_of, say, with_stack}
+use Rattle.bt_actions.specs.State.{text_len, pushed, pushed_in_error, popped_from, popped, appended}
+use Rattle.bt_actions.specs.Arguments.{number_of, text_of, field_text_of, code_of, target_of, any_of, judged, taken, taken_two, taken_three}
+use Rattle.bt_actions.specs.Given.{Given, Gives, Errs, answered, valued, zero_item, empty_item}
+use Rattle.bt_actions.specs.Numbers.{greater_of, less_of, sum_of, difference_of, byte_number, ascii_text, digits_text}
+use Rattle.bt_actions.specs.Comparing.{equality_of, emptiness_of, missing_of}
+use Rattle.bt_actions.specs.Texts.{join_of, period_of, case_of, purified_of, substring_given, prefix_of, length_of, width_given, quote}
+use Rattle.bt_actions.specs.Names.{names_counted, name_formatted}
+use Rattle.bt_actions.specs.Reading.{given, of_entry, key_item, kind_item, field_at, number_at, text_at}
+use Rattle.bt_actions.specs.Assigning.{with_number, with_text, with_globals, with_own, stored, own_changed, assigned}
+use Rattle.bt_actions.specs.Logging.{log_value, log_warning}
+use Rattle.bt_actions.specs.Stacking.{duplicated, swapped}
+use Rattle.bt_actions.specs.Actions.{done_with, goes_with, basic}
+use Rattle.bt_machine.specs.Eval.{Ending, Done, Stopped, Runner, then_go, acted, code_body, body_at, type_function, run_function, run_type, by_sign, run_chosen, turn, turns, run_loop, built_in, act, counted, eval_within}
+
+-- an action leaves at most so many values on the stack, where it doesn't stop
+abbrev pub Grows : ℕ → Act → Type 0
+Grows s (Goes w) = length w.stack ≤ s
+Grows s (Stops w) = Unit {0}
+
+-- a test
+if_grows : (b : Bool) (a a' : Act) (s : ℕ) → Grows s a → Grows s a' → Grows s (if b then a else a')
+if_grows true a a' s h h' = h
+if_grows false a a' s h h' = h'
+
+-- one value more
+Grows_weaker : (a : Act) (s : ℕ) → Grows s a → Grows (suc s) a
+Grows_weaker (Goes w) s h = omega arith
+Grows_weaker (Stops w) s h = tt
+
+-- what is left after arguments were taken
+
+pop_len : (vs : List Item) (w : World) → length vs ≤ length w.stack → length (popped_from vs w).1.stack ≤ length w.stack
+pop_len [] w h = omega arith
+pop_len (v ∷ vs) w h = omega arith
+
+pub popped_len : (w : World) → length (popped w).1.stack ≤ length w.stack
+popped_len w = pop_len w.stack w (omega arith)
+
+judged_stack : (b : Primitive) (wrong : Bool) (w : World) → (judged b wrong w).stack ≡ w.stack
+judged_stack b true w = refl
+judged_stack b false w = refl
+
+pub taken_len : {A : Type 0} (b : Primitive) (kind : Item → Option A) (w : World) → length (taken b kind w).1.stack ≤ length w.stack
+taken_len b kind w = rw judged_stack (popped_len w)
+
+pub taken_two_len : {A B : Type 0} (b : Primitive) (lower : Item → Option A) (upper : Item → Option B) (w : World) → length (taken_two b lower upper w).1.stack ≤ length w.stack
+taken_two_len b lower upper w =
+    let h = popped_len w in
+    let i = popped_len (popped w).1 in
+    rw judged_stack (omega arith)
+
+pub taken_three_len : {A B C : Type 0} (b : Primitive) (lower : Item → Option A) (middle : Item → Option B) (upper : Item → Option C) (w : World) → length (taken_three b lower middle upper w).1.stack ≤ length w.stack
+taken_three_len b lower middle upper w =
+    let h = popped_len w in
+    let i = popped_len (popped w).1 in
+    let j = popped_len (popped (popped w).1).1 in
+    rw judged_stack (omega arith)
+
+-- where an argument was there, a value was taken
+some_len : {A : Type 0} (kind : Item → Option A) (vs : List Item) (w : World) (a : A) → length vs ≤ length w.stack → option_and_then kind (popped_from vs w).0 ≡ Some a → length (popped_from vs w).1.stack < length w.stack
+some_len kind [] w a h e = cc
+some_len kind (v ∷ vs) w a h e = omega arith
+
+pub taken_some_len : {A : Type 0} (b : Primitive) (kind : Item → Option A) (w : World) (a : A) → (taken b kind w).0 ≡ Some a → length (taken b kind w).1.stack < length w.stack
+taken_some_len b kind w a e = rw judged_stack (some_len kind w.stack w a (omega arith) e)
+
+-- what goes on the stack
+
+pub pushed_grows : (v : Item) (w : World) (s : ℕ) → length w.stack ≤ s → Grows (suc s) (pushed v w)
+pushed_grows v w s h =
+    let long = Stops (say TextPassed w) in
+    let short = nat_le (text_len v) 65536 in
+    if_grows (nat_lt (length w.stack) 1000) (if short then Goes (with_stack (v ∷ w.stack) w) else long) (Stops (say StackPassed w)) (suc s)
+    (if_grows short (Goes (with_stack (v ∷ w.stack) w)) long (suc s) (omega arith) tt) tt
+
+in_error_grows : (m : Complaint) (v : Item) (w : World) (s : ℕ) → length w.stack ≤ s → Grows (suc s) (pushed_in_error m v w)
+in_error_grows m v w s h =
+    if_grows (nat_lt (length w.stack) 1000) (pushed v (say m w)) (Stops (say StackPassed w)) (suc s) (pushed_grows v (say m w) s h) tt
+
+answered_grows : (g : Given) (w : World) (s : ℕ) → length w.stack ≤ s → Grows (suc s) (answered g w)
+answered_grows (Gives v) w s h = pushed_grows v w s h
+answered_grows (Errs m v) w s h = in_error_grows m v w s h
+
+valued_grows : {A : Type 0} (f : A → Given) (default : Item) (q : Option A × World) (s : ℕ) → length q.1.stack ≤ s → Grows (suc s) (valued f default q)
+valued_grows f default (None, w) s h = pushed_grows default w s h
+valued_grows f default (Some a, w) s h = answered_grows (f a) w s h
+
+given_grows : (value : Entry → Item) (default : Item) (o : Option Entry) (w : World) (s : ℕ) → length w.stack ≤ s → Grows (suc s) (given value default o w)
+given_grows value default None w s h = in_error_grows NoEntry default w s h
+given_grows value default (Some e) w s h = pushed_grows (value e) w s h
+
+of_entry_grows : (value : Entry → Item) (default : Item) (w : World) → Grows (suc (length w.stack)) (of_entry value default w)
+of_entry_grows value default w = given_grows value default (entry_of w) w (length w.stack) (omega arith)
+
+-- functions of one, two and three arguments
+
+one_grows : {A : Type 0} (b : Primitive) (kind : Item → Option A) (f : A → Given) (default : Item) (w : World) → Grows (suc (length w.stack)) (valued f default (taken b kind w))
+one_grows b kind f default w = valued_grows f default (taken b kind w) (length w.stack) (taken_len b kind w)
+
+two_grows : {A B : Type 0} (b : Primitive) (lower : Item → Option A) (upper : Item → Option B) (f : A × B → Given) (default : Item) (w : World) → Grows (suc (length w.stack)) (valued f default (taken_two b lower upper w))
+two_grows b lower upper f default w =
+    valued_grows f default (taken_two b lower upper w) (length w.stack) (taken_two_len b lower upper w)
+
+three_grows : {A B C : Type 0} (b : Primitive) (lower : Item → Option A) (middle : Item → Option B) (upper : Item → Option C) (f : A × B × C → Given) (default : Item) (w : World) → Grows (suc (length w.stack)) (valued f default (taken_three b lower middle upper w))
+three_grows b lower middle upper f default w =
+    valued_grows f default (taken_three b lower middle upper w) (length w.stack) (taken_three_len b lower middle upper w)
+
+-- what leaves the stack as it is
+
+goes_grows : {A : Type 0} (f : A → World → World) → ((a : A) (w : World) → (f a w).stack ≡ w.stack) → (q : Option A × World) (s : ℕ) → length q.1.stack ≤ s → Grows (suc s) (goes_with f q)
+goes_grows f same (None, w) s h = omega arith
+goes_grows f same (Some a, w) s h = let e = ap length (same a w) in omega arith
+
+stored_stack : (put : Variables → World → World) → ((vs : Variables) (w : World) → (put vs w).stack ≡ w.stack) → (o : Option Variables) (w : World) → (stored put o w).stack ≡ w.stack
+stored_stack put same None w = refl
+stored_stack put same (Some vs) w = same vs w
+
+own_changed_stack : (change : Variables → Option Variables) (x : Option ℕ) (w : World) → (own_changed change x w).stack ≡ w.stack
+own_changed_stack change None w = refl
+own_changed_stack change (Some x) w = stored_stack (with_own x) (λ vs w. refl) _ w
+
+pub assigned_stack : (a : Item × Target) (w : World) → (assigned a w).stack ≡ w.stack
+assigned_stack (v, Builtin b) w = refl
+assigned_stack (v, Field n) w = refl
+assigned_stack (v, EntryNumber n) w = own_changed_stack (with_number n v) w.current w
+assigned_stack (v, EntryText n) w = own_changed_stack (with_text n v) w.current w
+assigned_stack (v, GlobalNumber n) w = stored_stack with_globals (λ vs w. refl) (with_number n v w.globals) w
+assigned_stack (v, GlobalText n) w = stored_stack with_globals (λ vs w. refl) (with_text n v w.globals) w
+assigned_stack (v, Function n) w = refl
+
+appended_grows : (q : Option (List ℕ) × World) (s : ℕ) → length q.1.stack ≤ s → Grows (suc s) (done_with appended q)
+appended_grows (None, w) s h = omega arith
+appended_grows (Some t, w) s h =
+    if_grows (nat_le (length w.held + length t) 65536) (Goes _) (Stops (say TextPassed w)) (suc s) (omega arith) tt
+
+-- the functions of the stack alone
+
+duplicated_grows : (vs : List Item) (w : World) → Grows (suc (length w.stack)) (duplicated vs w)
+duplicated_grows [] w = omega arith
+duplicated_grows (v ∷ vs) w = pushed_grows v w (length w.stack) (omega arith)
+
+swapped_len : (vs : List Item) (w : World) → length vs ≤ length w.stack → length (swapped vs w).stack ≤ length w.stack
+swapped_len [] w h = omega arith
+swapped_len (v ∷ []) w h = omega arith
+swapped_len (v ∷ u ∷ vs) w h = omega arith
+
+-- a built-in function that runs no other leaves at most one value more
+pub basic_grows : (p : Program) (b : Primitive) (w : World) → Grows (suc (length w.stack)) (basic p b w)
+basic_grows p builtin.Greater w = two_grows builtin.Greater number_of number_of greater_of zero_item w
+basic_grows p builtin.Less w = two_grows builtin.Less number_of number_of less_of zero_item w
+basic_grows p builtin.Equals w = two_grows builtin.Equals any_of any_of equality_of zero_item w
+basic_grows p builtin.Plus w = two_grows builtin.Plus number_of number_of sum_of zero_item w
+basic_grows p builtin.Minus w = two_grows builtin.Minus number_of number_of difference_of zero_item w
+basic_grows p builtin.Join w = two_grows builtin.Join text_of text_of join_of empty_item w
+basic_grows p builtin.Assign w =
+    goes_grows assigned assigned_stack (taken_two builtin.Assign any_of target_of w) _ (taken_two_len builtin.Assign any_of target_of w)
+basic_grows p builtin.AddPeriod w = one_grows builtin.AddPeriod text_of period_of empty_item w
+basic_grows p builtin.CallType w = omega arith
+basic_grows p builtin.ChangeCase w = two_grows builtin.ChangeCase text_of text_of case_of empty_item w
+basic_grows p builtin.ChrToInt w = one_grows builtin.ChrToInt text_of byte_number zero_item w
+basic_grows p builtin.Cite w = of_entry_grows key_item empty_item w
+basic_grows p builtin.Duplicate w = duplicated_grows w.stack w
+basic_grows p builtin.Empty w = one_grows builtin.Empty field_text_of emptiness_of zero_item w
+basic_grows p builtin.FormatName w = three_grows builtin.FormatName text_of number_of text_of name_formatted empty_item w
+basic_grows p builtin.If w = omega arith
+basic_grows p builtin.IntToChr w = one_grows builtin.IntToChr number_of ascii_text empty_item w
+basic_grows p builtin.IntToStr w = one_grows builtin.IntToStr number_of digits_text empty_item w
+basic_grows p builtin.Missing w = one_grows builtin.Missing field_text_of missing_of zero_item w
+basic_grows p builtin.Newline w = omega arith
+basic_grows p builtin.NumNames w = one_grows builtin.NumNames text_of names_counted zero_item w
+basic_grows p builtin.Pop w = let h = popped_len w in omega arith
+basic_grows p builtin.Preamble w = pushed_grows (Txt w.preamble) w _ (omega arith)
+basic_grows p builtin.Purify w = one_grows builtin.Purify text_of purified_of empty_item w
+basic_grows p builtin.Quote w = pushed_grows (Txt quote) w _ (omega arith)
+basic_grows p builtin.Skip w = omega arith
+basic_grows p builtin.Stack w = omega arith
+basic_grows p builtin.Substring w = three_grows builtin.Substring text_of number_of number_of substring_given empty_item w
+basic_grows p builtin.Swap w = let h = swapped_len w.stack w (omega arith) in omega arith
+basic_grows p builtin.TextLength w = one_grows builtin.TextLength text_of length_of zero_item w
+basic_grows p builtin.TextPrefix w = two_grows builtin.TextPrefix text_of number_of prefix_of empty_item w
+basic_grows p builtin.Top w =
+    goes_grows (log_value p) (λ v w. refl) (taken builtin.Top any_of w) _ (taken_len builtin.Top any_of w)
+basic_grows p builtin.Type w = of_entry_grows kind_item empty_item w
+basic_grows p builtin.Warning w =
+    goes_grows log_warning (λ t w. refl) (taken builtin.Warning text_of w) _ (taken_len builtin.Warning text_of w)
+basic_grows p builtin.While w = omega arith
+basic_grows p builtin.Width w = one_grows builtin.Width text_of width_given zero_item w
+basic_grows p builtin.Write w = appended_grows (taken builtin.Write text_of w) _ (taken_len builtin.Write text_of w)
+
+-- an evaluation leaves at most k ticks and, where it isn't stopped, at most s ticks and values together
+abbrev pub Shrinks : ℕ → ℕ → Ending → Type 0
+Shrinks k s (Done w j) = (j ≤ k) × (j + length w.stack ≤ s)
+Shrinks k s (Stopped w j) = j ≤ k
+
+-- from everywhere it leaves no more ticks than it was given, and no more ticks and values together
+abbrev pub AllShrink : (World → ℕ → Ending) → Type 0
+AllShrink go = (w : World) (k : ℕ) → Shrinks k (k + length w.stack) (go w k)
+
+Shrinks_weaker : (o : Ending) (k s k' s' : ℕ) → k ≤ k' → s ≤ s' → Shrinks k s o → Shrinks k' s' o
+Shrinks_weaker (Done w j) k s k' s' hk hs h = (omega arith, omega arith)
+Shrinks_weaker (Stopped w j) k s k' s' hk hs h = omega arith
+
+then_shrinks : (o : Ending) (go : World → ℕ → Ending) (k s k' s' : ℕ) → k ≤ k' → Shrinks k s o → ((w : World) (j : ℕ) → j ≤ k → j + length w.stack ≤ s → Shrinks k' s' (go w j)) → Shrinks k' s' (then_go o go)
+then_shrinks (Done w j) go k s k' s' hk h f = f w j h.0 h.1
+then_shrinks (Stopped w j) go k s k' s' hk h f = omega arith
+
+acted_shrinks : (a : Act) (k n : ℕ) → Grows (suc n) a → Shrinks k (suc (k + n)) (acted a k)
+acted_shrinks (Goes w) k n h = (omega arith, omega arith)
+acted_shrinks (Stops w) k n h = omega arith
+
+-- loops
+
+turn_shrinks : (o : Option ℤ) (w : World) (j k s : ℕ) (body again : World → ℕ → Ending) → j ≤ k → j + length w.stack ≤ s → AllShrink body → AllShrink again → Shrinks k s (turn (o, w) j body again)
+turn_shrinks None w j k s body again hk hs b a = (hk, hs)
+turn_shrinks (Some (pos zero)) w j k s body again hk hs b a = (hk, hs)
+turn_shrinks (Some (pos (suc n))) w j k s body again hk hs b a =
+    then_shrinks (body w j) again j (j + length w.stack) k s hk (b w j) (λ w' i hi hs'. Shrinks_weaker (again w' i) i (i + length w'.stack) k s (omega arith) (omega arith) (a w' i))
+turn_shrinks (Some (negsuc n)) w j k s body again hk hs b a = (hk, hs)
+
+turns_shrinks : (m : ℕ) (test body : World → ℕ → Ending) → AllShrink test → AllShrink body → AllShrink (turns m test body)
+turns_shrinks zero test body t b w k = omega arith
+turns_shrinks (suc m) test body t b w k =
+    then_shrinks (test w k) _ k (k + length w.stack) k (k + length w.stack) (omega arith) (t w k)
+    (λ w' j hj hs. let l = taken_len builtin.While number_of w' in turn_shrinks _ _ j k (k + length w.stack) body (turns m test body) hj (omega arith) b (turns_shrinks m test body t b))
+
+module _ (p : Program) (run : Runner) (h : (b : Body) → AllShrink (run b)) where
+  -- a body, where fewer values stand on the stack
+  run_shrinks : (b : Body) (w : World) (k s : ℕ) → k + length w.stack ≤ s → Shrinks k s (run b w k)
+  run_shrinks b w k s i = Shrinks_weaker _ k (k + length w.stack) k s (omega arith) i (h b w k)
+
+  chosen_shrinks : (o : Option (ℤ × Code × Code)) (w : World) (k s : ℕ) → k + length w.stack ≤ s → Shrinks k s (run_chosen run (o, w) k)
+  chosen_shrinks None w k s i = (omega arith, i)
+  chosen_shrinks (Some q) w k s i = run_shrinks (code_body (by_sign q.0 q.1 q.2)) w k s i
+
+  loop_shrinks : (o : Option (Code × Code)) (w : World) (k s : ℕ) → k + length w.stack ≤ s → Shrinks k s (run_loop run (o, w) k)
+  loop_shrinks None w k s i = (omega arith, i)
+  loop_shrinks (Some q) w k s i =
+      Shrinks_weaker _ k (k + length w.stack) k s (omega arith) i (turns_shrinks (suc (k + length w.stack)) _ _ (h (code_body q.0)) (h (code_body q.1)) w k)
+
+  function_shrinks : (o : Option ℕ) (w : World) (k s : ℕ) → k + length w.stack ≤ s → Shrinks k s (run_function p.functions run o w k)
+  function_shrinks None w k s i = (omega arith, i)
+  function_shrinks (Some n) w k s i = run_shrinks (body_at p.functions n) w k s i
+
+  type_shrinks : (o : Option Entry) (w : World) (k s : ℕ) → k + length w.stack ≤ s → Shrinks k s (run_type p.functions run o w k)
+  type_shrinks None w k s i = (omega arith, i)
+  type_shrinks (Some e) w k s i = function_shrinks (type_function p.functions e.function) w k s i
+
+  built_in_shrinks : (b : Primitive) (w : World) (k : ℕ) → Shrinks k (suc (k + length w.stack)) (built_in p run b w k)
+  built_in_shrinks builtin.If w k =
+      let t = taken_three builtin.If number_of code_of code_of w in
+      let l = taken_three_len builtin.If number_of code_of code_of w in
+      chosen_shrinks t.0 t.1 k _ (omega arith)
+  built_in_shrinks builtin.While w k =
+      let t = taken_two builtin.While code_of code_of w in
+      let l = taken_two_len builtin.While code_of code_of w in
+      loop_shrinks t.0 t.1 k _ (omega arith)
+  built_in_shrinks builtin.CallType w k = type_shrinks (entry_of w) w k _ (omega arith)
+  built_in_shrinks b w k = acted_shrinks (basic p b w) k _ (basic_grows p b w)
+
+  pub act_shrinks : (e : Element) (w : World) (k : ℕ) → Shrinks k (suc (k + length w.stack)) (act p run e w k)
+  act_shrinks (Amount n) w k = acted_shrinks (pushed (Num n) w) k _ (pushed_grows (Num n) w _ (omega arith))
+  act_shrinks (Words t) w k = acted_shrinks (pushed (Txt t) w) k _ (pushed_grows (Txt t) w _ (omega arith))
+  act_shrinks (Quoted t) w k = acted_shrinks (pushed (Fun (Name t)) w) k _ (pushed_grows (Fun (Name t)) w _ (omega arith))
+  act_shrinks (Braced b) w k = acted_shrinks (pushed (Fun (Block b)) w) k _ (pushed_grows (Fun (Block b)) w _ (omega arith))
+  act_shrinks (Called (Builtin b)) w k = built_in_shrinks b w k
+  act_shrinks (Called (Field n)) w k = acted_shrinks (of_entry (field_at n) empty_item w) k _ (of_entry_grows (field_at n) empty_item w)
+  act_shrinks (Called (EntryNumber n)) w k = acted_shrinks (of_entry (number_at n) zero_item w) k _ (of_entry_grows (number_at n) zero_item w)
+  act_shrinks (Called (EntryText n)) w k = acted_shrinks (of_entry (text_at n) empty_item w) k _ (of_entry_grows (text_at n) empty_item w)
+  act_shrinks (Called (GlobalNumber n)) w k =
+      acted_shrinks (pushed (Num (slice_index_or w.globals.numbers n (pos 0))) w) k _ (pushed_grows (Num (slice_index_or w.globals.numbers n (pos 0))) w _ (omega arith))
+  act_shrinks (Called (GlobalText n)) w k =
+      acted_shrinks (pushed (Txt (slice_index_or w.globals.texts n [])) w) k _ (pushed_grows (Txt (slice_index_or w.globals.texts n [])) w _ (omega arith))
+  act_shrinks (Called (Function n)) w k = run_shrinks (body_at p.functions n) w k _ (omega arith)
+
+-- a body
+pub eval_shrinks : (p : Program) (deep : ℕ) (b : Body) → AllShrink (eval_within p deep b)
+unfolding eval_within
+eval_shrinks p deep End w k = (omega arith, omega arith)
+eval_shrinks p deep (Then e rest) w zero = omega arith
+eval_shrinks p zero (Then e rest) w (suc k) = omega arith
+eval_shrinks p (suc deep) (Then e rest) w (suc k) =
+    then_shrinks _ _ k (suc (k + length w.stack)) (suc k) (suc k + length w.stack) (omega arith) (act_shrinks p (eval_within p deep) (eval_shrinks p deep) e (counted e w) k) (λ w' j hj hs. Shrinks_weaker _ j (j + length w'.stack) (suc k) (suc k + length w.stack) (omega arith) (omega arith) (eval_shrinks p deep rest w' j))

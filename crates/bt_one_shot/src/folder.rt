@@ -1,0 +1,31 @@
+//! Where a job's files are read and written.
+
+ghost use Rattle.std.specs.Prelude.{List, Option, [], ◌∷◌};
+ghost use Rattle.bt_one_shot.specs.Folders.{Written, Stays, WritesFile};
+
+use bt_text::Bytes;
+
+/// What a folder gives for a name.
+#[derive(Debug, Drop)]
+pub enum Found {
+    /// The file's bytes, at most its first 1,048,577.
+    Bytes(Bytes),
+    /// There is no such file, or it can't be read.
+    Missing,
+    /// There was no room for its bytes.
+    NoRoom,
+}
+
+/// A folder of files.
+pub trait Folder {
+    /// What was written to it, the first first, where it tells.
+    ghost written: { Self → Option (List Written) };
+
+    /// The file of a name.
+    fn read(&mut self, name: &[u8]) -> Found
+        ensures { Stays (written self.old) (written self.new) };
+
+    /// Writes a file, and says whether it succeeded.
+    fn write(&mut self, name: &[u8], bytes: &[u8]) -> bool
+        ensures { WritesFile (written self.old) (written self.new) (record { name = name.now; bytes = bytes.now }) result };
+}

@@ -1,0 +1,92 @@
+//! The one-shot form: reads the files of a job, writes its `.bbl` and its `.blg`, and prints the log.
+
+ghost use Rattle.std.specs.Prelude.{◌≡◌, ◌^◌, ◌-◌, ◌<◌, ◌++◌, true, codes, MatchResult};
+ghost use Rattle.bibtex.specs.Present.{is_root_name, shown};
+ghost use Rattle.bt_one_shot.specs.Folders.{Stays};
+ghost use Rattle.bt_one_shot.specs.Shots.{exit_of, Leaves, Runs};
+
+use crate::folder::Folder;
+use crate::loading::{load_all, tell};
+use crate::options::Options;
+use bibtex::Session;
+use bt_job::pair;
+use bt_serve::{Sink, write_all};
+use std::alloc::{AllocError, Global};
+
+/// What a file that can't be written makes of the exit status.
+const UNWRITTEN: u8 = 3;
+
+/// The exit status of a run: 0 where there were warnings at most, else the run's status.
+fn exit_status(status: u8) -> u8
+    ensures { result ≡ exit_of status }
+{
+    if status <= 1 { 0 } else { status }
+}
+
+/// Writes the two files of a session, and a log to `out`.
+fn write_out<F: Folder, O: Sink, E: Sink>(
+    session: &Session,
+    names: (&[u8], &[u8]),
+    log: &[u8],
+    folder: &mut F,
+    out: &mut O,
+    err: &mut E,
+    known: u64,
+) -> u8
+    requires bbl { names.0.now ≡ session.now.root ++ codes ".bbl" }
+    requires blg { names.1.now ≡ session.now.root ++ codes ".blg" }
+    requires err { known < 2 ^ 64 - 1 }
+    requires out { O.failure_count out.old < 2 ^ 64 - 1 }
+    ensures { Leaves session.now (F.written folder.old) (F.written folder.new) result }
+{
+    let (bbl, blg) = names;
+    if !folder.write(bbl, session.bbl()) {
+        tell(err, known, b"bibtex: can't write ", bbl, b"", b"");
+        return UNWRITTEN;
+    }
+    if !folder.write(blg, session.blg()) {
+        tell(err, known, b"bibtex: can't write ", blg, b"", b"");
+        return UNWRITTEN;
+    }
+    if write_all(out, log).is_ok() {
+        let _ = out.flush();
+    }
+    exit_status(session.status())
+}
+
+/// Runs a job once: reads each file that it wants, once each and in the order that makes the steps run once, then
+/// writes its `.bbl` and its `.blg`, and writes the log to `out`. It answers the exit status.
+///
+/// A file that is refused is told on `err`, and counts as missing. A file that can't be written is told on `err`, the
+/// exit status is 3, and nothing is written after it. After its first failure neither `out` nor `err` is written to
+/// again. The one error is want of memory; then nothing was written to the folder.
+pub fn one_shot<F: Folder, O: Sink, E: Sink>(
+    alloc: Global,
+    options: &Options,
+    folder: &mut F,
+    out: &mut O,
+    err: &mut E,
+) -> Result<u8, AllocError>
+    requires root { is_root_name options.now.root ≡ true }
+    requires out { O.failure_count out.old < 2 ^ 64 - 1 }
+    requires err { E.failure_count err.old < 2 ^ 64 - 1 }
+    ensures { MatchResult result
+        (Runs options.now.root options.now.min (F.written folder.old) (F.written folder.new))
+        (λ _. Stays (F.written folder.old) (F.written folder.new)) }
+{
+    let root = options.root.as_slice();
+    let Ok(mut session) = Session::new(alloc, root, options.min) else {
+        return Err(AllocError);
+    };
+    let known = err.failures();
+    load_all(alloc, &mut session, folder, err, known)?;
+    let bbl = pair(alloc, root, b".bbl")?;
+    let blg = pair(alloc, root, b".blg")?;
+    let names = (bbl.as_slice(), blg.as_slice());
+    let log = if options.terse {
+        session.terse()
+    } else {
+        session.blg()
+    };
+    Ok(write_out(&session, names, log, folder, out, err, known))
+}

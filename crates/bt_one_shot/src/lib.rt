@@ -1,0 +1,15 @@
+//! The command line of BibTeX and its one-shot form: reads the files of a job, writes its `.bbl` and its `.blg`.
+#![tactic(auto)]
+
+mod folder;
+mod job;
+mod loading;
+mod options;
+mod words;
+
+pub use folder::{Folder, Found};
+pub use job::one_shot;
+pub use options::{Options, OptionsFault, parse_options};
+
+#[cfg(test)]
+mod option_tests;

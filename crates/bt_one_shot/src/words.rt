@@ -1,0 +1,57 @@
+//! The words of the command line.
+
+use clap::{Arg, ArgAction, Command, value_parser};
+use std::alloc::{AllocError, Global};
+
+const ABOUT: &str =
+    "Writes the bibliography of a LaTeX document: reads what JOB.aux cites, looks it up in the \
+databases (.bib) that it names, and writes JOB.bbl as its style (.bst) says. JOB.blg gets the log, which is also \
+printed.";
+
+const EXAMPLE: &str =
+    "Example: after `latex paper`, run `bibtex paper`, and then `latex paper` twice. An editor starts \
+`bibtex --resident paper` once, writes commands to it and reads their answers.
+
+Exit status: 0 if there were warnings at most, 2 if there were errors, 3 after a fatal error or if a file can't be \
+written, 1 if the command line is wrong.";
+
+fn job(alloc: Global) -> Arg<'static> {
+    Arg::new(alloc, "JOB")
+        .required(true)
+        .action(ArgAction::Set)
+        .help("The name of the document, with or without .aux")
+}
+
+fn min_crossrefs(alloc: Global) -> Arg<'static> {
+    Arg::new(alloc, "min-crossrefs")
+        .long("min-crossrefs")
+        .value_name("N")
+        .value_parser(value_parser!(u16))
+        .default_value("2")
+        .help("List an uncited entry that so many entries refer to, 0 to 65535")
+}
+
+fn terse(alloc: Global) -> Arg<'static> {
+    Arg::new(alloc, "terse")
+        .long("terse")
+        .action(ArgAction::SetTrue)
+        .help("Print the log without the names of the files")
+}
+
+fn resident(alloc: Global) -> Arg<'static> {
+    Arg::new(alloc, "resident")
+        .long("resident")
+        .action(ArgAction::SetTrue)
+        .help("Read commands from standard input and answer them on standard output")
+}
+
+/// The command line: what it takes, and what `--help` tells.
+pub fn command<'a>(alloc: Global) -> Result<Command<'a>, AllocError> {
+    Command::new(alloc, "bibtex")
+        .about(ABOUT)
+        .after_help(EXAMPLE)
+        .arg(min_crossrefs(alloc))?
+        .arg(terse(alloc))?
+        .arg(resident(alloc))?
+        .arg(job(alloc))
+}

@@ -1,0 +1,84 @@
+-- Inheriting one after another gives the values by place in the list.
+use Rattle.std.proofs.Common.{◌≡◌, ◌≢◌, ◌∙◌, ap, sym, refl, ℕ, zero, suc, ◌+◌, ◌<◌, ◌≤◌, Bool, true, false, List, [], ◌∷◌, ◌++◌, length, reverse, get_or, set, drop, Option, Some, None, append_assoc, append-nil, arith, inl, inr, ◌⊎◌}
+use Rattle.std.specs.Prelude.{◌==◌, slice_get}
+use Rattle.std.proofs.Math.Path.{fun_ext}
+use Rattle.std.proofs.lemmas.Grind.{reverse_onto}
+use Rattle.std.proofs.lemmas.List.{get_or-set_same, get_or-set_other, get_or_past, set_past, drop_more, drop-drop}
+use Rattle.std.proofs.lemmas.Bool.Decides.{Decides-eqb}
+use Rattle.bt_resolve.specs.declared.asked.Asked.{Asked}
+use Rattle.bt_resolve.specs.declared.stored.Stored.{Stored}
+use Rattle.bt_resolve.specs.Listed.{listed}
+use Rattle.bt_resolve.specs.Inherited.{inherited, or_first, values_of, parent_at, inherits, values_behind, entries_by, entries_seen}
+use Rattle.bt_resolve.specs.Inheriting.{inherits_from, inherits_at, all_inherit, values_read}
+
+abbrev Values : Type 0
+Values = List (Option (List ℕ))
+
+pub behind_place : (p : ℕ) (rest before : List ℕ) → reverse (p ∷ rest) ++ before ≡ reverse rest ++ p ∷ before
+behind_place p rest before = ap (λ (is : List ℕ). is ++ before) (reverse_onto rest p []) ∙ append_assoc (reverse rest) (p ∷ []) before
+
+set_at_length : (vs : List Values) (k : ℕ) (theirs : Values) → (k < length vs) ⊎ (length vs ≤ k) → get_or (set vs k (inherited (get_or vs k []) theirs)) k [] ≡ inherited (get_or vs k []) theirs
+set_at_length vs k theirs (inl less) = get_or-set_same vs k (inherited (get_or vs k []) theirs) [] less
+set_at_length vs k theirs (inr past) =
+    ap (λ (ws : List Values). get_or ws k []) (set_past vs k (inherited (get_or vs k []) theirs) past)
+    ∙ get_or_past vs k [] past
+    ∙ sym (ap (λ (v : Values). inherited v theirs) (get_or_past vs k [] past))
+
+lt_or_le : (k n : ℕ) → (k < n) ⊎ (n ≤ k)
+lt_or_le k zero = inr (omega arith)
+lt_or_le zero (suc n) = inl (omega arith)
+lt_or_le (suc k) (suc n) = elim (lt_or_le k n) [ inl less ↦ inl (omega arith) | inr more ↦ inr (omega arith) ]
+
+same_place : (vs : List Values) (k : ℕ) (parent : Option ℕ) → get_or (inherits_from parent k vs) k [] ≡ inherits true parent (λ j. get_or vs j []) k
+same_place vs k None = refl
+same_place vs k (Some parent) = set_at_length vs k (get_or vs parent []) (lt_or_le k (length vs))
+
+other_place : (vs : List Values) (q k : ℕ) (parent : Option ℕ) → k ≢ q → get_or (inherits_from parent q vs) k [] ≡ get_or vs k []
+other_place vs q k None other = refl
+other_place vs q k (Some parent) other = get_or-set_other vs q k (inherited (get_or vs q []) (get_or vs parent [])) [] other
+
+at_test : (stored : List Stored) (vs : List Values) (q k : ℕ) (b : Bool) → (q == k) ≡ b → get_or (inherits_at stored vs q) k [] ≡ inherits b (parent_at stored k) (λ j. get_or vs j []) k
+at_test stored vs q k true is =
+    let same : q ≡ k = (Decides-eqb q k).0 is in
+    ap (λ (p : ℕ). get_or (inherits_at stored vs p) k []) same ∙ same_place vs k (parent_at stored k)
+at_test stored vs q k false is =
+    other_place vs q k (parent_at stored q) (λ (same : k ≡ q). let yes_is : (q == k) ≡ true = (Decides-eqb q k).1 (sym same) in let wrong : true ≡ false = sym yes_is ∙ is in cc)
+
+values_next : (stored : List Stored) (vs : List Values) (before : List ℕ) (q : ℕ) → ((k : ℕ) → get_or vs k [] ≡ values_behind stored before k) → (k : ℕ) → get_or (inherits_at stored vs q) k [] ≡ values_behind stored (q ∷ before) k
+unfolding values_behind
+values_next stored vs before q h k =
+    at_test stored vs q k (q == k) refl ∙ ap (λ (now : ℕ → Values). inherits (q == k) (parent_at stored k) now k) (fun_ext h)
+
+pub values_then : (stored : List Stored) (places before : List ℕ) (vs : List Values) → ((k : ℕ) → get_or vs k [] ≡ values_behind stored before k) → (k : ℕ) → get_or (all_inherit stored vs places) k [] ≡ values_behind stored (reverse places ++ before) k
+values_then stored [] before vs h k = h k
+values_then stored (p ∷ ps) before vs h k =
+    values_then stored ps (p ∷ before) (inherits_at stored vs p) (values_next stored vs before p h) k
+    ∙ ap (λ (behind : List ℕ). values_behind stored behind k) (sym (behind_place p ps before))
+
+values_first : (stored : List Stored) (k : ℕ) → get_or (values_read stored) k [] ≡ values_of (slice_get stored k)
+values_first [] k = refl
+values_first (s ∷ ss) zero = refl
+values_first (s ∷ ss) (suc k) = values_first ss k
+
+pub values_are : (stored : List Stored) (places : List ℕ) → (λ k. get_or (all_inherit stored (values_read stored) places) k []) ≡ values_behind stored (reverse places)
+unfolding values_behind
+values_are stored places = fun_ext (λ k. values_then stored places [] (values_read stored) (values_first stored) k ∙ ap (λ (behind : List ℕ). values_behind stored behind k) (append-nil (reverse places)))
+
+pub entries_are : (a : Asked) (min : ℕ) (stored : List Stored) (places : List ℕ) (values : List Values) → places ≡ listed a stored → values ≡ all_inherit stored (values_read stored) places →
+    entries_by a min stored (λ k. get_or values k []) places ≡ entries_seen a min stored
+unfolding entries_seen
+entries_are a min stored places values listed_is values_is =
+    ap (λ (vs : List Values). entries_by a min stored (λ k. get_or vs k []) places) values_is
+    ∙ ap (λ (now : ℕ → Values). entries_by a min stored now places) (values_are stored places)
+    ∙ ap (λ (ps : List ℕ). entries_by a min stored (values_behind stored (reverse ps)) ps) listed_is
+
+abbrev Value : Type 0
+Value = Option (List ℕ)
+
+pub inherited_more : (vs mine theirs : List Value) (i : ℕ) (v : Value) → i < length mine → v ≡ get_or mine i v →
+    (vs ++ or_first v (drop i theirs) ∷ []) ++ inherited (drop (i + 1) mine) (drop (i + 1) theirs) ≡ vs ++ inherited (drop i mine) (drop i theirs)
+inherited_more vs mine theirs i v less is =
+    let d : drop i mine ≡ v ∷ drop (i + 1) mine = drop_more mine i v less ∙ ap (λ (x : Value). x ∷ drop (i + 1) mine) (sym is) in
+    append_assoc vs (or_first v (drop i theirs) ∷ []) (inherited (drop (i + 1) mine) (drop (i + 1) theirs))
+    ∙ ap (λ (ts : List Value). vs ++ or_first v (drop i theirs) ∷ inherited (drop (i + 1) mine) ts) (sym (drop-drop 1 i theirs))
+    ∙ ap (λ (ms : List Value). vs ++ inherited ms (drop i theirs)) (sym d)

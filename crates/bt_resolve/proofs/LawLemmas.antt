@@ -1,0 +1,212 @@
+-- Proofs of the laws.
+use Rattle.std.proofs.Common.{◌≡◌, ◌∙◌, ap, refl, ℕ, zero, suc, ◌+◌, ◌<◌, ◌≤◌, Bool, true, false, List, [], ◌∷◌, ◌++◌, length, reverse, take, Option, Some, None, arith}
+use Rattle.std.specs.Prelude.{◌==◌, ◌||◌, ◌&&◌, not, cond, slice_get, filter, filter_map, option_map, option_and_then, if◌then◌else◌, is_some}
+use Rattle.std.specs.List.{AllByRecursion, range_with_len, cons_option}
+use Rattle.bt_text.specs.Folding.{is_same_folded}
+use Rattle.bt_bib.specs.declared.item.Item.{Item}
+use Rattle.bt_bib.specs.declared.item.Content.{Content}
+use Rattle.bt_bib.specs.declared.item.Content.TheVariants as contents
+use Rattle.bt_bib.specs.declared.item.Entry.{Entry}
+use Rattle.bt_resolve.specs.declared.asked.Asked.{Asked}
+use Rattle.bt_resolve.specs.declared.declared.Macro.{Macro}
+use Rattle.bt_resolve.specs.declared.stored.Stored.{Stored}
+use Rattle.bt_resolve.specs.Names.{place_of, has_name}
+use Rattle.bt_resolve.specs.Macros.{macro_before}
+use Rattle.bt_resolve.specs.Values.{MacroTexts, is_named}
+use Rattle.bt_resolve.specs.Stored.{stored_of, is_referred_to, is_wanted, is_stored, with_entry, with_item, stored_among}
+use Rattle.bt_resolve.specs.Listed.{place_of_key, parent_of, is_cited_at, is_among, firsts, cited_places, parents, uncited_parents, listed_by, listed}
+use Rattle.bt_resolve.specs.Inherited.{inherits, values_behind}
+use Rattle.bt_resolve.specs.Resolved.{resolved, stored_entries, all_items}
+use Rattle.bt_resolve.specs.Laws.{MessagesForEachMin, ListedAreStored, StoredAreWanted, KeysApart, StoredKeysApart, NothingInherited}
+
+pub same_messages : MessagesForEachMin
+unfolding resolved
+same_messages d c databases m n = refl
+
+-- ---- each listed entry is stored
+
+abbrev Below : ℕ → List ℕ → Type 0
+Below n ps = AllByRecursion (λ p. p < n) ps
+
+abbrev SomeBelow : ℕ → Option ℕ → Type 0
+SomeBelow n None = Unit {0}
+SomeBelow n (Some p) = p < n
+
+place_step : (n : ℕ) (b : Bool) (o : Option ℕ) → SomeBelow n o → SomeBelow (suc n) (if b then Some 0 else option_map (λ i. suc i) o)
+place_step n true o h = omega arith
+place_step n false None h = tt
+place_step n false (Some p) h = omega (arith, h)
+
+place_below : {X : Type 0} (test : X → Bool) (xs : List X) → SomeBelow (length xs) (place_of test xs)
+place_below test [] = tt
+place_below test (x ∷ xs) = place_step (length xs) (test x) (place_of test xs) (place_below test xs)
+
+below_cons : (n : ℕ) (o : Option ℕ) (ps : List ℕ) → SomeBelow n o → Below n ps → Below n (cons_option o ps)
+below_cons n None ps h hs = hs
+below_cons n (Some p) ps h hs = (h, hs)
+
+below_filter_map : {X : Type 0} (n : ℕ) (f : X → Option ℕ) → ((x : X) → SomeBelow n (f x)) → (xs : List X) → Below n (filter_map f xs)
+below_filter_map n f h [] = tt
+below_filter_map n f h (x ∷ xs) = below_cons n (f x) (filter_map f xs) (h x) (below_filter_map n f h xs)
+
+below_append : (n : ℕ) (ps qs : List ℕ) → Below n ps → Below n qs → Below n (ps ++ qs)
+below_append n [] qs h k = k
+below_append n (p ∷ ps) qs h k = (h.0, below_append n ps qs h.1 k)
+
+below_cond : (n : ℕ) (b : Bool) (p : ℕ) (ps : List ℕ) → p < n → Below n ps → Below n (cond b (p ∷ ps) ps)
+below_cond n true p ps h hs = (h, hs)
+below_cond n false p ps h hs = hs
+
+below_filter : (n : ℕ) (test : ℕ → Bool) (ps : List ℕ) → Below n ps → Below n (filter test ps)
+below_filter n test [] h = tt
+below_filter n test (p ∷ ps) h = below_cond n (test p) p (filter test ps) h.0 (below_filter n test ps h.1)
+
+below_unless : (n : ℕ) (b : Bool) (p : ℕ) (these those : List ℕ) → p < n → Below n these → Below n those → Below n (if b then these else p ∷ those)
+below_unless n true p these those h k l = k
+below_unless n false p these those h k l = (h, l)
+
+below_firsts : (n : ℕ) (seen ps : List ℕ) → Below n ps → Below n (firsts seen ps)
+below_firsts n seen [] h = tt
+below_firsts n seen (p ∷ ps) h = below_unless n (is_among seen p) p (firsts seen ps) (firsts (seen ++ p ∷ []) ps) h.0 (below_firsts n seen ps h.1) (below_firsts n (seen ++ p ∷ []) ps h.1)
+
+below_range : (n a m : ℕ) → a + m ≤ n → Below n (range_with_len a m)
+below_range n a zero h = tt
+below_range n a (suc m) h = (omega arith, below_range n (a + 1) m (omega arith))
+
+parent_below : (stored : List Stored) (name : Option (List ℕ)) → SomeBelow (length stored) (option_and_then (place_of_key stored) name)
+parent_below stored None = tt
+parent_below stored (Some name) = place_below (λ (s : Stored). is_same_folded s.key name) stored
+
+cited_below : (keys : List (List ℕ)) (stored : List Stored) → Below (length stored) (cited_places keys stored)
+cited_below keys stored = below_filter_map (length stored) (place_of_key stored) (λ key. place_below (λ (s : Stored). is_same_folded s.key key) stored) keys
+
+listed_below : (keys : List (List ℕ)) (star : Option ℕ) (stored : List Stored) → Below (length stored) (listed_by keys star stored)
+listed_below keys None stored =
+    below_append (length stored) (cited_places keys stored) (uncited_parents keys stored) (cited_below keys stored)
+    (below_firsts (length stored) [] (filter (λ p. not (is_cited_at keys stored p)) (parents stored))
+    (below_filter (length stored) (λ p. not (is_cited_at keys stored p)) (parents stored) (below_filter_map (length stored) (parent_of stored) (λ (s : Stored). parent_below stored s.crossref) stored)))
+listed_below keys (Some before) stored =
+    below_append (length stored) (cited_places (take before keys) stored) (filter (λ p. not (is_among (cited_places (take before keys) stored) p)) (range_with_len 0 (length stored))) (cited_below (take before keys) stored)
+    (below_filter (length stored) (λ p. not (is_among (cited_places (take before keys) stored) p)) (range_with_len 0 (length stored)) (below_range (length stored) 0 (length stored) (omega arith)))
+
+pub listed_stored : ListedAreStored
+unfolding listed
+listed_stored a stored = listed_below a.keys a.star stored
+
+-- ---- no two stored keys are alike
+
+or_false : (a b : Bool) → (a || b) ≡ false → (a ≡ false) × (b ≡ false)
+or_false true b h = let wrong : true ≡ false = h in cc
+or_false false b h = (refl, h)
+
+apart_last : (s t : Stored) (ss : List Stored) → is_same_folded s.key t.key ≡ false → AllByRecursion (λ (u : Stored). is_same_folded s.key u.key ≡ false) ss → AllByRecursion (λ (u : Stored). is_same_folded s.key u.key ≡ false) (ss ++ t ∷ [])
+apart_last s t [] h hs = (h, tt)
+apart_last s t (u ∷ us) h hs = (hs.0, apart_last s t us h hs.1)
+
+apart_push : (ss : List Stored) (t : Stored) → KeysApart ss → is_stored ss t.key ≡ false → KeysApart (ss ++ t ∷ [])
+apart_push [] t h new = (tt, tt)
+apart_push (s ∷ ss) t h new =
+    let both : (is_same_folded s.key t.key ≡ false) × (is_stored ss t.key ≡ false) = or_false (is_same_folded s.key t.key) (is_stored ss t.key) new in
+    (apart_last s t ss both.0 h.0, apart_push ss t h.1 both.1)
+
+apart_test : (wanted : Bool) (again : Bool) (ss : List Stored) (t : Stored) → KeysApart ss → is_stored ss t.key ≡ again → KeysApart (if wanted && not again then ss ++ t ∷ [] else ss)
+apart_test true true ss t h is = h
+apart_test true false ss t h is = apart_push ss t h is
+apart_test false again ss t h is = h
+
+apart_entry : (a : Asked) (macros : MacroTexts) (e : Entry) (key : Option (List ℕ)) (ss : List Stored) → KeysApart ss → KeysApart (with_entry a macros e key ss)
+unfolding stored_of
+apart_entry a macros e None ss h = h
+apart_entry a macros e (Some key) ss h = apart_test (is_wanted a ss key) (is_stored ss key) ss (stored_of a macros e key) h refl
+
+apart_item : (a : Asked) (macros : MacroTexts) (content : Content) (ss : List Stored) → KeysApart ss → KeysApart (with_item a macros content ss)
+apart_item a macros (contents.Entry e) ss h = apart_entry a macros e e.key ss h
+apart_item a macros (contents.Define s) ss h = h
+apart_item a macros (contents.Preamble p) ss h = h
+
+apart_among : (a : Asked) (ms : List Macro) (before : List Item) → KeysApart (stored_among a ms before)
+unfolding stored_among
+apart_among a ms [] = tt
+apart_among a ms (item ∷ before) = apart_item a (macro_before ms before) item.content (stored_among a ms before) (apart_among a ms before)
+
+pub stored_apart : StoredKeysApart
+unfolding stored_entries
+stored_apart a ms databases = apart_among a ms (reverse (all_items databases))
+
+-- ---- each stored entry is wanted
+
+or_more : (a b : Bool) → a ≡ true → (a || b) ≡ true
+or_more true b h = refl
+or_more false b h = let wrong : false ≡ true = h in cc
+
+or_behind : (a b c : Bool) → (b ≡ true → c ≡ true) → (a || b) ≡ true → (a || c) ≡ true
+or_behind true b c h is = refl
+or_behind false b c h is = h is
+
+-- a key that is referred to stays so
+referred_more : (ss : List Stored) (t : Stored) (key : List ℕ) → is_referred_to ss key ≡ true → is_referred_to (ss ++ t ∷ []) key ≡ true
+referred_more [] t key h = let wrong : false ≡ true = h in cc
+referred_more (s ∷ ss) t key h = or_behind (is_named s.crossref key) (is_referred_to ss key) (is_referred_to (ss ++ t ∷ []) key) (referred_more ss t key) h
+
+wanted_more : (a : Asked) (ss : List Stored) (t : Stored) (key : List ℕ) → is_wanted a ss key ≡ true → is_wanted a (ss ++ t ∷ []) key ≡ true
+wanted_more a ss t key h = or_behind (is_some a.star || has_name a.keys key) (is_referred_to ss key) (is_referred_to (ss ++ t ∷ []) key) (referred_more ss t key) h
+
+abbrev Wanted : Asked → List Stored → List Stored → Type 0
+Wanted a all ss = AllByRecursion (λ (s : Stored). is_wanted a all s.key ≡ true) ss
+
+all_wanted_more : (a : Asked) (all ss : List Stored) (t : Stored) → Wanted a all ss → Wanted a (all ++ t ∷ []) ss
+all_wanted_more a all [] t h = tt
+all_wanted_more a all (s ∷ ss) t h = (wanted_more a all t s.key h.0, all_wanted_more a all ss t h.1)
+
+wanted_last : (a : Asked) (all ss : List Stored) (t : Stored) → Wanted a all ss → is_wanted a all t.key ≡ true → Wanted a all (ss ++ t ∷ [])
+wanted_last a all [] t h is = (is, tt)
+wanted_last a all (s ∷ ss) t h is = (h.0, wanted_last a all ss t h.1 is)
+
+wanted_test : (a : Asked) (b again : Bool) (ss : List Stored) (t : Stored) → is_wanted a ss t.key ≡ b → Wanted a ss ss → (let all = (if b && not again then ss ++ t ∷ [] else ss) in Wanted a all all)
+wanted_test a true true ss t is h = h
+wanted_test a true false ss t is h = wanted_last a (ss ++ t ∷ []) ss t (all_wanted_more a ss ss t h) (wanted_more a ss t t.key is)
+wanted_test a false again ss t is h = h
+
+wanted_entry : (a : Asked) (macros : MacroTexts) (e : Entry) (key : Option (List ℕ)) (ss : List Stored) → Wanted a ss ss → Wanted a (with_entry a macros e key ss) (with_entry a macros e key ss)
+unfolding stored_of
+wanted_entry a macros e None ss h = h
+wanted_entry a macros e (Some key) ss h = wanted_test a (is_wanted a ss key) (is_stored ss key) ss (stored_of a macros e key) refl h
+
+wanted_item : (a : Asked) (macros : MacroTexts) (content : Content) (ss : List Stored) → Wanted a ss ss → Wanted a (with_item a macros content ss) (with_item a macros content ss)
+wanted_item a macros (contents.Entry e) ss h = wanted_entry a macros e e.key ss h
+wanted_item a macros (contents.Define s) ss h = h
+wanted_item a macros (contents.Preamble p) ss h = h
+
+wanted_among : (a : Asked) (ms : List Macro) (before : List Item) → Wanted a (stored_among a ms before) (stored_among a ms before)
+unfolding stored_among
+wanted_among a ms [] = tt
+wanted_among a ms (item ∷ before) = wanted_item a (macro_before ms before) item.content (stored_among a ms before) (wanted_among a ms before)
+
+pub stored_wanted : StoredAreWanted
+unfolding stored_entries
+stored_wanted a ms databases = wanted_among a ms (reverse (all_items databases))
+
+-- ---- nothing is inherited
+
+abbrev Alone : List Stored → Type 0
+Alone ss = AllByRecursion (λ (s : Stored). s.crossref ≡ None) ss
+
+alone_of : (all : List Stored) (s : Stored) → s.crossref ≡ None → parent_of all s ≡ None
+alone_of all s h = ap (λ (c : Option (List ℕ)). option_and_then (place_of_key all) c) h
+
+alone_at : (all ss : List Stored) → Alone ss → (p : ℕ) → option_and_then (parent_of all) (slice_get ss p) ≡ None
+alone_at all [] h p = refl
+alone_at all (s ∷ ss) h zero = alone_of all s h.0
+alone_at all (s ∷ ss) h (suc p) = alone_at all ss h.1 p
+
+without_parent : (b : Bool) (now : ℕ → List (Option (List ℕ))) (p : ℕ) → inherits b None now p ≡ now p
+without_parent true now p = refl
+without_parent false now p = refl
+
+pub values_stay : NothingInherited
+unfolding values_behind
+values_stay stored alone [] p = refl
+values_stay stored alone (q ∷ before) p =
+    ap (λ (parent : Option ℕ). inherits (q == p) parent (values_behind stored before) p) (alone_at stored stored alone p)
+    ∙ without_parent (q == p) (values_behind stored before) p
+    ∙ values_stay stored alone before p

@@ -1,0 +1,10 @@
+pub mod HashedLemmas
+pub mod NameLemmas
+pub mod FieldLemmas
+pub mod StoreLemmas
+pub mod FamilyLemmas
+pub mod ListLemmas
+pub mod InheritingLemmas
+pub mod PlacingLemmas
+pub mod LawLemmas
+pub mod ApartLemmas

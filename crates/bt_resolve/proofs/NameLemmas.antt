@@ -1,0 +1,82 @@
+-- Places of names.
+use Rattle.std.proofs.Common.{◌≡◌, ◌∙◌, ap, sym, refl, ℕ, zero, suc, ◌+◌, ◌<◌, Bool, true, false, List, [], ◌∷◌, length, drop, get_or, Option, Some, None, arith}
+use Rattle.std.specs.Prelude.{◌||◌, ◌&&◌, not, is_some, option_map, if◌then◌else◌}
+use Rattle.std.proofs.Math.Path.{fun_ext}
+use Rattle.std.proofs.lemmas.List.{drop_more}
+use Rattle.bt_text.specs.Folding.{is_same_folded}
+use Rattle.bt_resolve.specs.Names.{place_of_name, has_name, are_apart, from_place, places_from, with_value, no_value}
+
+abbrev Place : Type 0
+Place = Option ℕ
+
+-- behind the last name no place is found
+pub none_behind : (names : List (List ℕ)) (n : ℕ) → drop n names ≡ [] → no_value ≡ places_from names n
+none_behind names n empty = fun_ext (λ name. ap (λ (ns : List (List ℕ)). from_place n (place_of_name ns name)) (sym empty))
+
+place_step : (b : Bool) (i : ℕ) (o : Place) → (if b then Some i else from_place (i + 1) o) ≡ from_place i (if b then Some 0 else option_map (λ k. suc k) o)
+place_step true i o = let n : i ≡ i + 0 = omega arith in ap (λ (k : ℕ). Some k) n
+place_step false i None = refl
+place_step false i (Some k) = let n : (i + 1) + k ≡ i + suc k = omega arith in ap (λ (j : ℕ). Some j) n
+
+-- one name more, in front of those whose places are known
+pub place_more : (t : List ℕ → Place) (names : List (List ℕ)) (place next now : ℕ) (x : List ℕ) → next ≡ place + 1 → now ≡ place → place < length names → x ≡ get_or names place x →
+    t ≡ places_from names next → with_value x place t ≡ places_from names now
+place_more t names place next now x next_is now_is less is known = fun_ext (λ name.
+    ap (λ (u : List ℕ → Place). with_value x place u name) known
+    ∙ ap (λ (n : ℕ). with_value x place (places_from names n) name) next_is
+    ∙ place_step (is_same_folded x name) place (place_of_name (drop (place + 1) names) name)
+    ∙ ap (λ (y : List ℕ). from_place place (place_of_name (y ∷ drop (place + 1) names) name)) is
+    ∙ ap (λ (ns : List (List ℕ)). from_place place (place_of_name ns name)) (sym (drop_more names place x less))
+    ∙ ap (λ (n : ℕ). places_from names n name) (sym now_is))
+
+whole : (o : Place) → from_place 0 o ≡ o
+whole None = refl
+whole (Some k) = let n : 0 + k ≡ k = omega arith in ap (λ (j : ℕ). Some j) n
+
+-- all names
+pub place_all : (t : List ℕ → Place) (names : List (List ℕ)) (n : ℕ) → n ≡ 0 → t ≡ places_from names n → t ≡ place_of_name names
+place_all t names n zero_is known = fun_ext (λ name.
+    ap (λ (u : List ℕ → Place). u name) known
+    ∙ ap (λ (k : ℕ). places_from names k name) zero_is
+    ∙ whole (place_of_name names name))
+
+found_is : (b c : Bool) (o : Place) → is_some o ≡ c → is_some (if b then Some 0 else option_map (λ i. suc i) o) ≡ (b || c)
+found_is true c o h = refl
+found_is false c None h = h
+found_is false c (Some p) h = h
+
+-- a name has a place where it is among the names
+pub place_is : (names : List (List ℕ)) (name : List ℕ) → is_some (place_of_name names name) ≡ has_name names name
+place_is [] name = refl
+place_is (n ∷ ns) name = found_is (is_same_folded n name) (has_name ns name) (place_of_name ns name) (place_is ns name)
+
+and_false : (a b : Bool) → b ≡ false → (a && b) ≡ false
+and_false true b h = h
+and_false false b h = refl
+
+not_there : (a b : Bool) → a ≡ true → (not a && b) ≡ false
+not_there true b h = refl
+not_there false b h = let wrong : false ≡ true = h in cc
+
+tail_not_apart : (names : List (List ℕ)) (k : ℕ) → are_apart (drop k names) ≡ false → are_apart names ≡ false
+tail_not_apart names zero h = h
+tail_not_apart [] (suc k) h = h
+tail_not_apart (n ∷ ns) (suc k) h = and_false (not (has_name ns n)) (are_apart ns) (tail_not_apart ns k h)
+
+-- a name that stands again behind itself
+pub not_apart : (names : List (List ℕ)) (k : ℕ) (x : List ℕ) → k < length names → x ≡ get_or names k x → has_name (drop (k + 1) names) x ≡ true → are_apart names ≡ false
+not_apart names k x less is again = tail_not_apart names k (ap (λ (ns : List (List ℕ)). are_apart ns) (drop_more names k x less ∙ ap (λ (y : List ℕ). y ∷ drop (k + 1) names) (sym is)) ∙ not_there (has_name (drop (k + 1) names) x) (are_apart (drop (k + 1) names)) again)
+
+-- one name more, which isn't behind itself
+pub apart_more : (names : List (List ℕ)) (k : ℕ) (x : List ℕ) → k < length names → x ≡ get_or names k x → has_name (drop (k + 1) names) x ≡ false → are_apart (drop (k + 1) names) ≡ true → are_apart (drop k names) ≡ true
+apart_more names k x less is new apart =
+    ap (λ (ns : List (List ℕ)). are_apart ns) (drop_more names k x less ∙ ap (λ (y : List ℕ). y ∷ drop (k + 1) names) (sym is))
+    ∙ ap (λ (b : Bool). not b && are_apart (drop (k + 1) names)) new ∙ apart
+
+from_some : (i : ℕ) (o : Place) → is_some (from_place i o) ≡ is_some o
+from_some i None = refl
+from_some i (Some k) = refl
+
+-- whether a table of places has a name
+pub known_is : (t : List ℕ → Place) (names : List (List ℕ)) (n : ℕ) (name : List ℕ) → t ≡ places_from names n → is_some (t name) ≡ has_name (drop n names) name
+known_is t names n name is = ap (λ (u : List ℕ → Place). is_some (u name)) is ∙ from_some n (place_of_name (drop n names) name) ∙ place_is (drop n names) name

@@ -1,0 +1,112 @@
+-- Reading items one after another gives what the definitions say of each by its place.
+use Rattle.std.proofs.Common.{◌≡◌, ◌∙◌, ap, sym, refl, subst, ℕ, ◌+◌, List, [], ◌∷◌, ◌++◌, reverse, append_assoc, append-nil}
+use Rattle.std.proofs.lemmas.List.{reverse-append}
+use Rattle.std.proofs.lemmas.Grind.{reverse_onto}
+use Rattle.bt_bib.specs.declared.item.Item.{Item}
+use Rattle.bt_resolve.specs.declared.asked.Asked.{Asked}
+use Rattle.bt_resolve.specs.declared.declared.Macro.{Macro}
+use Rattle.bt_resolve.specs.declared.message.Message.{Message}
+use Rattle.bt_resolve.specs.declared.stored.Stored.{Stored}
+use Rattle.bt_resolve.specs.Values.{MacroTexts}
+use Rattle.bt_resolve.specs.Macros.{with_content, macro_before}
+use Rattle.bt_resolve.specs.Stored.{with_item, stored_among}
+use Rattle.bt_resolve.specs.Messages.{for_each, preamble_at, preamble_of, messages_at, item_messages, database_messages}
+use Rattle.bt_resolve.specs.Reading.{State, after_item, after_items, after_databases, nothing_read}
+use Rattle.std.specs.List.{flat_map}
+use Rattle.bt_resolve.specs.Listed.{listed}
+use Rattle.bt_resolve.specs.References.{reference_messages, missing_messages, list_messages}
+use Rattle.bt_resolve.specs.Resolved.{all_items, stored_entries, preamble}
+
+-- the state stands behind these items, the last of them first
+pub record StandsBehind (a : Asked) (ms : List Macro) (before : List Item) (s : State) : Type 0 where
+  pub macros : s.macros ≡ macro_before ms before
+  pub stored : s.stored ≡ stored_among a ms before
+
+pub stands_first : (a : Asked) (ms : List Macro) → StandsBehind a ms [] (nothing_read ms)
+unfolding macro_before stored_among
+stands_first a ms = record { macros = refl; stored = refl }
+
+pub stands_next : (a : Asked) (ms : List Macro) (database : ℕ) (before : List Item) (s : State) (item : Item) → StandsBehind a ms before s → StandsBehind a ms (item ∷ before) (after_item a database item s)
+unfolding macro_before stored_among
+stands_next a ms database before s item at = record {
+  macros = ap (λ (macros : MacroTexts). with_content item.fault item.content macros) at.macros;
+  stored = ap (λ (macros : MacroTexts). with_item a macros item.content s.stored) at.macros ∙ ap (λ (stored : List Stored). with_item a (macro_before ms before) item.content stored) at.stored;
+}
+
+preamble_next : (a : Asked) (ms : List Macro) (database : ℕ) (before : List Item) (s : State) (item : Item) → StandsBehind a ms before s → (after_item a database item s).preamble ≡ s.preamble ++ preamble_at ms before item
+preamble_next a ms database before s item at = ap (λ (macros : MacroTexts). s.preamble ++ preamble_of macros item.fault item.content) at.macros
+
+messages_next : (a : Asked) (ms : List Macro) (database : ℕ) (before : List Item) (s : State) (item : Item) → StandsBehind a ms before s → (after_item a database item s).messages ≡ s.messages ++ messages_at a ms database before item
+messages_next a ms database before s item at =
+    ap (λ (macros : MacroTexts). s.messages ++ item_messages a macros s.stored database item) at.macros
+    ∙ ap (λ (stored : List Stored). s.messages ++ item_messages a (macro_before ms before) stored database item) at.stored
+
+-- behind one more item first
+pub behind_next : (item : Item) (rest before : List Item) → reverse (item ∷ rest) ++ before ≡ reverse rest ++ item ∷ before
+behind_next item rest before = ap (λ (is : List Item). is ++ before) (reverse_onto rest item []) ∙ append_assoc (reverse rest) (item ∷ []) before
+
+-- a reading that adds what the definitions say of the items
+pub record Adds (a : Asked) (ms : List Macro) (before : List Item) (r : State) (behind : List Item) (text : List ℕ) (told : List Message) (s : State) : Type 0 where
+  pub stands : StandsBehind a ms behind s
+  pub preamble : s.preamble ≡ r.preamble ++ text
+  pub messages : s.messages ≡ r.messages ++ told
+
+pub items_add : (a : Asked) (ms : List Macro) (number : ℕ) (before : List Item) (r : State) (these : List Item) → StandsBehind a ms before r →
+    Adds a ms before r (reverse these ++ before) (for_each (preamble_at ms) before these) (for_each (messages_at a ms number) before these) (after_items a number r these)
+items_add a ms number before r [] at = record { stands = at; preamble = sym (append-nil r.preamble); messages = sym (append-nil r.messages) }
+items_add a ms number before r (item ∷ rest) at =
+    let next = after_item a number item r in
+    let later = items_add a ms number (item ∷ before) next rest (stands_next a ms number before r item at) in record {
+      stands = subst (λ (behind : List Item). StandsBehind a ms behind (after_items a number next rest)) (sym (behind_next item rest before)) later.stands;
+      preamble = later.preamble ∙ ap (λ (t : List ℕ). t ++ for_each (preamble_at ms) (item ∷ before) rest) (preamble_next a ms number before r item at) ∙ append_assoc r.preamble (preamble_at ms before item) (for_each (preamble_at ms) (item ∷ before) rest);
+      messages = later.messages ∙ ap (λ (t : List Message). t ++ for_each (messages_at a ms number) (item ∷ before) rest) (messages_next a ms number before r item at) ∙ append_assoc r.messages (messages_at a ms number before item) (for_each (messages_at a ms number) (item ∷ before) rest);
+    }
+
+pub for_each-append : {A : Type 0} (f : List Item → Item → List A) (before these those : List Item) → for_each f before (these ++ those) ≡ for_each f before these ++ for_each f (reverse these ++ before) those
+for_each-append f before [] those = refl
+for_each-append {A} f before (item ∷ rest) those =
+    ap (λ (t : List A). f before item ++ t) (for_each-append f (item ∷ before) rest those)
+    ∙ sym (append_assoc (f before item) (for_each f (item ∷ before) rest) (for_each f (reverse rest ++ item ∷ before) those))
+    ∙ ap (λ (behind : List Item). (f before item ++ for_each f (item ∷ before) rest) ++ for_each f behind those) (sym (behind_next item rest before))
+
+behind_both : (these those before : List Item) → reverse those ++ (reverse these ++ before) ≡ reverse (these ++ those) ++ before
+behind_both these those before = sym (append_assoc (reverse those) (reverse these) before) ∙ ap (λ (is : List Item). is ++ before) (sym (reverse-append these those))
+
+pub databases_add : (a : Asked) (ms : List Macro) (number : ℕ) (before : List Item) (r : State) (databases : List (List Item)) → StandsBehind a ms before r →
+    Adds a ms before r (reverse (all_items databases) ++ before) (for_each (preamble_at ms) before (all_items databases)) (database_messages a ms number before databases) (after_databases a number r databases)
+databases_add a ms number before r [] at = record { stands = at; preamble = sym (append-nil r.preamble); messages = sym (append-nil r.messages) }
+databases_add a ms number before r (these ∷ rest) at =
+    let next = after_items a number r these in
+    let now = items_add a ms number before r these at in
+    let later = databases_add a ms (number + 1) (reverse these ++ before) next rest now.stands in record {
+      stands = subst (λ (behind : List Item). StandsBehind a ms behind (after_databases a (number + 1) next rest)) (behind_both these (all_items rest) before) later.stands;
+      preamble = later.preamble ∙ ap (λ (t : List ℕ). t ++ for_each (preamble_at ms) (reverse these ++ before) (all_items rest)) now.preamble ∙ append_assoc r.preamble (for_each (preamble_at ms) before these) (for_each (preamble_at ms) (reverse these ++ before) (all_items rest)) ∙ ap (λ (t : List ℕ). r.preamble ++ t) (sym (for_each-append (preamble_at ms) before these (all_items rest)));
+      messages = later.messages ∙ ap (λ (t : List Message). t ++ database_messages a ms (number + 1) (reverse these ++ before) rest) now.messages ∙ append_assoc r.messages (for_each (messages_at a ms number) before these) (database_messages a ms (number + 1) (reverse these ++ before) rest);
+    }
+
+-- all databases, from nothing
+pub all_add : (a : Asked) (ms : List Macro) (databases : List (List Item)) → Adds a ms [] (nothing_read ms) (reverse (all_items databases)) (for_each (preamble_at ms) [] (all_items databases)) (database_messages a ms 1 [] databases) (after_databases a 1 (nothing_read ms) databases)
+all_add a ms databases =
+    let all = databases_add a ms 1 [] (nothing_read ms) databases (stands_first a ms) in record {
+      stands = subst (λ (behind : List Item). StandsBehind a ms behind (after_databases a 1 (nothing_read ms) databases)) (append-nil (reverse (all_items databases))) all.stands;
+      preamble = all.preamble;
+      messages = all.messages;
+    }
+
+pub stored_is : (a : Asked) (ms : List Macro) (databases : List (List Item)) → (after_databases a 1 (nothing_read ms) databases).stored ≡ stored_entries a ms databases
+unfolding stored_entries
+stored_is a ms databases = (all_add a ms databases).stands.stored
+
+pub preamble_is : (a : Asked) (ms : List Macro) (databases : List (List Item)) → (after_databases a 1 (nothing_read ms) databases).preamble ≡ preamble ms databases
+unfolding preamble
+preamble_is a ms databases = (all_add a ms databases).preamble
+
+pub messages_are : (a : Asked) (ms : List Macro) (databases : List (List Item)) → (after_databases a 1 (nothing_read ms) databases).messages ≡ database_messages a ms 1 [] databases
+messages_are a ms databases = (all_add a ms databases).messages
+
+-- the messages of the list behind others
+pub list_told : (a : Asked) (stored : List Stored) (places : List ℕ) (m : List Message) → places ≡ listed a stored → m ++ flat_map (reference_messages a.keys stored) places ++ flat_map (missing_messages stored) a.keys ≡ m ++ list_messages a stored
+unfolding list_messages
+list_told a stored places m is =
+    append_assoc m (flat_map (reference_messages a.keys stored) places) (flat_map (missing_messages stored) a.keys)
+    ∙ ap (λ (ps : List ℕ). m ++ (flat_map (reference_messages a.keys stored) ps ++ flat_map (missing_messages stored) a.keys)) is

@@ -1,0 +1,10 @@
+use Rattle.std.proofs.Common.{◌≡◌, ◌-◌, true, drop}
+use Rattle.bt_resolve.specs.Names.{are_apart, places_from}
+use Rattle.bt_resolve.specs.ByName.{known}
+use Rattle.bt_resolve.proofs.apart.are_apart.Given as goal
+
+abbrev pub invariant-names : goal.invariant-names
+invariant-names l = record {
+  places : known l.places ≡ places_from l.names (l.count - l.behind);
+  apart : are_apart (drop (l.count - l.behind) l.names) ≡ true;
+}

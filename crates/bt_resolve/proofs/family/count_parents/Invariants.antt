@@ -1,0 +1,7 @@
+use Rattle.std.proofs.Common.{◌≡◌, ℕ, take, count_by}
+use Rattle.bt_resolve.specs.Family.{count_at}
+use Rattle.bt_resolve.specs.Inherited.{is_place}
+use Rattle.bt_resolve.proofs.family.count_parents.Given as goal
+
+abbrev pub invariant-parents : goal.invariant-parents
+invariant-parents l = (p : ℕ) → count_at l.counts p ≡ count_by (is_place p) (take l.parent-index l.parents)

@@ -1,0 +1,42 @@
+-- What the fields of an entry give, and the warnings about them.
+use Rattle.std.specs.Prelude.{ℕ, Bool, ◌||◌, List, [], ◌∷◌, ◌++◌, map, find, Option, None, option_map, if◌then◌else◌}
+use Rattle.std.specs.List.{list_any}
+use Rattle.bt_text.specs.Folding.{is_same_folded}
+use Rattle.bt_bib.specs.declared.item.Field.{Field}
+use Rattle.bt_resolve.specs.declared.message.Message.{Message}
+use Rattle.bt_resolve.specs.Names.{crossref, has_name}
+use Rattle.bt_resolve.specs.Warnings.{extra_field}
+use Rattle.bt_resolve.specs.Values.{MacroTexts, field_value, value_warnings}
+
+-- what fields give for a name: the value of the first field of that name
+unfoldable pub given : MacroTexts → List Field → List ℕ → Option (List ℕ)
+given macros fields name = option_map (λ (f : Field). field_value macros f.value) (find (λ (f : Field). is_same_folded f.name name) fields)
+
+-- what they give for a declared name. `crossref` is kept apart, and not inherited.
+abbrev pub own_value : MacroTexts → List Field → List ℕ → Option (List ℕ)
+own_value macros fields name = if is_same_folded name crossref then None else given macros fields name
+
+abbrev pub own_values : List (List ℕ) → MacroTexts → List Field → List (Option (List ℕ))
+own_values declared macros fields = map (own_value macros fields) declared
+
+-- `crossref` is always declared
+abbrev pub is_declared : List (List ℕ) → List ℕ → Bool
+is_declared declared name = is_same_folded name crossref || has_name declared name
+
+abbrev pub has_field : List Field → List ℕ → Bool
+has_field fields name = list_any (λ (f : Field). is_same_folded f.name name) fields
+
+-- of a declared field: its value's warnings, and that a field of its name stands before it
+abbrev pub field_messages : MacroTexts → ℕ → List ℕ → List Field → Field → List Message
+field_messages macros database key before f =
+    value_warnings None macros database f.name f.line f.value ++ (if has_field before f.name then extra_field database f.line key f.name ∷ [] else [])
+
+abbrev pub declared_messages : List (List ℕ) → MacroTexts → ℕ → List ℕ → List Field → Field → List Message
+declared_messages declared macros database key before f =
+    if is_declared declared f.name then field_messages macros database key before f else []
+
+-- of the fields behind those before
+abbrev pub fields_messages : List (List ℕ) → MacroTexts → ℕ → List ℕ → List Field → List Field → List Message
+fields_messages declared macros database key before [] = []
+fields_messages declared macros database key before (f ∷ fs) =
+    declared_messages declared macros database key before f ++ fields_messages declared macros database key (before ++ f ∷ []) fs

@@ -1,0 +1,55 @@
+-- The list of entries. An entry is named by its place among the stored ones.
+use Rattle.std.specs.Prelude.{ℕ, Bool, false, not, ◌==◌, List, [], ◌∷◌, ◌++◌, length, take, filter, filter_map, slice_get, Option, Some, None, option_and_then, if◌then◌else◌}
+use Rattle.std.specs.List.{list_any, range_with_len}
+use Rattle.bt_text.specs.Folding.{is_same_folded}
+use Rattle.bt_resolve.specs.declared.asked.Asked.{Asked}
+use Rattle.bt_resolve.specs.declared.stored.Stored.{Stored}
+use Rattle.bt_resolve.specs.Names.{place_of, has_name}
+
+-- the stored entry of a key
+abbrev pub place_of_key : List Stored → List ℕ → Option ℕ
+place_of_key stored key = place_of (λ (s : Stored). is_same_folded s.key key) stored
+
+-- the stored entry that an entry refers to, by its `crossref` as read
+abbrev pub parent_of : List Stored → Stored → Option ℕ
+parent_of stored s = option_and_then (place_of_key stored) s.crossref
+
+abbrev pub is_cited : List (List ℕ) → Option Stored → Bool
+is_cited keys None = false
+is_cited keys (Some s) = has_name keys s.key
+
+abbrev pub is_cited_at : List (List ℕ) → List Stored → ℕ → Bool
+is_cited_at keys stored p = is_cited keys (slice_get stored p)
+
+abbrev pub is_among : List ℕ → ℕ → Bool
+is_among places p = list_any (λ q. q == p) places
+
+-- each of the places once, where it comes first, without those seen before
+abbrev pub firsts : List ℕ → List ℕ → List ℕ
+firsts seen [] = []
+firsts seen (p ∷ ps) = if is_among seen p then firsts seen ps else p ∷ firsts (seen ++ p ∷ []) ps
+
+-- the entries of the keys that have one
+abbrev pub cited_places : List (List ℕ) → List Stored → List ℕ
+cited_places keys stored = filter_map (place_of_key stored) keys
+
+-- the entries that stored entries refer to, in the order of the referring ones
+abbrev pub parents : List Stored → List ℕ
+parents stored = filter_map (parent_of stored) stored
+
+-- the uncited ones of them, each where it is first referred to
+abbrev pub uncited_parents : List (List ℕ) → List Stored → List ℕ
+uncited_parents keys stored = firsts [] (filter (λ p. not (is_cited_at keys stored p)) (parents stored))
+
+-- all stored entries but these, in the order of the databases
+abbrev pub others_than : List ℕ → List Stored → List ℕ
+others_than these stored = filter (λ p. not (is_among these p)) (range_with_len 0 (length stored))
+
+abbrev pub listed_by : List (List ℕ) → Option ℕ → List Stored → List ℕ
+listed_by keys None stored = cited_places keys stored ++ uncited_parents keys stored
+listed_by keys (Some before) stored = cited_places (take before keys) stored ++ others_than (cited_places (take before keys) stored) stored
+
+-- The cited keys that have an entry, then the uncited entries in the order in which stored ones first refer to them. With
+-- `*`: the keys before it, then all others in the order of the databases.
+unfoldable pub listed : Asked → List Stored → List ℕ
+listed a stored = listed_by a.keys a.star stored

@@ -1,0 +1,37 @@
+-- What macros stand for, and the items that define them.
+use Rattle.std.specs.Prelude.{ℕ, List, [], ◌∷◌, Option, Some, None}
+use Rattle.bt_bib.specs.declared.fault.Fault.{Fault}
+use Rattle.bt_bib.specs.declared.item.Part.{Part}
+use Rattle.bt_bib.specs.declared.item.Content.{Content}
+use Rattle.bt_bib.specs.declared.item.Content.TheVariants as contents
+use Rattle.bt_bib.specs.declared.item.Item.{Item}
+use Rattle.bt_resolve.specs.declared.declared.Macro.{Macro}
+use Rattle.bt_resolve.specs.Names.{no_value, with_value}
+use Rattle.bt_resolve.specs.Values.{MacroTexts, others, value}
+
+-- the style's own macros
+abbrev pub style_macro : List Macro → MacroTexts
+style_macro [] = no_value
+style_macro (m ∷ macros) = with_value m.name m.value (style_macro macros)
+
+-- what counts of an item's value: nothing where the item has a fault
+abbrev pub faultless : {A : Type 0} → Option Fault → Option A → Option A
+faultless None value = value
+faultless (Some fault) value = None
+
+-- the macros behind a string, from those before it
+abbrev pub with_string : Option (List ℕ) → Option (List Part) → MacroTexts → MacroTexts
+with_string None parts macros = macros
+with_string (Some name) None macros = macros
+with_string (Some name) (Some parts) macros = with_value name (value (others (Some name) macros) parts) macros
+
+abbrev pub with_content : Option Fault → Content → MacroTexts → MacroTexts
+with_content fault (contents.Define d) macros = with_string d.name (faultless fault d.value) macros
+with_content fault (contents.Entry e) macros = macros
+with_content fault (contents.Preamble parts) macros = macros
+
+-- A macro before an item, the items before it given from the last one back: the value of the last faultless string of
+-- its name, else the style's, else none.
+unfoldable pub macro_before : List Macro → List Item → MacroTexts
+macro_before macros [] = style_macro macros
+macro_before macros (item ∷ before) = with_content item.fault item.content (macro_before macros before)

@@ -1,0 +1,54 @@
+-- The messages of the list: about cross references, and about cited keys without an entry.
+use Rattle.std.specs.Prelude.{ℕ, List, [], ◌∷◌, ◌++◌, slice_get, codes, Option, Some, None, is_some, option_and_then, if◌then◌else◌}
+use Rattle.std.specs.List.{flat_map}
+use Rattle.bt_resolve.specs.declared.asked.Asked.{Asked}
+use Rattle.bt_resolve.specs.declared.message.Message.{Message}
+use Rattle.bt_resolve.specs.declared.message.Rank.TheVariants.{Warning, Error}
+use Rattle.bt_resolve.specs.declared.stored.Stored.{Stored}
+use Rattle.bt_resolve.specs.Warnings.{quoted}
+use Rattle.bt_resolve.specs.Stored.{is_stored}
+use Rattle.bt_resolve.specs.Listed.{place_of_key, listed}
+use Rattle.bt_resolve.specs.Inherited.{spelled}
+
+abbrev pub bad_reference : List ℕ → List ℕ → Message
+bad_reference key parent = record {
+  rank = Error;
+  place = None;
+  words = codes "A bad cross reference---entry " ++ quoted key;
+  second = Some (codes "refers to entry " ++ quoted parent ++ codes ", which doesn't exist");
+}
+
+abbrev pub nested : List ℕ → List ℕ → Message
+nested key parent = record {
+  rank = Warning;
+  place = None;
+  words = codes "Warning--you've nested cross references--entry " ++ quoted key;
+  second = Some (codes "refers to entry " ++ quoted parent ++ codes ", which also refers to something");
+}
+
+abbrev pub no_entry : List ℕ → Message
+no_entry key = record { rank = Warning; place = None; words = codes "Warning--I didn't find a database entry for " ++ quoted key; second = None }
+
+abbrev pub parent_messages : List ℕ → List ℕ → Option Stored → List Message
+parent_messages key name None = bad_reference key name ∷ []
+parent_messages key name (Some parent) = if is_some parent.crossref then nested key name ∷ [] else []
+
+abbrev pub crossref_messages : List Stored → List ℕ → Option (List ℕ) → List Message
+crossref_messages stored key None = []
+crossref_messages stored key (Some name) = parent_messages key name (option_and_then (slice_get stored) (place_of_key stored name))
+
+abbrev pub entry_messages : List (List ℕ) → List Stored → Option Stored → List Message
+entry_messages keys stored None = []
+entry_messages keys stored (Some s) = crossref_messages stored (spelled keys s.key) s.crossref
+
+-- of an entry of the list, by its `crossref` as read
+unfoldable pub reference_messages : List (List ℕ) → List Stored → ℕ → List Message
+reference_messages keys stored p = entry_messages keys stored (slice_get stored p)
+
+-- of a cited key
+unfoldable pub missing_messages : List Stored → List ℕ → List Message
+missing_messages stored key = if is_stored stored key then [] else no_entry key ∷ []
+
+-- of the whole list, in its order, then of the cited keys in theirs
+unfoldable pub list_messages : Asked → List Stored → List Message
+list_messages a stored = flat_map (reference_messages a.keys stored) (listed a stored) ++ flat_map (missing_messages stored) a.keys

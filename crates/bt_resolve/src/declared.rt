@@ -1,0 +1,32 @@
+//! What a style and its document ask for.
+
+use bt_text::{Bytes, Sequence};
+
+/// A macro, and what it stands for.
+#[derive(Debug, Drop)]
+pub struct Macro {
+    /// Its name.
+    pub name: Bytes,
+    /// Its text.
+    pub value: Bytes,
+}
+
+/// What the style declares before its databases are read. No two names of one list match.
+#[derive(Debug, Drop)]
+pub struct Declared {
+    /// Its fields.
+    pub fields: Sequence<Bytes>,
+    /// The types that have a function, by the functions' names.
+    pub types: Sequence<Bytes>,
+    /// Its macros.
+    pub macros: Sequence<Macro>,
+}
+
+/// What is cited. No two keys match.
+#[derive(Debug, Drop)]
+pub struct Cites {
+    /// The keys, in the order of their citations.
+    pub keys: Sequence<Bytes>,
+    /// How many of the keys stood before `*`; none where `*` isn't cited.
+    pub star: Option<usize>,
+}

@@ -1,0 +1,28 @@
+//! What a style sees of the databases.
+
+use crate::message::Message;
+use bt_text::{Bytes, Sequence};
+
+/// An entry of the list.
+#[derive(Debug, Drop)]
+pub struct Entry {
+    /// Its key, as it is cited; as in the database where it isn't.
+    pub key: Bytes,
+    /// Its type, in small letters.
+    pub kind: Bytes,
+    /// Which of the types that have a function it has.
+    pub function: Option<usize>,
+    /// Its values, in the order of the style's fields; none where a field is missing.
+    pub fields: Sequence<Option<Bytes>>,
+}
+
+/// The list of entries, what the preambles say, and every message, in the order of the log.
+#[derive(Debug, Drop)]
+pub struct Resolved {
+    /// The entries, in the order of the list.
+    pub entries: Sequence<Entry>,
+    /// The values of all preambles, joined.
+    pub preamble: Bytes,
+    /// The messages.
+    pub messages: Sequence<Message>,
+}

@@ -1,0 +1,40 @@
+//! From the items of the databases and the citations to the entries that a style sees, with every message on the way.
+#![tactic(auto)]
+
+mod apart;
+mod asked;
+mod by_name;
+mod declared;
+mod entries;
+mod entry;
+mod family;
+mod faults;
+mod fields;
+mod index;
+mod inheriting;
+mod laws;
+mod list;
+mod macros;
+mod message;
+mod reading;
+mod references;
+mod resolution;
+mod state;
+mod store;
+mod stored;
+mod values;
+mod visible;
+mod warnings;
+
+pub use apart::are_apart;
+pub use declared::{Cites, Declared, Macro};
+pub use entry::{Entry, Resolved};
+pub use laws::{
+    entries_apart, listed_are_stored, messages_for_each_min, nothing_inherited, stored_are_wanted,
+    stored_keys_apart,
+};
+pub use message::{Message, Place, Rank};
+pub use resolution::resolve;
+
+#[cfg(test)]
+mod tests;

@@ -1,0 +1,191 @@
+//! The list of entries, by their places among the stored ones.
+
+ghost use Rattle.std.specs.Prelude.{◌≡◌, ◌≤◌, ◌==◌, ◌++◌, ◌∷◌, [], ℕ, true, cond, filter, if◌then◌else◌, length, nat_eq, not, IfOk, IfSome, OnOk};
+ghost use Rattle.std.specs.HashSet.{contains};
+ghost use Rattle.std.specs.List.{filter_map, range_with_len};
+ghost use Rattle.bt_resolve.specs.Listed.{cited_places, firsts, is_among, is_cited_at, listed, others_than, parents, uncited_parents};
+
+use crate::asked::Asked;
+use crate::family::Family;
+use crate::index::Index;
+use bt_text::Bytes;
+use std::alloc::{AllocError, Global};
+use std::collections::HashSet;
+
+/// Whether the entry of a place is cited.
+pub fn is_cited_at(
+    alloc: Global,
+    keys: &Index<'_>,
+    family: &Family,
+    place: usize,
+) -> Result<bool, AllocError>
+    ensures { IfOk result (λ cited. cited ≡ is_cited_at keys.now family.now place) }
+{
+    match family.entries().get(place) {
+        None => Ok(false),
+        Some(entry) => keys.has(alloc, entry.key.as_slice()),
+    }
+}
+
+/// The entries of the keys that have one.
+fn cited_places(alloc: Global, keys: &[Bytes], family: &Family) -> Result<Vec<usize>, AllocError>
+    ensures { IfOk result (λ places. places.items ≡ cited_places keys.now family.now) }
+{
+    let mut places = Vec::new(alloc);
+    'keys: for key in keys {
+        if let Some(place) = family.place(alloc, key.as_slice())? {
+            places.push(place)?;
+        }
+    }
+    Ok(places)
+}
+
+/// The places among those that may be missing.
+fn known_places(alloc: Global, places: &[Option<usize>]) -> Result<Vec<usize>, AllocError>
+    ensures { IfOk result (λ known. known.items ≡ filter_map (λ place. place) places.now) }
+{
+    let mut known = Vec::new(alloc);
+    'places: for place in places {
+        if let Some(place) = place {
+            known.push(*place)?;
+        }
+    }
+    Ok(known)
+}
+
+/// The entries that entries refer to.
+fn parents(alloc: Global, family: &Family) -> Result<Vec<usize>, AllocError>
+    ensures { IfOk result (λ places. places.items ≡ parents family.now) }
+{
+    known_places(alloc, family.parents())
+}
+
+/// Those of some places whose entries aren't cited.
+fn uncited(
+    alloc: Global,
+    keys: &Index<'_>,
+    family: &Family,
+    places: &[usize],
+) -> Result<Vec<usize>, AllocError>
+    ensures { IfOk result (λ found. found.items
+        ≡ filter (λ p. not (is_cited_at keys.now family.now p)) places.now) }
+{
+    let mut found = Vec::new(alloc);
+    'places: for place in places {
+        if !is_cited_at(alloc, keys, family, *place)? {
+            found.push(*place)?;
+        }
+    }
+    Ok(found)
+}
+
+/// Puts a place behind those found, unless it is among them.
+fn add_first(
+    place: usize,
+    seen: &mut HashSet<usize>,
+    found: &mut Vec<usize>,
+) -> Result<(), AllocError>
+    ensures seen { OnOk result ((p : ℕ) → contains nat_eq seen.new p
+        ≡ cond (place == p) true (contains nat_eq seen.old p)) }
+    ensures found { OnOk result (found.new.items ≡ found.old.items
+        ++ (if contains nat_eq seen.old place then [] else place ∷ [])) }
+{
+    if seen.insert(place)? {
+        found.push(place)?;
+        Ok(())
+    } else {
+        Ok(())
+    }
+}
+
+/// Each of some places once, where it comes first.
+fn firsts(alloc: Global, places: &[usize]) -> Result<Vec<usize>, AllocError>
+    ensures { IfOk result (λ found. found.items ≡ firsts [] places.now) }
+{
+    let mut found = Vec::new(alloc);
+    let mut seen = HashSet::new(alloc);
+    'places: for place in places {
+        add_first(*place, &mut seen, &mut found)?;
+    }
+    Ok(found)
+}
+
+/// The uncited entries that entries refer to, each once.
+fn uncited_parents(
+    alloc: Global,
+    keys: &Index<'_>,
+    family: &Family,
+) -> Result<Vec<usize>, AllocError>
+    ensures { IfOk result (λ found. found.items ≡ uncited_parents keys.now family.now) }
+{
+    let parents = parents(alloc, family)?;
+    let uncited = uncited(alloc, keys, family, parents.as_slice())?;
+    firsts(alloc, uncited.as_slice())
+}
+
+/// Some places, as a set.
+fn place_set(alloc: Global, places: &[usize]) -> Result<HashSet<usize>, AllocError>
+    ensures { IfOk result (λ set. (p : ℕ) → contains nat_eq set p ≡ is_among places.now p) }
+{
+    let mut set = HashSet::new(alloc);
+    'places: for place in places {
+        set.insert(*place)?;
+    }
+    Ok(set)
+}
+
+/// Puts a place behind those found, unless it is in the set.
+fn add_other(set: &HashSet<usize>, place: usize, found: &mut Vec<usize>) -> Result<(), AllocError>
+    ensures { OnOk result (found.new.items ≡ found.old.items
+        ++ (if not (contains nat_eq set.now place) then place ∷ [] else [])) }
+{
+    if set.contains(&place) {
+        Ok(())
+    } else {
+        found.push(place)?;
+        Ok(())
+    }
+}
+
+/// The places below a number that aren't in the set.
+fn others(alloc: Global, set: &HashSet<usize>, count: usize) -> Result<Vec<usize>, AllocError>
+    ensures { IfOk result (λ found. found.items
+        ≡ filter (λ p. not (contains nat_eq set.now p)) (range_with_len 0 count)) }
+{
+    let mut found = Vec::new(alloc);
+    'places: for place in 0..count {
+        add_other(set, place, &mut found)?;
+    }
+    Ok(found)
+}
+
+/// All entries but those of some places.
+fn others_than(alloc: Global, these: &[usize], family: &Family) -> Result<Vec<usize>, AllocError>
+    ensures { IfOk result (λ found. found.items ≡ others_than these.now family.now) }
+{
+    let set = place_set(alloc, these)?;
+    others(alloc, &set, family.entries().len())
+}
+
+/// The list: what is cited, then what entries refer to, or what else there is.
+#[tactic(auto, unfolding(crate::specs::Listed::listed))]
+pub fn listed(alloc: Global, asked: &Asked<'_>, family: &Family) -> Result<Vec<usize>, AllocError>
+    requires { IfSome asked.now.star (λ before. before ≤ length asked.now.keys) }
+    ensures { IfOk result (λ places. places.items ≡ listed asked.now family.now) }
+{
+    let keys = asked.keys.names();
+    match asked.star {
+        None => {
+            let mut places = cited_places(alloc, keys, family)?;
+            let parents = uncited_parents(alloc, &asked.keys, family)?;
+            places.extend_from_slice(parents.as_slice())?;
+            Ok(places)
+        }
+        Some(before) => {
+            let mut places = cited_places(alloc, &keys[..before], family)?;
+            let others = others_than(alloc, places.as_slice(), family)?;
+            places.extend_from_slice(others.as_slice())?;
+            Ok(places)
+        }
+    }
+}

@@ -1,0 +1,105 @@
+//! What macros stand for, and the strings that define them.
+
+ghost use Rattle.std.specs.Prelude.{◌≡◌, ◌++◌, option_copied, IfOk, OnOk};
+ghost use Rattle.bt_resolve.specs.ByName.{known};
+ghost use Rattle.bt_resolve.specs.Macros.{faultless, style_macro, with_string};
+ghost use Rattle.bt_resolve.specs.Messages.{preamble_messages, preamble_value, string_messages};
+
+use crate::by_name::ByName;
+use crate::declared::Macro;
+use crate::message::{Message, Place};
+use crate::values::read_value;
+use bt_bib::{Definition, Item, Part};
+use bt_text::{Bytes, Sequence};
+use std::alloc::{AllocError, Global};
+
+/// The macros of the style.
+pub fn style_macros(alloc: Global, macros: &[Macro]) -> Result<ByName<Bytes>, AllocError>
+    ensures { IfOk result (λ table. known table ≡ style_macro macros.now) }
+{
+    let mut table = ByName::new(alloc);
+    let count = macros.len();
+    'macros: for behind in 0..count {
+        let next = &macros[count - 1 - behind];
+        let value = Bytes::copied(alloc, next.value.as_slice())?;
+        table.insert(alloc, next.name.as_slice(), value)?;
+    }
+    Ok(table)
+}
+
+/// The parts of a value that count: none where the item has a fault.
+fn faultless<'a>(item: &Item, parts: &'a Option<Sequence<Part>>) -> Option<&'a Sequence<Part>>
+    ensures { option_copied result ≡ faultless item.now.fault parts.now }
+{
+    match item.fault {
+        None => parts.as_ref(),
+        Some(_) => None,
+    }
+}
+
+/// Reads a string: its macro is defined, unless the item has a fault.
+pub fn read_string(
+    alloc: Global,
+    database: usize,
+    item: &Item,
+    string: &Definition,
+    macros: &mut ByName<Bytes>,
+    messages: &mut Sequence<Message>,
+) -> Result<(), AllocError>
+    ensures macros { OnOk result (known macros.new
+        ≡ with_string string.now.name (faultless item.now.fault string.now.value) (known macros.old)) }
+    ensures messages { OnOk result (messages.new ≡ messages.old ++ string_messages (known macros.old)
+        database item.now.line string.now.name (faultless item.now.fault string.now.value)) }
+{
+    let Some(name) = &string.name else {
+        return Ok(());
+    };
+    let Some(parts) = faultless(item, &string.value) else {
+        return Ok(());
+    };
+    let name = name.as_slice();
+    let line = item.line;
+    let place = Place { database, line };
+    let value = read_value(
+        alloc,
+        macros,
+        Some(name),
+        name,
+        place,
+        parts.as_slice(),
+        messages,
+    )?;
+    macros.insert(alloc, name, value)
+}
+
+/// Reads a preamble: its value is put behind those before it, unless the item has a fault.
+pub fn read_preamble(
+    alloc: Global,
+    database: usize,
+    item: &Item,
+    parts: &Option<Sequence<Part>>,
+    macros: &ByName<Bytes>,
+    preamble: &mut Bytes,
+    messages: &mut Sequence<Message>,
+) -> Result<(), AllocError>
+    ensures preamble { OnOk result (preamble.new ≡ preamble.old
+        ++ preamble_value (known macros.now) (faultless item.now.fault parts.now)) }
+    ensures messages { OnOk result (messages.new ≡ messages.old ++ preamble_messages (known macros.now)
+        database item.now.line (faultless item.now.fault parts.now)) }
+{
+    let Some(parts) = faultless(item, parts) else {
+        return Ok(());
+    };
+    let line = item.line;
+    let place = Place { database, line };
+    let value = read_value(
+        alloc,
+        macros,
+        None,
+        b"preamble",
+        place,
+        parts.as_slice(),
+        messages,
+    )?;
+    preamble.append(value.as_slice())
+}

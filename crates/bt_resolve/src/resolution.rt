@@ -1,0 +1,115 @@
+//! The whole resolution.
+
+ghost use Rattle.std.specs.Prelude.{◌≡◌, ◌≤◌, ◌++◌, [], length, map, IfOk, IfSome, IsTrue, OnOk};
+ghost use Rattle.bt_bib.specs.Items.{items_of};
+ghost use Rattle.bt_resolve.specs.Inherited.{entries_seen};
+ghost use Rattle.bt_resolve.specs.Messages.{database_messages};
+ghost use Rattle.bt_resolve.specs.Names.{are_apart};
+ghost use Rattle.bt_resolve.specs.References.{list_messages};
+ghost use Rattle.bt_resolve.specs.Resolved.{asked, preamble, resolved, resolved_by, stored_entries};
+
+use crate::asked::Asked;
+use crate::declared::{Cites, Declared, Macro};
+use crate::entry::{Entry, Resolved};
+use crate::family::Family;
+use crate::index::Index;
+use crate::list::listed;
+use crate::message::Message;
+use crate::reading::read_databases;
+use crate::references::tell_list;
+use crate::state::Reading;
+use crate::visible::entries_of_list;
+use bt_bib::Items;
+use bt_text::Sequence;
+use std::alloc::{AllocError, Global};
+
+/// Reads all databases.
+fn read_all(
+    alloc: Global,
+    asked: &Asked<'_>,
+    macros: &[Macro],
+    databases: &[&Items],
+) -> Result<Reading, AllocError>
+    requires { IsTrue (are_apart asked.now.fields) }
+    ensures stored { IfOk result (λ read. read.store
+        ≡ stored_entries asked.now macros.now (map (λ d. items_of d.now) databases.now)) }
+    ensures preamble { IfOk result (λ read. read.preamble
+        ≡ preamble macros.now (map (λ d. items_of d.now) databases.now)) }
+    ensures messages { IfOk result (λ read. read.messages
+        ≡ database_messages asked.now macros.now 1 [] (map (λ d. items_of d.now) databases.now)) }
+{
+    let read = read_databases(alloc, asked, macros, databases)?;
+    Ok(read)
+}
+
+/// The list of entries, with its messages put behind the others.
+#[tactic(auto, unfolding(crate::specs::References::list_messages))]
+fn resolve_list(
+    alloc: Global,
+    asked: &Asked<'_>,
+    min: u32,
+    family: &Family,
+    messages: &mut Sequence<Message>,
+) -> Result<Sequence<Entry>, AllocError>
+    requires { IfSome asked.now.star (λ before. before ≤ length asked.now.keys) }
+    ensures entries { IfOk result (λ entries. entries ≡ entries_seen asked.now min family.now) }
+    ensures messages { OnOk result (messages.new ≡ messages.old ++ list_messages asked.now family.now) }
+{
+    let places = listed(alloc, asked, family)?;
+    let entries = entries_of_list(alloc, asked, min, family, places.as_slice())?;
+    tell_list(alloc, asked, family, places.as_slice(), messages)?;
+    Ok(entries)
+}
+
+/// Resolves with look-ups at hand.
+#[tactic(auto, unfolding(crate::specs::Resolved::messages))]
+fn resolve_asked(
+    alloc: Global,
+    asked: &Asked<'_>,
+    macros: &[Macro],
+    databases: &[&Items],
+    min: u32,
+) -> Result<Resolved, AllocError>
+    requires fields { IsTrue (are_apart asked.now.fields) }
+    requires star { IfSome asked.now.star (λ before. before ≤ length asked.now.keys) }
+    ensures { IfOk result (λ all. all
+        ≡ resolved_by asked.now macros.now (map (λ d. items_of d.now) databases.now) min) }
+{
+    let Reading {
+        macros: _,
+        store,
+        preamble,
+        mut messages,
+    } = read_all(alloc, asked, macros, databases)?;
+    let family = Family::new(alloc, store)?;
+    let entries = resolve_list(alloc, asked, min, &family, &mut messages)?;
+    Ok(Resolved {
+        entries,
+        preamble,
+        messages,
+    })
+}
+
+/// The list of entries that a style sees, the preamble, and all messages, from the items of the databases in their
+/// order. An uncited entry to which fewer than `min` entries refer isn't in the list. The one error is want of memory.
+#[tactic(auto, unfolding(crate::specs::Resolved::resolved))]
+pub fn resolve(
+    alloc: Global,
+    declared: &Declared,
+    cites: &Cites,
+    databases: &[&Items],
+    min: u32,
+) -> Result<Resolved, AllocError>
+    requires fields { IsTrue (are_apart declared.now.fields) }
+    requires star { IfSome cites.now.star (λ before. before ≤ length cites.now.keys) }
+    ensures { IfOk result (λ all. all
+        ≡ resolved declared.now cites.now (map (λ d. items_of d.now) databases.now) min) }
+{
+    let asked = Asked {
+        fields: Index::new(alloc, declared.fields.as_slice())?,
+        types: Index::new(alloc, declared.types.as_slice())?,
+        keys: Index::new(alloc, cites.keys.as_slice())?,
+        star: cites.star,
+    };
+    resolve_asked(alloc, &asked, declared.macros.as_slice(), databases, min)
+}

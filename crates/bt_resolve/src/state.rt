@@ -1,0 +1,19 @@
+//! What was read of the databases so far.
+
+use crate::by_name::ByName;
+use crate::message::Message;
+use crate::store::Store;
+use bt_text::{Bytes, Sequence};
+
+/// What was read so far.
+#[derive(Drop)]
+pub struct Reading {
+    /// What macros stand for.
+    pub macros: ByName<Bytes>,
+    /// The stored entries.
+    pub store: Store,
+    /// The values of the preambles, joined.
+    pub preamble: Bytes,
+    /// The messages.
+    pub messages: Sequence<Message>,
+}

@@ -1,0 +1,116 @@
+-- A step in the world of all entries, by its outcome on its input alone.
+use Rattle.std.specs.Prelude.{slice_index_or, slice_get, slice_set}
+use Rattle.std.specs.Option.{option_map}
+use Rattle.std.proofs.Common.{◌≡◌, refl, ℕ, zero, suc, ◌+◌, ◌≤◌, ◌<◌, List, [], ◌∷◌, ◌++◌, length, Option, Some, None, sym, ap, ◌∙◌, arith}
+use Rattle.std.proofs.Math.Seq.{drop-append_seam}
+use Rattle.std.proofs.lemmas.List.{get_or-set_same, length-set, length-append}
+use Rattle.std.proofs.lemmas.List.Sums.{sum_by-append, sum_by-cons}
+use Rattle.std.proofs.lemmas.Option.{get_or_from_slice_get}
+use Rattle.bt_style.specs.declared.style.Target.{Target}
+use Rattle.bt_style.specs.Program.{Program}
+use Rattle.bt_actions.specs.declared.entry.Entry.{Entry}
+use Rattle.bt_actions.specs.declared.entry.Variables.{Variables}
+use Rattle.bt_actions.specs.World.{World, no_entry}
+use Rattle.bt_machine.specs.declared.input.Input.{Input}
+use Rattle.bt_machine.specs.declared.outcome.Outcome.{Outcome}
+use Rattle.bt_machine.specs.Step.{Finish, step, step_in, first_variables, outcome_of}
+use Rattle.bt_machine.specs.Place.{IsPlace, DependsOnInput, alone, cut, finish_back, own, Own}
+use Rattle.bt_job.specs.declared.log.Message.{Message}
+use Rattle.bt_run.specs.declared.course.Course.{Course}
+use Rattle.bt_run.specs.declared.course.Step.{Step}
+use Rattle.bt_run.specs.declared.course.Site.{Site}
+use Rattle.bt_run.specs.Course.{world_of, input_at, kept, left_by, stepped, all_told, with_variables, variables_back, put_back, IsConsistent}
+
+-- what a step leaves in the world of its entry alone, or of none
+abbrev alone_left : Program → Target → Option ℕ → Course → Finish
+alone_left p t x r = step p (alone x) t (cut x (world_of r))
+
+-- the same as an outcome with its cost
+abbrev own_left : Finish → Own
+own_left f = record { outcome = outcome_of f; cost = f.cost }
+
+-- what is left where the outcome of a step is put back
+abbrev left_back : Site → Target → Option ℕ → Course → Finish → Course
+left_back site t x r f =
+    record (put_back x (outcome_of f) r) {
+      log = r.log ++ all_told site.line site.style f.world.messages;
+      trace = r.trace ++ kept site.command (input_at t x (world_of r)) (own_left f) ∷ [];
+    }
+
+-- the variables of the entry that stands alone
+one_entry : (p : Program) → DependsOnInput p → (t : Target) (n : ℕ) (w : World) → first_variables (step p (Some 0) t (cut (Some n) w)).world.entries ≡ Some (slice_index_or (step p (Some 0) t (cut (Some n) w)).world.entries 0 no_entry).variables
+one_entry p law t n w = ap (λ (f : Finish). first_variables f.world.entries) (law (Some 0) t (cut (Some n) w) (omega arith))
+
+-- without an entry there are none
+no_variables_left : (p : Program) → DependsOnInput p → (t : Target) (w : World) → first_variables (step p None t (cut None w)).world.entries ≡ None
+no_variables_left p law t w = ap (λ (f : Finish). first_variables f.world.entries) (law None t (cut None w) tt)
+
+-- what a step in the world of all entries left that was its own is what it leaves on its input
+own_back : (p : Program) → DependsOnInput p → (t : Target) (n : ℕ) (r : Course) → n < length r.entries → own (Some n) (world_of r) (finish_back (Some n) (world_of r) (alone_left p t (Some n) r)) ≡ own_left (alone_left p t (Some n) r)
+own_back p law t n r h =
+    let f = alone_left p t (Some n) r in
+    let e : Entry = record (slice_index_or r.entries n no_entry) { variables = (slice_index_or f.world.entries 0 no_entry).variables } in
+    let variables = ap (λ (d : Entry). Some d.variables) (get_or-set_same r.entries n e no_entry h) ∙ sym (one_entry p law t n (world_of r)) in
+    let lines = drop-append_seam r.lines f.world.lines in
+    λ j. record { outcome = record { globals = f.world.globals; variables = variables j; held = f.world.held; lines = lines j; messages = f.world.messages; stop = f.stopped; calls = f.calls }; cost = f.cost }
+
+-- the same of a step without an entry
+own_back_alone : (p : Program) → DependsOnInput p → (t : Target) (r : Course) → own None (world_of r) (finish_back None (world_of r) (alone_left p t None r)) ≡ own_left (alone_left p t None r)
+own_back_alone p law t r =
+    let f = alone_left p t None r in
+    let variables = sym (no_variables_left p law t (world_of r)) in
+    let lines = drop-append_seam r.lines f.world.lines in
+    λ j. record { outcome = record { globals = f.world.globals; variables = variables j; held = f.world.held; lines = lines j; messages = f.world.messages; stop = f.stopped; calls = f.calls }; cost = f.cost }
+
+-- a step in the world of all entries puts back what it leaves on its input
+pub step_back : (p : Program) → DependsOnInput p → (site : Site) (t : Target) (x : Option ℕ) (r : Course) → IsPlace x (world_of r) → stepped p site t x r ≡ left_back site t x r (step_in p (input_at t x (world_of r)))
+step_back p law site t None r h =
+    let w = world_of r in
+    let f = alone_left p t None r in
+    let back : stepped p site t None r ≡ left_by site t None r (finish_back None w f) = ap (left_by site t None r) (law None t w h) in
+    let own_part = own_back_alone p law t r in
+    back ∙ (λ j. record { entries = r.entries; order = r.order; globals = f.world.globals; preamble = r.preamble; held = f.world.held; lines = r.lines ++ f.world.lines; log = r.log ++ all_told site.line site.style f.world.messages; trace = r.trace ++ kept site.command (input_at t None w) (own_part j) ∷ []; stopped = f.stopped })
+step_back p law site t (Some n) r h =
+    let w = world_of r in
+    let f = alone_left p t (Some n) r in
+    let back : stepped p site t (Some n) r ≡ left_by site t (Some n) r (finish_back (Some n) w f) = ap (left_by site t (Some n) r) (law (Some n) t w h) in
+    let entries = sym (one_entry p law t n w) in
+    let own_part = own_back p law t n r h in
+    back ∙ (λ j. record { entries = variables_back (Some n) (entries j) r.entries; order = r.order; globals = f.world.globals; preamble = r.preamble; held = f.world.held; lines = r.lines ++ f.world.lines; log = r.log ++ all_told site.line site.style f.world.messages; trace = r.trace ++ kept site.command (input_at t (Some n) w) (own_part j) ∷ []; stopped = f.stopped })
+
+-- The same for a run's own way of putting an outcome back, piece by piece.
+pub step_taken : (p : Program) → DependsOnInput p → (site : Site) (t : Target) (x : Option ℕ) (r back : Course) (i : Input) (key : Option (List ℕ)) (o : Outcome) (cost : ℕ) (messages log : List Message) (steps : List Step) → IsPlace x (world_of r) → i ≡ input_at t x (world_of r) → key ≡ option_map (λ (e : Entry). e.key) i.entry → o ≡ outcome_of (step_in p i) → cost ≡ (step_in p i).cost → back ≡ put_back x o r → messages ≡ all_told site.line site.style o.messages → log ≡ back.log ++ messages → steps ≡ back.trace ++ record { command = site.command; key = key; input = i; outcome = o; cost = cost } ∷ [] → record back { log = log; trace = steps } ≡ stepped p site t x r
+step_taken p law site t x r back i key o cost messages log steps h is_input is_key is_outcome is_cost is_back are_told is_log are_steps =
+    rw (is_log, are_steps, are_told, is_back, is_key, is_cost, is_outcome, is_input) (sym (step_back p law site t x r h))
+
+-- What a step leaves of what a run keeps to
+
+-- an element that is replaced twice
+set_set : {X : Type 0} (xs : List X) (n : ℕ) (a b : X) → slice_set (slice_set xs n a) n b ≡ slice_set xs n b
+set_set [] n a b = refl
+set_set (x ∷ xs) zero a b = refl
+set_set (x ∷ xs) (suc n) a b = ap (λ ys. x ∷ ys) (set_set xs n a b)
+
+-- an entry that is taken out and put back with other variables
+pub set_again : (entries after new : List Entry) (n : ℕ) (nothing e : Entry) (v : Variables) → n < length entries → slice_get entries n ≡ Some e → after ≡ slice_set entries n nothing → new ≡ slice_set after n (record e { variables = v }) → new ≡ variables_back (Some n) (Some v) entries
+set_again entries after new n nothing e v h is_entry is_after is_new =
+    let there : slice_index_or entries n no_entry ≡ e = get_or_from_slice_get entries n e no_entry is_entry in
+    is_new
+    ∙ ap (λ es. slice_set es n (record e { variables = v })) is_after
+    ∙ set_set entries n nothing (record e { variables = v })
+    ∙ ap (λ (d : Entry). slice_set entries n (record d { variables = v })) (sym there)
+
+-- there are as many entries as before
+pub length-variables_back : (x : Option ℕ) (v : Option Variables) (entries : List Entry) → length (variables_back x v entries) ≡ length entries
+length-variables_back None v entries = refl
+length-variables_back (Some n) v entries = length-set entries n (with_variables v (slice_index_or entries n no_entry))
+
+-- a step keeps what a run keeps to
+pub consistent_behind : (x : Option ℕ) (o : Outcome) (r back : Course) (s : Step) (log : List Message) (steps : List Step) (before after : ℕ) → IsConsistent r before → back ≡ put_back x o r → steps ≡ back.trace ++ s ∷ [] → after ≡ before + s.cost → after ≤ before + 1000000 → IsConsistent (record back { log = log; trace = steps }) after
+consistent_behind x o r back s log steps before after h is_back are_steps is_cost within =
+    let cost : Step → ℕ = λ (t : Step). t.cost in
+    rw (are_steps, is_back) (record {
+      total = omega (arith, sum_by-append cost r.trace (s ∷ []), sum_by-cons cost s [], h.total, is_cost);
+      bounded = omega (arith, length-append r.trace (s ∷ []), h.bounded, within);
+      ordered = λ k d lt. omega (arith, length-variables_back x o.variables r.entries, h.ordered k d lt);
+    })

@@ -1,0 +1,9 @@
+pub mod CourseLemmas
+pub mod OrderLemmas
+pub mod SortingLemmas
+pub mod CommandLemmas
+pub mod ReadingLemmas
+pub mod CountLemmas
+pub mod StyleLemmas
+pub mod AnswerLemmas
+mod Rows

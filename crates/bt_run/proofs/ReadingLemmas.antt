@@ -1,0 +1,43 @@
+-- What READ hands to the databases, and what it tells.
+use Rattle.std.specs.Prelude.{count_by}
+use Rattle.std.proofs.Common.{◌≡◌, refl, sym, ap, ◌∙◌, ℕ, List, [], ◌∷◌, ◌++◌, map, take}
+use Rattle.std.proofs.lemmas.List.{take-map, append_assoc}
+use Rattle.bt_style.specs.declared.style.Command.{Command}
+use Rattle.bt_style.specs.declared.style.Function.{Function}
+use Rattle.bt_style.specs.declared.style.Style.{Style}
+use Rattle.bt_style.specs.Program.{Definition, definition_of, definitions_of, program_of}
+use Rattle.bt_bib.specs.declared.item.Piece.{Piece}
+use Rattle.bt_bib.specs.Items.{items_of}
+use Rattle.bt_resolve.specs.declared.declared.Declared.{Declared}
+use Rattle.bt_resolve.specs.declared.declared.Macro.{Macro}
+use Rattle.bt_resolve.specs.declared.entry.Resolved.{Resolved}
+use Rattle.bt_resolve.specs.Resolved.{resolved}
+use Rattle.bt_job.specs.declared.log.Message.{Message}
+use Rattle.bt_run.specs.Reading.{Job, is_definition, known_macro, declared_before, items_in, found}
+
+abbrev name_of : Definition → List ℕ
+name_of d = d.name
+
+-- what the style declares, piece by piece
+pub declared_by : (s : Style) (number count : ℕ) (fields types : List (List ℕ)) (macros : List Macro) (commands : List Command) (functions : List Function) → fields ≡ s.fields → commands ≡ take number s.commands → count ≡ count_by (λ (c : Command). is_definition c.action) commands → functions ≡ take count s.functions.items → types ≡ map (λ (d : Definition). d.name) (definitions_of functions) → macros ≡ map known_macro s.macros → record { fields = fields; types = types; macros = macros } ≡ declared_before number (program_of s)
+declared_by s number count fields types macros commands functions is_fields are_commands is_count are_functions are_types are_macros =
+    let counted : count ≡ count_by (λ (c : Command). is_definition c.action) (take number s.commands) = is_count ∙ ap (count_by (λ (c : Command). is_definition c.action)) are_commands in
+    let before : definitions_of functions ≡ take (count_by (λ (c : Command). is_definition c.action) (take number s.commands)) (definitions_of s.functions.items) =
+    ap definitions_of are_functions ∙ sym (take-map definition_of count s.functions.items) ∙ ap (λ n. take n (definitions_of s.functions.items)) counted in
+    let all_types = are_types ∙ ap (map (λ (d : Definition). d.name)) before in
+    λ j. record { fields = is_fields j; types = all_types j; macros = are_macros j }
+
+maps : {A B C : Type 0} (f : B → C) (g : A → B) (xs : List A) → map (λ x. f (g x)) xs ≡ map f (map g xs)
+maps f g [] = refl
+maps f g (x ∷ xs) = ap (λ ys. f (g x) ∷ ys) (maps f g xs)
+
+-- what the databases give, from references to their items
+pub found_by : {R : Type 0} (now : R → List Piece) (refs refs_seen : List R) (items items_seen : List (List Piece)) (job : Job) (number : ℕ) (d : Declared) (all : Resolved) → d ≡ declared_before number job.program → map items_of items ≡ map (items_in job.files) job.databases → items_seen ≡ items → map now refs ≡ items_seen → refs_seen ≡ refs → all ≡ resolved d job.cites (map (λ r. items_of (now r)) refs_seen) job.min → all ≡ found job number
+found_by now refs refs_seen items items_seen job number d all is_declared are_items same_items are_refs same_refs is =
+    let seen : map (λ r. items_of (now r)) refs_seen ≡ map (items_in job.files) job.databases =
+    ap (map (λ r. items_of (now r))) same_refs ∙ maps items_of now refs ∙ ap (map items_of) (are_refs ∙ same_items) ∙ are_items in
+    is ∙ ap (λ e. resolved e job.cites (map (λ r. items_of (now r)) refs_seen) job.min) is_declared ∙ ap (λ ds. resolved (declared_before number job.program) job.cites ds job.min) seen
+
+-- what follows a message that was pushed
+pub told_behind : (old log rest : List Message) (line seen : Message) → line ≡ seen → log ≡ old ++ line ∷ [] → log ++ rest ≡ old ++ seen ∷ rest
+told_behind old log rest line seen is_line is_log = ap (λ l. l ++ rest) is_log ∙ append_assoc old (line ∷ []) rest ∙ ap (λ m. old ++ m ∷ rest) is_line

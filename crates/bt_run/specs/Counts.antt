@@ -1,0 +1,42 @@
+-- How often each built-in function was called in a run, and the lines of the log that tell it.
+use Rattle.std.specs.Prelude.{ℕ, List, ◌∷◌, ◌++◌, map, sum_by, slice_index_or, codes, decimal}
+use Rattle.bt_style.specs.declared.builtin.Builtin.{Builtin}
+use Rattle.bt_style.specs.Builtins.{Row, table, place_of, name_of}
+use Rattle.bt_job.specs.declared.log.Message.{Message}
+use Rattle.bt_job.specs.declared.log.Rank.TheVariants.{CallCount}
+use Rattle.bt_run.specs.declared.course.Step.{Step}
+use Rattle.bt_run.specs.declared.course.Course.{Course}
+
+-- how often the function at a place in the table was called, in all steps together
+abbrev pub calls_at : List Step → ℕ → ℕ
+calls_at trace place = sum_by (λ (s : Step). slice_index_or s.outcome.calls place 0) trace
+
+abbrev pub calls_of : List Step → Row → ℕ
+calls_of trace row = calls_at trace (place_of row.builtin)
+
+-- the row of a function
+abbrev pub row_of : Builtin → Row
+row_of b = record { builtin = b; name = name_of b }
+
+-- how often all of them were called
+unfoldable pub all_calls : List Step → ℕ
+all_calls trace = sum_by (calls_of trace) table
+
+abbrev pub count_message : List ℕ → Message
+count_message words = record { rank = CallCount; words = words }
+
+-- the line of a function
+abbrev pub row_told : List Step → Row → Message
+row_told trace row = count_message (row.name ++ codes " -- " ++ decimal (calls_of trace row))
+
+-- the line in front of them
+abbrev pub all_told : ℕ → Message
+all_told count = count_message (codes "The built-in function-call counts, " ++ decimal count ++ codes " in all, are:")
+
+-- the counts of a run, function by function in the order of the table
+unfoldable pub counts_told : List Step → List Message
+counts_told trace = all_told (all_calls trace) ∷ map (row_told trace) table
+
+-- a run with the counts of its calls behind its messages
+abbrev pub counted : Course → Course
+counted r = record r { log = r.log ++ counts_told r.trace }

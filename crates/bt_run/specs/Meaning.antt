@@ -1,0 +1,108 @@
+-- What files mean: a run over them from scratch, which knows no edit and no earlier run.
+use Rattle.std.specs.Prelude.{ℕ, ℤ, pos, List, [], ◌∷◌, ◌++◌, map, length, codes, decimal, Option, Some, None, unwrap_or, false, Result, Ok, Err, bytes_eq, if◌then◌else◌}
+use Rattle.bt_style.specs.declared.fault.Fault.{Fault}
+use Rattle.bt_style.specs.Program.{Program}
+use Rattle.bt_style.specs.Fault.{words_of}
+use Rattle.bt_style.specs.Reader.{style_of}
+use Rattle.bt_actions.specs.declared.entry.Variables.{Variables}
+use Rattle.bt_actions.specs.World.{no_variables}
+use Rattle.bt_job.specs.declared.files.File.{File}
+use Rattle.bt_job.specs.declared.log.Message.{Message}
+use Rattle.bt_job.specs.declared.log.Rank.TheVariants.{Error}
+use Rattle.bt_job.specs.declared.citations.Citations.{Citations}
+use Rattle.bt_job.specs.Naming.{text_of}
+use Rattle.bt_job.specs.Citations.{citations}
+use Rattle.bt_job.specs.Log.{status_of, log_bytes, terse_bytes, lines_bytes}
+use Rattle.bt_run.specs.declared.course.Course.{Course}
+use Rattle.bt_run.specs.declared.course.Step.{Step}
+use Rattle.bt_run.specs.declared.answers.Report.{Report}
+use Rattle.bt_run.specs.Course.{total_cost}
+use Rattle.bt_run.specs.Reading.{Job}
+use Rattle.bt_run.specs.Commands.{commands_from}
+use Rattle.bt_run.specs.Counts.{counted}
+
+-- The style
+
+-- the value of a global number at the start
+abbrev pub first_number : List ℕ → ℤ
+first_number name =
+    if bytes_eq name (codes "entry.max$") then pos 250
+    else if bytes_eq name (codes "global.max$") then pos 20000
+    else pos 0
+
+-- the globals at the start, as many as the style declares
+abbrev pub first_globals : Program → Variables
+first_globals p = record { numbers = map first_number p.global_numbers; texts = map (λ name. []) p.global_texts }
+
+-- a run that has told this, in front of the style's commands
+abbrev pub begun : Variables → List Message → Course
+begun globals log =
+    record {
+      entries = [];
+      order = [];
+      globals = globals;
+      preamble = [];
+      held = [];
+      lines = [];
+      log = log;
+      trace = [];
+      stopped = false;
+    }
+
+-- the error of a style's fault
+abbrev pub fault_told : List ℕ → Fault → Message
+fault_told file fault = record { rank = Error; words = words_of fault.kind ++ codes "---line " ++ decimal fault.line ++ codes " of file " ++ file }
+
+-- what a run under a style reads
+abbrev pub job_for : List File → Citations → ℕ → List ℕ → Program → Job
+job_for files c min style p = record {
+  files = files;
+  cites = record { keys = c.keys; star = c.star };
+  databases = c.databases;
+  min = min;
+  style = style;
+  program = p;
+}
+
+-- the commands of a style in order behind a log, then the counts
+abbrev pub carried : Job → List Message → Course
+carried job log = counted (commands_from job 0 job.program.commands (begun (first_globals job.program) log))
+
+-- what a style that can be read does, or its first fault, which ends the run
+abbrev pub styled : List File → Citations → ℕ → List ℕ → Result Program Fault → Course
+styled files c min style (Err fault) = begun no_variables (c.log ++ fault_told style fault ∷ [])
+styled files c min style (Ok p) = carried (job_for files c min style p) c.log
+
+-- without a style the run ends behind the .aux files
+abbrev pub run_with : List File → Citations → ℕ → Option (List ℕ) → Course
+run_with files c min None = begun no_variables c.log
+run_with files c min (Some style) = styled files c min style (style_of (unwrap_or (text_of files style) []))
+
+-- Runs
+
+-- the whole run over these files from this root, with this min-crossrefs
+unfoldable pub run_of : List File → List ℕ → ℕ → Course
+run_of files root min = run_with files (citations files root) min (citations files root).style
+
+-- what a run shows
+pub record Meaning : Type 0 where
+  pub bbl : List ℕ
+  pub blg : List ℕ
+  pub terse : List ℕ
+  pub status : ℕ
+  pub wanted : List (List ℕ)
+
+abbrev pub shown : Course → List (List ℕ) → Meaning
+shown r wanted = record { bbl = lines_bytes r.lines; blg = log_bytes r.log; terse = terse_bytes r.log; status = status_of r.log; wanted = wanted }
+
+-- what files mean from this root, with this min-crossrefs
+unfoldable pub meaning : List File → List ℕ → ℕ → Meaning
+meaning files root min = shown (run_of files root min) (citations files root).wanted
+
+-- the steps of that run
+unfoldable pub trace : List File → List ℕ → ℕ → List Step
+trace files root min = (run_of files root min).trace
+
+-- the report of a run that carried out each of its steps
+unfoldable pub report_of : List File → List ℕ → ℕ → Report
+report_of files root min = record { status = (meaning files root min).status; ran = length (trace files root min); reused = 0; ticks = total_cost (trace files root min) }

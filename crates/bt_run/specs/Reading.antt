@@ -1,0 +1,156 @@
+-- READ: the entries that the databases give for the citations, and the messages.
+use Rattle.std.specs.Prelude.{ℕ, pos, ◌+◌, Bool, true, false, ◌==◌, List, [], ◌∷◌, ◌++◌, length, map, filter, take, count_by, codes, decimal, Option, Some, None, unwrap_or}
+use Rattle.std.specs.List.{range_with_len}
+use Rattle.bt_style.specs.declared.style.Action.{Action}
+use Rattle.bt_style.specs.declared.style.Action.TheVariants as actions
+use Rattle.bt_style.specs.declared.style.Command.{Command}
+use Rattle.bt_style.specs.declared.style.Macro.{Macro}
+use Rattle.bt_style.specs.Program.{Definition, Program}
+use Rattle.bt_bib.specs.declared.item.Item.{Item}
+use Rattle.bt_bib.specs.Items.{items_of}
+use Rattle.bt_bib.specs.Reading.{pieces_of}
+use Rattle.bt_actions.specs.declared.entry.Variables.{Variables}
+use Rattle.bt_actions.specs.declared.entry.Entry.{Entry}
+use Rattle.bt_resolve.specs.declared.declared.Cites.{Cites}
+use Rattle.bt_resolve.specs.declared.declared.Declared.{Declared}
+use Rattle.bt_resolve.specs.declared.declared.Macro.{Macro as KnownMacro}
+use Rattle.bt_resolve.specs.declared.entry.Entry.{Entry as FoundEntry}
+use Rattle.bt_resolve.specs.declared.entry.Resolved.{Resolved}
+use Rattle.bt_resolve.specs.declared.message.Message.{Message as FoundMessage}
+use Rattle.bt_resolve.specs.declared.message.Place.{Place}
+use Rattle.bt_resolve.specs.declared.message.Rank.{Rank as FoundRank}
+use Rattle.bt_resolve.specs.declared.message.Rank.TheVariants as found_rank
+use Rattle.bt_resolve.specs.Resolved.{resolved}
+use Rattle.bt_job.specs.declared.files.File.{File}
+use Rattle.bt_job.specs.declared.log.Message.{Message}
+use Rattle.bt_job.specs.declared.log.Rank.{Rank}
+use Rattle.bt_job.specs.declared.log.Rank.TheVariants.{FileLine, Warning, Error}
+use Rattle.bt_job.specs.Naming.{text_of}
+use Rattle.bt_run.specs.declared.course.Course.{Course}
+
+-- what a run reads: the files, what is cited from which databases, min-crossrefs, and the style with its file's name
+pub record Job : Type 0 where
+  pub files : List File
+  pub cites : Cites
+  pub databases : List (List ℕ)
+  pub min : ℕ
+  pub style : List ℕ
+  pub program : Program
+
+-- What the style declares
+
+-- whether a command defines a function
+unfoldable pub is_definition : Action → Bool
+is_definition actions.Entry = false
+is_definition (actions.Execute t) = false
+is_definition (actions.Function n) = true
+is_definition actions.Integers = false
+is_definition (actions.Iterate t) = false
+is_definition (actions.Macro n) = false
+is_definition actions.Read = false
+is_definition (actions.Reverse t) = false
+is_definition actions.Sort = false
+is_definition actions.Strings = false
+
+-- the functions that are defined before the command of this number
+abbrev pub functions_before : ℕ → Program → List Definition
+functions_before number p = take (count_by (λ (c : Command). is_definition c.action) (take number p.commands)) p.functions
+
+-- A macro as the databases know it.
+abbrev pub known_macro : Macro → KnownMacro
+known_macro m = record { name = m.name; value = m.text }
+
+-- what the style declares in front of the command of this number: its fields, a type for each function, and its macros
+abbrev pub declared_before : ℕ → Program → Declared
+declared_before number p = record {
+  fields = p.fields;
+  types = map (λ (d : Definition). d.name) (functions_before number p);
+  macros = map known_macro p.macros;
+}
+
+-- What the databases give
+
+-- the items of a database
+abbrev pub items_in : List File → List ℕ → List Item
+items_in files name = items_of (pieces_of (unwrap_or (text_of files name) []))
+
+-- what the databases give for the citations, at the command of this number
+abbrev pub found : Job → ℕ → Resolved
+found job number = resolved (declared_before number job.program) job.cites (map (items_in job.files) job.databases) job.min
+
+-- numbers that are 0 and empty texts, as many as there are names
+abbrev pub blank : List (List ℕ) → List (List ℕ) → Variables
+blank numbers texts = record { numbers = map (λ name. pos 0) numbers; texts = map (λ name. []) texts }
+
+-- an entry with its variables, as many as the style declares
+abbrev pub entered : Program → FoundEntry → Entry
+entered p e = record { key = e.key; kind = e.kind; function = e.function; fields = e.fields; variables = blank p.entry_numbers p.entry_texts }
+
+-- Messages
+
+abbrev pub log_rank : FoundRank → Rank
+log_rank found_rank.Warning = Warning
+log_rank found_rank.Error = Error
+
+-- where a message belongs: in an error behind its words, in a warning on a line of its own
+abbrev pub line_words : FoundRank → List ℕ → ℕ → List ℕ
+line_words found_rank.Error file line = codes "---line " ++ decimal line ++ codes " of file " ++ file
+line_words found_rank.Warning file line = codes "\n--line " ++ decimal line ++ codes " of file " ++ file
+
+abbrev pub place_words : FoundRank → List ℕ → Option Place → List ℕ
+place_words rank file None = []
+place_words rank file (Some place) = line_words rank file place.line
+
+abbrev pub second_line : Option (List ℕ) → List ℕ
+second_line None = []
+second_line (Some words) = codes "\n" ++ words
+
+-- a message in the log, where it is one about a database in this file
+abbrev pub told_of : List ℕ → FoundMessage → Message
+told_of file m = record { rank = log_rank m.rank; words = m.words ++ place_words m.rank file m.place ++ second_line m.second }
+
+-- whether a message is about the database of a number
+abbrev pub is_about : ℕ → Option Place → Bool
+is_about number None = false
+is_about number (Some place) = place.database == number
+
+-- whether a message is about no database
+abbrev pub is_general : Option Place → Bool
+is_general None = true
+is_general (Some place) = false
+
+-- the line of a database of this number
+abbrev pub file_line : ℕ → List ℕ → Message
+file_line number file = record { rank = FileLine; words = codes "Database file #" ++ decimal number ++ codes ": " ++ file }
+
+-- a database of this number: its line, and the messages about it
+abbrev pub database_told : ℕ → List ℕ → List FoundMessage → List Message
+database_told number file messages = file_line number file ∷ map (told_of file) (filter (λ (m : FoundMessage). is_about number m.place) messages)
+
+-- databases in order, numbered from here on
+abbrev pub databases_told : ℕ → List (List ℕ) → List FoundMessage → List Message
+databases_told number [] messages = []
+databases_told number (file ∷ files) messages = database_told number file messages ++ databases_told (number + 1) files messages
+
+-- all databases, then the messages that are about none
+abbrev pub all_read : List (List ℕ) → List FoundMessage → List Message
+all_read databases messages = databases_told 1 databases messages ++ map (told_of []) (filter (λ (m : FoundMessage). is_general m.place) messages)
+
+-- The command
+
+-- places of so many entries, in list order
+abbrev pub list_order : List Entry → List ℕ
+list_order entries = range_with_len 0 (length entries)
+
+-- the run behind what the databases gave
+abbrev pub read_in : Program → List (List ℕ) → Resolved → Course → Course
+read_in p databases found r =
+    record r {
+      entries = map (entered p) found.entries;
+      order = list_order (map (entered p) found.entries);
+      preamble = found.preamble;
+      log = r.log ++ all_read databases found.messages;
+    }
+
+abbrev pub read : Job → ℕ → Course → Course
+read job number r = read_in job.program job.databases (found job number) r

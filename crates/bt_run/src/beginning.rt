@@ -1,0 +1,81 @@
+//! The beginning of a run, and a style that can't be carried out.
+
+ghost use Rattle.std.specs.Prelude.{◌≡◌, map, IfOk};
+ghost use Rattle.bt_style.specs.Program.{program_of};
+ghost use Rattle.bt_run.specs.Meaning.{first_number, first_globals, begun, fault_told};
+
+use crate::course::Course;
+use crate::declaring::empty_texts;
+use bt_actions::Variables;
+use bt_job::{Message, Rank};
+use bt_style::{Fault, Style};
+use bt_text::{Bytes, Held, Sequence};
+use itoa::Buffer;
+use std::alloc::{AllocError, Global};
+
+/// The value of a global number at the start.
+fn first_number(name: &[u8]) -> i32
+    ensures { result ≡ first_number name.now }
+{
+    if name == b"entry.max$".as_slice() {
+        250
+    } else if name == b"global.max$".as_slice() {
+        20000
+    } else {
+        0
+    }
+}
+
+/// The values of the global numbers at the start.
+fn first_numbers(alloc: Global, names: &[Bytes]) -> Result<Sequence<i32>, AllocError>
+    ensures { IfOk result (λ numbers. numbers ≡ map first_number names.now) }
+{
+    let mut numbers = Sequence::new(alloc);
+    'names: for name in names {
+        numbers.push(first_number(name.as_slice()))?;
+    }
+    Ok(numbers)
+}
+
+/// The globals at the start, as many as the style declares.
+pub fn first_globals(alloc: Global, style: &Style) -> Result<Variables, AllocError>
+    ensures { IfOk result (λ globals. globals ≡ first_globals (program_of style.now)) }
+{
+    Ok(Variables {
+        numbers: first_numbers(alloc, style.global_numbers.as_slice())?,
+        texts: empty_texts(alloc, style.global_texts.as_slice())?,
+    })
+}
+
+/// A run that has told this, in front of the style's commands.
+pub fn begin(alloc: Global, globals: Variables, log: Sequence<Message>) -> Course
+    ensures { result ≡ begun globals log }
+{
+    Course {
+        entries: Sequence::new(alloc),
+        order: Sequence::new(alloc),
+        globals,
+        preamble: Bytes::new(alloc),
+        held: Held::new(alloc),
+        lines: Sequence::new(alloc),
+        log,
+        trace: Sequence::new(alloc),
+        stopped: false,
+    }
+}
+
+/// The error of a style's fault.
+pub fn fault_told(alloc: Global, file: &[u8], fault: Fault) -> Result<Message, AllocError>
+    ensures { IfOk result (λ message. message ≡ fault_told file.now fault) }
+{
+    let mut buffer = Buffer::new();
+    let mut words = Bytes::copied(alloc, fault.kind.words())?;
+    words.append(b"---line ")?;
+    words.append(buffer.format(fault.line).as_bytes())?;
+    words.append(b" of file ")?;
+    words.append(file)?;
+    Ok(Message {
+        rank: Rank::Error,
+        words,
+    })
+}

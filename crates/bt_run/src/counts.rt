@@ -1,0 +1,145 @@
+//! How often each built-in function was called in a run, and the lines of the log that tell it.
+
+ghost use Rattle.std.specs.Prelude.{◌≡◌, ◌++◌, ◌*◌, ◌≤◌, ◌<◌, ◌^◌, length, map, sum_by, codes, decimal, IfOk, OnOk};
+ghost use Rattle.bt_style.specs.Builtins.{place_of, name_of};
+ghost use Rattle.bt_run.specs.Counts.{calls_at, all_calls, count_message, all_told, row_of, row_told, counted};
+
+use crate::course::{Course, Step};
+use bt_job::{Message, Rank};
+use bt_style::{BUILTIN_COUNT, Builtin};
+use bt_text::{Bytes, Sequence};
+use itoa::Buffer;
+use std::alloc::{AllocError, Global};
+
+/// The built-in functions, in the order of their table.
+const TABLE: [Builtin; BUILTIN_COUNT] = [
+    Builtin::Greater,
+    Builtin::Less,
+    Builtin::Equals,
+    Builtin::Plus,
+    Builtin::Minus,
+    Builtin::Join,
+    Builtin::Assign,
+    Builtin::AddPeriod,
+    Builtin::CallType,
+    Builtin::ChangeCase,
+    Builtin::ChrToInt,
+    Builtin::Cite,
+    Builtin::Duplicate,
+    Builtin::Empty,
+    Builtin::FormatName,
+    Builtin::If,
+    Builtin::IntToChr,
+    Builtin::IntToStr,
+    Builtin::Missing,
+    Builtin::Newline,
+    Builtin::NumNames,
+    Builtin::Pop,
+    Builtin::Preamble,
+    Builtin::Purify,
+    Builtin::Quote,
+    Builtin::Skip,
+    Builtin::Stack,
+    Builtin::Substring,
+    Builtin::Swap,
+    Builtin::TextLength,
+    Builtin::TextPrefix,
+    Builtin::Top,
+    Builtin::Type,
+    Builtin::Warning,
+    Builtin::While,
+    Builtin::Width,
+    Builtin::Write,
+];
+
+/// How often the function at a place in the table was called, in all steps together.
+fn calls_at(trace: &[Step], place: usize) -> u128
+    requires { place < 37 }
+    ensures calls { result ≡ calls_at trace.now place }
+    ensures bounded { result < 2 ^ 96 }
+{
+    let mut calls = 0;
+    'steps: for step in trace {
+        calls += u128::from(step.outcome.calls[place]);
+    }
+    calls
+}
+
+/// How often these functions were called.
+fn sum_of_calls(trace: &[Step], builtins: &[Builtin]) -> u128
+    requires { length builtins.now ≤ 37 }
+    ensures { result ≡ sum_by (λ b. calls_at trace.now (place_of b)) builtins.now }
+{
+    let mut sum = 0;
+    'builtins: for builtin in builtins {
+        sum += calls_at(trace, builtin.place());
+    }
+    sum
+}
+
+/// How often all functions were called.
+#[tactic(auto, unfolding(crate::specs::Counts::all_calls, bt_style::specs::Builtins::table))]
+fn all_calls(trace: &[Step]) -> u128
+    ensures { result ≡ all_calls trace.now }
+{
+    sum_of_calls(trace, TABLE.as_slice())
+}
+
+/// The line in front of the counts.
+fn all_told(alloc: Global, count: u128) -> Result<Message, AllocError>
+    ensures { IfOk result (λ message. message ≡ all_told count) }
+{
+    let mut buffer = Buffer::new();
+    let mut words = Bytes::copied(alloc, b"The built-in function-call counts, ")?;
+    words.append(buffer.format(count).as_bytes())?;
+    words.append(b" in all, are:")?;
+    Ok(Message {
+        rank: Rank::CallCount,
+        words,
+    })
+}
+
+/// The line of a function that was called so often.
+fn row_told(alloc: Global, builtin: Builtin, count: u128) -> Result<Message, AllocError>
+    ensures { IfOk result (λ message. message ≡ count_message (name_of builtin ++ codes " -- " ++ decimal count)) }
+{
+    let mut buffer = Buffer::new();
+    let mut words = Bytes::copied(alloc, builtin.name())?;
+    words.append(b" -- ")?;
+    words.append(buffer.format(count).as_bytes())?;
+    Ok(Message {
+        rank: Rank::CallCount,
+        words,
+    })
+}
+
+/// Tells the counts of these functions.
+fn tell_rows(
+    alloc: Global,
+    log: &mut Sequence<Message>,
+    trace: &[Step],
+    builtins: &[Builtin],
+) -> Result<(), AllocError>
+    ensures { OnOk result (log.new ≡ log.old ++ map (λ b. row_told trace.now (row_of b)) builtins.now) }
+{
+    'builtins: for builtin in builtins {
+        let count = calls_at(trace, builtin.place());
+        log.push(row_told(alloc, *builtin, count)?)?;
+    }
+    Ok(())
+}
+
+/// Tells the counts of a run behind its messages, function by function in the order of the table.
+pub fn tell_counts(alloc: Global, course: &mut Course) -> Result<(), AllocError>
+    ensures { OnOk result (course.new ≡ counted course.old) }
+{
+    let count = all_calls(course.trace.as_slice());
+    course.log.push(all_told(alloc, count)?)?;
+    tell_rows(
+        alloc,
+        &mut course.log,
+        course.trace.as_slice(),
+        TABLE.as_slice(),
+    )?;
+    Ok(())
+}

@@ -1,0 +1,46 @@
+//! How far a run has come: the world of all entries in the program's form, the log, and the steps so far.
+
+use bt_actions::{Entry, Variables};
+use bt_job::Message;
+use bt_machine::{Input, Outcome};
+use bt_text::{Bytes, Held, Sequence};
+
+/// A step of a run: which command ran it, for which entry, what it was given and left, and its cost in ticks.
+#[derive(Debug, Drop)]
+pub struct Step {
+    /// The number of its command in the style, from 0.
+    pub command: usize,
+    /// The key of its entry, if it has one.
+    pub key: Option<Bytes>,
+    pub input: Input,
+    pub outcome: Outcome,
+    pub cost: u128,
+}
+
+/// How far a run has come.
+#[derive(Debug, Drop)]
+pub struct Course {
+    /// The entries, in the order of the list.
+    pub entries: Sequence<Entry>,
+    /// The places of the entries, in the present order.
+    pub order: Sequence<usize>,
+    pub globals: Variables,
+    pub preamble: Bytes,
+    pub held: Held,
+    pub lines: Sequence<Bytes>,
+    pub log: Sequence<Message>,
+    pub trace: Sequence<Step>,
+    /// Whether a step stopped the run.
+    pub stopped: bool,
+}
+
+/// The command that runs a step.
+#[derive(Debug, Drop)]
+pub struct Site {
+    /// The name of the style's file.
+    pub style: Bytes,
+    /// The number of the command in the style, from 0.
+    pub command: usize,
+    /// The line of the command's word.
+    pub line: usize,
+}

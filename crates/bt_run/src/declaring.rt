@@ -1,0 +1,138 @@
+//! What a style declares: names of fields, types and macros for the databases, and its variables.
+
+ghost use Rattle.std.specs.Prelude.{◌≡◌, [], pos, map, take, count_by, IfOk};
+ghost use Rattle.bt_style.specs.declared.style.Command.{Command as CommandSeen};
+ghost use Rattle.bt_style.specs.Program.{Definition, definitions_of, program_of};
+ghost use Rattle.bt_run.specs.Reading.{is_definition, known_macro, declared_before, blank};
+
+use crate::copying::copied_texts;
+use bt_actions::Variables;
+use bt_resolve::{Declared, Macro};
+use bt_style::{Action, Command, Function, Style};
+use bt_text::{Bytes, Sequence};
+use std::alloc::{AllocError, Global};
+
+/// Whether a command defines a function.
+#[tactic(auto, unfolding(crate::specs::Reading::is_definition))]
+fn is_definition(action: Action) -> bool
+    ensures { result ≡ is_definition action }
+{
+    match action {
+        Action::Function(_) => true,
+        Action::Entry
+        | Action::Execute(_)
+        | Action::Integers
+        | Action::Iterate(_)
+        | Action::Macro(_)
+        | Action::Read
+        | Action::Reverse(_)
+        | Action::Sort
+        | Action::Strings => false,
+    }
+}
+
+/// How many of these commands define a function.
+fn definition_count(commands: &[Command]) -> usize
+    ensures { result ≡ count_by (λ (c : CommandSeen). is_definition c.action) commands.now }
+{
+    let mut count = 0;
+    'commands: for command in commands {
+        if is_definition(command.action) {
+            count += 1;
+        }
+    }
+    count
+}
+
+/// The first commands, so many; all where there are fewer.
+fn first_commands(commands: &[Command], count: usize) -> &[Command]
+    ensures { result.now ≡ take count commands.now }
+{
+    if count < commands.len() {
+        commands.split_at(count).0
+    } else {
+        commands
+    }
+}
+
+/// The first functions, so many; all where there are fewer.
+fn first_functions(functions: &[Function], count: usize) -> &[Function]
+    ensures { result.now ≡ take count functions.now }
+{
+    if count < functions.len() {
+        functions.split_at(count).0
+    } else {
+        functions
+    }
+}
+
+/// The names of functions.
+fn names_of(alloc: Global, functions: &[Function]) -> Result<Sequence<Bytes>, AllocError>
+    ensures { IfOk result (λ names. names ≡ map (λ (d : Definition). d.name) (definitions_of functions.now)) }
+{
+    let mut names = Sequence::new(alloc);
+    'functions: for function in functions {
+        names.push(Bytes::copied(alloc, function.name.as_slice())?)?;
+    }
+    Ok(names)
+}
+
+/// The macros as the databases know them.
+fn known_macros(alloc: Global, macros: &[bt_style::Macro]) -> Result<Sequence<Macro>, AllocError>
+    ensures { IfOk result (λ known. known ≡ map known_macro macros.now) }
+{
+    let mut known = Sequence::new(alloc);
+    'macros: for one in macros {
+        known.push(Macro {
+            name: Bytes::copied(alloc, one.name.as_slice())?,
+            value: Bytes::copied(alloc, one.text.as_slice())?,
+        })?;
+    }
+    Ok(known)
+}
+
+/// What the style declares in front of the command of a number: its fields, a type for each function that is defined
+/// there, and its macros.
+pub fn declared_before(alloc: Global, style: &Style, number: usize) -> Result<Declared, AllocError>
+    ensures { IfOk result (λ declared. declared ≡ declared_before number (program_of style.now)) }
+{
+    let before = first_commands(style.commands.as_slice(), number);
+    let functions = first_functions(style.functions.as_slice(), definition_count(before));
+    Ok(Declared {
+        fields: copied_texts(alloc, style.fields.as_slice())?,
+        types: names_of(alloc, functions)?,
+        macros: known_macros(alloc, style.macros.as_slice())?,
+    })
+}
+
+/// A number that is 0 for each name.
+fn zeros(alloc: Global, names: &[Bytes]) -> Result<Sequence<i32>, AllocError>
+    ensures { IfOk result (λ numbers. numbers ≡ map (λ name. pos 0) names.now) }
+{
+    let mut numbers = Sequence::new(alloc);
+    'names: for _name in names {
+        numbers.push(0)?;
+    }
+    Ok(numbers)
+}
+
+/// An empty text for each name.
+pub fn empty_texts(alloc: Global, names: &[Bytes]) -> Result<Sequence<Bytes>, AllocError>
+    ensures { IfOk result (λ texts. texts ≡ map (λ name. []) names.now) }
+{
+    let mut texts = Sequence::new(alloc);
+    'names: for _name in names {
+        texts.push(Bytes::new(alloc))?;
+    }
+    Ok(texts)
+}
+
+/// The variables of these names at the start: numbers that are 0, and empty texts.
+pub fn blank(alloc: Global, numbers: &[Bytes], texts: &[Bytes]) -> Result<Variables, AllocError>
+    ensures { IfOk result (λ variables. variables ≡ blank numbers.now texts.now) }
+{
+    Ok(Variables {
+        numbers: zeros(alloc, numbers)?,
+        texts: empty_texts(alloc, texts)?,
+    })
+}

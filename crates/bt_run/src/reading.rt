@@ -1,0 +1,109 @@
+//! READ: the entries that the databases give for the citations.
+
+ghost use Rattle.std.specs.Prelude.{◌≡◌, map, IfOk, OnOk};
+ghost use Rattle.bt_style.specs.Program.{program_of};
+ghost use Rattle.bt_run.specs.Reading.{found, entered, list_order, read_in, read};
+ghost use Rattle.bt_run.specs.JobView.{job_of};
+
+use crate::course::Course;
+use crate::databases::{all_items, tell_databases};
+use crate::declaring::{blank, declared_before};
+use crate::job::Job;
+use bt_actions::Entry;
+use bt_bib::Items;
+use bt_resolve::{Resolved, resolve};
+use bt_style::Style;
+use bt_text::Sequence;
+use std::alloc::{AllocError, Global};
+
+/// References to all items.
+fn references(alloc: Global, items: &[Items]) -> Result<Vec<&Items>, AllocError>
+    ensures { IfOk result (λ references. map (λ i. i.now) references.items ≡ items.now) }
+{
+    let mut references = Vec::new(alloc);
+    'items: for one in items {
+        references.push(one)?;
+    }
+    Ok(references)
+}
+
+/// What the databases give for the citations, at the command of this number.
+fn found(alloc: Global, job: Job<'_>, number: usize) -> Result<Resolved, AllocError>
+    ensures { IfOk result (λ all. all ≡ found (job_of job.entry) number) }
+{
+    let declared = declared_before(alloc, job.style, number)?;
+    let items = all_items(alloc, job.files, job.databases)?;
+    let references = references(alloc, items.as_slice())?;
+    let all = resolve(alloc, &declared, job.cites, references.as_slice(), job.min)?;
+    Ok(all)
+}
+
+/// An entry with its variables, as many as the style declares.
+fn entered(alloc: Global, style: &Style, entry: bt_resolve::Entry) -> Result<Entry, AllocError>
+    ensures { IfOk result (λ e. e ≡ entered (program_of style.now) entry) }
+{
+    let bt_resolve::Entry {
+        key,
+        kind,
+        function,
+        fields,
+    } = entry;
+    let numbers = style.entry_numbers.as_slice();
+    let texts = style.entry_texts.as_slice();
+    Ok(Entry {
+        key,
+        kind,
+        function,
+        fields,
+        variables: blank(alloc, numbers, texts)?,
+    })
+}
+
+/// The entries with their variables.
+fn all_entered(
+    alloc: Global,
+    style: &Style,
+    entries: Sequence<bt_resolve::Entry>,
+) -> Result<Sequence<Entry>, AllocError>
+    ensures { IfOk result (λ all. all ≡ map (entered (program_of style.now)) entries) }
+{
+    let mut all = Sequence::new(alloc);
+    'entries: for entry in entries.into_vec() {
+        all.push(entered(alloc, style, entry)?)?;
+    }
+    Ok(all)
+}
+
+/// The places of entries in list order.
+fn list_order(alloc: Global, entries: &[Entry]) -> Result<Sequence<usize>, AllocError>
+    ensures { IfOk result (λ order. order ≡ list_order entries.now) }
+{
+    let mut order = Sequence::new(alloc);
+    let count = entries.len();
+    'places: for place in 0..count {
+        order.push(place)?;
+    }
+    Ok(order)
+}
+
+/// Reads the databases: the entries with their variables, the list order, the preamble, and what is told.
+pub fn read(
+    alloc: Global,
+    job: Job<'_>,
+    number: usize,
+    course: &mut Course,
+) -> Result<(), AllocError>
+    ensures { OnOk result (course.new ≡ read (job_of job.entry) number course.old) }
+{
+    let Resolved {
+        entries,
+        preamble,
+        messages,
+    } = found(alloc, job, number)?;
+    tell_databases(alloc, &mut course.log, job.databases, messages.as_slice())?;
+    let entries = all_entered(alloc, job.style, entries)?;
+    course.order = list_order(alloc, entries.as_slice())?;
+    course.entries = entries;
+    course.preamble = preamble;
+    Ok(())
+}

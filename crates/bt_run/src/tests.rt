@@ -1,0 +1,80 @@
+//! Worked examples: the order of SORT, and what READ tells.
+
+use crate::databases::tell_databases;
+use crate::sorting::sorted_places;
+use bt_actions::{Entry, Variables};
+use bt_job::log_bytes;
+use bt_resolve::{Message, Place, Rank};
+use bt_text::{Bytes, Sequence};
+use std::alloc::{AllocError, Global};
+use std::test::Fail;
+
+/// An entry with this sort key.
+fn entry(alloc: Global, key: &[u8]) -> Result<Entry, AllocError> {
+    let mut texts = Sequence::new(alloc);
+    texts.push(Bytes::copied(alloc, key)?)?;
+    Ok(Entry {
+        key: Bytes::new(alloc),
+        kind: Bytes::new(alloc),
+        function: None,
+        fields: Sequence::new(alloc),
+        variables: Variables {
+            numbers: Sequence::new(alloc),
+            texts,
+        },
+    })
+}
+
+#[test]
+fn equal_keys_stay_in_list_order(rt: HostRuntime) -> Result<(), Fail> {
+    let alloc = rt.alloc();
+    let mut entries = Sequence::new(alloc);
+    entries.push(entry(alloc, b"b")?)?;
+    entries.push(entry(alloc, b"A")?)?;
+    entries.push(entry(alloc, b"b")?)?;
+    entries.push(entry(alloc, b"")?)?;
+    let order = sorted_places(alloc, entries.as_slice())?;
+    assert_eq!(rt; order.as_slice(), [3, 1, 0, 2].as_slice());
+    Ok(())
+}
+
+#[test]
+fn messages_stand_with_their_databases(rt: HostRuntime) -> Result<(), Fail> {
+    let alloc = rt.alloc();
+    let mut messages = Sequence::new(alloc);
+    messages.push(Message {
+        rank: Rank::Warning,
+        place: Some(Place {
+            database: 2,
+            line: 7,
+        }),
+        words: Bytes::copied(alloc, b"w")?,
+        second: None,
+    })?;
+    messages.push(Message {
+        rank: Rank::Error,
+        place: None,
+        words: Bytes::copied(alloc, b"e")?,
+        second: Some(Bytes::copied(alloc, b"second")?),
+    })?;
+    messages.push(Message {
+        rank: Rank::Error,
+        place: Some(Place {
+            database: 1,
+            line: 3,
+        }),
+        words: Bytes::copied(alloc, b"f")?,
+        second: Some(Bytes::copied(alloc, b"third")?),
+    })?;
+    let databases = [
+        Bytes::copied(alloc, b"x.bib")?,
+        Bytes::copied(alloc, b"y.bib")?,
+    ];
+    let mut log = Sequence::new(alloc);
+    tell_databases(alloc, &mut log, &databases, messages.as_slice())?;
+    let bytes = log_bytes(alloc, log.as_slice())?;
+    let expected =
+        b"Database file #1: x.bib\nf---line 3 of file x.bib\nthird\nDatabase file #2: y.bib\nw\n--line 7 of file y.bib\ne\nsecond\n(There were 2 error messages)\n";
+    assert_eq!(rt; bytes.as_slice(), expected.as_slice());
+    Ok(())
+}

@@ -1,0 +1,7 @@
+pub mod ReadLemmas
+pub mod WriteLemmas
+pub mod WordLemmas
+pub mod TakenLemmas
+pub mod TurnLemmas
+pub mod WholeLemmas
+pub mod ServedLemmas

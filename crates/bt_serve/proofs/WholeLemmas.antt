@@ -1,0 +1,78 @@
+-- An input is cut into the commands that it is the join of.
+use Rattle.std.proofs.Common.{◌≡◌, inl, inr, ℕ, zero, suc, ◌<◌, ◌≤◌, List, [], ◌∷◌, ◌++◌, length, refl, ap, sym, ◌∙◌, arith, append_assoc, append-nil, length-append, None, Some, true, false, ◌==◌, nat_le}
+use Rattle.std.specs.List.{AllByRecursion, flat_map}
+use Rattle.std.proofs.Math.Seq.{take-append_seam, drop-append_seam}
+use Rattle.std.proofs.lemmas.Bool.Decides.{nat_tests}
+use Rattle.bt_serve.specs.Reads.{HasNoFeed}
+use Rattle.bt_serve.specs.Commands.{Command, request_of, bytes_behind, spelled}
+use Rattle.bt_serve.specs.Serves.{IsCommand, IsCut}
+use Rattle.bt_serve.specs.Whole.{Cut, Line, first_line, text_behind, with_first, command_at, commands_within, commands_of}
+
+pub first_line_feed : (line t : List ℕ) → HasNoFeed line → first_line (line ++ 10 ∷ t) ≡ record { line = line; behind = Some t }
+first_line_feed [] t f = refl
+first_line_feed (b ∷ line) t f =
+    let e : (b == 10) ≡ false = grind (arith, nat_tests, f.0) in
+    rw (e, first_line_feed line t f.1) refl
+
+pub first_line_end : (line : List ℕ) → HasNoFeed line → first_line line ≡ record { line = line; behind = None }
+first_line_end [] f = refl
+first_line_end (b ∷ line) f =
+    let e : (b == 10) ≡ false = grind (arith, nat_tests, f.0) in
+    rw (e, first_line_end line f.1) refl
+
+within_step : (n : ℕ) (s : List ℕ) → 0 < length s → commands_within (suc n) s ≡ command_at (first_line s) s (commands_within n)
+within_step n [] h = absurd (omega arith)
+within_step n (b ∷ t) h = refl
+
+pub command_whole : (l : Line) (text bytes t : List ℕ) (others : List ℕ → Cut) → text_behind l ≡ bytes ++ t → length bytes ≡ bytes_behind (request_of l.line) →
+    command_at l text others ≡ with_first (record { line = l.line; bytes = bytes }) (others t)
+command_whole l text bytes t others e h =
+    let le : nat_le (length bytes) (length (bytes ++ t)) ≡ true = rw length-append (grind (arith, nat_tests)) in
+    rw (e, ← h, le, take-append_seam, drop-append_seam) refl
+
+command_short : (l : Line) (text bytes : List ℕ) (others : List ℕ → Cut) → text_behind l ≡ bytes → length bytes < bytes_behind (request_of l.line) →
+    command_at l text others ≡ record { commands = []; rest = text }
+command_short l text bytes others e h =
+    let lt : nat_le (bytes_behind (request_of l.line)) (length bytes) ≡ false = grind (arith, nat_tests) in
+    rw (e, lt) refl
+
+pub cut_first : (c : Command) (t : List ℕ) (n : ℕ) → IsCommand c → length (spelled c ++ t) ≤ suc n → commands_within (suc n) (spelled c ++ t) ≡ with_first c (commands_within n t)
+cut_first c t n k h =
+    let e = append_assoc c.line (10 ∷ c.bytes) t in
+    let l = ap first_line e ∙ first_line_feed c.line (c.bytes ++ t) k.0 in
+    within_step n (spelled c ++ t) (omega (arith, length-append (spelled c) t, length-append c.line (10 ∷ c.bytes))) ∙
+    ap (λ (x : Line). command_at x (spelled c ++ t) (commands_within n)) l ∙
+    command_whole (record { line = c.line; behind = Some (c.bytes ++ t) }) (spelled c ++ t) c.bytes t (commands_within n) refl k.1
+
+cut_all : (cs : List Command) (rest : List ℕ) (n : ℕ) → AllByRecursion IsCommand cs → length (flat_map spelled cs ++ rest) ≤ n →
+    ((k : ℕ) → length rest ≤ k → commands_within k rest ≡ record { commands = []; rest = rest }) →
+    commands_within n (flat_map spelled cs ++ rest) ≡ record { commands = cs; rest = rest }
+cut_all [] rest n a h base = base n h
+cut_all (c ∷ cs) rest zero a h base = absurd (omega (arith, length-append (spelled c ++ flat_map spelled cs) rest, length-append (spelled c) (flat_map spelled cs), length-append c.line (10 ∷ c.bytes)))
+cut_all (c ∷ cs) rest (suc n) a h base =
+    let e = append_assoc (spelled c) (flat_map spelled cs) rest in
+    let size : length (spelled c ++ (flat_map spelled cs ++ rest)) ≤ suc n = omega (arith, h, ap length e) in
+    let less : length (flat_map spelled cs ++ rest) ≤ n = omega (arith, size, length-append (spelled c) (flat_map spelled cs ++ rest), length-append c.line (10 ∷ c.bytes)) in
+    ap (commands_within (suc n)) e ∙ cut_first c (flat_map spelled cs ++ rest) n a.0 size ∙ ap (with_first c) (cut_all cs rest n a.1 less base)
+
+pub none_left : (k : ℕ) → length {A = ℕ} [] ≤ k → commands_within k [] ≡ record { commands = []; rest = [] }
+none_left zero h = refl
+none_left (suc k) h = refl
+
+short_left : (rest : List ℕ) → IsCut rest → (k : ℕ) → length rest ≤ k → commands_within k rest ≡ record { commands = []; rest = rest }
+short_left [] r k h = none_left k h
+short_left (b ∷ t) r zero h = absurd (omega arith)
+short_left (b ∷ t) (line, bytes, f, inl e, lt) (suc k) h =
+    ap (λ (x : Line). command_at x (b ∷ t) (commands_within k)) (ap first_line e ∙ first_line_feed line bytes f) ∙
+    command_short (record { line = line; behind = Some bytes }) (b ∷ t) bytes (commands_within k) refl lt
+short_left (b ∷ t) (line, bytes, f, inr e, lt) (suc k) h =
+    ap (λ (x : Line). command_at x (b ∷ t) (commands_within k)) (ap first_line e.0 ∙ first_line_end line f) ∙
+    command_short (record { line = line; behind = None }) (b ∷ t) bytes (commands_within k) (sym e.1) lt
+
+pub cut_whole : (cs : List Command) → AllByRecursion IsCommand cs → commands_of (flat_map spelled cs) ≡ record { commands = cs; rest = [] }
+cut_whole cs a =
+    let e = append-nil (flat_map spelled cs) in
+    ap commands_of (sym e) ∙ cut_all cs [] (length (flat_map spelled cs ++ [])) a (omega arith) none_left
+
+pub cut_short : (cs : List Command) (rest : List ℕ) → AllByRecursion IsCommand cs → IsCut rest → commands_of (flat_map spelled cs ++ rest) ≡ record { commands = cs; rest = rest }
+cut_short cs rest a r = cut_all cs rest (length (flat_map spelled cs ++ rest)) a (omega arith) (short_left rest r)

@@ -1,0 +1,60 @@
+-- Writes, one after another.
+use Rattle.std.proofs.Common.{◌≡◌, ℕ, ◌+◌, ◌<◌, List, [], ◌∷◌, ◌++◌, length, take, drop, get_or, add-one, refl, ap, sym, ◌∙◌, append_assoc, append-nil, Option, None, Some, Result, Ok, Err, OnErr}
+use Rattle.std.specs.List.{flat_map}
+use Rattle.std.proofs.lemmas.List.{take-append-drop}
+use Rattle.std.proofs.Math.Seq.{drop-cons}
+use Rattle.std.proofs.lemmas.Grind.{flat_map-append}
+use Rattle.std.specs.Io.KnownBytes.{Appends, Keeps}
+use Rattle.bt_serve.specs.Writes.{AppendsPart}
+
+-- One write after another.
+pub appends_more : (a b c : Option (List ℕ)) (xs ys : List ℕ) → Appends a b xs → Appends b c ys → Appends a c (xs ++ ys)
+appends_more None b c xs ys p q = tt
+appends_more (Some u) None c xs ys p q = absurd p
+appends_more (Some u) (Some v) None xs ys p q = absurd q
+appends_more (Some u) (Some v) (Some w) xs ys p q = q ∙ ap (λ t. t ++ ys) p ∙ append_assoc u xs ys
+
+appends_kept : (a b : Option (List ℕ)) → Keeps a b → Appends a b []
+appends_kept None b p = tt
+appends_kept (Some u) None p = absurd p
+appends_kept (Some u) (Some v) p = p ∙ sym (append-nil u)
+
+-- A write that failed, behind others.
+pub part_behind : (a b c : Option (List ℕ)) (xs ys more whole : List ℕ) → whole ≡ xs ++ (ys ++ more) → Appends a b xs → AppendsPart b c ys → AppendsPart a c whole
+part_behind a b c xs ys more whole e p q =
+    (xs ++ q.0, q.1 ++ more, e ∙ ap (λ t. xs ++ (t ++ more)) q.2 ∙ ap (λ t. xs ++ t) (append_assoc q.0 q.1 more) ∙ sym (append_assoc xs q.0 (q.1 ++ more)), appends_more a b c xs q.0 p q.3)
+
+pub part_kept : (a b c : Option (List ℕ)) (xs more whole : List ℕ) → whole ≡ xs ++ more → Appends a b xs → Keeps b c → AppendsPart a c whole
+part_kept a b c xs more whole e p q = part_behind a b c xs [] more whole e p ([], [], refl, appends_kept b c q)
+
+-- A fact that holds anyway.
+pub on_err_any : {T E P : Type 0} → (r : Result T E) → P → OnErr r P
+on_err_any (Ok x) p = tt
+on_err_any (Err e) p = p
+
+-- The pieces before one, that one, and those behind it.
+pub flat_map_at : {X : Type 0} (f : X → List ℕ) (xs : List X) (i : ℕ) (d : X) → i < length xs →
+    flat_map f xs ≡ flat_map f (take i xs) ++ (f (get_or xs i d) ++ flat_map f (drop (i + 1) xs))
+flat_map_at f xs i d h =
+    let e : drop i xs ≡ get_or xs i d ∷ drop (i + 1) xs = rw add-one (drop-cons xs i d h) in
+    sym (ap (flat_map f) (take-append-drop i xs)) ∙ flat_map-append f (take i xs) (drop i xs) ∙
+    ap (λ t. flat_map f (take i xs) ++ flat_map f t) e
+
+-- What holds of each failure holds of one.
+pub on_err_map : {T E P Q : Type 0} → (r : Result T E) → (P → Q) → OnErr r P → OnErr r Q
+on_err_map (Ok x) f p = tt
+on_err_map (Err e) f p = f p
+
+-- A beginning of the first pieces is one of all.
+pub part_of_front : (a b : Option (List ℕ)) (xs rest whole : List ℕ) → whole ≡ xs ++ rest → AppendsPart a b xs → AppendsPart a b whole
+part_of_front a b xs rest whole e q = (q.0, q.1 ++ rest, e ∙ ap (λ t. t ++ rest) q.2 ∙ append_assoc q.0 q.1 rest, q.3)
+
+-- The first pieces, and then a beginning of the others.
+pub part_of_back : (a b c : Option (List ℕ)) (xs ys whole : List ℕ) → whole ≡ xs ++ ys → Appends a b xs → AppendsPart b c ys → AppendsPart a c whole
+part_of_back a b c xs ys whole e p q = part_behind a b c xs ys [] whole (e ∙ ap (λ t. xs ++ t) (sym (append-nil ys))) p q
+
+-- A write that took nothing.
+pub keeps_none : (a b : Option (List ℕ)) → Appends a b [] → Keeps a b
+keeps_none None b p = tt
+keeps_none (Some u) None p = absurd p
+keeps_none (Some u) (Some v) p = p ∙ append-nil u

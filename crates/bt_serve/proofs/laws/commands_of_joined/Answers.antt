@@ -1,0 +1,8 @@
+use Rattle.bt_serve.proofs.WholeLemmas.{cut_whole, cut_short}
+use Rattle.bt_serve.proofs.laws.commands_of_joined.Goals as goal
+
+pub returns-clause-whole : goal.returns-clause-whole
+returns-clause-whole c = cut_whole
+
+pub returns-clause-cut : goal.returns-clause-cut
+returns-clause-cut c = cut_short

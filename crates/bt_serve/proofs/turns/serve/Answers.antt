@@ -1,0 +1,70 @@
+use Rattle.std.proofs.Common.{◌≡◌, ◌++◌, ◌∷◌, [], refl, sym, append-nil, ◌∙◌}
+use Rattle.std.proofs.Common.{ap, Some}
+use Rattle.bt_serve.specs.declared.fault.ServeFault.TheVariants.{WriteFailed, Truncated}
+use Rattle.bt_serve.proofs.ServedLemmas.{ends_answers_all, ends_answers_before, ends_answers_part}
+use Rattle.bt_serve.proofs.TurnLemmas.{answered_more}
+use Rattle.bt_serve.proofs.turns.serve.Goals as goal
+
+pub turns-init : goal.turns-init
+turns-init g c = record {
+  reads = refl;
+  writes = refl;
+  answered = λ input said known held. ([], [], input, said, known, held, record { each = tt; goes_on = tt; one_each = refl; read = refl; written = sym (append-nil said); edited = refl; wanting = tt });
+}
+
+pub turns-preserved : goal.turns-preserved
+turns-preserved g c =
+    let now = c.in-Ok-false.ensures in
+    let turns = rw c.in-Ok-false.field-0-test at now.turns in
+    record {
+      reads = now.reads ∙ c.turns.invariant.reads;
+      writes = now.writes ∙ c.turns.invariant.writes;
+      answered = λ input said known held.
+          let before = c.turns.invariant.answered input said known held in
+          let turn = turns before.2 before.3 before.4 before.5 in (
+            before.0 ++ turn.4.0 ∷ [],
+            before.1 ++ turn.4.1 ∷ [],
+            turn.0,
+            turn.1,
+            turn.2,
+            turn.3,
+            answered_more input before.2 turn.0 said before.3 turn.1 c.args.session.now c.turns.session c.serve_one.new.session before.0 before.1 before.6 turn.4,
+          );
+    }
+
+pub returns-in-Ok-true-clause-served : goal.returns-in-Ok-true-clause-served
+returns-in-Ok-true-clause-served g c = λ input said known held.
+    let before = c.turns.invariant.answered input said known held in
+    let turns = rw c.in-Ok-true.field-0-test at c.in-Ok-true.ensures.turns in
+    let turn = turns before.2 before.3 before.4 before.5 in
+    (turn.0, turn.1, turn.2, turn.3, (before.0, before.1, before.2, before.3, c.turns.session, before.6, turn.4))
+
+pub returns-in-Err-clause-served : goal.returns-in-Err-clause-served
+returns-in-Err-clause-served g c = λ input said known held.
+    let before = c.turns.invariant.answered input said known held in
+    let turn = c.in-Err.ensures.turns before.2 before.3 before.4 before.5 in
+    (turn.0, turn.1, turn.2, turn.3, (before.0, before.1, before.2, before.3, c.turns.session, before.6, turn.4))
+
+pub returns-in-Ok-true-clause-all : goal.returns-in-Ok-true-clause-all
+returns-in-Ok-true-clause-all g c = λ input said known held.
+    let before = c.turns.invariant.answered input said known held in
+    let turns = rw c.in-Ok-true.field-0-test at c.in-Ok-true.ensures.turns in
+    let turn = turns before.2 before.3 before.4 before.5 in
+    (turn.1, turn.3, ends_answers_all input turn.0 said turn.1 c.args.session.now c.serve_one.new.session (before.0, before.1, before.2, before.3, c.turns.session, before.6, turn.4))
+
+pub returns-in-Err-clause-truncated : goal.returns-in-Err-clause-truncated
+returns-in-Err-clause-truncated g c = λ input said known held is.
+    let before = c.turns.invariant.answered input said known held in
+    let fault : c.in-Err.fault ≡ Truncated = cc in
+    let turns = rw fault at c.in-Err.ensures.turns in
+    let turn = turns before.2 before.3 before.4 before.5 in
+    let all = ends_answers_before input turn.0 said turn.1 c.args.session.now c.serve_one.new.session (before.0, before.1, before.2, before.3, c.turns.session, before.6, turn.4) in
+    (turn.1, turn.2 ∙ ap Some all.1, turn.3, all.0)
+
+pub returns-in-Err-clause-part : goal.returns-in-Err-clause-part
+returns-in-Err-clause-part g c = λ input said known held is.
+    let before = c.turns.invariant.answered input said known held in
+    let fault : c.in-Err.fault ≡ WriteFailed = cc in
+    let turns = rw fault at c.in-Err.ensures.turns in
+    let turn = turns before.2 before.3 before.4 before.5 in
+    (turn.1, turn.3, ends_answers_part input turn.0 said turn.1 c.args.session.now c.serve_one.new.session (before.0, before.1, before.2, before.3, c.turns.session, before.6, turn.4))

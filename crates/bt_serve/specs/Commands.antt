@@ -1,0 +1,204 @@
+-- The commands of an input, and the answers to them.
+use Rattle.std.specs.Prelude.{◌≡◌, ℕ, ◌+◌, ◌*◌, ◌-◌, Bool, true, false, ◌&&◌, ◌==◌, nat_le, nat_lt, bytes_eq, codes, decimal, if◌then◌else◌, ◌++◌, List, [], ◌∷◌, length, fold, Option, Some, None, Result, Ok, Err}
+use Rattle.std.specs.List.{list_all, slice_split}
+use Rattle.bt_run.specs.declared.answers.Report.{Report}
+use Rattle.bibtex.specs.declared.edit.Refusal.{Refusal}
+use Rattle.bibtex.specs.declared.edit.Refusal.TheVariants.{BadName, NoSuchFile, RangeOutside, FileTooLarge, TooManyFiles, OutOfMemory}
+use Rattle.bibtex.specs.Present.{State, shown, reported}
+use Rattle.bibtex.specs.Changes.{Change, write, splice, remove, root_name, min_crossrefs}
+use Rattle.bibtex.specs.Applied.{outcome}
+
+-- what a line asks for
+pub data Request : Type 0 where
+  -- a change, which brings so many bytes
+  edit : Change → ℕ → Request
+  bbl blg status quit unreadable too_long : Request
+
+-- a command as it stands in an input: its line, and the bytes that follow the line
+pub record Command : Type 0 where
+  pub line : List ℕ
+  pub bytes : List ℕ
+
+-- What a line asks for
+
+-- the words of a line, which single spaces part
+abbrev pub words_of : List ℕ → List (List ℕ)
+words_of line = slice_split (λ b. b == 32) line
+
+-- a text's first word, and the text behind the space that follows it
+abbrev pub FirstWord : List ℕ → List ℕ → Option (List ℕ) → Type 0
+FirstWord text word None = words_of text ≡ word ∷ []
+FirstWord text word (Some rest) = words_of text ≡ word ∷ words_of rest
+
+-- 0 to 9
+abbrev pub is_digit : ℕ → Bool
+is_digit b = nat_le 48 b && nat_le b 57
+
+-- a number of 1 to 10 digits
+abbrev pub number_of : List ℕ → Option ℕ
+number_of w =
+    if nat_lt 0 (length w) && (nat_le (length w) 10 && list_all is_digit w) then Some (fold (λ n b. n * 10 + (b - 48)) 0 w) else None
+
+-- what `write` asks for, by its name and its number
+abbrev pub write_of : List ℕ → Option ℕ → Request
+write_of [] n = unreadable
+write_of (b ∷ name) None = unreadable
+write_of (b ∷ name) (Some n) = edit (write (b ∷ name)) n
+
+-- what `splice` asks for, by its name and its numbers
+abbrev pub splice_of : List ℕ → Option ℕ → Option ℕ → Option ℕ → Request
+splice_of [] s e n = unreadable
+splice_of (b ∷ name) None e n = unreadable
+splice_of (b ∷ name) (Some s) None n = unreadable
+splice_of (b ∷ name) (Some s) (Some e) None = unreadable
+splice_of (b ∷ name) (Some s) (Some e) (Some n) = edit (splice (b ∷ name) s e) n
+
+-- what `remove` asks for, by its name
+abbrev pub remove_of : List ℕ → Request
+remove_of [] = unreadable
+remove_of (b ∷ name) = edit (remove (b ∷ name)) 0
+
+-- what `root` asks for, by its name
+abbrev pub root_of : List ℕ → Request
+root_of [] = unreadable
+root_of (b ∷ name) = edit (root_name (b ∷ name)) 0
+
+-- what `min` asks for, by its number, which is below 2^32
+abbrev pub min_of : Option ℕ → Request
+min_of None = unreadable
+min_of (Some n) = if nat_le n 4294967295 then edit (min_crossrefs n) 0 else unreadable
+
+-- what a line of one word asks for
+abbrev pub one_word : List ℕ → Request
+one_word w =
+    if bytes_eq w (codes "bbl") then bbl
+    else if bytes_eq w (codes "blg") then blg
+    else if bytes_eq w (codes "status") then status
+    else if bytes_eq w (codes "quit") then quit
+    else unreadable
+
+-- what a line of two words asks for
+abbrev pub two_words : List ℕ → List ℕ → Request
+two_words w argument =
+    if bytes_eq w (codes "remove") then remove_of argument
+    else if bytes_eq w (codes "root") then root_of argument
+    else if bytes_eq w (codes "min") then min_of (number_of argument)
+    else unreadable
+
+-- what the words of a line ask for
+abbrev pub request_of_words : List (List ℕ) → Request
+request_of_words (w ∷ []) = one_word w
+request_of_words (w ∷ argument ∷ []) = two_words w argument
+request_of_words (w ∷ name ∷ n ∷ []) = if bytes_eq w (codes "write") then write_of name (number_of n) else unreadable
+request_of_words (w ∷ name ∷ s ∷ e ∷ n ∷ []) =
+    if bytes_eq w (codes "splice") then splice_of name (number_of s) (number_of e) (number_of n) else unreadable
+request_of_words _ = unreadable
+
+-- a line of more than 256 bytes asks for nothing
+abbrev pub request_of : List ℕ → Request
+request_of line = if nat_lt 256 (length line) then too_long else request_of_words (words_of line)
+
+-- how many bytes follow a line
+abbrev pub bytes_behind : Request → ℕ
+bytes_behind (edit change n) = n
+bytes_behind _ = 0
+
+-- What is answered
+
+-- the number of a refusal
+abbrev pub code_of : Refusal → ℕ
+code_of BadName = 1
+code_of NoSuchFile = 2
+code_of RangeOutside = 3
+code_of FileTooLarge = 4
+code_of TooManyFiles = 5
+code_of OutOfMemory = 6
+
+-- the answer to an edit that was accepted with this report
+abbrev pub accepted : Report → List ℕ
+accepted r =
+    codes "ok " ++ (decimal r.status ++ (codes " " ++ (decimal r.ran ++ (codes " " ++
+    (decimal r.reused ++ (codes " " ++ (decimal r.ticks ++ codes "\n")))))))
+
+-- the answer to an edit that was refused
+abbrev pub refused : Refusal → List ℕ
+refused refusal = codes "refused " ++ (decimal (code_of refusal) ++ codes "\n")
+
+-- the answer to an edit of this outcome
+abbrev pub edit_answer : Result State Refusal → List ℕ
+edit_answer (Ok state) = accepted (reported state)
+edit_answer (Err refusal) = refused refusal
+
+-- the state behind an edit of this outcome
+abbrev pub state_or : State → Result State Refusal → State
+state_or old (Ok state) = state
+state_or old (Err refusal) = old
+
+-- what becomes of an edit whose outcome is this, where the truth value says whether it wants of memory
+abbrev pub unless_wanting : Bool → Result State Refusal → Result State Refusal
+unless_wanting false made = made
+unless_wanting true (Ok state) = Err OutOfMemory
+unless_wanting true (Err refusal) = Err refusal
+
+-- a line of a word and a number
+abbrev pub number_line : List ℕ → ℕ → List ℕ
+number_line word n = word ++ (decimal n ++ codes "\n")
+
+-- the answer to a request with these bytes
+abbrev pub answer_of : Bool → State → Request → List ℕ → List ℕ
+answer_of wants state (edit change n) bytes = edit_answer (unless_wanting wants (outcome change bytes state))
+answer_of wants state bbl bytes = codes "bbl " ++ (decimal (length (shown state).bbl) ++ (codes "\n" ++ (shown state).bbl))
+answer_of wants state blg bytes = codes "blg " ++ (decimal (length (shown state).blg) ++ (codes "\n" ++ (shown state).blg))
+answer_of wants state status bytes = number_line (codes "status ") (shown state).status
+answer_of wants state quit bytes = codes "bye\n"
+answer_of wants state unreadable bytes = codes "fault 1\n"
+answer_of wants state too_long bytes = codes "fault 2\n"
+
+-- the state after it
+abbrev pub after_of : Bool → State → Request → List ℕ → State
+after_of wants state (edit change n) bytes = state_or state (unless_wanting wants (outcome change bytes state))
+after_of wants state _ bytes = state
+
+-- the answer to a command
+abbrev pub answer : Bool → State → Command → List ℕ
+answer wants state c = answer_of wants state (request_of c.line) c.bytes
+
+-- the state after a command
+abbrev pub after : Bool → State → Command → State
+after wants state c = after_of wants state (request_of c.line) c.bytes
+
+-- The answers to commands, one after another, where a list of truth values says which edits want of memory.
+abbrev pub answers_to : List Bool → List Command → State → List ℕ
+answers_to [] cs state = []
+answers_to (m ∷ ms) [] state = []
+answers_to (m ∷ ms) (c ∷ cs) state = answer m state c ++ answers_to ms cs (after m state c)
+
+-- the state after them
+abbrev pub state_after : List Bool → List Command → State → State
+state_after [] cs state = state
+state_after (m ∷ ms) [] state = state
+state_after (m ∷ ms) (c ∷ cs) state = state_after ms cs (after m state c)
+
+-- a truth value is true only at a request that is answered by the refusal for want of memory
+abbrev pub Wants : Bool → State → Request → List ℕ → Type 0
+Wants wants state request bytes = wants ≡ true → answer_of wants state request bytes ≡ refused OutOfMemory
+
+-- each of the truth values is true only there
+abbrev pub WantsInTurn : List Bool → List Command → State → Type 0
+WantsInTurn [] cs state = Unit {0}
+WantsInTurn (m ∷ ms) [] state = Unit {0}
+WantsInTurn (m ∷ ms) (c ∷ cs) state = Wants m state (request_of c.line) c.bytes × WantsInTurn ms cs (after m state c)
+
+-- a command as it is spelled where a line feed ends its line
+abbrev pub spelled : Command → List ℕ
+spelled c = c.line ++ 10 ∷ c.bytes
+
+-- whether nothing is read behind it
+abbrev pub ends : Request → Bool
+ends quit = true
+ends _ = false
+
+-- any other than an edit
+abbrev pub IsShown : Request → Type 0
+IsShown (edit change n) = ⊥
+IsShown _ = Unit {0}

@@ -1,0 +1,77 @@
+-- The commands of a whole input, and what the loop ends with.
+use Rattle.std.specs.Prelude.{◌≡◌, ℕ, zero, suc, nat_le, ◌==◌, Bool, false, if◌then◌else◌, ◌++◌, List, [], ◌∷◌, length, take, drop, Option, Some, None}
+use Rattle.std.specs.List.{AllByRecursion}
+use Rattle.bt_serve.specs.Serves.{IsCut}
+use Rattle.bibtex.specs.Present.{State}
+use Rattle.bt_serve.specs.Commands.{Command, request_of, bytes_behind, ends, answer, after, answers_to, state_after, Wants, WantsInTurn}
+
+-- an input's commands, and what is left when they are cut off
+pub record Cut : Type 0 where
+  pub commands : List Command
+  pub rest : List ℕ
+
+-- a line, and what stands behind its line feed where it has one
+pub record Line : Type 0 where
+  pub line : List ℕ
+  pub behind : Option (List ℕ)
+
+-- the first line of a text, and what stands behind its line feed where it has one
+abbrev pub first_line : List ℕ → Line
+first_line [] = record { line = []; behind = None }
+first_line (b ∷ t) = if b == 10 then record { line = []; behind = Some t } else record { line = b ∷ (first_line t).line; behind = (first_line t).behind }
+
+-- what follows a line, the last one of an input too
+abbrev pub text_behind : Line → List ℕ
+text_behind l = elim l.behind [ Some t ↦ t | None ↦ [] ]
+
+-- one more command in front
+abbrev pub with_first : Command → Cut → Cut
+with_first c cut = record { commands = c ∷ cut.commands; rest = cut.rest }
+
+-- the command of a line, and then those of what stands behind it; or nothing, where its bytes are cut short
+abbrev pub command_at : Line → List ℕ → (List ℕ → Cut) → Cut
+command_at l text others =
+    let count = bytes_behind (request_of l.line) in
+    let more = text_behind l in
+    if nat_le count (length more) then with_first (record { line = l.line; bytes = take count more }) (others (drop count more))
+    else record { commands = []; rest = text }
+
+-- the commands of an input of at most so many bytes
+abbrev pub commands_within : ℕ → List ℕ → Cut
+commands_within n [] = record { commands = []; rest = [] }
+commands_within zero (b ∷ t) = record { commands = []; rest = b ∷ t }
+commands_within (suc n) (b ∷ t) =
+    command_at (first_line (b ∷ t)) (b ∷ t) (commands_within n)
+
+-- a whole input cut into its commands and a rest, which is less than the bytes that a last line asks for
+abbrev pub commands_of : List ℕ → Cut
+commands_of input = commands_within (length input) input
+
+-- up to the first that ends the loop
+abbrev pub up_to_quit : List Command → List Command
+up_to_quit [] = []
+up_to_quit (c ∷ cs) = if ends (request_of c.line) then c ∷ [] else c ∷ up_to_quit cs
+
+-- All commands of an input up to the one that ends the loop were answered, for some choice of the edits that want of memory refused.
+abbrev pub AnswersAll : List ℕ → List ℕ → List ℕ → State → State → Type 0
+AnswersAll input said said' state state' =
+    (ms : List Bool) × (length ms ≡ length (up_to_quit (commands_of input).commands)) ×
+    (said' ≡ said ++ answers_to ms (up_to_quit (commands_of input).commands) state) × (state' ≡ state_after ms (up_to_quit (commands_of input).commands) state) ×
+    WantsInTurn ms (up_to_quit (commands_of input).commands) state
+
+-- All commands of an input were answered, none ends the loop, and behind them the input is cut short.
+abbrev pub AnswersBefore : List ℕ → List ℕ → List ℕ → State → State → Type 0
+AnswersBefore input said said' state state' =
+    (ms : List Bool) × (length ms ≡ length (commands_of input).commands) ×
+    (said' ≡ said ++ answers_to ms (commands_of input).commands state) × (state' ≡ state_after ms (commands_of input).commands state) ×
+    WantsInTurn ms (commands_of input).commands state ×
+    AllByRecursion (λ c. false ≡ ends (request_of c.line)) (commands_of input).commands × IsCut (commands_of input).rest
+
+-- The commands in front of one were answered, a beginning of its answer was written, and the state are those after it.
+abbrev pub AnswersPart : List ℕ → List ℕ → List ℕ → State → State → Type 0
+AnswersPart input said said' state state' =
+    (front : List Command) × (c : Command) × (others : List Command) × (ms : List Bool) × (m : Bool) ×
+    ((commands_of input).commands ≡ front ++ c ∷ others) × AllByRecursion (λ d. false ≡ ends (request_of d.line)) front × (length ms ≡ length front) ×
+    ((part : List ℕ) × (more : List ℕ) × (answer m (state_after ms front state) c ≡ part ++ more) × (said' ≡ said ++ answers_to ms front state ++ part)) ×
+    (state' ≡ after m (state_after ms front state) c) ×
+    WantsInTurn ms front state × Wants m (state_after ms front state) (request_of c.line) c.bytes

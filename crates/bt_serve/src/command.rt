@@ -1,0 +1,182 @@
+//! What a line of the loop asks for.
+
+ghost use Rattle.std.specs.Prelude.{◌≡◌, ℕ, ◌≤◌, ◌∷◌, [], length, position, ◌==◌, MatchOption, option_copied};
+ghost use Rattle.bt_serve.specs.Commands.{words_of, number_of, request_of_words, one_word, two_words, write_of, splice_of, remove_of, root_of, min_of, FirstWord};
+ghost use Rattle.bt_serve.specs.Asked.{asked};
+
+use bibtex::Change;
+
+/// What a line asks for.
+#[derive(Clone, Copy, Debug)]
+pub enum Request<'a> {
+    /// A change of the session's state, and how many bytes follow the line.
+    Edit(Change<'a>, usize),
+    /// The bibliography.
+    Bbl,
+    /// The log.
+    Blg,
+    /// The status.
+    Status,
+    /// No more commands.
+    Quit,
+    /// Nothing that the loop knows.
+    Unreadable,
+    /// Nothing, since the line has more than 256 bytes.
+    TooLong,
+}
+
+/// What a line of at most 256 bytes asks for.
+#[tactic(auto, using(crate::proofs::WordLemmas::six_words))]
+pub fn parse(line: &[u8]) -> Request<'_>
+    ensures { asked result ≡ request_of_words (words_of line.now) }
+{
+    let (first, rest) = next_word(line);
+    let Some(rest) = rest else {
+        return plain_request(first);
+    };
+    let (name, rest) = next_word(rest);
+    let Some(rest) = rest else {
+        return named_request(first, name);
+    };
+    let (third, rest) = next_word(rest);
+    let Some(rest) = rest else {
+        return if first == b"write".as_slice() {
+            write_request(name, number(third))
+        } else {
+            Request::Unreadable
+        };
+    };
+    let (fourth, rest) = next_word(rest);
+    let Some(rest) = rest else {
+        return Request::Unreadable;
+    };
+    let (fifth, rest) = next_word(rest);
+    match rest {
+        None if first == b"splice".as_slice() => {
+            splice_request(name, number(third), number(fourth), number(fifth))
+        }
+        _ => Request::Unreadable,
+    }
+}
+
+/// What a line of one word asks for.
+fn plain_request<'a>(word: &[u8]) -> Request<'a>
+    ensures { asked result ≡ one_word word.now }
+{
+    if word == b"bbl".as_slice() {
+        Request::Bbl
+    } else if word == b"blg".as_slice() {
+        Request::Blg
+    } else if word == b"status".as_slice() {
+        Request::Status
+    } else if word == b"quit".as_slice() {
+        Request::Quit
+    } else {
+        Request::Unreadable
+    }
+}
+
+/// What a line of two words asks for.
+fn named_request<'a>(word: &[u8], argument: &'a [u8]) -> Request<'a>
+    ensures { asked result ≡ two_words word.now argument.now }
+{
+    if word == b"remove".as_slice() {
+        remove_request(argument)
+    } else if word == b"root".as_slice() {
+        root_request(argument)
+    } else if word == b"min".as_slice() {
+        min_request(number(argument))
+    } else {
+        Request::Unreadable
+    }
+}
+
+fn remove_request(name: &[u8]) -> Request<'_>
+    ensures { asked result ≡ remove_of name.now }
+{
+    if name.is_empty() {
+        Request::Unreadable
+    } else {
+        Request::Edit(Change::Remove(name), 0)
+    }
+}
+
+fn root_request(name: &[u8]) -> Request<'_>
+    ensures { asked result ≡ root_of name.now }
+{
+    if name.is_empty() {
+        Request::Unreadable
+    } else {
+        Request::Edit(Change::Root(name), 0)
+    }
+}
+
+fn min_request<'a>(min: Option<usize>) -> Request<'a>
+    ensures { asked result ≡ min_of min }
+{
+    match min {
+        Some(min) if min <= 4_294_967_295 => Request::Edit(Change::MinCrossrefs(min as u32), 0),
+        _ => Request::Unreadable,
+    }
+}
+
+fn write_request(name: &[u8], count: Option<usize>) -> Request<'_>
+    ensures { asked result ≡ write_of name.now count }
+{
+    match count {
+        Some(count) if !name.is_empty() => Request::Edit(Change::Write(name), count),
+        _ => Request::Unreadable,
+    }
+}
+
+fn splice_request(
+    name: &[u8],
+    start: Option<usize>,
+    end: Option<usize>,
+    count: Option<usize>,
+) -> Request<'_>
+    ensures { asked result ≡ splice_of name.now start end count }
+{
+    if name.is_empty() {
+        return Request::Unreadable;
+    }
+    match (start, end, count) {
+        (Some(start), Some(end), Some(count)) => {
+            Request::Edit(Change::Splice(name, start, end), count)
+        }
+        _ => Request::Unreadable,
+    }
+}
+
+/// The first word, and what follows the space behind it.
+fn next_word(text: &[u8]) -> (&[u8], Option<&[u8]>)
+    ensures { FirstWord text.now result.0.now (option_copied result.1) }
+{
+    match first_space(text) {
+        Some(i) => (&text[..i], Some(&text[i + 1..])),
+        None => (text, None),
+    }
+}
+
+fn first_space(text: &[u8]) -> Option<usize>
+    ensures { result ≡ position (λ b. b == 32) text.now }
+{
+    text.iter().position(|b| *b == b' ')
+}
+
+/// A number of 1 to 10 digits.
+fn number(word: &[u8]) -> Option<usize>
+    ensures { result ≡ number_of word.now }
+{
+    if word.is_empty() || word.len() > 10 {
+        return None;
+    }
+    let mut value = 0;
+    'digits: for byte in word {
+        if !byte.is_ascii_digit() {
+            return None;
+        }
+        value = value * 10 + (*byte - b'0') as usize;
+    }
+    Some(value)
+}

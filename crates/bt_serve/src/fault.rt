@@ -1,0 +1,33 @@
+//! Why the loop ends before its input does.
+
+ghost use Rattle.std.specs.Prelude.{◌≡◌};
+ghost use Rattle.bt_serve.specs.Faults.{number_of_fault};
+
+use thiserror::Error;
+
+/// Why the loop ended before its input did.
+#[derive(Clone, Copy, Debug, PartialEq, Eq, Error)]
+pub enum ServeFault {
+    /// A read failed. What was read whole is carried out and answered.
+    #[error("ReadFailed")]
+    ReadFailed,
+    /// A write failed. The command whose answer it was is carried out.
+    #[error("WriteFailed")]
+    WriteFailed,
+    /// The input ended inside the bytes of a command, which isn't carried out.
+    #[error("Truncated")]
+    Truncated,
+}
+
+impl ServeFault {
+    /// 1 for a read that failed, 2 for a write that failed, 3 for an input that was cut short.
+    pub fn number(self) -> u8
+        ensures { result ≡ number_of_fault self }
+    {
+        match self {
+            ServeFault::ReadFailed => 1,
+            ServeFault::WriteFailed => 2,
+            ServeFault::Truncated => 3,
+        }
+    }
+}

@@ -1,0 +1,111 @@
+//! Reads lines and counted bytes from a source.
+
+ghost use Rattle.std.specs.Prelude.{◌≡◌, ℕ, List, ◌+◌, ◌-◌, ◌^◌, ◌<◌, ◌≤◌, ◌++◌, length, take, [], ◌∷◌, IfOk, IfErr, OnOk, OnErr, MatchResult};
+ghost use Rattle.std.specs.Io.KnownBytes.{Consumes, Keeps};
+ghost use Rattle.bt_serve.specs.Reads.{ReadsByte, ReadsLine, ReadsPart, SkipsLine, ReadsAll, ReadsBelow, DropsAll, HasNoFeed};
+
+use crate::streams::{Failed, Source};
+
+/// What a line is followed by.
+#[derive(Clone, Copy)]
+pub enum LineEnd {
+    /// A line of so many bytes, and a line feed.
+    Feed(usize),
+    /// A line of so many bytes, and the end of the input.
+    End(usize),
+    /// More bytes than fit.
+    None,
+}
+
+/// The next byte; nothing at the end.
+fn read_byte<S: Source>(source: &mut S) -> Result<Option<u8>, Failed>
+    requires { S.failure_count source.old < 2 ^ 64 - 1 }
+    ensures bytes { MatchResult result (ReadsByte (S.remaining source.old) (S.remaining source.new))
+        (λ _. Keeps (S.remaining source.old) (S.remaining source.new)) }
+    ensures lowers { OnOk result (S.reads_left source.new < S.reads_left source.old) }
+    ensures reads { S.reads_left source.new ≤ S.reads_left source.old }
+    ensures ok { OnOk result (S.failure_count source.new ≡ S.failure_count source.old) }
+    ensures err { OnErr result (S.failure_count source.new ≡ S.failure_count source.old + 1) }
+{
+    let mut byte = [0; 1];
+    match source.read(&mut byte)? {
+        0 => Ok(None),
+        _ => Ok(Some(byte[0])),
+    }
+}
+
+/// Reads a line into the buffer. Its line feed is read and isn't stored.
+pub fn read_line<S: Source>(source: &mut S, buffer: &mut [u8]) -> Result<LineEnd, Failed>
+    requires { S.failure_count source.old < 2 ^ 64 - 1 }
+    ensures line { IfOk result (ReadsLine (S.remaining source.old) (S.remaining source.new) buffer.new) }
+    ensures part { OnErr result (ReadsPart (S.remaining source.old) (S.remaining source.new)) }
+    ensures lowers { OnOk result (0 < length buffer.old → S.reads_left source.new < S.reads_left source.old) }
+    ensures ok { OnOk result (S.failure_count source.new ≡ S.failure_count source.old) }
+    ensures err { OnErr result (S.failure_count source.new ≡ S.failure_count source.old + 1) }
+{
+    'line: for i in 0..buffer.len() {
+        match read_byte(source)? {
+            None => return Ok(LineEnd::End(i)),
+            Some(b'\n') => return Ok(LineEnd::Feed(i)),
+            Some(byte) => buffer[i] = byte,
+        }
+    }
+    Ok(LineEnd::None)
+}
+
+/// Reads on to the end of the line, and says whether it has a line feed.
+pub fn skip_line<S: Source>(source: &mut S) -> Result<bool, Failed>
+    requires { S.failure_count source.old < 2 ^ 64 - 1 }
+    ensures line { IfOk result (SkipsLine (S.remaining source.old) (S.remaining source.new)) }
+    ensures part { OnErr result (ReadsPart (S.remaining source.old) (S.remaining source.new)) }
+    ensures lowers { S.reads_left source.new ≤ S.reads_left source.old }
+    ensures ok { OnOk result (S.failure_count source.new ≡ S.failure_count source.old) }
+    ensures err { OnErr result (S.failure_count source.new ≡ S.failure_count source.old + 1) }
+{
+    'rest: while let Some(byte) = read_byte(source)? {
+        if byte == b'\n' {
+            return Ok(true);
+        }
+    }
+    Ok(false)
+}
+
+/// Fills the buffer, and says whether the input was long enough.
+pub fn read_bytes<S: Source>(source: &mut S, buffer: &mut [u8]) -> Result<bool, Failed>
+    requires { S.failure_count source.old < 2 ^ 64 - 1 }
+    ensures all { IfOk result (ReadsAll (S.remaining source.old) (S.remaining source.new) buffer.new) }
+    ensures part { OnErr result (ReadsBelow (S.remaining source.old) (S.remaining source.new) (length buffer.old)) }
+    ensures lowers { S.reads_left source.new ≤ S.reads_left source.old }
+    ensures ok { OnOk result (S.failure_count source.new ≡ S.failure_count source.old) }
+    ensures err { OnErr result (S.failure_count source.new ≡ S.failure_count source.old + 1) }
+{
+    let mut filled = 0;
+    'pieces: while filled < buffer.len() {
+        match source.read(&mut buffer[filled..])? {
+            0 => return Ok(false),
+            count => filled += count,
+        }
+    }
+    Ok(true)
+}
+
+/// Reads so many bytes and drops them, and says whether the input was long enough.
+pub fn drop_bytes<S: Source>(source: &mut S, count: usize) -> Result<bool, Failed>
+    requires { S.failure_count source.old < 2 ^ 64 - 1 }
+    ensures all { IfOk result (DropsAll (S.remaining source.old) (S.remaining source.new) count) }
+    ensures part { OnErr result (ReadsBelow (S.remaining source.old) (S.remaining source.new) count) }
+    ensures lowers { S.reads_left source.new ≤ S.reads_left source.old }
+    ensures ok { OnOk result (S.failure_count source.new ≡ S.failure_count source.old) }
+    ensures err { OnErr result (S.failure_count source.new ≡ S.failure_count source.old + 1) }
+{
+    let mut buffer = [0; 1024];
+    let mut wanted = count;
+    'pieces: while wanted > 0 {
+        let part = wanted.min(1024);
+        match source.read(&mut buffer[..part])? {
+            0 => return Ok(false),
+            count => wanted -= count,
+        }
+    }
+    Ok(true)
+}

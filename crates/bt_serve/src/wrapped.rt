@@ -1,0 +1,110 @@
+//! Readers and writers of the standard library as sources and sinks.
+
+ghost use Rattle.std.specs.Prelude.{◌≡◌, length};
+
+use crate::streams::{Failed, Sink, Source};
+use std::io::{Read, Write};
+
+/// A reader as a source, which can be read 2^64 - 1 times. A read that is interrupted is a failure.
+#[derive(Drop)]
+pub struct ReaderSource<R: Drop> {
+    reader: R,
+    failures: u64,
+    left: u64,
+}
+
+impl<R: Read + Drop> ReaderSource<R> {
+    /// A source that gives what the reader gives.
+    pub fn new(reader: R) -> Self
+        ensures reader { result.reader ≡ reader }
+        ensures failures { result.failures ≡ 0 }
+    {
+        ReaderSource {
+            reader,
+            failures: 0,
+            left: u64::MAX,
+        }
+    }
+}
+
+impl<R: Read + Drop> Source for ReaderSource<R> {
+    ghost remaining = { λ s. R.remaining s.reader };
+
+    ghost failure_count = { λ s. s.failures };
+
+    ghost reads_left = { λ s. s.left };
+
+    fn read(&mut self, buffer: &mut [u8]) -> Result<usize, Failed> {
+        if self.left == 0 {
+            self.failures += 1;
+            return Err(Failed);
+        }
+        self.left -= 1;
+        match self.reader.read(buffer) {
+            Ok(count) => Ok(count),
+            Err(_) => {
+                self.failures += 1;
+                Err(Failed)
+            }
+        }
+    }
+
+    fn failures(&self) -> u64 {
+        self.failures
+    }
+
+    fn left(&self) -> u64 {
+        self.left
+    }
+}
+
+/// A writer as a sink. A write that is interrupted is a failure.
+#[derive(Drop)]
+pub struct WriterSink<W: Drop> {
+    writer: W,
+    failures: u64,
+}
+
+impl<W: Write + Drop> WriterSink<W> {
+    /// A sink that hands what it gets to the writer.
+    pub fn new(writer: W) -> Self
+        ensures writer { result.writer ≡ writer }
+        ensures failures { result.failures ≡ 0 }
+    {
+        WriterSink {
+            writer,
+            failures: 0,
+        }
+    }
+}
+
+impl<W: Write + Drop> Sink for WriterSink<W> {
+    ghost contents = { λ s. W.contents s.writer };
+
+    ghost failure_count = { λ s. s.failures };
+
+    #[tactic(auto, using(crate::proofs::WriteLemmas::keeps_none))]
+    fn write(&mut self, bytes: &[u8]) -> Result<usize, Failed> {
+        match self.writer.write(bytes) {
+            Ok(0) | Err(_) => {
+                self.failures += 1;
+                Err(Failed)
+            }
+            Ok(count) => Ok(count),
+        }
+    }
+
+    fn flush(&mut self) -> Result<(), Failed> {
+        match self.writer.flush() {
+            Ok(()) => Ok(()),
+            Err(_) => {
+                self.failures += 1;
+                Err(Failed)
+            }
+        }
+    }
+
+    fn failures(&self) -> u64 {
+        self.failures
+    }
+}

@@ -1,0 +1,80 @@
+//! Writes answers to a sink.
+
+ghost use Rattle.std.specs.Prelude.{◌≡◌, ℕ, ◌+◌, ◌-◌, ◌^◌, ◌<◌, ◌++◌, OnOk, OnErr};
+ghost use Rattle.std.specs.List.{flat_map};
+ghost use Rattle.std.specs.Io.KnownBytes.{Appends};
+ghost use Rattle.bt_serve.specs.Writes.{AppendsPart};
+
+use crate::streams::{Failed, Sink};
+
+/// Writes all the bytes, and hands nothing on.
+pub fn write_all<K: Sink>(sink: &mut K, bytes: &[u8]) -> Result<(), Failed>
+    requires { K.failure_count sink.old < 2 ^ 64 - 1 }
+    ensures all { OnOk result (Appends (K.contents sink.old) (K.contents sink.new) bytes.now) }
+    ensures part { OnErr result (AppendsPart (K.contents sink.old) (K.contents sink.new) bytes.now) }
+    ensures ok { OnOk result (K.failure_count sink.new ≡ K.failure_count sink.old) }
+    ensures err { OnErr result (K.failure_count sink.new ≡ K.failure_count sink.old + 1) }
+{
+    let mut written = 0;
+    'writes: while written < bytes.len() {
+        written += sink.write(&bytes[written..])?;
+    }
+    Ok(())
+}
+
+/// Writes pieces one after another.
+fn write_pieces<K: Sink>(sink: &mut K, pieces: &[&[u8]]) -> Result<(), Failed>
+    requires { K.failure_count sink.old < 2 ^ 64 - 1 }
+    ensures all { OnOk result (Appends (K.contents sink.old) (K.contents sink.new)
+        (flat_map (λ piece. piece.now) pieces.now)) }
+    ensures part { OnErr result (AppendsPart (K.contents sink.old) (K.contents sink.new)
+        (flat_map (λ piece. piece.now) pieces.now)) }
+    ensures ok { OnOk result (K.failure_count sink.new ≡ K.failure_count sink.old) }
+    ensures err { OnErr result (K.failure_count sink.new ≡ K.failure_count sink.old + 1) }
+{
+    'each: for piece in pieces {
+        write_all(sink, piece)?;
+    }
+    Ok(())
+}
+
+/// Writes five pieces of an answer.
+pub fn write_five<'a, K: Sink>(
+    sink: &mut K,
+    first: &'a [u8],
+    second: &'a [u8],
+    third: &'a [u8],
+    fourth: &'a [u8],
+    fifth: &'a [u8],
+) -> Result<(), Failed>
+    requires { K.failure_count sink.old < 2 ^ 64 - 1 }
+    ensures all { OnOk result (Appends (K.contents sink.old) (K.contents sink.new)
+        (first.now ++ (second.now ++ (third.now ++ (fourth.now ++ fifth.now))))) }
+    ensures part { OnErr result (AppendsPart (K.contents sink.old) (K.contents sink.new)
+        (first.now ++ (second.now ++ (third.now ++ (fourth.now ++ fifth.now))))) }
+    ensures ok { OnOk result (K.failure_count sink.new ≡ K.failure_count sink.old) }
+    ensures err { OnErr result (K.failure_count sink.new ≡ K.failure_count sink.old + 1) }
+{
+    write_pieces(sink, &[first, second, third, fourth, fifth])
+}
+
+/// Writes the five last pieces of an answer, and hands the answer on.
+pub fn say<'a, K: Sink>(
+    sink: &mut K,
+    first: &'a [u8],
+    second: &'a [u8],
+    third: &'a [u8],
+    fourth: &'a [u8],
+    fifth: &'a [u8],
+) -> Result<(), Failed>
+    requires { K.failure_count sink.old < 2 ^ 64 - 1 }
+    ensures all { OnOk result (Appends (K.contents sink.old) (K.contents sink.new)
+        (first.now ++ (second.now ++ (third.now ++ (fourth.now ++ fifth.now))))) }
+    ensures part { OnErr result (AppendsPart (K.contents sink.old) (K.contents sink.new)
+        (first.now ++ (second.now ++ (third.now ++ (fourth.now ++ fifth.now))))) }
+    ensures ok { OnOk result (K.failure_count sink.new ≡ K.failure_count sink.old) }
+    ensures err { OnErr result (K.failure_count sink.new ≡ K.failure_count sink.old + 1) }
+{
+    write_five(sink, first, second, third, fourth, fifth)?;
+    sink.flush()
+}
