@@ -72,12 +72,7 @@ fn push_op(alloc: Global, out: &mut Bytes, style: &Style, op: &Op) -> Result<(),
     }
 }
 
-fn push_body(
-    alloc: Global,
-    out: &mut Bytes,
-    style: &Style,
-    body: &[Op],
-) -> Result<(), AllocError> {
+fn push_body(alloc: Global, out: &mut Bytes, style: &Style, body: &[Op]) -> Result<(), AllocError> {
     out.append(b"{")?;
     for (place, op) in body.iter().enumerate() {
         if 0 < place {
