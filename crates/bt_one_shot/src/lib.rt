@@ -10,6 +10,3 @@ mod words;
 pub use folder::{Folder, Found};
 pub use job::one_shot;
 pub use options::{Options, OptionsFault, parse_options};
-
-#[cfg(test)]
-mod option_tests;
