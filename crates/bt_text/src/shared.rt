@@ -1,0 +1,63 @@
+//! Values with several owners, seen in contracts as the values themselves.
+
+ghost use Rattle.std.specs.Prelude.{◌≡◌, IfOk};
+
+use crate::bytes::Bytes;
+use std::alloc::{AllocError, Global};
+use std::marker::Model;
+use std::ops::Deref;
+use std::rc::Rc;
+
+/// A value with several owners. Contracts see the value, and not how many own it.
+#[derive(Debug, Drop)]
+pub struct Shared<T> {
+    value: Rc<T>,
+}
+
+impl<T> Model for Shared<T> {
+    ghost Value = { T };
+
+    ghost view = { λ s. s.value.value };
+}
+
+impl<T: Drop> Shared<T> {
+    /// The value, with one owner. The one error is want of memory.
+    pub fn new(alloc: Global, value: T) -> Result<Self, AllocError>
+        ensures { IfOk result (λ shared. shared ≡ value) }
+    {
+        Ok(Shared {
+            value: Rc::new(alloc, value)?,
+        })
+    }
+
+    /// The same value for one more owner; it is not copied. The one error is that it has no room for another owner.
+    pub fn share(&self) -> Result<Self, AllocError>
+        ensures { IfOk result (λ shared. shared ≡ self.now) }
+    {
+        Ok(Shared {
+            value: Rc::clone(&self.value)?,
+        })
+    }
+}
+
+impl<T> Deref for Shared<T> {
+    type Target = T;
+
+    ghost deref_gives = { λ shared value. value ≡ shared };
+
+    /// The value.
+    fn deref(&self) -> &T
+        ensures { result.now ≡ self.now }
+    {
+        &self.value
+    }
+}
+
+impl Shared<Bytes> {
+    /// A copy of these bytes, with one owner. The one error is want of memory.
+    pub fn copied(alloc: Global, bytes: &[u8]) -> Result<Self, AllocError>
+        ensures { IfOk result (λ text. text ≡ bytes.now) }
+    {
+        Shared::new(alloc, Bytes::copied(alloc, bytes)?)
+    }
+}
