@@ -3,8 +3,8 @@
 ghost use Rattle.std.specs.Prelude.{◌≡◌, ◌<◌, ◌≤◌, ◌++◌, take, length, IfOk, IfSome};
 ghost use Rattle.bibtex.specs.Present.{place_of, with_text, without, replaced};
 
-use bt_job::{File, SharedText};
-use bt_text::{Bytes, Sequence};
+use bt_job::File;
+use bt_text::{Bytes, Sequence, Shared};
 use std::alloc::{AllocError, Global};
 
 /// Which of some files has a name.
@@ -42,13 +42,13 @@ pub fn with_text(
     alloc: Global,
     files: &[File],
     name: &[u8],
-    text: &[u8],
+    text: Shared<Bytes>,
 ) -> Result<Sequence<File>, AllocError>
-    ensures { IfOk result (λ changed. changed ≡ with_text name.now text.now files.now) }
+    ensures { IfOk result (λ changed. changed ≡ with_text name.now text files.now) }
 {
     let file = File {
-        name: SharedText::copied(alloc, name)?,
-        text: SharedText::copied(alloc, text)?,
+        name: Shared::<Bytes>::copied(alloc, name)?,
+        text,
     };
     let mut changed = all_shared(alloc, files)?;
     match place_of(files, name) {
@@ -83,8 +83,10 @@ pub fn replaced(
     requires within { end ≤ length text.now }
     ensures { IfOk result (λ changed. changed ≡ replaced start end bytes.now text.now) }
 {
-    let mut changed = Bytes::copied(alloc, &text[..start])?;
-    changed.append(bytes)?;
-    changed.append(&text[end..])?;
-    Ok(changed)
+    let kept = start + (text.len() - end);
+    let mut changed = Vec::with_capacity(alloc, kept + bytes.len())?;
+    changed.extend_from_slice(&text[..start])?;
+    changed.extend_from_slice(bytes)?;
+    changed.extend_from_slice(&text[end..])?;
+    Ok(Bytes::from_vec(changed))
 }

@@ -14,3 +14,6 @@ pub use edit::{Change, Edit, Refusal};
 pub use edits::edit_all;
 pub use refusal::is_root_name;
 pub use session::Session;
+
+#[cfg(test)]
+mod tests;

@@ -8,7 +8,7 @@ use crate::edit::{Change, Edit, Refusal};
 use crate::refusal::{is_root_name, remove_refusal, root_refusal, splice_refusal, write_refusal};
 use bt_job::{File, text_of};
 use bt_run::{Answers, Report, answers_for};
-use bt_text::{Bytes, Sequence};
+use bt_text::{Bytes, Sequence, Shared};
 use std::alloc::Global;
 use std::marker::Model;
 
@@ -140,6 +140,7 @@ impl Session {
         if let Some(refusal) = self.refusal(Change::Write(name), text.len()) {
             return Err(refusal);
         }
+        let text = Shared::<Bytes>::copied(self.alloc, text)?;
         let files = with_text(self.alloc, self.files.as_slice(), name, text)?;
         self.put_files(files)
     }
@@ -161,8 +162,8 @@ impl Session {
             return Err(refusal);
         }
         let text = text_of(self.files.as_slice(), name).unwrap_or(b"");
-        let text = replaced(self.alloc, text, start, end, bytes)?;
-        let files = with_text(self.alloc, self.files.as_slice(), name, text.as_slice())?;
+        let text = Shared::new(self.alloc, replaced(self.alloc, text, start, end, bytes)?)?;
+        let files = with_text(self.alloc, self.files.as_slice(), name, text)?;
         self.put_files(files)
     }
 

@@ -27,6 +27,8 @@ impl<'a, R: Files> Disk<'a, R> {
 }
 
 impl<R: Files> Folder for Disk<'_, R> {
+    ghost held = { λ _. None };
+
     ghost written = { λ _. None };
 
     fn read(&mut self, name: &[u8]) -> Found {

@@ -15,19 +15,24 @@ use std::io::{BufReader, BufWriter};
 use std::process::ExitCode;
 use std::{env, io};
 
-/// Prints the help that was asked for, or tells why the command line asks for nothing that can be done.
-fn refuse(rt: &(impl Print + Eprint), fault: OptionsFault) -> Result<ExitCode> {
-    let OptionsFault::Parser(fault) = fault else {
-        eprintln!(rt; "bibtex: {fault}")?;
-        return Ok(ExitCode::FAILURE);
-    };
-    fault.print(rt)?;
-    Ok(ExitCode::from(if fault.exit_code() == 0 { 0 } else { 1 }))
-}
-
 fn out_of_memory(rt: &impl Eprint) -> Result<ExitCode> {
     eprintln!(rt; "bibtex: out of memory")?;
     Ok(ExitCode::FAILURE)
+}
+
+/// Prints the help that was asked for, or tells why the command line asks for nothing that can be done.
+fn refuse(rt: &(impl Print + Eprint), fault: OptionsFault) -> Result<ExitCode> {
+    match fault {
+        OptionsFault::Parser(fault) => {
+            fault.print(rt)?;
+            Ok(ExitCode::from(if fault.exit_code() == 0 { 0 } else { 1 }))
+        }
+        OptionsFault::BadJobName => {
+            eprintln!(rt; "bibtex: bad job name")?;
+            Ok(ExitCode::FAILURE)
+        }
+        OptionsFault::OutOfMemory => out_of_memory(rt),
+    }
 }
 
 /// Answers the commands of standard input on standard output.

@@ -1,3 +1,11 @@
-mod ActionRows
+mod RowWorlds
+mod NumberRows
+mod ComparingRows
+mod TextRows
+mod AssigningRows
+mod ReadingRows
+mod StackingRows
+mod WritingRows
+mod LoggingRows
 pub mod LoggingLemmas
 pub mod NameLemmas

@@ -28,7 +28,7 @@ pub fn call_basic(
         Builtin::Plus => numbers::plus(state),
         Builtin::Minus => numbers::minus(state),
         Builtin::Join => texts::join(state, alloc),
-        Builtin::Assign => assigning::assign(state),
+        Builtin::Assign => assigning::assign(state, alloc),
         Builtin::AddPeriod => texts::end_with_period(state, alloc),
         Builtin::ChangeCase => texts::convert_case(state, alloc),
         Builtin::ChrToInt => numbers::chr_to_int(state, alloc),

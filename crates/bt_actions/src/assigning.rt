@@ -15,8 +15,8 @@ use crate::entry::Variables;
 use crate::state::{Flow, State};
 use crate::value::Value;
 use bt_style::{Builtin, Target};
-use bt_text::Bytes;
-use std::alloc::AllocError;
+use bt_text::{Bytes, Shared};
+use std::alloc::{AllocError, Global};
 
 /// Gives the number variable at a place a value, if there is one.
 fn put_number(variables: &mut Variables, n: usize, number: i32)
@@ -28,7 +28,7 @@ fn put_number(variables: &mut Variables, n: usize, number: i32)
 }
 
 /// Gives the text variable at a place a value, if there is one.
-fn put_text(variables: &mut Variables, n: usize, text: Bytes)
+fn put_text(variables: &mut Variables, n: usize, text: Shared<Bytes>)
     ensures { variables.new ≡ record variables.old { texts = slice_set variables.old.texts n text } }
 {
     if n < variables.texts.len() {
@@ -61,14 +61,20 @@ fn assign_global_number(state: &mut State, n: usize, value: Value) -> Result<(),
 }
 
 /// Gives a text variable of the style a value.
-fn assign_global_text(state: &mut State, n: usize, value: Value) -> Result<(), AllocError>
+fn assign_global_text(
+    state: &mut State,
+    alloc: Global,
+    n: usize,
+    value: Value,
+) -> Result<(), AllocError>
     ensures world { OnOk result (world_of state.new
         ≡ assigned (item_of value.entry, target.GlobalText n) (world_of state.old)) }
     ensures tally { state.new.tally ≡ state.old.tally }
 {
     match value {
         Value::Text(text) => {
-            put_text(&mut state.globals, n, text.into_bytes());
+            let text = Shared::new(alloc, text.into_bytes())?;
+            put_text(&mut state.globals, n, text);
             Ok(())
         }
         _ => tell_wrong_kind(state),
@@ -94,7 +100,12 @@ fn assign_entry_number(state: &mut State, n: usize, value: Value) -> Result<(), 
 }
 
 /// Gives a text variable of the step's entry a value.
-fn assign_entry_text(state: &mut State, n: usize, value: Value) -> Result<(), AllocError>
+fn assign_entry_text(
+    state: &mut State,
+    alloc: Global,
+    n: usize,
+    value: Value,
+) -> Result<(), AllocError>
     ensures world { OnOk result (world_of state.new
         ≡ assigned (item_of value.entry, target.EntryText n) (world_of state.old)) }
     ensures tally { state.new.tally ≡ state.old.tally }
@@ -103,7 +114,8 @@ fn assign_entry_text(state: &mut State, n: usize, value: Value) -> Result<(), Al
         None => state.tell(Complaint::NoEntry),
         Some(current) => match value {
             Value::Text(text) => {
-                put_text(&mut current.variables, n, text.into_bytes());
+                let text = Shared::new(alloc, text.into_bytes())?;
+                put_text(&mut current.variables, n, text);
                 Ok(())
             }
             _ => tell_wrong_kind(state),
@@ -112,15 +124,20 @@ fn assign_entry_text(state: &mut State, n: usize, value: Value) -> Result<(), Al
 }
 
 /// Gives what a name stands for a value.
-fn assign_to(state: &mut State, target: Target, value: Value) -> Result<(), AllocError>
+fn assign_to(
+    state: &mut State,
+    alloc: Global,
+    target: Target,
+    value: Value,
+) -> Result<(), AllocError>
     ensures world { OnOk result (world_of state.new ≡ assigned (item_of value.entry, target) (world_of state.old)) }
     ensures tally { state.new.tally ≡ state.old.tally }
 {
     match target {
         Target::EntryNumber(n) => assign_entry_number(state, n, value),
-        Target::EntryText(n) => assign_entry_text(state, n, value),
+        Target::EntryText(n) => assign_entry_text(state, alloc, n, value),
         Target::GlobalNumber(n) => assign_global_number(state, n, value),
-        Target::GlobalText(n) => assign_global_text(state, n, value),
+        Target::GlobalText(n) => assign_global_text(state, alloc, n, value),
         Target::Builtin(_) | Target::Field(_) | Target::Function(_) => {
             state.tell(Complaint::NotVariable)
         }
@@ -128,13 +145,13 @@ fn assign_to(state: &mut State, target: Target, value: Value) -> Result<(), Allo
 }
 
 /// `:=`.
-pub fn assign(state: &mut State) -> Result<Flow, AllocError>
+pub fn assign(state: &mut State, alloc: Global) -> Result<Flow, AllocError>
     ensures world { IfOk result (Acts (λ world.
         goes_with assigned (taken_two builtin.Assign any_of target_of world)) state.old state.new) }
     ensures tally { state.new.tally ≡ state.old.tally }
 {
     if let Some((value, target)) = take_assignment(state, Builtin::Assign)? {
-        assign_to(state, target, value)?;
+        assign_to(state, alloc, target, value)?;
     }
     Ok(Flow::Go)
 }

@@ -1,9 +1,9 @@
 //! The limits of the stack, of texts and of the held line.
 
-use crate::test_states::{stack, state, style};
-use crate::{Flow, Value, call_basic};
+use crate::test_states::{call, state};
+use crate::{Flow, Message, State, Value};
 use bt_style::Builtin;
-use bt_text::Bytes;
+use bt_text::{Bytes, Sequence};
 use std::alloc::{AllocError, Global};
 use std::test::Fail;
 
@@ -16,10 +16,19 @@ fn zeros<'a>(alloc: Global, count: usize) -> Result<Vec<Value<'a>>, AllocError> 
     Ok(values)
 }
 
+/// The messages of a call on a full stack, and whether the run stops.
+fn called_on_full_stack(
+    alloc: Global,
+    builtin: Builtin,
+) -> Result<(Flow, Sequence<Message>), AllocError> {
+    let mut state = state(alloc, None, zeros(alloc, 1000)?)?;
+    let flow = call(&mut state, alloc, builtin)?;
+    Ok((flow, state.messages(alloc)?))
+}
+
 #[test]
 fn a_full_stack_takes_no_value(rt: HostRuntime) -> Result<(), Fail> {
     let alloc = rt.alloc();
-    let style = style(alloc)?;
     for builtin in [
         Builtin::Cite,
         Builtin::Type,
@@ -27,10 +36,8 @@ fn a_full_stack_takes_no_value(rt: HostRuntime) -> Result<(), Fail> {
         Builtin::Preamble,
         Builtin::Quote,
     ] {
-        let mut state = state(alloc, None, zeros(alloc, 1000)?)?;
-        let flow = call_basic(&mut state, alloc, &style, builtin)?;
+        let (flow, messages) = called_on_full_stack(alloc, builtin)?;
         assert!(rt; flow == Flow::Stop);
-        let messages = state.messages(alloc)?;
         assert_eq!(rt; messages.len(), 1);
         for message in messages.as_slice() {
             assert_eq!(rt;
@@ -51,36 +58,71 @@ fn letters(alloc: Global, count: usize) -> Result<Bytes, AllocError> {
     Ok(Bytes::from_vec(letters))
 }
 
+/// A call over two texts of so many letters.
+fn call_over_texts(
+    state: &mut State,
+    alloc: Global,
+    builtin: Builtin,
+    lower: usize,
+    upper: usize,
+) -> Result<Flow, AllocError> {
+    state.push_text(letters(alloc, lower)?)?;
+    state.push_text(letters(alloc, upper)?)?;
+    call(state, alloc, builtin)
+}
+
+/// Whether a call over two texts of so many letters stops the run, and how many errors were told of.
+fn called_over_texts(
+    alloc: Global,
+    builtin: Builtin,
+    lower: usize,
+    upper: usize,
+) -> Result<(Flow, usize), AllocError> {
+    let mut state = state(alloc, None, Vec::new(alloc))?;
+    let flow = call_over_texts(&mut state, alloc, builtin, lower, upper)?;
+    Ok((flow, state.complaints.len()))
+}
+
+/// A call, the letters of the lower and of the upper text, and whether it stops the run.
+const OVER_TEXTS: &[(Builtin, usize, usize, bool)] = &[
+    (Builtin::Join, 65_535, 1, false),
+    (Builtin::Join, 65_536, 1, true),
+    (Builtin::AddPeriod, 0, 65_535, false),
+    (Builtin::AddPeriod, 0, 65_536, true),
+];
+
 #[test]
-fn texts_and_the_held_line_have_a_limit(rt: HostRuntime) -> Result<(), Fail> {
+fn texts_have_a_limit(rt: HostRuntime) -> Result<(), Fail> {
     let alloc = rt.alloc();
-    let style = style(alloc)?;
-    for (builtin, lower, upper, stops) in [
-        (Builtin::Join, 65_535, 1, false),
-        (Builtin::Join, 65_536, 1, true),
-        (Builtin::AddPeriod, 0, 65_535, false),
-        (Builtin::AddPeriod, 0, 65_536, true),
-    ] {
-        let mut state = state(alloc, None, Vec::new(alloc))?;
-        state.push_text(letters(alloc, lower)?)?;
-        state.push_text(letters(alloc, upper)?)?;
-        let flow = call_basic(&mut state, alloc, &style, builtin)?;
-        assert_eq!(rt; flow == Flow::Stop, stops);
-        assert_eq!(rt; state.complaints.len(), stops as usize);
+    for (builtin, lower, upper, stops) in OVER_TEXTS {
+        let (flow, told) = called_over_texts(alloc, *builtin, *lower, *upper)?;
+        assert_eq!(rt; flow == Flow::Stop, *stops);
+        assert_eq!(rt; told, *stops as usize);
     }
     Ok(())
+}
+
+/// Writes a letter behind so many held ones.
+fn write_behind(state: &mut State, alloc: Global, held: usize) -> Result<Flow, AllocError> {
+    state.write(alloc, letters(alloc, held)?.as_slice())?;
+    state.push_text(letters(alloc, 1)?)?;
+    call(state, alloc, Builtin::Write)
+}
+
+/// Whether writing a letter behind so many held ones stops the run, and how many bytes are held then.
+fn written_behind(alloc: Global, held: usize) -> Result<(Flow, usize), AllocError> {
+    let mut state = state(alloc, None, Vec::new(alloc))?;
+    let flow = write_behind(&mut state, alloc, held)?;
+    Ok((flow, state.held.bytes().len()))
 }
 
 #[test]
 fn held_and_new_bytes_are_counted_together(rt: HostRuntime) -> Result<(), Fail> {
     let alloc = rt.alloc();
-    let style = style(alloc)?;
     for (held, stops) in [(65_535, false), (65_536, true)] {
-        let mut state = state(alloc, None, stack(alloc, "\"a")?)?;
-        state.write(alloc, letters(alloc, held)?.as_slice())?;
-        let flow = call_basic(&mut state, alloc, &style, Builtin::Write)?;
+        let (flow, len) = written_behind(alloc, held)?;
         assert_eq!(rt; flow == Flow::Stop, stops);
-        assert_eq!(rt; state.held.bytes().len(), 65_536);
+        assert_eq!(rt; len, 65_536);
     }
     Ok(())
 }

@@ -11,7 +11,7 @@ use crate::complaint::Complaint;
 use crate::entry::Entry;
 use crate::state::{Flow, State};
 use crate::value::Value;
-use bt_text::Bytes;
+use bt_text::{Bytes, Shared};
 use std::alloc::{AllocError, Global};
 
 /// The number at a place, or 0.
@@ -22,7 +22,7 @@ fn number_at(numbers: &[i32], n: usize) -> i32
 }
 
 /// The text at a place, or the empty text.
-fn text_at(alloc: Global, texts: &[Bytes], n: usize) -> Result<Bytes, AllocError>
+fn text_at(alloc: Global, texts: &[Shared<Bytes>], n: usize) -> Result<Bytes, AllocError>
     ensures { IfOk result (λ text. text ≡ slice_index_or texts.now n []) }
 {
     if n < texts.len() {
@@ -33,7 +33,11 @@ fn text_at(alloc: Global, texts: &[Bytes], n: usize) -> Result<Bytes, AllocError
 }
 
 /// The text of the field at a place, or none where it is missing.
-fn field_at(alloc: Global, fields: &[Option<Bytes>], n: usize) -> Result<Option<Bytes>, AllocError>
+fn field_at(
+    alloc: Global,
+    fields: &[Option<Shared<Bytes>>],
+    n: usize,
+) -> Result<Option<Bytes>, AllocError>
     ensures { IfOk result (λ text. text ≡ slice_index_or fields.now n None) }
 {
     if n < fields.len() {

@@ -6,7 +6,7 @@ use crate::{
     call_basic,
 };
 use bt_style::{Builtin, Function, Style, Target};
-use bt_text::{Bytes, Held, Sequence};
+use bt_text::{Bytes, Held, Sequence, Shared};
 use std::alloc::{AllocError, Global};
 use std::test::Fail;
 
@@ -81,14 +81,13 @@ fn texts(alloc: Global, names: &[&str]) -> Result<Sequence<Bytes>, AllocError> {
 fn variables(alloc: Global, number: i32, text: &str) -> Result<Variables, AllocError> {
     let mut numbers = Sequence::new(alloc);
     numbers.push(number)?;
-    Ok(Variables {
-        numbers,
-        texts: texts(alloc, &[text])?,
-    })
+    let mut texts = Sequence::new(alloc);
+    texts.push(Shared::<Bytes>::copied(alloc, text.as_bytes())?)?;
+    Ok(Variables { numbers, texts })
 }
 
 /// A style with a name of each kind.
-pub fn style(alloc: Global) -> Result<Style, AllocError> {
+fn style(alloc: Global) -> Result<Style, AllocError> {
     let mut functions = Vec::new(alloc);
     functions.push(Function {
         name: Bytes::copied(alloc, b"f")?,
@@ -110,13 +109,13 @@ pub fn style(alloc: Global) -> Result<Style, AllocError> {
 pub fn entry(alloc: Global, function: Option<usize>) -> Result<Entry, AllocError> {
     let mut fields = Sequence::new(alloc);
     fields.push(None)?;
-    fields.push(Some(Bytes::copied(alloc, b"B title")?))?;
+    fields.push(Some(Shared::<Bytes>::copied(alloc, b"B title")?))?;
     Ok(Entry {
-        key: Bytes::copied(alloc, b"b")?,
-        kind: Bytes::copied(alloc, b"book")?,
+        key: Shared::<Bytes>::copied(alloc, b"b")?,
+        kind: Shared::<Bytes>::copied(alloc, b"book")?,
         function,
-        fields,
-        variables: variables(alloc, 7, "label")?,
+        fields: Shared::new(alloc, fields)?,
+        variables: Shared::new(alloc, variables(alloc, 7, "label")?)?,
     })
 }
 
@@ -193,6 +192,12 @@ pub fn shown(alloc: Global, state: &State, flow: Flow) -> Result<Bytes, AllocErr
     Ok(all)
 }
 
+/// Calls a built-in function, with the names of a style.
+pub fn call(state: &mut State, alloc: Global, builtin: Builtin) -> Result<Flow, AllocError> {
+    let style = style(alloc)?;
+    call_basic(state, alloc, &style, builtin)
+}
+
 /// What a built-in function makes of a stack, in a step for an entry or for none.
 pub fn called(
     alloc: Global,
@@ -200,8 +205,7 @@ pub fn called(
     words: &str,
     entry: Option<&Entry>,
 ) -> Result<Bytes, Fail> {
-    let style = style(alloc)?;
     let mut state = state(alloc, entry, stack(alloc, words)?)?;
-    let flow = call_basic(&mut state, alloc, &style, builtin)?;
+    let flow = call(&mut state, alloc, builtin)?;
     Ok(shown(alloc, &state, flow)?)
 }

@@ -1,71 +1,126 @@
 //! Fields and variables, and what the functions that run others take.
 
-use crate::test_states::{entry, shown, stack, state, style};
+use crate::test_states::{call, entry, shown, stack, state};
 use crate::{
-    Entry, call_basic, call_entry_number, call_entry_text, call_field, call_global_number,
+    Entry, Flow, State, call_entry_number, call_entry_text, call_field, call_global_number,
     call_global_text, take_choice, take_number, take_two_codes,
 };
 use bt_style::Builtin;
 use bt_text::Bytes;
-use std::alloc::Global;
+use std::alloc::{AllocError, Global};
 use std::test::Fail;
+
+/// Calls a variable of each sort.
+fn call_variables(state: &mut State, alloc: Global) -> Result<Flow, AllocError> {
+    call_global_number(state, 0)?;
+    call_global_text(state, alloc, 0)?;
+    call_entry_number(state, 0)?;
+    call_entry_text(state, alloc, 0)
+}
+
+/// Assigns what is on the stack, and calls all variables.
+fn assign_and_call(state: &mut State, alloc: Global) -> Result<Flow, AllocError> {
+    call(state, alloc, Builtin::Assign)?;
+    call_variables(state, alloc)
+}
 
 /// All variables, behind an assignment of what words spell.
 fn variables_behind(alloc: Global, words: &str, book: &Entry) -> Result<Bytes, Fail> {
-    let style = style(alloc)?;
     let mut state = state(alloc, Some(book), stack(alloc, words)?)?;
-    call_basic(&mut state, alloc, &style, Builtin::Assign)?;
-    call_global_number(&mut state, 0)?;
-    call_global_text(&mut state, alloc, 0)?;
-    call_entry_number(&mut state, 0)?;
-    let flow = call_entry_text(&mut state, alloc, 0)?;
+    let flow = assign_and_call(&mut state, alloc)?;
     Ok(shown(alloc, &state, flow)?)
 }
 
-/// A field that is missing, one that isn't, one out of range, and a number, in a step for an entry or for none.
-fn fields(alloc: Global, book: Option<&Entry>) -> Result<Bytes, Fail> {
-    let mut state = state(alloc, book, Vec::new(alloc))?;
-    call_field(&mut state, alloc, 0)?;
-    call_field(&mut state, alloc, 1)?;
-    call_field(&mut state, alloc, 9)?;
-    let flow = call_entry_number(&mut state, 0)?;
-    Ok(shown(alloc, &state, flow)?)
+/// Calls a field that is missing, one that isn't, one out of range, and a number.
+fn call_fields(state: &mut State, alloc: Global) -> Result<Flow, AllocError> {
+    call_field(state, alloc, 0)?;
+    call_field(state, alloc, 1)?;
+    call_field(state, alloc, 9)?;
+    call_entry_number(state, 0)
 }
+
+/// What these calls leave in a step for an entry or for none.
+fn fields(alloc: Global, book: Option<&Entry>) -> Result<Bytes, AllocError> {
+    let mut state = state(alloc, book, Vec::new(alloc))?;
+    let flow = call_fields(&mut state, alloc)?;
+    shown(alloc, &state, flow)
+}
+
+/// Four errors of a step without an entry, behind what it leaves.
+fn without_entry(alloc: Global) -> Result<Bytes, AllocError> {
+    let mut all = Bytes::copied(alloc, b"\"|\"|\"|#0|")?;
+    for _ in 0..4 {
+        all.append(b"; error: You can't mess with entries here")?;
+    }
+    Ok(all)
+}
+
+/// Whether there were a number and two functions to take, and how many errors were told of.
+fn choice_taken(alloc: Global, words: &str) -> Result<(bool, usize), Fail> {
+    let mut state = state(alloc, None, stack(alloc, words)?)?;
+    let taken = take_choice(&mut state, Builtin::If)?.is_some();
+    Ok((taken, state.complaints.len()))
+}
+
+/// The same of two functions.
+fn codes_taken(alloc: Global, words: &str) -> Result<(bool, usize), Fail> {
+    let mut state = state(alloc, None, stack(alloc, words)?)?;
+    let taken = take_two_codes(&mut state, Builtin::While)?.is_some();
+    Ok((taken, state.complaints.len()))
+}
+
+/// The number that is taken.
+fn number_taken(alloc: Global, words: &str) -> Result<Option<i32>, Fail> {
+    let mut state = state(alloc, None, stack(alloc, words)?)?;
+    Ok(take_number(&mut state, Builtin::While)?)
+}
+
+/// What is on the stack, and whether a number with two functions, and two functions, are taken from it, with how many
+/// errors.
+const CONTROL: &[(&str, (bool, usize), (bool, usize))] = &[
+    ("#1 'f {", (true, 0), (true, 0)),
+    ("'f {", (false, 1), (true, 0)),
+    ("#1 #2 {", (false, 1), (false, 1)),
+    ("", (false, 3), (false, 2)),
+];
+
+/// What is assigned, and all variables behind it.
+const ASSIGNED: &[(&str, &str)] = &[
+    ("#5 'g", "#5|\"all|#7|\"label|"),
+    ("\"new 's", "#8|\"new|#7|\"label|"),
+    ("#5 'n", "#8|\"all|#5|\"label|"),
+    ("\"new 'k", "#8|\"all|#7|\"new|"),
+    (
+        "#5 'f",
+        "#8|\"all|#7|\"label|; error: := needs a variable for entry b",
+    ),
+    (
+        "#5 't",
+        "#8|\"all|#7|\"label|; error: := needs a variable for entry b",
+    ),
+    (
+        "#5 'b",
+        "#8|\"all|#7|\"label|; error: := needs a variable for entry b",
+    ),
+    (
+        "\"t 'g",
+        "#8|\"all|#7|\"label|; error: := got a value of the wrong kind for entry b",
+    ),
+    (
+        "#1 'k",
+        "#8|\"all|#7|\"label|; error: := got a value of the wrong kind for entry b",
+    ),
+    (
+        "#1 {",
+        "#8|\"all|#7|\"label|; error: := got a value of the wrong kind for entry b",
+    ),
+];
 
 #[test]
 fn variables_get_values(rt: HostRuntime) -> Result<(), Fail> {
     let alloc = rt.alloc();
     let book = entry(alloc, Some(0))?;
-    for (words, want) in [
-        ("#5 'g", "#5|\"all|#7|\"label|"),
-        ("\"new 's", "#8|\"new|#7|\"label|"),
-        ("#5 'n", "#8|\"all|#5|\"label|"),
-        ("\"new 'k", "#8|\"all|#7|\"new|"),
-        (
-            "#5 'f",
-            "#8|\"all|#7|\"label|; error: := needs a variable for entry b",
-        ),
-        (
-            "#5 't",
-            "#8|\"all|#7|\"label|; error: := needs a variable for entry b",
-        ),
-        (
-            "#5 'b",
-            "#8|\"all|#7|\"label|; error: := needs a variable for entry b",
-        ),
-        (
-            "\"t 'g",
-            "#8|\"all|#7|\"label|; error: := got a value of the wrong kind for entry b",
-        ),
-        (
-            "#1 'k",
-            "#8|\"all|#7|\"label|; error: := got a value of the wrong kind for entry b",
-        ),
-        (
-            "#1 {",
-            "#8|\"all|#7|\"label|; error: := got a value of the wrong kind for entry b",
-        ),
-    ] {
+    for (words, want) in ASSIGNED {
         let got = variables_behind(alloc, words, &book)?;
         assert_eq!(rt; got.as_slice(), want.as_bytes());
     }
@@ -76,35 +131,21 @@ fn variables_get_values(rt: HostRuntime) -> Result<(), Fail> {
 fn fields_go_on_the_stack(rt: HostRuntime) -> Result<(), Fail> {
     let alloc = rt.alloc();
     let book = entry(alloc, Some(0))?;
-    let own = fields(alloc, Some(&book))?;
+    let own = fields(alloc, Some(&book.share()?))?;
     assert_eq!(rt; own.as_slice(), b"?|\"B title|?|#7|".as_slice());
-    let mut want = Bytes::copied(alloc, b"\"|\"|\"|#0|")?;
-    for _ in 0..4 {
-        want.append(b"; error: You can't mess with entries here")?;
-    }
-    assert_eq!(rt; fields(alloc, None)?.as_slice(), want.as_slice());
+    let none = fields(alloc, None)?;
+    assert_eq!(rt; none.as_slice(), without_entry(alloc)?.as_slice());
     Ok(())
 }
 
 #[test]
 fn takes_for_control(rt: HostRuntime) -> Result<(), Fail> {
     let alloc = rt.alloc();
-    for (words, codes, choice, errors) in [
-        ("#1 'f {", true, true, 0),
-        ("'f {", true, false, 1),
-        ("#1 #2 {", false, false, 2),
-        ("", false, false, 5),
-    ] {
-        let mut state = state(alloc, None, stack(alloc, words)?)?;
-        let taken = take_choice(&mut state, Builtin::If)?;
-        assert_eq!(rt; taken.is_some(), choice);
-        state.stack = stack(alloc, words)?;
-        let taken = take_two_codes(&mut state, Builtin::While)?;
-        assert_eq!(rt; taken.is_some(), codes);
-        assert_eq!(rt; state.complaints.len(), errors);
+    for (words, choice, codes) in CONTROL {
+        assert!(rt; choice_taken(alloc, words)? == *choice);
+        assert!(rt; codes_taken(alloc, words)? == *codes);
     }
-    let mut state = state(alloc, None, stack(alloc, "#4")?)?;
-    assert_eq!(rt; take_number(&mut state, Builtin::While)?, Some(4));
-    assert_eq!(rt; take_number(&mut state, Builtin::While)?, None);
+    assert_eq!(rt; number_taken(alloc, "#4")?, Some(4));
+    assert_eq!(rt; number_taken(alloc, "")?, None);
     Ok(())
 }

@@ -50,7 +50,7 @@ type_read_end : (s : Spot) (r : Result (List ℕ × Here) Stop) → end_of (type
 type_read_end s (Err stop) = refl
 type_read_end s (Ok w) = type_ended_end s w.0 (ended EntryType (codes "{(") w.1)
 
-piece_ends : (h : Here) → end_of (piece h).0 ≡ (piece h).1.spot
+pub piece_ends : (h : Here) → end_of (piece h).0 ≡ (piece h).1.spot
 unfolding piece
 piece_ends h = type_read_end h.spot (word EntryType (white (behind h)))
 

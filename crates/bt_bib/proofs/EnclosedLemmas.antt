@@ -28,7 +28,7 @@ enclosed_run close depth s (b ∷ rest) = elim (turn close depth b) [
 ]
 
 -- with the bytes up to there
-abbrev taken : Here → Result Here Stop → Result (List ℕ × Here) Stop
+abbrev pub taken : Here → Result Here Stop → Result (List ℕ × Here) Stop
 taken h r = r >>= λ e. Ok (between h e, e)
 
 positive : (d : ℕ) → (d == 0) ≡ false → 1 ≤ d
@@ -150,7 +150,7 @@ pub enclosed_stopped : (close : ℕ) (h : Here) (stop : Stop) → enclosed_end c
 enclosed_stopped close h stop is = enclosed_is_taken close h ∙ ap (taken h) is
 
 -- a loop over the bytes
-enclosed_cons : (close d : ℕ) (s : Spot) (b : ℕ) (rest : List ℕ) (t : Turn) → t ≡ turn close d b → enclosed_run close d s (b ∷ rest) ≡ elim t [
+pub enclosed_cons : (close d : ℕ) (s : Spot) (b : ℕ) (rest : List ℕ) (t : Turn) → t ≡ turn close d b → enclosed_run close d s (b ∷ rest) ≡ elim t [
   | turns.Closes ↦ Ok (at s (b ∷ rest))
   | turns.Breaks ↦ Err (UnbalancedBraces, at s (b ∷ rest))
   | turns.Goes e ↦ enclosed_run close e (after b s) rest

@@ -9,6 +9,8 @@ pub mod LoopLemmas
 pub mod SeekLemmas
 pub mod PieceLemmas
 mod BibRows
+mod SpliceRows
+mod FirstRows
 pub mod AlikeLemmas
 pub mod SameLemmas
 pub mod FieldMoveLemmas
@@ -20,3 +22,11 @@ pub mod SmallLemmas
 pub mod SpliceLemmas
 pub mod LawLemmas
 pub mod LineLemmas
+pub mod CutLemmas
+pub mod FitLemmas
+pub mod FitNameLemmas
+pub mod FitPartLemmas
+pub mod FitValueLemmas
+pub mod FitFieldLemmas
+pub mod FitItemLemmas
+pub mod FirstLemmas

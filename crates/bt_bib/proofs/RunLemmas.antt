@@ -42,11 +42,11 @@ unfolding past_run
 past_is_run test s [] = ap (λ u. at u []) (passed-nil s)
 past_is_run test s (b ∷ rest) = ap (λ front. beyond front (at s (b ∷ rest))) (take_while-cons test b rest) ∙ run_by (test b) test s b rest (past_is_run test (after b s) rest)
 
-run_more : (test : ℕ → Bool) (s : Spot) (b : ℕ) (rest : List ℕ) → test b ≡ true → past_run test s (b ∷ rest) ≡ past_run test (after b s) rest
+pub run_more : (test : ℕ → Bool) (s : Spot) (b : ℕ) (rest : List ℕ) → test b ≡ true → past_run test s (b ∷ rest) ≡ past_run test (after b s) rest
 unfolding past_run
 run_more test s b rest h = rw h refl
 
-run_stop : (test : ℕ → Bool) (s : Spot) (b : ℕ) (rest : List ℕ) → test b ≡ false → past_run test s (b ∷ rest) ≡ at s (b ∷ rest)
+pub run_stop : (test : ℕ → Bool) (s : Spot) (b : ℕ) (rest : List ℕ) → test b ≡ false → past_run test s (b ∷ rest) ≡ at s (b ∷ rest)
 unfolding past_run
 run_stop test s b rest h = rw h refl
 

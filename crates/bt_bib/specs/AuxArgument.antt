@@ -1,5 +1,5 @@
 -- The argument of a command in an .aux text: its parts, and what is wrong with it.
-use Rattle.std.specs.Prelude.{ℕ, ◌-◌, Bool, true, false, ◌==◌, ◌||◌, List, [], ◌∷◌, length, take, drop, Option, Some, None, if◌then◌else◌}
+use Rattle.std.specs.Prelude.{ℕ, ◌-◌, Bool, ◌==◌, ◌||◌, List, [], ◌∷◌, length, take, drop, Option, Some, None, if◌then◌else◌}
 use Rattle.std.specs.List.{slice_split, before_first}
 use Rattle.bt_text.specs.ByteTests.{is_white}
 use Rattle.bt_bib.specs.declared.aux_argument.AuxFault.{AuxFault}

@@ -1,5 +1,6 @@
 -- Laws of the items of a text.
-use Rattle.std.specs.Prelude.{◌≡◌, ℕ, ◌+◌, ◌-◌, ◌<◌, ◌≤◌, List, ◌∷◌, ◌++◌, length, take, drop, map, true, Option, Some, None, All}
+use Rattle.std.specs.Prelude.{◌≡◌, ℕ, ◌+◌, ◌-◌, ◌<◌, ◌≤◌, nat_lt, Bool, List, [], ◌∷◌, ◌++◌, length, take, drop, map, true, Option, Some, None, All}
+use Rattle.std.specs.List.{list_all}
 use Rattle.bt_bib.specs.declared.spot.Spot.{Spot}
 use Rattle.bt_bib.specs.declared.fault.Fault.{Fault}
 use Rattle.bt_bib.specs.declared.item.Part.{Part}
@@ -32,6 +33,23 @@ BoundaryStays = (old new : List ℕ) (begin end inserted place : ℕ) → IsSpli
 -- that byte has the same items up to this one, and this one with the same fault.
 abbrev pub FaultIsFinal : Type 0
 FaultIsFinal = (text other : List ℕ) (front back : List Piece) (i : Item) (f : Fault) → pieces_of text ≡ front ++ pieces.Item i ∷ back → i.fault ≡ Some f → take (i.end.place + 1) other ≡ take (i.end.place + 1) text → (rest : List Piece) × (pieces_of other ≡ front ++ pieces.Item i ∷ rest)
+
+-- a number that a byte can be
+abbrev pub is_byte : ℕ → Bool
+is_byte b = nat_lt b 256
+
+-- The bytes of a faulty item up to its fault's place begin a well-formed one: put some others behind them, and an item
+-- without a fault begins where the faulty one does. What stands before it is read as before.
+pub record Completion (text : List ℕ) (front : List Piece) (i : Item) : Type 0 where
+  pub rest : List ℕ
+  pub bytes : list_all is_byte rest ≡ true
+  pub whole : Item
+  pub start : whole.start ≡ i.start
+  pub faultless : whole.fault ≡ None
+  pub read : pieces_of (take i.end.place text ++ rest) ≡ front ++ pieces.Item whole ∷ []
+
+abbrev pub FaultIsFirst : Type 0
+FaultIsFirst = (text : List ℕ) (front back : List Piece) (i : Item) (f : Fault) → pieces_of text ≡ front ++ pieces.Item i ∷ back → i.fault ≡ Some f → Completion text front i
 
 -- Each line of a value lies from one line to another.
 abbrev pub PartLiesIn : ℕ → ℕ → Part → Type 0

@@ -8,7 +8,7 @@ ghost use Rattle.bt_bib.specs.Stop.{Finds, Gives};
 use crate::fault::Fault;
 use crate::spot::Spot;
 use crate::stop::Halt;
-use bt_text::Bytes;
+use bt_text::{Bytes, Shared};
 use std::alloc::Global;
 
 /// What a byte does inside braces or quotes.
@@ -66,10 +66,18 @@ fn enclosed_end(text: &[u8], from: Spot, close: u8) -> Result<Spot, Halt>
 
 /// What stands from here up to the byte that closes it, and that byte's place.
 #[tactic(auto, using(crate::proofs::EnclosedLemmas::enclosed_found, crate::proofs::EnclosedLemmas::enclosed_stopped))]
-pub fn enclosed(alloc: Global, text: &[u8], from: Spot, close: u8) -> Result<(Bytes, Spot), Halt>
+pub fn enclosed(
+    alloc: Global,
+    text: &[u8],
+    from: Spot,
+    close: u8,
+) -> Result<(Shared<Bytes>, Spot), Halt>
     requires { IsIn text.now from }
     ensures { Gives text.now from result (enclosed close (here text.now from)) }
 {
     let end = enclosed_end(text, from, close)?;
-    Ok((Bytes::copied(alloc, &text[from.place..end.place])?, end))
+    Ok((
+        Shared::<Bytes>::copied(alloc, &text[from.place..end.place])?,
+        end,
+    ))
 }

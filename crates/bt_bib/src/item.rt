@@ -2,7 +2,7 @@
 
 use crate::fault::Fault;
 use crate::spot::Spot;
-use bt_text::{Bytes, Sequence};
+use bt_text::{Bytes, Sequence, Shared};
 
 /// The sign that ends what stands behind an item's type.
 #[derive(Clone, Copy, Debug, PartialEq, Eq)]
@@ -17,16 +17,16 @@ pub enum Closing {
 #[derive(Debug, Drop)]
 pub enum Part {
     /// The bytes between two braces or quotes, or a run of digits.
-    Text(Bytes),
+    Text(Shared<Bytes>),
     /// A macro's name as written, and its line.
-    Macro(Bytes, usize),
+    Macro(Shared<Bytes>, usize),
 }
 
 /// A field of an entry.
 #[derive(Debug, Drop)]
 pub struct Field {
     /// Its name as written.
-    pub name: Bytes,
+    pub name: Shared<Bytes>,
     /// The line of its name.
     pub line: usize,
     /// The parts of its value, one or more, in their order.
@@ -37,9 +37,9 @@ pub struct Field {
 #[derive(Debug, Drop)]
 pub struct Entry {
     /// Its type as written; none where no type begins behind the `@`.
-    pub kind: Option<Bytes>,
+    pub kind: Option<Shared<Bytes>>,
     /// Its key as written, which may be empty; none where a fault stands before it.
-    pub key: Option<Bytes>,
+    pub key: Option<Shared<Bytes>>,
     /// The fields whose values were read whole, in their order.
     pub fields: Sequence<Field>,
 }
@@ -48,7 +48,7 @@ pub struct Entry {
 #[derive(Debug, Drop)]
 pub struct Definition {
     /// The name that it defines, as written; none where a fault stands before its end.
-    pub name: Option<Bytes>,
+    pub name: Option<Shared<Bytes>>,
     /// The parts of the value; none where it wasn't read whole.
     pub value: Option<Sequence<Part>>,
 }

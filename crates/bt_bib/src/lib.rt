@@ -28,7 +28,9 @@ pub use aux_line::{AuxItem, Command, read_aux};
 pub use fault::{Fault, What};
 pub use item::{Closing, Content, Definition, Entry, Field, Item, Part, Piece};
 pub use items::Items;
-pub use laws::{boundary_stays, fault_is_final, lines_lie_inside, rest_is_moved, spans_rise};
+pub use laws::{
+    boundary_stays, fault_is_final, fault_is_first, lines_lie_inside, rest_is_moved, spans_rise,
+};
 pub use meter::ReadMeter;
 pub use reading::read_bib;
 pub use spot::Spot;

@@ -1,4 +1,4 @@
-//! Copies of what was read behind one place, as it is read behind another.
+//! What was read behind one place, as it is read behind another. Its texts are shared and not copied.
 
 ghost use Rattle.std.specs.Prelude.{◌≡◌, ◌<◌, ◌+◌, ◌-◌, ◌++◌, ◌^◌, map, All, IfOk};
 ghost use Rattle.bt_bib.specs.Moving.{rebased, rebased_content, rebased_field, rebased_item, rebased_line, rebased_part, rebased_piece, rebased_value, FitsContent, FitsField, FitsItem, FitsLine, FitsPart, FitsPiece, FitsSpot, FitsValue};
@@ -6,7 +6,7 @@ ghost use Rattle.bt_bib.specs.Moving.{rebased, rebased_content, rebased_field, r
 use crate::item::{Content, Definition, Entry, Field, Item, Part, Piece};
 use crate::items::Items;
 use crate::spot::Spot;
-use bt_text::{Bytes, Sequence};
+use bt_text::{Bytes, Sequence, Shared};
 use std::alloc::{AllocError, Global};
 
 /// A line behind `a`, where the text from `a` on stands from `b` on.
@@ -28,14 +28,14 @@ fn rebased(spot: Spot, a: Spot, b: Spot) -> Spot
     }
 }
 
-fn rebased_part(alloc: Global, part: &Part, a: Spot, b: Spot) -> Result<Part, AllocError>
+fn rebased_part(part: &Part, a: Spot, b: Spot) -> Result<Part, AllocError>
     requires { FitsPart a b part.now }
     ensures { IfOk result (λ copy. copy ≡ rebased_part a b part.now) }
 {
     match part {
-        Part::Text(text) => Ok(Part::Text(Bytes::copied(alloc, text.as_slice())?)),
+        Part::Text(text) => Ok(Part::Text(text.share()?)),
         Part::Macro(name, line) => {
-            let name = Bytes::copied(alloc, name.as_slice())?;
+            let name = name.share()?;
             Ok(Part::Macro(name, rebased_line(*line, a, b)))
         }
     }
@@ -52,7 +52,7 @@ fn rebased_parts(
 {
     let mut copy = Sequence::new(alloc);
     'parts: for part in parts {
-        copy.push(rebased_part(alloc, part, a, b)?)?;
+        copy.push(rebased_part(part, a, b)?)?;
     }
     Ok(copy)
 }
@@ -76,7 +76,7 @@ fn rebased_field(alloc: Global, field: &Field, a: Spot, b: Spot) -> Result<Field
     requires { FitsField a b field.now }
     ensures { IfOk result (λ copy. copy ≡ rebased_field a b field.now) }
 {
-    let name = Bytes::copied(alloc, field.name.as_slice())?;
+    let name = field.name.share()?;
     let value = rebased_parts(alloc, field.value.as_slice(), a, b)?;
     let line = rebased_line(field.line, a, b);
     Ok(Field { name, line, value })
@@ -98,13 +98,13 @@ fn rebased_fields(
     Ok(copy)
 }
 
-/// A copy of a text, where there is one.
-fn copied(alloc: Global, text: &Option<Bytes>) -> Result<Option<Bytes>, AllocError>
-    ensures { IfOk result (λ copy. copy ≡ text.now) }
+/// The same text for one more owner, where there is one.
+fn shared(text: &Option<Shared<Bytes>>) -> Result<Option<Shared<Bytes>>, AllocError>
+    ensures { IfOk result (λ same. same ≡ text.now) }
 {
     match text {
         None => Ok(None),
-        Some(text) => Ok(Some(Bytes::copied(alloc, text.as_slice())?)),
+        Some(text) => Ok(Some(text.share()?)),
     }
 }
 
@@ -119,13 +119,13 @@ fn rebased_content(
 {
     match content {
         Content::Entry(entry) => {
-            let kind = copied(alloc, &entry.kind)?;
-            let key = copied(alloc, &entry.key)?;
+            let kind = shared(&entry.kind)?;
+            let key = shared(&entry.key)?;
             let fields = rebased_fields(alloc, entry.fields.as_slice(), a, b)?;
             Ok(Content::Entry(Entry { kind, key, fields }))
         }
         Content::Define(definition) => {
-            let name = copied(alloc, &definition.name)?;
+            let name = shared(&definition.name)?;
             let value = rebased_value(alloc, &definition.value, a, b)?;
             Ok(Content::Define(Definition { name, value }))
         }

@@ -10,12 +10,17 @@ use crate::fault::{Fault, What};
 use crate::scan::{Class, peek, run};
 use crate::spot::Spot;
 use crate::stop::Halt;
-use bt_text::{Bytes, is_digit, is_name_byte, is_white};
+use bt_text::{Bytes, Shared, is_digit, is_name_byte, is_white};
 use std::alloc::Global;
 
 /// The longest run of name bytes, which doesn't begin with a digit.
 #[tactic(auto, unfolding(crate::specs::Names::word))]
-pub fn word(alloc: Global, text: &[u8], from: Spot, what: What) -> Result<(Bytes, Spot), Halt>
+pub fn word(
+    alloc: Global,
+    text: &[u8],
+    from: Spot,
+    what: What,
+) -> Result<(Shared<Bytes>, Spot), Halt>
     requires { IsIn text.now from }
     ensures { Gives text.now from result (word what (here text.now from)) }
 {
@@ -60,7 +65,7 @@ pub fn name(
     from: Spot,
     what: What,
     signs: &[u8],
-) -> Result<(Bytes, Spot), Halt>
+) -> Result<(Shared<Bytes>, Spot), Halt>
     requires { IsIn text.now from }
     ensures { Gives text.now from result (name what signs.now (here text.now from)) }
 {

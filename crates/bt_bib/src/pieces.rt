@@ -15,7 +15,7 @@ use crate::scan::{Class, behind, peek, run, sign, white};
 use crate::spot::Spot;
 use crate::stop::Halt;
 use crate::values::value;
-use bt_text::{Bytes, Sequence};
+use bt_text::{Bytes, Sequence, Shared};
 use std::alloc::{AllocError, Global};
 
 /// An item that ends well or at its fault.
@@ -84,7 +84,7 @@ fn entry_item(
     alloc: Global,
     text: &[u8],
     start: Spot,
-    kind: Bytes,
+    kind: Shared<Bytes>,
     close: Closing,
     from: Spot,
 ) -> Result<(Piece, Spot), AllocError>
@@ -185,7 +185,7 @@ fn preamble_item(
 }
 
 /// An entry of which at most the type was read.
-fn unread_entry(alloc: Global, kind: Option<Bytes>) -> Content
+fn unread_entry(alloc: Global, kind: Option<Shared<Bytes>>) -> Content
     ensures { result ≡ unread_entry kind }
 {
     Content::Entry(Entry {
@@ -233,7 +233,7 @@ fn entry(
     alloc: Global,
     text: &[u8],
     start: Spot,
-    kind: Bytes,
+    kind: Shared<Bytes>,
     from: Spot,
 ) -> Result<(Piece, Spot), AllocError>
     requires { IsIn text.now from }
@@ -250,7 +250,7 @@ fn typed(
     alloc: Global,
     text: &[u8],
     start: Spot,
-    kind: Bytes,
+    kind: Shared<Bytes>,
     from: Spot,
 ) -> Result<(Piece, Spot), AllocError>
     requires { IsIn text.now from }

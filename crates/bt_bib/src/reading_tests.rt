@@ -1,7 +1,7 @@
 //! What is read of some databases, and the faults.
 
 use crate::{Closing, Content, Entry, Fault, Item, Items, Part, Piece, Spot, What, read_bib};
-use bt_text::Bytes;
+use bt_text::{Bytes, Shared};
 use std::alloc::{AllocError, Global};
 use std::test::Fail;
 
@@ -49,7 +49,7 @@ fn entry(item: &Item) -> Option<&Entry> {
 }
 
 /// The bytes of a text, none where there is no text.
-fn bytes_of(text: &Option<Bytes>) -> &[u8] {
+fn bytes_of(text: &Option<Shared<Bytes>>) -> &[u8] {
     match text {
         Some(text) => text.as_slice(),
         None => &[],

@@ -9,7 +9,7 @@ use crate::fault::Fault;
 use crate::item::Closing;
 use crate::spot::Spot;
 use crate::stop::Halt;
-use bt_text::{Bytes, is_digit, is_name_byte, is_white};
+use bt_text::{Bytes, Shared, is_digit, is_name_byte, is_white};
 use std::alloc::{AllocError, Global};
 
 /// Bytes that stand in one run.
@@ -107,12 +107,15 @@ pub fn run(
     text: &[u8],
     from: Spot,
     class: Class,
-) -> Result<(Bytes, Spot), AllocError>
+) -> Result<(Shared<Bytes>, Spot), AllocError>
     requires { IsIn text.now from }
     ensures { Makes text.now from result (run (has class) (here text.now from), past (has class) (here text.now from)) }
 {
     let end = past(text, from, class);
-    Ok((Bytes::copied(alloc, &text[from.place..end.place])?, end))
+    Ok((
+        Shared::<Bytes>::copied(alloc, &text[from.place..end.place])?,
+        end,
+    ))
 }
 
 /// The place behind a byte that must stand here. Another byte is this fault.

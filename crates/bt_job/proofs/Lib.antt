@@ -1,3 +1,4 @@
+pub mod KeyLemmas
 pub mod BoundLemmas
 pub mod FitLemmas
 pub mod NestingLemmas

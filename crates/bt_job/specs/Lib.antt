@@ -1,3 +1,4 @@
+pub mod Keys
 pub mod Log
 pub mod Naming
 pub mod Taking

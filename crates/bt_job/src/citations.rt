@@ -1,13 +1,14 @@
 //! What the .aux files of a session ask for.
 
+use crate::keys::Keys;
 use crate::log::Message;
 use bt_text::{Bytes, Sequence};
 
 /// What the .aux files have asked for so far.
-#[derive(Debug, Drop)]
+#[derive(Drop)]
 pub struct Citations {
     /// The cited keys, as they were spelled first.
-    pub keys: Sequence<Bytes>,
+    pub keys: Keys,
     /// How many keys stood before the `*`, if it was cited.
     pub star: Option<usize>,
     /// The names of the databases, in order.

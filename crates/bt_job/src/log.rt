@@ -4,7 +4,7 @@ ghost use Rattle.std.specs.Prelude.{◌≡◌, [], ◌∷◌, ◌++◌, count_by
 ghost use Rattle.std.specs.List.{list_any};
 ghost use Rattle.bt_job.specs.Log.{rank_status, has_status, status_of, lines_bytes, count_line, last_line_of, last_line, words_of, log_bytes, is_told_tersely, terse_bytes};
 
-use bt_text::Bytes;
+use bt_text::{Bytes, Shared};
 use itoa::Buffer;
 use std::alloc::{AllocError, Global};
 
@@ -123,7 +123,7 @@ fn add_line(text: &mut Bytes, line: &[u8]) -> Result<(), AllocError>
 }
 
 /// The lines, each with a line feed behind it. The one error is want of memory.
-pub fn lines_bytes(alloc: Global, lines: &[Bytes]) -> Result<Bytes, AllocError>
+pub fn lines_bytes(alloc: Global, lines: &[Shared<Bytes>]) -> Result<Bytes, AllocError>
     ensures { IfOk result (λ bytes. bytes ≡ lines_bytes lines.now) }
 {
     let mut text = Bytes::new(alloc);
@@ -218,7 +218,8 @@ mod tests {
     #[test]
     fn lines_end_with_line_feeds(rt: HostRuntime) -> Result<(), Fail> {
         let alloc = rt.alloc();
-        let lines = [Bytes::copied(alloc, b"a")?, Bytes::new(alloc)];
+        let empty = Shared::new(alloc, Bytes::new(alloc))?;
+        let lines = [Shared::<Bytes>::copied(alloc, b"a")?, empty];
         let bytes = lines_bytes(alloc, &lines)?;
         assert_eq!(rt; bytes.as_slice(), b"a\n\n".as_slice());
         Ok(())

@@ -6,6 +6,7 @@ ghost use Rattle.bt_job.specs.Citations.{file_line, file_taken, missing, missing
 
 use crate::citations::{Citations, Outcome};
 use crate::files::File;
+use crate::keys::Keys;
 use crate::log::Rank;
 use crate::naming::{pair, text_of};
 use crate::taking::{take_item, tell, tell_at, want};
@@ -150,7 +151,7 @@ fn nothing_met(alloc: Global) -> Citations
     ensures { result ≡ nothing_met }
 {
     Citations {
-        keys: Sequence::new(alloc),
+        keys: Keys::new(alloc),
         star: None,
         databases: Sequence::new(alloc),
         style: None,
@@ -212,14 +213,14 @@ pub fn always_fit()
 #[cfg(test)]
 mod tests {
     use super::*;
-    use crate::files::SharedText;
     use crate::log::{log_bytes, status};
+    use bt_text::Shared;
     use std::test::Fail;
 
     fn file(alloc: Global, name: &[u8], text: &[u8]) -> Result<File, AllocError> {
         Ok(File {
-            name: SharedText::copied(alloc, name)?,
-            text: SharedText::copied(alloc, text)?,
+            name: Shared::<Bytes>::copied(alloc, name)?,
+            text: Shared::<Bytes>::copied(alloc, text)?,
         })
     }
 
@@ -257,7 +258,7 @@ The style file: s.bst
 ";
         assert_eq!(rt; status(log), 2);
         assert_eq!(rt; log_bytes(alloc, log)?.as_slice(), wanted.as_slice());
-        assert_eq!(rt; citations.keys.len(), 1);
+        assert_eq!(rt; citations.keys.as_slice().len(), 1);
         assert_eq!(rt; citations.databases.len(), 1);
         Ok(())
     }
@@ -289,7 +290,7 @@ I found no style file---while reading file job.aux
 ";
         let bytes = log_bytes(alloc, citations.log.as_slice())?;
         assert_eq!(rt; bytes.as_slice(), wanted.as_slice());
-        assert_eq!(rt; citations.keys.len(), 2);
+        assert_eq!(rt; citations.keys.as_slice().len(), 2);
         assert_eq!(rt; citations.wanted.len(), 2);
         Ok(())
     }

@@ -1,8 +1,7 @@
 //! What a counted line comes to.
 
 ghost use Rattle.std.specs.Prelude.{◌≡◌, ◌++◌, codes, IfOk, OnOk, OnErr};
-ghost use Rattle.std.specs.Option.{option_map};
-ghost use Rattle.bt_job.specs.Taking.{told, told_at, is_same_key, same_key, cited_all, cited_key, cited, kind, meeting, wanting, found, looked_for, named, part_taken, fault_words, fault_outcome, is_second, second_words, entered, item_taken};
+ghost use Rattle.bt_job.specs.Taking.{told, told_at, cited_all, cited_key, cited, kind, meeting, wanting, found, looked_for, named, part_taken, fault_words, fault_outcome, is_second, second_words, entered, item_taken};
 
 use crate::citations::{Citations, Outcome};
 use crate::files::File;
@@ -43,25 +42,6 @@ pub fn tell_at(
     tell(citations, Rank::Error, words)
 }
 
-/// Whether two keys are one without regard to case.
-fn is_same_key(known: &Bytes, key: &[u8]) -> bool
-    ensures { result ≡ is_same_key known.now key.now }
-{
-    known.as_slice().eq_ignore_ascii_case(key)
-}
-
-/// The first of some keys that is this one without regard to case.
-fn same_key<'a>(keys: &'a [Bytes], key: &[u8]) -> Option<&'a [u8]>
-    ensures { option_map (λ t. t.now) result ≡ same_key key.now keys.now }
-{
-    'keys: for known in keys {
-        if is_same_key(known, key) {
-            return Some(known.as_slice());
-        }
-    }
-    None
-}
-
 /// Takes a part `*`.
 fn cite_all(alloc: Global, citations: &mut Citations) -> Result<Outcome, AllocError>
     ensures { IfOk result (λ outcome. (citations.new, outcome) ≡ cited_all citations.old.star citations.old) }
@@ -92,8 +72,8 @@ fn cite(alloc: Global, citations: &mut Citations, part: &[u8]) -> Result<Outcome
     if part == b"*".as_slice() {
         return cite_all(alloc, citations);
     }
-    let Some(old) = same_key(citations.keys.as_slice(), part) else {
-        citations.keys.push(Bytes::copied(alloc, part)?)?;
+    let Some(old) = citations.keys.same(alloc, part)? else {
+        citations.keys.push(alloc, part)?;
         return Ok(Outcome::Taken);
     };
     if old == part {

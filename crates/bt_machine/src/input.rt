@@ -2,7 +2,7 @@
 
 use bt_actions::{Entry, Variables};
 use bt_style::Target;
-use bt_text::{Bytes, Held};
+use bt_text::{Bytes, Held, Shared};
 
 /// What a step is given.
 #[derive(Debug, Drop)]
@@ -12,8 +12,8 @@ pub struct Input {
     /// The entry that the step is for, or none.
     pub entry: Option<Entry>,
     /// The variables of all entries together.
-    pub globals: Variables,
+    pub globals: Shared<Variables>,
     /// The line that was written and did not end.
     pub held: Held,
-    pub preamble: Bytes,
+    pub preamble: Shared<Bytes>,
 }

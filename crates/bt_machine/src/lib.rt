@@ -20,4 +20,6 @@ pub use outcome::Outcome;
 pub use step::activate;
 
 #[cfg(test)]
+mod test_steps;
+#[cfg(test)]
 mod tests;

@@ -2,17 +2,17 @@
 
 use bt_actions::{Message, Variables};
 use bt_style::BUILTIN_COUNT;
-use bt_text::{Bytes, Held, Sequence};
+use bt_text::{Bytes, Held, Sequence, Shared};
 
 /// What a step leaves.
 #[derive(Debug, Drop)]
 pub struct Outcome {
-    pub globals: Variables,
+    pub globals: Shared<Variables>,
     /// The variables of the step's entry, if it has one.
-    pub variables: Option<Variables>,
+    pub variables: Option<Shared<Variables>>,
     pub held: Held,
     /// The step's own lines and messages, in their order.
-    pub lines: Sequence<Bytes>,
+    pub lines: Sequence<Shared<Bytes>>,
     pub messages: Sequence<Message>,
     /// Whether a limit was passed, so that the run stops.
     pub stop: bool,

@@ -4,7 +4,7 @@ ghost use Rattle.std.specs.Prelude.{◌≡◌, ◌∷◌, [], ◌+◌, ◌^◌, 
 ghost use Rattle.bt_style.specs.Program.{program_of};
 ghost use Rattle.bt_actions.specs.Item.{Name};
 ghost use Rattle.bt_actions.specs.View.{entries_in, world_of, entries_seen, place_seen};
-ghost use Rattle.bt_machine.specs.Step.{begun, finished_at, step_in, world_in, place_in, outcome_of};
+ghost use Rattle.bt_machine.specs.Step.{begun, finished_at, step_in, world_in, place_in, first_variables, outcome_of};
 ghost use Rattle.bt_machine.specs.Control.{Run, frames_of, ticks_of, is_stop, checked_at};
 
 use crate::input::Input;
@@ -14,27 +14,30 @@ use crate::outcome::Outcome;
 use crate::script::Script;
 use bt_actions::{Code, Complaint, Current, Flow, State, TICK_LIMIT, Tally, Variables};
 use bt_style::Style;
-use bt_text::{Bytes, Sequence};
+use bt_text::{Bytes, Sequence, Shared};
 use std::alloc::{AllocError, Global};
 
-/// The same texts again.
-fn copy_texts(alloc: Global, texts: &[Bytes]) -> Result<Sequence<Bytes>, AllocError>
-    ensures { IfOk result (λ copies. copies ≡ texts.now) }
+/// The same texts for one more owner; none of them is copied.
+fn share_texts(
+    alloc: Global,
+    texts: &[Shared<Bytes>],
+) -> Result<Sequence<Shared<Bytes>>, AllocError>
+    ensures { IfOk result (λ same. same ≡ texts.now) }
 {
-    let mut copies = Sequence::new(alloc);
+    let mut same = Sequence::new(alloc);
     'texts: for text in texts {
-        copies.push(Bytes::copied(alloc, text.as_slice())?)?;
+        same.push(text.share()?)?;
     }
-    Ok(copies)
+    Ok(same)
 }
 
-/// The same variables again.
-fn copy_variables(alloc: Global, variables: &Variables) -> Result<Variables, AllocError>
-    ensures { IfOk result (λ copies. copies ≡ variables.now) }
+/// The same variables, which can be changed, with the same texts.
+fn own_variables(alloc: Global, variables: &Variables) -> Result<Variables, AllocError>
+    ensures { IfOk result (λ own. own ≡ variables.now) }
 {
     Ok(Variables {
         numbers: Sequence::from_vec(Vec::from_slice(alloc, variables.numbers.as_slice())?),
-        texts: copy_texts(alloc, variables.texts.as_slice())?,
+        texts: share_texts(alloc, variables.texts.as_slice())?,
     })
 }
 
@@ -47,7 +50,7 @@ fn current_entry<'a>(alloc: Global, input: &'a Input) -> Result<Option<Current<'
         None => Ok(None),
         Some(entry) => Ok(Some(Current {
             entry,
-            variables: copy_variables(alloc, &entry.variables)?,
+            variables: own_variables(alloc, &entry.variables)?,
         })),
     }
 }
@@ -59,7 +62,7 @@ fn begin<'a>(alloc: Global, input: &'a Input) -> Result<Machine<'a>, AllocError>
     ensures ticks { IfOk result (λ m. ticks_of m ≡ 1000000) }
 {
     let current = current_entry(alloc, input)?;
-    let globals = copy_variables(alloc, &input.globals)?;
+    let globals = own_variables(alloc, &input.globals)?;
     let held = input.held.copy(alloc)?;
     let mut control = Vec::new(alloc);
     control.push(Frame::Run(Code::Name(input.target)))?;
@@ -89,6 +92,33 @@ fn check_stack(state: &mut State, flow: Flow) -> Result<(), AllocError>
     Ok(())
 }
 
+/// The same lines, each as a text that can have more owners.
+fn shared_lines(
+    alloc: Global,
+    lines: Sequence<Bytes>,
+) -> Result<Sequence<Shared<Bytes>>, AllocError>
+    ensures { IfOk result (λ shared. shared ≡ lines) }
+{
+    let mut shared = Sequence::new(alloc);
+    'lines: for line in lines.into_vec() {
+        shared.push(Shared::new(alloc, line)?)?;
+    }
+    Ok(shared)
+}
+
+/// The variables of the step's entry, if it has one.
+fn variables_left(
+    alloc: Global,
+    current: Option<Current>,
+) -> Result<Option<Shared<Variables>>, AllocError>
+    ensures { IfOk result (λ left. left ≡ first_variables (entries_seen current.entry)) }
+{
+    match current {
+        None => Ok(None),
+        Some(current) => Ok(Some(Shared::new(alloc, current.variables)?)),
+    }
+}
+
 /// What a run leaves.
 fn leave(alloc: Global, state: State, flow: Flow) -> Result<Outcome, AllocError>
     ensures { IfOk result (λ outcome. outcome ≡ outcome_of
@@ -107,10 +137,10 @@ fn leave(alloc: Global, state: State, flow: Flow) -> Result<Outcome, AllocError>
     } = state;
     let calls = tally.calls;
     Ok(Outcome {
-        globals,
-        variables: current.map(|current| current.variables),
+        globals: Shared::new(alloc, globals)?,
+        variables: variables_left(alloc, current)?,
         held,
-        lines,
+        lines: shared_lines(alloc, lines)?,
         messages,
         stop: flow == Flow::Stop,
         calls,

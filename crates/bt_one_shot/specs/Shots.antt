@@ -1,7 +1,8 @@
 -- What the one-shot form leaves in a folder, and its exit status.
-use Rattle.std.specs.Prelude.{◌≡◌, ◌⊎◌, ℕ, nat_le, List, [], ◌∷◌, ◌++◌, Option, codes, if◌then◌else◌}
+use Rattle.std.specs.Prelude.{◌≡◌, ◌⊎◌, ℕ, Bool, true, false, nat_le, List, [], ◌∷◌, ◌++◌, Option, codes, if◌then◌else◌}
 use Rattle.bibtex.specs.Present.{State, shown}
-use Rattle.bt_one_shot.specs.Folders.{Written, Gains, Stays}
+use Rattle.bt_serve.specs.Writes.{AppendsPart}
+use Rattle.bt_one_shot.specs.Folders.{Contents, AreHeld, Written, Gains, Stays}
 
 -- 0 where there were warnings at most, else the status
 abbrev pub exit_of : ℕ → ℕ
@@ -21,6 +22,17 @@ Leaves s old new exit =
     (Gains old new (bbl_file s ∷ blg_file s ∷ []) × (exit ≡ exit_of (shown s).status))
     ⊎ ((Gains old new (bbl_file s ∷ []) ⊎ Stays old new) × (exit ≡ 3))
 
--- a state of this root and min-crossrefs is run, and this is what it leaves
-abbrev pub Runs : List ℕ → ℕ → Option (List Written) → Option (List Written) → ℕ → Type 0
-Runs root min old new exit = (s : State) × (s.root ≡ root) × (s.min ≡ min) × Leaves s old new exit
+-- the log that is printed: the terse one where it is asked for
+abbrev pub printed_log : Bool → State → List ℕ
+printed_log true s = (shown s).terse
+printed_log false s = (shown s).blg
+
+-- A state of this root and min-crossrefs, whose files the folder holds, is run: this is what it leaves, and a beginning of its log is printed.
+pub record Runs (root : List ℕ) (min : ℕ) (terse : Bool) (held : Option Contents) (old new : Option (List Written))
+    (out out' : Option (List ℕ)) (exit : ℕ) : Type 0 where
+  pub state : State
+  pub is_root : state.root ≡ root
+  pub is_min : state.min ≡ min
+  pub are_held : AreHeld held state.texts
+  pub leaves : Leaves state old new exit
+  pub prints : AppendsPart out out' (printed_log terse state)

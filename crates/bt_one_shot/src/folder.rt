@@ -1,8 +1,5 @@
 //! Where a job's files are read and written.
 
-ghost use Rattle.std.specs.Prelude.{List, Option, [], ◌∷◌};
-ghost use Rattle.bt_one_shot.specs.Folders.{Written, Stays, WritesFile};
-
 use bt_text::Bytes;
 
 /// What a folder gives for a name.
@@ -18,12 +15,20 @@ pub enum Found {
 
 /// A folder of files.
 pub trait Folder {
+    ghost use Rattle.std.specs.Prelude.{◌≡◌, List, Option};
+    ghost use Rattle.bt_one_shot.specs.Folders.{Contents, Finds, Written, Stays, WritesFile};
+
+    /// What it holds, where it tells.
+    ghost held: { Self → Option Contents };
+
     /// What was written to it, the first first, where it tells.
     ghost written: { Self → Option (List Written) };
 
     /// The file of a name.
     fn read(&mut self, name: &[u8]) -> Found
-        ensures { Stays (written self.old) (written self.new) };
+        ensures found { Finds (held self.old) name.now result }
+        ensures held { held self.new ≡ held self.old }
+        ensures written { Stays (written self.old) (written self.new) };
 
     /// Writes a file, and says whether it succeeded.
     fn write(&mut self, name: &[u8], bytes: &[u8]) -> bool

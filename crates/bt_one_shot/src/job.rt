@@ -1,9 +1,10 @@
 //! The one-shot form: reads the files of a job, writes its `.bbl` and its `.blg`, and prints the log.
 
-ghost use Rattle.std.specs.Prelude.{◌≡◌, ◌^◌, ◌-◌, ◌<◌, ◌++◌, true, codes, MatchResult};
+ghost use Rattle.std.specs.Prelude.{◌≡◌, ◌^◌, ◌-◌, ◌<◌, ◌++◌, true, codes, IfOk, OnErr};
 ghost use Rattle.bibtex.specs.Present.{is_root_name, shown};
+ghost use Rattle.bt_serve.specs.Writes.{AppendsPart};
 ghost use Rattle.bt_one_shot.specs.Folders.{Stays};
-ghost use Rattle.bt_one_shot.specs.Shots.{exit_of, Leaves, Runs};
+ghost use Rattle.bt_one_shot.specs.Shots.{exit_of, printed_log, Leaves, Runs};
 
 use crate::folder::Folder;
 use crate::loading::{load_all, tell};
@@ -23,7 +24,33 @@ fn exit_status(status: u8) -> u8
     if status <= 1 { 0 } else { status }
 }
 
+/// The log that is printed.
+fn printed_log(session: &Session, terse: bool) -> &[u8]
+    ensures { result.now ≡ printed_log terse session.now }
+{
+    if terse {
+        session.terse()
+    } else {
+        session.blg()
+    }
+}
+
+/// Prints a log, as far as that succeeds.
+#[tactic(auto, using(crate::proofs::PrintLemmas::printed_all))]
+fn print_log<O: Sink>(out: &mut O, log: &[u8])
+    requires { O.failure_count out.old < 2 ^ 64 - 1 }
+    ensures { AppendsPart (O.contents out.old) (O.contents out.new) log.now }
+{
+    match write_all(out, log) {
+        Ok(()) => {
+            let _ = out.flush();
+        }
+        Err(_) => {}
+    }
+}
+
 /// Writes the two files of a session, and a log to `out`.
+#[tactic(auto, using(crate::proofs::PrintLemmas::printed_nothing))]
 fn write_out<F: Folder, O: Sink, E: Sink>(
     session: &Session,
     names: (&[u8], &[u8]),
@@ -37,7 +64,8 @@ fn write_out<F: Folder, O: Sink, E: Sink>(
     requires blg { names.1.now ≡ session.now.root ++ codes ".blg" }
     requires err { known < 2 ^ 64 - 1 }
     requires out { O.failure_count out.old < 2 ^ 64 - 1 }
-    ensures { Leaves session.now (F.written folder.old) (F.written folder.new) result }
+    ensures files { Leaves session.now (F.written folder.old) (F.written folder.new) result }
+    ensures prints { AppendsPart (O.contents out.old) (O.contents out.new) log.now }
 {
     let (bbl, blg) = names;
     if !folder.write(bbl, session.bbl()) {
@@ -48,9 +76,7 @@ fn write_out<F: Folder, O: Sink, E: Sink>(
         tell(err, known, b"bibtex: can't write ", blg, b"", b"");
         return UNWRITTEN;
     }
-    if write_all(out, log).is_ok() {
-        let _ = out.flush();
-    }
+    print_log(out, log);
     exit_status(session.status())
 }
 
@@ -70,9 +96,10 @@ pub fn one_shot<F: Folder, O: Sink, E: Sink>(
     requires root { is_root_name options.now.root ≡ true }
     requires out { O.failure_count out.old < 2 ^ 64 - 1 }
     requires err { E.failure_count err.old < 2 ^ 64 - 1 }
-    ensures { MatchResult result
-        (Runs options.now.root options.now.min (F.written folder.old) (F.written folder.new))
-        (λ _. Stays (F.written folder.old) (F.written folder.new)) }
+    ensures ok { IfOk result (Runs options.now.root options.now.min options.now.terse (F.held folder.old)
+        (F.written folder.old) (F.written folder.new) (O.contents out.old) (O.contents out.new)) }
+    ensures err { OnErr result (Stays (F.written folder.old) (F.written folder.new)) }
+    ensures unprinted { OnErr result (O.contents out.new ≡ O.contents out.old) }
 {
     let root = options.root.as_slice();
     let Ok(mut session) = Session::new(alloc, root, options.min) else {
@@ -83,10 +110,6 @@ pub fn one_shot<F: Folder, O: Sink, E: Sink>(
     let bbl = pair(alloc, root, b".bbl")?;
     let blg = pair(alloc, root, b".blg")?;
     let names = (bbl.as_slice(), blg.as_slice());
-    let log = if options.terse {
-        session.terse()
-    } else {
-        session.blg()
-    };
+    let log = printed_log(&session, options.terse);
     Ok(write_out(&session, names, log, folder, out, err, known))
 }

@@ -2,7 +2,7 @@
 //! the steps of the style run once.
 
 ghost use Rattle.std.specs.Prelude.{◌≡◌, ◌^◌, ◌-◌, ◌<◌, OnOk, OnErr};
-ghost use Rattle.bt_one_shot.specs.Folders.{Stays};
+ghost use Rattle.bt_one_shot.specs.Folders.{AreHeld, Stays};
 
 use crate::folder::{Folder, Found};
 use bibtex::{Edit, Refusal, Session};
@@ -89,7 +89,7 @@ fn tell_refused<E: Sink>(err: &mut E, known: u64, refusal: Refusal, name: &[u8])
 }
 
 /// Hands a file to the session, if it can be read.
-#[tactic(auto, using(crate::proofs::FolderLemmas::stays_more, crate::proofs::FolderLemmas::stays_none))]
+#[tactic(auto, using(crate::proofs::FolderLemmas::stays_more, crate::proofs::FolderLemmas::stays_none, crate::proofs::FolderLemmas::write_held))]
 fn load<F: Folder, E: Sink>(
     session: &mut Session,
     folder: &mut F,
@@ -100,6 +100,8 @@ fn load<F: Folder, E: Sink>(
     requires { known < 2 ^ 64 - 1 }
     ensures root { session.new.root ≡ session.old.root }
     ensures min { session.new.min ≡ session.old.min }
+    ensures files { AreHeld (F.held folder.old) session.old.texts → AreHeld (F.held folder.old) session.new.texts }
+    ensures held { F.held folder.new ≡ F.held folder.old }
     ensures folder { Stays (F.written folder.old) (F.written folder.new) }
 {
     match folder.read(name) {
@@ -113,7 +115,7 @@ fn load<F: Folder, E: Sink>(
 }
 
 /// Hands files to the session, each that can be read, and notes that they were read.
-#[tactic(auto, using(crate::proofs::FolderLemmas::stays_more, crate::proofs::FolderLemmas::stays_none))]
+#[tactic(auto, using(crate::proofs::FolderLemmas::stays_more, crate::proofs::FolderLemmas::stays_none, crate::proofs::FolderLemmas::held_stays))]
 fn load_each<F: Folder, E: Sink>(
     alloc: Global,
     session: &mut Session,
@@ -126,6 +128,8 @@ fn load_each<F: Folder, E: Sink>(
     requires { known < 2 ^ 64 - 1 }
     ensures root { session.new.root ≡ session.old.root }
     ensures min { session.new.min ≡ session.old.min }
+    ensures files { AreHeld (F.held folder.old) session.old.texts → AreHeld (F.held folder.old) session.new.texts }
+    ensures held { F.held folder.new ≡ F.held folder.old }
     ensures folder { Stays (F.written folder.old) (F.written folder.new) }
 {
     'names: for name in names {
@@ -137,7 +141,7 @@ fn load_each<F: Folder, E: Sink>(
 
 /// Reads each file that the session wants, once each, until it wants no new one. A file that is refused is told on
 /// `err`, and counts as missing. The one error is want of memory.
-#[tactic(auto, using(crate::proofs::FolderLemmas::stays_more, crate::proofs::FolderLemmas::stays_none))]
+#[tactic(auto, using(crate::proofs::FolderLemmas::stays_more, crate::proofs::FolderLemmas::stays_none, crate::proofs::FolderLemmas::held_stays))]
 pub fn load_all<F: Folder, E: Sink>(
     alloc: Global,
     session: &mut Session,
@@ -148,6 +152,8 @@ pub fn load_all<F: Folder, E: Sink>(
     requires { known < 2 ^ 64 - 1 }
     ensures root { session.new.root ≡ session.old.root }
     ensures min { session.new.min ≡ session.old.min }
+    ensures files { AreHeld (F.held folder.old) session.old.texts → AreHeld (F.held folder.old) session.new.texts }
+    ensures held { F.held folder.new ≡ F.held folder.old }
     ensures folder { Stays (F.written folder.old) (F.written folder.new) }
 {
     let mut met = HashSet::new(alloc);

@@ -17,7 +17,7 @@ pub struct Options {
     pub root: Bytes,
     /// How many entries have to refer to an uncited one for it to be listed.
     pub min: u32,
-    /// Whether the log is printed without the lines of files.
+    /// Whether the log is printed without the lines of files and the counts of calls.
     pub terse: bool,
     /// Whether commands are read from standard input.
     pub resident: bool,
@@ -27,13 +27,13 @@ pub struct Options {
 #[derive(Debug, Drop, Error)]
 pub enum OptionsFault {
     /// The parser's fault, or the help that was asked for.
-    #[error("{0}")]
+    #[error("Parser")]
     Parser(clap::Error),
     /// The job's name isn't one of 1 to 60 ASCII letters, digits or `. - _ + /`.
-    #[error("bad job name")]
+    #[error("BadJobName")]
     BadJobName,
     /// There was no room.
-    #[error("out of memory")]
+    #[error("OutOfMemory")]
     OutOfMemory,
 }
 
@@ -53,7 +53,9 @@ impl From<clap::Error> for OptionsFault {
     }
 }
 
-/// What these words ask for, of which the first is the program's name. A last `.aux` of the job's name is left out.
+/// What these words ask for, of which the first is the program's name. A last `.aux` of the job's name is left out. Words
+/// that the parser doesn't take, and `--help`, are `Parser`; a name that isn't a root's is `BadJobName`; want of memory
+/// may stand in the place of either.
 pub fn parse_options(alloc: Global, words: &[String]) -> Result<Options, OptionsFault>
     ensures root { IfOk result (λ options. is_root_name options.root ≡ true) }
     ensures min { IfOk result (λ options. options.min ≤ 65535) }

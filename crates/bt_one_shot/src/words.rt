@@ -3,23 +3,25 @@
 use clap::{Arg, ArgAction, Command, value_parser};
 use std::alloc::{AllocError, Global};
 
-const ABOUT: &str =
-    "Writes the bibliography of a LaTeX document: reads what JOB.aux cites, looks it up in the \
-databases (.bib) that it names, and writes JOB.bbl as its style (.bst) says. JOB.blg gets the log, which is also \
-printed.";
+const ABOUT: &str = "\
+Writes the bibliography of a LaTeX document: reads what JOB.aux cites, looks it up in the
+databases (.bib) that it names, and writes JOB.bbl as its style (.bst) says. JOB.blg gets
+the log, which is also printed. All files are looked for in the folder that it is started
+in, by the names that the document gives; there is no search path.";
 
-const EXAMPLE: &str =
-    "Example: after `latex paper`, run `bibtex paper`, and then `latex paper` twice. An editor starts \
-`bibtex --resident paper` once, writes commands to it and reads their answers.
+const EXAMPLE: &str = "\
+Example: after `latex paper`, run `bibtex paper`, and then `latex paper` twice. An editor
+starts `bibtex --resident paper` once, writes commands to it and reads their answers:
+write, splice, remove, root, min, bbl, blg, status, quit.
 
-Exit status: 0 if there were warnings at most, 2 if there were errors, 3 after a fatal error or if a file can't be \
-written, 1 if the command line is wrong.";
+Exit status: 0 if there were warnings at most, 2 if there were errors, 3 after a fatal
+error or if a file can't be written, 1 if the command line is wrong.";
 
 fn job(alloc: Global) -> Arg<'static> {
     Arg::new(alloc, "JOB")
         .required(true)
         .action(ArgAction::Set)
-        .help("The name of the document, with or without .aux")
+        .help("The document, with or without .aux: 1 to 60 letters, digits or . - _ + /")
 }
 
 fn min_crossrefs(alloc: Global) -> Arg<'static> {
@@ -35,14 +37,14 @@ fn terse(alloc: Global) -> Arg<'static> {
     Arg::new(alloc, "terse")
         .long("terse")
         .action(ArgAction::SetTrue)
-        .help("Print the log without the names of the files")
+        .help("Print the log without the names of the files and the counts of calls")
 }
 
 fn resident(alloc: Global) -> Arg<'static> {
     Arg::new(alloc, "resident")
         .long("resident")
         .action(ArgAction::SetTrue)
-        .help("Read commands from standard input and answer them on standard output")
+        .help("Answer commands of standard input; read and write no file")
 }
 
 /// The command line: what it takes, and what `--help` tells.

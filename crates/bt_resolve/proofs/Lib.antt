@@ -8,3 +8,8 @@ pub mod InheritingLemmas
 pub mod PlacingLemmas
 pub mod LawLemmas
 pub mod ApartLemmas
+mod RowWords
+mod MacroRows
+mod CrossrefRows
+mod KeyRows
+mod LimitRows

@@ -16,7 +16,7 @@ use crate::store::Store;
 use crate::stored::Stored;
 use crate::warnings::no_function;
 use bt_bib::Entry;
-use bt_text::{Bytes, Sequence, to_ascii_lowercase};
+use bt_text::{Bytes, Sequence, Shared, to_ascii_lowercase};
 use std::alloc::{AllocError, Global};
 
 /// The type of an entry, as written.
@@ -57,7 +57,7 @@ fn read_stored(
     macros: &ByName<Bytes>,
     place: Place,
     entry: &Entry,
-    key: &[u8],
+    key: &Shared<Bytes>,
     messages: &mut Sequence<Message>,
 ) -> Result<Stored, AllocError>
     requires { IsTrue (are_apart asked.now.fields) }
@@ -68,20 +68,20 @@ fn read_stored(
 {
     let kind = kind_of(entry);
     let function = asked.types.place(alloc, kind)?;
-    tell_type(alloc, function, place, key, messages)?;
+    tell_type(alloc, function, place, key.as_slice(), messages)?;
     let setting = Setting {
         declared: &asked.fields,
         macros,
         database: place.database,
-        key,
+        key: key.as_slice(),
     };
     let given = read_fields(alloc, &setting, entry.fields.as_slice(), messages)?;
     Ok(Stored {
-        key: Bytes::copied(alloc, key)?,
-        kind: to_ascii_lowercase(alloc, kind)?,
+        key: key.share()?,
+        kind: Shared::new(alloc, to_ascii_lowercase(alloc, kind)?)?,
         function,
         crossref: given.crossref,
-        values: given.values,
+        values: Shared::new(alloc, given.values)?,
     })
 }
 
@@ -144,8 +144,7 @@ pub fn read_entry(
     let Some(key) = &entry.key else {
         return Ok(store);
     };
-    let key = key.as_slice();
-    match standing_of(alloc, asked, &store, key)? {
+    match standing_of(alloc, asked, &store, key.as_slice())? {
         Standing::Unwanted => Ok(store),
         Standing::Repeated => {
             messages.push(repeated(alloc, place)?)?;

@@ -1,19 +1,19 @@
 //! What a style sees of the databases.
 
 use crate::message::Message;
-use bt_text::{Bytes, Sequence};
+use bt_text::{Bytes, Sequence, Shared};
 
-/// An entry of the list.
+/// An entry of the list. Its texts and its values have several owners, and are shared without copying.
 #[derive(Debug, Drop)]
 pub struct Entry {
     /// Its key, as it is cited; as in the database where it isn't.
-    pub key: Bytes,
+    pub key: Shared<Bytes>,
     /// Its type, in small letters.
-    pub kind: Bytes,
+    pub kind: Shared<Bytes>,
     /// Which of the types that have a function it has.
     pub function: Option<usize>,
     /// Its values, in the order of the style's fields; none where a field is missing.
-    pub fields: Sequence<Option<Bytes>>,
+    pub fields: Shared<Sequence<Option<Shared<Bytes>>>>,
 }
 
 /// The list of entries, what the preambles say, and every message, in the order of the log.
@@ -22,7 +22,7 @@ pub struct Resolved {
     /// The entries, in the order of the list.
     pub entries: Sequence<Entry>,
     /// The values of all preambles, joined.
-    pub preamble: Bytes,
+    pub preamble: Shared<Bytes>,
     /// The messages.
     pub messages: Sequence<Message>,
 }

@@ -10,10 +10,11 @@ ghost use Rattle.bt_resolve.specs.Values.{field_value};
 use crate::by_name::ByName;
 use crate::index::Index;
 use crate::message::{Message, Place};
+use crate::stored::FieldValues;
 use crate::values::read_field_value;
 use crate::warnings::extra_field;
 use bt_bib::Field;
-use bt_text::{Bytes, Sequence, eq_ignore_ascii_case};
+use bt_text::{Bytes, Sequence, Shared, eq_ignore_ascii_case};
 use std::alloc::{AllocError, Global};
 
 /// The field that refers to another entry.
@@ -23,9 +24,9 @@ pub const CROSSREF: &[u8] = b"crossref";
 #[derive(Drop)]
 pub struct Given {
     /// The values in the order of the style's fields, without that of `crossref`.
-    pub values: Sequence<Option<Bytes>>,
+    pub values: FieldValues,
     /// The value of `crossref`.
-    pub crossref: Option<Bytes>,
+    pub crossref: Option<Shared<Bytes>>,
 }
 
 /// Where the value of a declared field goes.
@@ -76,7 +77,7 @@ fn is_filled(given: &Given, slot: Slot) -> bool
 }
 
 /// Puts a value in its slot.
-fn fill(given: &mut Given, slot: Slot, value: Bytes)
+fn fill(given: &mut Given, slot: Slot, value: Shared<Bytes>)
     ensures { given.new ≡ fill slot value given.old }
 {
     match slot {
@@ -95,7 +96,7 @@ fn put_value(
     setting: &Setting<'_>,
     field: &Field,
     slot: Slot,
-    value: Bytes,
+    value: Shared<Bytes>,
     given: &mut Given,
     messages: &mut Sequence<Message>,
 ) -> Result<(), AllocError>
@@ -160,7 +161,7 @@ fn read_field(
 }
 
 /// No value for any field.
-fn no_values(alloc: Global, names: &[Bytes]) -> Result<Sequence<Option<Bytes>>, AllocError>
+fn no_values(alloc: Global, names: &[Bytes]) -> Result<FieldValues, AllocError>
     ensures { IfOk result (λ values. values ≡ map no_value names.now) }
 {
     let mut values = Sequence::new(alloc);

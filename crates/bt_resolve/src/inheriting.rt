@@ -6,56 +6,41 @@ ghost use Rattle.bt_resolve.specs.Inherited.{inherited, or_first};
 ghost use Rattle.bt_resolve.specs.Inheriting.{all_inherit, inherits_at, values_read};
 
 use crate::family::Family;
-use crate::stored::Stored;
-use bt_text::{Bytes, Sequence};
+use crate::stored::{FieldValues, Stored};
+use bt_text::{Bytes, Sequence, Shared};
 use std::alloc::{AllocError, Global};
 
-/// A copy of a value that may be missing.
-pub fn copied(alloc: Global, value: &Option<Bytes>) -> Result<Option<Bytes>, AllocError>
-    ensures { IfOk result (λ copy. copy ≡ value.now) }
+/// A value that may be missing, for one more owner.
+pub fn shared(value: &Option<Shared<Bytes>>) -> Result<Option<Shared<Bytes>>, AllocError>
+    ensures { IfOk result (λ same. same ≡ value.now) }
 {
     match value {
         None => Ok(None),
-        Some(text) => Ok(Some(Bytes::copied(alloc, text.as_slice())?)),
+        Some(text) => Ok(Some(text.share()?)),
     }
-}
-
-/// Copies of all values.
-pub fn copied_values(
-    alloc: Global,
-    values: &[Option<Bytes>],
-) -> Result<Sequence<Option<Bytes>>, AllocError>
-    ensures { IfOk result (λ copy. copy ≡ values.now) }
-{
-    let mut copy = Sequence::new(alloc);
-    'values: for value in values {
-        copy.push(copied(alloc, value)?)?;
-    }
-    Ok(copy)
 }
 
 /// A value, else the first of the parent's.
 fn or_first(
-    alloc: Global,
-    mine: &Option<Bytes>,
-    theirs: &[Option<Bytes>],
-) -> Result<Option<Bytes>, AllocError>
+    mine: &Option<Shared<Bytes>>,
+    theirs: &[Option<Shared<Bytes>>],
+) -> Result<Option<Shared<Bytes>>, AllocError>
     ensures { IfOk result (λ value. value ≡ or_first mine.now theirs.now) }
 {
     match mine {
-        Some(text) => Ok(Some(Bytes::copied(alloc, text.as_slice())?)),
+        Some(text) => Ok(Some(text.share()?)),
         None => {
             if theirs.is_empty() {
                 Ok(None)
             } else {
-                copied(alloc, &theirs[0])
+                shared(&theirs[0])
             }
         }
     }
 }
 
 /// What stands behind the first of some values.
-fn behind(values: &[Option<Bytes>], count: usize) -> &[Option<Bytes>]
+fn behind(values: &[Option<Shared<Bytes>>], count: usize) -> &[Option<Shared<Bytes>>]
     ensures { result.now ≡ drop count values.now }
 {
     values.get(count..).unwrap_or(&[])
@@ -64,34 +49,31 @@ fn behind(values: &[Option<Bytes>], count: usize) -> &[Option<Bytes>]
 /// Each missing value taken from the parent.
 fn inherited(
     alloc: Global,
-    mine: &[Option<Bytes>],
-    theirs: &[Option<Bytes>],
-) -> Result<Sequence<Option<Bytes>>, AllocError>
+    mine: &[Option<Shared<Bytes>>],
+    theirs: &[Option<Shared<Bytes>>],
+) -> Result<FieldValues, AllocError>
     ensures { IfOk result (λ values. values ≡ inherited mine.now theirs.now) }
 {
     let mut values = Sequence::new(alloc);
     'values: for i in 0..mine.len() {
-        values.push(or_first(alloc, &mine[i], behind(theirs, i))?)?;
+        values.push(or_first(&mine[i], behind(theirs, i))?)?;
     }
     Ok(values)
 }
 
 /// The values of all entries, as they were read.
-pub fn values_read(
-    alloc: Global,
-    stored: &[Stored],
-) -> Result<Vec<Sequence<Option<Bytes>>>, AllocError>
+pub fn values_read(alloc: Global, stored: &[Stored]) -> Result<Vec<Shared<FieldValues>>, AllocError>
     ensures { IfOk result (λ values. values.items ≡ values_read stored.now) }
 {
     let mut values = Vec::new(alloc);
     'entries: for entry in stored {
-        values.push(copied_values(alloc, entry.values.as_slice())?)?;
+        values.push(entry.values.share()?)?;
     }
     Ok(values)
 }
 
 /// The values of the entry of a place.
-pub fn values_at(values: &[Sequence<Option<Bytes>>], place: usize) -> &[Option<Bytes>]
+fn values_at(values: &[Shared<FieldValues>], place: usize) -> &[Option<Shared<Bytes>>]
     ensures { result.now ≡ slice_index_or values.now place [] }
 {
     if place < values.len() {
@@ -106,7 +88,7 @@ fn inherit_at(
     alloc: Global,
     family: &Family,
     place: usize,
-    values: &mut Vec<Sequence<Option<Bytes>>>,
+    values: &mut Vec<Shared<FieldValues>>,
 ) -> Result<(), AllocError>
     ensures { OnOk result (values.new.items ≡ inherits_at family.now values.old.items place) }
 {
@@ -115,7 +97,7 @@ fn inherit_at(
     };
     let mine = values_at(values.as_slice(), place);
     let theirs = values_at(values.as_slice(), parent);
-    let filled = inherited(alloc, mine, theirs)?;
+    let filled = Shared::new(alloc, inherited(alloc, mine, theirs)?)?;
     if place < values.len() {
         values[place] = filled;
     }
@@ -127,7 +109,7 @@ pub fn all_inherit(
     alloc: Global,
     family: &Family,
     places: &[usize],
-    values: &mut Vec<Sequence<Option<Bytes>>>,
+    values: &mut Vec<Shared<FieldValues>>,
 ) -> Result<(), AllocError>
     ensures { OnOk result (values.new.items ≡ all_inherit family.now values.old.items places.now) }
 {

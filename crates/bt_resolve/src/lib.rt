@@ -19,6 +19,7 @@ mod message;
 mod reading;
 mod references;
 mod resolution;
+mod seen_values;
 mod state;
 mod store;
 mod stored;
@@ -36,5 +37,7 @@ pub use laws::{
 pub use message::{Message, Place, Rank};
 pub use resolution::resolve;
 
+#[cfg(test)]
+mod row_tests;
 #[cfg(test)]
 mod tests;

@@ -12,7 +12,7 @@ use crate::index::Index;
 use crate::message::{Message, Rank};
 use crate::stored::Stored;
 use crate::warnings::around_quoted;
-use bt_text::{Bytes, Sequence};
+use bt_text::{Bytes, Sequence, Shared};
 use std::alloc::{AllocError, Global};
 
 /// An entry refers to a key that has none.
@@ -72,12 +72,16 @@ fn no_entry(alloc: Global, key: &[u8]) -> Result<Message, AllocError>
 }
 
 /// A key as it is cited, else as in the database.
-pub fn spelled(alloc: Global, keys: &Index<'_>, key: &[u8]) -> Result<Bytes, AllocError>
+pub fn spelled(
+    alloc: Global,
+    keys: &Index<'_>,
+    key: &Shared<Bytes>,
+) -> Result<Shared<Bytes>, AllocError>
     ensures { IfOk result (λ text. text ≡ spelled keys.now key.now) }
 {
-    match keys.find(alloc, key)? {
-        None => Bytes::copied(alloc, key),
-        Some(cited) => Bytes::copied(alloc, cited.as_slice()),
+    match keys.find(alloc, key.as_slice())? {
+        None => key.share(),
+        Some(cited) => Shared::<Bytes>::copied(alloc, cited.as_slice()),
     }
 }
 
@@ -128,7 +132,7 @@ fn tell_crossref(
     alloc: Global,
     family: &Family,
     key: &[u8],
-    crossref: &Option<Bytes>,
+    crossref: &Option<Shared<Bytes>>,
     messages: &mut Sequence<Message>,
 ) -> Result<(), AllocError>
     ensures { OnOk result (messages.new ≡ messages.old
@@ -158,7 +162,7 @@ fn tell_entry(
     match entry {
         None => Ok(()),
         Some(entry) => {
-            let key = spelled(alloc, keys, entry.key.as_slice())?;
+            let key = spelled(alloc, keys, &entry.key)?;
             tell_crossref(alloc, family, key.as_slice(), &entry.crossref, messages)
         }
     }

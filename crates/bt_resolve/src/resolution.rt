@@ -20,7 +20,7 @@ use crate::references::tell_list;
 use crate::state::Reading;
 use crate::visible::entries_of_list;
 use bt_bib::Items;
-use bt_text::Sequence;
+use bt_text::{Sequence, Shared};
 use std::alloc::{AllocError, Global};
 
 /// Reads all databases.
@@ -85,7 +85,7 @@ fn resolve_asked(
     let entries = resolve_list(alloc, asked, min, &family, &mut messages)?;
     Ok(Resolved {
         entries,
-        preamble,
+        preamble: Shared::new(alloc, preamble)?,
         messages,
     })
 }

@@ -95,7 +95,7 @@ fn show(alloc: Global, resolved: &Resolved) -> Result<Bytes, AllocError> {
 }
 
 /// What these keys and two databases give, with this `min`. A key `*` cites all entries.
-fn resolved(
+pub fn resolved(
     alloc: Global,
     cited: &[&str],
     first: &str,

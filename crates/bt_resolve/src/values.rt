@@ -9,7 +9,7 @@ use crate::by_name::ByName;
 use crate::message::{Message, Place};
 use crate::warnings::{own_macro, too_long, undefined_macro};
 use bt_bib::Part;
-use bt_text::{Bytes, Sequence, eq_ignore_ascii_case, join_white};
+use bt_text::{Bytes, Sequence, Shared, eq_ignore_ascii_case, join_white};
 use std::alloc::{AllocError, Global};
 
 /// How many bytes the parts of a value may have together.
@@ -214,13 +214,13 @@ pub fn read_field_value(
     place: Place,
     parts: &[Part],
     messages: &mut Sequence<Message>,
-) -> Result<Bytes, AllocError>
+) -> Result<Shared<Bytes>, AllocError>
     ensures value { IfOk result (λ text. text ≡ field_value (known macros.now) parts.now) }
     ensures messages { OnOk result (messages.new ≡ messages.old
         ++ value_warnings None (known macros.now) place.database name.now place.line parts.now) }
 {
     let value = read_value(alloc, macros, None, name, place, parts, messages)?;
-    Bytes::copied(
+    Shared::<Bytes>::copied(
         alloc,
         without_last_space(without_first_space(value.as_slice())),
     )

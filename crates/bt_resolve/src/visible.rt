@@ -2,18 +2,19 @@
 
 ghost use Rattle.std.specs.Prelude.{◌≡◌, ◌++◌, ◌∷◌, [], slice_get, IfOk, OnOk};
 ghost use Rattle.std.specs.List.{slice_index_or};
-ghost use Rattle.bt_resolve.specs.Inherited.{entries_by, entry_at, entry_seen, final_crossref, is_left_out, with_crossref};
+ghost use Rattle.bt_resolve.specs.Inherited.{entries_by, entry_at, entry_seen, final_crossref, is_left_out};
 ghost use Rattle.bt_resolve.specs.Inheriting.{all_inherit, values_read};
 
 use crate::asked::Asked;
 use crate::entry::Entry;
 use crate::family::Family;
 use crate::fields::CROSSREF;
-use crate::inheriting::{all_inherit, copied, copied_values, values_at, values_read};
+use crate::inheriting::{all_inherit, shared, values_read};
 use crate::list::is_cited_at;
 use crate::references::spelled;
-use crate::stored::Stored;
-use bt_text::{Bytes, Sequence};
+use crate::seen_values::{put_crossref, shared_at};
+use crate::stored::{FieldValues, Stored};
+use bt_text::{Bytes, Sequence, Shared};
 use std::alloc::{AllocError, Global};
 
 /// Whether the entry of a place is left out of the list: it isn't cited, and too few entries refer to it.
@@ -42,7 +43,7 @@ fn final_crossref(
     min: u32,
     family: &Family,
     entry: &Stored,
-) -> Result<Option<Bytes>, AllocError>
+) -> Result<Option<Shared<Bytes>>, AllocError>
     ensures { IfOk result (λ name. name ≡ final_crossref asked.now min family.now entry.now) }
 {
     match family.parent_of(alloc, entry)? {
@@ -51,28 +52,8 @@ fn final_crossref(
             if is_left_out(alloc, asked, min, family, parent)? {
                 Ok(None)
             } else {
-                copied(alloc, &entry.crossref)
+                shared(&entry.crossref)
             }
-        }
-    }
-}
-
-/// Puts `crossref` in its place among the values, if the style has that field.
-fn put_crossref(
-    place: Option<usize>,
-    name: Option<Bytes>,
-    values: Sequence<Option<Bytes>>,
-) -> Sequence<Option<Bytes>>
-    ensures { result ≡ with_crossref place name values }
-{
-    let mut values = values;
-    match place {
-        None => values,
-        Some(place) => {
-            if place < values.len() {
-                values.set(place, name);
-            }
-            values
         }
     }
 }
@@ -83,22 +64,22 @@ fn entry_seen(
     asked: &Asked<'_>,
     min: u32,
     family: &Family,
-    values: &[Option<Bytes>],
+    values: Shared<FieldValues>,
     entry: &Stored,
 ) -> Result<Entry, AllocError>
-    ensures { IfOk result (λ seen. seen ≡ entry_seen asked.now min family.now values.now entry.now) }
+    ensures { IfOk result (λ seen. seen ≡ entry_seen asked.now min family.now values entry.now) }
 {
-    let key = spelled(alloc, &asked.keys, entry.key.as_slice())?;
-    let kind = Bytes::copied(alloc, entry.kind.as_slice())?;
+    let key = spelled(alloc, &asked.keys, &entry.key)?;
+    let kind = entry.kind.share()?;
     let function = entry.function;
     let place = asked.fields.place(alloc, CROSSREF)?;
     let crossref = final_crossref(alloc, asked, min, family, entry)?;
-    let values = copied_values(alloc, values)?;
+    let fields = put_crossref(alloc, place, crossref, values)?;
     Ok(Entry {
         key,
         kind,
         function,
-        fields: put_crossref(place, crossref, values),
+        fields,
     })
 }
 
@@ -108,10 +89,10 @@ fn entry_at(
     asked: &Asked<'_>,
     min: u32,
     family: &Family,
-    values: &[Option<Bytes>],
+    values: Shared<FieldValues>,
     place: usize,
 ) -> Result<Option<Entry>, AllocError>
-    ensures { IfOk result (λ seen. seen ≡ entry_at asked.now min family.now (λ q. values.now) place) }
+    ensures { IfOk result (λ seen. seen ≡ entry_at asked.now min family.now (λ q. values) place) }
 {
     match family.entries().get(place) {
         None => Ok(None),
@@ -128,7 +109,7 @@ fn add_entry(
     asked: &Asked<'_>,
     min: u32,
     family: &Family,
-    values: &[Sequence<Option<Bytes>>],
+    values: &[Shared<FieldValues>],
     place: usize,
     entries: &mut Sequence<Entry>,
 ) -> Result<(), AllocError>
@@ -138,7 +119,7 @@ fn add_entry(
     if is_left_out(alloc, asked, min, family, place)? {
         return Ok(());
     }
-    let values = values_at(values, place);
+    let values = shared_at(alloc, values, place)?;
     match entry_at(alloc, asked, min, family, values, place)? {
         None => Ok(()),
         Some(entry) => {
@@ -154,7 +135,7 @@ fn entries_by(
     asked: &Asked<'_>,
     min: u32,
     family: &Family,
-    values: &[Sequence<Option<Bytes>>],
+    values: &[Shared<FieldValues>],
     places: &[usize],
 ) -> Result<Sequence<Entry>, AllocError>
     ensures { IfOk result (λ entries. entries

@@ -1,11 +1,10 @@
 -- A step in the world of all entries, by its outcome on its input alone.
-use Rattle.std.specs.Prelude.{slice_index_or, slice_get, slice_set}
+use Rattle.std.specs.Prelude.{slice_index_or}
 use Rattle.std.specs.Option.{option_map}
-use Rattle.std.proofs.Common.{◌≡◌, refl, ℕ, zero, suc, ◌+◌, ◌≤◌, ◌<◌, List, [], ◌∷◌, ◌++◌, length, Option, Some, None, sym, ap, ◌∙◌, arith}
+use Rattle.std.proofs.Common.{◌≡◌, refl, ℕ, ◌+◌, ◌≤◌, ◌<◌, List, [], ◌∷◌, ◌++◌, length, Option, Some, None, sym, ap, ◌∙◌, arith}
 use Rattle.std.proofs.Math.Seq.{drop-append_seam}
 use Rattle.std.proofs.lemmas.List.{get_or-set_same, length-set, length-append}
 use Rattle.std.proofs.lemmas.List.Sums.{sum_by-append, sum_by-cons}
-use Rattle.std.proofs.lemmas.Option.{get_or_from_slice_get}
 use Rattle.bt_style.specs.declared.style.Target.{Target}
 use Rattle.bt_style.specs.Program.{Program}
 use Rattle.bt_actions.specs.declared.entry.Entry.{Entry}
@@ -84,21 +83,6 @@ step_taken p law site t x r back i key o cost messages log steps h is_input is_k
     rw (is_log, are_steps, are_told, is_back, is_key, is_cost, is_outcome, is_input) (sym (step_back p law site t x r h))
 
 -- What a step leaves of what a run keeps to
-
--- an element that is replaced twice
-set_set : {X : Type 0} (xs : List X) (n : ℕ) (a b : X) → slice_set (slice_set xs n a) n b ≡ slice_set xs n b
-set_set [] n a b = refl
-set_set (x ∷ xs) zero a b = refl
-set_set (x ∷ xs) (suc n) a b = ap (λ ys. x ∷ ys) (set_set xs n a b)
-
--- an entry that is taken out and put back with other variables
-pub set_again : (entries after new : List Entry) (n : ℕ) (nothing e : Entry) (v : Variables) → n < length entries → slice_get entries n ≡ Some e → after ≡ slice_set entries n nothing → new ≡ slice_set after n (record e { variables = v }) → new ≡ variables_back (Some n) (Some v) entries
-set_again entries after new n nothing e v h is_entry is_after is_new =
-    let there : slice_index_or entries n no_entry ≡ e = get_or_from_slice_get entries n e no_entry is_entry in
-    is_new
-    ∙ ap (λ es. slice_set es n (record e { variables = v })) is_after
-    ∙ set_set entries n nothing (record e { variables = v })
-    ∙ ap (λ (d : Entry). slice_set entries n (record d { variables = v })) (sym there)
 
 -- there are as many entries as before
 pub length-variables_back : (x : Option ℕ) (v : Option Variables) (entries : List Entry) → length (variables_back x v entries) ≡ length entries

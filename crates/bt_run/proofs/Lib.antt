@@ -7,3 +7,4 @@ pub mod CountLemmas
 pub mod StyleLemmas
 pub mod AnswerLemmas
 mod Rows
+mod MeaningRows

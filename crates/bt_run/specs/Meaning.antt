@@ -68,9 +68,13 @@ job_for files c min style p = record {
 abbrev pub carried : Job → List Message → Course
 carried job log = counted (commands_from job 0 job.program.commands (begun (first_globals job.program) log))
 
--- what a style that can be read does, or its first fault, which ends the run
+-- a run under a style of this name with a fault, which is told behind a log and ends the run
+abbrev pub refused : List ℕ → Fault → List Message → Course
+refused style fault log = begun no_variables (log ++ fault_told style fault ∷ [])
+
+-- what a style that can be read does, or its first fault
 abbrev pub styled : List File → Citations → ℕ → List ℕ → Result Program Fault → Course
-styled files c min style (Err fault) = begun no_variables (c.log ++ fault_told style fault ∷ [])
+styled files c min style (Err fault) = refused style fault c.log
 styled files c min style (Ok p) = carried (job_for files c min style p) c.log
 
 -- without a style the run ends behind the .aux files

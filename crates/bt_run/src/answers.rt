@@ -4,7 +4,7 @@ ghost use Rattle.std.specs.Prelude.{◌≡◌, ◌≤◌, length, IfOk};
 ghost use Rattle.std.specs.Option.{ForSome};
 ghost use Rattle.bt_run.specs.Course.{IsConsistent};
 ghost use Rattle.bt_actions.specs.World.{no_variables};
-ghost use Rattle.bt_run.specs.Meaning.{carried, run_with, shown, meaning, report_of};
+ghost use Rattle.bt_run.specs.Meaning.{carried, refused, run_with, shown, meaning, report_of};
 ghost use Rattle.bt_run.specs.JobView.{job_of};
 ghost use Rattle.bt_run.specs.Shown.{meaning_of};
 
@@ -19,7 +19,7 @@ use bt_job::{
 };
 use bt_machine::Meter;
 use bt_resolve::Cites;
-use bt_style::{StyleRefusal, fields_are_apart, read_style};
+use bt_style::{Fault, StyleRefusal, fields_are_apart, read_style};
 use bt_text::{Bytes, Sequence};
 use std::alloc::{AllocError, Global};
 
@@ -74,10 +74,24 @@ fn carry_out_style(
     ensures consistent { IfOk result (λ course. IsConsistent course meter.new) }
 {
     let globals = first_globals(alloc, job.style)?;
-    let mut course = begin(alloc, globals, log);
+    let mut course = begin(alloc, globals, log)?;
     run_commands(alloc, job, &mut course, meter)?;
     tell_counts(alloc, &mut course)?;
     Ok(course)
+}
+
+/// A run under a style with a fault: the fault is told behind a log, and ends the run.
+fn refuse_style(
+    alloc: Global,
+    name: &[u8],
+    fault: Fault,
+    log: Sequence<Message>,
+) -> Result<Course, AllocError>
+    ensures { IfOk result (λ course. course ≡ refused name.now fault log) }
+{
+    let mut log = log;
+    log.push(fault_told(alloc, name, fault)?)?;
+    begin(alloc, no_variables(alloc), log)
 }
 
 /// Runs what the `.aux` files ask for.
@@ -100,35 +114,30 @@ fn run_with(
         star,
         databases,
         style,
-        mut log,
+        log,
         wanted,
-        met: _,
-        citation_met: _,
-        database_met: _,
-        style_met: _,
+        ..
     } = citations;
     let Some(name) = style else {
-        return Ok((begin(alloc, no_variables(alloc), log), wanted));
+        return Ok((begin(alloc, no_variables(alloc), log)?, wanted));
     };
+    let name = name.as_slice();
     fields_are_apart();
+    let keys = keys.into_sequence();
     let cites = Cites { keys, star };
-    match read_style(alloc, text_in(files, name.as_slice())) {
+    match read_style(alloc, text_in(files, name)) {
         Ok(style) => {
             let job = Job {
                 files,
                 cites: &cites,
                 databases: databases.as_slice(),
                 min,
-                name: name.as_slice(),
+                name,
                 style: &style,
             };
-            let course = carry_out_style(alloc, job, log, meter)?;
-            Ok((course, wanted))
+            Ok((carry_out_style(alloc, job, log, meter)?, wanted))
         }
-        Err(StyleRefusal::Fault(fault)) => {
-            log.push(fault_told(alloc, name.as_slice(), fault)?)?;
-            Ok((begin(alloc, no_variables(alloc), log), wanted))
-        }
+        Err(StyleRefusal::Fault(fault)) => Ok((refuse_style(alloc, name, fault, log)?, wanted)),
         Err(StyleRefusal::OutOfMemory) => Err(AllocError),
     }
 }

@@ -9,7 +9,7 @@ use crate::declaring::empty_texts;
 use bt_actions::Variables;
 use bt_job::{Message, Rank};
 use bt_style::{Fault, Style};
-use bt_text::{Bytes, Held, Sequence};
+use bt_text::{Bytes, Held, Sequence, Shared};
 use itoa::Buffer;
 use std::alloc::{AllocError, Global};
 
@@ -48,20 +48,24 @@ pub fn first_globals(alloc: Global, style: &Style) -> Result<Variables, AllocErr
 }
 
 /// A run that has told this, in front of the style's commands.
-pub fn begin(alloc: Global, globals: Variables, log: Sequence<Message>) -> Course
-    ensures { result ≡ begun globals log }
+pub fn begin(
+    alloc: Global,
+    globals: Variables,
+    log: Sequence<Message>,
+) -> Result<Course, AllocError>
+    ensures { IfOk result (λ course. course ≡ begun globals log) }
 {
-    Course {
+    Ok(Course {
         entries: Sequence::new(alloc),
         order: Sequence::new(alloc),
-        globals,
-        preamble: Bytes::new(alloc),
+        globals: Shared::new(alloc, globals)?,
+        preamble: Shared::new(alloc, Bytes::new(alloc))?,
         held: Held::new(alloc),
         lines: Sequence::new(alloc),
         log,
         trace: Sequence::new(alloc),
         stopped: false,
-    }
+    })
 }
 
 /// The error of a style's fault.

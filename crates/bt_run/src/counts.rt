@@ -1,6 +1,6 @@
 //! How often each built-in function was called in a run, and the lines of the log that tell it.
 
-ghost use Rattle.std.specs.Prelude.{◌≡◌, ◌++◌, ◌*◌, ◌≤◌, ◌<◌, ◌^◌, length, map, sum_by, codes, decimal, IfOk, OnOk};
+ghost use Rattle.std.specs.Prelude.{◌≡◌, ℕ, ◌+◌, ◌++◌, ◌*◌, ◌≤◌, ◌<◌, ◌^◌, length, map, sum_by, slice_index_or, codes, decimal, IfOk, OnOk};
 ghost use Rattle.bt_style.specs.Builtins.{place_of, name_of};
 ghost use Rattle.bt_run.specs.Counts.{calls_at, all_calls, count_message, all_told, row_of, row_told, counted};
 
@@ -52,37 +52,65 @@ const TABLE: [Builtin; BUILTIN_COUNT] = [
     Builtin::Write,
 ];
 
-/// How often the function at a place in the table was called, in all steps together.
-fn calls_at(trace: &[Step], place: usize) -> u128
+/// Some steps, with how often each built-in function was called in all of them together.
+#[derive(Clone, Copy)]
+struct Tally<'a> {
+    steps: &'a [Step],
+    /// The calls of each function, by its place in the table.
+    calls: [u128; BUILTIN_COUNT],
+    ghost counted: { (place : ℕ) → place < 37 → slice_index_or calls place 0 ≡ calls_at steps.now place },
+    ghost bounded: { (place : ℕ) → place < 37 → slice_index_or calls place 0 < 2 ^ 96 },
+}
+
+/// Adds the calls of a step to those of the steps in front of it.
+fn add_calls(sums: &mut [u128; BUILTIN_COUNT], calls: &[u32; BUILTIN_COUNT])
+    requires { (place : ℕ) → place < 37 → slice_index_or sums.old place 0 < 2 ^ 96 }
+    ensures added { (place : ℕ) → place < 37 → slice_index_or sums.new place 0 ≡ slice_index_or sums.old place 0 + slice_index_or calls.now place 0 }
+    ensures bounded { (place : ℕ) → place < 37 → slice_index_or sums.new place 0 ≤ slice_index_or sums.old place 0 + 4294967295 }
+{
+    'places: for place in 0..BUILTIN_COUNT {
+        sums[place] += u128::from(calls[place]);
+    }
+}
+
+/// Counts the calls in some steps.
+fn count_calls(steps: &[Step]) -> Tally<'_>
+    ensures { result.steps.now ≡ steps.now }
+{
+    let mut calls = [0; BUILTIN_COUNT];
+    'steps: for step in steps {
+        add_calls(&mut calls, &step.outcome.calls);
+    }
+    Tally { steps, calls }
+}
+
+/// How often the function at a place in the table was called.
+fn calls_at(tally: &Tally<'_>, place: usize) -> u128
     requires { place < 37 }
-    ensures calls { result ≡ calls_at trace.now place }
+    ensures calls { result ≡ calls_at tally.now.steps.now place }
     ensures bounded { result < 2 ^ 96 }
 {
-    let mut calls = 0;
-    'steps: for step in trace {
-        calls += u128::from(step.outcome.calls[place]);
-    }
-    calls
+    tally.calls[place]
 }
 
 /// How often these functions were called.
-fn sum_of_calls(trace: &[Step], builtins: &[Builtin]) -> u128
+fn sum_of_calls(tally: &Tally<'_>, builtins: &[Builtin]) -> u128
     requires { length builtins.now ≤ 37 }
-    ensures { result ≡ sum_by (λ b. calls_at trace.now (place_of b)) builtins.now }
+    ensures { result ≡ sum_by (λ b. calls_at tally.now.steps.now (place_of b)) builtins.now }
 {
     let mut sum = 0;
     'builtins: for builtin in builtins {
-        sum += calls_at(trace, builtin.place());
+        sum += calls_at(tally, builtin.place());
     }
     sum
 }
 
 /// How often all functions were called.
 #[tactic(auto, unfolding(crate::specs::Counts::all_calls, bt_style::specs::Builtins::table))]
-fn all_calls(trace: &[Step]) -> u128
-    ensures { result ≡ all_calls trace.now }
+fn all_calls(tally: &Tally<'_>) -> u128
+    ensures { result ≡ all_calls tally.now.steps.now }
 {
-    sum_of_calls(trace, TABLE.as_slice())
+    sum_of_calls(tally, TABLE.as_slice())
 }
 
 /// The line in front of the counts.
@@ -117,13 +145,13 @@ fn row_told(alloc: Global, builtin: Builtin, count: u128) -> Result<Message, All
 fn tell_rows(
     alloc: Global,
     log: &mut Sequence<Message>,
-    trace: &[Step],
+    tally: &Tally<'_>,
     builtins: &[Builtin],
 ) -> Result<(), AllocError>
-    ensures { OnOk result (log.new ≡ log.old ++ map (λ b. row_told trace.now (row_of b)) builtins.now) }
+    ensures { OnOk result (log.new ≡ log.old ++ map (λ b. row_told tally.now.steps.now (row_of b)) builtins.now) }
 {
     'builtins: for builtin in builtins {
-        let count = calls_at(trace, builtin.place());
+        let count = calls_at(tally, builtin.place());
         log.push(row_told(alloc, *builtin, count)?)?;
     }
     Ok(())
@@ -133,13 +161,9 @@ fn tell_rows(
 pub fn tell_counts(alloc: Global, course: &mut Course) -> Result<(), AllocError>
     ensures { OnOk result (course.new ≡ counted course.old) }
 {
-    let count = all_calls(course.trace.as_slice());
+    let tally = count_calls(course.trace.as_slice());
+    let count = all_calls(&tally);
     course.log.push(all_told(alloc, count)?)?;
-    tell_rows(
-        alloc,
-        &mut course.log,
-        course.trace.as_slice(),
-        TABLE.as_slice(),
-    )?;
+    tell_rows(alloc, &mut course.log, &tally, TABLE.as_slice())?;
     Ok(())
 }

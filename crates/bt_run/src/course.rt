@@ -3,7 +3,7 @@
 use bt_actions::{Entry, Variables};
 use bt_job::Message;
 use bt_machine::{Input, Outcome};
-use bt_text::{Bytes, Held, Sequence};
+use bt_text::{Bytes, Held, Sequence, Shared};
 
 /// A step of a run: which command ran it, for which entry, what it was given and left, and its cost in ticks.
 #[derive(Debug, Drop)]
@@ -11,7 +11,7 @@ pub struct Step {
     /// The number of its command in the style, from 0.
     pub command: usize,
     /// The key of its entry, if it has one.
-    pub key: Option<Bytes>,
+    pub key: Option<Shared<Bytes>>,
     pub input: Input,
     pub outcome: Outcome,
     pub cost: u128,
@@ -24,10 +24,10 @@ pub struct Course {
     pub entries: Sequence<Entry>,
     /// The places of the entries, in the present order.
     pub order: Sequence<usize>,
-    pub globals: Variables,
-    pub preamble: Bytes,
+    pub globals: Shared<Variables>,
+    pub preamble: Shared<Bytes>,
     pub held: Held,
-    pub lines: Sequence<Bytes>,
+    pub lines: Sequence<Shared<Bytes>>,
     pub log: Sequence<Message>,
     pub trace: Sequence<Step>,
     /// Whether a step stopped the run.

@@ -5,11 +5,10 @@ ghost use Rattle.bt_style.specs.declared.style.Command.{Command as CommandSeen};
 ghost use Rattle.bt_style.specs.Program.{Definition, definitions_of, program_of};
 ghost use Rattle.bt_run.specs.Reading.{is_definition, known_macro, declared_before, blank};
 
-use crate::copying::copied_texts;
 use bt_actions::Variables;
 use bt_resolve::{Declared, Macro};
 use bt_style::{Action, Command, Function, Style};
-use bt_text::{Bytes, Sequence};
+use bt_text::{Bytes, Sequence, Shared};
 use std::alloc::{AllocError, Global};
 
 /// Whether a command defines a function.
@@ -66,6 +65,17 @@ fn first_functions(functions: &[Function], count: usize) -> &[Function]
     }
 }
 
+/// The same texts again.
+fn copied_texts(alloc: Global, texts: &[Bytes]) -> Result<Sequence<Bytes>, AllocError>
+    ensures { IfOk result (λ copies. copies ≡ texts.now) }
+{
+    let mut copies = Sequence::new(alloc);
+    'texts: for text in texts {
+        copies.push(Bytes::copied(alloc, text.as_slice())?)?;
+    }
+    Ok(copies)
+}
+
 /// The names of functions.
 fn names_of(alloc: Global, functions: &[Function]) -> Result<Sequence<Bytes>, AllocError>
     ensures { IfOk result (λ names. names ≡ map (λ (d : Definition). d.name) (definitions_of functions.now)) }
@@ -117,12 +127,13 @@ fn zeros(alloc: Global, names: &[Bytes]) -> Result<Sequence<i32>, AllocError>
 }
 
 /// An empty text for each name.
-pub fn empty_texts(alloc: Global, names: &[Bytes]) -> Result<Sequence<Bytes>, AllocError>
+pub fn empty_texts(alloc: Global, names: &[Bytes]) -> Result<Sequence<Shared<Bytes>>, AllocError>
     ensures { IfOk result (λ texts. texts ≡ map (λ name. []) names.now) }
 {
+    let empty = Shared::new(alloc, Bytes::new(alloc))?;
     let mut texts = Sequence::new(alloc);
     'names: for _name in names {
-        texts.push(Bytes::new(alloc))?;
+        texts.push(empty.share()?)?;
     }
     Ok(texts)
 }

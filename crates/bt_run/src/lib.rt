@@ -4,7 +4,6 @@
 mod answers;
 mod beginning;
 mod commands;
-mod copying;
 mod counts;
 mod course;
 mod databases;

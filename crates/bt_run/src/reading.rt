@@ -9,11 +9,11 @@ use crate::course::Course;
 use crate::databases::{all_items, tell_databases};
 use crate::declaring::{blank, declared_before};
 use crate::job::Job;
-use bt_actions::Entry;
+use bt_actions::{Entry, Variables};
 use bt_bib::Items;
 use bt_resolve::{Resolved, resolve};
 use bt_style::Style;
-use bt_text::Sequence;
+use bt_text::{Sequence, Shared};
 use std::alloc::{AllocError, Global};
 
 /// References to all items.
@@ -38,9 +38,9 @@ fn found(alloc: Global, job: Job<'_>, number: usize) -> Result<Resolved, AllocEr
     Ok(all)
 }
 
-/// An entry with its variables, as many as the style declares.
-fn entered(alloc: Global, style: &Style, entry: bt_resolve::Entry) -> Result<Entry, AllocError>
-    ensures { IfOk result (λ e. e ≡ entered (program_of style.now) entry) }
+/// An entry with its variables, those that all entries have at first.
+fn entered(entry: bt_resolve::Entry, first: &Shared<Variables>) -> Result<Entry, AllocError>
+    ensures { IfOk result (λ e. e ≡ record { key = entry.key; kind = entry.kind; function = entry.function; fields = entry.fields; variables = first.now }) }
 {
     let bt_resolve::Entry {
         key,
@@ -48,14 +48,12 @@ fn entered(alloc: Global, style: &Style, entry: bt_resolve::Entry) -> Result<Ent
         function,
         fields,
     } = entry;
-    let numbers = style.entry_numbers.as_slice();
-    let texts = style.entry_texts.as_slice();
     Ok(Entry {
         key,
         kind,
         function,
         fields,
-        variables: blank(alloc, numbers, texts)?,
+        variables: first.share()?,
     })
 }
 
@@ -67,9 +65,12 @@ fn all_entered(
 ) -> Result<Sequence<Entry>, AllocError>
     ensures { IfOk result (λ all. all ≡ map (entered (program_of style.now)) entries) }
 {
+    let numbers = style.entry_numbers.as_slice();
+    let texts = style.entry_texts.as_slice();
+    let first = Shared::new(alloc, blank(alloc, numbers, texts)?)?;
     let mut all = Sequence::new(alloc);
     'entries: for entry in entries.into_vec() {
-        all.push(entered(alloc, style, entry)?)?;
+        all.push(entered(entry, &first)?)?;
     }
     Ok(all)
 }

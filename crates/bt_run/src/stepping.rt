@@ -8,32 +8,27 @@ ghost use Rattle.bt_actions.specs.World.{entry_in};
 ghost use Rattle.bt_machine.specs.Place.{IsPlace};
 ghost use Rattle.bt_run.specs.Course.{world_of, input_at, told_by, all_told, while_executing, variables_back, put_back, stepped, IsConsistent};
 
-use crate::copying::{copied_entry, copied_texts, copied_variables};
 use crate::course::{Course, Site, Step};
 use bt_actions::{Entry, Variables};
 use bt_job::{Message, Rank};
 use bt_machine::{Input, Meter, Outcome, activate, step_depends_on_its_input};
 use bt_style::{Style, Target};
-use bt_text::{Bytes, Sequence};
+use bt_text::{Bytes, Sequence, Shared};
 use itoa::Buffer;
 use std::alloc::{AllocError, Global};
 
-/// A copy of the entry at a place, or none.
-fn entry_at(
-    alloc: Global,
-    course: &Course,
-    place: Option<usize>,
-) -> Result<Option<Entry>, AllocError>
+/// The entry at a place, shared with the run, or none.
+fn entry_at(course: &Course, place: Option<usize>) -> Result<Option<Entry>, AllocError>
     requires { IsPlace place (world_of course.now) }
     ensures { IfOk result (λ entry. entry ≡ entry_in course.now.entries place) }
 {
     match place {
         None => Ok(None),
-        Some(place) => Ok(Some(copied_entry(alloc, &course.entries.as_slice()[place])?)),
+        Some(place) => Ok(Some(course.entries.as_slice()[place].share()?)),
     }
 }
 
-/// What a step is given.
+/// What a step is given, shared with the run.
 fn cut_out(
     alloc: Global,
     course: &Course,
@@ -45,10 +40,10 @@ fn cut_out(
 {
     Ok(Input {
         target,
-        entry: entry_at(alloc, course, place)?,
-        globals: copied_variables(alloc, &course.globals)?,
+        entry: entry_at(course, place)?,
+        globals: course.globals.share()?,
         held: course.held.copy(alloc)?,
-        preamble: Bytes::copied(alloc, course.preamble.as_slice())?,
+        preamble: course.preamble.share()?,
     })
 }
 
@@ -111,31 +106,25 @@ fn all_told(
 }
 
 /// Gives the entry at a place these variables.
-fn set_variables(alloc: Global, entries: &mut Sequence<Entry>, place: usize, variables: Variables)
+fn set_variables(
+    entries: &mut Sequence<Entry>,
+    place: usize,
+    variables: Shared<Variables>,
+) -> Result<(), AllocError>
     requires { place < length entries.old }
-    ensures { entries.new ≡ variables_back (Some place) (Some variables) entries.old }
+    ensures { OnOk result (entries.new ≡ variables_back (Some place) (Some variables) entries.old) }
 {
-    let nothing = Entry {
-        key: Bytes::new(alloc),
-        kind: Bytes::new(alloc),
-        function: None,
-        fields: Sequence::new(alloc),
-        variables: Variables {
-            numbers: Sequence::new(alloc),
-            texts: Sequence::new(alloc),
-        },
-    };
-    let mut entry = entries.replace(place, nothing);
+    let mut entry = entries.as_slice()[place].share()?;
     entry.variables = variables;
     entries.set(place, entry);
+    Ok(())
 }
 
 /// Puts the variables that a step left back into its entry, if it has one.
 fn put_variables_back(
-    alloc: Global,
     entries: &mut Sequence<Entry>,
     place: Option<usize>,
-    variables: &Option<Variables>,
+    variables: &Option<Shared<Variables>>,
 ) -> Result<(), AllocError>
     requires { ForSome place (λ n. n < length entries.old) }
     ensures { OnOk result (entries.new ≡ variables_back place variables.now entries.old) }
@@ -143,10 +132,23 @@ fn put_variables_back(
     if let Some(place) = place
         && let Some(variables) = variables
     {
-        let variables = copied_variables(alloc, variables)?;
-        set_variables(alloc, entries, place, variables);
+        set_variables(entries, place, variables.share()?)?;
     }
     Ok(())
+}
+
+/// The same lines, shared with those who have them.
+fn shared_lines(
+    alloc: Global,
+    lines: &[Shared<Bytes>],
+) -> Result<Sequence<Shared<Bytes>>, AllocError>
+    ensures { IfOk result (λ shared. shared ≡ lines.now) }
+{
+    let mut shared = Sequence::new(alloc);
+    'lines: for line in lines {
+        shared.push(line.share()?)?;
+    }
+    Ok(shared)
 }
 
 /// Puts what a step left back into the run.
@@ -159,23 +161,22 @@ fn put_back(
     requires { IsPlace place (world_of course.old) }
     ensures { OnOk result (course.new ≡ put_back place outcome.now course.old) }
 {
-    put_variables_back(alloc, &mut course.entries, place, &outcome.variables)?;
-    course.globals = copied_variables(alloc, &outcome.globals)?;
+    put_variables_back(&mut course.entries, place, &outcome.variables)?;
+    course.globals = outcome.globals.share()?;
     course.held = outcome.held.copy(alloc)?;
-    course
-        .lines
-        .append(copied_texts(alloc, outcome.lines.as_slice())?)?;
+    let lines = shared_lines(alloc, outcome.lines.as_slice())?;
+    course.lines.append(lines)?;
     course.stopped = outcome.stop;
     Ok(())
 }
 
 /// The key of an input's entry.
-fn key_of(alloc: Global, input: &Input) -> Result<Option<Bytes>, AllocError>
+fn key_of(input: &Input) -> Result<Option<Shared<Bytes>>, AllocError>
     ensures { IfOk result (λ key. key ≡ option_map (λ (e : EntrySeen). e.key) input.now.entry) }
 {
     match &input.entry {
         None => Ok(None),
-        Some(entry) => Ok(Some(Bytes::copied(alloc, entry.key.as_slice())?)),
+        Some(entry) => Ok(Some(entry.key.share()?)),
     }
 }
 
@@ -198,7 +199,7 @@ pub fn take_step(
     step_depends_on_its_input();
     let _steps = course.trace.len();
     let input = cut_out(alloc, course, target, place)?;
-    let key = key_of(alloc, &input)?;
+    let key = key_of(&input)?;
     let before = meter.value();
     let outcome = activate(alloc, style, &input, meter)?;
     let cost = meter.value() - before;

@@ -5,23 +5,22 @@ use crate::sorting::sorted_places;
 use bt_actions::{Entry, Variables};
 use bt_job::log_bytes;
 use bt_resolve::{Message, Place, Rank};
-use bt_text::{Bytes, Sequence};
+use bt_text::{Bytes, Sequence, Shared};
 use std::alloc::{AllocError, Global};
 use std::test::Fail;
 
 /// An entry with this sort key.
 fn entry(alloc: Global, key: &[u8]) -> Result<Entry, AllocError> {
     let mut texts = Sequence::new(alloc);
-    texts.push(Bytes::copied(alloc, key)?)?;
+    texts.push(Shared::<Bytes>::copied(alloc, key)?)?;
+    let numbers = Sequence::new(alloc);
+    let nothing = Shared::new(alloc, Bytes::new(alloc))?;
     Ok(Entry {
-        key: Bytes::new(alloc),
-        kind: Bytes::new(alloc),
+        key: nothing.share()?,
+        kind: nothing,
         function: None,
-        fields: Sequence::new(alloc),
-        variables: Variables {
-            numbers: Sequence::new(alloc),
-            texts,
-        },
+        fields: Shared::new(alloc, Sequence::new(alloc))?,
+        variables: Shared::new(alloc, Variables { numbers, texts })?,
     })
 }
 

@@ -5,3 +5,4 @@ pub mod TakenLemmas
 pub mod TurnLemmas
 pub mod WholeLemmas
 pub mod ServedLemmas
+pub mod FaultLemmas

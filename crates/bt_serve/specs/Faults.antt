@@ -1,5 +1,5 @@
--- How the faults of the loop are told.
-use Rattle.std.specs.Prelude.{ℕ}
+-- How the faults of the loop are told, and what was handed on at one.
+use Rattle.std.specs.Prelude.{◌≡◌, ℕ, Bool, true, Result, Ok, Err}
 use Rattle.bt_serve.specs.declared.fault.ServeFault.{ServeFault}
 use Rattle.bt_serve.specs.declared.fault.ServeFault.TheVariants.{ReadFailed, WriteFailed, Truncated}
 
@@ -8,3 +8,10 @@ abbrev pub number_of_fault : ServeFault → ℕ
 number_of_fault ReadFailed = 1
 number_of_fault WriteFailed = 2
 number_of_fault Truncated = 3
+
+-- Unless a write failed, all that was written is handed on at the end, where it was so before.
+abbrev pub HandsOn : {A : Type 0} → Bool → Bool → Result A ServeFault → Type 0
+HandsOn old new (Ok x) = old ≡ true → new ≡ true
+HandsOn old new (Err ReadFailed) = old ≡ true → new ≡ true
+HandsOn old new (Err Truncated) = old ≡ true → new ≡ true
+HandsOn old new (Err WriteFailed) = Unit {0}

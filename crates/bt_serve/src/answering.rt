@@ -1,12 +1,13 @@
 //! One request of the loop: reads its bytes, carries it out and writes its answer.
 
-ghost use Rattle.std.specs.Prelude.{◌≡◌, ◌+◌, ◌-◌, ◌^◌, ◌<◌, ◌≤◌, [], length, codes, IfOk, OnOk, OnErr, Err, false};
+ghost use Rattle.std.specs.Prelude.{◌≡◌, ◌+◌, ◌-◌, ◌^◌, ◌<◌, ◌≤◌, [], length, codes, IfOk, OnOk, OnErr, Err, true, false};
 ghost use Rattle.std.specs.Io.KnownBytes.{Appends};
 ghost use Rattle.bibtex.specs.Changes.{change_of};
 ghost use Rattle.bt_serve.specs.Asked.{asked};
 ghost use Rattle.bt_serve.specs.Commands.{edit, code_of, number_line, answer_of, ends, IsShown, accepted, refused};
 ghost use Rattle.bt_serve.specs.Serves.{Takes, taken_text, Replies};
 ghost use Rattle.bt_serve.specs.Writes.{AppendsPart};
+ghost use Rattle.bt_serve.specs.Faults.{HandsOn};
 
 use crate::command::Request;
 use crate::fault::ServeFault;
@@ -78,6 +79,7 @@ fn answer_edit<S: Source, K: Sink>(
     ensures writes { OnOk result (K.failure_count sink.new ≡ K.failure_count sink.old) }
     ensures read_failed { result ≡ Err ServeFault.ReadFailed → S.failure_count source.new ≡ S.failure_count source.old + 1 }
     ensures write_failed { result ≡ Err ServeFault.WriteFailed → K.failure_count sink.new ≡ K.failure_count sink.old + 1 }
+    ensures flushed { HandsOn (K.is_flushed sink.old) (K.is_flushed sink.new) result }
 {
     let taken = take_edit(alloc, source, session, change, count)?;
     match say_taken(sink, taken) {
@@ -103,6 +105,7 @@ pub fn answer_request<S: Source, K: Sink>(
     ensures writes { OnOk result (K.failure_count sink.new ≡ K.failure_count sink.old) }
     ensures read_failed { result ≡ Err ServeFault.ReadFailed → S.failure_count source.new ≡ S.failure_count source.old + 1 }
     ensures write_failed { result ≡ Err ServeFault.WriteFailed → K.failure_count sink.new ≡ K.failure_count sink.old + 1 }
+    ensures flushed { HandsOn (K.is_flushed sink.old) (K.is_flushed sink.new) result }
 {
     match request {
         Request::Edit(change, count) => answer_edit(alloc, source, sink, session, change, count),
@@ -120,6 +123,7 @@ fn say_accepted<K: Sink>(sink: &mut K, report: Report) -> Result<(), Failed>
     ensures part { OnErr result (AppendsPart (K.contents sink.old) (K.contents sink.new) (accepted report)) }
     ensures ok { OnOk result (K.failure_count sink.new ≡ K.failure_count sink.old) }
     ensures err { OnErr result (K.failure_count sink.new ≡ K.failure_count sink.old + 1) }
+    ensures flushed { OnOk result (K.is_flushed sink.new ≡ true) }
 {
     let mut status = Buffer::new();
     let mut ran = Buffer::new();
@@ -142,6 +146,7 @@ fn say_refused<K: Sink>(sink: &mut K, refusal: Refusal) -> Result<(), Failed>
     ensures part { OnErr result (AppendsPart (K.contents sink.old) (K.contents sink.new) (refused refusal)) }
     ensures ok { OnOk result (K.failure_count sink.new ≡ K.failure_count sink.old) }
     ensures err { OnErr result (K.failure_count sink.new ≡ K.failure_count sink.old + 1) }
+    ensures flushed { OnOk result (K.is_flushed sink.new ≡ true) }
 {
     let mut code = Buffer::new();
     let code = code.format(code_of(refusal)).as_bytes();
@@ -155,6 +160,7 @@ fn say_taken<K: Sink>(sink: &mut K, taken: Result<Report, Refusal>) -> Result<()
     ensures part { OnErr result (AppendsPart (K.contents sink.old) (K.contents sink.new) (taken_text taken)) }
     ensures ok { OnOk result (K.failure_count sink.new ≡ K.failure_count sink.old) }
     ensures err { OnErr result (K.failure_count sink.new ≡ K.failure_count sink.old + 1) }
+    ensures flushed { OnOk result (K.is_flushed sink.new ≡ true) }
 {
     match taken {
         Ok(report) => say_accepted(sink, report),
@@ -169,6 +175,7 @@ fn say_status<K: Sink>(sink: &mut K, status: u8) -> Result<(), Failed>
     ensures part { OnErr result (AppendsPart (K.contents sink.old) (K.contents sink.new) (number_line (codes "status ") status)) }
     ensures ok { OnOk result (K.failure_count sink.new ≡ K.failure_count sink.old) }
     ensures err { OnErr result (K.failure_count sink.new ≡ K.failure_count sink.old + 1) }
+    ensures flushed { OnOk result (K.is_flushed sink.new ≡ true) }
 {
     let mut number = Buffer::new();
     let number = number.format(status).as_bytes();
@@ -184,6 +191,7 @@ fn say_shown<K: Sink>(sink: &mut K, session: &Session, request: Request<'_>) -> 
     ensures part { OnErr result (AppendsPart (K.contents sink.old) (K.contents sink.new) (answer_of false session.now (asked request.entry) [])) }
     ensures ok { OnOk result (K.failure_count sink.new ≡ K.failure_count sink.old) }
     ensures err { OnErr result (K.failure_count sink.new ≡ K.failure_count sink.old + 1) }
+    ensures flushed { OnOk result (K.is_flushed sink.new ≡ true) }
 {
     let mut number = Buffer::new();
     match request {

@@ -1,6 +1,6 @@
 //! What commands are read from, and what answers are written to.
 
-ghost use Rattle.std.specs.Prelude.{◌≡◌, ℕ, List, ◌+◌, ◌-◌, ◌^◌, ◌<◌, ◌≤◌, length, Option, None, IfOk, OnOk, OnErr, IsErr};
+ghost use Rattle.std.specs.Prelude.{◌≡◌, ℕ, Bool, true, false, List, ◌+◌, ◌-◌, ◌^◌, ◌<◌, ◌≤◌, length, Option, None, IfOk, OnOk, OnErr, IsErr};
 ghost use Rattle.std.specs.Io.KnownBytes.{ReadConsumes, WriteAppends, Keeps};
 
 use thiserror::Error;
@@ -49,6 +49,9 @@ pub trait Sink {
     /// How often it failed.
     ghost failure_count: { Self → ℕ };
 
+    /// Whether all that was written was handed on.
+    ghost is_flushed: { Self → Bool };
+
     /// Takes some of the bytes, and answers how many. To take none is a failure, and each failure raises their count by
     /// one.
     fn write(&mut self, bytes: &[u8]) -> Result<usize, Failed>
@@ -56,6 +59,7 @@ pub trait Sink {
         ensures some { IfOk result (λ n. 0 < n) }
         ensures bound { IfOk result (λ n. n ≤ length bytes.now) }
         ensures bytes { WriteAppends (contents self.old) (contents self.new) result bytes.now }
+        ensures held { is_flushed self.new ≡ false }
         ensures ok { OnOk result (failure_count self.new ≡ failure_count self.old) }
         ensures err { OnErr result (failure_count self.new ≡ failure_count self.old + 1) };
 
@@ -63,6 +67,7 @@ pub trait Sink {
     fn flush(&mut self) -> Result<(), Failed>
         requires { failure_count self.old < 2 ^ 64 - 1 }
         ensures bytes { Keeps (contents self.old) (contents self.new) }
+        ensures flushed { OnOk result (is_flushed self.new ≡ true) }
         ensures ok { OnOk result (failure_count self.new ≡ failure_count self.old) }
         ensures err { OnErr result (failure_count self.new ≡ failure_count self.old + 1) };
 

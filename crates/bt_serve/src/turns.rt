@@ -2,6 +2,7 @@
 
 ghost use Rattle.std.specs.Prelude.{◌≡◌, ℕ, ◌+◌, ◌-◌, ◌^◌, ◌<◌, ◌≤◌, [], OnOk, List, Some, Err};
 ghost use Rattle.bt_serve.specs.Serves.{ended, Turns, Ends};
+ghost use Rattle.bt_serve.specs.Faults.{HandsOn};
 ghost use Rattle.bt_serve.specs.Whole.{AnswersAll, AnswersBefore, AnswersPart};
 
 use crate::answering::answer_request;
@@ -28,6 +29,7 @@ fn serve_one<S: Source, K: Sink>(
     ensures writes { OnOk result (K.failure_count sink.new ≡ K.failure_count sink.old) }
     ensures read_failed { result ≡ Err ServeFault.ReadFailed → S.failure_count source.new ≡ S.failure_count source.old + 1 }
     ensures write_failed { result ≡ Err ServeFault.WriteFailed → K.failure_count sink.new ≡ K.failure_count sink.old + 1 }
+    ensures flushed { HandsOn (K.is_flushed sink.old) (K.is_flushed sink.new) result }
 {
     let mut buffer = [0; 257];
     match read_line(source, &mut buffer) {
@@ -77,6 +79,7 @@ pub fn serve<S: Source, K: Sink>(
         (said' : List ℕ) × (K.contents sink.new ≡ Some said') × AnswersPart input said said' session.old session.new }
     ensures read_failed { result ≡ Err ServeFault.ReadFailed → S.failure_count source.new ≡ S.failure_count source.old + 1 }
     ensures write_failed { result ≡ Err ServeFault.WriteFailed → K.failure_count sink.new ≡ K.failure_count sink.old + 1 }
+    ensures flushed { HandsOn (K.is_flushed sink.old) (K.is_flushed sink.new) result }
 {
     'turns: loop {
         match serve_one(alloc, source, sink, session) {

@@ -1,6 +1,6 @@
 //! Readers and writers of the standard library as sources and sinks.
 
-ghost use Rattle.std.specs.Prelude.{◌≡◌, length};
+ghost use Rattle.std.specs.Prelude.{◌≡◌, length, true, false};
 
 use crate::streams::{Failed, Sink, Source};
 use std::io::{Read, Write};
@@ -63,17 +63,20 @@ impl<R: Read + Drop> Source for ReaderSource<R> {
 pub struct WriterSink<W: Drop> {
     writer: W,
     failures: u64,
+    flushed: bool,
 }
 
 impl<W: Write + Drop> WriterSink<W> {
     /// A sink that hands what it gets to the writer.
     pub fn new(writer: W) -> Self
         ensures writer { result.writer ≡ writer }
+        ensures flushed { result.flushed ≡ true }
         ensures failures { result.failures ≡ 0 }
     {
         WriterSink {
             writer,
             failures: 0,
+            flushed: true,
         }
     }
 }
@@ -83,8 +86,11 @@ impl<W: Write + Drop> Sink for WriterSink<W> {
 
     ghost failure_count = { λ s. s.failures };
 
+    ghost is_flushed = { λ s. s.flushed };
+
     #[tactic(auto, using(crate::proofs::WriteLemmas::keeps_none))]
     fn write(&mut self, bytes: &[u8]) -> Result<usize, Failed> {
+        self.flushed = false;
         match self.writer.write(bytes) {
             Ok(0) | Err(_) => {
                 self.failures += 1;
@@ -96,7 +102,10 @@ impl<W: Write + Drop> Sink for WriterSink<W> {
 
     fn flush(&mut self) -> Result<(), Failed> {
         match self.writer.flush() {
-            Ok(()) => Ok(()),
+            Ok(()) => {
+                self.flushed = true;
+                Ok(())
+            }
             Err(_) => {
                 self.failures += 1;
                 Err(Failed)

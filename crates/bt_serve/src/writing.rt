@@ -1,6 +1,6 @@
 //! Writes answers to a sink.
 
-ghost use Rattle.std.specs.Prelude.{◌≡◌, ℕ, ◌+◌, ◌-◌, ◌^◌, ◌<◌, ◌++◌, OnOk, OnErr};
+ghost use Rattle.std.specs.Prelude.{◌≡◌, ℕ, true, ◌+◌, ◌-◌, ◌^◌, ◌<◌, ◌++◌, OnOk, OnErr};
 ghost use Rattle.std.specs.List.{flat_map};
 ghost use Rattle.std.specs.Io.KnownBytes.{Appends};
 ghost use Rattle.bt_serve.specs.Writes.{AppendsPart};
@@ -74,6 +74,7 @@ pub fn say<'a, K: Sink>(
         (first.now ++ (second.now ++ (third.now ++ (fourth.now ++ fifth.now))))) }
     ensures ok { OnOk result (K.failure_count sink.new ≡ K.failure_count sink.old) }
     ensures err { OnErr result (K.failure_count sink.new ≡ K.failure_count sink.old + 1) }
+    ensures flushed { OnOk result (K.is_flushed sink.new ≡ true) }
 {
     write_five(sink, first, second, third, fourth, fifth)?;
     sink.flush()

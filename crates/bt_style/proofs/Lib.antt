@@ -7,7 +7,8 @@ pub mod SpelledLemmas
 pub mod ApartLemmas
 pub mod ReadBackLemmas
 pub mod PresetLemmas
-mod Rows
+mod FaultRows
+mod StyleRows
 pub mod ReachLemmas
 pub mod FoundLemmas
 pub mod SearchLemmas

@@ -2,7 +2,7 @@
 
 use crate::spelling::{number, push_spelled, unspelled, word_at};
 use bt_bib::{Closing, Content, Fault, Field, Item, Part, Piece, What, read_bib};
-use bt_text::{Bytes, Sequence};
+use bt_text::{Bytes, Sequence, Shared};
 use std::alloc::{AllocError, Global};
 
 /// Puts a number behind `out`.
@@ -11,7 +11,7 @@ fn push_number(alloc: Global, out: &mut Bytes, n: usize) -> Result<(), AllocErro
 }
 
 /// Puts a text behind `out`, spelled to base 16, or a full stop where there is none.
-fn push_text(out: &mut Bytes, text: &Option<Bytes>) -> Result<(), AllocError> {
+fn push_text(out: &mut Bytes, text: &Option<Shared<Bytes>>) -> Result<(), AllocError> {
     match text {
         Some(text) => push_spelled(out, text.as_slice()),
         None => out.append(b"."),

@@ -1,4 +1,4 @@
-use Rattle.std.proofs.Common.{◌≡◌, ◌-◌, ◌∙◌, sym, ap, map, length, take, List, ℕ}
+use Rattle.std.proofs.Common.{◌-◌, ◌∙◌, sym, ap, map, take}
 use Rattle.std.proofs.lemmas.List.{take-map, length-map}
 use Rattle.bt_bib.proofs.aux_argument.kept.Goals as goal
 

@@ -6,6 +6,6 @@ use Rattle.bt_run.proofs.counts.sum_of_calls.Given as goal
 
 abbrev pub invariant-builtins : goal.invariant-builtins
 invariant-builtins l = record {
-  sum : l.sum ≡ sum_by (λ b. calls_at l.trace (place_of b)) (take l.builtin-index l.builtins);
+  sum : l.sum ≡ sum_by (λ b. calls_at l.tally.steps.now (place_of b)) (take l.builtin-index l.builtins);
   bounded : l.sum ≤ 79228162514264337593543950336 * l.builtin-index;
 }

@@ -7,5 +7,6 @@ use Rattle.bt_run.proofs.counts.tell_counts.Goals as goal
 pub returns : goal.returns
 unfolding table
 returns c =
-    counted_behind c.args.course.now c.as_slice.result.now c.as_slice-2.result.now c.as_slice-3.result.now c.all_calls-count.result c.in_ok-all_told.field-0 c.push.new.self c.tell_rows.new.log
-    c.as_slice.ensures c.as_slice-2.ensures (ap (map row_of) c.as_slice-3.ensures ∙ refl) c.all_calls-count.ensures c.in_ok-all_told.ensures c.in_ok-push.ensures.ok c.in_ok-tell_rows.ensures
+    let same = c.count_calls-tally.ensures ∙ c.as_slice.ensures in
+    counted_behind c.args.course.now c.count_calls-tally.result.steps.now c.count_calls-tally.result.steps.now c.as_slice-2.result.now c.all_calls-count.result c.in_ok-all_told.field-0 c.push.new.self c.tell_rows.new.log
+    same same (ap (map row_of) c.as_slice-2.ensures ∙ refl) c.all_calls-count.ensures c.in_ok-all_told.ensures c.in_ok-push.ensures.ok c.in_ok-tell_rows.ensures

@@ -4,4 +4,4 @@ use Rattle.bt_run.proofs.counts.tell_rows.Given as goal
 
 abbrev pub invariant-builtins : goal.invariant-builtins
 invariant-builtins l =
-    l.log ++ map (λ b. row_told l.trace (row_of b)) (drop l.builtin-index l.builtins) ≡ l.fn.log ++ map (λ b. row_told l.trace (row_of b)) l.builtins
+    l.log ++ map (λ b. row_told l.tally.steps.now (row_of b)) (drop l.builtin-index l.builtins) ≡ l.fn.log ++ map (λ b. row_told l.tally.steps.now (row_of b)) l.builtins

@@ -3,12 +3,14 @@ use Rattle.std.proofs.Common.{ap, Some}
 use Rattle.bt_serve.specs.declared.fault.ServeFault.TheVariants.{WriteFailed, Truncated}
 use Rattle.bt_serve.proofs.ServedLemmas.{ends_answers_all, ends_answers_before, ends_answers_part}
 use Rattle.bt_serve.proofs.TurnLemmas.{answered_more}
+use Rattle.bt_serve.proofs.FaultLemmas.{handed_on_at_a_fault}
 use Rattle.bt_serve.proofs.turns.serve.Goals as goal
 
 pub turns-init : goal.turns-init
 turns-init g c = record {
   reads = refl;
   writes = refl;
+  flushed = λ before. before;
   answered = λ input said known held. ([], [], input, said, known, held, record { each = tt; goes_on = tt; one_each = refl; read = refl; written = sym (append-nil said); edited = refl; wanting = tt });
 }
 
@@ -19,6 +21,7 @@ turns-preserved g c =
     record {
       reads = now.reads ∙ c.turns.invariant.reads;
       writes = now.writes ∙ c.turns.invariant.writes;
+      flushed = λ before. now.flushed (c.turns.invariant.flushed before);
       answered = λ input said known held.
           let before = c.turns.invariant.answered input said known held in
           let turn = turns before.2 before.3 before.4 before.5 in (
@@ -31,6 +34,9 @@ turns-preserved g c =
             answered_more input before.2 turn.0 said before.3 turn.1 c.args.session.now c.turns.session c.serve_one.new.session before.0 before.1 before.6 turn.4,
           );
     }
+
+pub returns-in-Err-clause-flushed : goal.returns-in-Err-clause-flushed
+returns-in-Err-clause-flushed g c = handed_on_at_a_fault _ _ _ c.in-Err.fault c.turns.invariant.flushed c.in-Err.ensures.flushed
 
 pub returns-in-Ok-true-clause-served : goal.returns-in-Ok-true-clause-served
 returns-in-Ok-true-clause-served g c = λ input said known held.

@@ -1,4 +1,4 @@
-use Rattle.std.proofs.Common.{◌≡◌, ℕ, List, Bool, Some}
+use Rattle.std.proofs.Common.{◌≡◌, ℕ, List, Bool, true, Some}
 use Rattle.bt_serve.specs.Commands.{Command}
 use Rattle.bt_serve.specs.Serves.{Answered}
 use Rattle.bt_serve.proofs.turns.serve.Given as goal
@@ -10,6 +10,7 @@ invariant-turns g l =
     record {
       reads : source.failure_count l.source ≡ source.failure_count l.fn.source;
       writes : sink.failure_count l.sink ≡ sink.failure_count l.fn.sink;
+      flushed : sink.is_flushed l.fn.sink ≡ true → sink.is_flushed l.sink ≡ true;
       answered : (input : List ℕ) (said : List ℕ) → source.remaining l.fn.source ≡ Some input → sink.contents l.fn.sink ≡ Some said →
           (cs : List Command) × (ms : List Bool) × (mid : List ℕ) × (told : List ℕ) × (source.remaining l.source ≡ Some mid) × (sink.contents l.sink ≡ Some told) ×
           Answered input mid said told l.fn.session l.session cs ms;

@@ -14,7 +14,7 @@ invariant_of-result c =
     let new : is_stored entries entry.key ≡ false = ap (λ (es : List Stored). is_stored es entry.key) c.self.view_is ∙ c.requires in
     let more : known c.insert.new.self ≡ with_value entry.key (length entries) (known c.self.inside.places) =
     c.in_ok-insert.ensures
-    ∙ ap (λ (key : List ℕ). with_value key c.len.result (known c.self.inside.places)) c.as_slice.ensures
+    ∙ ap (λ (key : List ℕ). with_value key c.len.result (known c.self.inside.places)) (c.as_slice.ensures ∙ c.deref.ensures)
     ∙ ap (λ (n : ℕ). with_value entry.key n (known c.self.inside.places)) c.len.ensures in
     let all : c.push.new.self ≡ entries ++ entry ∷ [] = c.in_ok-push.ensures.ok in record {
       places_known = places_next entries entry (known c.self.inside.places) (known c.insert.new.self) new c.self.invariant.places_known more ∙ ap (λ (es : List Stored). place_of_key es) (sym all);

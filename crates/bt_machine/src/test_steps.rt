@@ -1,0 +1,173 @@
+//! Styles, entries and steps that tests begin with, spelled in words, and what is left of them.
+
+use crate::{Entry, Input, Meter, Outcome, Rank, Variables, activate};
+use bt_style::{Builtin, Function, Op, Style, Target};
+use bt_text::{Bytes, Held, Sequence, Shared};
+use std::alloc::{AllocError, Global};
+use std::mem;
+use std::test::Fail;
+
+/// The built-in function of a name, of those that these tests call.
+fn builtin(name: &str) -> Option<Builtin> {
+    Some(match name {
+        "+" => Builtin::Plus,
+        "-" => Builtin::Minus,
+        "*" => Builtin::Join,
+        ":=" => Builtin::Assign,
+        "call.type$" => Builtin::CallType,
+        "cite$" => Builtin::Cite,
+        "duplicate$" => Builtin::Duplicate,
+        "if$" => Builtin::If,
+        "int.to.str$" => Builtin::IntToStr,
+        "newline$" => Builtin::Newline,
+        "pop$" => Builtin::Pop,
+        "skip$" => Builtin::Skip,
+        "stack$" => Builtin::Stack,
+        "type$" => Builtin::Type,
+        "warning$" => Builtin::Warning,
+        "while$" => Builtin::While,
+        "write$" => Builtin::Write,
+        _ => return None,
+    })
+}
+
+/// What a name stands for.
+fn target(name: &str) -> Result<Target, Fail> {
+    Ok(match name {
+        "f" => Target::Function(0),
+        "g" => Target::Function(1),
+        "h" => Target::Function(2),
+        "title" => Target::Field(0),
+        "year" => Target::Field(1),
+        "number" => Target::EntryNumber(0),
+        "label" => Target::EntryText(0),
+        "count" => Target::GlobalNumber(0),
+        "all" => Target::GlobalText(0),
+        _ => Target::Builtin(builtin(name).ok_or("no such name")?),
+    })
+}
+
+/// An element without braces: `#5`, `"text"`, `'name` or `name`.
+fn element(alloc: Global, word: &str) -> Result<Op, Fail> {
+    Ok(if let Some(digits) = word.strip_prefix("#") {
+        Op::Number(digits.parse::<i32>()?)
+    } else if let Some(text) = word.strip_prefix("\"") {
+        let text = text.strip_suffix("\"").ok_or("no quote")?;
+        Op::Text(Bytes::copied(alloc, text.as_bytes())?)
+    } else if let Some(name) = word.strip_prefix("'") {
+        Op::Quote(target(name)?)
+    } else {
+        Op::Call(target(word)?)
+    })
+}
+
+/// A body of elements with spaces between them.
+fn body(alloc: Global, text: &str) -> Result<Vec<Op>, Fail> {
+    let mut outer: Vec<Vec<Op>> = Vec::new(alloc);
+    let mut inner = Vec::new(alloc);
+    for word in text.split_whitespace() {
+        match word {
+            "{" => outer.push(mem::replace(&mut inner, Vec::new(alloc)))?,
+            "}" => {
+                let around = outer.pop().ok_or("no brace")?;
+                let block = mem::replace(&mut inner, around);
+                inner.push(Op::Block(block))?;
+            }
+            _ => inner.push(element(alloc, word)?)?,
+        }
+    }
+    Ok(inner)
+}
+
+/// A style of functions with their names.
+pub fn style(alloc: Global, functions: &[(&str, &str)]) -> Result<Style, Fail> {
+    let mut all = Vec::new(alloc);
+    for (name, text) in functions {
+        all.push(Function {
+            name: Bytes::copied(alloc, name.as_bytes())?,
+            body: body(alloc, text)?,
+        })?;
+    }
+    let mut fields = Sequence::new(alloc);
+    fields.push(Bytes::copied(alloc, b"title")?)?;
+    fields.push(Bytes::copied(alloc, b"year")?)?;
+    Ok(Style {
+        fields,
+        entry_numbers: Sequence::new(alloc),
+        entry_texts: Sequence::new(alloc),
+        global_numbers: Sequence::new(alloc),
+        global_texts: Sequence::new(alloc),
+        macros: Sequence::new(alloc),
+        functions: all,
+        commands: Sequence::new(alloc),
+    })
+}
+
+fn variables(alloc: Global, number: i32, text: &[u8]) -> Result<Variables, AllocError> {
+    let mut numbers = Sequence::new(alloc);
+    numbers.push(number)?;
+    let mut texts = Sequence::new(alloc);
+    texts.push(Shared::<Bytes>::copied(alloc, text)?)?;
+    Ok(Variables { numbers, texts })
+}
+
+/// The entry `key`, a book with a title and without a year.
+pub fn book(alloc: Global, function: Option<usize>) -> Result<Entry, AllocError> {
+    let mut fields = Sequence::new(alloc);
+    fields.push(Some(Shared::<Bytes>::copied(alloc, b"Title")?))?;
+    fields.push(None)?;
+    Ok(Entry {
+        key: Shared::<Bytes>::copied(alloc, b"key")?,
+        kind: Shared::<Bytes>::copied(alloc, b"book")?,
+        function,
+        fields: Shared::new(alloc, fields)?,
+        variables: Shared::new(alloc, variables(alloc, 7, b"Label")?)?,
+    })
+}
+
+/// What an outcome says: its lines, the held line, its messages, and whether the run stops.
+pub fn shown(alloc: Global, outcome: &Outcome) -> Result<Bytes, AllocError> {
+    let mut all = Bytes::new(alloc);
+    for line in outcome.lines.as_slice() {
+        all.append(line.as_slice())?;
+        all.append(b"\n")?;
+    }
+    all.append(outcome.held.bytes())?;
+    for message in outcome.messages.as_slice() {
+        all.append(match message.rank {
+            Rank::Note => b"note: ".as_slice(),
+            Rank::Warning => b"warning: ".as_slice(),
+            Rank::Error => b"error: ".as_slice(),
+            Rank::Fatal => b"fatal: ".as_slice(),
+        })?;
+        all.append(message.words.as_slice())?;
+        all.append(b"; ")?;
+    }
+    if outcome.stop {
+        all.append(b"stop")?;
+    }
+    Ok(all)
+}
+
+/// What a step of a style's first function is given.
+pub fn input(alloc: Global, entry: Option<Entry>) -> Result<Input, AllocError> {
+    Ok(Input {
+        target: Target::Function(0),
+        entry,
+        globals: Shared::new(alloc, variables(alloc, 8, b"all")?)?,
+        held: Held::new(alloc),
+        preamble: Shared::new(alloc, Bytes::new(alloc))?,
+    })
+}
+
+/// A call of a style's first function, and its ticks.
+pub fn step(
+    alloc: Global,
+    functions: &[(&str, &str)],
+    entry: Option<Entry>,
+) -> Result<(Outcome, u128), Fail> {
+    let style = style(alloc, functions)?;
+    let mut meter = Meter::new();
+    let outcome = activate(alloc, &style, &input(alloc, entry)?, &mut meter)?;
+    Ok((outcome, meter.value()))
+}

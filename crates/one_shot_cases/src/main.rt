@@ -1,0 +1,55 @@
+//! Runs the command line and the one-shot form on cases, over a folder in memory, and tells what came of each.
+#![tactic(auto)]
+
+mod capped;
+mod memory;
+mod script;
+mod telling;
+
+use crate::memory::Memory;
+use crate::script::{Step, first_step};
+use crate::telling::{tell_options, tell_run};
+use anyhow::Result;
+use std::alloc::{AllocError, Global};
+use std::io::{BufReader, Read};
+
+/// The words of a command line, of which the first is the program's name.
+fn words_of(alloc: Global, words: Option<&str>) -> Result<Vec<String>, AllocError> {
+    let mut all = Vec::new(alloc);
+    all.push(String::from_str(alloc, "bibtex")?)?;
+    if let Some(words) = words {
+        for word in words.split('|') {
+            all.push(String::from_str(alloc, word)?)?;
+        }
+    }
+    Ok(all)
+}
+
+fn main(rt: HostRuntime) -> Result<()> {
+    let alloc = rt.alloc();
+    let mut input = Vec::new(alloc);
+    BufReader::new(alloc, rt.reader())?.read_to_end(&mut input)?;
+    let mut rest = input.as_slice();
+    let mut folder = Memory::new(alloc);
+    let (mut out, mut err) = (usize::MAX, usize::MAX);
+    for _ in 0..u32::MAX {
+        let Some((step, behind)) = first_step(rest) else {
+            break;
+        };
+        match step {
+            Step::Case(name) => {
+                println!(rt; "case {name}")?;
+                folder = Memory::new(alloc);
+                (out, err) = (usize::MAX, usize::MAX);
+            }
+            Step::File(name, content) => folder.give(name, content)?,
+            Step::Out(room) => out = room,
+            Step::Err(room) => err = room,
+            Step::Options(words) => tell_options(&rt, &words_of(alloc, words)?)?,
+            Step::Run(words) => tell_run(&rt, &words_of(alloc, words)?, &mut folder, (out, err))?,
+        }
+        rest = behind;
+    }
+    println!(rt; "{} bytes left", rest.len())?;
+    Ok(())
+}

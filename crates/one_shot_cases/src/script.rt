@@ -1,0 +1,83 @@
+//! How cases are spelled: a step a line, its first word what it does.
+
+/// What a folder gives for a name.
+#[derive(Clone, Copy)]
+pub enum Content<'a> {
+    /// These bytes.
+    Bytes(&'a [u8]),
+    /// So many letters.
+    Letters(usize),
+    /// Bytes for which there is no room.
+    NoRoom,
+    /// No bytes, and nothing can be written.
+    Unwritable,
+}
+
+/// A step of a case.
+#[derive(Clone, Copy)]
+pub enum Step<'a> {
+    /// `case NAME`: begins a case, with an empty folder.
+    Case(&'a str),
+    /// `file NAME LEN` and so many bytes, `letters NAME LEN`, `no_room NAME`, `unwritable NAME`: a file of the folder.
+    File(&'a str, Content<'a>),
+    /// `out LEN`: standard output takes so many bytes.
+    Out(usize),
+    /// `err LEN`: standard error takes so many bytes.
+    Err(usize),
+    /// `options WORD|WORD|..`: tells what the words ask for.
+    Options(Option<&'a str>),
+    /// `run WORD|WORD|..`: runs the job that the words ask for.
+    Run(Option<&'a str>),
+}
+
+/// The first line, and what is behind it.
+fn first_line(input: &[u8]) -> Option<(&str, &[u8])> {
+    let end = input.iter().position(|byte| *byte == b'\n')?;
+    let line = str::from_utf8(input.get(..end)?).ok()?;
+    Some((line, input.get(end..)?.get(1..)?))
+}
+
+/// A file whose bytes follow its line.
+fn file_step<'a>(words: &'a str, behind: &'a [u8]) -> Option<(Step<'a>, &'a [u8])> {
+    let (name, count) = words.split_once(' ')?;
+    let count = count.parse::<usize>().ok()?;
+    let bytes = behind.get(..count)?;
+    Some((
+        Step::File(name, Content::Bytes(bytes)),
+        behind.get(count..)?,
+    ))
+}
+
+/// A file of letters.
+fn letters_step(words: &str) -> Option<Step<'_>> {
+    let (name, count) = words.split_once(' ')?;
+    Some(Step::File(name, Content::Letters(count.parse::<usize>().ok()?)))
+}
+
+/// A step that stands in its line alone.
+fn line_step<'a>(word: &str, rest: Option<&'a str>) -> Option<Step<'a>> {
+    match (word, rest) {
+        ("case", Some(name)) => Some(Step::Case(name)),
+        ("letters", Some(words)) => letters_step(words),
+        ("no_room", Some(name)) => Some(Step::File(name, Content::NoRoom)),
+        ("unwritable", Some(name)) => Some(Step::File(name, Content::Unwritable)),
+        ("out", Some(count)) => Some(Step::Out(count.parse::<usize>().ok()?)),
+        ("err", Some(count)) => Some(Step::Err(count.parse::<usize>().ok()?)),
+        ("options", words) => Some(Step::Options(words)),
+        ("run", words) => Some(Step::Run(words)),
+        _ => None,
+    }
+}
+
+/// The first step of some input, and the input behind it.
+pub fn first_step(input: &[u8]) -> Option<(Step<'_>, &[u8])> {
+    let (line, behind) = first_line(input)?;
+    let (word, rest) = match line.split_once(' ') {
+        Some((word, rest)) => (word, Some(rest)),
+        None => (line, None),
+    };
+    match (word, rest) {
+        ("file", Some(words)) => file_step(words, behind),
+        _ => Some((line_step(word, rest)?, behind)),
+    }
+}

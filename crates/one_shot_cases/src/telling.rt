@@ -1,0 +1,80 @@
+//! What is told of a case.
+
+ghost use Rattle.std.specs.Prelude.{◌≡◌, true};
+ghost use Rattle.bibtex.specs.Present.{is_root_name};
+
+use crate::capped::Capped;
+use crate::memory::Memory;
+use anyhow::Result;
+use bt_one_shot::{Options, OptionsFault, one_shot, parse_options};
+
+/// Tells bytes behind a title, and how many there are.
+fn tell_bytes(rt: &impl Print, title: &str, bytes: &[u8]) -> Result<()> {
+    let text = str::from_utf8(bytes).unwrap_or("no text\n");
+    print!(rt; "{title} {}\n{text}", bytes.len())?;
+    Ok(())
+}
+
+/// Tells why words ask for nothing that can be done.
+fn tell_fault(rt: &impl Print, fault: &OptionsFault) -> Result<()> {
+    match fault {
+        OptionsFault::Parser(fault) if fault.exit_code() == 0 => println!(rt; "help")?,
+        OptionsFault::Parser(_) => println!(rt; "usage fault")?,
+        OptionsFault::BadJobName => println!(rt; "bad job name")?,
+        OptionsFault::OutOfMemory => println!(rt; "out of memory")?,
+    }
+    Ok(())
+}
+
+/// Tells what words ask for.
+pub fn tell_options(rt: &HostRuntime, words: &[String]) -> Result<()> {
+    match parse_options(rt.alloc(), words) {
+        Ok(options) => {
+            let root = str::from_utf8(options.root.as_slice()).unwrap_or("no text");
+            let Options {
+                min,
+                terse,
+                resident,
+                ..
+            } = &options;
+            println!(rt; "root {root} min {min} terse {terse} resident {resident}")?;
+            Ok(())
+        }
+        Err(fault) => tell_fault(rt, &fault),
+    }
+}
+
+/// Runs a job, and tells all that it read and wrote.
+fn run(
+    rt: &HostRuntime,
+    options: &Options,
+    folder: &mut Memory<'_>,
+    room: (usize, usize),
+) -> Result<()>
+    requires { is_root_name options.now.root ≡ true }
+{
+    let alloc = rt.alloc();
+    let (mut out, mut err) = (Capped::new(alloc, room.0), Capped::new(alloc, room.1));
+    let status = one_shot(alloc, options, folder, &mut out, &mut err)?;
+    println!(rt; "exit {status}")?;
+    tell_bytes(rt, "read", folder.read.as_slice())?;
+    for put in folder.written() {
+        let name = str::from_utf8(put.name.as_slice()).unwrap_or("no text");
+        tell_bytes(rt, name, put.bytes.as_slice())?;
+    }
+    tell_bytes(rt, "out", out.bytes())?;
+    tell_bytes(rt, "err", err.bytes())
+}
+
+/// Runs the job that words ask for, and tells all that it read and wrote.
+pub fn tell_run(
+    rt: &HostRuntime,
+    words: &[String],
+    folder: &mut Memory<'_>,
+    room: (usize, usize),
+) -> Result<()> {
+    match parse_options(rt.alloc(), words) {
+        Ok(options) => run(rt, &options, folder, room),
+        Err(fault) => tell_fault(rt, &fault),
+    }
+}

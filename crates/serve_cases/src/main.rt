@@ -1,0 +1,131 @@
+//! Runs the command loop over sources and sinks that fail, or move few bytes at a time, and tells what came of it.
+#![tactic(auto)]
+
+mod channel;
+mod script;
+
+use crate::channel::{Giver, Limits, Taker};
+use crate::script::{Step, first_step};
+use anyhow::Result;
+use bibtex::Session;
+use bt_serve::serve;
+use std::alloc::{AllocError, Global};
+use std::cell::Cell;
+use std::io::{BufReader, Read};
+
+/// The names of which is told whether their files are there.
+const NAMES: [&str; 4] = ["job.aux", "s.bst", "x.bib", "y.bib"];
+
+/// Answers an input on a new session, and tells how it ended, what was read and written, and the files that are there.
+fn answer(rt: &HostRuntime, title: &str, input: &[u8], limits: Limits<'_>) -> Result<()> {
+    let alloc = rt.alloc();
+    let mut session = Session::new(alloc, b"job", 2)?;
+    let handed_on = Cell::new(0);
+    let mut source = Giver::new(alloc, input, limits, &handed_on);
+    let mut sink = Taker::new(alloc, limits, &handed_on);
+    match serve(alloc, &mut source, &mut sink, &mut session) {
+        Ok(()) => print!(rt; "{title}: Ok")?,
+        Err(fault) => print!(rt; "{title}: {fault}")?,
+    }
+    print!(rt; ", {} bytes read", source.given())?;
+    for name in NAMES {
+        if session.file(name.as_bytes()).is_some() {
+            print!(rt; ", {name}")?;
+        }
+    }
+    let text = str::from_utf8(sink.bytes()).unwrap_or("no text");
+    println!(rt; "\n{} bytes written\n{text}", sink.bytes().len())?;
+    for count in source.notes.iter() {
+        println!(rt; "{count} handed on")?;
+    }
+    Ok(())
+}
+
+/// Answers an input where the write behind so many bytes fails, for each number of them.
+fn fail_writes(
+    rt: &HostRuntime,
+    input: &[u8],
+    limits: Limits<'_>,
+    first: usize,
+    last: usize,
+) -> Result<()> {
+    for place in first..last {
+        let limits = Limits {
+            write_fails: place,
+            ..limits
+        };
+        answer(rt, "write fails", input, limits)?;
+    }
+    Ok(())
+}
+
+/// Answers an input as a step says.
+fn answer_as(rt: &HostRuntime, step: Step<'_>, input: &[u8], limits: Limits<'_>) -> Result<()> {
+    match step {
+        Step::Serve => answer(rt, "whole input", input, limits),
+        Step::Cut(place) => answer(rt, "cut", input.get(..place).unwrap_or(&[]), limits),
+        Step::ReadFails(place) => {
+            let limits = Limits {
+                read_fails: place,
+                ..limits
+            };
+            answer(rt, "read fails", input, limits)
+        }
+        Step::WriteFails(first, last) => fail_writes(rt, input, limits, first, last),
+        _ => Ok(()),
+    }
+}
+
+/// Puts so many letters behind an input.
+fn push_letters(input: &mut Vec<u8>, count: usize) -> Result<(), AllocError> {
+    for _ in 0..count {
+        input.push(b'a')?;
+    }
+    Ok(())
+}
+
+/// The places that a step names.
+fn places(alloc: Global, words: &str) -> Result<Vec<usize>, AllocError> {
+    let mut places = Vec::new(alloc);
+    for word in words.split(',') {
+        places.push(word.parse::<usize>().unwrap_or(0))?;
+    }
+    Ok(places)
+}
+
+fn main(rt: HostRuntime) -> Result<()> {
+    let alloc = rt.alloc();
+    let mut script = Vec::new(alloc);
+    BufReader::new(alloc, rt.reader())?.read_to_end(&mut script)?;
+    let mut rest = script.as_slice();
+    let mut input = Vec::new(alloc);
+    let mut watched = Vec::new(alloc);
+    let mut most = usize::MAX;
+    for _ in 0..u32::MAX {
+        let Some((step, behind)) = first_step(rest) else {
+            break;
+        };
+        let limits = Limits {
+            most,
+            read_fails: usize::MAX,
+            write_fails: usize::MAX,
+            watched: watched.as_slice(),
+        };
+        match step {
+            Step::Case(name) => {
+                println!(rt; "case {name}")?;
+                input = Vec::new(alloc);
+                watched = Vec::new(alloc);
+                most = usize::MAX;
+            }
+            Step::Text(bytes) => input.extend_from_slice(bytes)?,
+            Step::Letters(count) => push_letters(&mut input, count)?,
+            Step::Most(count) => most = count,
+            Step::Watch(words) => watched = places(alloc, words)?,
+            _ => answer_as(&rt, step, &input, limits)?,
+        }
+        rest = behind;
+    }
+    println!(rt; "{} bytes left", rest.len())?;
+    Ok(())
+}

@@ -1,0 +1,65 @@
+//! How cases are spelled: a step a line, its first word what it does.
+
+/// A step of a case.
+#[derive(Clone, Copy)]
+pub enum Step<'a> {
+    /// `case NAME`: begins a case, with no input and no limit.
+    Case(&'a str),
+    /// `text LEN` and so many bytes: more input.
+    Text(&'a [u8]),
+    /// `letters LEN`: so many letters more of input.
+    Letters(usize),
+    /// `most LEN`: reads and writes move at most so many bytes.
+    Most(usize),
+    /// `watch PLACE,PLACE,..`: notes what was handed on where a byte of these places is read.
+    Watch(&'a str),
+    /// `serve`: answers the whole input.
+    Serve,
+    /// `cut PLACE`: answers the input up to this place.
+    Cut(usize),
+    /// `read_fails PLACE`: answers the input, where the read at this place fails.
+    ReadFails(usize),
+    /// `write_fails FIRST PLACE`: answers the input, where the write behind so many bytes fails, for each number from
+    /// the first up to the place.
+    WriteFails(usize, usize),
+}
+
+/// The first line, and what is behind it.
+fn first_line(input: &[u8]) -> Option<(&str, &[u8])> {
+    let end = input.iter().position(|byte| *byte == b'\n')?;
+    let line = str::from_utf8(input.get(..end)?).ok()?;
+    Some((line, input.get(end..)?.get(1..)?))
+}
+
+fn number(word: &str) -> Option<usize> {
+    word.parse::<usize>().ok()
+}
+
+/// A step that stands in its line alone.
+fn line_step<'a>(word: &str, rest: &'a str) -> Option<Step<'a>> {
+    match word {
+        "case" => Some(Step::Case(rest)),
+        "letters" => Some(Step::Letters(number(rest)?)),
+        "most" => Some(Step::Most(number(rest)?)),
+        "watch" => Some(Step::Watch(rest)),
+        "serve" => Some(Step::Serve),
+        "cut" => Some(Step::Cut(number(rest)?)),
+        "read_fails" => Some(Step::ReadFails(number(rest)?)),
+        "write_fails" => {
+            let (first, last) = rest.split_once(' ')?;
+            Some(Step::WriteFails(number(first)?, number(last)?))
+        }
+        _ => None,
+    }
+}
+
+/// The first step of some input, and the input behind it.
+pub fn first_step(input: &[u8]) -> Option<(Step<'_>, &[u8])> {
+    let (line, behind) = first_line(input)?;
+    let (word, rest) = line.split_once(' ').unwrap_or((line, ""));
+    if word == "text" {
+        let count = number(rest)?;
+        return Some((Step::Text(behind.get(..count)?), behind.get(count..)?));
+    }
+    Some((line_step(word, rest)?, behind))
+}
