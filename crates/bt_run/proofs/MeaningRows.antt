@@ -81,13 +81,17 @@ Shows files min bbl terse status steps ticks =
 
 -- Whole logs
 
-no_files : run [] 2 ≡ (record {
-  bbl = [];
-  blg = codes "I couldn't open auxiliary file job.aux\n(That was a fatal error)\n";
-  terse = codes "I couldn't open auxiliary file job.aux\n(That was a fatal error)\n";
-  status = 3;
-  wanted = codes "job.aux" ∷ [];
-}, 0, 0)
+no_files : run [] 2 ≡ (
+  record {
+    bbl = [];
+    blg = codes "I couldn't open auxiliary file job.aux\n(That was a fatal error)\n";
+    terse = codes "I couldn't open auxiliary file job.aux\n(That was a fatal error)\n";
+    status = 3;
+    wanted = codes "job.aux" ∷ [];
+  },
+  0,
+  0,
+)
 unfolding run
 no_files = refl
 
@@ -95,24 +99,32 @@ no_files = refl
 abbrev keys_style : List ℕ
 keys_style = codes "ENTRY {}{}{}\nFUNCTION {misc} {}\nFUNCTION {f} {\"key \" write$ cite$ write$ newline$}\nREAD\nITERATE {f}\n"
 
-two_citations : run (texts (cites (codes "b,a")) keys_style (codes "@misc{a}@misc{b}")) 2 ≡ (record {
-  bbl = codes "key b\nkey a\n";
-  blg = codes "The top-level auxiliary file: job.aux\nThe style file: s.bst\nDatabase file #1: x.bib\nThe built-in function-call counts, 8 in all, are:\n> -- 0\n< -- 0\n= -- 0\n+ -- 0\n- -- 0\n* -- 0\n:= -- 0\nadd.period$ -- 0\ncall.type$ -- 0\nchange.case$ -- 0\nchr.to.int$ -- 0\ncite$ -- 2\nduplicate$ -- 0\nempty$ -- 0\nformat.name$ -- 0\nif$ -- 0\nint.to.chr$ -- 0\nint.to.str$ -- 0\nmissing$ -- 0\nnewline$ -- 2\nnum.names$ -- 0\npop$ -- 0\npreamble$ -- 0\npurify$ -- 0\nquote$ -- 0\nskip$ -- 0\nstack$ -- 0\nsubstring$ -- 0\nswap$ -- 0\ntext.length$ -- 0\ntext.prefix$ -- 0\ntop$ -- 0\ntype$ -- 0\nwarning$ -- 0\nwhile$ -- 0\nwidth$ -- 0\nwrite$ -- 4\n";
-  terse = [];
-  status = 0;
-  wanted = [];
-}, 2, 12)
+two_citations : run (texts (cites (codes "b,a")) keys_style (codes "@misc{a}@misc{b}")) 2 ≡ (
+  record {
+    bbl = codes "key b\nkey a\n";
+    blg = codes "The top-level auxiliary file: job.aux\nThe style file: s.bst\nDatabase file #1: x.bib\nThe built-in function-call counts, 8 in all, are:\n> -- 0\n< -- 0\n= -- 0\n+ -- 0\n- -- 0\n* -- 0\n:= -- 0\nadd.period$ -- 0\ncall.type$ -- 0\nchange.case$ -- 0\nchr.to.int$ -- 0\ncite$ -- 2\nduplicate$ -- 0\nempty$ -- 0\nformat.name$ -- 0\nif$ -- 0\nint.to.chr$ -- 0\nint.to.str$ -- 0\nmissing$ -- 0\nnewline$ -- 2\nnum.names$ -- 0\npop$ -- 0\npreamble$ -- 0\npurify$ -- 0\nquote$ -- 0\nskip$ -- 0\nstack$ -- 0\nsubstring$ -- 0\nswap$ -- 0\ntext.length$ -- 0\ntext.prefix$ -- 0\ntop$ -- 0\ntype$ -- 0\nwarning$ -- 0\nwhile$ -- 0\nwidth$ -- 0\nwrite$ -- 4\n";
+    terse = [];
+    status = 0;
+    wanted = [];
+  },
+  2,
+  12,
+)
 unfolding run
 two_citations = refl
 
 -- a name that isn't defined where it stands
-faulty_style : run (texts (cites (codes "a")) (codes "ENTRY {}{}{}\nFUNCTION {f} {g}\nFUNCTION {g} {skip$}\n") (codes "@misc{a}")) 2 ≡ (record {
-  bbl = [];
-  blg = codes "The top-level auxiliary file: job.aux\nThe style file: s.bst\nThis name isn't defined---line 2 of file s.bst\n(There was 1 error message)\n";
-  terse = codes "This name isn't defined---line 2 of file s.bst\n(There was 1 error message)\n";
-  status = 2;
-  wanted = [];
-}, 0, 0)
+faulty_style : run (texts (cites (codes "a")) (codes "ENTRY {}{}{}\nFUNCTION {f} {g}\nFUNCTION {g} {skip$}\n") (codes "@misc{a}")) 2 ≡ (
+  record {
+    bbl = [];
+    blg = codes "The top-level auxiliary file: job.aux\nThe style file: s.bst\nThis name isn't defined---line 2 of file s.bst\n(There was 1 error message)\n";
+    terse = codes "This name isn't defined---line 2 of file s.bst\n(There was 1 error message)\n";
+    status = 2;
+    wanted = [];
+  },
+  0,
+  0,
+)
 unfolding run
 faulty_style = refl
 
@@ -122,13 +134,17 @@ unfolding run
 right_order = refl
 
 -- a nested file, a database and a style that aren't there
-missing_files : run (file (codes "job.aux") (codes "\\@input{n.aux}\n\\citation{a}\n\\bibdata{x}\n\\bibstyle{s}\n") ∷ []) 2 ≡ (record {
-  bbl = [];
-  blg = codes "The top-level auxiliary file: job.aux\nI couldn't open auxiliary file n.aux---line 1 of file job.aux\nI'm skipping whatever remains of this command\nI couldn't open database file x.bib---line 3 of file job.aux\nI'm skipping whatever remains of this command\nI couldn't open style file s.bst---line 4 of file job.aux\nI'm skipping whatever remains of this command\nI found no database files---while reading file job.aux\nI found no style file---while reading file job.aux\n(There were 5 error messages)\n";
-  terse = codes "I couldn't open auxiliary file n.aux---line 1 of file job.aux\nI'm skipping whatever remains of this command\nI couldn't open database file x.bib---line 3 of file job.aux\nI'm skipping whatever remains of this command\nI couldn't open style file s.bst---line 4 of file job.aux\nI'm skipping whatever remains of this command\nI found no database files---while reading file job.aux\nI found no style file---while reading file job.aux\n(There were 5 error messages)\n";
-  status = 2;
-  wanted = codes "n.aux" ∷ codes "x.bib" ∷ codes "s.bst" ∷ [];
-}, 0, 0)
+missing_files : run (file (codes "job.aux") (codes "\\@input{n.aux}\n\\citation{a}\n\\bibdata{x}\n\\bibstyle{s}\n") ∷ []) 2 ≡ (
+  record {
+    bbl = [];
+    blg = codes "The top-level auxiliary file: job.aux\nI couldn't open auxiliary file n.aux---line 1 of file job.aux\nI'm skipping whatever remains of this command\nI couldn't open database file x.bib---line 3 of file job.aux\nI'm skipping whatever remains of this command\nI couldn't open style file s.bst---line 4 of file job.aux\nI'm skipping whatever remains of this command\nI found no database files---while reading file job.aux\nI found no style file---while reading file job.aux\n(There were 5 error messages)\n";
+    terse = codes "I couldn't open auxiliary file n.aux---line 1 of file job.aux\nI'm skipping whatever remains of this command\nI couldn't open database file x.bib---line 3 of file job.aux\nI'm skipping whatever remains of this command\nI couldn't open style file s.bst---line 4 of file job.aux\nI'm skipping whatever remains of this command\nI found no database files---while reading file job.aux\nI found no style file---while reading file job.aux\n(There were 5 error messages)\n";
+    status = 2;
+    wanted = codes "n.aux" ∷ codes "x.bib" ∷ codes "s.bst" ∷ [];
+  },
+  0,
+  0,
+)
 unfolding run
 missing_files = refl
 
