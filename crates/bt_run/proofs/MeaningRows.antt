@@ -228,19 +228,19 @@ abbrev references_style : List ℕ
 references_style = codes "ENTRY {title}{}{}\nFUNCTION {misc} {title write$ crossref missing$ int.to.str$ write$ newline$}\nREAD\nITERATE {call.type$}\n"
 
 abbrev parent_and_children : List ℕ
-parent_and_children = codes "@misc{a, crossref = {P}}\n@misc{p, title = {T}}\n@misc{b, crossref = {p}}\n"
+parent_and_children = codes "@misc{a, crossref = {P}}\n@misc{p, title = {Parent}}\n@misc{b, crossref = {p}}\n"
 
 -- an uncited parent of two cited entries is listed
-both_cited : Shows (texts (cites (codes "a,b")) references_style parent_and_children) 2 (codes "T0\nT0\nT1\n") [] 0 3 24
+both_cited : Shows (texts (cites (codes "a,b")) references_style parent_and_children) 2 (codes "Parent0\nParent0\nParent1\n") [] 0 3 24
 unfolding run
 both_cited = refl
 
 -- of one it isn't, but for min-crossrefs 1
-one_cited : Shows (texts (cites (codes "a")) references_style parent_and_children) 2 (codes "T1\n") [] 0 1 8
+one_cited : Shows (texts (cites (codes "a")) references_style parent_and_children) 2 (codes "Parent1\n") [] 0 1 8
 unfolding run
 one_cited = refl
 
-one_is_enough : Shows (texts (cites (codes "a")) references_style parent_and_children) 1 (codes "T0\nT1\n") [] 0 2 16
+one_is_enough : Shows (texts (cites (codes "a")) references_style parent_and_children) 1 (codes "Parent0\nParent1\n") [] 0 2 16
 unfolding run
 one_is_enough = refl
 
