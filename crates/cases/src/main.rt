@@ -1,4 +1,6 @@
 //! Answers cases of the layers' public calls: a line of input is a call, its answer a line of output.
+//!
+//! Where a call runs out of memory, a line on standard error says so, and the call is made once more.
 #![tactic(auto)]
 
 mod aux_lines;
@@ -24,11 +26,23 @@ fn answer(alloc: Global, case: &str) -> Result<Bytes, AllocError> {
     }
 }
 
+/// The answer of a case, of a second try where memory ran out in the first.
+fn answer_in_the_end(rt: &HostRuntime, case: &str) -> io::Result<Bytes> {
+    let alloc = rt.alloc();
+    match answer(alloc, case) {
+        Ok(told) => Ok(told),
+        Err(AllocError) => {
+            eprintln!(rt; "out of memory: once more")?;
+            Ok(answer(alloc, case)?)
+        }
+    }
+}
+
 fn main(rt: HostRuntime) -> io::Result<()> {
     let alloc = rt.alloc();
     let mut out = BufWriter::new(alloc, io::writer(&rt))?;
     for line in BufReader::new(alloc, rt.reader())?.lines(alloc) {
-        let told = answer(alloc, line?.as_str())?;
+        let told = answer_in_the_end(&rt, line?.as_str())?;
         out.write_all(told.as_slice())?;
         out.write_all(b"\n")?;
     }
