@@ -507,9 +507,12 @@ function! s:Read(paper) abort
   let a:paper.messages = messages
 endfunction
 
-" Where a message without a line belongs: the entry, or the \citation, of the key that it ends with.
+" Where a message without a line belongs: to the entry, or the \citation, of the key that it ends with.
 function! s:Where(paper, words) abort
-  let key = substitute(matchstr(a:words, '\%("\zs[^" ]\+\ze"\|\S\+\)\%(, which .*\)\=$'), '"', '', 'g')
+  let key = matchstr(a:words, '--entry "\zs[^" ]\+\ze"')
+  if key ==# ''
+    let key = substitute(matchstr(a:words, '\%("[^" ]\+"\|\S\+\)$'), '"', '', 'g')
+  endif
   let wanted = '\V' . escape(key, '\') . '\m'
   for [ending, pattern] in [['\.bib$', '\c@\_s*[^ \t\n@{(]\+\_s*[{(]\_s*\zs' . wanted . '\_s*[,})]'],
         \ ['\.aux$', '\\citation{\%([^}]*,\)\=\zs' . wanted . '[,}]']]
@@ -527,12 +530,17 @@ endfunction
 " Puts the messages into a quickfix list of this paper.
 function! s:List(paper) abort
   let items = []
+  let left = 25     " messages without a line that are looked up
   for [name, refusal] in items(a:paper.refusals)
     call add(items, {'filename': get(a:paper.places, name, name), 'lnum': 1, 'type': 'E',
           \ 'text': name . ' isn''t sent: ' . s:reasons[refusal.code]})
   endfor
   for message in a:paper.messages
-    let place = empty(message.place) && message.type !=# 'I' ? s:Where(a:paper, message.text) : message.place
+    let place = message.place
+    if empty(place) && message.type !=# 'I' && left > 0
+      let place = s:Where(a:paper, message.text)
+      let left -= 1
+    endif
     let item = {'text': message.text, 'type': message.type}
     if !empty(place)
       let item.filename = get(a:paper.places, place[2], a:paper.folders[0] . '/' . place[2])
@@ -621,11 +629,16 @@ function! s:Item(paper, key) abort
   return [-1, -1]
 endfunction
 
-" Bytes as lines of this Vim: those that are no UTF-8 count as Latin-1.
-function! s:Lines(bytes) abort
-  let text = &encoding ==# 'utf-8' && iconv(a:bytes, 'utf-8', 'utf-8') !=# a:bytes
-        \ ? iconv(a:bytes, 'latin1', &encoding) : a:bytes
-  return split(substitute(text, '\n\+$', '', ''), "\n", 1)
+" Bytes of the program as lines of this Vim, in the encoding of the first database that is edited here.
+function! s:Lines(paper, bytes) abort
+  let text = substitute(a:bytes, '\n\+$', '', '')
+  for name in filter(copy(a:paper.names), 'v:val =~# "\\.bib$"')
+    let encoding = getbufvar(s:Buffer(get(a:paper.places, name, '')), '&fileencoding')
+    if encoding !=# ''
+      return split(encoding ==? &encoding ? text : iconv(text, encoding, &encoding), "\n", 1)
+    endif
+  endfor
+  return split(text, "\n", 1)
 endfunction
 
 function! s:Show(paper) abort
@@ -634,15 +647,15 @@ function! s:Show(paper) abort
   endif
   let [begin, end] = s:Item(a:paper, a:paper.key)
   if a:paper.view ==# 'log'
-    let lines = s:Lines(a:paper.blg)
+    let lines = s:Lines(a:paper, a:paper.blg)
   elseif a:paper.bbl ==# ''
     let lines = ['(The bibliography is empty: the quickfix list says why.)']
   elseif a:paper.view ==# 'all'
-    let lines = s:Lines(a:paper.bbl)
+    let lines = s:Lines(a:paper, a:paper.bbl)
   elseif begin < 0
     let lines = ['(' . (a:paper.key ==# '' ? 'No entry is under the cursor.' : a:paper.key . ' isn''t in the bibliography.') . ')']
   else
-    let lines = s:Lines(strpart(a:paper.bbl, begin, end - begin))
+    let lines = s:Lines(a:paper, strpart(a:paper.bbl, begin, end - begin))
   endif
   call s:Fill(a:paper.buffer, lines)
   if a:paper.view ==# 'all' && begin >= 0 && exists('*win_execute')
