@@ -365,7 +365,7 @@ The .aux files come first and the style last, so that its functions are run once
 
 (defun bibtex-live--taken (paper bytes)
   "Take BYTES, those of the answer that PAPER waited for."
-  (let ((text (decode-coding-string bytes 'prefer-utf-8)))
+  (let ((text (decode-coding-string bytes (bibtex-live--coding paper))))
     (if (eq (bibtex-live--paper-asked paper) 'blg)
         (progn (setf (bibtex-live--paper-blg paper) text
                      (bibtex-live--paper-stale paper) 'bbl)
@@ -432,7 +432,9 @@ They are those of the buffer where it has changes that aren't saved, else those 
   (when-let ((buffer (and bibtex-live-flymake (bibtex-live--buffer file))))
     (with-current-buffer buffer
       (bibtex-live--attach)
-      (unless flymake-mode (flymake-mode 1)))))
+      (unless flymake-mode
+        (setq-local flymake-diagnostic-functions (list #'bibtex-live--flymake))
+        (flymake-mode 1)))))
 
 (defun bibtex-live--there-p (file)
   "Whether FILE can be read or is edited."
@@ -451,6 +453,15 @@ They are those of the buffer where it has changes that aren't saved, else those 
         (when (eq (coding-system-type coding) 'undecided)
           (setq coding (coding-system-change-text-conversion coding 'utf-8)))
         (encode-coding-region (point-min) (point-max) coding t)))))
+
+(defun bibtex-live--coding (paper)
+  "The coding system of the first database of PAPER that is edited here."
+  (let ((coding (cl-loop for (name . file) in (bibtex-live--paper-places paper)
+                         for buffer = (and (string-suffix-p ".bib" name) (bibtex-live--buffer file))
+                         thereis (and buffer (buffer-local-value 'buffer-file-coding-system buffer)))))
+    (if (memq (and coding (coding-system-type coding)) '(nil undecided))
+        'utf-8-unix
+      (coding-system-change-eol-conversion coding 'unix))))
 
 (defun bibtex-live--file-text (file)
   "The bytes of FILE."

@@ -18,6 +18,12 @@ function! Shows(line)
   return index(Shown(), a:line) >= 0
 endfunction
 
+" The first line of the window.
+function! Top()
+  let window = getwininfo(bufwinid(bufnr('bibliography of')))[0]
+  return get(Shown(), window.topline - 1, '')
+endfunction
+
 " The quickfix list, as TYPE:FILE:LINE:TEXT.
 function! Messages()
   return map(getqflist(), 'v:val.type . ":" . fnamemodify(bufname(v:val.bufnr), ":t") . ":" . v:val.lnum . ":" . v:val.text')
@@ -51,10 +57,10 @@ let s:steps = [
 \   'edit library.bib | BibtexLive',
 \   'Shows("\\newblock {\\em Theory of Games and Economic Behavior}.")'],
 \ ['a word that is typed into a title is in the window',
-\   'call Type("/Theory of\<CR>eea Zero-Sum\<Esc>")',
-\   'Shows("\\newblock {\\em Theory of Zero-Sum Games and Economic Behavior}.")'],
+\   'call Type("/Theory of\<CR>eea Zero-Sum")',
+\   'Shows("\\newblock {\\em Theory of Zero-Sum Games and Economic Behavior}.") && Top() ==# "\\bibitem[vNM44]{neumann:games}"'],
 \ ['a letter of two bytes',
-\   'call Type("/Behavior\<CR>ea für alle\<Esc>")',
+\   'call Type("\<Esc>/Behavior\<CR>ea für alle\<Esc>")',
 \   'Shows("\\newblock {\\em Theory of Zero-Sum Games and Economic Behavior für alle}.")'],
 \ ['an entry without the comma after its key has its error at the next line',
 \   'call Type(":17\<CR>$x")',
