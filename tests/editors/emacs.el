@@ -59,7 +59,7 @@
 
 (defvar steps
   '(("the bibliography is shown"
-     (progn (find-file "library.bib") (fundamental-mode) (bibtex-live (bibtex-live--guess)))
+     (progn (find-file "library.bib") (bibtex-live (bibtex-live--guess)))
      (shows "\\newblock {\\em Theory of Games and Economic Behavior}."))
     ("a word that is typed into a title is in the window"
      (type 19 "\C-sTheory of\r Zero-Sum")
@@ -114,7 +114,7 @@
      (write-more "@misc{new:one, title = {One\0 and no more}}\n")
      (and (null (listed)) (shows "\\newblock One\0 and no more.")))
     ("a style with a fault has its error"
-     (progn (find-file "labels.bst") (fundamental-mode) (type 1 "FOO\r"))
+     (progn (find-file "labels.bst") (type 1 "FOO\r"))
      (and (equal (listed) '("labels.bst:1: error: This isn't a command"))
           (equal (flagged "labels.bst") '((1 :error "This isn't a command")))
           (string-match-p "is empty" (car (shown)))))

@@ -7,6 +7,7 @@
 
 let s:papers = {}       " by the path of the .aux file
 let s:latest = {}       " the paper that was started last
+let s:resolved = {}     " paths without links, by path
 let s:most_bytes = 1048576
 let s:reasons = {
       \ 1: 'its name may have only 1 to 64 of the characters A-Z a-z 0-9 . - _ + /',
@@ -84,6 +85,7 @@ function! bibtex_live#View(view) abort
 endfunction
 
 function! bibtex_live#Refresh() abort
+  let s:resolved = {}
   for paper in values(s:papers)
     let [paper.unknown, paper.texts, paper.refusals, paper.resting] = [{}, {}, {}, 0]
     call s:Pump(paper)
@@ -417,11 +419,18 @@ endfunction
 function! s:Buffer(path) abort
   for number in range(1, bufnr('$'))
     if bufloaded(number) && bufname(number) !=# '' && getbufvar(number, '&buftype') ==# ''
-          \ && resolve(fnamemodify(bufname(number), ':p')) ==# a:path
+          \ && s:Resolved(fnamemodify(bufname(number), ':p')) ==# a:path
       return number
     endif
   endfor
   return 0
+endfunction
+
+function! s:Resolved(path) abort
+  if !has_key(s:resolved, a:path)
+    let s:resolved[a:path] = resolve(a:path)
+  endif
+  return s:resolved[a:path]
 endfunction
 
 " The bytes that `:write` would write.
