@@ -69,7 +69,7 @@
   (sent nil)                ; the texts that the program has: (NAME . BYTES)
   asked edited stale        ; the command in flight, its (NAME . BYTES), and what is to be asked for after the edits
   (input "") wanted         ; what came and isn't read, and how many bytes of an answer are still to come
-  (said "")                 ; the last words on standard error
+  (said "")                 ; the first line on standard error
   (ends nil) resting        ; when the program ended, and whether it waits for a change
   (bbl "") (blg "") (messages nil)
   (refusals nil)            ; texts that aren't sent: (NAME CODE . BYTES)
@@ -201,7 +201,9 @@
         (bibtex-live--paper-said paper) "")
   (let ((default-directory (car (bibtex-live--paper-folders paper)))
         (errors (make-pipe-process :name "bibtex-live-errors" :noquery t :sentinel #'ignore
-                                   :filter (lambda (_ said) (setf (bibtex-live--paper-said paper) (string-trim said))))))
+                                   :filter (lambda (_ said)
+                                             (when (string-empty-p (bibtex-live--paper-said paper))
+                                               (setf (bibtex-live--paper-said paper) (car (split-string said "\n"))))))))
     (setf (bibtex-live--paper-process paper)
           (make-process :name "bibtex-live" :connection-type 'pipe :coding 'no-conversion :noquery t
                         :command `(,bibtex-live-program "--resident" ,@bibtex-live-arguments

@@ -146,7 +146,7 @@ endfunction
 function! s:Launch(paper) abort
   let options = {'mode': 'raw', 'in_io': 'pipe', 'out_io': 'pipe', 'err_io': 'pipe', 'err_mode': 'nl',
         \ 'cwd': a:paper.folders[0], 'out_cb': function('s:Receive', [a:paper]),
-        \ 'err_cb': {_, line -> extend(a:paper, {'said': line})}, 'close_cb': function('s:Ended', [a:paper])}
+        \ 'err_cb': {_, line -> a:paper.said ==# '' ? extend(a:paper, {'said': line}) : 0}, 'close_cb': function('s:Ended', [a:paper])}
   if has('patch-8.1.350')
     let options.noblock = 1
   endif
