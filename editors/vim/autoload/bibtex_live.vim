@@ -1,0 +1,702 @@
+" bibtex_live.vim: keeps `bibtex --resident PAPER` beside Vim, sends it each change, and shows the bibliography and
+" the messages.   :help bibtex-live
+"
+" A paper is a dictionary. At most one command of it is in flight (`asked`); when its answer is there, `s:Pump` compares
+" the texts as they are now with those that the program has, and sends the next difference. So the newest text wins, and
+" what was typed in between is never sent by itself.
+
+let s:papers = {}       " by the path of the .aux file
+let s:latest = {}       " the paper that was started last
+let s:resolved = {}     " paths without links, by path
+let s:most_bytes = 1048576
+let s:reasons = {
+      \ 1: 'its name may have only 1 to 64 of the characters A-Z a-z 0-9 . - _ + /',
+      \ 2: 'the program has no such file',
+      \ 3: 'the change lies outside of the text',
+      \ 4: 'it has more than 1048576 bytes',
+      \ 5: 'the program has 64 files already',
+      \ 6: 'the program is out of memory'}
+
+function! s:Option(name, default) abort
+  return get(g:, 'bibtex_live_' . a:name, a:default)
+endfunction
+
+function! s:Warn(words) abort
+  echohl WarningMsg
+  echomsg 'bibtex-live: ' . a:words
+  echohl None
+endfunction
+
+" --- Commands ---
+
+function! bibtex_live#Start(argument) abort
+  if !(has('job') && has('channel') && has('timers') && exists('*deletebufline'))
+    return s:Warn('Vim 8.1.0039 or later is needed, with +job, +channel and +timers')
+  endif
+  let aux = a:argument ==# '' ? s:Guess() : fnamemodify(a:argument, ':p')
+  if aux ==# ''
+    return s:Warn('which paper? :BibtexLive PAPER.aux')
+  endif
+  let aux = substitute(aux, '\.tex$', '', '')
+  let aux = resolve(aux =~# '\.aux$' ? aux : aux . '.aux')
+  let job = fnamemodify(aux, ':t:r')
+  if !s:IsName(job . '.aux')
+    return s:Warn(job . '.aux can''t be sent: ' . s:reasons[1])
+  elseif !filereadable(aux)
+    return s:Warn('there is no ' . aux . ': run latex first')
+  elseif !executable(s:Option('program', 'bibtex'))
+    return s:Warn(s:Option('program', 'bibtex') . ' isn''t a program: set g:bibtex_live_program')
+  endif
+  if !has_key(s:papers, aux)
+    let s:papers[aux] = {'aux': aux, 'name': job, 'names': [job . '.aux'], 'places': {}, 'texts': {},
+          \ 'folders': [fnamemodify(aux, ':h'), getcwd()], 'unknown': {}, 'job': v:null, 'ends': [],
+          \ 'bbl': '', 'blg': '', 'key': '', 'view': s:Option('view', 'all'), 'messages': [], 'list': 0, 'refusals': {}}
+  endif
+  let s:latest = s:papers[aux]
+  let s:latest.resting = 0
+  call s:OpenWindow(s:latest)
+  call s:Watch()
+  call s:Pump(s:latest)
+endfunction
+
+" The .aux file of the present buffer: its own, that of its name, or the only one of its folder that names databases.
+function! s:Guess() abort
+  let path = expand('%:p')
+  if path =~# '\.\%(aux\|tex\)$' && filereadable(fnamemodify(path, ':r') . '.aux')
+    return fnamemodify(path, ':r') . '.aux'
+  endif
+  let folder = path ==# '' ? getcwd() : fnamemodify(path, ':h')
+  let found = filter(glob(folder . '/*.aux', 1, 1), 'match(readfile(v:val), "^\\\\bibdata{") >= 0')
+  return len(found) == 1 ? found[0] : ''
+endfunction
+
+function! bibtex_live#Views(lead, line, at) abort
+  return filter(['all', 'entry', 'log'], 'stridx(v:val, a:lead) == 0')
+endfunction
+
+function! bibtex_live#View(view) abort
+  let paper = s:Here()
+  if empty(paper) || index(['all', 'entry', 'log'], a:view) < 0
+    return s:Warn('the views are all, entry and log, after :BibtexLive')
+  endif
+  let paper.view = a:view
+  call s:OpenWindow(paper)
+  call s:Show(paper)
+endfunction
+
+function! bibtex_live#Refresh() abort
+  let s:resolved = {}
+  for paper in values(s:papers)
+    let [paper.unknown, paper.texts, paper.refusals, paper.resting] = [{}, {}, {}, 0]
+    call s:Pump(paper)
+  endfor
+endfunction
+
+function! bibtex_live#Stop() abort
+  let paper = s:Here()
+  if empty(paper)
+    return
+  endif
+  call remove(s:papers, paper.aux)
+  let s:latest = get(values(s:papers), 0, {})
+  call s:Drop(paper)
+endfunction
+
+" The paper that the present buffer belongs to, else the one that was started last.
+function! s:Here() abort
+  let path = resolve(expand('%:p'))
+  for paper in values(s:papers)
+    if index(values(paper.places), path) >= 0 || bufnr('%') == get(paper, 'buffer', -1)
+      return paper
+    endif
+  endfor
+  return s:latest
+endfunction
+
+function! s:Watch() abort
+  augroup bibtex_live
+    autocmd!
+    autocmd TextChanged,TextChangedI,BufWritePost,BufReadPost *.aux,*.bib,*.bst call s:Changed()
+    if exists('##TextChangedP')
+      autocmd TextChangedP *.aux,*.bib,*.bst call s:Changed()
+    endif
+    autocmd FocusGained * call s:Changed()
+    autocmd CursorMoved,CursorMovedI,BufEnter *.aux,*.bib,*.bst,*.tex call s:Follow()
+  augroup END
+  if !exists('s:clock')
+    " Files that aren't edited here, as the .aux file that LaTeX writes.
+    let s:clock = timer_start(s:Option('interval', 1000), {-> s:Tick()}, {'repeat': -1})
+  endif
+endfunction
+
+function! s:Tick() abort
+  call map(values(s:papers), 's:Pump(v:val)')
+endfunction
+
+function! s:Changed() abort
+  for paper in values(s:papers)
+    let paper.resting = 0
+    call s:Pump(paper)
+  endfor
+  call s:Follow()
+endfunction
+
+" --- The program ---
+
+function! s:Launch(paper) abort
+  let options = {'mode': 'raw', 'in_io': 'pipe', 'out_io': 'pipe', 'err_io': 'pipe', 'err_mode': 'nl',
+        \ 'cwd': a:paper.folders[0], 'out_cb': function('s:Receive', [a:paper]),
+        \ 'err_cb': {_, line -> a:paper.said ==# '' ? extend(a:paper, {'said': line}) : 0}, 'close_cb': function('s:Ended', [a:paper])}
+  if has('patch-8.1.350')
+    let options.noblock = 1
+  endif
+  call extend(a:paper, {'sent': {}, 'asked': '', 'input': '', 'wanted': -1, 'stale': '', 'said': '', 'began': reltime()})
+  let words = [s:Option('program', 'bibtex'), '--resident'] + s:Option('arguments', []) + [a:paper.name]
+  let a:paper.job = job_start(words, options)
+  let a:paper.channel = job_getchannel(a:paper.job)
+endfunction
+
+" Ends the program without a word; what it still says is for nobody.
+function! s:Drop(paper) abort
+  if a:paper.job isnot v:null
+    let job = a:paper.job
+    let a:paper.job = v:null
+    call s:Calm(a:paper)
+    call job_stop(job, 'kill')
+  endif
+endfunction
+
+" Starts the program anew, with all texts; not where it ended three times within ten seconds: then it waits for a change.
+function! s:Again(paper, why) abort
+  call s:Drop(a:paper)
+  call filter(add(a:paper.ends, localtime()), 'v:val > localtime() - 10')
+  let a:paper.resting = len(a:paper.ends) >= 3
+  call s:Warn(a:why . (a:paper.resting ? '; it is started again at the next change' : '; it is started again'))
+  call s:Pump(a:paper)
+endfunction
+
+function! s:Ended(paper, channel) abort
+  if a:paper.job isnot v:null && a:paper.channel == a:channel
+    call s:Again(a:paper, 'the program has ended' . (a:paper.said ==# '' ? '' : ' (' . a:paper.said . ')'))
+  endif
+endfunction
+
+function! s:Late(paper, timer) abort
+  call s:Again(a:paper, 'no answer for ' . s:Option('patience', 20) . ' seconds: the program is stopped')
+endfunction
+
+function! s:Calm(paper) abort
+  call timer_stop(get(a:paper, 'patience', -1))
+endfunction
+
+" Sends a command, and the bytes that it brings.
+function! s:Say(paper, asked, line, bytes) abort
+  let a:paper.asked = a:asked
+  call s:Calm(a:paper)
+  let a:paper.patience = timer_start(s:Option('patience', 20) * 1000, function('s:Late', [a:paper]))
+  try
+    if type(a:bytes) == type('')
+      call ch_sendraw(a:paper.channel, a:line . "\n" . a:bytes)
+    else
+      call ch_sendraw(a:paper.channel, a:line . "\n")
+      call ch_sendraw(a:paper.channel, a:bytes)
+    endif
+  catch /^Vim\%((\a\+)\)\=:E\%(630\|631\|906\)/
+    " The channel is closed: s:Ended comes.
+  endtry
+endfunction
+
+" Does the next thing that is to be done: an edit, else what the answers of the last edits made stale.
+function! s:Pump(paper) abort
+  if a:paper.job is v:null
+    if a:paper.resting || !has_key(s:papers, a:paper.aux)
+      return
+    endif
+    call s:Launch(a:paper)
+  endif
+  if a:paper.asked !=# '' || s:Edit(a:paper) || a:paper.stale ==# ''
+    return
+  endif
+  call s:Say(a:paper, a:paper.stale, a:paper.stale, '')
+endfunction
+
+" Sends the first difference between the texts as they are and those that the program has, and says whether there is one.
+" The .aux files come first and the style last, so that its functions are run once.
+function! s:Edit(paper) abort
+  for kind in ['\.aux$', '\.bib$', '\%(\.aux\|\.bib\)\@<!$']
+    for name in filter(copy(a:paper.names), 'v:val =~# kind')
+      let text = s:Present(a:paper, name)
+      let known = has_key(a:paper.sent, name)
+      if text is v:null
+        let line = known ? 'remove ' . name : ''
+        let bytes = ''
+      elseif known && s:Same(text, a:paper.sent[name])
+        let line = ''
+        if has_key(a:paper.refusals, name)
+          call remove(a:paper.refusals, name)
+          let a:paper.stale = 'blg'
+        endif
+      elseif has_key(a:paper.refusals, name) && s:Same(text, a:paper.refusals[name].text)
+        let line = ''
+      elseif len(text) > s:most_bytes || !s:IsName(name)
+        let line = ''
+        let a:paper.refusals[name] = {'text': text, 'code': s:IsName(name) ? 4 : 1}
+        let a:paper.stale = 'blg'
+      elseif known && type(text) == type('') && type(a:paper.sent[name]) == type('')
+        let [start, end, bytes] = s:Change(a:paper.sent[name], text)
+        let line = printf('splice %s %d %d %d', name, start, end, len(bytes))
+      else
+        let bytes = text
+        let line = printf('write %s %d', name, len(bytes))
+      endif
+      if line !=# ''
+        let a:paper.edited = {'name': name, 'text': text}
+        call s:Say(a:paper, 'edit', line, bytes)
+        return 1
+      endif
+    endfor
+  endfor
+  return 0
+endfunction
+
+function! s:IsName(name) abort
+  return a:name =~# '^[A-Za-z0-9._+/-]\{1,64}$'
+endfunction
+
+function! s:Same(a, b) abort
+  return type(a:a) == type(a:b) && a:a ==# a:b
+endfunction
+
+" The smallest change that makes the new text of the old one: the bytes from start up to end become `bytes`.
+function! s:Change(old, new) abort
+  let most = min([len(a:old), len(a:new)])
+  let [start, high] = [0, most]
+  while start < high
+    let half = (start + high + 1) / 2
+    if strpart(a:old, start, half - start) ==# strpart(a:new, start, half - start)
+      let start = half
+    else
+      let high = half - 1
+    endif
+  endwhile
+  let [same, high] = [0, most - start]
+  while same < high
+    let half = (same + high + 1) / 2
+    if strpart(a:old, len(a:old) - half, half - same) ==# strpart(a:new, len(a:new) - half, half - same)
+      let same = half
+    else
+      let high = half - 1
+    endif
+  endwhile
+  return [start, len(a:old) - same, strpart(a:new, start, len(a:new) - same - start)]
+endfunction
+
+function! s:Receive(paper, channel, bytes) abort
+  if a:paper.job is v:null || a:paper.channel != a:channel
+    return
+  endif
+  let a:paper.input .= a:bytes
+  while a:paper.job isnot v:null
+    if a:paper.wanted < 0
+      let end = stridx(a:paper.input, "\n")
+      if end < 0
+        return
+      endif
+      let line = strpart(a:paper.input, 0, end)
+      let a:paper.input = strpart(a:paper.input, end + 1)
+      call s:Answered(a:paper, line)
+    elseif len(a:paper.input) >= a:paper.wanted
+      let bytes = strpart(a:paper.input, 0, a:paper.wanted)
+      let a:paper.input = strpart(a:paper.input, a:paper.wanted)
+      let a:paper.wanted = -1
+      call s:Taken(a:paper, bytes)
+    else
+      return
+    endif
+  endwhile
+endfunction
+
+" The first line of an answer.
+function! s:Answered(paper, line) abort
+  let asked = a:paper.asked
+  if asked ==# 'edit' && a:line =~# '^ok [0-3] \d\+ \d\+ \d\+$'
+    let edited = a:paper.edited
+    if edited.text is v:null
+      call remove(a:paper.sent, edited.name)
+    else
+      let a:paper.sent[edited.name] = edited.text
+    endif
+    let a:paper.stale = 'blg'
+    call s:Next(a:paper)
+  elseif asked ==# 'edit' && a:line =~# '^refused [1-6]$'
+    let edited = a:paper.edited
+    let code = str2nr(strpart(a:line, 8))
+    if (code == 2 || code == 3) && has_key(a:paper.sent, edited.name)
+      call remove(a:paper.sent, edited.name)
+    else
+      let a:paper.refusals[edited.name] = {'text': edited.text, 'code': code}
+    endif
+    let a:paper.stale = 'blg'
+    call s:Next(a:paper)
+  elseif (asked ==# 'bbl' || asked ==# 'blg') && a:line =~# '^' . asked . ' \d\{1,15}$'
+    let a:paper.wanted = str2nr(strpart(a:line, 4))
+  else
+    call s:Again(a:paper, 'an answer that isn''t one (' . strpart(a:line, 0, 60) . '): the program is stopped')
+  endif
+endfunction
+
+" The bytes of an answer.
+function! s:Taken(paper, bytes) abort
+  if a:paper.asked ==# 'blg'
+    let a:paper.blg = a:bytes
+    let a:paper.stale = 'bbl'
+    call s:Read(a:paper)
+    call s:Next(a:paper)
+  else
+    let a:paper.bbl = a:bytes
+    let a:paper.stale = ''
+    call s:Show(a:paper)
+    call s:List(a:paper)
+    call s:Next(a:paper)
+  endif
+endfunction
+
+function! s:Next(paper) abort
+  call s:Calm(a:paper)
+  let a:paper.asked = ''
+  call s:Pump(a:paper)
+endfunction
+
+" --- Texts ---
+
+" The text of a name as it is now: of the buffer where it has changes that aren't saved, else of the file.
+function! s:Present(paper, name) abort
+  let path = s:Place(a:paper, a:name)
+  if path ==# ''
+    return v:null
+  endif
+  let number = s:Buffer(path)
+  let mark = number > 0 && getbufvar(number, '&modified')
+        \ ? 'buffer ' . getbufvar(number, 'changedtick') : 'file ' . getftime(path) . ' ' . getfsize(path)
+  let kept = get(a:paper.texts, a:name, {})
+  if get(kept, 'mark', '') !=# mark || kept.path !=# path
+    let kept = {'mark': mark, 'path': path, 'text': mark[0] ==# 'b' ? s:BufferText(number) : s:FileText(path)}
+    let a:paper.texts[a:name] = kept
+  endif
+  return kept.text
+endfunction
+
+" Where the file of a name is, or '': in the paper's folder, in that where the command was given, in those of
+" g:bibtex_live_folders, or where kpsewhich finds it.
+function! s:Place(paper, name) abort
+  let place = get(a:paper.places, a:name, '')
+  if place !=# '' && s:IsThere(place)
+    return place
+  endif
+  for folder in a:paper.folders + s:Option('folders', [])
+    let place = resolve(fnamemodify(expand(folder) . '/' . a:name, ':p'))
+    if s:IsThere(place)
+      let a:paper.places[a:name] = place
+      return place
+    endif
+  endfor
+  if a:name =~# '\.\%(bib\|bst\)$' && a:name !~# '^-' && !has_key(a:paper.unknown, a:name) && executable('kpsewhich')
+    let place = get(split(system('cd ' . shellescape(a:paper.folders[0]) . ' && kpsewhich ' . a:name), "\n"), 0, '')
+    if v:shell_error == 0 && filereadable(place)
+      let a:paper.places[a:name] = place
+      return place
+    endif
+    let a:paper.unknown[a:name] = 1
+  endif
+  return ''
+endfunction
+
+function! s:IsThere(path) abort
+  return filereadable(a:path) || s:Buffer(a:path) > 0
+endfunction
+
+" The loaded buffer of a path, or 0.
+function! s:Buffer(path) abort
+  for number in range(1, bufnr('$'))
+    if bufloaded(number) && bufname(number) !=# '' && getbufvar(number, '&buftype') ==# ''
+          \ && s:Resolved(fnamemodify(bufname(number), ':p')) ==# a:path
+      return number
+    endif
+  endfor
+  return 0
+endfunction
+
+function! s:Resolved(path) abort
+  if !has_key(s:resolved, a:path)
+    let s:resolved[a:path] = resolve(a:path)
+  endif
+  return s:resolved[a:path]
+endfunction
+
+" The bytes that `:write` would write.
+function! s:BufferText(number) abort
+  let ending = get({'dos': "\r\n", 'mac': "\r"}, getbufvar(a:number, '&fileformat'), "\n")
+  let lines = getbufline(a:number, 1, '$')
+  let closed = getbufvar(a:number, '&eol') || (getbufvar(a:number, '&fixeol', 1) && !getbufvar(a:number, '&binary'))
+  if match(lines, "\n") >= 0
+    return s:WithNul(map(lines, 'v:val . strpart(ending, 0, len(ending) - 1)') + (closed ? [''] : []))
+  endif
+  let text = join(lines, ending) . (closed ? ending : '')
+  if getbufvar(a:number, '&bomb')
+    let text = "\xef\xbb\xbf" . text
+  endif
+  let encoding = getbufvar(a:number, '&fileencoding')
+  return encoding ==# '' || encoding ==? &encoding ? text : iconv(text, &encoding, encoding)
+endfunction
+
+function! s:FileText(path) abort
+  if getfsize(a:path) > s:most_bytes
+    return repeat(' ', s:most_bytes + 1)
+  endif
+  let lines = readfile(a:path, 'b')
+  return match(lines, "\n") < 0 ? join(lines, "\n") : s:WithNul(lines)
+endfunction
+
+" Lines with NUL bytes, which Vim keeps as line feeds, as a blob.
+function! s:WithNul(lines) abort
+  let file = tempname()
+  call writefile(a:lines, file, 'b')
+  let bytes = exists('v:t_blob') ? readfile(file, 'B') : join(a:lines, "\n")
+  call delete(file)
+  return bytes
+endfunction
+
+" --- The log ---
+
+" Takes the messages out of the log, and the files that the run wants.
+function! s:Read(paper) abort
+  let lines = split(a:paper.blg, "\n", 1)
+  let place = '--line \(\d\+\) of file \([A-Za-z0-9._+/-]\{1,64}\)$'
+  let messages = []
+  let [at, counts] = [0, 0]
+  while at < len(lines)
+    let [line, next] = [lines[at], get(lines, at + 1, '')]
+    let at += 1
+    if line =~# '^Warning--'
+      let message = {'type': 'W', 'text': strpart(line, 9), 'place': matchlist(next, '^' . place)}
+      let at += !empty(message.place) || (line =~# "^Warning--you've nested" && next =~# '^refers to entry "')
+    elseif next =~# '^while executing-' . place
+      let message = {'type': 'E', 'text': line, 'place': matchlist(next, place)}
+      let at += 1
+    elseif line =~# '-' . place
+      let message = {'type': 'E', 'text': substitute(line, '-' . place, '', ''), 'place': matchlist(line, place)}
+      let at += next =~# '^I''m skipping whatever remains of this'
+    elseif line =~# '---while reading file '
+      let message = {'type': 'E', 'text': line, 'place': ['', '0', matchstr(line, '---while reading file \zs.*')]}
+    elseif line =~# '^A bad cross reference---entry "' && next =~# '^refers to entry "'
+      let message = {'type': 'E', 'text': line . ' ' . next, 'place': []}
+      let at += 1
+    elseif line =~# '^I couldn''t open auxiliary file '
+      let message = {'type': 'E', 'text': line, 'place': []}
+    elseif line =~# '^The built-in function-call counts, '
+      let counts = 37
+      continue
+    elseif counts > 0 && line =~# '^\S\+ -- \d\+$'
+      let counts -= 1
+      continue
+    elseif line =~# '^\%(The top-level auxiliary file: \|A level-\d\+ auxiliary file: \|The style file: \|Database file #\)'
+          \ || line =~# '^(\%(There was \|There were \|That was a fatal\).*)$' || line ==# ''
+      continue
+    else
+      let message = {'type': 'I', 'text': line, 'place': []}
+    endif
+    if message.text =~# '^I couldn''t open \%(auxiliary\|database\|style\) file '
+      let name = matchstr(message.text, 'file \zs.*')
+      if index(a:paper.names, name) < 0
+        call add(a:paper.names, name)
+      endif
+    endif
+    call add(messages, message)
+  endwhile
+  let a:paper.messages = messages
+endfunction
+
+" Where a message without a line belongs: to the entry, or the \citation, of the key that it ends with.
+function! s:Where(paper, words) abort
+  let key = matchstr(a:words, '--entry "\zs[^" ]\+\ze"')
+  if key ==# ''
+    let key = substitute(matchstr(a:words, '\%("[^" ]\+"\|\S\+\)$'), '"', '', 'g')
+  endif
+  let wanted = '\V' . escape(key, '\') . '\m'
+  for [ending, pattern] in [['\.bib$', '\c@\_s*[^ \t\n@{(]\+\_s*[{(]\_s*\zs' . wanted . '\_s*[,})]'],
+        \ ['\.aux$', '\\citation{\%([^}]*,\)\=\zs' . wanted . '[,}]']]
+    for name in filter(keys(a:paper.sent), 'v:val =~# ending')
+      let text = a:paper.sent[name]
+      let at = key ==# '' || type(text) != type('') ? -1 : match(text, pattern)
+      if at >= 0
+        return ['', len(split(strpart(text, 0, at), "\n", 1)), name]
+      endif
+    endfor
+  endfor
+  return []
+endfunction
+
+" Puts the messages into a quickfix list of this paper.
+function! s:List(paper) abort
+  let items = []
+  let left = 25     " messages without a line that are looked up
+  for [name, refusal] in items(a:paper.refusals)
+    call add(items, {'filename': get(a:paper.places, name, name), 'lnum': 1, 'type': 'E',
+          \ 'text': name . ' isn''t sent: ' . s:reasons[refusal.code]})
+  endfor
+  for message in a:paper.messages
+    let place = message.place
+    if empty(place) && message.type !=# 'I' && left > 0
+      let place = s:Where(a:paper, message.text)
+      let left -= 1
+    endif
+    let item = {'text': message.text, 'type': message.type}
+    if !empty(place)
+      let item.filename = get(a:paper.places, place[2], a:paper.folders[0] . '/' . place[2])
+      let item.lnum = max([1, str2nr(place[1])])
+    endif
+    call add(items, item)
+  endfor
+  if items ==# get(a:paper, 'items', v:null) || !s:Option('quickfix', 1)
+    return
+  endif
+  let a:paper.items = items
+  let title = 'bibtex-live: ' . a:paper.name
+  if a:paper.list > 0 && getqflist({'id': a:paper.list, 'title': 1}).title ==# title
+    call setqflist([], 'r', {'id': a:paper.list, 'items': items, 'title': title})
+  else
+    call setqflist([], ' ', {'items': items, 'title': title})
+    let a:paper.list = getqflist({'nr': '$', 'id': 0}).id
+  endif
+endfunction
+
+" --- The window ---
+
+function! s:OpenWindow(paper) abort
+  if has_key(a:paper, 'buffer') && bufexists(a:paper.buffer)
+    if bufwinnr(a:paper.buffer) < 0
+      execute 'silent noautocmd' s:Option('window', 'botright 15') . 'split'
+      execute 'silent noautocmd buffer' a:paper.buffer
+      noautocmd wincmd p
+    endif
+    return
+  endif
+  execute 'silent noautocmd' s:Option('window', 'botright 15') . 'new'
+  let a:paper.buffer = bufnr('%')
+  setlocal buftype=nofile bufhidden=hide noswapfile nobuflisted nonumber wrap cursorline undolevels=-1 syntax=tex
+  execute 'silent! file' fnameescape('[bibliography of ' . a:paper.name . ']')
+  let &l:statusline = '%f  %{bibtex_live#StatusLine(' . a:paper.buffer . ')}'
+  setlocal nomodifiable
+  noautocmd wincmd p
+endfunction
+
+function! bibtex_live#StatusLine(buffer) abort
+  for paper in values(s:papers)
+    if get(paper, 'buffer', -1) == a:buffer
+      let errors = len(filter(copy(paper.messages), 'v:val.type ==# "E"'))
+      let warnings = len(filter(copy(paper.messages), 'v:val.type ==# "W"'))
+      return printf('%d error%s, %d warning%s', errors, errors == 1 ? '' : 's', warnings, warnings == 1 ? '' : 's')
+    endif
+  endfor
+  return 'stopped'
+endfunction
+
+" The key of the entry under the cursor.
+function! s:Key(paper) abort
+  if expand('%:e') ==# 'bib'
+    let at = line('.')
+    while at > 0
+      let found = matchlist(getline(at), '^\s*@\s*\([^ \t@{(]\+\)\s*[{(]\s*\([^ \t,}]*\)')
+      if !empty(found)
+        return found[1] =~? '^\%(string\|preamble\|comment\)$' ? ''
+              \ : found[2] !=# '' ? found[2] : matchstr(getline(at + 1), '^\s*\zs[^ \t,}]*')
+      endif
+      let at -= 1
+    endwhile
+    return ''
+  endif
+  let [line, at] = [getline('.'), col('.') - 1]
+  return matchstr(strpart(line, 0, at), '[^ \t,{}\\]*$') . matchstr(strpart(line, at), '^[^ \t,{}\\]*')
+endfunction
+
+" The bytes of the bibliography at which the \bibitem of a key begins and ends, or -1 twice.
+function! s:Item(paper, key) abort
+  let bbl = a:paper.bbl
+  let at = a:key ==# '' ? -1 : match(bbl, '\c{\V' . escape(a:key, '\') . '}')
+  while at >= 0
+    let begin = strridx(bbl, '\bibitem', at)
+    let between = begin < 0 ? 'none' : substitute(strpart(bbl, begin + 8, at - begin - 8), '%\n\|\n\|\s', '', 'g')
+    while between =~# '{[^{}]*}'
+      let between = substitute(between, '{[^{}]*}', '', 'g')
+    endwhile
+    if between =~# '^\%(\[[^]{}]*\]\)\=$'
+      let end = match(bbl, '\n\s*\\\%(bibitem\|end{thebibliography}\)', begin)
+      return [begin, end < 0 ? len(bbl) : end]
+    endif
+    let at = match(bbl, '\c{\V' . escape(a:key, '\') . '}', at + 1)
+  endwhile
+  return [-1, -1]
+endfunction
+
+" Bytes of the program as lines of this Vim, in the encoding of the first database that is edited here.
+function! s:Lines(paper, bytes) abort
+  let text = substitute(a:bytes, '\n\+$', '', '')
+  for name in filter(copy(a:paper.names), 'v:val =~# "\\.bib$"')
+    let encoding = getbufvar(s:Buffer(get(a:paper.places, name, '')), '&fileencoding')
+    if encoding !=# ''
+      return split(encoding ==? &encoding ? text : iconv(text, encoding, &encoding), "\n", 1)
+    endif
+  endfor
+  return split(text, "\n", 1)
+endfunction
+
+function! s:Show(paper) abort
+  if !bufexists(get(a:paper, 'buffer', -1))
+    return
+  endif
+  let [begin, end] = s:Item(a:paper, a:paper.key)
+  if a:paper.view ==# 'log'
+    let lines = s:Lines(a:paper, a:paper.blg)
+  elseif a:paper.bbl ==# ''
+    let lines = ['(The bibliography is empty: the quickfix list says why.)']
+  elseif a:paper.view ==# 'all'
+    let lines = s:Lines(a:paper, a:paper.bbl)
+  elseif begin < 0
+    let lines = ['(' . (a:paper.key ==# '' ? 'No entry is under the cursor.' : a:paper.key . ' isn''t in the bibliography.') . ')']
+  else
+    let lines = s:Lines(a:paper, strpart(a:paper.bbl, begin, end - begin))
+  endif
+  call s:Fill(a:paper.buffer, lines)
+  if a:paper.view ==# 'all' && begin >= 0 && exists('*win_execute')
+    let first = len(split(strpart(a:paper.bbl, 0, begin), "\n", 1))
+    for window in win_findbuf(a:paper.buffer)
+      call win_execute(window, 'call cursor(' . first . ', 1) | normal! zt')
+    endfor
+  endif
+endfunction
+
+function! s:Fill(buffer, lines) abort
+  let present = getbufline(a:buffer, 1, '$')
+  if present ==# a:lines
+    return
+  endif
+  call setbufvar(a:buffer, '&modifiable', 1)
+  call setbufline(a:buffer, 1, a:lines)
+  if len(present) > len(a:lines)
+    silent call deletebufline(a:buffer, len(a:lines) + 1, '$')
+  endif
+  call setbufvar(a:buffer, '&modifiable', 0)
+endfunction
+
+" Shows the entry under the cursor, where it is another one.
+function! s:Follow() abort
+  let paper = s:Here()
+  if empty(paper) || bufnr('%') == get(paper, 'buffer', -1)
+    return
+  endif
+  let key = s:Key(paper)
+  if key !=# paper.key && (expand('%:e') ==# 'bib' || s:Item(paper, key)[0] >= 0)
+    let paper.key = key
+    call s:Show(paper)
+  endif
+endfunction
