@@ -1,9 +1,13 @@
 # make build      proves and builds the program
 # make run        runs it on the paper in examples/ and shows the bibliography
 # make test       the gate: every proof from nothing, the edits that must be refused, the tests, the built program's output
-# make install    puts it into PREFIX/bin as bibtex (PREFIX=/usr/local; DESTDIR goes in front)
+# make install    puts it into PREFIX/bin as bibtex, and bibtex-collect beside it (PREFIX=/usr/local; DESTDIR goes before it)
+# make uninstall  takes both away
 # make check      proves what has changed since the last check
 # make measure    times the built program (docs/SPEED.md)
+# make hostile    times the worst inputs that we could think of
+# make compare    runs it and TeX Live's bibtex over the TeX tree's styles and databases, where these are installed
+# make try-latex  tries bibtex-collect with LaTeX and latexmk, where these are installed
 # make try-editors   drives Vim and Emacs with the plugins of editors/, where they are installed
 
 PREFIX ?= /usr/local
@@ -14,7 +18,7 @@ NEEDS_RT := command -v rt > /dev/null || { echo "The toolchain's command 'rt' is
 PROGRAM := crates/bibtex_program/out/bibtex_program
 SOURCES := crates.txt $(shell find crates/*/src crates/*/specs crates/*/proofs 2>/dev/null)
 
-.PHONY: build run test check install measure
+.PHONY: build run test check install uninstall measure compare try-latex
 
 build: $(PROGRAM)
 
@@ -33,6 +37,7 @@ test:
 	@$(NEEDS_RT)
 	rt ci
 	tests/run
+	tests/originals
 
 check:
 	@$(NEEDS_RT)
@@ -45,11 +50,25 @@ install:
 	{ echo "The program is older than its sources: run 'make build' first." >&2; exit 1; }
 	install -d "$(DESTDIR)$(PREFIX)/bin"
 	install -m 755 $(PROGRAM) "$(DESTDIR)$(PREFIX)/bin/bibtex"
+	install -m 755 scripts/bibtex-collect "$(DESTDIR)$(PREFIX)/bin/bibtex-collect"
+
+# A bibtex without bibtex-collect beside it is someone else's.
+uninstall:
+	@test -e "$(DESTDIR)$(PREFIX)/bin/bibtex-collect" || { echo "Nothing was installed in $(DESTDIR)$(PREFIX)/bin." >&2; exit 1; }
+	rm -f "$(DESTDIR)$(PREFIX)/bin/bibtex" "$(DESTDIR)$(PREFIX)/bin/bibtex-collect"
 
 measure: build
 	tests/measure $(PROGRAM)
 
-# Where Vim or Emacs isn't installed, it says so. PROGRAM=.. drives another build of the program.
-.PHONY: try-editors
+hostile: build
+	tests/hostile $(PROGRAM)
+
+compare:
+	tests/compare $(PROGRAM)
+
+try-latex:
+	tests/latex $(PROGRAM)
+
+# PROGRAM=.. drives another build of the program.
 try-editors:
 	tests/editors/run $(PROGRAM)
