@@ -1,5 +1,6 @@
-# make build      proves and builds the program
-# make run        runs it on the paper in examples/ and shows the bibliography
+# make build      proves everything and builds the program, and says how long it has still to go
+#                 (JOBS=N: N crates at a time)
+# make run        shows the bibliography of the paper in examples/: by the built program, or, where it isn't built, unproved
 # make test       the gate: every proof from nothing, the edits that must be refused, the tests, the built program's output
 # make install    puts it into PREFIX/bin as bibtex, and bibtex-collect beside it (PREFIX=/usr/local; DESTDIR goes before it)
 # make uninstall  takes both away
@@ -14,7 +15,7 @@ PREFIX ?= /usr/local
 DESTDIR ?=
 
 NEEDS_RT := command -v rt > /dev/null || { echo "The toolchain's command 'rt' isn't on PATH: put its folder there and try again." >&2; exit 1; }
-# The proved program: `rt run` leaves it here, and so does `rt ci`.
+# The proved program: `make build` leaves it here, and so does `rt ci`.
 PROGRAM := crates/bibtex_program/out/bibtex_program
 SOURCES := crates.txt $(shell find crates/*/src crates/*/specs crates/*/proofs 2>/dev/null)
 
@@ -22,16 +23,13 @@ SOURCES := crates.txt $(shell find crates/*/src crates/*/specs crates/*/proofs 2
 
 build: $(PROGRAM)
 
-# `rt run` proves the crates below it, then the program, builds it only then, and runs it.
+# Every crate is proved, lowest first, and the program is built only then.
 $(PROGRAM): $(SOURCES)
 	@$(NEEDS_RT)
-	cd crates/bibtex_program && rt run -- --help > /dev/null
-	@touch $@
+	@tools/build $(JOBS)
 
-run: build
-	@folder=$$(mktemp -d) && trap 'rm -rf "$$folder"' EXIT && \
-	cp examples/paper.aux examples/library.bib examples/labels.bst "$$folder" && \
-	program=$$(pwd)/$(PROGRAM) && cd "$$folder" && "$$program" --terse paper && cat paper.bbl
+run:
+	@examples/run
 
 test:
 	@$(NEEDS_RT)
