@@ -19,7 +19,7 @@ NEEDS_RT := command -v rt > /dev/null || { echo "The toolchain's command 'rt' is
 PROGRAM := crates/bibtex_program/out/bibtex_program
 SOURCES := crates.txt $(shell find crates/*/src crates/*/specs crates/*/proofs 2>/dev/null)
 
-.PHONY: build run test check install uninstall measure compare try-latex
+.PHONY: build run test check install uninstall measure hostile compare try-latex try-editors
 
 build: $(PROGRAM)
 
