@@ -5,6 +5,7 @@ ghost use Rattle.bt_style.specs.Program.{program_of};
 ghost use Rattle.bt_actions.specs.Item.{Name};
 ghost use Rattle.bt_actions.specs.View.{entries_in, world_of, entries_seen, place_seen};
 ghost use Rattle.bt_machine.specs.Step.{begun, finished_at, step_in, world_in, place_in, first_variables, outcome_of};
+ghost use Rattle.bt_machine.specs.Agreement.{RestStays};
 ghost use Rattle.bt_machine.specs.Control.{Run, frames_of, ticks_of, is_stop, checked_at};
 
 use crate::input::Input;
@@ -18,7 +19,7 @@ use bt_text::{Bytes, Sequence, Shared};
 use std::alloc::{AllocError, Global};
 
 /// The same texts for one more owner; none of them is copied.
-fn share_texts(
+pub fn share_texts(
     alloc: Global,
     texts: &[Shared<Bytes>],
 ) -> Result<Sequence<Shared<Bytes>>, AllocError>
@@ -148,7 +149,7 @@ fn leave(alloc: Global, state: State, flow: Flow) -> Result<Outcome, AllocError>
 }
 
 /// Carries out a step of a style: the call of the input's target for its entry, or for none. The meter rises by
-/// exactly the step's ticks. A number out of range stands for the number 0, an empty text, a missing field or a function
+/// exactly the step's ticks. What the step does not come to is left as it was. A number out of range stands for the number 0, an empty text, a missing field or a function
 /// without elements. The one error is want of memory, after which the meter is as before.
 pub fn activate(
     alloc: Global,
@@ -161,6 +162,7 @@ pub fn activate(
         outcome ≡ outcome_of (step_in (program_of style.now) input.now)) }
     ensures cost { OnOk result (meter.new
         ≡ meter.old + (step_in (program_of style.now) input.now).cost) }
+    ensures rest { IfOk result (λ outcome. RestStays (program_of style.now) input.now outcome) }
     ensures within { OnOk result (meter.new ≤ meter.old + 1000000) }
     ensures err { OnErr result (meter.new ≡ meter.old) }
 {

@@ -1,0 +1,6 @@
+use Rattle.bt_machine.proofs.Listed.{globals_listed}
+use Rattle.bt_machine.proofs.putting.put_globals.Goals as goal
+
+pub returns : goal.returns
+returns c =
+    rw (c.in_ok-put_variables.ensures, c.as_slice.ensures, c.as_slice-2.ensures) (globals_listed c.args.reach.now c.args.left.now c.args.base.now)
