@@ -9,7 +9,7 @@ ghost use Rattle.bt_actions.specs.View.{world_of, item_of, Acts};
 ghost use Rattle.bt_style.specs.declared.builtin.Builtin.TheVariants as builtin;
 ghost use Rattle.bt_style.specs.declared.style.Target.TheVariants as target;
 
-use crate::arguments::take_assignment;
+use crate::arguments::take_two;
 use crate::complaint::Complaint;
 use crate::entry::Variables;
 use crate::state::{Flow, State};
@@ -150,7 +150,7 @@ pub fn assign(state: &mut State, alloc: Global) -> Result<Flow, AllocError>
         goes_with assigned (taken_two builtin.Assign any_of target_of world)) state.old state.new) }
     ensures tally { state.new.tally ≡ state.old.tally }
 {
-    if let Some((value, target)) = take_assignment(state, Builtin::Assign)? {
+    if let Some((value, target)) = take_two::<Value, Target>(state, Builtin::Assign)? {
         assign_to(state, alloc, target, value)?;
     }
     Ok(Flow::Go)

@@ -9,7 +9,7 @@ ghost use Rattle.bt_actions.specs.Comparing.{equality_of, emptiness_of, missing_
 ghost use Rattle.bt_actions.specs.View.{world_of, item_of, Acts};
 ghost use Rattle.bt_style.specs.declared.builtin.Builtin.TheVariants as builtin;
 
-use crate::arguments::{take_field_text, take_two_values};
+use crate::arguments::{take, take_two};
 use crate::complaint::Complaint;
 use crate::short_text::ShortText;
 use crate::state::{Flow, State};
@@ -37,7 +37,7 @@ pub fn equals(state: &mut State) -> Result<Flow, AllocError>
         valued equality_of zero_item (taken_two builtin.Equals any_of any_of world)) state.old state.new) }
     ensures tally { state.new.tally ≡ state.old.tally }
 {
-    match take_two_values(state, Builtin::Equals)? {
+    match take_two::<Value, Value>(state, Builtin::Equals)? {
         None => state.push_number(0),
         Some((lower, upper)) => compare(state, lower, upper),
     }
@@ -66,7 +66,7 @@ pub fn empty(state: &mut State) -> Result<Flow, AllocError>
         valued emptiness_of zero_item (taken builtin.Empty field_text_of world)) state.old state.new) }
     ensures tally { state.new.tally ≡ state.old.tally }
 {
-    match take_field_text(state, Builtin::Empty)? {
+    match take::<Option<ShortText>>(state, Builtin::Empty)? {
         None => state.push_number(0),
         Some(text) => state.push_truth(is_blank(&text)),
     }
@@ -85,7 +85,7 @@ pub fn missing(state: &mut State) -> Result<Flow, AllocError>
         valued missing_of zero_item (taken builtin.Missing field_text_of world)) state.old state.new) }
     ensures tally { state.new.tally ≡ state.old.tally }
 {
-    match take_field_text(state, Builtin::Missing)? {
+    match take::<Option<ShortText>>(state, Builtin::Missing)? {
         None => state.push_number(0),
         Some(text) => state.push_truth(is_missing(&text)),
     }

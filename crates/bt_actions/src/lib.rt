@@ -7,7 +7,6 @@ mod assigning;
 mod comparing;
 mod complaint;
 mod entry;
-mod kinds;
 mod logging;
 mod message;
 mod names;

@@ -9,7 +9,7 @@ ghost use Rattle.bt_actions.specs.Logging.{name_at, target_name, shown_code, sho
 ghost use Rattle.bt_actions.specs.View.{world_of, code_seen, item_of, Acts};
 ghost use Rattle.bt_style.specs.declared.builtin.Builtin.TheVariants as builtin;
 
-use crate::arguments::take_text;
+use crate::arguments::take;
 use crate::complaint::{Complaint, decimal};
 use crate::short_text::ShortText;
 use crate::state::{Flow, State};
@@ -147,7 +147,7 @@ pub fn warning(state: &mut State) -> Result<Flow, AllocError>
         goes_with log_warning (taken builtin.Warning text_of world)) state.old state.new) }
     ensures tally { state.new.tally ≡ state.old.tally }
 {
-    match take_text(state, Builtin::Warning)? {
+    match take::<ShortText>(state, Builtin::Warning)? {
         None => Ok(Flow::Go),
         Some(text) => log_warning(state, text),
     }

@@ -7,7 +7,7 @@ ghost use Rattle.bt_actions.specs.Names.{names_counted, name_formatted, pushed_w
 ghost use Rattle.bt_actions.specs.View.{world_of, Acts};
 ghost use Rattle.bt_style.specs.declared.builtin.Builtin.TheVariants as builtin;
 
-use crate::arguments::{take_names_and_pattern, take_text};
+use crate::arguments::{take, take_three};
 use crate::complaint::Complaint;
 use crate::short_text::{ShortText, TEXT_LIMIT};
 use crate::state::{Flow, State};
@@ -23,7 +23,7 @@ pub fn num_names(state: &mut State) -> Result<Flow, AllocError>
         valued names_counted zero_item (taken builtin.NumNames text_of world)) state.old state.new) }
     ensures tally { state.new.tally ≡ state.old.tally }
 {
-    match take_text(state, Builtin::NumNames)? {
+    match take::<ShortText>(state, Builtin::NumNames)? {
         None => state.push_number(0),
         Some(names) => push_count(state, Builtin::NumNames, count(names.as_slice())),
     }
@@ -82,7 +82,7 @@ pub fn format_name(state: &mut State, alloc: Global) -> Result<Flow, AllocError>
         state.old state.new) }
     ensures tally { state.new.tally ≡ state.old.tally }
 {
-    match take_names_and_pattern(state, Builtin::FormatName)? {
+    match take_three::<ShortText, i32, ShortText>(state, Builtin::FormatName)? {
         None => state.push_text(Bytes::new(alloc)),
         Some((names, number, pattern)) => push_formatted(state, alloc, names, number, pattern),
     }

@@ -8,8 +8,9 @@ ghost use Rattle.bt_actions.specs.State.{pushed};
 ghost use Rattle.bt_actions.specs.View.{world_of, Acts};
 ghost use Rattle.bt_style.specs.declared.builtin.Builtin.TheVariants as builtin;
 
-use crate::arguments::{take_number, take_text, take_two_numbers};
+use crate::arguments::{take, take_two};
 use crate::complaint::{Complaint, decimal};
+use crate::short_text::ShortText;
 use crate::state::{Flow, State};
 use bt_style::Builtin;
 use bt_text::Bytes;
@@ -21,7 +22,7 @@ pub fn greater(state: &mut State) -> Result<Flow, AllocError>
         valued greater_of zero_item (taken_two builtin.Greater number_of number_of world)) state.old state.new) }
     ensures tally { state.new.tally ≡ state.old.tally }
 {
-    match take_two_numbers(state, Builtin::Greater)? {
+    match take_two::<i32, i32>(state, Builtin::Greater)? {
         None => state.push_number(0),
         Some((lower, upper)) => state.push_truth(lower > upper),
     }
@@ -33,20 +34,20 @@ pub fn less(state: &mut State) -> Result<Flow, AllocError>
         valued less_of zero_item (taken_two builtin.Less number_of number_of world)) state.old state.new) }
     ensures tally { state.new.tally ≡ state.old.tally }
 {
-    match take_two_numbers(state, Builtin::Less)? {
+    match take_two::<i32, i32>(state, Builtin::Less)? {
         None => state.push_number(0),
         Some((lower, upper)) => state.push_truth(lower < upper),
     }
 }
 
-/// Puts a sum on the stack, or tells that it doesn't fit.
-fn push_sum(state: &mut State, lower: i32, upper: i32) -> Result<Flow, AllocError>
-    ensures world { IfOk result (Acts (answered (sum_of (lower, upper))) state.old state.new) }
+/// Puts a number on the stack, or tells that it doesn't fit.
+fn push_fitting(state: &mut State, builtin: Builtin, number: i64) -> Result<Flow, AllocError>
+    ensures world { IfOk result (Acts (answered (number_given builtin number)) state.old state.new) }
     ensures tally { state.new.tally ≡ state.old.tally }
 {
-    match lower.checked_add(upper) {
-        Some(sum) => state.push_number(sum),
-        None => state.push_zero_in_error(Complaint::OutOfRange(Builtin::Plus)),
+    match i32::try_from(number) {
+        Ok(number) => state.push_number(number),
+        Err(_) => state.push_zero_in_error(Complaint::OutOfRange(builtin)),
     }
 }
 
@@ -56,20 +57,11 @@ pub fn plus(state: &mut State) -> Result<Flow, AllocError>
         valued sum_of zero_item (taken_two builtin.Plus number_of number_of world)) state.old state.new) }
     ensures tally { state.new.tally ≡ state.old.tally }
 {
-    match take_two_numbers(state, Builtin::Plus)? {
+    match take_two::<i32, i32>(state, Builtin::Plus)? {
         None => state.push_number(0),
-        Some((lower, upper)) => push_sum(state, lower, upper),
-    }
-}
-
-/// Puts a difference on the stack, or tells that it doesn't fit.
-fn push_difference(state: &mut State, lower: i32, upper: i32) -> Result<Flow, AllocError>
-    ensures world { IfOk result (Acts (answered (difference_of (lower, upper))) state.old state.new) }
-    ensures tally { state.new.tally ≡ state.old.tally }
-{
-    match lower.checked_sub(upper) {
-        Some(difference) => state.push_number(difference),
-        None => state.push_zero_in_error(Complaint::OutOfRange(Builtin::Minus)),
+        Some((lower, upper)) => {
+            push_fitting(state, Builtin::Plus, i64::from(lower) + i64::from(upper))
+        }
     }
 }
 
@@ -79,9 +71,11 @@ pub fn minus(state: &mut State) -> Result<Flow, AllocError>
         valued difference_of zero_item (taken_two builtin.Minus number_of number_of world)) state.old state.new) }
     ensures tally { state.new.tally ≡ state.old.tally }
 {
-    match take_two_numbers(state, Builtin::Minus)? {
+    match take_two::<i32, i32>(state, Builtin::Minus)? {
         None => state.push_number(0),
-        Some((lower, upper)) => push_difference(state, lower, upper),
+        Some((lower, upper)) => {
+            push_fitting(state, Builtin::Minus, i64::from(lower) - i64::from(upper))
+        }
     }
 }
 
@@ -91,7 +85,7 @@ pub fn chr_to_int(state: &mut State, alloc: Global) -> Result<Flow, AllocError>
         valued byte_number zero_item (taken builtin.ChrToInt text_of world)) state.old state.new) }
     ensures tally { state.new.tally ≡ state.old.tally }
 {
-    match take_text(state, Builtin::ChrToInt)? {
+    match take::<ShortText>(state, Builtin::ChrToInt)? {
         None => state.push_number(0),
         Some(text) => match text.as_slice() {
             [byte] => state.push_number(*byte as i32),
@@ -122,7 +116,7 @@ pub fn int_to_chr(state: &mut State, alloc: Global) -> Result<Flow, AllocError>
         valued ascii_text empty_item (taken builtin.IntToChr number_of world)) state.old state.new) }
     ensures tally { state.new.tally ≡ state.old.tally }
 {
-    match take_number(state, Builtin::IntToChr)? {
+    match take::<i32>(state, Builtin::IntToChr)? {
         None => state.push_text(Bytes::new(alloc)),
         Some(number) => push_ascii(state, alloc, number),
     }
@@ -134,7 +128,7 @@ pub fn int_to_str(state: &mut State, alloc: Global) -> Result<Flow, AllocError>
         valued digits_text empty_item (taken builtin.IntToStr number_of world)) state.old state.new) }
     ensures tally { state.new.tally ≡ state.old.tally }
 {
-    match take_number(state, Builtin::IntToStr)? {
+    match take::<i32>(state, Builtin::IntToStr)? {
         None => state.push_text(Bytes::new(alloc)),
         Some(number) => {
             let digits = decimal(alloc, number)?;

@@ -9,9 +9,7 @@ ghost use Rattle.bt_actions.specs.State.{pushed, appended, ended};
 ghost use Rattle.bt_actions.specs.View.{world_of, Acts};
 ghost use Rattle.bt_style.specs.declared.builtin.Builtin.TheVariants as builtin;
 
-use crate::arguments::{
-    take_text, take_text_and_number, take_text_and_two_numbers, take_two_texts,
-};
+use crate::arguments::{take, take_three, take_two};
 use crate::complaint::Complaint;
 use crate::short_text::ShortText;
 use crate::state::{Flow, State};
@@ -27,7 +25,7 @@ pub fn join(state: &mut State, alloc: Global) -> Result<Flow, AllocError>
         valued join_of empty_item (taken_two builtin.Join text_of text_of world)) state.old state.new) }
     ensures tally { state.new.tally ≡ state.old.tally }
 {
-    match take_two_texts(state, Builtin::Join)? {
+    match take_two::<ShortText, ShortText>(state, Builtin::Join)? {
         None => state.push_text(Bytes::new(alloc)),
         Some((lower, upper)) => {
             let mut text = lower.into_bytes();
@@ -43,7 +41,7 @@ pub fn end_with_period(state: &mut State, alloc: Global) -> Result<Flow, AllocEr
         valued period_of empty_item (taken builtin.AddPeriod text_of world)) state.old state.new) }
     ensures tally { state.new.tally ≡ state.old.tally }
 {
-    match take_text(state, Builtin::AddPeriod)? {
+    match take::<ShortText>(state, Builtin::AddPeriod)? {
         None => state.push_text(Bytes::new(alloc)),
         Some(text) => {
             let ended = add_period(alloc, text.as_slice())?;
@@ -91,7 +89,7 @@ pub fn convert_case(state: &mut State, alloc: Global) -> Result<Flow, AllocError
         valued case_of empty_item (taken_two builtin.ChangeCase text_of text_of world)) state.old state.new) }
     ensures tally { state.new.tally ≡ state.old.tally }
 {
-    match take_two_texts(state, Builtin::ChangeCase)? {
+    match take_two::<ShortText, ShortText>(state, Builtin::ChangeCase)? {
         None => state.push_text(Bytes::new(alloc)),
         Some((text, name)) => push_case(state, alloc, text, name),
     }
@@ -103,7 +101,7 @@ pub fn purified(state: &mut State, alloc: Global) -> Result<Flow, AllocError>
         valued purified_of empty_item (taken builtin.Purify text_of world)) state.old state.new) }
     ensures tally { state.new.tally ≡ state.old.tally }
 {
-    match take_text(state, Builtin::Purify)? {
+    match take::<ShortText>(state, Builtin::Purify)? {
         None => state.push_text(Bytes::new(alloc)),
         Some(text) => {
             let pure = purify(alloc, text.as_slice())?;
@@ -119,7 +117,7 @@ pub fn cut(state: &mut State, alloc: Global) -> Result<Flow, AllocError>
         state.old state.new) }
     ensures tally { state.new.tally ≡ state.old.tally }
 {
-    match take_text_and_two_numbers(state, Builtin::Substring)? {
+    match take_three::<ShortText, i32, i32>(state, Builtin::Substring)? {
         None => state.push_text(Bytes::new(alloc)),
         Some((text, start, len)) => {
             let part = substring(alloc, text.as_slice(), start, len)?;
@@ -134,7 +132,7 @@ pub fn prefix(state: &mut State, alloc: Global) -> Result<Flow, AllocError>
         valued prefix_of empty_item (taken_two builtin.TextPrefix text_of number_of world)) state.old state.new) }
     ensures tally { state.new.tally ≡ state.old.tally }
 {
-    match take_text_and_number(state, Builtin::TextPrefix)? {
+    match take_two::<ShortText, i32>(state, Builtin::TextPrefix)? {
         None => state.push_text(Bytes::new(alloc)),
         Some((text, most)) => {
             let prefix = text_prefix(alloc, text.as_slice(), most)?;
@@ -160,7 +158,7 @@ pub fn length(state: &mut State) -> Result<Flow, AllocError>
         valued length_of zero_item (taken builtin.TextLength text_of world)) state.old state.new) }
     ensures tally { state.new.tally ≡ state.old.tally }
 {
-    match take_text(state, Builtin::TextLength)? {
+    match take::<ShortText>(state, Builtin::TextLength)? {
         None => state.push_number(0),
         Some(text) => push_count(state, Builtin::TextLength, text_length(text.as_slice())),
     }
@@ -172,7 +170,7 @@ pub fn printed_width(state: &mut State) -> Result<Flow, AllocError>
         valued width_given zero_item (taken builtin.Width text_of world)) state.old state.new) }
     ensures tally { state.new.tally ≡ state.old.tally }
 {
-    match take_text(state, Builtin::Width)? {
+    match take::<ShortText>(state, Builtin::Width)? {
         None => state.push_number(0),
         Some(text) => push_count(state, Builtin::Width, width(text.as_slice()) as usize),
     }

@@ -8,7 +8,8 @@ ghost use Rattle.bt_actions.specs.Actions.{done_with};
 ghost use Rattle.bt_actions.specs.View.{world_of, Acts};
 ghost use Rattle.bt_style.specs.declared.builtin.Builtin.TheVariants as builtin;
 
-use crate::arguments::take_text;
+use crate::arguments::take;
+use crate::short_text::ShortText;
 use crate::state::{Flow, State};
 use bt_style::Builtin;
 use std::alloc::{AllocError, Global};
@@ -27,7 +28,7 @@ pub fn write(state: &mut State, alloc: Global) -> Result<Flow, AllocError>
     ensures world { IfOk result (Acts (λ world. done_with appended (taken builtin.Write text_of world)) state.old state.new) }
     ensures tally { state.new.tally ≡ state.old.tally }
 {
-    match take_text(state, Builtin::Write)? {
+    match take::<ShortText>(state, Builtin::Write)? {
         None => Ok(Flow::Go),
         Some(text) => state.write(alloc, text.as_slice()),
     }

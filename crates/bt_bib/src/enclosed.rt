@@ -6,10 +6,10 @@ ghost use Rattle.bt_bib.specs.Enclosed.{enclosed, enclosed_end, turn, IsNear};
 ghost use Rattle.bt_bib.specs.Stop.{Finds, Gives};
 
 use crate::fault::Fault;
+use crate::reader::Reader;
 use crate::spot::Spot;
 use crate::stop::Halt;
 use bt_text::{Bytes, Shared};
-use std::alloc::Global;
 
 /// What a byte does inside braces or quotes.
 #[derive(Clone, Copy, Debug, PartialEq, Eq)]
@@ -45,39 +45,36 @@ impl Turn {
     }
 }
 
-/// The byte that closes what stands here.
-fn enclosed_end(text: &[u8], from: Spot, close: u8) -> Result<Spot, Halt>
-    requires { IsIn text.now from }
-    ensures { Finds text.now from result (enclosed_end close (here text.now from)) }
-{
-    let mut at = from;
-    let mut depth = 0;
-    'bytes: while at.place < text.len() {
-        let byte = text[at.place];
-        match Turn::of(close, depth, byte) {
-            Turn::Closes => return Ok(at),
-            Turn::Breaks => return Err(Halt::Stopped(Fault::UnbalancedBraces, at)),
-            Turn::Goes(next) => depth = next,
+impl Reader<'_> {
+    /// The byte that closes what stands here.
+    fn enclosed_end(&self, from: Spot, close: u8) -> Result<Spot, Halt>
+        requires { IsIn self.now.text.now from }
+        ensures { Finds self.now.text.now from result (enclosed_end close (here self.now.text.now from)) }
+    {
+        let mut at = from;
+        let mut depth = 0;
+        'bytes: while at.place < self.text.len() {
+            let byte = self.text[at.place];
+            match Turn::of(close, depth, byte) {
+                Turn::Closes => return Ok(at),
+                Turn::Breaks => return Err(Halt::Stopped(Fault::UnbalancedBraces, at)),
+                Turn::Goes(next) => depth = next,
+            }
+            at = at.after(byte);
         }
-        at = at.after(byte);
+        Err(Halt::Stopped(Fault::EndOfFile, at))
     }
-    Err(Halt::Stopped(Fault::EndOfFile, at))
-}
 
-/// What stands from here up to the byte that closes it, and that byte's place.
-#[tactic(auto, using(crate::proofs::EnclosedLemmas::enclosed_found, crate::proofs::EnclosedLemmas::enclosed_stopped))]
-pub fn enclosed(
-    alloc: Global,
-    text: &[u8],
-    from: Spot,
-    close: u8,
-) -> Result<(Shared<Bytes>, Spot), Halt>
-    requires { IsIn text.now from }
-    ensures { Gives text.now from result (enclosed close (here text.now from)) }
-{
-    let end = enclosed_end(text, from, close)?;
-    Ok((
-        Shared::<Bytes>::copied(alloc, &text[from.place..end.place])?,
-        end,
-    ))
+    /// What stands from here up to the byte that closes it, and that byte's place.
+    #[tactic(auto, using(crate::proofs::EnclosedLemmas::enclosed_found, crate::proofs::EnclosedLemmas::enclosed_stopped))]
+    pub fn enclosed(&self, from: Spot, close: u8) -> Result<(Shared<Bytes>, Spot), Halt>
+        requires { IsIn self.now.text.now from }
+        ensures { Gives self.now.text.now from result (enclosed close (here self.now.text.now from)) }
+    {
+        let end = self.enclosed_end(from, close)?;
+        Ok((
+            Shared::<Bytes>::copied(self.alloc, &self.text[from.place..end.place])?,
+            end,
+        ))
+    }
 }

@@ -15,6 +15,7 @@ mod meter;
 mod moving;
 mod names;
 mod pieces;
+mod reader;
 mod reading;
 mod rereading;
 mod scan;
@@ -33,6 +34,7 @@ pub use laws::{
 };
 pub use meter::ReadMeter;
 pub use reading::read_bib;
+pub use rereading::Splice;
 pub use spot::Spot;
 
 #[cfg(test)]

@@ -7,32 +7,11 @@ ghost use Rattle.bt_bib.specs.Stop.{Finds, Gives};
 ghost use Rattle.bt_bib.specs.Names.{ended, name, word};
 
 use crate::fault::{Fault, What};
-use crate::scan::{Class, peek, run};
+use crate::reader::Reader;
+use crate::scan::Class;
 use crate::spot::Spot;
 use crate::stop::Halt;
 use bt_text::{Bytes, Shared, is_digit, is_name_byte, is_white};
-use std::alloc::Global;
-
-/// The longest run of name bytes, which doesn't begin with a digit.
-#[tactic(auto, unfolding(crate::specs::Names::word))]
-pub fn word(
-    alloc: Global,
-    text: &[u8],
-    from: Spot,
-    what: What,
-) -> Result<(Shared<Bytes>, Spot), Halt>
-    requires { IsIn text.now from }
-    ensures { Gives text.now from result (word what (here text.now from)) }
-{
-    let Some(byte) = peek(text, from) else {
-        return Err(Halt::Stopped(Fault::EndOfFile, from));
-    };
-    if is_name_byte(byte) && !is_digit(byte) {
-        Ok(run(alloc, text, from, Class::Name)?)
-    } else {
-        Err(Halt::Stopped(Fault::MissingName(what), from))
-    }
-}
 
 /// Whether a byte is one of some signs.
 fn is_one_of(signs: &[u8], byte: u8) -> bool
@@ -41,35 +20,47 @@ fn is_one_of(signs: &[u8], byte: u8) -> bool
     signs.iter().any(|sign| *sign == byte)
 }
 
-/// This place, where white space, the text's end or one of some signs stands.
-#[tactic(auto, unfolding(crate::specs::Names::ended))]
-pub fn ended(text: &[u8], from: Spot, what: What, signs: &[u8]) -> Result<Spot, Halt>
-    requires { IsIn text.now from }
-    ensures { Finds text.now from result (ended what signs.now (here text.now from)) }
-{
-    let Some(byte) = peek(text, from) else {
-        return Ok(from);
-    };
-    if is_white(byte) || is_one_of(signs, byte) {
-        Ok(from)
-    } else {
-        Err(Halt::Stopped(Fault::BadNameEnd(what, byte), from))
+impl Reader<'_> {
+    /// The longest run of name bytes, which doesn't begin with a digit.
+    #[tactic(auto, unfolding(crate::specs::Names::word))]
+    pub fn word(&self, from: Spot, what: What) -> Result<(Shared<Bytes>, Spot), Halt>
+        requires { IsIn self.now.text.now from }
+        ensures { Gives self.now.text.now from result (word what (here self.now.text.now from)) }
+    {
+        let Some(byte) = self.peek(from) else {
+            return Err(Halt::Stopped(Fault::EndOfFile, from));
+        };
+        if is_name_byte(byte) && !is_digit(byte) {
+            Ok(self.run(from, Class::Name)?)
+        } else {
+            Err(Halt::Stopped(Fault::MissingName(what), from))
+        }
     }
-}
 
-/// A name behind which white space, the text's end or one of some signs stands.
-#[tactic(auto, unfolding(crate::specs::Names::name))]
-pub fn name(
-    alloc: Global,
-    text: &[u8],
-    from: Spot,
-    what: What,
-    signs: &[u8],
-) -> Result<(Shared<Bytes>, Spot), Halt>
-    requires { IsIn text.now from }
-    ensures { Gives text.now from result (name what signs.now (here text.now from)) }
-{
-    let (word, end) = word(alloc, text, from, what)?;
-    let end = ended(text, end, what, signs)?;
-    Ok((word, end))
+    /// This place, where white space, the text's end or one of some signs stands.
+    #[tactic(auto, unfolding(crate::specs::Names::ended))]
+    pub fn ended(&self, from: Spot, what: What, signs: &[u8]) -> Result<Spot, Halt>
+        requires { IsIn self.now.text.now from }
+        ensures { Finds self.now.text.now from result (ended what signs.now (here self.now.text.now from)) }
+    {
+        let Some(byte) = self.peek(from) else {
+            return Ok(from);
+        };
+        if is_white(byte) || is_one_of(signs, byte) {
+            Ok(from)
+        } else {
+            Err(Halt::Stopped(Fault::BadNameEnd(what, byte), from))
+        }
+    }
+
+    /// A name behind which white space, the text's end or one of some signs stands.
+    #[tactic(auto, unfolding(crate::specs::Names::name))]
+    pub fn name(&self, from: Spot, what: What, signs: &[u8]) -> Result<(Shared<Bytes>, Spot), Halt>
+        requires { IsIn self.now.text.now from }
+        ensures { Gives self.now.text.now from result (name what signs.now (here self.now.text.now from)) }
+    {
+        let (word, end) = self.word(from, what)?;
+        let end = self.ended(end, what, signs)?;
+        Ok((word, end))
+    }
 }

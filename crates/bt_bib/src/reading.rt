@@ -9,8 +9,7 @@ ghost use Rattle.bt_bib.specs.Reading.{pieces_from, pieces_of};
 
 use crate::item::Piece;
 use crate::items::Items;
-use crate::pieces::piece;
-use crate::scan::peek;
+use crate::reader::Reader;
 use crate::spot::Spot;
 use memchr::memchr;
 use std::alloc::{AllocError, Global};
@@ -22,53 +21,51 @@ fn line_ends(bytes: &[u8]) -> usize
     bytes.iter().filter(|byte| **byte == b'\n').count()
 }
 
-/// The next `@`, or the text's end.
-fn seek(text: &[u8], from: Spot) -> Spot
-    requires { IsIn text.now from }
-    ensures value { here text.now result ≡ past is_text (here text.now from) }
-    ensures inside { IsAhead text.now from result }
-{
-    let rest = &text[from.place..];
-    let count = memchr(b'@', rest).unwrap_or(rest.len());
-    let lines = line_ends(&rest[..count]);
-    Spot {
-        place: from.place + count,
-        line: from.line + lines,
-    }
-}
-
-/// The next `@` with what it begins, or none.
-#[tactic(auto, unfolding(crate::specs::Pieces::next_piece))]
-pub fn next_piece(
-    alloc: Global,
-    text: &[u8],
-    from: Spot,
-) -> Result<(Option<Piece>, Spot), AllocError>
-    requires { IsIn text.now from }
-    ensures { Makes text.now from result (next_piece (here text.now from)) }
-{
-    let at = seek(text, from);
-    let Some(_) = peek(text, at) else {
-        return Ok((None, at));
-    };
-    let (piece, end) = piece(alloc, text, at)?;
-    Ok((Some(piece), end))
-}
-
-/// The comment words and items from a place on.
-fn pieces_from(alloc: Global, text: &[u8], from: Spot) -> Result<Items, AllocError>
-    requires { IsIn text.now from }
-    ensures { IfOk result (λ items. items ≡ pieces_from (here text.now from)) }
-{
-    let mut items = Items::new(alloc);
-    let mut at = from;
-    'pieces: loop {
-        let (next, end) = next_piece(alloc, text, at)?;
-        match next {
-            None => return Ok(items),
-            Some(piece) => items.push(piece)?,
+impl Reader<'_> {
+    /// The next `@`, or the text's end.
+    fn seek(&self, from: Spot) -> Spot
+        requires { IsIn self.now.text.now from }
+        ensures value { here self.now.text.now result ≡ past is_text (here self.now.text.now from) }
+        ensures inside { IsAhead self.now.text.now from result }
+    {
+        let rest = &self.text[from.place..];
+        let count = memchr(b'@', rest).unwrap_or(rest.len());
+        let lines = line_ends(&rest[..count]);
+        Spot {
+            place: from.place + count,
+            line: from.line + lines,
         }
-        at = end;
+    }
+
+    /// The next `@` with what it begins, or none.
+    #[tactic(auto, unfolding(crate::specs::Pieces::next_piece))]
+    pub fn next_piece(&self, from: Spot) -> Result<(Option<Piece>, Spot), AllocError>
+        requires { IsIn self.now.text.now from }
+        ensures { Makes self.now.text.now from result (next_piece (here self.now.text.now from)) }
+    {
+        let at = self.seek(from);
+        let Some(_) = self.peek(at) else {
+            return Ok((None, at));
+        };
+        let (piece, end) = self.piece(at)?;
+        Ok((Some(piece), end))
+    }
+
+    /// The comment words and items from a place on.
+    fn pieces_from(&self, from: Spot) -> Result<Items, AllocError>
+        requires { IsIn self.now.text.now from }
+        ensures { IfOk result (λ items. items ≡ pieces_from (here self.now.text.now from)) }
+    {
+        let mut items = Items::new(self.alloc);
+        let mut at = from;
+        'pieces: loop {
+            let (next, end) = self.next_piece(at)?;
+            match next {
+                None => return Ok(items),
+                Some(piece) => items.push(piece)?,
+            }
+            at = end;
+        }
     }
 }
 
@@ -78,5 +75,5 @@ fn pieces_from(alloc: Global, text: &[u8], from: Spot) -> Result<Items, AllocErr
 pub fn read_bib(alloc: Global, text: &[u8]) -> Result<Items, AllocError>
     ensures { IfOk result (λ items. items ≡ pieces_of text.now) }
 {
-    pieces_from(alloc, text, Spot::START)
+    Reader { alloc, text }.pieces_from(Spot::START)
 }

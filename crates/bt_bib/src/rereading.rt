@@ -10,9 +10,9 @@ ghost use Rattle.bt_bib.specs.Rereading.{until, IsJoint};
 use crate::boundaries::{count_below, last_boundary};
 use crate::item::Piece;
 use crate::items::Items;
-use crate::reading::next_piece;
+use crate::reader::Reader;
 use crate::spot::Spot;
-use std::alloc::{AllocError, Global};
+use std::alloc::AllocError;
 
 /// A splice of a text: its bytes from `begin` up to `end` became others, so many.
 #[derive(Clone, Copy, Debug)]
@@ -42,36 +42,37 @@ fn joint(old: &[Piece], splice: Splice, place: usize) -> Option<usize>
     }
 }
 
-/// Reads on from a place, behind the pieces that are there, up to a boundary of both texts, or to the text's end.
-pub fn reread(
-    alloc: Global,
-    items: Items,
-    text: &[u8],
-    from: Spot,
-    old: &[Piece],
-    splice: Splice,
-) -> Result<(Items, Spot, Option<usize>), AllocError>
-    requires at { IsIn text.now from }
-    requires order { InOrder old.now }
-    requires first { splice.begin + splice.inserted < 2 ^ 64 }
-    requires back { length text.now - (splice.begin + splice.inserted) + splice.end + 1 < 2 ^ 64 }
-    ensures pieces { IfOk result (λ r. r.0 ≡ items ++ until (is_common old.now splice.begin splice.end splice.inserted) from (pieces_from (here text.now from))) }
-    ensures ends { IfOk result (λ r. r.1 ≡ last_end from (until (is_common old.now splice.begin splice.end splice.inserted) from (pieces_from (here text.now from)))) }
-    ensures joint { IfOk result (λ r. IsJoint old.now splice.begin splice.end splice.inserted r.1.place r.2) }
-    ensures last { IfOk result (λ r. r.2 ≡ None → pieces_from (here text.now r.1) ≡ []) }
-    ensures inside { IfOk result (λ r. IsAhead text.now from r.1) }
-{
-    let mut items = items;
-    let mut at = from;
-    'again: loop {
-        if let Some(count) = joint(old, splice, at.place) {
-            return Ok((items, at, Some(count)));
+impl Reader<'_> {
+    /// Reads on from a place, behind the pieces that are there, up to a boundary of both texts, or to the text's end.
+    pub fn reread(
+        &self,
+        items: Items,
+        from: Spot,
+        old: &[Piece],
+        splice: Splice,
+    ) -> Result<(Items, Spot, Option<usize>), AllocError>
+        requires at { IsIn self.now.text.now from }
+        requires order { InOrder old.now }
+        requires first { splice.begin + splice.inserted < 2 ^ 64 }
+        requires back { length self.now.text.now - (splice.begin + splice.inserted) + splice.end + 1 < 2 ^ 64 }
+        ensures pieces { IfOk result (λ r. r.0 ≡ items ++ until (is_common old.now splice.begin splice.end splice.inserted) from (pieces_from (here self.now.text.now from))) }
+        ensures ends { IfOk result (λ r. r.1 ≡ last_end from (until (is_common old.now splice.begin splice.end splice.inserted) from (pieces_from (here self.now.text.now from)))) }
+        ensures joint { IfOk result (λ r. IsJoint old.now splice.begin splice.end splice.inserted r.1.place r.2) }
+        ensures last { IfOk result (λ r. r.2 ≡ None → pieces_from (here self.now.text.now r.1) ≡ []) }
+        ensures inside { IfOk result (λ r. IsAhead self.now.text.now from r.1) }
+    {
+        let mut items = items;
+        let mut at = from;
+        'again: loop {
+            if let Some(count) = joint(old, splice, at.place) {
+                return Ok((items, at, Some(count)));
+            }
+            let (next, end) = self.next_piece(at)?;
+            match next {
+                None => return Ok((items, at, None)),
+                Some(piece) => items.push(piece)?,
+            }
+            at = end;
         }
-        let (next, end) = next_piece(alloc, text, at)?;
-        match next {
-            None => return Ok((items, at, None)),
-            Some(piece) => items.push(piece)?,
-        }
-        at = end;
     }
 }

@@ -7,10 +7,11 @@ ghost use Rattle.bt_bib.specs.Stop.{Finds, Makes};
 
 use crate::fault::Fault;
 use crate::item::Closing;
+use crate::reader::Reader;
 use crate::spot::Spot;
 use crate::stop::Halt;
 use bt_text::{Bytes, Shared, is_digit, is_name_byte, is_white};
-use std::alloc::{AllocError, Global};
+use std::alloc::AllocError;
 
 /// Bytes that stand in one run.
 #[derive(Clone, Copy, Debug, PartialEq, Eq)]
@@ -58,78 +59,75 @@ impl Class {
     }
 }
 
-/// The byte at a place, none at the end.
-pub fn peek(text: &[u8], at: Spot) -> Option<u8>
-    ensures { result ≡ first (drop at.place text.now) }
-{
-    text.get(at.place).copied()
-}
+impl Reader<'_> {
+    /// The byte at a place, none at the end.
+    pub fn peek(&self, at: Spot) -> Option<u8>
+        ensures { result ≡ first (drop at.place self.now.text.now) }
+    {
+        self.text.get(at.place).copied()
+    }
 
-/// The place behind one byte, or this one at the end.
-pub fn behind(text: &[u8], at: Spot) -> Spot
-    requires { IsIn text.now at }
-    ensures value { here text.now result ≡ behind (here text.now at) }
-    ensures inside { IsAhead text.now at result }
-{
-    if at.place < text.len() {
-        at.after(text[at.place])
-    } else {
+    /// The place behind one byte, or this one at the end.
+    pub fn behind(&self, at: Spot) -> Spot
+        requires { IsIn self.now.text.now at }
+        ensures value { here self.now.text.now result ≡ behind (here self.now.text.now at) }
+        ensures inside { IsAhead self.now.text.now at result }
+    {
+        if at.place < self.text.len() {
+            at.after(self.text[at.place])
+        } else {
+            at
+        }
+    }
+
+    /// The place behind the longest run of bytes of a class.
+    pub fn past(&self, from: Spot, class: Class) -> Spot
+        requires { IsIn self.now.text.now from }
+        ensures value { here self.now.text.now result ≡ past (has class) (here self.now.text.now from) }
+        ensures inside { IsAhead self.now.text.now from result }
+    {
+        let mut at = from;
+        'bytes: while at.place < self.text.len() && class.has(self.text[at.place]) {
+            at = at.after(self.text[at.place]);
+        }
         at
     }
-}
 
-/// The place behind the longest run of bytes of a class.
-pub fn past(text: &[u8], from: Spot, class: Class) -> Spot
-    requires { IsIn text.now from }
-    ensures value { here text.now result ≡ past (has class) (here text.now from) }
-    ensures inside { IsAhead text.now from result }
-{
-    let mut at = from;
-    'bytes: while at.place < text.len() && class.has(text[at.place]) {
-        at = at.after(text[at.place]);
+    /// The place behind the white space.
+    pub fn white(&self, from: Spot) -> Spot
+        requires { IsIn self.now.text.now from }
+        ensures value { here self.now.text.now result ≡ white (here self.now.text.now from) }
+        ensures inside { IsAhead self.now.text.now from result }
+    {
+        self.past(from, Class::White)
     }
-    at
-}
 
-/// The place behind the white space.
-pub fn white(text: &[u8], from: Spot) -> Spot
-    requires { IsIn text.now from }
-    ensures value { here text.now result ≡ white (here text.now from) }
-    ensures inside { IsAhead text.now from result }
-{
-    past(text, from, Class::White)
-}
+    /// The longest run of bytes of a class.
+    #[tactic(auto, using(crate::proofs::RunLemmas::run_taken))]
+    pub fn run(&self, from: Spot, class: Class) -> Result<(Shared<Bytes>, Spot), AllocError>
+        requires { IsIn self.now.text.now from }
+        ensures { Makes self.now.text.now from result (run (has class) (here self.now.text.now from), past (has class) (here self.now.text.now from)) }
+    {
+        let end = self.past(from, class);
+        Ok((
+            Shared::<Bytes>::copied(self.alloc, &self.text[from.place..end.place])?,
+            end,
+        ))
+    }
 
-/// The longest run of bytes of a class.
-#[tactic(auto, using(crate::proofs::RunLemmas::run_taken))]
-pub fn run(
-    alloc: Global,
-    text: &[u8],
-    from: Spot,
-    class: Class,
-) -> Result<(Shared<Bytes>, Spot), AllocError>
-    requires { IsIn text.now from }
-    ensures { Makes text.now from result (run (has class) (here text.now from), past (has class) (here text.now from)) }
-{
-    let end = past(text, from, class);
-    Ok((
-        Shared::<Bytes>::copied(alloc, &text[from.place..end.place])?,
-        end,
-    ))
-}
-
-/// The place behind a byte that must stand here. Another byte is this fault.
-#[tactic(auto, unfolding(crate::specs::Scan::sign))]
-pub fn sign(text: &[u8], from: Spot, wanted: u8, fault: Fault) -> Result<Spot, Halt>
-    requires { IsIn text.now from }
-    ensures { Finds text.now from result (sign wanted fault (here text.now from)) }
-{
-    let Some(byte) = peek(text, from) else {
-        return Err(Halt::Stopped(Fault::EndOfFile, from));
-    };
-    if byte == wanted {
-        Ok(behind(text, from))
-    } else {
-        Err(Halt::Stopped(fault, from))
+    /// The place behind a byte that must stand here. Another byte is this fault.
+    #[tactic(auto, unfolding(crate::specs::Scan::sign))]
+    pub fn sign(&self, from: Spot, wanted: u8, fault: Fault) -> Result<Spot, Halt>
+        requires { IsIn self.now.text.now from }
+        ensures { Finds self.now.text.now from result (sign wanted fault (here self.now.text.now from)) }
+    {
+        let Some(byte) = self.peek(from) else {
+            return Err(Halt::Stopped(Fault::EndOfFile, from));
+        };
+        if byte == wanted {
+            Ok(self.behind(from))
+        } else {
+            Err(Halt::Stopped(fault, from))
+        }
     }
 }

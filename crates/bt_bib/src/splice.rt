@@ -7,15 +7,15 @@ use crate::boundaries::{count_below, last_boundary};
 use crate::items::Items;
 use crate::meter::ReadMeter;
 use crate::moving::with_rebased;
-use crate::rereading::{Splice, reread};
+use crate::reader::Reader;
+use crate::rereading::Splice;
 use crate::spot::Spot;
 use std::alloc::{AllocError, Global};
 
 impl Items {
     ghost use Rattle.bt_bib.specs.Splice.{reread_from, reread_upto, IsSplice};
 
-    /// The items of `new_text`, which is `old_text` with the bytes `start..end` replaced by others, `inserted` in
-    /// number. These are the items of `old_text`. Only a part of the new text is read: from the greatest boundary below
+    /// The items of `new_text`, which is `old_text` with this splice. These are the items of `old_text`. Only a part of the new text is read: from the greatest boundary below
     /// the splice up to the least one behind it that both texts have. The meter rises by the number of its bytes. The
     /// other items are taken over, with their places and lines moved. The one error is want of memory; the meter is then
     /// as before.
@@ -24,29 +24,26 @@ impl Items {
         alloc: Global,
         old_text: &[u8],
         new_text: &[u8],
-        start: usize,
-        end: usize,
-        inserted: usize,
+        splice: Splice,
         meter: &mut ReadMeter,
     ) -> Result<Items, AllocError>
         requires old { self.now ≡ pieces_of old_text.now }
-        requires splice { IsSplice old_text.now new_text.now start end inserted }
+        requires splice { IsSplice old_text.now new_text.now splice.begin splice.end splice.inserted }
         requires meter { meter.old + length new_text.now < 2 ^ 128 }
         ensures pieces { IfOk result (λ items. items ≡ pieces_of new_text.now) }
-        ensures read { OnOk result (meter.new ≡ meter.old + (reread_upto old_text.now new_text.now start end inserted - reread_from old_text.now start)) }
+        ensures read { OnOk result (meter.new ≡ meter.old + (reread_upto old_text.now new_text.now splice.begin splice.end splice.inserted - reread_from old_text.now splice.begin)) }
         ensures err { OnErr result (meter.new ≡ meter.old) }
     {
         let old = self.pieces();
-        let splice = Splice {
-            begin: start,
-            end,
-            inserted,
-        };
-        let kept = count_below(old, start);
+        let kept = count_below(old, splice.begin);
         let from = last_boundary(old, kept);
         let nowhere = Spot { place: 0, line: 0 };
+        let reader = Reader {
+            alloc,
+            text: new_text,
+        };
         let items = with_rebased(alloc, Items::new(alloc), &old[..kept], nowhere, nowhere)?;
-        let (items, at, joint) = reread(alloc, items, new_text, from, old, splice)?;
+        let (items, at, joint) = reader.reread(items, from, old, splice)?;
         match joint {
             Some(passed) => {
                 let back = last_boundary(old, passed);

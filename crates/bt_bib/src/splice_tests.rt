@@ -3,7 +3,7 @@
 ghost use Rattle.std.specs.Prelude.{◌≤◌, length, IfOk};
 ghost use Rattle.bt_bib.specs.Splice.{IsSplice};
 
-use crate::{ReadMeter, read_bib};
+use crate::{ReadMeter, Splice, read_bib};
 use bt_text::Bytes;
 use std::alloc::{AllocError, Global};
 use std::test::Fail;
@@ -62,9 +62,11 @@ fn both_ways(
         alloc,
         text,
         new.as_slice(),
-        start,
-        end,
-        bytes.len(),
+        Splice {
+            begin: start,
+            end,
+            inserted: bytes.len(),
+        },
         &mut meter,
     )?;
     let whole = read_bib(alloc, new.as_slice())?;

@@ -27,7 +27,7 @@ reread-requires-clause-at c =
     let ps = c.pieces-old.result.now in
     let from = c.last_boundary-from.result in
     let is_from = c.last_boundary-from.ensures ∙ ap (last_end start) (sym c.count_below-kept.ensures.value) in
-    (law_of c.args.old_text.now c.args.new_text.now c.args.start c.args.end c.args.inserted ps c.requires.splice (c.pieces-old.ensures ∙ c.requires.old) from _ is_from refl).3
+    (law_of c.args.old_text.now c.args.new_text.now c.args.splice.begin c.args.splice.end c.args.splice.inserted ps c.requires.splice (c.pieces-old.ensures ∙ c.requires.old) from _ is_from refl).3
 
 pub reread-requires-clause-order : goal.reread-requires-clause-order
 reread-requires-clause-order c = in_order c.args.old_text.now c.pieces-old.result.now (c.pieces-old.ensures ∙ c.requires.old)
@@ -36,9 +36,9 @@ pub with_rebased-requires-in-Some : goal.with_rebased-requires-in-Some
 with_rebased-requires-in-Some c =
     let ps = c.pieces-old.result.now in
     let new = c.args.new_text.now in
-    let b = c.args.start in
-    let e = c.args.end in
-    let n = c.args.inserted in
+    let b = c.args.splice.begin in
+    let e = c.args.splice.end in
+    let n = c.args.splice.inserted in
     let is = c.pieces-old.ensures ∙ c.requires.old in
     let from = c.last_boundary-from.result in
     let stop = c.in_ok-items-2.at in
@@ -56,9 +56,9 @@ pub returns-in_ok-items-in-Some-clause-pieces : goal.returns-in_ok-items-in-Some
 returns-in_ok-items-in-Some-clause-pieces c =
     let ps = c.pieces-old.result.now in
     let new = c.args.new_text.now in
-    let b = c.args.start in
-    let e = c.args.end in
-    let n = c.args.inserted in
+    let b = c.args.splice.begin in
+    let e = c.args.splice.end in
+    let n = c.args.splice.inserted in
     let is = c.pieces-old.ensures ∙ c.requires.old in
     let from = c.last_boundary-from.result in
     let stop = c.in_ok-items-2.at in
@@ -78,9 +78,9 @@ pub returns-in_ok-items-in-Some-clause-read : goal.returns-in_ok-items-in-Some-c
 returns-in_ok-items-in-Some-clause-read c =
     let ps = c.pieces-old.result.now in
     let new = c.args.new_text.now in
-    let b = c.args.start in
-    let e = c.args.end in
-    let n = c.args.inserted in
+    let b = c.args.splice.begin in
+    let e = c.args.splice.end in
+    let n = c.args.splice.inserted in
     let is = c.pieces-old.ensures ∙ c.requires.old in
     let from = c.last_boundary-from.result in
     let stop = c.in_ok-items-2.at in
@@ -94,9 +94,9 @@ pub returns-in-None-clause-pieces : goal.returns-in-None-clause-pieces
 returns-in-None-clause-pieces c =
     let ps = c.pieces-old.result.now in
     let new = c.args.new_text.now in
-    let b = c.args.start in
-    let e = c.args.end in
-    let n = c.args.inserted in
+    let b = c.args.splice.begin in
+    let e = c.args.splice.end in
+    let n = c.args.splice.inserted in
     let is = c.pieces-old.ensures ∙ c.requires.old in
     let from = c.last_boundary-from.result in
     let stop = c.in_ok-items-2.at in
@@ -110,9 +110,9 @@ pub returns-in-None-clause-read : goal.returns-in-None-clause-read
 returns-in-None-clause-read c =
     let ps = c.pieces-old.result.now in
     let new = c.args.new_text.now in
-    let b = c.args.start in
-    let e = c.args.end in
-    let n = c.args.inserted in
+    let b = c.args.splice.begin in
+    let e = c.args.splice.end in
+    let n = c.args.splice.inserted in
     let is = c.pieces-old.ensures ∙ c.requires.old in
     let from = c.last_boundary-from.result in
     let stop = c.in_ok-items-2.at in

@@ -2,14 +2,14 @@ use Rattle.std.proofs.Common.{length, ◌-◌, ◌≡◌, ◌≤◌, drop}
 use Rattle.bt_bib.specs.Spot.{here, IsAhead}
 use Rattle.bt_bib.specs.Enclosed.{enclosed_end}
 use Rattle.bt_bib.proofs.EnclosedLemmas.{enclosed_run}
-use Rattle.bt_bib.proofs.enclosed.enclosed_end.Given as goal
+use Rattle.bt_bib.proofs.reader.Reader.enclosed_end.Given as goal
 
 abbrev pub invariant-bytes : goal.invariant-bytes
 invariant-bytes l = record {
-  inside : IsAhead l.text l.initial.at l.at;
+  inside : IsAhead l.self.text.now l.initial.at l.at;
   shallow : l.depth ≤ l.at.place;
-  same : enclosed_run l.close l.depth l.at (drop l.at.place l.text) ≡ enclosed_end l.close (here l.text l.initial.at);
+  same : enclosed_run l.close l.depth l.at (drop l.at.place l.self.text.now) ≡ enclosed_end l.close (here l.self.text.now l.initial.at);
 }
 
 abbrev pub decreases-bytes : goal.decreases-bytes
-decreases-bytes l = length l.text - l.at.place
+decreases-bytes l = length l.self.text.now - l.at.place

@@ -2,13 +2,13 @@ use Rattle.std.proofs.Common.{length, ◌-◌, ◌≡◌, []}
 use Rattle.bt_bib.specs.Spot.{here, IsAhead}
 use Rattle.bt_bib.specs.Many.{all, gathered}
 use Rattle.bt_bib.specs.Reading.{next_one}
-use Rattle.bt_bib.proofs.reading.pieces_from.Given as goal
+use Rattle.bt_bib.proofs.reader.Reader.pieces_from.Given as goal
 
 abbrev pub invariant-pieces : goal.invariant-pieces
 invariant-pieces l = record {
-  inside : IsAhead l.text l.initial.at l.at;
-  same : gathered l.items (all next_one (here l.text l.at)) ≡ gathered [] (all next_one (here l.text l.initial.at));
+  inside : IsAhead l.self.text.now l.initial.at l.at;
+  same : gathered l.items (all next_one (here l.self.text.now l.at)) ≡ gathered [] (all next_one (here l.self.text.now l.initial.at));
 }
 
 abbrev pub decreases-pieces : goal.decreases-pieces
-decreases-pieces l = length l.text - l.at.place
+decreases-pieces l = length l.self.text.now - l.at.place
