@@ -139,12 +139,29 @@ module _ {X : Type 0} where
         there true false h = let wrong : true ≡ false = h in cc
         there false true h = let wrong : false ≡ true = h in cc
 
-    pub push_by_small : (x : X) (xs : List X) → lookup (bytes_eq (folded (name x))) (by_small name xs) ≡ None → insert_entry bytes_eq (by_small name xs) (folded (name x)) x ≡ by_small name (xs ++ x ∷ [])
+    push_by_small : (x : X) (xs : List X) → lookup (bytes_eq (folded (name x))) (by_small name xs) ≡ None → insert_entry bytes_eq (by_small name xs) (folded (name x)) x ≡ by_small name (xs ++ x ∷ [])
     push_by_small x xs none = insert_last (folded (name x)) x (by_small name xs) none ∙ sym (map-append (λ y. (folded (name y), y)) xs (x ∷ []))
+
+    -- a name that none has isn't found
+    absent : (o : Option X) → is_some o ≡ false → o ≡ None
+    absent None h = refl
+    absent (Some x) h = let wrong : true ≡ false = h in cc
+
+    pub absent_by_small : (small : List ℕ) (xs : List X) → list_any (λ x. bytes_eq (folded (name x)) small) xs ≡ false → lookup (bytes_eq small) (by_small name xs) ≡ None
+    absent_by_small small xs h = absent (lookup (bytes_eq small) (by_small name xs)) (has_by_small small xs ∙ h)
 
     pub values_by_small : (xs : List X) → map (λ e. e.1) (by_small name xs) ≡ xs
     values_by_small [] = refl
     values_by_small (x ∷ xs) = ap (λ (ys : List X). x ∷ ys) (values_by_small xs)
+
+    -- one value more, whose name none has
+    pub more_by_small : (x : X) (xs : List X) (old new : Entries X) → old ≡ by_small name xs → lookup (bytes_eq (folded (name x))) (by_small name xs) ≡ None →
+        new ≡ insert_entry bytes_eq old (folded (name x)) x → new ≡ by_small name (xs ++ x ∷ [])
+    more_by_small x xs old new is none more = more ∙ ap (λ (es : Entries X). insert_entry bytes_eq es (folded (name x)) x) is ∙ push_by_small x xs none
+
+    -- a list of entries by the values among them
+    pub by_small_again : (xs : List X) (es : Entries X) → es ≡ by_small name xs → es ≡ by_small name (map (λ e. e.1) es)
+    by_small_again xs es is = is ∙ ap (λ (ys : List X). by_small name ys) (sym (ap (λ (fs : Entries X). map (λ e. e.1) fs) is ∙ values_by_small xs))
 
 -- the first of some names that matches a name
 pub same_by_small : (name : List ℕ) (names : List (List ℕ)) → lookup (bytes_eq (folded name)) (by_small (λ n. n) names) ≡ same_name name names
@@ -152,14 +169,3 @@ same_by_small name [] = refl
 same_by_small name (n ∷ ns) =
     ap (λ (b : Bool). cond b (Some n) (lookup (bytes_eq (folded name)) (by_small (λ m. m) ns))) (nat_list_eq_equiv.symm (folded name) (folded n))
     ∙ ap (λ (o : Option (List ℕ)). cond (is_same_folded n name) (Some n) o) (same_by_small name ns)
-
--- some names with one more, which none of them matches
-pub names_pushed : (name : List ℕ) (names : List (List ℕ)) (old new : Entries (List ℕ)) → old ≡ by_small (λ n. n) names → same_name name names ≡ None → new ≡ insert_entry bytes_eq old (folded name) name →
-    new ≡ by_small (λ n. n) (names ++ name ∷ [])
-names_pushed name names old new is none more =
-    more ∙ ap (λ (es : Entries (List ℕ)). insert_entry bytes_eq es (folded name) name) is
-    ∙ push_by_small (λ n. n) name names (same_by_small name names ∙ none)
-
--- a list of entries by the names among them
-pub named_again : (names : List (List ℕ)) (es : Entries (List ℕ)) → es ≡ by_small (λ n. n) names → es ≡ by_small (λ n. n) (map (λ e. e.1) es)
-named_again names es is = is ∙ ap (λ (ns : List (List ℕ)). by_small (λ n. n) ns) (sym (ap (λ (fs : Entries (List ℕ)). map (λ e. e.1) fs) is ∙ values_by_small (λ n. n) names))

@@ -1,7 +1,7 @@
 //! A hashed table of values by names, which match without regard to case.
 
 ghost use Rattle.std.specs.Prelude.{◌≡◌, [], map, ℕ, List, Some, is_some, option_copied, bytes_eq, if◌then◌else◌, IfOk, OnOk, OnErr};
-ghost use Rattle.bt_text.specs.ByName.{HasRoom, at_small, known, listed, place_of, with_entry, with_value};
+ghost use Rattle.bt_text.specs.ByName.{HasRoom, at_small, known, listed, no_value, place_of, with_entry, with_value};
 ghost use Rattle.bt_text.specs.Folding.{folded};
 
 use crate::folding::to_ascii_lowercase;
@@ -20,7 +20,8 @@ pub struct ByName<V> {
 impl<V: Drop> ByName<V> {
     /// No value for any name. It takes no memory.
     pub fn new(alloc: Global) -> Self
-        ensures { listed result ≡ [] }
+        ensures listed { listed result ≡ [] }
+        ensures known { known result ≡ no_value }
     {
         ByName {
             values: IndexMap::new(alloc),
