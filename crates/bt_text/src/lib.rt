@@ -54,6 +54,8 @@ pub use widths::width;
 #[cfg(test)]
 mod line_tests;
 #[cfg(test)]
+mod name_tests;
+#[cfg(test)]
 mod tests;
 #[cfg(test)]
 mod worked;
