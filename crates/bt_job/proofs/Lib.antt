@@ -1,4 +1,3 @@
-pub mod KeyLemmas
 pub mod BoundLemmas
 pub mod FitLemmas
 pub mod NestingLemmas

@@ -1,4 +1,3 @@
-pub mod Keys
 pub mod Log
 pub mod Naming
 pub mod Taking

@@ -1,7 +1,9 @@
 -- What a counted line comes to: what it adds to what is asked for, and its error or the file that it opens.
-use Rattle.std.specs.Prelude.{ℕ, Bool, true, false, List, [], ◌∷◌, ◌++◌, length, map, codes, decimal, Option, Some, None, if◌then◌else◌}
-use Rattle.std.specs.Char.{to_ascii_lowercase}
+use Rattle.std.specs.Prelude.{ℕ, Bool, true, false, List, [], ◌∷◌, ◌++◌, length, codes, decimal, Option, Some, None, if◌then◌else◌}
 use Rattle.std.specs.Str.{bytes_eq}
+-- whether two keys are one, and the first of some keys that is this one: without regard to case
+pub use Rattle.bt_text.specs.Folding.{is_same_folded as is_same_key}
+pub use Rattle.bt_text.specs.NameList.{same_name as same_key}
 use Rattle.bt_bib.specs.declared.aux_line.Command.{Command}
 use Rattle.bt_bib.specs.declared.aux_line.Command.TheVariants.{Citation, Database, Style, Nested}
 use Rattle.bt_bib.specs.declared.aux_argument.AuxFault.{AuxFault}
@@ -26,15 +28,6 @@ told_at file line words r =
     told Error (words ++ codes "---line " ++ decimal line ++ codes " of file " ++ file ++ codes "\nI'm skipping whatever remains of this command") r
 
 -- Citations
-
--- whether two keys are one without regard to case
-abbrev pub is_same_key : List ℕ → List ℕ → Bool
-is_same_key k key = bytes_eq (map to_ascii_lowercase k) (map to_ascii_lowercase key)
-
--- the first of some keys that is this one without regard to case
-abbrev pub same_key : List ℕ → List (List ℕ) → Option (List ℕ)
-same_key key [] = None
-same_key key (k ∷ ks) = if is_same_key k key then Some k else same_key key ks
 
 -- the part `*`, which may come once
 abbrev pub cited_all : Option ℕ → Citations → Citations × Outcome

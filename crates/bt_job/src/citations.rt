@@ -1,14 +1,13 @@
 //! What the .aux files of a session ask for.
 
-use crate::keys::Keys;
 use crate::log::Message;
-use bt_text::{Bytes, Sequence};
+use bt_text::{Bytes, NameList, Sequence};
 
 /// What the .aux files have asked for so far.
 #[derive(Drop)]
 pub struct Citations {
     /// The cited keys, as they were spelled first.
-    pub keys: Keys,
+    pub keys: NameList,
     /// How many keys stood before the `*`, if it was cited.
     pub star: Option<usize>,
     /// The names of the databases, in order.

@@ -3,7 +3,6 @@
 
 mod citations;
 mod files;
-mod keys;
 mod log;
 mod naming;
 mod nesting;
@@ -11,7 +10,6 @@ mod taking;
 
 pub use citations::Citations;
 pub use files::File;
-pub use keys::Keys;
 pub use log::{Message, Rank, lines_bytes, log_bytes, status, terse_bytes};
 pub use naming::{is_file_name, pair, text_of};
 pub use nesting::{always_fit, any_bound_serves, nested_in_place, read_citations};

@@ -6,12 +6,11 @@ ghost use Rattle.bt_job.specs.Citations.{file_line, file_taken, missing, missing
 
 use crate::citations::{Citations, Outcome};
 use crate::files::File;
-use crate::keys::Keys;
 use crate::log::Rank;
 use crate::naming::{pair, text_of};
 use crate::taking::{take_item, tell, tell_at, want};
 use bt_bib::read_aux;
-use bt_text::{Bytes, Sequence};
+use bt_text::{Bytes, NameList, Sequence};
 use itoa::Buffer;
 use std::alloc::{AllocError, Global};
 
@@ -151,7 +150,7 @@ fn nothing_met(alloc: Global) -> Citations
     ensures { result ≡ nothing_met }
 {
     Citations {
-        keys: Keys::new(alloc),
+        keys: NameList::new(alloc),
         star: None,
         databases: Sequence::new(alloc),
         style: None,

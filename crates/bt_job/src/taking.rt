@@ -72,10 +72,11 @@ fn cite(alloc: Global, citations: &mut Citations, part: &[u8]) -> Result<Outcome
     if part == b"*".as_slice() {
         return cite_all(alloc, citations);
     }
-    let Some(old) = citations.keys.same(alloc, part)? else {
+    let Some(old) = citations.keys.find(alloc, part)? else {
         citations.keys.push(alloc, part)?;
         return Ok(Outcome::Taken);
     };
+    let old = old.as_slice();
     if old == part {
         Ok(Outcome::Taken)
     } else {

@@ -10,7 +10,8 @@ use Rattle.bt_text.specs.Folding.{folded, is_same_folded}
 use Rattle.bt_resolve.specs.declared.asked.Asked.{Asked}
 use Rattle.bt_resolve.specs.declared.entry.Entry.{Entry}
 use Rattle.bt_resolve.specs.declared.stored.Stored.{Stored}
-use Rattle.bt_resolve.specs.Names.{place_of_name, has_name, are_apart}
+use Rattle.bt_text.specs.NameList.{has_name, are_apart}
+use Rattle.bt_resolve.specs.Names.{place_of_name}
 use Rattle.bt_resolve.specs.Listed.{place_of_key, parents, is_cited, is_cited_at, is_among, firsts, cited_places, uncited_parents, others_than, listed_by, listed}
 use Rattle.bt_resolve.specs.Inherited.{spelled, entry_seen, entry_at, entries_seen, is_left_out, values_behind}
 use Rattle.bt_resolve.specs.Laws.{KeysApart, EntriesApart}

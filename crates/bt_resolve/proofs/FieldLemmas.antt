@@ -11,7 +11,9 @@ use Rattle.bt_resolve.specs.declared.message.Message.{Message}
 use Rattle.bt_resolve.specs.declared.fields.Slot.{Slot}
 use Rattle.bt_resolve.specs.declared.fields.Slot.TheVariants.{Crossref, Value}
 use Rattle.bt_resolve.specs.declared.fields.Given.{Given}
-use Rattle.bt_resolve.specs.Names.{crossref, place_of_name, has_name, are_apart, no_value}
+use Rattle.bt_text.specs.ByName.{no_value}
+use Rattle.bt_text.specs.NameList.{has_name, are_apart}
+use Rattle.bt_resolve.specs.Names.{crossref, place_of_name}
 use Rattle.bt_resolve.specs.Values.{MacroTexts, field_value, value_warnings}
 use Rattle.bt_resolve.specs.Fields.{given, own_value, is_declared, has_field, field_messages, declared_messages, fields_messages}
 use Rattle.bt_resolve.specs.Slots.{slot_of, given_by, is_filled, is_filled_at, fill, with_field, extra_messages, slot_messages}

@@ -10,7 +10,8 @@ use Rattle.bt_bib.specs.declared.item.Entry.{Entry}
 use Rattle.bt_resolve.specs.declared.asked.Asked.{Asked}
 use Rattle.bt_resolve.specs.declared.declared.Macro.{Macro}
 use Rattle.bt_resolve.specs.declared.stored.Stored.{Stored}
-use Rattle.bt_resolve.specs.Names.{place_of, has_name}
+use Rattle.bt_text.specs.ByName.{place_of}
+use Rattle.bt_text.specs.NameList.{has_name}
 use Rattle.bt_resolve.specs.Macros.{macro_before}
 use Rattle.bt_resolve.specs.Values.{MacroTexts, is_named}
 use Rattle.bt_resolve.specs.Stored.{stored_of, is_referred_to, is_wanted, is_stored, with_entry, with_item, stored_among}

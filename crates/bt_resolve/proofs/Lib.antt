@@ -1,4 +1,3 @@
-pub mod HashedLemmas
 pub mod NameLemmas
 pub mod FieldLemmas
 pub mod StoreLemmas

@@ -1,10 +1,13 @@
 -- Places of names.
 use Rattle.std.proofs.Common.{◌≡◌, ◌∙◌, ap, sym, refl, ℕ, zero, suc, ◌+◌, ◌<◌, Bool, true, false, List, [], ◌∷◌, length, drop, get_or, Option, Some, None, arith}
-use Rattle.std.specs.Prelude.{◌||◌, ◌&&◌, not, is_some, option_map, if◌then◌else◌}
+use Rattle.std.specs.Prelude.{◌||◌, ◌&&◌, not, is_some, option_map, option_and_then, unwrap_or, slice_get, if◌then◌else◌}
 use Rattle.std.proofs.Math.Path.{fun_ext}
 use Rattle.std.proofs.lemmas.List.{drop_more}
 use Rattle.bt_text.specs.Folding.{is_same_folded}
-use Rattle.bt_resolve.specs.Names.{place_of_name, has_name, are_apart, from_place, places_from, with_value, no_value}
+use Rattle.bt_text.specs.ByName.{with_value, no_value}
+use Rattle.bt_text.specs.NameList.{has_name, are_apart, same_name}
+use Rattle.bt_resolve.specs.Inherited.{spelled}
+use Rattle.bt_resolve.specs.Names.{place_of_name, from_place, places_from}
 
 abbrev Place : Type 0
 Place = Option ℕ
@@ -80,3 +83,24 @@ from_some i (Some k) = refl
 -- whether a table of places has a name
 pub known_is : (t : List ℕ → Place) (names : List (List ℕ)) (n : ℕ) (name : List ℕ) → t ≡ places_from names n → is_some (t name) ≡ has_name (drop n names) name
 known_is t names n name is = ap (λ (u : List ℕ → Place). is_some (u name)) is ∙ from_some n (place_of_name (drop n names) name) ∙ place_is (drop n names) name
+
+found_step : (ns : List (List ℕ)) (n : List ℕ) (b : Bool) (o : Place) (found : Option (List ℕ)) → found ≡ option_and_then (slice_get ns) o →
+    (if b then Some n else found) ≡ option_and_then (slice_get (n ∷ ns)) (if b then Some 0 else option_map (λ i. suc i) o)
+found_step ns n true o found h = refl
+found_step ns n false None found h = h
+found_step ns n false (Some i) found h = h
+
+-- the name that matches a name stands at its place
+same_at_place : (names : List (List ℕ)) (name : List ℕ) → same_name name names ≡ option_and_then (slice_get names) (place_of_name names name)
+same_at_place [] name = refl
+same_at_place (n ∷ ns) name = found_step ns n (is_same_folded n name) (place_of_name ns name) (same_name name ns) (same_at_place ns name)
+
+-- a key as it is cited, else as in the database
+spelled_by : (keys : List (List ℕ)) (key asked : List ℕ) (found : Option (List ℕ)) → asked ≡ key → found ≡ same_name asked keys → unwrap_or found key ≡ spelled keys key
+spelled_by keys key asked found same is = ap (λ (o : Option (List ℕ)). unwrap_or o key) (is ∙ ap (λ (k : List ℕ). same_name k keys) same ∙ same_at_place keys key)
+
+pub spelled_uncited : (keys : List (List ℕ)) (key asked text : List ℕ) (found : Option (List ℕ)) → asked ≡ key → found ≡ same_name asked keys → found ≡ None → text ≡ key → text ≡ spelled keys key
+spelled_uncited keys key asked text found same is none here = here ∙ sym (ap (λ (o : Option (List ℕ)). unwrap_or o key) none) ∙ spelled_by keys key asked found same is
+
+pub spelled_cited : (keys : List (List ℕ)) (key asked text cited : List ℕ) (found : Option (List ℕ)) → asked ≡ key → found ≡ same_name asked keys → found ≡ Some cited → text ≡ cited → text ≡ spelled keys key
+spelled_cited keys key asked text cited found same is some here = here ∙ sym (ap (λ (o : Option (List ℕ)). unwrap_or o key) some) ∙ spelled_by keys key asked found same is

@@ -1,46 +1,25 @@
 -- One entry more in a store.
-use Rattle.std.proofs.Common.{◌≡◌, ◌∙◌, ap, sym, refl, ℕ, suc, Bool, true, false, List, [], ◌∷◌, ◌++◌, length, Option, Some, None}
-use Rattle.std.specs.Prelude.{◌||◌, is_some, option_map, if◌then◌else◌}
-use Rattle.std.proofs.Math.Path.{fun_ext}
+use Rattle.std.proofs.Common.{◌≡◌, ◌∙◌, ap, sym, refl, ℕ, Bool, true, false, List, [], ◌∷◌, ◌++◌, map, Option, Some, None}
+use Rattle.std.specs.Prelude.{◌||◌, is_some, if◌then◌else◌}
 use Rattle.bt_text.specs.Folding.{folded, is_same_folded}
+use Rattle.bt_text.specs.ByName.{by_small, with_entry}
+use Rattle.bt_text.proofs.NameLemmas.{more_by_small, absent_by_small, values_by_small}
 use Rattle.bt_resolve.specs.declared.stored.Stored.{Stored}
-use Rattle.bt_resolve.specs.Names.{with_value}
 use Rattle.bt_resolve.specs.Values.{is_named}
 use Rattle.bt_resolve.specs.Stored.{is_stored, is_referred_to}
-use Rattle.bt_resolve.specs.Listed.{place_of_key}
 use Rattle.bt_resolve.specs.Store.{with_reference}
-use Rattle.bt_resolve.proofs.HashedLemmas.{apart}
 
-pub or_false : (a b : Bool) → (a || b) ≡ false → (a ≡ false) × (b ≡ false)
-or_false true b h = let wrong : true ≡ false = h in cc
-or_false false b h = (refl, h)
+abbrev key_of : Stored → List ℕ
+key_of s = s.key
 
-found_is : (b c : Bool) (o : Option ℕ) → is_some o ≡ c → is_some (if b then Some 0 else option_map (λ i. suc i) o) ≡ (b || c)
-found_is true c o h = refl
-found_is false c None h = h
-found_is false c (Some p) h = h
+-- the entries by their keys, with one entry more
+pub stored_next : (entries : List Stored) (s : Stored) (key : List ℕ) (old new : List (List ℕ × Stored)) → old ≡ by_small key_of entries → is_stored entries s.key ≡ false → key ≡ s.key →
+    new ≡ with_entry (folded key) s old → new ≡ by_small key_of (entries ++ s ∷ [])
+stored_next entries s key old new is absent same more =
+    more_by_small key_of s entries old new is (absent_by_small key_of (folded s.key) entries absent) (more ∙ ap (λ (k : List ℕ). with_entry (folded k) s old) same)
 
--- a key has a place where it is stored
-pub place_is : (entries : List Stored) (key : List ℕ) → is_some (place_of_key entries key) ≡ is_stored entries key
-place_is [] key = refl
-place_is (s ∷ ss) key = found_is (is_same_folded s.key key) (is_stored ss key) (place_of_key ss key) (place_is ss key)
-
-skip : (a b : Bool) (o : Option ℕ) (n : ℕ) → (a ≡ true → b ≡ false) → (if a then Some 0 else option_map (λ i. suc i) (if b then Some n else o)) ≡ (if b then Some (suc n) else (if a then Some 0 else option_map (λ i. suc i) o))
-skip true true o n h = let wrong : true ≡ false = h refl in cc
-skip true false o n h = refl
-skip false true o n h = refl
-skip false false o n h = refl
-
-pub place_of_key-push : (entries : List Stored) (s : Stored) (key : List ℕ) → is_stored entries s.key ≡ false → place_of_key (entries ++ s ∷ []) key ≡ with_value s.key (length entries) (place_of_key entries) key
-place_of_key-push [] s key new = refl
-place_of_key-push (t ∷ ts) s key new =
-    let both : (is_same_folded t.key s.key ≡ false) × (is_stored ts s.key ≡ false) = or_false (is_same_folded t.key s.key) (is_stored ts s.key) new in
-    ap (λ (o : Option ℕ). if is_same_folded t.key key then Some 0 else option_map (λ i. suc i) o) (place_of_key-push ts s key both.1)
-    ∙ skip (is_same_folded t.key key) (is_same_folded s.key key) (place_of_key ts key) (length ts) (λ y. apart (folded t.key) (folded s.key) (folded key) both.0 y)
-
--- the table of places with one more key
-pub places_next : (entries : List Stored) (s : Stored) (t u : List ℕ → Option ℕ) → is_stored entries s.key ≡ false → t ≡ place_of_key entries → u ≡ with_value s.key (length entries) t → u ≡ place_of_key (entries ++ s ∷ [])
-places_next entries s t u new known more = more ∙ ap (λ (v : List ℕ → Option ℕ). with_value s.key (length entries) v) known ∙ sym (fun_ext (λ key. place_of_key-push entries s key new))
+pub entries_next : (entries : List Stored) (s : Stored) (new : List (List ℕ × Stored)) → new ≡ by_small key_of (entries ++ s ∷ []) → map (λ e. e.1) new ≡ entries ++ s ∷ []
+entries_next entries s new is = ap (λ (es : List (List ℕ × Stored)). map (λ e. e.1) es) is ∙ values_by_small key_of (entries ++ s ∷ [])
 
 swapped : (a b c : Bool) → (a || (b || c)) ≡ (b || (a || c))
 swapped true true c = refl

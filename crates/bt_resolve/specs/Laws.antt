@@ -8,7 +8,7 @@ use Rattle.bt_resolve.specs.declared.declared.Cites.{Cites}
 use Rattle.bt_resolve.specs.declared.declared.Declared.{Declared}
 use Rattle.bt_resolve.specs.declared.declared.Macro.{Macro}
 use Rattle.bt_resolve.specs.declared.entry.Entry.{Entry}
-use Rattle.bt_resolve.specs.Names.{are_apart}
+use Rattle.bt_text.specs.NameList.{are_apart}
 use Rattle.bt_resolve.specs.declared.stored.Stored.{Stored}
 use Rattle.std.specs.Prelude.{slice_get}
 use Rattle.bt_resolve.specs.Stored.{is_wanted}

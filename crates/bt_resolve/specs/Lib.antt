@@ -1,5 +1,4 @@
 pub mod Names
-pub mod ByName
 pub mod Warnings
 pub mod Faults
 pub mod Values

@@ -4,7 +4,8 @@ use Rattle.std.specs.List.{list_any, range_with_len}
 use Rattle.bt_text.specs.Folding.{is_same_folded}
 use Rattle.bt_resolve.specs.declared.asked.Asked.{Asked}
 use Rattle.bt_resolve.specs.declared.stored.Stored.{Stored}
-use Rattle.bt_resolve.specs.Names.{place_of, has_name}
+use Rattle.bt_text.specs.ByName.{place_of}
+use Rattle.bt_text.specs.NameList.{has_name}
 
 -- the stored entry of a key
 abbrev pub place_of_key : List Stored → List ℕ → Option ℕ

@@ -6,7 +6,7 @@ use Rattle.bt_bib.specs.declared.item.Content.{Content}
 use Rattle.bt_bib.specs.declared.item.Content.TheVariants as contents
 use Rattle.bt_bib.specs.declared.item.Item.{Item}
 use Rattle.bt_resolve.specs.declared.declared.Macro.{Macro}
-use Rattle.bt_resolve.specs.Names.{no_value, with_value}
+use Rattle.bt_text.specs.ByName.{no_value, with_value}
 use Rattle.bt_resolve.specs.Values.{MacroTexts, others, value}
 
 -- the style's own macros

@@ -6,7 +6,7 @@ use Rattle.bt_resolve.specs.declared.declared.Macro.{Macro}
 use Rattle.bt_resolve.specs.declared.message.Message.{Message}
 use Rattle.bt_resolve.specs.declared.stored.Stored.{Stored}
 use Rattle.bt_resolve.specs.declared.state.Reading.{Reading}
-use Rattle.bt_resolve.specs.ByName.{known}
+use Rattle.bt_text.specs.ByName.{known}
 use Rattle.bt_resolve.specs.Values.{MacroTexts}
 use Rattle.bt_resolve.specs.Macros.{style_macro, with_content}
 use Rattle.bt_resolve.specs.Stored.{with_item}

@@ -9,7 +9,8 @@ use Rattle.bt_bib.specs.declared.item.Entry.{Entry}
 use Rattle.bt_resolve.specs.declared.asked.Asked.{Asked}
 use Rattle.bt_resolve.specs.declared.declared.Macro.{Macro}
 use Rattle.bt_resolve.specs.declared.stored.Stored.{Stored}
-use Rattle.bt_resolve.specs.Names.{crossref, place_of_name, has_name}
+use Rattle.bt_text.specs.NameList.{has_name}
+use Rattle.bt_resolve.specs.Names.{crossref, place_of_name}
 use Rattle.bt_resolve.specs.Values.{MacroTexts, is_named}
 use Rattle.bt_resolve.specs.Macros.{macro_before}
 use Rattle.bt_resolve.specs.Fields.{given, own_values}

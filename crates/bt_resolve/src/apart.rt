@@ -1,10 +1,9 @@
 //! Whether names are apart.
 
 ghost use Rattle.std.specs.Prelude.{◌≡◌, IfOk};
-ghost use Rattle.bt_resolve.specs.Names.{are_apart};
+ghost use Rattle.bt_text.specs.NameList.{are_apart};
 
-use crate::by_name::ByName;
-use bt_text::Bytes;
+use bt_text::{ByName, Bytes};
 use std::alloc::{AllocError, Global};
 
 /// Whether no two of some names match. The one error is want of memory.

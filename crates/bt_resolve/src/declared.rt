@@ -1,6 +1,6 @@
 //! What a style and its document ask for.
 
-use bt_text::{Bytes, Sequence};
+use bt_text::{Bytes, NameList, Sequence, Shared};
 
 /// A macro, and what it stands for.
 #[derive(Debug, Drop)]
@@ -22,11 +22,11 @@ pub struct Declared {
     pub macros: Sequence<Macro>,
 }
 
-/// What is cited. No two keys match.
-#[derive(Debug, Drop)]
+/// What is cited.
+#[derive(Drop)]
 pub struct Cites {
-    /// The keys, in the order of their citations.
-    pub keys: Sequence<Bytes>,
+    /// The keys, in the order of their citations. No two match.
+    pub keys: Shared<NameList>,
     /// How many of the keys stood before `*`; none where `*` isn't cited.
     pub star: Option<usize>,
 }

@@ -1,14 +1,13 @@
 //! Entries as they are read: which are stored, and as what.
 
 ghost use Rattle.std.specs.Prelude.{◌≡◌, ◌++◌, ◌∷◌, [], IfOk, IsTrue, OnOk};
-ghost use Rattle.bt_resolve.specs.ByName.{known};
+ghost use Rattle.bt_text.specs.ByName.{known};
 ghost use Rattle.bt_resolve.specs.Entries.{standing_of};
 ghost use Rattle.bt_resolve.specs.Messages.{key_messages, stored_messages, type_messages};
-ghost use Rattle.bt_resolve.specs.Names.{are_apart};
+ghost use Rattle.bt_text.specs.NameList.{are_apart};
 ghost use Rattle.bt_resolve.specs.Stored.{is_wanted, kind_of, stored_of, with_entry};
 
 use crate::asked::Asked;
-use crate::by_name::ByName;
 use crate::faults::repeated;
 use crate::fields::{Setting, read_fields};
 use crate::message::{Message, Place};
@@ -16,7 +15,7 @@ use crate::store::Store;
 use crate::stored::Stored;
 use crate::warnings::no_function;
 use bt_bib::Entry;
-use bt_text::{Bytes, Sequence, Shared, to_ascii_lowercase};
+use bt_text::{ByName, Bytes, Sequence, Shared, to_ascii_lowercase};
 use std::alloc::{AllocError, Global};
 
 /// The type of an entry, as written.

@@ -1,20 +1,20 @@
 //! What the fields of an entry give.
 
 ghost use Rattle.std.specs.Prelude.{◌≡◌, ◌++◌, [], Some, IfOk, IsTrue, OnOk, map};
-ghost use Rattle.bt_resolve.specs.ByName.{known};
+ghost use Rattle.bt_text.specs.ByName.{known};
 ghost use Rattle.bt_resolve.specs.Fields.{fields_messages};
-ghost use Rattle.bt_resolve.specs.Names.{are_apart, no_value};
+ghost use Rattle.bt_text.specs.ByName.{no_value};
+ghost use Rattle.bt_text.specs.NameList.{are_apart};
 ghost use Rattle.bt_resolve.specs.Slots.{extra_messages, fill, given_by, is_filled, slot_messages, slot_of, with_field};
 ghost use Rattle.bt_resolve.specs.Values.{field_value};
 
-use crate::by_name::ByName;
 use crate::index::Index;
 use crate::message::{Message, Place};
 use crate::stored::FieldValues;
 use crate::values::read_field_value;
 use crate::warnings::extra_field;
 use bt_bib::Field;
-use bt_text::{Bytes, Sequence, Shared, eq_ignore_ascii_case};
+use bt_text::{ByName, Bytes, Sequence, Shared, eq_ignore_ascii_case};
 use std::alloc::{AllocError, Global};
 
 /// The field that refers to another entry.

@@ -1,11 +1,10 @@
 //! Names with their places, which are found by hashing.
 
-ghost use Rattle.std.specs.Prelude.{◌≡◌, option_and_then, option_copied, slice_get, IfOk};
-ghost use Rattle.bt_resolve.specs.ByName.{known};
-ghost use Rattle.bt_resolve.specs.Names.{has_name, place_of_name};
+ghost use Rattle.std.specs.Prelude.{◌≡◌, IfOk};
+ghost use Rattle.bt_text.specs.ByName.{known};
+ghost use Rattle.bt_resolve.specs.Names.{place_of_name};
 
-use crate::by_name::ByName;
-use bt_text::Bytes;
+use bt_text::{ByName, Bytes};
 use std::alloc::{AllocError, Global};
 use std::marker::Model;
 
@@ -18,7 +17,7 @@ pub struct Index<'a> {
 
 impl<'a> Model for Index<'a> {
     ghost use Rattle.std.specs.Prelude.{◌≡◌, List, ℕ};
-    ghost use Rattle.bt_resolve.specs.ByName.{known};
+    ghost use Rattle.bt_text.specs.ByName.{known};
     ghost use Rattle.bt_resolve.specs.Names.{place_of_name};
 
     ghost Value = { List (List ℕ) };
@@ -55,24 +54,6 @@ impl<'a> Index<'a> {
         ensures { IfOk result (λ place. place ≡ place_of_name self.now name.now) }
     {
         Ok(self.places.get(alloc, name)?.copied())
-    }
-
-    /// Whether a name is among the names. The one error is want of memory.
-    pub fn has(&self, alloc: Global, name: &[u8]) -> Result<bool, AllocError>
-        ensures { IfOk result (λ among. among ≡ has_name self.now name.now) }
-    {
-        Ok(self.place(alloc, name)?.is_some())
-    }
-
-    /// The name that matches a name, if one does. The one error is want of memory.
-    pub fn find(&self, alloc: Global, name: &[u8]) -> Result<Option<&'a Bytes>, AllocError>
-        ensures { IfOk result (λ found. option_copied found
-            ≡ option_and_then (slice_get self.now) (place_of_name self.now name.now)) }
-    {
-        match self.place(alloc, name)? {
-            None => Ok(None),
-            Some(place) => Ok(self.names().get(place)),
-        }
     }
 
     /// The names in their order.

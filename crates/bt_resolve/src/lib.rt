@@ -3,7 +3,6 @@
 
 mod apart;
 mod asked;
-mod by_name;
 mod declared;
 mod entries;
 mod entry;

@@ -7,15 +7,14 @@ ghost use Rattle.bt_resolve.specs.Listed.{cited_places, firsts, is_among, is_cit
 
 use crate::asked::Asked;
 use crate::family::Family;
-use crate::index::Index;
-use bt_text::Bytes;
+use bt_text::{Bytes, NameList};
 use std::alloc::{AllocError, Global};
 use std::collections::HashSet;
 
 /// Whether the entry of a place is cited.
 pub fn is_cited_at(
     alloc: Global,
-    keys: &Index<'_>,
+    keys: &NameList,
     family: &Family,
     place: usize,
 ) -> Result<bool, AllocError>
@@ -63,7 +62,7 @@ fn parents(alloc: Global, family: &Family) -> Result<Vec<usize>, AllocError>
 /// Those of some places whose entries aren't cited.
 fn uncited(
     alloc: Global,
-    keys: &Index<'_>,
+    keys: &NameList,
     family: &Family,
     places: &[usize],
 ) -> Result<Vec<usize>, AllocError>
@@ -113,7 +112,7 @@ fn firsts(alloc: Global, places: &[usize]) -> Result<Vec<usize>, AllocError>
 /// The uncited entries that entries refer to, each once.
 fn uncited_parents(
     alloc: Global,
-    keys: &Index<'_>,
+    keys: &NameList,
     family: &Family,
 ) -> Result<Vec<usize>, AllocError>
     ensures { IfOk result (λ found. found.items ≡ uncited_parents keys.now family.now) }
@@ -173,7 +172,7 @@ pub fn listed(alloc: Global, asked: &Asked<'_>, family: &Family) -> Result<Vec<u
     requires { IfSome asked.now.star (λ before. before ≤ length asked.now.keys) }
     ensures { IfOk result (λ places. places.items ≡ listed asked.now family.now) }
 {
-    let keys = asked.keys.names();
+    let keys = asked.keys.as_slice();
     match asked.star {
         None => {
             let mut places = cited_places(alloc, keys, family)?;

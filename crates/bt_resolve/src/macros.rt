@@ -1,16 +1,15 @@
 //! What macros stand for, and the strings that define them.
 
 ghost use Rattle.std.specs.Prelude.{◌≡◌, ◌++◌, option_copied, IfOk, OnOk};
-ghost use Rattle.bt_resolve.specs.ByName.{known};
+ghost use Rattle.bt_text.specs.ByName.{known};
 ghost use Rattle.bt_resolve.specs.Macros.{faultless, style_macro, with_string};
 ghost use Rattle.bt_resolve.specs.Messages.{preamble_messages, preamble_value, string_messages};
 
-use crate::by_name::ByName;
 use crate::declared::Macro;
 use crate::message::{Message, Place};
 use crate::values::read_value;
 use bt_bib::{Definition, Item, Part};
-use bt_text::{Bytes, Sequence};
+use bt_text::{ByName, Bytes, Sequence};
 use std::alloc::{AllocError, Global};
 
 /// The macros of the style.

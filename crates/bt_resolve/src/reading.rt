@@ -2,7 +2,7 @@
 
 ghost use Rattle.std.specs.Prelude.{◌≡◌, ◌+◌, ◌∷◌, [], IfOk, IsTrue, map};
 ghost use Rattle.bt_bib.specs.Items.{items_of};
-ghost use Rattle.bt_resolve.specs.Names.{are_apart};
+ghost use Rattle.bt_text.specs.NameList.{are_apart};
 ghost use Rattle.bt_resolve.specs.Reading.{after_content, after_databases, after_item, after_items, nothing_read, state_of};
 
 use crate::asked::Asked;

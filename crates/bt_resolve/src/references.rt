@@ -8,11 +8,10 @@ ghost use Rattle.bt_resolve.specs.References.{bad_reference, crossref_messages, 
 
 use crate::asked::Asked;
 use crate::family::Family;
-use crate::index::Index;
 use crate::message::{Message, Rank};
 use crate::stored::Stored;
 use crate::warnings::around_quoted;
-use bt_text::{Bytes, Sequence, Shared};
+use bt_text::{Bytes, NameList, Sequence, Shared};
 use std::alloc::{AllocError, Global};
 
 /// An entry refers to a key that has none.
@@ -74,7 +73,7 @@ fn no_entry(alloc: Global, key: &[u8]) -> Result<Message, AllocError>
 /// A key as it is cited, else as in the database.
 pub fn spelled(
     alloc: Global,
-    keys: &Index<'_>,
+    keys: &NameList,
     key: &Shared<Bytes>,
 ) -> Result<Shared<Bytes>, AllocError>
     ensures { IfOk result (λ text. text ≡ spelled keys.now key.now) }
@@ -151,7 +150,7 @@ fn tell_crossref(
 /// Tells what is wrong with the reference of an entry.
 fn tell_entry(
     alloc: Global,
-    keys: &Index<'_>,
+    keys: &NameList,
     family: &Family,
     entry: Option<&Stored>,
     messages: &mut Sequence<Message>,
@@ -172,7 +171,7 @@ fn tell_entry(
 #[tactic(auto, unfolding(crate::specs::References::reference_messages))]
 fn tell_reference(
     alloc: Global,
-    keys: &Index<'_>,
+    keys: &NameList,
     family: &Family,
     place: usize,
     messages: &mut Sequence<Message>,
@@ -185,7 +184,7 @@ fn tell_reference(
 
 fn tell_references(
     alloc: Global,
-    keys: &Index<'_>,
+    keys: &NameList,
     family: &Family,
     places: &[usize],
     messages: &mut Sequence<Message>,
@@ -245,5 +244,5 @@ pub fn tell_list(
         ++ flat_map (missing_messages family.now) asked.now.keys) }
 {
     tell_references(alloc, &asked.keys, family, places, messages)?;
-    tell_all_missing(alloc, family, asked.keys.names(), messages)
+    tell_all_missing(alloc, family, asked.keys.as_slice(), messages)
 }

@@ -4,7 +4,7 @@ ghost use Rattle.std.specs.Prelude.{◌≡◌, ◌≤◌, ◌++◌, [], length, 
 ghost use Rattle.bt_bib.specs.Items.{items_of};
 ghost use Rattle.bt_resolve.specs.Inherited.{entries_seen};
 ghost use Rattle.bt_resolve.specs.Messages.{database_messages};
-ghost use Rattle.bt_resolve.specs.Names.{are_apart};
+ghost use Rattle.bt_text.specs.NameList.{are_apart};
 ghost use Rattle.bt_resolve.specs.References.{list_messages};
 ghost use Rattle.bt_resolve.specs.Resolved.{asked, preamble, resolved, resolved_by, stored_entries};
 
@@ -108,7 +108,7 @@ pub fn resolve(
     let asked = Asked {
         fields: Index::new(alloc, declared.fields.as_slice())?,
         types: Index::new(alloc, declared.types.as_slice())?,
-        keys: Index::new(alloc, cites.keys.as_slice())?,
+        keys: cites.keys.share()?,
         star: cites.star,
     };
     resolve_asked(alloc, &asked, declared.macros.as_slice(), databases, min)

@@ -1,9 +1,8 @@
 //! What was read of the databases so far.
 
-use crate::by_name::ByName;
 use crate::message::Message;
 use crate::store::Store;
-use bt_text::{Bytes, Sequence};
+use bt_text::{ByName, Bytes, Sequence};
 
 /// What was read so far.
 #[derive(Drop)]

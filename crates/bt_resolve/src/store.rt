@@ -1,14 +1,13 @@
 //! The entries that are stored, with what is looked up in them.
 
 ghost use Rattle.std.specs.Prelude.{◌≡◌, ◌++◌, ◌∷◌, [], false, IfOk, OnOk};
-ghost use Rattle.bt_resolve.specs.ByName.{known};
+ghost use Rattle.bt_text.specs.ByName.{known};
 ghost use Rattle.bt_resolve.specs.Listed.{place_of_key};
 ghost use Rattle.bt_resolve.specs.Store.{with_reference};
 ghost use Rattle.bt_resolve.specs.Stored.{is_referred_to, is_stored};
 
-use crate::by_name::ByName;
 use crate::stored::Stored;
-use bt_text::Sequence;
+use bt_text::ByName;
 use std::alloc::{AllocError, Global};
 use std::marker::Model;
 
@@ -16,8 +15,9 @@ use std::marker::Model;
 /// whether an entry refers to a key, by hashing.
 #[derive(Drop)]
 pub struct Store {
-    entries: Sequence<Stored>,
-    places: ByName<usize>,
+    /// The entries by their keys.
+    entries: ByName<Stored>,
+    /// The keys that entries refer to.
     referred: ByName<()>,
 }
 
@@ -27,11 +27,11 @@ impl Model for Store {
 
     ghost Value = { List Stored };
 
-    ghost use Rattle.bt_resolve.specs.Store.{IsIndexed};
+    ghost use Rattle.bt_resolve.specs.Store.{IsIndexed, stored_in};
 
-    ghost view = { λ store. store.entries };
+    ghost view = { λ store. stored_in store.entries };
 
-    ghost invariant = { λ store. IsIndexed store.entries store.places store.referred };
+    ghost invariant = { λ store. IsIndexed store.entries store.referred };
 }
 
 impl Store {
@@ -40,8 +40,7 @@ impl Store {
         ensures { result ≡ [] }
     {
         Store {
-            entries: Sequence::new(alloc),
-            places: ByName::new(alloc),
+            entries: ByName::new(alloc),
             referred: ByName::new(alloc),
         }
     }
@@ -50,21 +49,21 @@ impl Store {
     pub fn entries(&self) -> &[Stored]
         ensures { result.now ≡ self.now }
     {
-        self.entries.as_slice()
+        self.entries.values()
     }
 
     /// The place of the entry of a key. The one error is want of memory.
     pub fn place(&self, alloc: Global, key: &[u8]) -> Result<Option<usize>, AllocError>
         ensures { IfOk result (λ place. place ≡ place_of_key self.now key.now) }
     {
-        Ok(self.places.get(alloc, key)?.copied())
+        self.entries.place(alloc, key)
     }
 
     /// Whether a key has an entry. The one error is want of memory.
     pub fn has(&self, alloc: Global, key: &[u8]) -> Result<bool, AllocError>
         ensures { IfOk result (λ stored. stored ≡ is_stored self.now key.now) }
     {
-        Ok(self.place(alloc, key)?.is_some())
+        self.entries.has(alloc, key)
     }
 
     /// Whether an entry refers to a key. The one error is want of memory.
@@ -81,29 +80,12 @@ impl Store {
     {
         let Store {
             mut entries,
-            mut places,
             mut referred,
         } = self;
-        places.insert(alloc, entry.key.as_slice(), entries.len())?;
         refer_to(alloc, &mut referred, &entry)?;
-        entries.push(entry)?;
-        Ok(Store {
-            entries,
-            places,
-            referred,
-        })
-    }
-
-    /// The entries, taken out.
-    pub fn into_entries(self) -> Sequence<Stored>
-        ensures { result ≡ self }
-    {
-        let Store {
-            entries,
-            places: _,
-            referred: _,
-        } = self;
-        entries
+        let key = entry.key.share()?;
+        entries.insert(alloc, key.as_slice(), entry)?;
+        Ok(Store { entries, referred })
     }
 }
 

@@ -2,7 +2,7 @@
 
 use crate::{Cites, Declared, Entry, Macro, Message, Rank, Resolved, are_apart, resolve};
 use bt_bib::read_bib;
-use bt_text::{Bytes, Sequence};
+use bt_text::{Bytes, NameList, Sequence, Shared};
 use std::alloc::{AllocError, Global};
 use std::test::Fail;
 
@@ -103,16 +103,17 @@ pub fn resolved(
     min: u32,
 ) -> Result<Bytes, AllocError> {
     let declared = style(alloc)?;
-    let mut keys = Sequence::new(alloc);
+    let mut keys = NameList::new(alloc);
     let mut star = None;
     for key in cited {
         if *key == "*" {
-            star = Some(keys.len());
-        } else {
-            keys.push(Bytes::copied(alloc, key.as_bytes())?)?;
+            star = Some(keys.as_slice().len());
+        } else if keys.find(alloc, key.as_bytes())?.is_none() {
+            keys.push(alloc, key.as_bytes())?;
         }
     }
-    let star = star.filter(|before| *before <= keys.len());
+    let star = star.filter(|before| *before <= keys.as_slice().len());
+    let keys = Shared::new(alloc, keys)?;
     let cites = Cites { keys, star };
     let first = read_bib(alloc, first.as_bytes())?;
     let second = read_bib(alloc, second.as_bytes())?;

@@ -2,14 +2,13 @@
 
 ghost use Rattle.std.specs.Prelude.{◌≡◌, ◌++◌, [], ◌∷◌, Some, None, option_copied, option_and_then, unwrap_or, IfOk, OnOk};
 ghost use Rattle.std.specs.List.{flat_map};
-ghost use Rattle.bt_resolve.specs.ByName.{known};
+ghost use Rattle.bt_text.specs.ByName.{known};
 ghost use Rattle.bt_resolve.specs.Values.{field_value, finished, is_named, joined_parts, length_warnings, macro_warnings, others, part_text, part_warnings, value, value_warnings, with_part, within_limit, without_first_space, without_last_space};
 
-use crate::by_name::ByName;
 use crate::message::{Message, Place};
 use crate::warnings::{own_macro, too_long, undefined_macro};
 use bt_bib::Part;
-use bt_text::{Bytes, Sequence, Shared, eq_ignore_ascii_case, join_white};
+use bt_text::{ByName, Bytes, Sequence, Shared, eq_ignore_ascii_case, join_white};
 use std::alloc::{AllocError, Global};
 
 /// How many bytes the parts of a value may have together.

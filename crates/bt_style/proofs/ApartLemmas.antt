@@ -28,7 +28,7 @@ use Rattle.bt_style.specs.Arguments.{open_at, braced_word, literal_at, close_at}
 use Rattle.bt_style.specs.Bodies.{body_at}
 use Rattle.bt_style.specs.Commands.{run_target, run_at, variables_at, arguments_at, command_at}
 use Rattle.bt_style.specs.Reader.{command_word, commands_at, reading, style_of}
-use Rattle.bt_style.specs.Apart.{has_name, are_apart}
+use Rattle.bt_text.specs.NameList.{has_name, are_apart}
 use Rattle.bt_style.proofs.NameLemmas.{none_behind, none_of, slot_none}
 use Rattle.bt_style.proofs.SpelledLemmas.{bind_ok, ok_same}
 

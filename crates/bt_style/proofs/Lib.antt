@@ -3,6 +3,7 @@ pub mod DecimalLemmas
 pub mod BodyLemmas
 pub mod CommandLemmas
 pub mod NameLemmas
+mod BuiltinLemmas
 pub mod SpelledLemmas
 pub mod ApartLemmas
 pub mod ReadBackLemmas

@@ -1,8 +1,8 @@
 -- What names stand for once one more is declared.
 use Rattle.std.proofs.Common.{◌≤◌, ◌<◌, drop, get_or, drop-cons, arith, ◌≡◌, ◌∙◌, ap, sym, refl, subst, ℕ, suc, Bool, true, false, cond, List, [], ◌∷◌, ◌++◌, map, length, Option, Some, None, inl, inr}
-use Rattle.std.specs.Prelude.{bytes_eq, if◌then◌else◌, Vec}
-use Rattle.std.specs.declared.alloc.Global.{Global}
-use Rattle.std.specs.HashMap.{HashMap}
+use Rattle.std.specs.Prelude.{bytes_eq, if◌then◌else◌}
+use Rattle.bt_text.specs.declared.by_name.ByName.{ByName}
+use Rattle.bt_text.specs.ByName.{at_small, listed}
 use Rattle.std.specs.Map.{lookup}
 use Rattle.std.specs.Option.{option_map}
 use Rattle.std.specs.Cmp.Lexicographic.{bytes_decides}
@@ -18,7 +18,7 @@ use Rattle.bt_style.specs.declared.names.Names.TheVariants.{Fields, EntryNumbers
 use Rattle.bt_style.specs.Tree.{Body}
 use Rattle.bt_style.specs.Builtins.{Row, name_of}
 use Rattle.bt_style.specs.Program.{Program, Definition}
-use Rattle.bt_style.specs.Names.{at_key, Holds, row_of, builtin_among, builtin_named, place_in, first_some, meaning, macro_named, function_names, macro_names}
+use Rattle.bt_style.specs.Names.{Holds, row_of, builtin_among, builtin_named, place_in, first_some, meaning, macro_named, function_names, macro_names}
 use Rattle.bt_style.specs.Draft.{bare, with_name, next_target, with_macro, with_function}
 
 -- one more built-in function in front of others
@@ -150,44 +150,44 @@ macro_defined name text q p h =
           ∙ sym (cond-false (bytes_eq name q) (Some (length p.macros)) (place_in (macro_names p) q) n)
     ]
 
--- a map that holds what names stand for, once a free name is declared
-pub holds_declared : {S : Type 0} (old roomed new : HashMap (Vec ℕ Global) Target S) (names : Names) (name : List ℕ) (p after : Program) (bytes : List ℕ) (value : Target) →
-    Holds old (meaning p) → ((key : Vec ℕ Global) → at_key roomed key ≡ at_key old key) → meaning p name ≡ None → after ≡ with_name names name p →
+-- a table that holds what names stand for, once a free name is declared
+pub holds_declared : (old roomed new : ByName Target) (names : Names) (name : List ℕ) (p after : Program) (bytes : List ℕ) (value : Target) →
+    Holds old (meaning p) → ((key : List ℕ) → at_small roomed key ≡ at_small old key) → meaning p name ≡ None → after ≡ with_name names name p →
     bytes ≡ name → value ≡ next_target names p →
-    ((key : Vec ℕ Global) → at_key new key ≡ (if bytes_eq bytes key.items then Some value else at_key roomed key)) → Holds new (meaning after)
+    ((key : List ℕ) → at_small new key ≡ (if bytes_eq bytes key then Some value else at_small roomed key)) → Holds new (meaning after)
 holds_declared old roomed new names name p after bytes value holds room free is named stands put key =
     put key
-    ∙ ap (λ (b : List ℕ). cond (bytes_eq b key.items) (Some value) (at_key roomed key)) named
-    ∙ ap (λ (v : Target). cond (bytes_eq name key.items) (Some v) (at_key roomed key)) stands
-    ∙ ap (λ (o : Option Target). cond (bytes_eq name key.items) (Some (next_target names p)) o) (room key ∙ holds key)
-    ∙ sym (meaning_declared names name key.items p free)
-    ∙ ap (λ (q : Program). meaning q key.items) (sym is)
+    ∙ ap (λ (b : List ℕ). cond (bytes_eq b key) (Some value) (at_small roomed key)) named
+    ∙ ap (λ (v : Target). cond (bytes_eq name key) (Some v) (at_small roomed key)) stands
+    ∙ ap (λ (o : Option Target). cond (bytes_eq name key) (Some (next_target names p)) o) (room key ∙ holds key)
+    ∙ sym (meaning_declared names name key p free)
+    ∙ ap (λ (q : Program). meaning q key) (sym is)
 
 -- the same of a function
-pub holds_defined : {S : Type 0} (old roomed new : HashMap (Vec ℕ Global) Target S) (name : List ℕ) (body : Body) (p after : Program) (bytes : List ℕ) (value : Target) →
-    Holds old (meaning p) → ((key : Vec ℕ Global) → at_key roomed key ≡ at_key old key) → meaning p name ≡ None → after ≡ with_function name body p →
+pub holds_defined : (old roomed new : ByName Target) (name : List ℕ) (body : Body) (p after : Program) (bytes : List ℕ) (value : Target) →
+    Holds old (meaning p) → ((key : List ℕ) → at_small roomed key ≡ at_small old key) → meaning p name ≡ None → after ≡ with_function name body p →
     bytes ≡ name → value ≡ targets.Function (length p.functions) →
-    ((key : Vec ℕ Global) → at_key new key ≡ (if bytes_eq bytes key.items then Some value else at_key roomed key)) → Holds new (meaning after)
+    ((key : List ℕ) → at_small new key ≡ (if bytes_eq bytes key then Some value else at_small roomed key)) → Holds new (meaning after)
 holds_defined old roomed new name body p after bytes value holds room free is named stands put key =
     put key
-    ∙ ap (λ (b : List ℕ). cond (bytes_eq b key.items) (Some value) (at_key roomed key)) named
-    ∙ ap (λ (v : Target). cond (bytes_eq name key.items) (Some v) (at_key roomed key)) stands
-    ∙ ap (λ (o : Option Target). cond (bytes_eq name key.items) (Some (targets.Function (length p.functions))) o) (room key ∙ holds key)
-    ∙ sym (meaning_defined name key.items body p free)
-    ∙ ap (λ (q : Program). meaning q key.items) (sym is)
+    ∙ ap (λ (b : List ℕ). cond (bytes_eq b key) (Some value) (at_small roomed key)) named
+    ∙ ap (λ (v : Target). cond (bytes_eq name key) (Some v) (at_small roomed key)) stands
+    ∙ ap (λ (o : Option Target). cond (bytes_eq name key) (Some (targets.Function (length p.functions))) o) (room key ∙ holds key)
+    ∙ sym (meaning_defined name key body p free)
+    ∙ ap (λ (q : Program). meaning q key) (sym is)
 
 -- the same of a macro
-pub holds_macro : {S : Type 0} (old roomed new : HashMap (Vec ℕ Global) ℕ S) (name text : List ℕ) (p after : Program) (bytes : List ℕ) (value : ℕ) →
-    Holds old (macro_named p) → ((key : Vec ℕ Global) → at_key roomed key ≡ at_key old key) → macro_named p name ≡ None → after ≡ with_macro name text p →
+pub holds_macro : (old roomed new : ByName ℕ) (name text : List ℕ) (p after : Program) (bytes : List ℕ) (value : ℕ) →
+    Holds old (macro_named p) → ((key : List ℕ) → at_small roomed key ≡ at_small old key) → macro_named p name ≡ None → after ≡ with_macro name text p →
     bytes ≡ name → value ≡ length p.macros →
-    ((key : Vec ℕ Global) → at_key new key ≡ (if bytes_eq bytes key.items then Some value else at_key roomed key)) → Holds new (macro_named after)
+    ((key : List ℕ) → at_small new key ≡ (if bytes_eq bytes key then Some value else at_small roomed key)) → Holds new (macro_named after)
 holds_macro old roomed new name text p after bytes value holds room free is named stands put key =
     put key
-    ∙ ap (λ (b : List ℕ). cond (bytes_eq b key.items) (Some value) (at_key roomed key)) named
-    ∙ ap (λ (v : ℕ). cond (bytes_eq name key.items) (Some v) (at_key roomed key)) stands
-    ∙ ap (λ (o : Option ℕ). cond (bytes_eq name key.items) (Some (length p.macros)) o) (room key ∙ holds key)
-    ∙ sym (macro_defined name text key.items p free)
-    ∙ ap (λ (q : Program). macro_named q key.items) (sym is)
+    ∙ ap (λ (b : List ℕ). cond (bytes_eq b key) (Some value) (at_small roomed key)) named
+    ∙ ap (λ (v : ℕ). cond (bytes_eq name key) (Some v) (at_small roomed key)) stands
+    ∙ ap (λ (o : Option ℕ). cond (bytes_eq name key) (Some (length p.macros)) o) (room key ∙ holds key)
+    ∙ sym (macro_defined name text key p free)
+    ∙ ap (λ (q : Program). macro_named q key) (sym is)
 
 -- macros and names are apart
 macro_named-with_name : (names : Names) (name q : List ℕ) (p : Program) → macro_named (with_name names name p) q ≡ macro_named p q
@@ -198,41 +198,41 @@ macro_named-with_name EntryTexts name q p = refl
 macro_named-with_name GlobalNumbers name q p = refl
 macro_named-with_name GlobalTexts name q p = refl
 
-pub macros_stay_declared : {S : Type 0} (m : HashMap (Vec ℕ Global) ℕ S) (names : Names) (name : List ℕ) (p after : Program) → Holds m (macro_named p) → after ≡ with_name names name p → Holds m (macro_named after)
+pub macros_stay_declared : (m : ByName ℕ) (names : Names) (name : List ℕ) (p after : Program) → Holds m (macro_named p) → after ≡ with_name names name p → Holds m (macro_named after)
 macros_stay_declared m names name p after holds is key =
-    holds key ∙ sym (macro_named-with_name names name key.items p) ∙ ap (λ (q : Program). macro_named q key.items) (sym is)
+    holds key ∙ sym (macro_named-with_name names name key p) ∙ ap (λ (q : Program). macro_named q key) (sym is)
 
-pub macros_stay_defined : {S : Type 0} (m : HashMap (Vec ℕ Global) ℕ S) (name : List ℕ) (body : Body) (p after : Program) → Holds m (macro_named p) → after ≡ with_function name body p → Holds m (macro_named after)
+pub macros_stay_defined : (m : ByName ℕ) (name : List ℕ) (body : Body) (p after : Program) → Holds m (macro_named p) → after ≡ with_function name body p → Holds m (macro_named after)
 unfolding macro_named
 macros_stay_defined m name body p after holds is key =
-    holds key ∙ ap (λ (q : Program). macro_named q key.items) (sym is)
+    holds key ∙ ap (λ (q : Program). macro_named q key) (sym is)
 
-pub names_stay : {S : Type 0} (m : HashMap (Vec ℕ Global) Target S) (name text : List ℕ) (p after : Program) → Holds m (meaning p) → after ≡ with_macro name text p → Holds m (meaning after)
+pub names_stay : (m : ByName Target) (name text : List ℕ) (p after : Program) → Holds m (meaning p) → after ≡ with_macro name text p → Holds m (meaning after)
 unfolding meaning
 names_stay m name text p after holds is key =
-    holds key ∙ ap (λ (q : Program). meaning q key.items) (sym is)
+    holds key ∙ ap (λ (q : Program). meaning q key) (sym is)
 
 -- where nothing is declared, a name stands for a built-in function or for nothing
 pub meaning-bare : (q : List ℕ) → meaning bare q ≡ option_map targets.Builtin (builtin_named q)
 unfolding meaning
 meaning-bare q = elim (builtin_named q) as (λ o. first_some (option_map targets.Builtin o ∷ None ∷ None ∷ None ∷ None ∷ None ∷ None ∷ []) ≡ option_map targets.Builtin o) [ None ↦ refl | Some b ↦ refl ]
 
-pub holds_builtins : {S : Type 0} (m : HashMap (Vec ℕ Global) Target S) (p : Program) → Holds m (λ name. option_map targets.Builtin (builtin_named name)) → p ≡ bare → Holds m (meaning p)
-holds_builtins m p holds is key = holds key ∙ sym (meaning-bare key.items) ∙ ap (λ (q : Program). meaning q key.items) (sym is)
+pub holds_builtins : (m : ByName Target) (p : Program) → Holds m (λ name. option_map targets.Builtin (builtin_named name)) → p ≡ bare → Holds m (meaning p)
+holds_builtins m p holds is key = holds key ∙ sym (meaning-bare key) ∙ ap (λ (q : Program). meaning q key) (sym is)
 
-pub holds_no_macro : {S : Type 0} (m : HashMap (Vec ℕ Global) ℕ S) (p : Program) → m.entries ≡ [] → p ≡ bare → Holds m (macro_named p)
+pub holds_no_macro : (m : ByName ℕ) (p : Program) → listed m ≡ [] → p ≡ bare → Holds m (macro_named p)
 unfolding macro_named
 holds_no_macro m p none is key =
-    ap (λ (es : List (Vec ℕ Global × ℕ)). lookup (λ k. bytes_eq key.items k.items) es) none
-    ∙ ap (λ (q : Program). macro_named q key.items) (sym is)
+    ap (λ (es : List (List ℕ × ℕ)). lookup (bytes_eq key) es) none
+    ∙ ap (λ (q : Program). macro_named q key) (sym is)
 
 -- the built-in functions from one more place on
-pub holds_from : {S : Type 0} (old new : HashMap (Vec ℕ Global) Target S) (bs : List Builtin) (n left : ℕ) → left ≡ suc n → left ≤ length bs →
+pub holds_from : (old new : ByName Target) (bs : List Builtin) (n left : ℕ) → left ≡ suc n → left ≤ length bs →
     Holds old (λ name. option_map targets.Builtin (builtin_among (map row_of (drop left bs)) name)) →
-    ((key : Vec ℕ Global) → at_key new key ≡ (if bytes_eq (name_of (get_or bs n Greater)) key.items then Some (targets.Builtin (get_or bs n Greater)) else at_key old key)) →
+    ((key : List ℕ) → at_small new key ≡ (if bytes_eq (name_of (get_or bs n Greater)) key then Some (targets.Builtin (get_or bs n Greater)) else at_small old key)) →
     Holds new (λ name. option_map targets.Builtin (builtin_among (map row_of (drop n bs)) name))
 holds_from old new bs n left e within holds put key =
     let below : n < length bs = omega arith in
-    let here : at_key old key ≡ option_map targets.Builtin (builtin_among (map row_of (drop (suc n) bs)) key.items) = rw (← e) (holds key) in
+    let here : at_small old key ≡ option_map targets.Builtin (builtin_among (map row_of (drop (suc n) bs)) key) = rw (← e) (holds key) in
     rw (drop-cons bs n Greater)
-    (put key ∙ builtin_more (get_or bs n Greater) (map row_of (drop (suc n) bs)) key.items (at_key old key) here)
+    (put key ∙ builtin_more (get_or bs n Greater) (map row_of (drop (suc n) bs)) key (at_small old key) here)

@@ -1,8 +1,8 @@
 -- What names stand for.
-use Rattle.std.specs.Prelude.{◌≡◌, ℕ, suc, Bool, if◌then◌else◌, List, [], ◌∷◌, map, Option, Some, None, is_some, bytes_eq, Vec}
-use Rattle.std.specs.declared.alloc.Global.{Global}
+use Rattle.std.specs.Prelude.{◌≡◌, ℕ, suc, Bool, if◌then◌else◌, List, [], ◌∷◌, map, Option, Some, None, is_some, bytes_eq}
 use Rattle.std.specs.Option.{option_map}
-use Rattle.std.specs.HashMap.{HashMap, get_by}
+use Rattle.bt_text.specs.declared.by_name.ByName.{ByName}
+use Rattle.bt_text.specs.ByName.{at_small}
 use Rattle.bt_style.specs.declared.builtin.Builtin.{Builtin}
 use Rattle.bt_style.specs.declared.style.Target.{Target}
 use Rattle.bt_style.specs.declared.style.Target.TheVariants as targets
@@ -63,10 +63,6 @@ macro_named p name = place_in (macro_names p) name
 abbrev pub is_macro : Program → List ℕ → Bool
 is_macro p name = is_some (macro_named p name)
 
--- what a hashed map has at a key
-abbrev pub at_key : {X S : Type 0} → HashMap (Vec ℕ Global) X S → Vec ℕ Global → Option X
-at_key m key = get_by (λ k. bytes_eq key.items k.items) m
-
--- a hashed map has at each name what a function gives
-abbrev pub Holds : {X S : Type 0} → HashMap (Vec ℕ Global) X S → (List ℕ → Option X) → Type 0
-Holds m f = (key : Vec ℕ Global) → at_key m key ≡ f key.items
+-- a table has at each name in small letters what a function gives
+abbrev pub Holds : {X : Type 0} → ByName X → (List ℕ → Option X) → Type 0
+Holds table f = (name : List ℕ) → at_small table name ≡ f name

@@ -87,50 +87,53 @@ pub enum Builtin {
 }
 
 impl Builtin {
+    /// All of them, in the order of their table.
+    pub const ALL: [Builtin; BUILTIN_COUNT] = [
+        Builtin::Greater,
+        Builtin::Less,
+        Builtin::Equals,
+        Builtin::Plus,
+        Builtin::Minus,
+        Builtin::Join,
+        Builtin::Assign,
+        Builtin::AddPeriod,
+        Builtin::CallType,
+        Builtin::ChangeCase,
+        Builtin::ChrToInt,
+        Builtin::Cite,
+        Builtin::Duplicate,
+        Builtin::Empty,
+        Builtin::FormatName,
+        Builtin::If,
+        Builtin::IntToChr,
+        Builtin::IntToStr,
+        Builtin::Missing,
+        Builtin::Newline,
+        Builtin::NumNames,
+        Builtin::Pop,
+        Builtin::Preamble,
+        Builtin::Purify,
+        Builtin::Quote,
+        Builtin::Skip,
+        Builtin::Stack,
+        Builtin::Substring,
+        Builtin::Swap,
+        Builtin::TextLength,
+        Builtin::TextPrefix,
+        Builtin::Top,
+        Builtin::Type,
+        Builtin::Warning,
+        Builtin::While,
+        Builtin::Width,
+        Builtin::Write,
+    ];
+
     /// The function's place in the table, from 0.
     pub fn place(self) -> usize
         ensures value { result ≡ place_of self }
         ensures within { result < 37 }
     {
-        match self {
-            Builtin::Greater => 0,
-            Builtin::Less => 1,
-            Builtin::Equals => 2,
-            Builtin::Plus => 3,
-            Builtin::Minus => 4,
-            Builtin::Join => 5,
-            Builtin::Assign => 6,
-            Builtin::AddPeriod => 7,
-            Builtin::CallType => 8,
-            Builtin::ChangeCase => 9,
-            Builtin::ChrToInt => 10,
-            Builtin::Cite => 11,
-            Builtin::Duplicate => 12,
-            Builtin::Empty => 13,
-            Builtin::FormatName => 14,
-            Builtin::If => 15,
-            Builtin::IntToChr => 16,
-            Builtin::IntToStr => 17,
-            Builtin::Missing => 18,
-            Builtin::Newline => 19,
-            Builtin::NumNames => 20,
-            Builtin::Pop => 21,
-            Builtin::Preamble => 22,
-            Builtin::Purify => 23,
-            Builtin::Quote => 24,
-            Builtin::Skip => 25,
-            Builtin::Stack => 26,
-            Builtin::Substring => 27,
-            Builtin::Swap => 28,
-            Builtin::TextLength => 29,
-            Builtin::TextPrefix => 30,
-            Builtin::Top => 31,
-            Builtin::Type => 32,
-            Builtin::Warning => 33,
-            Builtin::While => 34,
-            Builtin::Width => 35,
-            Builtin::Write => 36,
-        }
+        self as usize
     }
 
     /// The function's name.

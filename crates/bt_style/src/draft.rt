@@ -1,4 +1,4 @@
-//! A style while it is read, with its names in hashed maps.
+//! A style while it is read, with its names in hashed tables.
 
 ghost use Rattle.std.specs.Prelude.{◌≡◌, ◌≤◌, None, IfOk, OnOk, OnErr, length, is_some};
 ghost use Rattle.bt_style.specs.Program.{program_of};
@@ -6,19 +6,18 @@ ghost use Rattle.bt_style.specs.Tree.{ops_body};
 ghost use Rattle.bt_style.specs.Names.{meaning, macro_named, is_macro};
 ghost use Rattle.bt_style.specs.Draft.{bare, with_name, next_target, with_macro, with_function, with_command};
 
-use crate::names::{Names, builtins, make_room, put};
+use crate::names::{Names, builtins};
 use crate::style::{Action, Command, Function, Macro, Op, Style, Target};
-use bt_text::{Bytes, Sequence};
+use bt_text::{ByName, Bytes, Sequence};
 use std::alloc::{AllocError, Global};
-use std::collections::HashMap;
 use std::marker::Model;
 
 /// A style while it is read. Contracts see the style.
 #[derive(Drop)]
 pub struct Draft {
     style: Style,
-    targets: HashMap<Vec<u8>, Target>,
-    macros: HashMap<Vec<u8>, usize>,
+    targets: ByName<Target>,
+    macros: ByName<usize>,
 }
 
 impl Model for Draft {
@@ -115,7 +114,7 @@ impl Draft {
         Ok(Draft {
             style: bare_style(alloc),
             targets: builtins(alloc)?,
-            macros: HashMap::new(alloc),
+            macros: ByName::new(alloc),
         })
     }
 
@@ -123,14 +122,14 @@ impl Draft {
     pub fn meaning(&self, name: &Vec<u8>) -> Option<Target>
         ensures { result ≡ meaning (program_of self.now) name.now.items }
     {
-        self.targets.get(name).copied()
+        self.targets.get_small(name.as_slice()).copied()
     }
 
     /// Whether there is a macro of a name in small letters.
     pub fn has_macro(&self, name: &Vec<u8>) -> bool
         ensures { result ≡ is_macro (program_of self.now) name.now.items }
     {
-        self.macros.get(name).is_some()
+        self.macros.get_small(name.as_slice()).is_some()
     }
 
     /// How many functions there are.
@@ -154,9 +153,9 @@ impl Draft {
     {
         let key = Vec::from_slice(alloc, name.as_slice())?;
         let target = next_target(&self.style, names);
-        make_room(&mut self.targets)?;
+        self.targets.make_room()?;
         push_name(&mut self.style, names, name)?;
-        put(&mut self.targets, key, target);
+        self.targets.put(key, target);
         Ok(())
     }
 
@@ -167,9 +166,9 @@ impl Draft {
     {
         let key = Vec::from_slice(alloc, name.as_slice())?;
         let place = self.style.macros.len();
-        make_room(&mut self.macros)?;
+        self.macros.make_room()?;
         push_macro(&mut self.style, name, text)?;
-        put(&mut self.macros, key, place);
+        self.macros.put(key, place);
         Ok(())
     }
 
@@ -185,9 +184,9 @@ impl Draft {
     {
         let key = Vec::from_slice(alloc, name.as_slice())?;
         let target = next_function(&self.style);
-        make_room(&mut self.targets)?;
+        self.targets.make_room()?;
         push_function(&mut self.style, name, body)?;
-        put(&mut self.targets, key, target);
+        self.targets.put(key, target);
         Ok(())
     }
 

@@ -6,6 +6,7 @@ ghost use Rattle.bt_style.specs.Tree.{Body};
 ghost use Rattle.bt_style.specs.Token.{Tokens};
 ghost use Rattle.bt_style.specs.Bodies.{body_at};
 ghost use Rattle.bt_style.specs.Apart.{FieldsAreApart};
+ghost use Rattle.bt_style.specs.Builtins.{StandInTheirPlaces};
 ghost use Rattle.bt_style.specs.Spelled.{SpellsBody, depth_of};
 
 /// The body that is read from tokens is one that they spell, by the grammar of bodies.
@@ -21,4 +22,9 @@ pub fn spelled_bodies_are_read()
 /// No two fields of a style that a text spells match, without regard to case.
 pub fn fields_are_apart()
     ensures { FieldsAreApart }
+{}
+
+/// Each function that needs no definition stands in the table at its place, with its name.
+pub fn builtins_stand_in_their_places()
+    ensures { StandInTheirPlaces }
 {}

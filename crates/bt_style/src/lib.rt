@@ -21,7 +21,9 @@ mod verbs;
 
 pub use builtin::{BUILTIN_COUNT, Builtin};
 pub use fault::{Fault, FaultKind, StyleRefusal};
-pub use laws::{bodies_are_spelled, fields_are_apart, spelled_bodies_are_read};
+pub use laws::{
+    bodies_are_spelled, builtins_stand_in_their_places, fields_are_apart, spelled_bodies_are_read,
+};
 pub use reach::Reach;
 pub use reader::read_style;
 pub use style::{Action, Command, Function, Macro, Op, Style, Target};

@@ -10,3 +10,4 @@ pub mod TitlePlaceLemmas
 pub mod WidthsLemmas
 pub mod BreakingLemmas
 pub mod HeldLemmas
+pub mod NameLemmas

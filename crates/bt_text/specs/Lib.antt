@@ -13,6 +13,8 @@ pub mod Purifying
 pub mod Widths
 pub mod White
 pub mod Folding
+pub mod ByName
+pub mod NameList
 pub mod NameBytes
 pub mod Breaking
 pub mod Held

@@ -4,6 +4,7 @@
 
 mod blocks;
 mod breaking;
+mod by_name;
 mod byte_tests;
 mod bytes;
 mod casing;
@@ -16,6 +17,7 @@ mod laws;
 mod length;
 mod modes;
 mod name_bytes;
+mod name_list;
 mod output;
 mod period;
 mod purifying;
@@ -27,6 +29,7 @@ mod white;
 mod widths;
 
 pub use blocks::{begins_special, block_len};
+pub use by_name::ByName;
 pub use byte_tests::{class, is_digit, is_letter, is_separator, is_white};
 pub use bytes::Bytes;
 pub use casing::change_case;
@@ -39,6 +42,7 @@ pub use laws::pieces_make_up_the_text;
 pub use length::text_length;
 pub use modes::Mode;
 pub use name_bytes::{is_name, is_name_byte, name_len};
+pub use name_list::NameList;
 pub use period::add_period;
 pub use purifying::purify;
 pub use sequence::Sequence;
@@ -49,6 +53,8 @@ pub use widths::width;
 
 #[cfg(test)]
 mod line_tests;
+#[cfg(test)]
+mod name_tests;
 #[cfg(test)]
 mod tests;
 #[cfg(test)]

@@ -1,6 +1,7 @@
 use Rattle.std.proofs.Common.{◌≡◌, ◌-◌, true, drop}
-use Rattle.bt_resolve.specs.Names.{are_apart, places_from}
-use Rattle.bt_resolve.specs.ByName.{known}
+use Rattle.bt_text.specs.NameList.{are_apart}
+use Rattle.bt_resolve.specs.Names.{places_from}
+use Rattle.bt_text.specs.ByName.{known}
 use Rattle.bt_resolve.proofs.apart.are_apart.Given as goal
 
 abbrev pub invariant-names : goal.invariant-names

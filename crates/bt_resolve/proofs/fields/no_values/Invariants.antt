@@ -1,5 +1,5 @@
 use Rattle.std.proofs.Common.{◌≡◌, map, take}
-use Rattle.bt_resolve.specs.Names.{no_value}
+use Rattle.bt_text.specs.ByName.{no_value}
 use Rattle.bt_resolve.proofs.fields.no_values.Given as goal
 
 abbrev pub invariant-names : goal.invariant-names

@@ -1,8 +1,8 @@
 use Rattle.std.proofs.Common.{refl, ◌∙◌, ap, ℕ, List, map, ◌++◌, ◌+◌, take, drop}
 use Rattle.bt_resolve.specs.declared.message.Message.{Message}
-use Rattle.bt_resolve.specs.ByName.{known}
+use Rattle.bt_text.specs.ByName.{known}
 use Rattle.bt_resolve.specs.Fields.{fields_messages}
-use Rattle.bt_resolve.specs.Names.{no_value}
+use Rattle.bt_text.specs.ByName.{no_value}
 use Rattle.bt_resolve.proofs.FieldLemmas.{fields_next, told_next, nothing_given}
 use Rattle.bt_resolve.proofs.fields.read_fields.Goals as goal
 

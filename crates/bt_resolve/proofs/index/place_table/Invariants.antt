@@ -1,6 +1,6 @@
 use Rattle.std.proofs.Common.{◌≡◌, ◌-◌}
 use Rattle.bt_resolve.specs.Names.{places_from}
-use Rattle.bt_resolve.specs.ByName.{known}
+use Rattle.bt_text.specs.ByName.{known}
 use Rattle.bt_resolve.proofs.index.place_table.Given as goal
 
 abbrev pub invariant-names : goal.invariant-names

@@ -1,5 +1,5 @@
 use Rattle.std.proofs.Common.{◌≡◌, ◌-◌, drop}
-use Rattle.bt_resolve.specs.ByName.{known}
+use Rattle.bt_text.specs.ByName.{known}
 use Rattle.bt_resolve.specs.Macros.{style_macro}
 use Rattle.bt_resolve.proofs.macros.style_macros.Given as goal
 

@@ -1,6 +1,6 @@
 use Rattle.std.proofs.Common.{◌≡◌, ◌++◌, take, option_copied}
 use Rattle.std.specs.List.{flat_map}
-use Rattle.bt_resolve.specs.ByName.{known}
+use Rattle.bt_text.specs.ByName.{known}
 use Rattle.bt_resolve.specs.Values.{joined_parts, others, part_warnings, within_limit}
 use Rattle.bt_resolve.proofs.values.read_parts.Given as goal
 

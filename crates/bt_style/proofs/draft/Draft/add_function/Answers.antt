@@ -1,4 +1,6 @@
 use Rattle.std.proofs.Common.{◌≡◌, ◌∙◌, ap, None}
+use Rattle.std.specs.Prelude.{bytes_eq}
+use Rattle.std.specs.Map.{lookup}
 use Rattle.bt_style.specs.declared.style.Style.{Style}
 use Rattle.bt_style.specs.Tree.{ops_body}
 use Rattle.bt_style.specs.Program.{program_of}
@@ -12,7 +14,7 @@ invariant_of-self-2 c =
     let p = program_of c.self.inside.style in
     let after = program_of c.push_function.new.style in
     let is = c.in_ok-push_function.ensures.ok in (
-      holds_defined c.self.inside.targets c.make_room.new.names c.put.new.names c.args.name (ops_body c.args.body.items) p after c.in_ok-key.key.items c.next_function-target.result
-          c.self.invariant.0 c.make_room.ensures.same free is (c.in_ok-key.ensures.items ∙ c.as_slice.ensures) c.next_function-target.ensures c.put.ensures,
+      holds_defined c.self.inside.targets c.make_room.new.self c.put.new.self c.args.name (ops_body c.args.body.items) p after c.in_ok-key.key.items c.next_function-target.result
+          c.self.invariant.0 (λ key. ap (λ es. lookup (bytes_eq key) es) c.make_room.ensures.same) free is (c.in_ok-key.ensures.items ∙ c.as_slice.ensures) c.next_function-target.ensures c.put.ensures,
       macros_stay_defined c.self.inside.macros c.args.name (ops_body c.args.body.items) p after c.self.invariant.1 is,
     )

@@ -1,0 +1,94 @@
+//! A hashed table of values by names, which match without regard to case.
+
+ghost use Rattle.std.specs.Prelude.{◌≡◌, [], map, ℕ, List, Some, is_some, option_copied, bytes_eq, if◌then◌else◌, IfOk, OnOk, OnErr};
+ghost use Rattle.bt_text.specs.ByName.{HasRoom, at_small, known, listed, no_value, place_of, with_entry, with_value};
+ghost use Rattle.bt_text.specs.Folding.{folded};
+
+use crate::folding::to_ascii_lowercase;
+use indexmap::IndexMap;
+use std::alloc::{AllocError, Global};
+
+/// Values by names, in the order in which the names came. Names that differ in case alone are one name.
+///
+/// A caller that has a name in small letters asks by `get_small` and puts by `put`, which fold nothing.
+#[derive(Drop)]
+pub struct ByName<V> {
+    /// The values by the names in small letters.
+    values: IndexMap<Vec<u8>, V>,
+}
+
+impl<V: Drop> ByName<V> {
+    /// No value for any name. It takes no memory.
+    pub fn new(alloc: Global) -> Self
+        ensures listed { listed result ≡ [] }
+        ensures known { known result ≡ no_value }
+    {
+        ByName {
+            values: IndexMap::new(alloc),
+        }
+    }
+
+    /// The value of a name. The one error is out of memory.
+    pub fn get(&self, alloc: Global, name: &[u8]) -> Result<Option<&V>, AllocError>
+        ensures { IfOk result (λ value. option_copied value ≡ known self.now name.now) }
+    {
+        let small = to_ascii_lowercase(alloc, name)?;
+        Ok(self.get_small(small.as_slice()))
+    }
+
+    /// The value of a name in small letters.
+    pub fn get_small(&self, small: &[u8]) -> Option<&V>
+        ensures { option_copied result ≡ at_small self.now small.now }
+    {
+        self.values.get(small)
+    }
+
+    /// Whether a name has a value. The one error is out of memory.
+    pub fn has(&self, alloc: Global, name: &[u8]) -> Result<bool, AllocError>
+        ensures { IfOk result (λ there. there ≡ is_some (known self.now name.now)) }
+    {
+        Ok(self.get(alloc, name)?.is_some())
+    }
+
+    /// The place of a name in the order in which the names came. The one error is out of memory.
+    pub fn place(&self, alloc: Global, name: &[u8]) -> Result<Option<usize>, AllocError>
+        ensures { IfOk result (λ place. place ≡ place_of (λ e. bytes_eq (folded name.now) e.0) (listed self.now)) }
+    {
+        let small = to_ascii_lowercase(alloc, name)?;
+        Ok(self.values.get_index_of(small.as_slice()))
+    }
+
+    /// The values in the order in which their names came.
+    pub fn values(&self) -> &[V]
+        ensures { result.now ≡ map (λ e. e.1) (listed self.now) }
+    {
+        self.values.values().as_slice()
+    }
+
+    /// Gives a name a value, in the place of the one that it has. After out of memory the table is as before.
+    pub fn insert(&mut self, alloc: Global, name: &[u8], value: V) -> Result<(), AllocError>
+        ensures listed { OnOk result (listed self.new ≡ with_entry (folded name.now) value (listed self.old)) }
+        ensures known { OnOk result (known self.new ≡ with_value name.now value (known self.old)) }
+        ensures err { OnErr result (listed self.new ≡ listed self.old) }
+    {
+        let small = to_ascii_lowercase(alloc, name)?.into_vec();
+        self.values.insert(small, value)?;
+        Ok(())
+    }
+
+    /// Makes room for one name more. After out of memory the table is as before.
+    pub fn make_room(&mut self) -> Result<(), AllocError>
+        ensures same { listed self.new ≡ listed self.old }
+        ensures room { OnOk result (HasRoom self.new) }
+    {
+        self.values.reserve(1)
+    }
+
+    /// Gives a name in small letters a value, in the place of the one that it has, where there is room for it.
+    pub fn put(&mut self, small: Vec<u8>, value: V)
+        requires { HasRoom self.old }
+        ensures { (other : List ℕ) → at_small self.new other ≡ (if bytes_eq small.items other then Some value else at_small self.old other) }
+    {
+        let _ = self.values.insert(small, value);
+    }
+}
