@@ -9,3 +9,4 @@ mod WritingRows
 mod LoggingRows
 pub mod LoggingLemmas
 pub mod NameLemmas
+pub mod GivenLemmas

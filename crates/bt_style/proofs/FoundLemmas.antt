@@ -1,6 +1,6 @@
 -- What is found once targets are noted.
 use Rattle.std.proofs.Common.{length-append, ◌≡◌, ◌∙◌, ◌⊎◌, subst, refl, inl, inr, ℕ, zero, suc, ◌+◌, ◌<◌, ◌≤◌, arith, Bool, true, false, cond, List, [], ◌∷◌, ◌++◌, length, get_or}
-use Rattle.std.specs.Prelude.{◌||◌, if◌then◌else◌, Contains}
+use Rattle.std.specs.Prelude.{◌||◌, ◌↔◌, if◌then◌else◌, Contains, IsTrue}
 use Rattle.std.specs.List.{IsDistinct, AllByRecursion}
 use Rattle.std.proofs.lemmas.Bool.{cases_Bool, cond-true, cond-false}
 use Rattle.std.proofs.lemmas.List.{get_or_append_left}
@@ -72,6 +72,15 @@ contained ts t h = placed ts t t h
 
 pub among : (ts : List Target) (t : Target) → Contains ts t → In ts t
 among ts t h = let P : Target → Type 0 = λ x. In ts x in subst P h.2 (at_place ts h.0 t h.1)
+
+pub among_tells : (ts : List Target) (t : Target) → IsTrue (is_among ts t) ↔ Contains ts t
+among_tells ts t = (contained ts t, among ts t)
+
+pub either_tells : (ts : List Target) (t u : Target) → IsTrue (is_among ts t || is_among ts u) ↔ (Contains ts t ⊎ Contains ts u)
+either_tells ts t u = (
+  λ h. elim (or_cases (is_among ts t) (is_among ts u) h) [ inl a ↦ inl (contained ts t a) | inr b ↦ inr (contained ts u b) ],
+  λ s. elim s [ inl a ↦ or_first (is_among ts t) (is_among ts u) (among ts t a) | inr b ↦ or_second (is_among ts t) (is_among ts u) (among ts u b) ],
+)
 
 -- a target that is noted
 

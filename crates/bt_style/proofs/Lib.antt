@@ -12,3 +12,4 @@ mod StyleRows
 pub mod ReachLemmas
 pub mod FoundLemmas
 pub mod SearchLemmas
+pub mod ReachedLemmas

@@ -1,6 +1,6 @@
 -- A search that goes over what it found, in its order, finds what is reached.
 use Rattle.std.proofs.Common.{◌≡◌, ◌⊎◌, ◌↔◌, sym, subst, inl, inr, ℕ, zero, suc, ◌+◌, ◌-◌, ◌<◌, ◌≤◌, arith, Bool, true, false, cond, List, [], ◌∷◌, ◌++◌, length, get_or, Option, Some, None}
-use Rattle.std.specs.Prelude.{slice_get}
+use Rattle.std.specs.Prelude.{slice_get, Contains}
 use Rattle.std.specs.List.{IsDistinct}
 use Rattle.std.specs.Option.{option_map_or}
 use Rattle.bt_style.specs.declared.style.Target.{Target}
@@ -84,8 +84,8 @@ complete p tf start found place s h t (Next {here = here} r l) =
     s.closed at.0 (omega (arith, at.1)) t (subst P (sym at.2) (among (leads_to p tf here) t l))
 
 pub finds_all : (p : Program) (tf : Option ℕ) (start : Target) (found : List Target) (place : ℕ) → Searched p tf start found place → length found ≤ place →
-    (t : Target) → (is_among found t ≡ true) ↔ Reaches p tf start t
-finds_all p tf start found place s h t = (s.sound t, complete p tf start found place s h t)
+    (t : Target) → Contains found t ↔ Reaches p tf start t
+finds_all p tf start found place s h t = (λ c. s.sound t (among found t c), λ r. contained found t (complete p tf start found place s h t r))
 
 -- what is reached at once may be reached at all
 
@@ -154,5 +154,5 @@ pub place_fits : (found : List Target) (place : ℕ) (t : Target) → slice_get 
 place_fits found place t h = got_within found place t h
 
 pub searched_all : (p : Program) (tf : Option ℕ) (start : Target) (found : List Target) (place : ℕ) → Searched p tf start found place → slice_get found place ≡ None →
-    (t : Target) → (is_among found t ≡ true) ↔ Reaches p tf start t
+    (t : Target) → Contains found t ↔ Reaches p tf start t
 searched_all p tf start found place s h = finds_all p tf start found place s (got_none found place h)

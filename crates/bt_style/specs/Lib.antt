@@ -16,4 +16,5 @@ pub mod Verbs
 pub mod Commands
 pub mod Reader
 pub mod Apart
+pub mod Numbers
 pub mod Reach

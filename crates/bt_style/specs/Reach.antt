@@ -1,5 +1,5 @@
 -- The names that a step may come to: from a name, through bodies, and from `call.type$` to the entry's function.
-use Rattle.std.specs.Prelude.{◌≡◌, ℕ, ◌+◌, Bool, true, false, if◌then◌else◌, List, [], ◌∷◌, ◌++◌, Option, Some, None, Contains, codes, slice_get}
+use Rattle.std.specs.Prelude.{◌≡◌, ℕ, ◌+◌, Bool, true, false, ◌||◌, if◌then◌else◌, List, [], ◌∷◌, ◌++◌, Option, Some, None, Contains, codes, slice_get}
 use Rattle.std.specs.List.{list_any}
 use Rattle.std.specs.Option.{option_map_or}
 use Rattle.std.specs.HashSet.{HashSet, contains}
@@ -62,6 +62,16 @@ target_eq = (target_comparison.ghosts).eq
 -- whether a target is among some
 abbrev pub is_among : List Target → Target → Bool
 is_among found t = list_any (λ x. target_eq x t) found
+
+-- whether the held line, the preamble and the type are among what kept names may read or write
+abbrev pub keeps_held : (Target → Bool) → Bool
+keeps_held keep = keep (targets.Builtin builtins.Write) || keep (targets.Builtin builtins.Newline)
+
+abbrev pub keeps_preamble : (Target → Bool) → Bool
+keeps_preamble keep = keep (targets.Builtin builtins.Preamble)
+
+abbrev pub keeps_kind : (Target → Bool) → Bool
+keeps_kind keep = keep (targets.Builtin builtins.Type) || keep (targets.Builtin builtins.CallType)
 
 -- a target behind those that are found, unless it is among them
 abbrev pub noted : List Target → Target → List Target

@@ -12,6 +12,7 @@ mod elements;
 mod fault;
 mod laws;
 mod names;
+mod numbers;
 mod reach;
 mod reader;
 mod style;

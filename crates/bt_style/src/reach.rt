@@ -1,13 +1,15 @@
 //! The names that a step may come to.
 
-ghost use Rattle.std.specs.Prelude.{◌≡◌, ◌+◌, ◌<◌, ◌++◌, ◌↔◌, ◌||◌, true, IfOk, OnOk, MatchOption, [], map, codes, slice_get};
+ghost use Rattle.std.specs.Prelude.{◌≡◌, ◌+◌, ◌<◌, ◌++◌, ◌↔◌, ◌||◌, ◌⊎◌, IsTrue, IfOk, OnOk, MatchOption, Contains, [], map, filter_map, codes, slice_get};
 ghost use Rattle.std.specs.List.{IsDistinct};
 ghost use Rattle.bt_style.specs.Tree.{ops_body};
 ghost use Rattle.bt_style.specs.Program.{program_of, definitions_of};
 ghost use Rattle.bt_style.specs.Names.{place_in};
-ghost use Rattle.bt_style.specs.Reach.{Knows, Reaches, noted, noted_all, waiting_names, waiting_size, body_names, body_size, function_body_names, maybe_function, is_call_type, default_type, leads_to, target_eq, is_among};
+ghost use Rattle.bt_style.specs.Numbers.{as_field, as_entry_number, as_entry_text, as_global_number, as_global_text};
+ghost use Rattle.bt_style.specs.Reach.{Knows, Reaches, noted, noted_all, waiting_names, waiting_size, body_names, body_size, function_body_names, maybe_function, is_call_type, default_type, leads_to, target_eq, is_among, keeps_held, keeps_preamble, keeps_kind};
 
 use crate::builtin::Builtin;
+use crate::numbers;
 use crate::style::{Function, Op, Style, Target};
 use bt_text::Sequence;
 use std::alloc::{AllocError, Global};
@@ -18,12 +20,30 @@ use std::collections::HashSet;
 pub struct Reach {
     /// Each of them once.
     pub targets: Sequence<Target>,
+    /// The numbers of the fields among them.
+    pub fields: Sequence<usize>,
+    /// Those of the integer variables of entries.
+    pub entry_numbers: Sequence<usize>,
+    /// Those of the string variables of entries.
+    pub entry_texts: Sequence<usize>,
+    /// Those of the global integer variables.
+    pub global_numbers: Sequence<usize>,
+    /// Those of the global string variables.
+    pub global_texts: Sequence<usize>,
     /// Whether the held line is among what the step may read or write.
     pub held: bool,
     /// Whether the preamble is.
     pub preamble: bool,
     /// Whether the entry's type is.
     pub kind: bool,
+    ghost fields_among: { fields ≡ filter_map as_field targets },
+    ghost entry_numbers_among: { entry_numbers ≡ filter_map as_entry_number targets },
+    ghost entry_texts_among: { entry_texts ≡ filter_map as_entry_text targets },
+    ghost global_numbers_among: { global_numbers ≡ filter_map as_global_number targets },
+    ghost global_texts_among: { global_texts ≡ filter_map as_global_text targets },
+    ghost held_named: { held ≡ keeps_held (is_among targets) },
+    ghost preamble_named: { preamble ≡ keeps_preamble (is_among targets) },
+    ghost kind_named: { kind ≡ keeps_kind (is_among targets) },
 }
 
 /// Puts a target behind those that are found, unless it is among them.
@@ -224,7 +244,7 @@ fn find_all(
     requires seen { Knows seen.old found.old }
     ensures seen { OnOk result (Knows seen.new found.new) }
     ensures once { OnOk result (IsDistinct target_eq found.new) }
-    ensures all { OnOk result ((t : Target) → (is_among found.new t ≡ true) ↔ Reaches (program_of style.now) type_function target t) }
+    ensures all { OnOk result ((t : Target) → Contains found.new t ↔ Reaches (program_of style.now) type_function target t) }
 {
     note(found, seen, target)?;
     let mut place = 0usize;
@@ -237,33 +257,50 @@ fn find_all(
     Ok(())
 }
 
+/// Names that were found, with what is worked out of them once.
+fn listed(
+    alloc: Global,
+    found: Sequence<Target>,
+    seen: &HashSet<Target>,
+) -> Result<Reach, AllocError>
+    requires { Knows seen.now found }
+    ensures { IfOk result (λ reach. reach.targets ≡ found) }
+{
+    let held = has(&found, seen, Builtin::Write) || has(&found, seen, Builtin::Newline);
+    let preamble = has(&found, seen, Builtin::Preamble);
+    let kind = has(&found, seen, Builtin::Type) || has(&found, seen, Builtin::CallType);
+    Ok(Reach {
+        fields: Sequence::from_vec(numbers::fields(alloc, found.as_slice())?),
+        entry_numbers: Sequence::from_vec(numbers::entry_numbers(alloc, found.as_slice())?),
+        entry_texts: Sequence::from_vec(numbers::entry_texts(alloc, found.as_slice())?),
+        global_numbers: Sequence::from_vec(numbers::global_numbers(alloc, found.as_slice())?),
+        global_texts: Sequence::from_vec(numbers::global_texts(alloc, found.as_slice())?),
+        targets: found,
+        held,
+        preamble,
+        kind,
+    })
+}
+
 impl Style {
     /// What is reached from a name: the name itself, each name that is called or quoted in the bodies of its functions, inner braces too, and,
     /// where `call.type$` is reached, the function of the entry's type (`type_function`, if it has one) and `default.type`. A number without
-    /// a function reaches nothing more. The one error is want of memory.
+    /// a function reaches nothing more. The one error is out of memory.
     pub fn reach(
         &self,
         alloc: Global,
         target: Target,
         type_function: Option<usize>,
     ) -> Result<Reach, AllocError>
-        ensures targets { IfOk result (λ reach. (t : Target) → (is_among reach.targets t ≡ true) ↔ Reaches (program_of self.now) type_function target t) }
+        ensures targets { IfOk result (λ reach. (t : Target) → Contains reach.targets t ↔ Reaches (program_of self.now) type_function target t) }
         ensures once { IfOk result (λ reach. IsDistinct target_eq reach.targets) }
-        ensures held { IfOk result (λ reach. reach.held ≡ (is_among reach.targets (Target.Builtin Builtin.Write) || is_among reach.targets (Target.Builtin Builtin.Newline))) }
-        ensures preamble { IfOk result (λ reach. reach.preamble ≡ is_among reach.targets (Target.Builtin Builtin.Preamble)) }
-        ensures kind { IfOk result (λ reach. reach.kind ≡ (is_among reach.targets (Target.Builtin Builtin.Type) || is_among reach.targets (Target.Builtin Builtin.CallType))) }
+        ensures held { IfOk result (λ reach. IsTrue reach.held ↔ (Contains reach.targets (Target.Builtin Builtin.Write) ⊎ Contains reach.targets (Target.Builtin Builtin.Newline))) }
+        ensures preamble { IfOk result (λ reach. IsTrue reach.preamble ↔ Contains reach.targets (Target.Builtin Builtin.Preamble)) }
+        ensures kind { IfOk result (λ reach. IsTrue reach.kind ↔ (Contains reach.targets (Target.Builtin Builtin.Type) ⊎ Contains reach.targets (Target.Builtin Builtin.CallType))) }
     {
         let mut found = Sequence::new(alloc);
         let mut seen = HashSet::new(alloc);
         find_all(alloc, self, type_function, target, &mut found, &mut seen)?;
-        let held = has(&found, &seen, Builtin::Write) || has(&found, &seen, Builtin::Newline);
-        let preamble = has(&found, &seen, Builtin::Preamble);
-        let kind = has(&found, &seen, Builtin::Type) || has(&found, &seen, Builtin::CallType);
-        Ok(Reach {
-            targets: found,
-            held,
-            preamble,
-            kind,
-        })
+        listed(alloc, found, &seen)
     }
 }

@@ -1,0 +1,42 @@
+-- What an earlier step leaves for an input that agrees with its own.
+use Rattle.std.proofs.Common.{◌≡◌, ℕ, zero, suc, ◌<◌, ◌≤◌, Bool, true, ◌&&◌, List, [], ◌∷◌, length, refl, sym, ap, ◌∙◌, arith}
+use Rattle.std.proofs.lemmas.Slice.Eq.{bytes_eq-Decides}
+use Rattle.bt_style.specs.declared.style.Target.{Target}
+use Rattle.bt_style.specs.Program.{Program}
+use Rattle.bt_style.specs.Reach.{is_among}
+use Rattle.bt_actions.specs.declared.entry.Variables.{Variables}
+use Rattle.bt_machine.specs.declared.input.Input.{Input}
+use Rattle.bt_machine.specs.declared.outcome.Outcome.{Outcome}
+use Rattle.bt_machine.specs.Step.{step_in, outcome_of}
+use Rattle.bt_machine.specs.Footprint.{among, blend_variables}
+use Rattle.bt_machine.specs.Agreement.{Agree, IsFootprint, outcome_over}
+use Rattle.bt_machine.specs.Comparison.{same_text_at, same_counts, same_variables}
+use Rattle.bt_machine.proofs.Truths.{and_both}
+use Rattle.bt_machine.proofs.Comparing.{variables_equal}
+use Rattle.bt_machine.proofs.Agreeing.{agreeing_inputs, agreeing_reach, rest_stays}
+
+-- texts that are equal at each place
+pub texts_equal : (m : ℕ) (xs ys : List (List ℕ)) → length xs ≡ length ys → length xs ≤ m → ((n : ℕ) → n < m → same_text_at n xs ys ≡ true) → xs ≡ ys
+texts_equal m [] [] l b h = refl
+texts_equal m [] (y ∷ ys) l b h = absurd (omega (arith, l))
+texts_equal m (x ∷ xs) [] l b h = absurd (omega (arith, l))
+texts_equal zero (x ∷ xs) (y ∷ ys) l b h = absurd (omega (arith, b))
+texts_equal (suc m) (x ∷ xs) (y ∷ ys) l b h =
+    let first = (bytes_eq-Decides x y).0 (h 0 (omega arith)) in
+    let rest = texts_equal m xs ys (omega (arith, l)) (omega (arith, b)) (λ n k. h (suc n) (omega (arith, k))) in
+    λ j. first j ∷ rest j
+
+-- variables that have all that was left
+pub has_left : (ns ts : List ℕ) (v b : Variables) (c : Bool) → c ≡ (same_counts v b && same_variables ns ts v b) → c ≡ true → b ≡ blend_variables (among ns) (among ts) v b
+has_left ns ts v b c e h =
+    let a = and_both (same_counts v b) (same_variables ns ts v b) (sym e ∙ h) in
+    sym (variables_equal (among ns) (among ts) ns ts v b (λ n. refl) (λ n. refl) a.0 a.1)
+
+-- an earlier step left all else as it was
+pub earlier_rest : (p : Program) (names : List Target) (i j : Input) (o : Outcome) → o ≡ outcome_of (step_in p i) → IsFootprint p j names → Agree (is_among names) i j → o ≡ outcome_over (is_among names) i o
+earlier_rest p names i j o e h a = rest_stays p i o e names ((agreeing_reach p names i j a).1 h)
+
+-- over an input that agrees, what it left is what the step of that input leaves
+pub earlier_step : (p : Program) (names : List Target) (i j : Input) (o : Outcome) → o ≡ outcome_of (step_in p i) → IsFootprint p j names → Agree (is_among names) i j → outcome_over (is_among names) j o ≡ outcome_of (step_in p j)
+earlier_step p names i j o e h a =
+    ap (outcome_over (is_among names) j) e ∙ sym (((agreeing_inputs p names i j a).1 h).0)

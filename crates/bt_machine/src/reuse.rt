@@ -1,0 +1,236 @@
+//! What a step leaves that need not be carried out again, since an earlier one agrees with it.
+
+ghost use Rattle.std.specs.Prelude.{◌≡◌, ◌&&◌, IsTrue, IfOk, option_map, length};
+ghost use Rattle.bt_style.specs.Program.{program_of};
+ghost use Rattle.bt_style.specs.Reach.{is_among, keeps_held};
+ghost use Rattle.bt_machine.specs.Agreement.{Agree, IsFootprint, outcome_over, own_over};
+ghost use Rattle.bt_machine.specs.Comparison.{same_counts, same_variables};
+ghost use Rattle.bt_machine.specs.Footprint.{among, blend_globals, blend_own, blend_variables, pick};
+ghost use Rattle.bt_machine.specs.Step.{step_in, outcome_of};
+
+use crate::agreement::{same_counts, same_text_at, same_variables};
+use crate::input::Input;
+use crate::outcome::Outcome;
+use crate::putting::variables_over;
+use crate::step::share_texts;
+use bt_actions::{Entry, Message, Variables};
+use bt_style::{Reach, Style};
+use bt_text::{Bytes, Held, Sequence, Shared};
+use std::alloc::{AllocError, Global};
+
+/// Whether texts are equal, of which there are as many.
+fn equal_texts(old: &[Shared<Bytes>], new: &[Shared<Bytes>]) -> bool
+    requires { length old.now ≡ length new.now }
+    ensures { IsTrue result → old.now ≡ new.now }
+{
+    'places: for place in 0..old.len() {
+        if !same_text_at(old, new, place) {
+            return false;
+        }
+    }
+    true
+}
+
+/// Whether numbers are equal.
+fn equal_numbers(old: &[i32], new: &[i32]) -> bool
+    ensures { IsTrue result → old.now ≡ new.now }
+{
+    old == new
+}
+
+/// Whether all variables are equal.
+fn equal_variables(old: &Variables, new: &Variables) -> bool
+    ensures { IsTrue result → old.now ≡ new.now }
+{
+    if !same_counts(old, new) {
+        return false;
+    }
+    equal_numbers(old.numbers.as_slice(), new.numbers.as_slice())
+        && equal_texts(old.texts.as_slice(), new.texts.as_slice())
+}
+
+/// Whether others' variables are as many, and have all that was left at some places.
+fn has_left(left: &Variables, base: &Variables, numbers: &[usize], texts: &[usize]) -> bool
+    ensures { result ≡ (same_counts left.now base.now && same_variables numbers.now texts.now left.now base.now) }
+{
+    same_counts(left, base) && same_variables(left, base, numbers, texts)
+}
+
+/// Others' variables, with those at some places that were left. They are shared where they have these already.
+fn left_at(
+    alloc: Global,
+    left: &Variables,
+    base: &Shared<Variables>,
+    numbers: &[usize],
+    texts: &[usize],
+) -> Result<Shared<Variables>, AllocError>
+    ensures { IfOk result (λ both. both ≡ blend_variables (among numbers.now) (among texts.now) left.now base.now) }
+{
+    if has_left(left, base, numbers, texts) {
+        let same = base.share()?;
+        return Ok(same);
+    }
+    Ok(Shared::new(alloc, variables_over(alloc, left, base, numbers, texts)?)?)
+}
+
+/// The present globals, with the reached ones that were left.
+fn globals_over(
+    alloc: Global,
+    left: &Variables,
+    new: &Shared<Variables>,
+    reach: &Reach,
+) -> Result<Shared<Variables>, AllocError>
+    ensures { IfOk result (λ both. both ≡ blend_globals (is_among reach.now.targets) left.now new.now) }
+{
+    let numbers = reach.global_numbers.as_slice();
+    let texts = reach.global_texts.as_slice();
+    let both = left_at(alloc, left, new, numbers, texts)?;
+    Ok(both)
+}
+
+/// An entry's present variables, with the reached ones that were left.
+fn owns_over(
+    alloc: Global,
+    left: &Variables,
+    new: &Shared<Variables>,
+    reach: &Reach,
+) -> Result<Shared<Variables>, AllocError>
+    ensures { IfOk result (λ both. both ≡ blend_own (is_among reach.now.targets) left.now new.now) }
+{
+    let numbers = reach.entry_numbers.as_slice();
+    let texts = reach.entry_texts.as_slice();
+    let both = left_at(alloc, left, new, numbers, texts)?;
+    Ok(both)
+}
+
+/// The globals after a step. The earlier step's are shared where it had the present ones before it.
+fn globals_left(
+    alloc: Global,
+    old: &Variables,
+    left: &Shared<Variables>,
+    new: &Shared<Variables>,
+    reach: &Reach,
+) -> Result<Shared<Variables>, AllocError>
+    requires { left.now ≡ blend_globals (is_among reach.now.targets) left.now old.now }
+    ensures { IfOk result (λ both. both ≡ blend_globals (is_among reach.now.targets) left.now new.now) }
+{
+    if equal_variables(old, new) {
+        return left.share();
+    }
+    globals_over(alloc, left, new, reach)
+}
+
+/// The variables of an entry after a step, in the same way.
+fn owns_left(
+    alloc: Global,
+    old: &Variables,
+    left: &Shared<Variables>,
+    new: &Shared<Variables>,
+    reach: &Reach,
+) -> Result<Shared<Variables>, AllocError>
+    requires { left.now ≡ blend_own (is_among reach.now.targets) left.now old.now }
+    ensures { IfOk result (λ both. both ≡ blend_own (is_among reach.now.targets) left.now new.now) }
+{
+    if equal_variables(old, new) {
+        return left.share();
+    }
+    owns_over(alloc, left, new, reach)
+}
+
+/// The variables of the step's entry, if it has one.
+fn variables_left(
+    alloc: Global,
+    old: &Option<Entry>,
+    left: &Option<Shared<Variables>>,
+    new: &Option<Entry>,
+    reach: &Reach,
+) -> Result<Option<Shared<Variables>>, AllocError>
+    requires { left.now ≡ option_map (own_over (is_among reach.now.targets) old.now) left.now }
+    ensures { IfOk result (λ both. both ≡ option_map (own_over (is_among reach.now.targets) new.now) left.now) }
+{
+    let Some(left) = left else {
+        return Ok(None);
+    };
+    match (old, new) {
+        (Some(old), Some(new)) => Ok(Some(owns_left(
+            alloc,
+            &old.variables,
+            left,
+            &new.variables,
+            reach,
+        )?)),
+        (None, Some(new)) => Ok(Some(owns_over(alloc, left, &new.variables, reach)?)),
+        (_, None) => Ok(Some(left.share()?)),
+    }
+}
+
+/// The held line after a step.
+fn held_left(alloc: Global, left: &Held, new: &Held, reach: &Reach) -> Result<Held, AllocError>
+    ensures { IfOk result (λ held. held ≡ pick (keeps_held (is_among reach.now.targets)) left.now new.now) }
+{
+    if reach.held {
+        left.copy(alloc)
+    } else {
+        new.copy(alloc)
+    }
+}
+
+/// The same messages again.
+fn copied_messages(alloc: Global, messages: &[Message]) -> Result<Sequence<Message>, AllocError>
+    ensures { IfOk result (λ same. same ≡ messages.now) }
+{
+    let mut same = Sequence::new(alloc);
+    'messages: for message in messages {
+        same.push(Message {
+            rank: message.rank,
+            words: Bytes::copied(alloc, message.words.as_slice())?,
+        })?;
+    }
+    Ok(same)
+}
+
+/// What an earlier step left that is reached, and all else as an input has it.
+fn over(
+    alloc: Global,
+    old: &Input,
+    left: &Outcome,
+    new: &Input,
+    reach: &Reach,
+) -> Result<Outcome, AllocError>
+    requires { left.now ≡ outcome_over (is_among reach.now.targets) old.now left.now }
+    ensures { IfOk result (λ outcome. outcome ≡ outcome_over (is_among reach.now.targets) new.now left.now) }
+{
+    Ok(Outcome {
+        globals: globals_left(alloc, &old.globals, &left.globals, &new.globals, reach)?,
+        variables: variables_left(alloc, &old.entry, &left.variables, &new.entry, reach)?,
+        held: held_left(alloc, &left.held, &new.held, reach)?,
+        lines: share_texts(alloc, left.lines.as_slice())?,
+        messages: copied_messages(alloc, left.messages.as_slice())?,
+        stop: left.stop,
+        calls: left.calls,
+    })
+}
+
+/// What a step leaves, from what an earlier step of the style left (`left`) on an input that agrees with its own in all
+/// that it may come to: the reached values of the earlier outcome, and all else as its own input has it. Lines are shared.
+/// So are the globals, and the entry's variables, where the earlier step had the same ones before it or left no others
+/// than the present ones; else they are a copy of the present ones, with the reached ones put in. The one error is out of
+/// memory.
+pub fn left_over(
+    alloc: Global,
+    style: &Style,
+    old: &Input,
+    left: &Outcome,
+    new: &Input,
+    reach: &Reach,
+) -> Result<Outcome, AllocError>
+    requires left { left.now ≡ outcome_of (step_in (program_of style.now) old.now) }
+    requires reach { IsFootprint (program_of style.now) new.now reach.now.targets }
+    requires agree { Agree (is_among reach.now.targets) old.now new.now }
+    ensures over { IfOk result (λ outcome. outcome ≡ outcome_over (is_among reach.now.targets) new.now left.now) }
+    ensures step { IfOk result (λ outcome. outcome ≡ outcome_of (step_in (program_of style.now) new.now)) }
+{
+    let _ = style;
+    let outcome = over(alloc, old, left, new, reach)?;
+    Ok(outcome)
+}
