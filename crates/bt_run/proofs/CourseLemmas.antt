@@ -21,7 +21,7 @@ use Rattle.bt_run.specs.declared.course.Step.{Step}
 use Rattle.bt_run.specs.declared.course.Site.{Site}
 use Rattle.bt_run.specs.Course.{world_of, input_at, kept, left_by, stepped, all_told, with_variables, variables_back, put_back}
 use Rattle.bt_run.specs.declared.reuse.Reuse.{Reuse}
-use Rattle.bt_run.specs.Work.{total_cost, work_under, IsStep, IsCounted, IsConsistent}
+use Rattle.bt_run.specs.Work.{total_cost, work_under, IsStep, IsKnown, IsCounted, IsConsistent}
 use Rattle.bt_run.proofs.WorkLemmas.{work_append, work_fewer}
 
 -- what a step leaves in the world of its entry alone, or of none
@@ -102,8 +102,8 @@ all_behind : {A : Type 0} (P : A → Type 0) (xs : List A) (y : A) → All P xs 
 all_behind P xs y h g = All-append P xs (y ∷ []) h (all_one P y g)
 
 -- a step keeps what a run keeps to
-pub consistent_behind : (p : Program) (earlier : List Step) (x : Option ℕ) (o : Outcome) (r back : Course) (s : Step) (log : List Message) (steps : List Step) (before after : Reuse) → IsConsistent p earlier r before → back ≡ put_back x o r → steps ≡ back.trace ++ s ∷ [] → IsCounted p earlier s before after → IsStep p s → after.meter ≤ before.meter + 1000000 → IsConsistent p earlier (record back { log = log; trace = steps }) after
-consistent_behind p earlier x o r back s log steps before after h is_back are_steps counted is_step within =
+pub consistent_behind : (p : Program) (earlier : List Step) (x : Option ℕ) (o : Outcome) (r back : Course) (s : Step) (log : List Message) (steps : List Step) (before after : Reuse) → IsConsistent p earlier r before → back ≡ put_back x o r → steps ≡ back.trace ++ s ∷ [] → IsCounted p earlier s before after → IsStep p s → after.meter ≤ before.meter + 1000000 → All (IsKnown p) after.known → IsConsistent p earlier (record back { log = log; trace = steps }) after
+consistent_behind p earlier x o r back s log steps before after h is_back are_steps counted is_step within known =
     let cost : Step → ℕ = λ (t : Step). t.cost in
     let so_far = work_under p earlier r.trace in
     let more = work_under p earlier (s ∷ []) in
@@ -114,5 +114,6 @@ consistent_behind p earlier x o r back s log steps before after h is_back are_st
       fewer = omega (arith, length-append r.trace (s ∷ []), h.fewer, counted.ran, work_fewer p earlier (s ∷ []));
       bounded = omega (arith, length-append r.trace (s ∷ []), h.bounded, within);
       steps = all_behind (IsStep p) r.trace s h.steps is_step;
+      known = known;
       ordered = λ k d lt. omega (arith, length-variables_back x o.variables r.entries, h.ordered k d lt);
     })

@@ -1,5 +1,5 @@
 -- The list of names that are found is the set of those that are reached.
-use Rattle.std.specs.Prelude.{slice_get}
+use Rattle.std.specs.Prelude.{slice_get, Contains}
 use Rattle.std.proofs.Common.{◌≡◌, ◌↔◌, ◌⊎◌, inl, inr, refl, sym, ap, ◌∙◌, subst, ℕ, zero, suc, ◌+◌, ◌-◌, ◌<◌, ◌≤◌, Bool, true, false, cond, List, [], ◌∷◌, length, Option, Some, None, arith}
 use Rattle.std.proofs.lemmas.Option.{slice_get_past, slice_get_cases}
 use Rattle.bt_style.specs.declared.style.Target.{Target}
@@ -21,10 +21,10 @@ rests p f (suc rounds) place found h =
 
 -- with enough rounds all that is reached is found
 finds : (p : Program) (f : Option ℕ) (start : Target) (rounds place : ℕ) (found : List Target) → Searched p f start found place → work p f start found place ≤ rounds →
-    (t : Target) → (is_among (found_from p f rounds place found) t ≡ true) ↔ Reaches p f start t
+    (t : Target) → Contains (found_from p f rounds place found) t ↔ Reaches p f start t
 finds p f start zero place found s h t = finds_all p f start found place s (omega (arith, h)) t
 finds p f start (suc rounds) place found s h t =
-    let P : List Target → Type 0 = λ ts. (is_among ts t ≡ true) ↔ Reaches p f start t in
+    let P : List Target → Type 0 = λ ts. Contains ts t ↔ Reaches p f start t in
     elim (slice_get_cases found place).1 [
       | inl here ↦
           let next = noted_all found (leads_to p f here.0) in
@@ -42,10 +42,10 @@ unseen_at_most : (found us : List Target) → unseen found us ≤ length us
 unseen_at_most found [] = omega arith
 unseen_at_most found (u ∷ us) = omega (arith, one_at_most (is_among found u), unseen_at_most found us)
 
-pub reached : (p : Program) (f : Option ℕ) (start t : Target) → (is_among (reach_of p f start) t ≡ true) ↔ Reaches p f start t
+pub reached : (p : Program) (f : Option ℕ) (start t : Target) → Contains (reach_of p f start) t ↔ Reaches p f start t
 unfolding reach_of
 reached p f start t =
     finds p f start (length (reachable p f start) + 1) 0 (start ∷ []) (begun p f start (start ∷ []) refl) (omega (arith, unseen_at_most (start ∷ []) (reachable p f start))) t
 
-pub footprint_named : (p : Program) (i : Input) → IsFootprint p i (is_among (names_in p i))
+pub footprint_named : (p : Program) (i : Input) → IsFootprint p i (names_in p i)
 footprint_named p i t = reached p (function_of i.entry) i.target t

@@ -1,6 +1,6 @@
 //! What files mean, computed from scratch.
 
-ghost use Rattle.std.specs.Prelude.{◌≡◌, ◌≤◌, length, IfOk};
+ghost use Rattle.std.specs.Prelude.{◌≡◌, ◌≤◌, [], length, IfOk};
 ghost use Rattle.std.specs.Option.{ForSome};
 ghost use Rattle.bt_style.specs.Program.{program_of};
 ghost use Rattle.bt_run.specs.Work.{IsConsistent};
@@ -76,6 +76,7 @@ fn carry_out_style(
 ) -> Result<Course, AllocError>
     requires meter { reuse.old.meter ≡ 0 }
     requires ran { reuse.old.ran ≡ 0 }
+    requires known { reuse.old.known ≡ [] }
     ensures run { IfOk result (λ course. course ≡ carried (job_of job.entry) log) }
     ensures consistent { IfOk result (λ course. IsConsistent (program_of job.entry.style.now) job.entry.earlier.now course reuse.new) }
 {
@@ -119,6 +120,7 @@ fn run_with(
 ) -> Result<Ran, AllocError>
     requires meter { reuse.old.meter ≡ 0 }
     requires ran { reuse.old.ran ≡ 0 }
+    requires known { reuse.old.known ≡ [] }
     requires star { ForSome citations.star (λ before. before ≤ length citations.keys) }
     ensures run { IfOk result (λ r. r.course ≡ run_with files.now citations min citations.style) }
     ensures wanted { IfOk result (λ r. r.wanted ≡ citations.wanted) }
@@ -220,6 +222,8 @@ pub fn answers_after(
     let mut reuse = Reuse {
         meter: Meter::new(),
         ran: 0,
+        next: 0,
+        known: Sequence::new(alloc),
     };
     let ran = run_with(alloc, files, citations, min, kept, &mut reuse)?;
     let Ran {
