@@ -9,7 +9,8 @@ use Rattle.bt_run.specs.declared.answers.Report.{Report}
 use Rattle.bt_job.specs.declared.files.File.{File}
 use Rattle.bt_job.specs.Naming.{is_file_name, text_of}
 use Rattle.bibtex.specs.Changes.{Change, write, splice, remove, root_name, min_crossrefs}
-use Rattle.bibtex.specs.Present.{State, place_of, with_text, without, replaced, is_root_name}
+use Rattle.bibtex.specs.declared.state.State.{State}
+use Rattle.bibtex.specs.Present.{place_of, with_text, without, replaced, is_root_name}
 
 -- how many bytes a text may have
 abbrev pub text_limit : ℕ
@@ -100,7 +101,7 @@ IsEditOf change bytes e = (s : State) → applied e s ≡ outcome change bytes s
 
 -- What answers an edit of which this is applied: each refusal where it is that refusal, and want of memory only where
 -- there is no other.
-abbrev pub IsAnswer : Result State Refusal → Result Report Refusal → Type 0
+abbrev pub IsAnswer : {A : Type 0} → Result State Refusal → Result A Refusal → Type 0
 IsAnswer (Ok s) result = IfErr result (λ refusal. refusal ≡ OutOfMemory)
 IsAnswer (Err refusal) result = result ≡ Err refusal
 

@@ -1,20 +1,17 @@
 -- What a session is about: the present texts by name, the root name, and min-crossrefs; and what that means.
-use Rattle.std.specs.Prelude.{ℕ, Bool, not, ◌&&◌, nat_le, length, List, [], ◌∷◌, ◌++◌, take, drop, filter, Option, Some, None, position, slice_set}
+use Rattle.std.specs.Prelude.{◌≡◌, ℕ, Bool, not, ◌&&◌, nat_le, length, List, [], ◌∷◌, ◌++◌, take, drop, filter, Option, Some, None, position, slice_set}
 use Rattle.std.specs.Str.{bytes_eq}
 use Rattle.bt_job.specs.declared.files.File.{File}
 use Rattle.bt_job.specs.Naming.{is_file_name}
 use Rattle.bt_run.specs.declared.answers.Report.{Report}
-use Rattle.bt_run.specs.Meaning.{Meaning, meaning, report_of}
+use Rattle.bt_run.specs.declared.course.Step.{Step}
+use Rattle.bt_run.specs.Meaning.{Meaning, meaning, trace}
+use Rattle.bt_run.specs.Kept.{style_text, run_work, report_after}
+use Rattle.bibtex.specs.declared.state.State.{State}
 
 -- the present texts, each under its name
 abbrev pub Texts : Type 0
 Texts = List File
-
--- the texts, the root name and min-crossrefs
-pub record State : Type 0 where
-  pub texts : Texts
-  pub root : List ℕ
-  pub min : ℕ
 
 -- which of some files has a name
 abbrev pub place_of : List ℕ → List File → Option ℕ
@@ -49,6 +46,19 @@ no_texts root min = record { texts = []; root = root; min = min }
 abbrev pub shown : State → Meaning
 shown s = meaning s.texts s.root s.min
 
--- what an edit that left this state reports
-abbrev pub reported : State → Report
-reported s = report_of s.texts s.root s.min
+-- What must be carried out to go from one state to another: the steps of the new state's run that have none of the same
+-- command and key in the old state's run which agrees with it. It is all steps where the texts of the two runs' styles
+-- differ, or one has no style. Both runs are runs from scratch.
+abbrev pub work : State → State → List Step
+work old new = run_work (style_text old.texts old.root) (trace old.texts old.root old.min) new.texts new.root new.min
+
+-- what an edit from one state to another reports: how many steps are its work, how many others there are, and what the
+-- work costs
+abbrev pub reported : State → State → Report
+reported old new = report_after (style_text old.texts old.root) (trace old.texts old.root old.min) new.texts new.root new.min
+
+-- What a session keeps beside its state: what the state means, the text of its style, and the steps of its run.
+pub record Keeps (s : State) (m : Meaning) (text : Option (List ℕ)) (steps : List Step) : Type 0 where
+  pub is_meaning : m ≡ shown s
+  pub is_text : text ≡ style_text s.texts s.root
+  pub are_steps : steps ≡ trace s.texts s.root s.min

@@ -26,7 +26,7 @@ fn shared(file: &File) -> Result<File, AllocError>
 }
 
 /// The same files, which share their names and texts. The one error is want of memory.
-fn all_shared(alloc: Global, files: &[File]) -> Result<Sequence<File>, AllocError>
+pub fn all_shared(alloc: Global, files: &[File]) -> Result<Sequence<File>, AllocError>
     ensures { IfOk result (λ again. again ≡ files.now) }
 {
     let mut again = Sequence::new(alloc);

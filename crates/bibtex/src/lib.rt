@@ -7,6 +7,7 @@ mod edit;
 mod edits;
 mod refusal;
 mod session;
+mod state;
 
 pub use bt_run::Report;
 pub use bt_text::Bytes;

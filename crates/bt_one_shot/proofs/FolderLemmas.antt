@@ -3,7 +3,8 @@ use Rattle.std.proofs.Common.{◌≡◌, ℕ, List, [], ◌++◌, inl, inr, leng
 use Rattle.std.proofs.lemmas.List.Elements.{All-nil, All-push, All-set}
 use Rattle.bt_job.specs.declared.files.File.{File}
 use Rattle.bibtex.specs.declared.edit.Refusal.{Refusal}
-use Rattle.bibtex.specs.Present.{State, no_texts, place_of, put_at}
+use Rattle.bibtex.specs.declared.state.State.{State}
+use Rattle.bibtex.specs.Present.{no_texts, place_of, put_at}
 use Rattle.bibtex.specs.Changes.{write}
 use Rattle.bibtex.specs.Applied.{outcome, refusal_of, changed, unless_refused}
 use Rattle.bt_one_shot.specs.declared.folder.Found.TheVariants as found

@@ -1,6 +1,7 @@
 -- What the one-shot form leaves in a folder, and its exit status.
 use Rattle.std.specs.Prelude.{◌≡◌, ◌⊎◌, ℕ, Bool, true, false, nat_le, List, [], ◌∷◌, ◌++◌, Option, codes, if◌then◌else◌}
-use Rattle.bibtex.specs.Present.{State, shown}
+use Rattle.bibtex.specs.declared.state.State.{State}
+use Rattle.bibtex.specs.Present.{shown}
 use Rattle.bt_serve.specs.Writes.{AppendsPart}
 use Rattle.bt_one_shot.specs.Folders.{Contents, AreHeld, Written, Gains, Stays}
 

@@ -1,7 +1,8 @@
 -- A whole run, from its beginning to its counts.
-use Rattle.std.specs.Prelude.{unwrap_or}
+use Rattle.std.specs.Prelude.{unwrap_or, bytes_eq, Bool, true, false, if◌then◌else◌, ◌-◌, Result}
 use Rattle.std.specs.Option.{ForSome}
-use Rattle.std.proofs.Common.{◌≡◌, refl, sym, ap, ◌∙◌, ℕ, List, [], ◌∷◌, ◌++◌, Option, Some, None, Ok, Err, ◌≤◌, length, subst, arith}
+use Rattle.std.proofs.Common.{All, ◌+◌, ◌≡◌, refl, sym, ap, ◌∙◌, ℕ, List, [], ◌∷◌, ◌++◌, Option, Some, None, Ok, Err, ◌≤◌, length, subst, arith}
+use Rattle.std.proofs.lemmas.Slice.Eq.{bytes_eq-Decides}
 use Rattle.bt_style.specs.declared.fault.Fault.{Fault}
 use Rattle.bt_style.specs.Program.{Program}
 use Rattle.bt_style.specs.Reader.{style_of}
@@ -14,18 +15,97 @@ use Rattle.bt_job.specs.Naming.{text_of}
 use Rattle.bt_job.specs.Citations.{citations}
 use Rattle.bt_job.specs.Fit.{IsWithin, IsFit}
 use Rattle.bt_run.specs.declared.course.Course.{Course}
-use Rattle.bt_run.specs.Course.{IsConsistent, total_cost}
+use Rattle.bt_run.specs.declared.course.Step.{Step}
+use Rattle.bt_run.specs.declared.reuse.Reuse.{Reuse}
+use Rattle.bt_run.specs.declared.answers.Report.{Report}
+use Rattle.bt_run.specs.Work.{total_cost, work_under, IsStep, IsConsistent}
+use Rattle.bt_run.specs.Steps.{StepsAre, steps_under, styled_work, work_after, IsTaken}
+use Rattle.bt_run.specs.Kept.{named_text, style_text, run_work, report_after}
+use Rattle.bt_run.proofs.WorkLemmas.{work_none, work_first}
 use Rattle.bt_run.specs.Reading.{Job}
 use Rattle.bt_run.specs.Commands.{commands_from}
 use Rattle.bt_run.specs.Counts.{counted}
-use Rattle.bt_run.specs.Meaning.{begun, first_globals, carried, job_for, fault_told, styled, run_with, run_of, Meaning, shown, meaning, trace, report_of}
+use Rattle.bt_run.specs.Meaning.{begun, first_globals, carried, job_for, fault_told, styled, run_with, run_of, Meaning, shown, meaning, trace}
 
-pub begun_consistent : (globals : Variables) (log : List Message) (r : Course) (meter : ℕ) → r ≡ begun globals log → meter ≡ 0 → IsConsistent r meter
-begun_consistent globals log r meter is zero =
-    rw (is, zero) (record { total = refl; bounded = omega arith; ordered = λ k d h. absurd (omega (arith, h)) })
+pub begun_consistent : (p : Program) (earlier : List Step) (globals : Variables) (log : List Message) (r : Course) (reuse : Reuse) → r ≡ begun globals log → reuse.meter ≡ 0 → reuse.ran ≡ 0 → reuse.known ≡ [] → IsConsistent p earlier r reuse
+begun_consistent p earlier globals log r reuse is ticks ran none =
+    rw is (record {
+      ran = ran ∙ ap length (sym (work_none p earlier));
+      ticks = ticks ∙ ap total_cost (sym (work_none p earlier));
+      fewer = omega (arith, ran);
+      bounded = omega (arith, ticks);
+      steps = λ k d h. absurd (omega (arith, h));
+      known = rw none (λ k d h. absurd (omega (arith, h)));
+      ordered = λ k d h. absurd (omega (arith, h));
+    })
 
-pub counted_consistent : (r next : Course) (meter : ℕ) → next ≡ counted r → IsConsistent r meter → IsConsistent next meter
-counted_consistent r next meter is h = rw is (record { total = h.total; bounded = h.bounded; ordered = h.ordered })
+pub counted_consistent : (p : Program) (earlier : List Step) (r next : Course) (reuse : Reuse) → next ≡ counted r → IsConsistent p earlier r reuse → IsConsistent p earlier next reuse
+counted_consistent p earlier r next reuse is h = rw is (record { ran = h.ran; ticks = h.ticks; fewer = h.fewer; bounded = h.bounded; steps = h.steps; known = h.known; ordered = h.ordered })
+
+-- What was carried out
+
+no_work_if : (b : Bool) (work : List Step) → work ≡ [] → (if b then work else []) ≡ []
+no_work_if true work h = h
+no_work_if false work h = refl
+
+no_styled_work : (q : Result Program Fault) (earlier : List Step) → styled_work q earlier [] ≡ []
+no_styled_work (Ok p) earlier = work_none p earlier
+no_styled_work (Err fault) earlier = refl
+
+no_work : (own : Option (List ℕ)) (earlier : List Step) (text : Option (List ℕ)) → work_after own earlier text [] ≡ []
+no_work None earlier None = refl
+no_work (Some own) earlier None = refl
+no_work None earlier (Some text) = refl
+no_work (Some own) earlier (Some text) = no_work_if (bytes_eq own text) (styled_work (style_of text) earlier []) (no_styled_work (style_of text) earlier)
+
+-- where no step ran
+pub nothing_taken : (own : Option (List ℕ)) (earlier : List Step) (text : Option (List ℕ)) (globals : Variables) (log : List Message) (r : Course) (reuse : Reuse) → r ≡ begun globals log → reuse.meter ≡ 0 → reuse.ran ≡ 0 → IsTaken own earlier text r.trace reuse
+nothing_taken own earlier text globals log r reuse is ticks ran =
+    rw is (record {
+      ran = ran ∙ ap length (sym (no_work own earlier text));
+      ticks = ticks ∙ ap total_cost (sym (no_work own earlier text));
+      fewer = omega (arith, ran);
+      true_steps = λ t p named read k d h. absurd (omega (arith, h));
+    })
+
+work_if : (p : Program) (b : Bool) (earlier steps : List Step) → work_under p (if b then earlier else []) steps ≡ (if b then work_under p earlier steps else steps)
+work_if p true earlier steps = refl
+work_if p false earlier steps = work_first p steps
+
+-- under a style that could be read
+work_read : (p : Program) (own : Option (List ℕ)) (earlier : List Step) (text : List ℕ) (steps : List Step) → style_of text ≡ Ok p → work_under p (steps_under own earlier text) steps ≡ work_after own earlier (Some text) steps
+work_read p None earlier text steps read = work_first p steps
+work_read p (Some own) earlier text steps read =
+    work_if p (bytes_eq own text) earlier steps ∙ ap (λ q. if bytes_eq own text then styled_work q earlier steps else steps) (sym read)
+
+true_steps : (p : Program) (text : List ℕ) (steps : List Step) → style_of text ≡ Ok p → All (IsStep p) steps → StepsAre (Some text) steps
+true_steps p text steps read h = λ t q named again.
+    let same : text ≡ t = cc in
+    let one : Ok p ≡ Ok q = sym read ∙ ap style_of same ∙ again in
+    let program : p ≡ q = cc in
+    subst (λ (o : Program). All (IsStep o) steps) program h
+
+pub run_taken : (p : Program) (own : Option (List ℕ)) (before : List Step) (text : List ℕ) (earlier : List Step) (r : Course) (reuse : Reuse) → style_of text ≡ Ok p → earlier ≡ steps_under own before text → IsConsistent p earlier r reuse → IsTaken own before (Some text) r.trace reuse
+run_taken p own before text earlier r reuse read is h =
+    let work = ap (λ es. work_under p es r.trace) is ∙ work_read p own before text r.trace read in
+    record {
+      ran = h.ran ∙ ap length work;
+      ticks = h.ticks ∙ ap total_cost work;
+      fewer = h.fewer;
+      true_steps = true_steps p text r.trace read h.steps;
+    }
+
+all_under : {A : Type 0} (P : A → Type 0) (b : Bool) (xs : List A) → (b ≡ true → All P xs) → All P (if b then xs else [])
+all_under P true xs f = f refl
+all_under P false xs f = λ k d lt. absurd (omega (arith, lt))
+
+-- the steps of an earlier run are those of the style
+earlier_under : (p : Program) (text : List ℕ) (own : Option (List ℕ)) (steps : List Step) → StepsAre own steps → style_of text ≡ Ok p → All (IsStep p) (steps_under own steps text)
+earlier_under p text None steps h read = λ i d lt. absurd (omega (arith, lt))
+earlier_under p text (Some t) steps h read = all_under (IsStep p) (bytes_eq t text) steps (λ e. h t p refl (ap style_of ((bytes_eq-Decides t text).0 e) ∙ read))
+
+pub earlier_steps : (p : Program) (text : List ℕ) (own : Option (List ℕ)) (steps earlier : List Step) → StepsAre own steps → style_of text ≡ Ok p → earlier ≡ steps_under own steps text → All (IsStep p) earlier
+earlier_steps p text own steps earlier h read is = subst (λ (es : List Step). All (IsStep p) es) (sym is) (earlier_under p text own steps h read)
 
 -- the commands of a style behind the beginning of its run, and the counts
 pub carried_by : (job : Job) (log : List Message) (globals : Variables) (first r next : Course) → globals ≡ first_globals job.program → first ≡ begun globals log → r ≡ commands_from job 0 job.program.commands first → next ≡ counted r → next ≡ carried job log
@@ -63,12 +143,22 @@ unfolding meaning run_of
 meant files root min c r wanted m is is_run are_wanted is_cited =
     is ∙ (λ j. shown (is_run j) (are_wanted j)) ∙ ap (λ d. shown (run_with files d min d.style) d.wanted) is_cited
 
--- and so is the report
-pub reported : (files : List File) (root : List ℕ) (min : ℕ) (c : Citations) (r : Course) (wanted : List (List ℕ)) (m : Meaning) (status ran ticks : ℕ) → status ≡ m.status → m ≡ shown r wanted → r ≡ run_with files c min c.style → wanted ≡ c.wanted → c ≡ citations files root → ran ≡ length r.trace → ticks ≡ total_cost r.trace → record { status = status; ran = ran; reused = 0; ticks = ticks } ≡ report_of files root min
-unfolding report_of trace run_of
-reported files root min c r wanted m status ran ticks is_status is is_run are_wanted is_cited is_ran is_ticks =
-    let run : r ≡ run_with files (citations files root) min (citations files root).style = is_run ∙ ap (λ d. run_with files d min d.style) is_cited in
-    let all_status : status ≡ (meaning files root min).status = is_status ∙ ap (λ (n : Meaning). n.status) (meant files root min c r wanted m is is_run are_wanted is_cited) in
-    let all_ran : ran ≡ length (run_with files (citations files root) min (citations files root).style).trace = is_ran ∙ ap (λ (s : Course). length s.trace) run in
-    let all_ticks : ticks ≡ total_cost (run_with files (citations files root) min (citations files root).style).trace = is_ticks ∙ ap (λ (s : Course). total_cost s.trace) run in
-    λ j. record { status = all_status j; ran = all_ran j; reused = 0; ticks = all_ticks j }
+-- and so is the report, and what is kept
+
+pub kept_text : (files : List File) (root : List ℕ) (c : Citations) (text : Option (List ℕ)) → text ≡ named_text files c.style → c ≡ citations files root → text ≡ style_text files root
+unfolding style_text
+kept_text files root c text is is_cited = is ∙ ap (λ (d : Citations). named_text files d.style) is_cited
+
+pub kept_steps : (files : List File) (root : List ℕ) (min : ℕ) (c : Citations) (r : Course) → r ≡ run_with files c min c.style → c ≡ citations files root → r.trace ≡ trace files root min
+unfolding trace run_of
+kept_steps files root min c r is is_cited = ap (λ (s : Course). s.trace) (is ∙ ap (λ (d : Citations). run_with files d min d.style) is_cited)
+
+pub reported : (files : List File) (root : List ℕ) (min : ℕ) (own : Option (List ℕ)) (earlier : List Step) (text : Option (List ℕ)) (steps : List Step) (reuse : Reuse) (status ran reused ticks : ℕ) → status ≡ (meaning files root min).status → text ≡ style_text files root → steps ≡ trace files root min → IsTaken own earlier text steps reuse → ran ≡ reuse.ran → reused ≡ length steps - reuse.ran → ticks ≡ reuse.meter → record { status = status; ran = ran; reused = reused; ticks = ticks } ≡ report_after own earlier files root min
+reported files root min own earlier text steps reuse status ran reused ticks is_status is_text are_steps h is_ran is_reused is_ticks =
+    let work : work_after own earlier text steps ≡ run_work own earlier files root min = λ j. work_after own earlier (is_text j) (are_steps j) in
+    let ran_is : reuse.ran ≡ length (run_work own earlier files root min) = h.ran ∙ ap length work in
+    let statuses = is_status in
+    let rans = is_ran ∙ ran_is in
+    let reuses : reused ≡ length (trace files root min) - length (run_work own earlier files root min) = is_reused ∙ (λ j. length (are_steps j) - ran_is j) in
+    let ticks_are = is_ticks ∙ h.ticks ∙ ap total_cost work in
+    λ j. record { status = statuses j; ran = rans j; reused = reuses j; ticks = ticks_are j }

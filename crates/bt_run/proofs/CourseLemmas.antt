@@ -1,10 +1,11 @@
 -- A step in the world of all entries, by its outcome on its input alone.
 use Rattle.std.specs.Prelude.{slice_index_or}
 use Rattle.std.specs.Option.{option_map}
-use Rattle.std.proofs.Common.{◌≡◌, refl, ℕ, ◌+◌, ◌≤◌, ◌<◌, List, [], ◌∷◌, ◌++◌, length, Option, Some, None, sym, ap, ◌∙◌, arith}
+use Rattle.std.proofs.Common.{append-nil, zero, suc, ◌≡◌, refl, ℕ, ◌+◌, ◌≤◌, ◌<◌, List, [], ◌∷◌, ◌++◌, length, All, Option, Some, None, sym, ap, ◌∙◌, arith}
 use Rattle.std.proofs.Math.Seq.{drop-append_seam}
 use Rattle.std.proofs.lemmas.List.{get_or-set_same, length-set, length-append}
-use Rattle.std.proofs.lemmas.List.Sums.{sum_by-append, sum_by-cons}
+use Rattle.std.proofs.lemmas.List.Elements.{All-append}
+use Rattle.std.proofs.lemmas.List.Sums.{sum_by-append}
 use Rattle.bt_style.specs.declared.style.Target.{Target}
 use Rattle.bt_style.specs.Program.{Program}
 use Rattle.bt_actions.specs.declared.entry.Entry.{Entry}
@@ -18,7 +19,10 @@ use Rattle.bt_job.specs.declared.log.Message.{Message}
 use Rattle.bt_run.specs.declared.course.Course.{Course}
 use Rattle.bt_run.specs.declared.course.Step.{Step}
 use Rattle.bt_run.specs.declared.course.Site.{Site}
-use Rattle.bt_run.specs.Course.{world_of, input_at, kept, left_by, stepped, all_told, with_variables, variables_back, put_back, IsConsistent}
+use Rattle.bt_run.specs.Course.{world_of, input_at, kept, left_by, stepped, all_told, with_variables, variables_back, put_back}
+use Rattle.bt_run.specs.declared.reuse.Reuse.{Reuse}
+use Rattle.bt_run.specs.Work.{total_cost, work_under, IsStep, IsKnown, IsCounted, IsConsistent}
+use Rattle.bt_run.proofs.WorkLemmas.{work_append, work_fewer}
 
 -- what a step leaves in the world of its entry alone, or of none
 abbrev alone_left : Program → Target → Option ℕ → Course → Finish
@@ -89,12 +93,27 @@ pub length-variables_back : (x : Option ℕ) (v : Option Variables) (entries : L
 length-variables_back None v entries = refl
 length-variables_back (Some n) v entries = length-set entries n (with_variables v (slice_index_or entries n no_entry))
 
+-- one more step of the style
+all_one : {A : Type 0} (P : A → Type 0) (y : A) → P y → All P (y ∷ [])
+all_one P y g zero d lt = g
+all_one P y g (suc k) d lt = absurd (omega (arith, lt))
+
+all_behind : {A : Type 0} (P : A → Type 0) (xs : List A) (y : A) → All P xs → P y → All P (xs ++ y ∷ [])
+all_behind P xs y h g = All-append P xs (y ∷ []) h (all_one P y g)
+
 -- a step keeps what a run keeps to
-pub consistent_behind : (x : Option ℕ) (o : Outcome) (r back : Course) (s : Step) (log : List Message) (steps : List Step) (before after : ℕ) → IsConsistent r before → back ≡ put_back x o r → steps ≡ back.trace ++ s ∷ [] → after ≡ before + s.cost → after ≤ before + 1000000 → IsConsistent (record back { log = log; trace = steps }) after
-consistent_behind x o r back s log steps before after h is_back are_steps is_cost within =
+pub consistent_behind : (p : Program) (earlier : List Step) (x : Option ℕ) (o : Outcome) (r back : Course) (s : Step) (log : List Message) (steps : List Step) (before after : Reuse) → IsConsistent p earlier r before → back ≡ put_back x o r → steps ≡ back.trace ++ s ∷ [] → IsCounted p earlier s before after → IsStep p s → after.meter ≤ before.meter + 1000000 → All (IsKnown p) after.known → IsConsistent p earlier (record back { log = log; trace = steps }) after
+consistent_behind p earlier x o r back s log steps before after h is_back are_steps counted is_step within known =
     let cost : Step → ℕ = λ (t : Step). t.cost in
+    let so_far = work_under p earlier r.trace in
+    let more = work_under p earlier (s ∷ []) in
+    let works = work_append p earlier r.trace (s ∷ []) in
     rw (are_steps, is_back) (record {
-      total = omega (arith, sum_by-append cost r.trace (s ∷ []), sum_by-cons cost s [], h.total, is_cost);
+      ran = counted.ran ∙ ap (λ n. n + length more) h.ran ∙ sym (ap length works ∙ length-append so_far more);
+      ticks = counted.ticks ∙ ap (λ n. n + total_cost more) h.ticks ∙ sym (ap total_cost works ∙ sum_by-append cost so_far more);
+      fewer = omega (arith, length-append r.trace (s ∷ []), h.fewer, counted.ran, work_fewer p earlier (s ∷ []));
       bounded = omega (arith, length-append r.trace (s ∷ []), h.bounded, within);
+      steps = all_behind (IsStep p) r.trace s h.steps is_step;
+      known = known;
       ordered = λ k d lt. omega (arith, length-variables_back x o.variables r.entries, h.ordered k d lt);
     })

@@ -8,3 +8,5 @@ pub mod StyleLemmas
 pub mod AnswerLemmas
 mod Rows
 mod MeaningRows
+pub mod ReachedLemmas
+pub mod WorkLemmas

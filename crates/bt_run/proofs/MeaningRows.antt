@@ -37,8 +37,8 @@ use Rattle.bt_style.specs.Token.{literal_piece, piece_at, tokens_behind}
 use Rattle.bt_style.specs.Verbs.{all_verbs, verb_named}
 use Rattle.bt_machine.specs.Eval.{eval_within}
 use Rattle.bt_run.specs.Counts.{all_calls, counts_told}
-use Rattle.bt_run.specs.Course.{total_cost}
-use Rattle.bt_run.specs.Meaning.{Meaning, run_of, meaning, trace, report_of}
+use Rattle.bt_run.specs.Work.{total_cost}
+use Rattle.bt_run.specs.Meaning.{Meaning, run_of, meaning, trace}
 use Rattle.bt_run.specs.Reading.{is_definition}
 use Rattle.bt_run.specs.Sorting.{put_among, sorted}
 use Rattle.std.specs.Fmt.{digits}
@@ -49,7 +49,7 @@ Run = Meaning × ℕ × ℕ
 
 -- what texts mean and the steps of their run, with all that it is computed by
 unfoldable run : List File → ℕ → Run
-unfolding near_break widths aux_lines enclosed field next_field many word bib_ended name opening piece next_piece pieces_of sign part joined bib_value lines_taken file_taken job_ended citations name_fault cited named item_taken unclosed_entry unclosed_command fault_words given values_behind is_left_out final_crossref entries_seen listed macro_before stored_messages item_messages reference_messages missing_messages list_messages stored_entries preamble messages resolved stored_of stored_among resolve_value field_value value_warnings body_at table arguments_at command_at names_at size_at number_at quoted_at word_element builtin_named style_meaning macro_named commands_at reading style_of literal_piece piece_at tokens_behind all_verbs verb_named eval_within all_calls counts_told run_of meaning trace report_of is_definition put_among sorted digits
+unfolding near_break widths aux_lines enclosed field next_field many word bib_ended name opening piece next_piece pieces_of sign part joined bib_value lines_taken file_taken job_ended citations name_fault cited named item_taken unclosed_entry unclosed_command fault_words given values_behind is_left_out final_crossref entries_seen listed macro_before stored_messages item_messages reference_messages missing_messages list_messages stored_entries preamble messages resolved stored_of stored_among resolve_value field_value value_warnings body_at table arguments_at command_at names_at size_at number_at quoted_at word_element builtin_named style_meaning macro_named commands_at reading style_of literal_piece piece_at tokens_behind all_verbs verb_named eval_within all_calls counts_told run_of meaning trace is_definition put_among sorted digits
 run files min = (meaning files (codes "job") min, length (trace files (codes "job") min), total_cost (trace files (codes "job") min))
 
 abbrev file : List ℕ → List ℕ → File

@@ -1,4 +1,6 @@
 pub mod Course
+pub mod Reached
+pub mod Work
 pub mod Sorting
 pub mod Reading
 pub mod Commands
@@ -6,3 +8,5 @@ pub mod Counts
 pub mod Meaning
 pub mod JobView
 pub mod Shown
+pub mod Kept
+pub mod Steps

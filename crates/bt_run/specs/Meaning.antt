@@ -15,8 +15,6 @@ use Rattle.bt_job.specs.Citations.{citations}
 use Rattle.bt_job.specs.Log.{status_of, log_bytes, terse_bytes, lines_bytes}
 use Rattle.bt_run.specs.declared.course.Course.{Course}
 use Rattle.bt_run.specs.declared.course.Step.{Step}
-use Rattle.bt_run.specs.declared.answers.Report.{Report}
-use Rattle.bt_run.specs.Course.{total_cost}
 use Rattle.bt_run.specs.Reading.{Job}
 use Rattle.bt_run.specs.Commands.{commands_from}
 use Rattle.bt_run.specs.Counts.{counted}
@@ -106,7 +104,3 @@ meaning files root min = shown (run_of files root min) (citations files root).wa
 -- the steps of that run
 unfoldable pub trace : List File → List ℕ → ℕ → List Step
 trace files root min = (run_of files root min).trace
-
--- the report of a run that carried out each of its steps
-unfoldable pub report_of : List File → List ℕ → ℕ → Report
-report_of files root min = record { status = (meaning files root min).status; ran = length (trace files root min); reused = 0; ticks = total_cost (trace files root min) }

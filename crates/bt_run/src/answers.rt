@@ -1,10 +1,13 @@
 //! What files mean, computed from scratch.
 
-ghost use Rattle.std.specs.Prelude.{◌≡◌, ◌≤◌, length, IfOk};
+ghost use Rattle.std.specs.Prelude.{◌≡◌, ◌≤◌, [], length, IfOk};
 ghost use Rattle.std.specs.Option.{ForSome};
-ghost use Rattle.bt_run.specs.Course.{IsConsistent};
+ghost use Rattle.bt_style.specs.Program.{program_of};
+ghost use Rattle.bt_run.specs.Work.{IsConsistent};
+ghost use Rattle.bt_run.specs.Steps.{IsTaken};
+ghost use Rattle.bt_run.specs.Kept.{named_text, style_text, report_after};
 ghost use Rattle.bt_actions.specs.World.{no_variables};
-ghost use Rattle.bt_run.specs.Meaning.{carried, refused, run_with, shown, meaning, report_of};
+ghost use Rattle.bt_run.specs.Meaning.{carried, refused, run_with, shown, meaning, trace};
 ghost use Rattle.bt_run.specs.JobView.{job_of};
 ghost use Rattle.bt_run.specs.Shown.{meaning_of};
 
@@ -12,7 +15,9 @@ use crate::beginning::{begin, fault_told, first_globals};
 use crate::commands::run_commands;
 use crate::counts::tell_counts;
 use crate::course::Course;
-use crate::job::{Job, text_in};
+use crate::job::{Job, shared_text};
+use crate::kept::{Kept, steps_under};
+use crate::reuse::Reuse;
 use bt_actions::Variables;
 use bt_job::{
     Citations, File, Message, lines_bytes, log_bytes, read_citations, status, terse_bytes,
@@ -20,7 +25,7 @@ use bt_job::{
 use bt_machine::Meter;
 use bt_resolve::Cites;
 use bt_style::{Fault, StyleRefusal, fields_are_apart, read_style};
-use bt_text::{Bytes, Sequence};
+use bt_text::{Bytes, Sequence, Shared};
 use std::alloc::{AllocError, Global};
 
 /// What a run shows.
@@ -67,15 +72,17 @@ fn carry_out_style(
     alloc: Global,
     job: Job<'_>,
     log: Sequence<Message>,
-    meter: &mut Meter,
+    reuse: &mut Reuse,
 ) -> Result<Course, AllocError>
-    requires { meter.old ≡ 0 }
+    requires meter { reuse.old.meter ≡ 0 }
+    requires ran { reuse.old.ran ≡ 0 }
+    requires known { reuse.old.known ≡ [] }
     ensures run { IfOk result (λ course. course ≡ carried (job_of job.entry) log) }
-    ensures consistent { IfOk result (λ course. IsConsistent course meter.new) }
+    ensures consistent { IfOk result (λ course. IsConsistent (program_of job.entry.style.now) job.entry.earlier.now course reuse.new) }
 {
     let globals = first_globals(alloc, job.style)?;
     let mut course = begin(alloc, globals, log)?;
-    run_commands(alloc, job, &mut course, meter)?;
+    run_commands(alloc, job, &mut course, reuse)?;
     tell_counts(alloc, &mut course)?;
     Ok(course)
 }
@@ -94,20 +101,31 @@ fn refuse_style(
     begin(alloc, no_variables(alloc), log)
 }
 
+/// A run as far as its log, the names that it looked for and did not find, and the text of its style.
+struct Ran {
+    course: Course,
+    wanted: Sequence<Bytes>,
+    text: Option<Shared<Bytes>>,
+}
+
 /// Runs what the `.aux` files ask for.
-#[tactic(auto, using(crate::proofs::AnswerLemmas::begun_consistent, crate::proofs::AnswerLemmas::no_style, crate::proofs::AnswerLemmas::style_ran, crate::proofs::AnswerLemmas::style_refused))]
+#[tactic(auto, using(crate::proofs::AnswerLemmas::begun_consistent, crate::proofs::AnswerLemmas::no_style, crate::proofs::AnswerLemmas::style_ran, crate::proofs::AnswerLemmas::style_refused, crate::proofs::AnswerLemmas::nothing_taken, crate::proofs::AnswerLemmas::run_taken, crate::proofs::AnswerLemmas::earlier_steps))]
 fn run_with(
     alloc: Global,
     files: &[File],
     citations: Citations,
     min: u32,
-    meter: &mut Meter,
-) -> Result<(Course, Sequence<Bytes>), AllocError>
-    requires start { meter.old ≡ 0 }
+    kept: &Kept,
+    reuse: &mut Reuse,
+) -> Result<Ran, AllocError>
+    requires meter { reuse.old.meter ≡ 0 }
+    requires ran { reuse.old.ran ≡ 0 }
+    requires known { reuse.old.known ≡ [] }
     requires star { ForSome citations.star (λ before. before ≤ length citations.keys) }
-    ensures run { IfOk result (λ p. p.0 ≡ run_with files.now citations min citations.style) }
-    ensures wanted { IfOk result (λ p. p.1 ≡ citations.wanted) }
-    ensures consistent { IfOk result (λ p. IsConsistent p.0 meter.new) }
+    ensures run { IfOk result (λ r. r.course ≡ run_with files.now citations min citations.style) }
+    ensures wanted { IfOk result (λ r. r.wanted ≡ citations.wanted) }
+    ensures text { IfOk result (λ r. r.text ≡ named_text files.now citations.style) }
+    ensures taken { IfOk result (λ r. IsTaken kept.now.text kept.now.steps r.text r.course.trace reuse.new) }
 {
     let Citations {
         keys,
@@ -119,14 +137,22 @@ fn run_with(
         ..
     } = citations;
     let Some(name) = style else {
-        return Ok((begin(alloc, no_variables(alloc), log)?, wanted));
+        let course = begin(alloc, no_variables(alloc), log)?;
+        return Ok(Ran {
+            course,
+            wanted,
+            text: None,
+        });
     };
     let name = name.as_slice();
     fields_are_apart();
     let keys = keys.into_sequence();
     let cites = Cites { keys, star };
-    match read_style(alloc, text_in(files, name)) {
+    let text = shared_text(alloc, files, name)?;
+    let bytes = text.as_slice();
+    match read_style(alloc, bytes) {
         Ok(style) => {
+            let earlier = steps_under(kept, bytes);
             let job = Job {
                 files,
                 cites: &cites,
@@ -134,10 +160,23 @@ fn run_with(
                 min,
                 name,
                 style: &style,
+                earlier,
             };
-            Ok((carry_out_style(alloc, job, log, meter)?, wanted))
+            let course = carry_out_style(alloc, job, log, reuse)?;
+            Ok(Ran {
+                course,
+                wanted,
+                text: Some(text),
+            })
         }
-        Err(StyleRefusal::Fault(fault)) => Ok((refuse_style(alloc, name, fault, log)?, wanted)),
+        Err(StyleRefusal::Fault(fault)) => {
+            let course = refuse_style(alloc, name, fault, log)?;
+            Ok(Ran {
+                course,
+                wanted,
+                text: Some(text),
+            })
+        }
         Err(StyleRefusal::OutOfMemory) => Err(AllocError),
     }
 }
@@ -155,27 +194,56 @@ fn show(alloc: Global, course: &Course, wanted: Sequence<Bytes>) -> Result<Answe
     })
 }
 
-/// What the files mean from this root, the name of its file without `.aux`, with this min-crossrefs; and the report of a
-/// run that carried out every step. The one error is want of memory.
+/// What a run gives: what it shows, what is kept of it for the next one, and what it took.
+#[derive(Debug, Drop)]
+pub struct Run {
+    pub answers: Answers,
+    pub kept: Kept,
+    pub report: Report,
+}
+
+/// What the files mean from this root, the name of its file without `.aux`, with this min-crossrefs. Of the steps that
+/// are kept of an earlier run, those that agree are taken over where its style has the same text; all others are carried
+/// out, and reported. The one error is out of memory.
 #[tactic(auto, using(crate::proofs::AnswerLemmas::star_within))]
-pub fn answers_for(
+pub fn answers_after(
     alloc: Global,
     files: &[File],
     root: &[u8],
     min: u32,
-) -> Result<(Answers, Report), AllocError>
-    ensures shown { IfOk result (λ p. meaning_of p.0 ≡ meaning files.now root.now min) }
-    ensures report { IfOk result (λ p. p.1 ≡ report_of files.now root.now min) }
+    kept: &Kept,
+) -> Result<Run, AllocError>
+    ensures shown { IfOk result (λ run. meaning_of run.answers ≡ meaning files.now root.now min) }
+    ensures report { IfOk result (λ run. run.report ≡ report_after kept.now.text kept.now.steps files.now root.now min) }
+    ensures text { IfOk result (λ run. run.kept.text ≡ style_text files.now root.now) }
+    ensures steps { IfOk result (λ run. run.kept.steps ≡ trace files.now root.now min) }
 {
     let citations = read_citations(alloc, files, root)?;
-    let mut meter = Meter::new();
-    let (course, wanted) = run_with(alloc, files, citations, min, &mut meter)?;
+    let mut reuse = Reuse {
+        meter: Meter::new(),
+        ran: 0,
+        next: 0,
+        known: Sequence::new(alloc),
+    };
+    let ran = run_with(alloc, files, citations, min, kept, &mut reuse)?;
+    let Ran {
+        course,
+        wanted,
+        text,
+    } = ran;
     let answers = show(alloc, &course, wanted)?;
+    let steps = course.trace.len();
     let report = Report {
         status: answers.status,
-        ran: course.trace.len() as u64,
-        reused: 0,
-        ticks: meter.value(),
+        ran: reuse.ran as u64,
+        reused: steps as u64 - reuse.ran as u64,
+        ticks: reuse.meter.value(),
     };
-    Ok((answers, report))
+    let Course { trace, .. } = course;
+    let kept = Kept { text, steps: trace };
+    Ok(Run {
+        answers,
+        kept,
+        report,
+    })
 }

@@ -2,17 +2,18 @@
 
 ghost use Rattle.std.specs.Prelude.{◌≡◌, ◌<◌, Some, All, OnOk, IfOk, length, reverse};
 ghost use Rattle.bt_style.specs.Program.{program_of};
-ghost use Rattle.bt_run.specs.Course.{stepped, IsConsistent};
+ghost use Rattle.bt_run.specs.Course.{stepped};
+ghost use Rattle.bt_run.specs.Work.{IsStep, IsConsistent};
 ghost use Rattle.bt_run.specs.Reading.{read};
 ghost use Rattle.bt_run.specs.Commands.{iterated, unless_stopped, sorted_run, site_of, in_direction, carried_out, command as command_done, commands_from};
 ghost use Rattle.bt_run.specs.JobView.{job_of};
 
-use crate::course::{Course, Site};
+use crate::course::{Course, Site, Step};
 use crate::job::Job;
 use crate::reading::read;
 use crate::sorting::sorted_places;
+use crate::reuse::Reuse;
 use crate::stepping::take_step;
-use bt_machine::Meter;
 use bt_style::{Action, Command, Style, Target};
 use bt_text::Bytes;
 use std::alloc::{AllocError, Global};
@@ -24,19 +25,21 @@ fn take_next(
     site: &Site,
     target: Target,
     place: usize,
+    earlier: &[Step],
     course: &mut Course,
-    meter: &mut Meter,
+    reuse: &mut Reuse,
 ) -> Result<(), AllocError>
     requires placed { place < length course.old.entries }
-    requires consistent { IsConsistent course.old meter.old }
+    requires steps { All (IsStep (program_of style.now)) earlier.now }
+    requires consistent { IsConsistent (program_of style.now) earlier.now course.old reuse.old }
     ensures run { OnOk result (course.new ≡ unless_stopped course.old.stopped course.old (stepped (program_of style.now) site.now target (Some place) course.old)) }
-    ensures consistent { OnOk result (IsConsistent course.new meter.new) }
+    ensures consistent { OnOk result (IsConsistent (program_of style.now) earlier.now course.new reuse.new) }
     ensures entries { OnOk result (length course.new.entries ≡ length course.old.entries) }
 {
     if course.stopped {
         return Ok(());
     }
-    take_step(alloc, style, site, target, Some(place), course, meter)
+    take_step(alloc, style, site, target, Some(place), earlier, course, reuse)
 }
 
 /// Takes a step for the entry at each of these places, and none after one that stopped.
@@ -46,16 +49,18 @@ fn iterate(
     site: &Site,
     target: Target,
     places: &[usize],
+    earlier: &[Step],
     course: &mut Course,
-    meter: &mut Meter,
+    reuse: &mut Reuse,
 ) -> Result<(), AllocError>
     requires placed { All (λ n. n < length course.old.entries) places.now }
-    requires consistent { IsConsistent course.old meter.old }
+    requires steps { All (IsStep (program_of style.now)) earlier.now }
+    requires consistent { IsConsistent (program_of style.now) earlier.now course.old reuse.old }
     ensures run { OnOk result (course.new ≡ iterated (program_of style.now) site.now target places.now course.old) }
-    ensures consistent { OnOk result (IsConsistent course.new meter.new) }
+    ensures consistent { OnOk result (IsConsistent (program_of style.now) earlier.now course.new reuse.new) }
 {
     'places: for place in places {
-        take_next(alloc, style, site, target, *place, course, meter)?;
+        take_next(alloc, style, site, target, *place, earlier, course, reuse)?;
     }
     Ok(())
 }
@@ -88,15 +93,17 @@ fn run_for_each(
     site: &Site,
     target: Target,
     direction: Direction,
+    earlier: &[Step],
     course: &mut Course,
-    meter: &mut Meter,
+    reuse: &mut Reuse,
 ) -> Result<(), AllocError>
-    requires { IsConsistent course.old meter.old }
+    requires steps { All (IsStep (program_of style.now)) earlier.now }
+    requires consistent { IsConsistent (program_of style.now) earlier.now course.old reuse.old }
     ensures run { OnOk result (course.new ≡ iterated (program_of style.now) site.now target (in_direction direction course.old.order) course.old) }
-    ensures consistent { OnOk result (IsConsistent course.new meter.new) }
+    ensures consistent { OnOk result (IsConsistent (program_of style.now) earlier.now course.new reuse.new) }
 {
     let places = places_in(alloc, direction, course.order.as_slice())?;
-    iterate(alloc, style, site, target, places.as_slice(), course, meter)
+    iterate(alloc, style, site, target, places.as_slice(), earlier, course, reuse)
 }
 
 /// Puts the entries into the order of their sort keys.
@@ -126,11 +133,11 @@ fn act_on(
     number: usize,
     command: Command,
     course: &mut Course,
-    meter: &mut Meter,
+    reuse: &mut Reuse,
 ) -> Result<(), AllocError>
-    requires { IsConsistent course.old meter.old }
+    requires { IsConsistent (program_of job.style.now) job.earlier.now course.old reuse.old }
     ensures run { OnOk result (course.new ≡ carried_out (job_of job.entry) number command.line command.action course.old) }
-    ensures consistent { OnOk result (IsConsistent course.new meter.new) }
+    ensures consistent { OnOk result (IsConsistent (program_of job.entry.style.now) job.entry.earlier.now course.new reuse.new) }
 {
     match command.action {
         Action::Entry
@@ -140,7 +147,7 @@ fn act_on(
         | Action::Strings => Ok(()),
         Action::Execute(target) => {
             let site = site_of(alloc, job, number, command.line)?;
-            take_step(alloc, job.style, &site, target, None, course, meter)
+            take_step(alloc, job.style, &site, target, None, job.earlier, course, reuse)
         }
         Action::Iterate(target) => {
             let site = site_of(alloc, job, number, command.line)?;
@@ -150,8 +157,9 @@ fn act_on(
                 &site,
                 target,
                 Direction::Forward,
+                job.earlier,
                 course,
-                meter,
+                reuse,
             )
         }
         Action::Reverse(target) => {
@@ -162,8 +170,9 @@ fn act_on(
                 &site,
                 target,
                 Direction::Backward,
+                job.earlier,
                 course,
-                meter,
+                reuse,
             )
         }
         Action::Read => {
@@ -184,16 +193,16 @@ fn carry_out(
     number: usize,
     command: Command,
     course: &mut Course,
-    meter: &mut Meter,
+    reuse: &mut Reuse,
 ) -> Result<(), AllocError>
-    requires { IsConsistent course.old meter.old }
+    requires { IsConsistent (program_of job.style.now) job.earlier.now course.old reuse.old }
     ensures run { OnOk result (course.new ≡ command_done (job_of job.entry) number command course.old) }
-    ensures consistent { OnOk result (IsConsistent course.new meter.new) }
+    ensures consistent { OnOk result (IsConsistent (program_of job.entry.style.now) job.entry.earlier.now course.new reuse.new) }
 {
     if course.stopped {
         return Ok(());
     }
-    act_on(alloc, job, number, command, course, meter)
+    act_on(alloc, job, number, command, course, reuse)
 }
 
 /// Carries out a style's commands in order, up to a step that stops the run.
@@ -201,14 +210,14 @@ pub fn run_commands(
     alloc: Global,
     job: Job<'_>,
     course: &mut Course,
-    meter: &mut Meter,
+    reuse: &mut Reuse,
 ) -> Result<(), AllocError>
-    requires { IsConsistent course.old meter.old }
+    requires { IsConsistent (program_of job.style.now) job.earlier.now course.old reuse.old }
     ensures run { OnOk result (course.new ≡ commands_from (job_of job.entry) 0 job.entry.style.now.commands course.old) }
-    ensures consistent { OnOk result (IsConsistent course.new meter.new) }
+    ensures consistent { OnOk result (IsConsistent (program_of job.entry.style.now) job.entry.earlier.now course.new reuse.new) }
 {
     'commands: for (number, command) in job.style.commands.as_slice().iter().enumerate() {
-        carry_out(alloc, job, number, *command, course, meter)?;
+        carry_out(alloc, job, number, *command, course, reuse)?;
     }
     Ok(())
 }

@@ -1,14 +1,18 @@
 //! What a run reads.
 
-ghost use Rattle.std.specs.Prelude.{◌≡◌, ◌≤◌, [], length, unwrap_or, IsTrue};
+ghost use Rattle.std.specs.Prelude.{◌≡◌, ◌≤◌, [], All, length, unwrap_or, IfOk, IsTrue};
+ghost use Rattle.bt_style.specs.Program.{program_of};
+ghost use Rattle.bt_run.specs.Work.{IsStep};
 ghost use Rattle.std.specs.Option.{ForSome};
 ghost use Rattle.bt_job.specs.Naming.{text_of};
 ghost use Rattle.bt_resolve.specs.Names.{are_apart};
 
+use crate::course::Step;
 use bt_job::{File, text_of};
 use bt_resolve::Cites;
 use bt_style::Style;
-use bt_text::Bytes;
+use bt_text::{Bytes, Shared};
+use std::alloc::{AllocError, Global};
 
 /// What a run reads.
 #[derive(Clone, Copy)]
@@ -21,6 +25,9 @@ pub struct Job<'a> {
     /// The name of the style's file.
     pub name: &'a [u8],
     pub style: &'a Style,
+    /// The steps of an earlier run under this style; none where there was none.
+    pub earlier: &'a [Step],
+    ghost steps: { All (IsStep (program_of style.now)) earlier.now },
     ghost fields_apart: { IsTrue (are_apart style.now.fields) },
     ghost star_within: { ForSome cites.now.star (λ before. before ≤ length cites.now.keys) },
 }
@@ -30,4 +37,20 @@ pub fn text_in<'a>(files: &'a [File], name: &[u8]) -> &'a [u8]
     ensures { result.now ≡ unwrap_or (text_of files.now name.now) [] }
 {
     text_of(files, name).unwrap_or(b"")
+}
+
+/// The same, shared with its file. The one error is out of memory.
+pub fn shared_text(
+    alloc: Global,
+    files: &[File],
+    name: &[u8],
+) -> Result<Shared<Bytes>, AllocError>
+    ensures { IfOk result (λ text. text ≡ unwrap_or (text_of files.now name.now) []) }
+{
+    'files: for file in files {
+        if file.name.as_slice() == name {
+            return file.text.share();
+        }
+    }
+    Shared::new(alloc, Bytes::new(alloc))
 }

@@ -1,4 +1,5 @@
-//! A run of BibTeX over the present files, from scratch: the commands of the style, the log and the counts.
+//! A run of BibTeX over the present files: the commands of the style, the log and the counts. Steps of an earlier run that
+//! agree are taken over.
 #![tactic(auto)]
 
 mod answers;
@@ -9,12 +10,17 @@ mod course;
 mod databases;
 mod declaring;
 mod job;
+mod kept;
 mod reading;
+mod reuse;
+mod reusing;
 mod sorting;
 mod stepping;
 
-pub use answers::{Answers, Report, answers_for};
+pub use answers::{Answers, Report, Run, answers_after};
 pub use course::{Course, Site, Step};
+pub use kept::Kept;
+pub use reuse::Reuse;
 
 #[cfg(test)]
 mod tests;

@@ -1,17 +1,20 @@
 //! A step of a run: its input is cut out of the run, and its outcome put back.
 
-ghost use Rattle.std.specs.Prelude.{◌≡◌, ◌<◌, ◌++◌, Some, length, IfOk, OnOk};
+ghost use Rattle.std.specs.Prelude.{◌≡◌, ◌<◌, ◌++◌, All, Some, length, IfOk, OnOk};
 ghost use Rattle.std.specs.Option.{option_map, ForSome};
 ghost use Rattle.bt_style.specs.Program.{program_of};
 ghost use Rattle.bt_actions.specs.declared.entry.Entry.{Entry as EntrySeen};
 ghost use Rattle.bt_actions.specs.World.{entry_in};
 ghost use Rattle.bt_machine.specs.Place.{IsPlace};
-ghost use Rattle.bt_run.specs.Course.{world_of, input_at, told_by, all_told, while_executing, variables_back, put_back, stepped, IsConsistent};
+ghost use Rattle.bt_run.specs.Course.{world_of, input_at, told_by, all_told, while_executing, variables_back, put_back, stepped};
+ghost use Rattle.bt_run.specs.Work.{IsStep, IsConsistent};
 
 use crate::course::{Course, Site, Step};
+use crate::reusing::{Done, take_or_reuse};
+use crate::reuse::Reuse;
 use bt_actions::{Entry, Variables};
 use bt_job::{Message, Rank};
-use bt_machine::{Input, Meter, Outcome, activate, step_depends_on_its_input};
+use bt_machine::{Input, Outcome, step_depends_on_its_input};
 use bt_style::{Style, Target};
 use bt_text::{Bytes, Sequence, Shared};
 use itoa::Buffer;
@@ -187,22 +190,23 @@ pub fn take_step(
     site: &Site,
     target: Target,
     place: Option<usize>,
+    earlier: &[Step],
     course: &mut Course,
-    meter: &mut Meter,
+    reuse: &mut Reuse,
 ) -> Result<(), AllocError>
     requires placed { IsPlace place (world_of course.old) }
-    requires consistent { IsConsistent course.old meter.old }
+    requires steps { All (IsStep (program_of style.now)) earlier.now }
+    requires consistent { IsConsistent (program_of style.now) earlier.now course.old reuse.old }
     ensures run { OnOk result (course.new ≡ stepped (program_of style.now) site.now target place course.old) }
-    ensures consistent { OnOk result (IsConsistent course.new meter.new) }
+    ensures consistent { OnOk result (IsConsistent (program_of style.now) earlier.now course.new reuse.new) }
     ensures entries { OnOk result (length course.new.entries ≡ length course.old.entries) }
 {
     step_depends_on_its_input();
     let _steps = course.trace.len();
     let input = cut_out(alloc, course, target, place)?;
     let key = key_of(&input)?;
-    let before = meter.value();
-    let outcome = activate(alloc, style, &input, meter)?;
-    let cost = meter.value() - before;
+    let Done { outcome, cost } =
+        take_or_reuse(alloc, style, site.command, &input, earlier, reuse)?;
     put_back(alloc, course, place, &outcome)?;
     let messages = all_told(alloc, outcome.messages.as_slice(), site)?;
     course.log.append(messages)?;

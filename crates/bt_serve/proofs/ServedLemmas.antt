@@ -2,7 +2,7 @@
 use Rattle.std.proofs.Common.{◌≡◌, ◌≢◌, inl, inr, ℕ, zero, suc, ◌≤◌, List, [], ◌∷◌, ◌++◌, length, refl, ap, sym, ◌∙◌, subst, arith, append_assoc, append-nil, length-append, None, Bool, true, false, Ok, Err}
 use Rattle.std.specs.List.{AllByRecursion, flat_map}
 use Rattle.bt_serve.specs.Reads.{HasNoFeed}
-use Rattle.bibtex.specs.Present.{State}
+use Rattle.bibtex.specs.declared.state.State.{State}
 use Rattle.bt_serve.specs.Commands.{Command, request_of, bytes_behind, spelled, ends, answer, after, answers_to, Wants}
 use Rattle.bt_serve.specs.Serves.{IsCommand, Answered, Ends}
 use Rattle.bt_serve.specs.declared.fault.ServeFault.TheVariants.{WriteFailed, Truncated}

@@ -6,7 +6,7 @@ use Rattle.std.proofs.lemmas.Grind.{flat_map-append}
 use Rattle.std.specs.Io.KnownBytes.{Consumes, Appends, IsAtEnd}
 use Rattle.bt_serve.proofs.ReadLemmas.{consumes_more}
 use Rattle.bt_serve.specs.Reads.{HasNoFeed}
-use Rattle.bibtex.specs.Present.{State}
+use Rattle.bibtex.specs.declared.state.State.{State}
 use Rattle.bt_serve.specs.Commands.{Request, Command, request_of, request_of_words, words_of, too_long, ends, answer, after, answers_to, state_after, spelled, Wants, WantsInTurn}
 use Rattle.bt_serve.specs.Serves.{Answered, IsCommand, Replies, Turn, ended}
 use Rattle.bt_serve.specs.declared.fault.ServeFault.{ServeFault}

@@ -4,7 +4,8 @@ use Rattle.std.specs.List.{list_all, slice_split}
 use Rattle.bt_run.specs.declared.answers.Report.{Report}
 use Rattle.bibtex.specs.declared.edit.Refusal.{Refusal}
 use Rattle.bibtex.specs.declared.edit.Refusal.TheVariants.{BadName, NoSuchFile, RangeOutside, FileTooLarge, TooManyFiles, OutOfMemory}
-use Rattle.bibtex.specs.Present.{State, shown, reported}
+use Rattle.bibtex.specs.declared.state.State.{State}
+use Rattle.bibtex.specs.Present.{shown, reported}
 use Rattle.bibtex.specs.Changes.{Change, write, splice, remove, root_name, min_crossrefs}
 use Rattle.bibtex.specs.Applied.{outcome}
 
@@ -124,10 +125,10 @@ accepted r =
 abbrev pub refused : Refusal → List ℕ
 refused refusal = codes "refused " ++ (decimal (code_of refusal) ++ codes "\n")
 
--- the answer to an edit of this outcome
-abbrev pub edit_answer : Result State Refusal → List ℕ
-edit_answer (Ok state) = accepted (reported state)
-edit_answer (Err refusal) = refused refusal
+-- the answer to an edit of a state with this outcome
+abbrev pub edit_answer : State → Result State Refusal → List ℕ
+edit_answer old (Ok state) = accepted (reported old state)
+edit_answer old (Err refusal) = refused refusal
 
 -- the state behind an edit of this outcome
 abbrev pub state_or : State → Result State Refusal → State
@@ -146,7 +147,7 @@ number_line word n = word ++ (decimal n ++ codes "\n")
 
 -- the answer to a request with these bytes
 abbrev pub answer_of : Bool → State → Request → List ℕ → List ℕ
-answer_of wants state (edit change n) bytes = edit_answer (unless_wanting wants (outcome change bytes state))
+answer_of wants state (edit change n) bytes = edit_answer state (unless_wanting wants (outcome change bytes state))
 answer_of wants state bbl bytes = codes "bbl " ++ (decimal (length (shown state).bbl) ++ (codes "\n" ++ (shown state).bbl))
 answer_of wants state blg bytes = codes "blg " ++ (decimal (length (shown state).blg) ++ (codes "\n" ++ (shown state).blg))
 answer_of wants state status bytes = number_line (codes "status ") (shown state).status

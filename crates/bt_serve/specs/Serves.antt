@@ -6,7 +6,8 @@ use Rattle.bt_serve.specs.Reads.{HasNoFeed, ReadsBelow}
 use Rattle.bt_serve.specs.Writes.{AppendsPart}
 use Rattle.bt_run.specs.declared.answers.Report.{Report}
 use Rattle.bibtex.specs.declared.edit.Refusal.{Refusal}
-use Rattle.bibtex.specs.Present.{State, reported}
+use Rattle.bibtex.specs.declared.state.State.{State}
+use Rattle.bibtex.specs.Present.{reported}
 use Rattle.bibtex.specs.Changes.{Change}
 use Rattle.bibtex.specs.Applied.{outcome, IsAnswer}
 use Rattle.bt_serve.specs.Commands.{Request, bytes_behind, answer_of, after_of, ends, accepted, refused, request_of, Command, spelled, answer, after, answers_to, state_after, Wants, WantsInTurn}
@@ -16,7 +17,7 @@ use Rattle.bt_serve.specs.declared.fault.ServeFault.TheVariants.{ReadFailed, Wri
 -- the bytes of an edit are read, and the edit is made or refused
 abbrev pub Takes : Change → ℕ → Option (List ℕ) → Option (List ℕ) → State → State → Result (Result Report Refusal) ServeFault → Type 0
 Takes change n old new state state' (Ok (Ok report)) =
-    (bytes : List ℕ) × (length bytes ≡ n) × Consumes old new bytes × (outcome change bytes state ≡ Ok state') × (report ≡ reported state')
+    (bytes : List ℕ) × (length bytes ≡ n) × Consumes old new bytes × (outcome change bytes state ≡ Ok state') × (report ≡ reported state state')
 Takes change n old new state state' (Ok (Err refusal)) =
     (bytes : List ℕ) × (length bytes ≡ n) × Consumes old new bytes × IsAnswer (outcome change bytes state) (Err refusal) × (state' ≡ state)
 Takes change n old new state state' (Err ReadFailed) = ReadsBelow old new n × (state' ≡ state)

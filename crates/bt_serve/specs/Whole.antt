@@ -2,7 +2,7 @@
 use Rattle.std.specs.Prelude.{◌≡◌, ℕ, zero, suc, nat_le, ◌==◌, Bool, false, if◌then◌else◌, ◌++◌, List, [], ◌∷◌, length, take, drop, Option, Some, None}
 use Rattle.std.specs.List.{AllByRecursion}
 use Rattle.bt_serve.specs.Serves.{IsCut}
-use Rattle.bibtex.specs.Present.{State}
+use Rattle.bibtex.specs.declared.state.State.{State}
 use Rattle.bt_serve.specs.Commands.{Command, request_of, bytes_behind, ends, answer, after, answers_to, state_after, Wants, WantsInTurn}
 
 -- an input's commands, and what is left when they are cut off

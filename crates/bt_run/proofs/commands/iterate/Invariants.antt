@@ -1,6 +1,6 @@
 use Rattle.std.proofs.Common.{◌≡◌, length, drop}
 use Rattle.bt_style.specs.Program.{program_of}
-use Rattle.bt_run.specs.Course.{IsConsistent}
+use Rattle.bt_run.specs.Work.{IsConsistent}
 use Rattle.bt_run.specs.Commands.{iterated}
 use Rattle.bt_run.proofs.commands.iterate.Given as goal
 
@@ -9,5 +9,5 @@ abbrev pub invariant-places : goal.invariant-places
 invariant-places l = record {
   run : iterated (program_of l.style) l.site l.target (drop l.place-index l.places) l.course ≡ iterated (program_of l.style) l.site l.target l.places l.fn.course;
   entries : length l.course.entries ≡ length l.fn.course.entries;
-  consistent : IsConsistent l.course l.meter;
+  consistent : IsConsistent (program_of l.style) l.earlier l.course l.reuse;
 }

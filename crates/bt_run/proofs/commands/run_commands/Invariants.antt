@@ -1,5 +1,6 @@
 use Rattle.std.proofs.Common.{◌≡◌, drop}
-use Rattle.bt_run.specs.Course.{IsConsistent}
+use Rattle.bt_style.specs.Program.{program_of}
+use Rattle.bt_run.specs.Work.{IsConsistent}
 use Rattle.bt_run.specs.Commands.{commands_from}
 use Rattle.bt_run.specs.JobView.{job_of}
 use Rattle.bt_run.proofs.commands.run_commands.Given as goal
@@ -8,5 +9,5 @@ use Rattle.bt_run.proofs.commands.run_commands.Given as goal
 abbrev pub invariant-commands : goal.invariant-commands
 invariant-commands l = record {
   run : commands_from (job_of l.job) l.number (drop l.number l.job.style.now.commands) l.course ≡ commands_from (job_of l.job) 0 l.job.style.now.commands l.fn.course;
-  consistent : IsConsistent l.course l.meter;
+  consistent : IsConsistent (program_of l.job.style.now) l.job.earlier.now l.course l.reuse;
 }

@@ -1,0 +1,185 @@
+-- What is taken over is what would have been carried out, and how it counts.
+use Rattle.std.specs.Prelude.{◌==◌, ◌&&◌, not, bytes_eq, filter}
+use Rattle.std.specs.List.{Contains, list_any}
+use Rattle.std.specs.Option.{option_map}
+use Rattle.std.proofs.Common.{◌≡◌, refl, sym, ap, ◌∙◌, subst, ◌↔◌, ◌⊎◌, inl, inr, ◌+◌, ◌≤◌, ℕ, Bool, true, false, List, [], ◌∷◌, ◌++◌, Option, Some, None, All, length, arith}
+use Rattle.std.proofs.lemmas.Bool.{cases_Bool}
+use Rattle.std.proofs.lemmas.Bool.Decides.{nat_tests}
+use Rattle.std.proofs.lemmas.List.Elements.{filter-append}
+use Rattle.std.proofs.lemmas.List.Folds.{list_any_at, list_any_none}
+use Rattle.std.proofs.lemmas.List.Sums.{length-filter, count_by-le-length}
+use Rattle.std.proofs.lemmas.Slice.Eq.{bytes_eq-Decides}
+use Rattle.bt_style.specs.declared.style.Target.{Target}
+use Rattle.bt_style.specs.Program.{Program}
+use Rattle.bt_style.specs.declared.reach.Reach.{Reach}
+use Rattle.bt_style.specs.Reach.{is_among, Reaches}
+use Rattle.bt_style.proofs.FoundLemmas.{contained, among as found_among}
+use Rattle.bt_actions.specs.declared.entry.Entry.{Entry}
+use Rattle.bt_machine.specs.declared.input.Input.{Input}
+use Rattle.bt_machine.specs.declared.outcome.Outcome.{Outcome}
+use Rattle.bt_machine.specs.Step.{step_in, outcome_of}
+use Rattle.bt_machine.specs.Footprint.{entry_over, input_over, function_of}
+use Rattle.bt_machine.specs.Agreement.{Agree, IsFootprint, outcome_over, AgreeingInputsSameStep}
+use Rattle.bt_machine.specs.Comparison.{agreement}
+use Rattle.bt_machine.proofs.Comparing.{compared_tells}
+use Rattle.bt_run.specs.declared.course.Step.{Step}
+use Rattle.bt_run.specs.declared.reuse.Reuse.{Reuse}
+use Rattle.bt_run.specs.declared.reuse.Known.{Known}
+use Rattle.bt_run.specs.Reached.{names_in, reach_by}
+use Rattle.bt_run.specs.Work.{key_in, IsStep, same_key, is_same, is_again, work_under, total_cost, IsLike, IsKnown, IsCounted}
+use Rattle.bt_run.proofs.ReachedLemmas.{footprint_named}
+
+-- Agreement
+
+-- inputs that agree have one key
+key_over : (keep : Target → Bool) (b e : Option Entry) → option_map (λ (d : Entry). d.key) (option_map (entry_over keep b) e) ≡ option_map (λ (d : Entry). d.key) e
+key_over keep b None = refl
+key_over keep None (Some e) = refl
+key_over keep (Some d) (Some e) = refl
+
+pub key_same : (keep : Target → Bool) (i j : Input) → Agree keep i j → key_in i ≡ key_in j
+key_same keep i j agree = sym (key_over keep j.entry i.entry) ∙ ap key_in agree
+
+-- there is one set of names that a step comes to
+bool_same : (a b : Bool) → (a ≡ true → b ≡ true) → (b ≡ true → a ≡ true) → a ≡ b
+bool_same true true f g = refl
+bool_same false false f g = refl
+bool_same true false f g = sym (f refl)
+bool_same false true f g = g refl
+
+same_names : (p : Program) (i : Input) (names others : List Target) → IsFootprint p i names → IsFootprint p i others → is_among names ≡ is_among others
+same_names p i names others h g =
+    λ j t. bool_same (is_among names t) (is_among others t)
+        (λ e. found_among others t ((g t).1 ((h t).0 (contained names t e))))
+        (λ e. found_among names t ((h t).1 ((g t).0 (contained others t e)))) j
+
+-- a step of the earlier run is one of the style
+step_of : (p : Program) (earlier : List Step) (s : Step) → All (IsStep p) earlier → Contains earlier s → IsStep p s
+step_of p earlier s all among = subst (IsStep p) among.2 (all among.0 s among.1)
+
+pub true_step : (p : Program) (earlier : List Step) (s : Step) → All (IsStep p) earlier → Contains earlier s → IsStep p s
+true_step p earlier s all among = step_of p earlier s all among
+
+-- what is taken over costs what it cost
+pub taken_cost : (p : Program) (names : List Target) (i : Input) (s : Step) (cost : ℕ) → AgreeingInputsSameStep p → IsFootprint p i names → IsStep p s → Agree (is_among names) s.input i → cost ≡ s.cost → cost ≡ (step_in p i).cost
+taken_cost p names i s cost law reach own agree is =
+    is ∙ own.cost ∙ sym ((law names s.input i agree).1 reach).1
+
+-- Whether an earlier run has a step
+
+-- the step as it is kept
+abbrev step_now : ℕ → Input → Outcome → ℕ → Step
+step_now command i o cost = record { command = command; key = key_in i; input = i; outcome = o; cost = cost }
+
+and_both : (a b c : Bool) → a ≡ true → b ≡ true → c ≡ true → (a && b && c) ≡ true
+and_both a b c x y z = rw (x, y, z) refl
+
+and_first : (a b c : Bool) → (a && b && c) ≡ true → a ≡ true
+and_first true b c h = refl
+and_first false b c h = h
+
+and_last : (a b c : Bool) → (a && b && c) ≡ true → c ≡ true
+and_last true true c h = h
+and_last true false c h = absurd cc
+and_last false b c h = absurd cc
+
+same_number : (a b : ℕ) → a ≡ b → (a == b) ≡ true
+same_number a b h = grind (arith, nat_tests)
+
+number_same : (a b : ℕ) → (a == b) ≡ true → a ≡ b
+number_same a b h = grind (arith, nat_tests)
+
+key_itself : (k : Option (List ℕ)) → same_key k k ≡ true
+key_itself None = refl
+key_itself (Some k) = (bytes_eq-Decides k k).1 refl
+
+same_keys : (k l : Option (List ℕ)) → k ≡ l → same_key k l ≡ true
+same_keys k l e = subst (λ (m : Option (List ℕ)). same_key k m ≡ true) e (key_itself k)
+
+agreed : (names : List Target) (i j : Input) → agreement (reach_by names) i j ≡ true ↔ Agree (is_among names) i j
+agreed names i j = compared_tells (agreement (reach_by names) i j) (reach_by names) i j refl
+
+like_same : (p : Program) (command : ℕ) (names : List Target) (i : Input) (s : Step) (o : Outcome) (cost : ℕ) → IsFootprint p i names → IsStep p s → IsLike command names i s → is_same p (step_now command i o cost) s ≡ true
+unfolding is_same
+like_same p command names i s o cost reach own like =
+    let all = names_in p i in
+    let agree = subst (λ (k : Target → Bool). Agree k s.input i) (same_names p i names all reach (footprint_named p i)) like.agree in
+    and_both (s.command == command) (same_key s.key (key_in i)) (agreement (reach_by all) s.input i)
+    (same_number s.command command like.of_command)
+    (same_keys s.key (key_in i) (own.key ∙ key_same (is_among names) s.input i like.agree))
+    ((agreed all s.input i).1 agree)
+
+same_like : (p : Program) (command : ℕ) (names : List Target) (i : Input) (s : Step) (o : Outcome) (cost : ℕ) → IsFootprint p i names → is_same p (step_now command i o cost) s ≡ true → IsLike command names i s
+unfolding is_same
+same_like p command names i s o cost reach h =
+    let all = names_in p i in
+    let agree = (agreed all s.input i).0 (and_last (s.command == command) (same_key s.key (key_in i)) (agreement (reach_by all) s.input i) h) in
+    record {
+      of_command = number_same s.command command (and_first (s.command == command) (same_key s.key (key_in i)) (agreement (reach_by all) s.input i) h);
+      agree = subst (λ (k : Target → Bool). Agree k s.input i) (same_names p i all names (footprint_named p i) reach) agree;
+    }
+
+again : (p : Program) (earlier : List Step) (command : ℕ) (names : List Target) (i : Input) (s : Step) (o : Outcome) (cost : ℕ) → IsFootprint p i names → All (IsStep p) earlier → Contains earlier s → IsLike command names i s → is_again p earlier (step_now command i o cost) ≡ true
+again p earlier command names i s o cost reach all among like =
+    let t = step_now command i o cost in
+    list_any_at (is_same p t) earlier among.0 s among.1
+    (subst (λ (u : Step). is_same p t u ≡ true) (sym among.2) (like_same p command names i s o cost reach (step_of p earlier s all among) like))
+
+not_same : (p : Program) (command : ℕ) (names : List Target) (i : Input) (s : Step) (o : Outcome) (cost : ℕ) → IsFootprint p i names → (IsLike command names i s → ⊥) → is_same p (step_now command i o cost) s ≡ false
+not_same p command names i s o cost reach none =
+    elim (cases_Bool (is_same p (step_now command i o cost) s)) [ inl y ↦ absurd (none (same_like p command names i s o cost reach y)) | inr n ↦ n ]
+
+not_again : (p : Program) (earlier : List Step) (command : ℕ) (names : List Target) (i : Input) (o : Outcome) (cost : ℕ) → IsFootprint p i names → All (λ s. IsLike command names i s → ⊥) earlier → is_again p earlier (step_now command i o cost) ≡ false
+not_again p earlier command names i o cost reach none =
+    list_any_none (is_same p (step_now command i o cost)) earlier (λ k d lt. not_same p command names i _ o cost reach (none k d lt))
+
+-- Work
+
+work_again : (p : Program) (earlier : List Step) (t : Step) → is_again p earlier t ≡ true → work_under p earlier (t ∷ []) ≡ []
+unfolding work_under
+work_again p earlier t h = rw h refl
+
+work_new : (p : Program) (earlier : List Step) (t : Step) → is_again p earlier t ≡ false → work_under p earlier (t ∷ []) ≡ t ∷ []
+unfolding work_under
+work_new p earlier t h = rw h refl
+
+pub work_none : (p : Program) (earlier : List Step) → work_under p earlier [] ≡ []
+unfolding work_under
+work_none p earlier = refl
+
+pub work_append : (p : Program) (earlier ts us : List Step) → work_under p earlier (ts ++ us) ≡ work_under p earlier ts ++ work_under p earlier us
+unfolding work_under
+work_append p earlier ts us = filter-append (λ t. not (is_again p earlier t)) ts us
+
+-- a run that has no earlier one is all work
+pub work_first : (p : Program) (ts : List Step) → work_under p [] ts ≡ ts
+unfolding work_under
+work_first p [] = refl
+work_first p (t ∷ ts) = ap (λ us. t ∷ us) (work_first p ts)
+
+pub work_fewer : (p : Program) (earlier ts : List Step) → length (work_under p earlier ts) ≤ length ts
+unfolding work_under
+work_fewer p earlier ts =
+    let is_new : Step → Bool = λ t. not (is_again p earlier t) in
+    omega (arith, length-filter is_new ts, count_by-le-length is_new ts)
+
+-- How a step counts
+
+pub taken_counted : (p : Program) (earlier : List Step) (command : ℕ) (names : List Target) (i : Input) (s : Step) (o : Outcome) (cost : ℕ) (before after : Reuse) → IsFootprint p i names → All (IsStep p) earlier → Contains earlier s → IsLike command names i s → after.ran ≡ before.ran → after.meter ≡ before.meter → IsCounted p earlier (step_now command i o cost) before after
+taken_counted p earlier command names i s o cost before after reach all among like ran ticks =
+    let none = work_again p earlier (step_now command i o cost) (again p earlier command names i s o cost reach all among like) in
+    record { ran = rw none (omega (arith, ran)); ticks = rw none (omega (arith, ticks)) }
+
+pub ran_counted : (p : Program) (earlier : List Step) (command : ℕ) (names : List Target) (i : Input) (o : Outcome) (cost : ℕ) (before after : Reuse) → IsFootprint p i names → All (λ s. IsLike command names i s → ⊥) earlier → after.ran ≡ before.ran + 1 → after.meter ≡ before.meter + cost → IsCounted p earlier (step_now command i o cost) before after
+ran_counted p earlier command names i o cost before after reach none ran ticks =
+    let one = work_new p earlier (step_now command i o cost) (not_again p earlier command names i o cost reach none) in
+    record { ran = rw one (omega (arith, ran)); ticks = rw one (omega (arith, ticks)) }
+
+-- what was worked out is the footprint of an input
+pub footprint_known : (p : Program) (i : Input) (k : Known) (names : List Target) → IsKnown p k → k.target ≡ i.target → k.function ≡ function_of i.entry → names ≡ k.reach.targets → IsFootprint p i names
+footprint_known p i k names h target function is =
+    let Reached : List Target → Option ℕ → Target → Type 0 = λ ts f start. (t : Target) → Contains ts t ↔ Reaches p f start t in
+    subst (λ ts. Reached ts (function_of i.entry) i.target) (sym is) (subst (λ f. Reached k.reach.targets f i.target) function (subst (λ start. Reached k.reach.targets k.function start) target h))
+
+pub footprint_of : (p : Program) (i : Input) (names : List Target) (f : Option ℕ) → f ≡ function_of i.entry → ((t : Target) → Contains names t ↔ Reaches p f i.target t) → IsFootprint p i names
+footprint_of p i names f e h = subst (λ (g : Option ℕ). (t : Target) → Contains names t ↔ Reaches p g i.target t) e h

@@ -1,0 +1,51 @@
+-- The names that a step may come to, as a list.
+use Rattle.std.specs.Prelude.{ℕ, zero, suc, ◌+◌, List, [], ◌∷◌, length, Option, Some, None, filter_map, slice_get, refl}
+use Rattle.bt_style.specs.declared.style.Target.{Target}
+use Rattle.bt_style.specs.Program.{Program}
+use Rattle.bt_style.specs.declared.reach.Reach.{Reach}
+use Rattle.bt_style.specs.Numbers.{as_field, as_entry_number, as_entry_text, as_global_number, as_global_text}
+use Rattle.bt_style.specs.Reach.{leads_to, noted_all, reachable, is_among, keeps_held, keeps_preamble, keeps_kind}
+use Rattle.bt_machine.specs.declared.input.Input.{Input}
+use Rattle.bt_machine.specs.Footprint.{function_of}
+
+-- the names that a name leads to, if there is one
+abbrev pub next_names : Program → Option ℕ → Option Target → List Target
+next_names p type_function None = []
+next_names p type_function (Some t) = leads_to p type_function t
+
+-- names that were found, with those that the ones from a place on lead to, so many of them in turn
+abbrev pub found_from : Program → Option ℕ → ℕ → ℕ → List Target → List Target
+found_from p type_function zero place found = found
+found_from p type_function (suc rounds) place found =
+    found_from p type_function rounds (place + 1) (noted_all found (next_names p type_function (slice_get found place)))
+
+-- the names that are reached from one: there are no more rounds than names that may be reached at all
+unfoldable pub reach_of : Program → Option ℕ → Target → List Target
+reach_of p type_function start = found_from p type_function (length (reachable p type_function start) + 1) 0 (start ∷ [])
+
+-- the names that the step of an input may come to
+abbrev pub names_in : Program → Input → List Target
+names_in p i = reach_of p (function_of i.entry) i.target
+
+-- names with what is worked out of them
+abbrev pub reach_by : List Target → Reach
+reach_by names =
+    record {
+      targets = names;
+      fields = filter_map as_field names;
+      entry_numbers = filter_map as_entry_number names;
+      entry_texts = filter_map as_entry_text names;
+      global_numbers = filter_map as_global_number names;
+      global_texts = filter_map as_global_text names;
+      held = keeps_held (is_among names);
+      preamble = keeps_preamble (is_among names);
+      kind = keeps_kind (is_among names);
+      fields_among = refl;
+      entry_numbers_among = refl;
+      entry_texts_among = refl;
+      global_numbers_among = refl;
+      global_texts_among = refl;
+      held_named = refl;
+      preamble_named = refl;
+      kind_named = refl;
+    }

@@ -1,0 +1,80 @@
+-- What is carried out of a run after an earlier run: the steps that the earlier run does not have.
+use Rattle.std.specs.Prelude.{◌≡◌, ◌↔◌, ◌<◌, ◌≤◌, ◌+◌, ◌*◌, ◌==◌, ◌&&◌, not, ℕ, Bool, true, false, List, [], ◌∷◌, Option, Some, None, All, Contains, filter, length, sum_by, bytes_eq}
+use Rattle.std.specs.List.{list_any}
+use Rattle.std.specs.Option.{option_map}
+use Rattle.bt_style.specs.declared.style.Target.{Target}
+use Rattle.bt_style.specs.Program.{Program}
+use Rattle.bt_actions.specs.declared.entry.Entry.{Entry}
+use Rattle.bt_machine.specs.declared.input.Input.{Input}
+use Rattle.bt_machine.specs.Step.{step_in, outcome_of}
+use Rattle.bt_style.specs.Reach.{Reaches, is_among}
+use Rattle.bt_machine.specs.Agreement.{Agree}
+use Rattle.bt_machine.specs.Comparison.{agreement}
+use Rattle.bt_run.specs.declared.course.Step.{Step}
+use Rattle.bt_run.specs.declared.course.Course.{Course}
+use Rattle.bt_run.specs.declared.reuse.Known.{Known}
+use Rattle.bt_run.specs.declared.reuse.Reuse.{Reuse}
+use Rattle.bt_run.specs.Reached.{names_in, reach_by}
+
+-- the key of an input's entry
+abbrev pub key_in : Input → Option (List ℕ)
+key_in i = option_map (λ (e : Entry). e.key) i.entry
+
+-- what a step left and cost is what its input gives under a style
+pub record IsStep (p : Program) (s : Step) : Type 0 where
+  pub key : s.key ≡ key_in s.input
+  pub outcome : s.outcome ≡ outcome_of (step_in p s.input)
+  pub cost : s.cost ≡ (step_in p s.input).cost
+
+-- Work
+
+abbrev pub same_key : Option (List ℕ) → Option (List ℕ) → Bool
+same_key None None = true
+same_key None (Some k) = false
+same_key (Some k) None = false
+same_key (Some k) (Some l) = bytes_eq k l
+
+-- Whether an earlier step does what a later one would do: they are of the same command and key, and their inputs agree
+-- in all that the later one may come to.
+unfoldable pub is_same : Program → Step → Step → Bool
+is_same p t s = s.command == t.command && same_key s.key t.key && agreement (reach_by (names_in p t.input)) s.input t.input
+
+-- whether earlier steps have such a one
+abbrev pub is_again : Program → List Step → Step → Bool
+is_again p earlier t = list_any (is_same p t) earlier
+
+-- the work of steps: those that earlier steps of the same style do not have
+unfoldable pub work_under : Program → List Step → List Step → List Step
+work_under p earlier steps = filter (λ t. not (is_again p earlier t)) steps
+
+-- the cost of steps
+abbrev pub total_cost : List Step → ℕ
+total_cost steps = sum_by (λ (s : Step). s.cost) steps
+
+-- A run over earlier steps
+
+-- an earlier step of this command, whose input agrees with this one in some names
+pub record IsLike (command : ℕ) (names : List Target) (i : Input) (s : Step) : Type 0 where
+  pub of_command : s.command ≡ command
+  pub agree : Agree (is_among names) s.input i
+
+-- what is known to be reached from a name
+abbrev pub IsKnown : Program → Known → Type 0
+IsKnown p k = (t : Target) → Contains k.reach.targets t ↔ Reaches p k.function k.target t
+
+-- a step counts as its part of the work
+pub record IsCounted (p : Program) (earlier : List Step) (t : Step) (before after : Reuse) : Type 0 where
+  pub ran : after.ran ≡ before.ran + length (work_under p earlier (t ∷ []))
+  pub ticks : after.meter ≡ before.meter + total_cost (work_under p earlier (t ∷ []))
+
+-- What a run over earlier steps keeps to: what was carried out is the work of its trace, no step of which costs more than
+-- a million ticks; its steps are those of the style; what it worked out
+-- of the style is so; and its order names entries alone.
+pub record IsConsistent (p : Program) (earlier : List Step) (r : Course) (reuse : Reuse) : Type 0 where
+  pub ran : reuse.ran ≡ length (work_under p earlier r.trace)
+  pub ticks : reuse.meter ≡ total_cost (work_under p earlier r.trace)
+  pub fewer : reuse.ran ≤ length r.trace
+  pub bounded : reuse.meter ≤ 1000000 * length r.trace
+  pub steps : All (IsStep p) r.trace
+  pub known : All (IsKnown p) reuse.known
+  pub ordered : All (λ n. n < length r.entries) r.order

@@ -1,0 +1,25 @@
+//! How a run goes over the steps of an earlier one.
+
+use bt_machine::Meter;
+use bt_style::{Reach, Target};
+use bt_text::{Sequence, Shared};
+
+/// What is reached from a name, with this function of the entry's type or none.
+#[derive(Debug, Drop)]
+pub struct Known {
+    pub target: Target,
+    pub function: Option<usize>,
+    pub reach: Shared<Reach>,
+}
+
+/// How many steps were carried out, and their ticks; steps that were taken over from the earlier run do not count. And what
+/// makes the next step quick.
+#[derive(Debug, Drop)]
+pub struct Reuse {
+    pub meter: Meter,
+    pub ran: u128,
+    /// The place after that of the earlier step that was met last.
+    pub next: usize,
+    /// What was worked out of the style so far, each once.
+    pub known: Sequence<Known>,
+}

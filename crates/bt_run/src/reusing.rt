@@ -1,0 +1,237 @@
+//! A step of an earlier run is taken over where it does the same.
+
+ghost use Rattle.std.specs.Prelude.{◌≡◌, ◌+◌, ◌<◌, ◌≤◌, ◌^◌, ◌↔◌, All, Contains, IsTrue, IfOk, IfSome, OnOk, MatchOption, length};
+ghost use Rattle.bt_style.specs.Program.{program_of};
+ghost use Rattle.bt_style.specs.Reach.{is_among};
+ghost use Rattle.bt_machine.specs.Step.{step_in, outcome_of};
+ghost use Rattle.bt_machine.specs.Agreement.{Agree, IsFootprint};
+ghost use Rattle.bt_machine.specs.Footprint.{function_of};
+ghost use Rattle.bt_run.specs.Work.{key_in, IsStep, IsLike, IsKnown, IsCounted};
+
+use crate::course::Step;
+use crate::reuse::{Known, Reuse};
+use bt_machine::{Input, Outcome, activate, agreeing_inputs_have_one_step, agrees, left_over};
+use bt_style::{Reach, Style, Target};
+use bt_text::{Sequence, Shared};
+use std::alloc::{AllocError, Global};
+
+/// What a step left, and its cost.
+#[derive(Debug, Drop)]
+pub struct Done {
+    pub outcome: Outcome,
+    pub cost: u128,
+}
+
+// What is reached
+
+/// The function of the type of an input's entry.
+fn type_function(input: &Input) -> Option<usize>
+    ensures { result ≡ function_of input.now.entry }
+{
+    match &input.entry {
+        None => None,
+        Some(entry) => entry.function,
+    }
+}
+
+/// Whether two functions of types are the same.
+fn is_same_function(one: Option<usize>, other: Option<usize>) -> bool
+    ensures { IsTrue result ↔ (one ≡ other) }
+{
+    match (one, other) {
+        (None, None) => true,
+        (Some(one), Some(other)) => one == other,
+        _ => false,
+    }
+}
+
+/// What is known to be reached from a name with a type's function, if it was worked out.
+#[tactic(auto, using(bt_style::proofs::ReachLemmas::target_eq_sound))]
+fn find_known(known: &[Known], target: Target, function: Option<usize>) -> Option<&Known>
+    ensures among { IfSome result (λ k. Contains known.now k.now) }
+    ensures target { IfSome result (λ k. k.now.target ≡ target) }
+    ensures function { IfSome result (λ k. k.now.function ≡ function) }
+{
+    'known: for one in known {
+        if one.target == target && is_same_function(one.function, function) {
+            return Some(one);
+        }
+    }
+    None
+}
+
+/// What the step of an input may come to, which is worked out where it isn't known yet.
+fn reach_of(
+    alloc: Global,
+    style: &Style,
+    input: &Input,
+    known: &mut Sequence<Known>,
+) -> Result<Shared<Reach>, AllocError>
+    requires { All (IsKnown (program_of style.now)) known.old }
+    ensures reach { IfOk result (λ reach. IsFootprint (program_of style.now) input.now reach.targets) }
+    ensures known { OnOk result (All (IsKnown (program_of style.now)) known.new) }
+{
+    let function = type_function(input);
+    if let Some(one) = find_known(known.as_slice(), input.target, function) {
+        let reach = one.reach.share()?;
+        return Ok(reach);
+    }
+    let reach = Shared::new(alloc, style.reach(alloc, input.target, function)?)?;
+    known.push(Known {
+        target: input.target,
+        function,
+        reach: reach.share()?,
+    })?;
+    Ok(reach)
+}
+
+// Earlier steps
+
+/// An earlier step, and its place.
+#[derive(Clone, Copy)]
+struct Found<'a> {
+    place: usize,
+    step: &'a Step,
+}
+
+/// Whether a step is one of this command, and its input agrees with this one in what is reached.
+fn is_like(style: &Style, step: &Step, command: usize, input: &Input, reach: &Reach) -> bool
+    ensures { IsTrue result ↔ IsLike command reach.now.targets input.now step.now }
+{
+    step.command == command && agrees(style, &step.input, input, reach)
+}
+
+/// The first step of this command whose input agrees with this one in what is reached.
+fn find_like<'a>(
+    style: &Style,
+    earlier: &'a [Step],
+    command: usize,
+    input: &Input,
+    reach: &Reach,
+) -> Option<Found<'a>>
+    ensures { MatchOption result (All (λ s. IsLike command reach.now.targets input.now s → ⊥) earlier.now) (λ f. (f.place < length earlier.now) × Contains earlier.now f.step.now × IsLike command reach.now.targets input.now f.step.now) }
+{
+    'steps: for (place, step) in earlier.iter().enumerate() {
+        if is_like(style, step, command, input, reach) {
+            return Some(Found { place, step });
+        }
+    }
+    None
+}
+
+/// The step at a place, if it is one of this command and its input agrees with this one in what is reached.
+fn like_at<'a>(
+    style: &Style,
+    earlier: &'a [Step],
+    place: usize,
+    command: usize,
+    input: &Input,
+    reach: &Reach,
+) -> Option<Found<'a>>
+    ensures { IfSome result (λ f. (f.place < length earlier.now) × Contains earlier.now f.step.now × IsLike command reach.now.targets input.now f.step.now) }
+{
+    if place < earlier.len() {
+        let step = &earlier[place];
+        if is_like(style, step, command, input, reach) {
+            return Some(Found { place, step });
+        }
+    }
+    None
+}
+
+/// The step that is met: mostly the one after that which was met last.
+fn meet<'a>(
+    style: &Style,
+    earlier: &'a [Step],
+    next: usize,
+    command: usize,
+    input: &Input,
+    reach: &Reach,
+) -> Option<Found<'a>>
+    ensures { MatchOption result (All (λ s. IsLike command reach.now.targets input.now s → ⊥) earlier.now) (λ f. (f.place < length earlier.now) × Contains earlier.now f.step.now × IsLike command reach.now.targets input.now f.step.now) }
+{
+    match like_at(style, earlier, next, command, input, reach) {
+        Some(found) => Some(found),
+        None => find_like(style, earlier, command, input, reach),
+    }
+}
+
+// A step
+
+/// An earlier step, taken over: what it left of all that it may come to, and all else as it is now.
+fn take_over(
+    alloc: Global,
+    style: &Style,
+    step: &Step,
+    input: &Input,
+    reach: &Reach,
+) -> Result<Done, AllocError>
+    requires true_step { IsStep (program_of style.now) step.now }
+    requires reach { IsFootprint (program_of style.now) input.now reach.now.targets }
+    requires agree { Agree (is_among reach.now.targets) step.now.input input.now }
+    ensures outcome { IfOk result (λ d. d.outcome ≡ outcome_of (step_in (program_of style.now) input.now)) }
+    ensures cost { IfOk result (λ d. d.cost ≡ (step_in (program_of style.now) input.now).cost) }
+{
+    agreeing_inputs_have_one_step();
+    let outcome = left_over(alloc, style, &step.input, &step.outcome, input, reach)?;
+    Ok(Done {
+        outcome,
+        cost: step.cost,
+    })
+}
+
+/// A step that is carried out.
+fn carry_out(
+    alloc: Global,
+    style: &Style,
+    input: &Input,
+    reuse: &mut Reuse,
+) -> Result<Done, AllocError>
+    requires meter { reuse.old.meter + 1000000 < 2 ^ 128 }
+    requires ran { reuse.old.ran + 1 < 2 ^ 128 }
+    ensures outcome { IfOk result (λ d. d.outcome ≡ outcome_of (step_in (program_of style.now) input.now)) }
+    ensures cost { IfOk result (λ d. d.cost ≡ (step_in (program_of style.now) input.now).cost) }
+    ensures ran { OnOk result (reuse.new.ran ≡ reuse.old.ran + 1) }
+    ensures within { OnOk result (reuse.new.meter ≤ reuse.old.meter + 1000000) }
+    ensures ticks { OnOk result (reuse.new.meter ≡ reuse.old.meter + (step_in (program_of style.now) input.now).cost) }
+    ensures known { OnOk result (reuse.new.known ≡ reuse.old.known) }
+{
+    let before = reuse.meter.value();
+    let outcome = activate(alloc, style, input, &mut reuse.meter)?;
+    let cost = reuse.meter.value() - before;
+    reuse.ran += 1;
+    Ok(Done { outcome, cost })
+}
+
+/// What the step of an input leaves: taken over where an earlier run has the step, and carried out elsewhere.
+pub fn take_or_reuse(
+    alloc: Global,
+    style: &Style,
+    command: usize,
+    input: &Input,
+    earlier: &[Step],
+    reuse: &mut Reuse,
+) -> Result<Done, AllocError>
+    requires meter { reuse.old.meter + 1000000 < 2 ^ 128 }
+    requires ran { reuse.old.ran + 1 < 2 ^ 128 }
+    requires known { All (IsKnown (program_of style.now)) reuse.old.known }
+    requires steps { All (IsStep (program_of style.now)) earlier.now }
+    ensures outcome { IfOk result (λ d. d.outcome ≡ outcome_of (step_in (program_of style.now) input.now)) }
+    ensures cost { IfOk result (λ d. d.cost ≡ (step_in (program_of style.now) input.now).cost) }
+    ensures known { OnOk result (All (IsKnown (program_of style.now)) reuse.new.known) }
+    ensures within { OnOk result (reuse.new.meter ≤ reuse.old.meter + 1000000) }
+    ensures counted { IfOk result (λ d. IsCounted (program_of style.now) earlier.now (record { command = command; key = key_in input.now; input = input.now; outcome = d.outcome; cost = d.cost }) reuse.old reuse.new) }
+{
+    let reach = reach_of(alloc, style, input, &mut reuse.known)?;
+    match meet(style, earlier, reuse.next, command, input, &reach) {
+        Some(found) => {
+            reuse.next = found.place + 1;
+            let taken = take_over(alloc, style, found.step, input, &reach)?;
+            Ok(taken)
+        }
+        None => {
+            let ran = carry_out(alloc, style, input, reuse)?;
+            Ok(ran)
+        }
+    }
+}
