@@ -393,7 +393,8 @@ They are those of the buffer where it has changes that aren't saved, else those 
   (when-let ((file (bibtex-live--place paper name)))
     (let* ((buffer (bibtex-live--buffer file))
            (typed (and buffer (or (buffer-modified-p buffer) (not (file-exists-p file)))))
-           (mark (if typed (list buffer (buffer-chars-modified-tick buffer))
+           (mark (if typed (list buffer (buffer-chars-modified-tick buffer)
+                                 (buffer-local-value 'buffer-file-coding-system buffer))
                    (let ((facts (file-attributes file)))
                      (list file (file-attribute-modification-time facts) (file-attribute-size facts)))))
            (kept (assoc name (bibtex-live--paper-texts paper))))
@@ -466,11 +467,13 @@ They are those of the buffer where it has changes that aren't saved, else those 
       (coding-system-change-eol-conversion coding 'unix))))
 
 (defun bibtex-live--file-text (file)
-  "The bytes of FILE."
+  "The bytes of FILE; nil where it can't be read."
   (with-temp-buffer
     (set-buffer-multibyte nil)
-    (insert-file-contents-literally file nil 0 (1+ bibtex-live--most-bytes))
-    (buffer-string)))
+    (condition-case nil
+        (progn (insert-file-contents-literally file nil 0 (1+ bibtex-live--most-bytes))
+               (buffer-string))
+      (file-error nil))))
 
 ;;; The log
 

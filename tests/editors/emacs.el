@@ -1,14 +1,14 @@
 ;;; emacs.el --- Drives Emacs through a session of writing -*- lexical-binding: t; coding: utf-8 -*-
 
 ;; By keys, and writes what it saw to standard output.  It is started in a folder with a copy of the example, with
-;; PROGRAM, and STEPS, how many steps are taken.  A step is (NAME WHAT-TO-DO WHAT-MUST-BECOME-TRUE); one that isn't true
+;; PROGRAM, PATIENCE, and STEPS, how many steps are taken.  A step is (NAME WHAT-TO-DO WHAT-MUST-BECOME-TRUE); one that isn't true
 ;; within ten seconds ends the session.
 
 (require 'bibtex-live)
 (prefer-coding-system 'utf-8)
 (setq bibtex-live-program (getenv "PROGRAM")
       bibtex-live-interval 0.1
-      bibtex-live-patience 1
+      bibtex-live-patience (string-to-number (getenv "PATIENCE"))
       make-backup-files nil
       auto-save-default nil)
 
@@ -80,9 +80,14 @@
      (type 13 "\C-e\C-bw")
      (and (equal (listed) '("library.bib:13: warning: string name \"aww\" is undefined"))
           (equal (flagged "library.bib") '((13 :warning "string name \"aww\" is undefined")))))
-    ("the program is killed, and comes back with what is typed on"
+    ("a text with CR and LF in Latin-1"
      (progn (type 13 "\C-e\C-b\C-?")
-            (setq killed (car (programs)))
+            (set-buffer-file-coding-system 'latin-1-dos)
+            (type 19 "\C-e\C-b\C-b und mehr"))
+     (and (null (listed)) (shows "  mehr}.")
+          (shows "\\newblock {\\em Theory of Zero-Sum Games and Economic Behavior für alle und")))
+    ("the program is killed, and comes back with what is typed on"
+     (progn (setq killed (car (programs)))
             (signal-process killed 'KILL)
             (type 12 "\C-e\C-b\C-b again"))
      (and (shows "\\newblock {\\em The {\\TeX}book again}.")
@@ -121,10 +126,6 @@
     ("and none once it is mended"
      (type 1 "\C-k\C-k")
      (and (null (listed)) (null (flagged "labels.bst")) (shows "\\newblock {\\em The {\\TeX}book again}.")))
-    ("a text with CR and LF in Latin-1"
-     (progn (switch-to-buffer "library.bib") (set-buffer-file-coding-system 'latin-1-dos)
-            (type 19 "\C-e\C-b\C-b und mehr"))
-     (and (shows "  mehr}.") (shows "\\newblock {\\em Theory of Zero-Sum Games and Economic Behavior für alle und")))
     ("a name that the program does not take"
      (write-region "" nil "my paper.aux" nil 'silent)
      (and (= 1 (length (programs)))
@@ -147,6 +148,7 @@
                                  (with-current-buffer "*Messages*" (buffer-string))))
                   (kill-emacs 1)))
            (princ (format "passed: %s\n" name)))
-  (princ "done\n"))
+  (princ (format "done, started again %d times\n"
+                 (with-current-buffer "*Messages*" (count-matches "it is started again" (point-min) (point-max))))))
 
 (drive)
