@@ -567,11 +567,15 @@ only the first 25 of them are looked for."
         (compilation-mode "BibTeX"))
       (setq default-directory folder)
       (let ((inhibit-read-only t)
-            (text (mapconcat (lambda (message) (bibtex-live--line paper message))
-                             (bibtex-live--paper-messages paper) "")))
+            ;; A line without a place comes first: `next-error' goes from there to the first one with a place.
+            (text (concat (format "The messages of %s:\n" (bibtex-live--paper-name paper))
+                          (mapconcat (lambda (message) (bibtex-live--line paper message))
+                                     (bibtex-live--paper-messages paper) ""))))
         (unless (equal text (buffer-string))
           (erase-buffer)
-          (insert text))))
+          (insert text)
+          (goto-char (point-min))
+          (setq compilation-current-error nil))))
     list))
 
 (defun bibtex-live--line (paper message)
@@ -705,19 +709,21 @@ only the first 25 of them are looked for."
                                (item (concat (string-trim-right (substring bbl (car item) (cdr item))) "\n"))
                                ((member key '(nil "")) "(No entry is at point.)\n")
                                (t (format "(%s isn't in the bibliography.)\n" key)))
-                         (and (eq view 'all) item (1+ (car item)))))))
+                         (cond ((eq view 'entry) 1)
+                               (item (1+ (car item))))))))
 
 (defun bibtex-live--fill (buffer text place)
-  "Make TEXT the text of BUFFER, and show it from PLACE on, or where it was shown."
+  "Make TEXT the text of BUFFER, and show it from PLACE on, or from where it was shown if there is still something."
   (with-current-buffer buffer
     (let ((starts (mapcar (lambda (window) (cons window (window-start window))) (get-buffer-window-list buffer nil t)))
           (inhibit-read-only t))
       (unless (equal text (buffer-string))
         (erase-buffer)
         (insert text))
-      (dolist (start starts)
-        (set-window-point (car start) (min (or place (cdr start)) (point-max)))
-        (set-window-start (car start) (min (or place (cdr start)) (point-max))))
+      (pcase-dolist (`(,window . ,start) starts)
+        (let ((start (or place (if (< start (point-max)) start 1))))
+          (set-window-point window start)
+          (set-window-start window start)))
       (force-mode-line-update))))
 
 (defun bibtex-live--follow ()

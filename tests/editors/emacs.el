@@ -26,7 +26,7 @@
 
 (defun listed ()
   "The lines of the list of messages."
-  (with-current-buffer (bibtex-live--list (car bibtex-live--papers)) (split-string (buffer-string) "\n" t)))
+  (with-current-buffer (bibtex-live--list (car bibtex-live--papers)) (cdr (split-string (buffer-string) "\n" t))))
 
 (defun flagged (file)
   "What Flymake shows in the buffer of FILE, as (LINE TYPE TEXT)."
@@ -72,6 +72,9 @@
      (type 17 "\C-e\C-?")
      (and (member "library.bib:18: error: I was expecting a `,' or a `}'" (listed))
           (equal (flagged "library.bib") '((18 :error "I was expecting a `,' or a `}'")))))
+    ("the list leads there"
+     (progn (bibtex-live-messages) (next-error 1 t))
+     (and (equal (buffer-name) "library.bib") (= (line-number-at-pos) 18)))
     ("and none once it is mended"
      (type 17 "\C-e,")
      (and (null (listed)) (null (flagged "library.bib"))
@@ -94,9 +97,10 @@
           (= (length (programs)) 1) (/= (car (programs)) killed)))
     ("the entry at point alone"
      (progn (bibtex-live-view 'entry) (type 28 "\C-e"))
-     (equal (shown) '("\\bibitem[Ste90]{steele:lisp}" "Guy~L. Steele, Jr."
-                      "\\newblock {\\em Common {Lisp}: The Language}."
-                      "\\newblock Digital Press, second edition, 1990.")))
+     (and (equal (shown) '("\\bibitem[Ste90]{steele:lisp}" "Guy~L. Steele, Jr."
+                           "\\newblock {\\em Common {Lisp}: The Language}."
+                           "\\newblock Digital Press, second edition, 1990."))
+          (equal (top) (car (shown)))))
     ("one whose label has braces"
      (type 32 "\C-e")
      (and (equal (nth 0 (shown)) "\\bibitem[G{\\\"o}d31]{goedel:saetze}")

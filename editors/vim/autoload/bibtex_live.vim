@@ -672,8 +672,8 @@ function! s:Show(paper) abort
     let lines = s:Lines(a:paper, strpart(a:paper.bbl, begin, end - begin))
   endif
   call s:Fill(a:paper.buffer, lines)
-  if a:paper.view ==# 'all' && begin >= 0 && exists('*win_execute')
-    let first = len(split(strpart(a:paper.bbl, 0, begin), "\n", 1))
+  if exists('*win_execute') && (a:paper.view ==# 'entry' || (a:paper.view ==# 'all' && begin >= 0))
+    let first = a:paper.view ==# 'entry' ? 1 : len(split(strpart(a:paper.bbl, 0, begin), "\n", 1))
     for window in win_findbuf(a:paper.buffer)
       call win_execute(window, 'call cursor(' . first . ', 1) | normal! zt')
     endfor
