@@ -393,7 +393,8 @@ They are those of the buffer where it has changes that aren't saved, else those 
   (when-let ((file (bibtex-live--place paper name)))
     (let* ((buffer (bibtex-live--buffer file))
            (typed (and buffer (or (buffer-modified-p buffer) (not (file-exists-p file)))))
-           (mark (if typed (list buffer (buffer-chars-modified-tick buffer))
+           (mark (if typed (list buffer (buffer-chars-modified-tick buffer)
+                                 (buffer-local-value 'buffer-file-coding-system buffer))
                    (let ((facts (file-attributes file)))
                      (list file (file-attribute-modification-time facts) (file-attribute-size facts)))))
            (kept (assoc name (bibtex-live--paper-texts paper))))
@@ -466,11 +467,13 @@ They are those of the buffer where it has changes that aren't saved, else those 
       (coding-system-change-eol-conversion coding 'unix))))
 
 (defun bibtex-live--file-text (file)
-  "The bytes of FILE."
+  "The bytes of FILE; nil where it can't be read."
   (with-temp-buffer
     (set-buffer-multibyte nil)
-    (insert-file-contents-literally file nil 0 (1+ bibtex-live--most-bytes))
-    (buffer-string)))
+    (condition-case nil
+        (progn (insert-file-contents-literally file nil 0 (1+ bibtex-live--most-bytes))
+               (buffer-string))
+      (file-error nil))))
 
 ;;; The log
 
@@ -564,11 +567,15 @@ only the first 25 of them are looked for."
         (compilation-mode "BibTeX"))
       (setq default-directory folder)
       (let ((inhibit-read-only t)
-            (text (mapconcat (lambda (message) (bibtex-live--line paper message))
-                             (bibtex-live--paper-messages paper) "")))
+            ;; A line without a place comes first: `next-error' goes from there to the first one with a place.
+            (text (concat (format "The messages of %s:\n" (bibtex-live--paper-name paper))
+                          (mapconcat (lambda (message) (bibtex-live--line paper message))
+                                     (bibtex-live--paper-messages paper) ""))))
         (unless (equal text (buffer-string))
           (erase-buffer)
-          (insert text))))
+          (insert text)
+          (goto-char (point-min))
+          (setq compilation-current-error nil))))
     list))
 
 (defun bibtex-live--line (paper message)
@@ -702,19 +709,21 @@ only the first 25 of them are looked for."
                                (item (concat (string-trim-right (substring bbl (car item) (cdr item))) "\n"))
                                ((member key '(nil "")) "(No entry is at point.)\n")
                                (t (format "(%s isn't in the bibliography.)\n" key)))
-                         (and (eq view 'all) item (1+ (car item)))))))
+                         (cond ((eq view 'entry) 1)
+                               (item (1+ (car item))))))))
 
 (defun bibtex-live--fill (buffer text place)
-  "Make TEXT the text of BUFFER, and show it from PLACE on, or where it was shown."
+  "Make TEXT the text of BUFFER, and show it from PLACE on, or from where it was shown if there is still something."
   (with-current-buffer buffer
     (let ((starts (mapcar (lambda (window) (cons window (window-start window))) (get-buffer-window-list buffer nil t)))
           (inhibit-read-only t))
       (unless (equal text (buffer-string))
         (erase-buffer)
         (insert text))
-      (dolist (start starts)
-        (set-window-point (car start) (min (or place (cdr start)) (point-max)))
-        (set-window-start (car start) (min (or place (cdr start)) (point-max))))
+      (pcase-dolist (`(,window . ,start) starts)
+        (let ((start (or place (if (< start (point-max)) start 1))))
+          (set-window-point window start)
+          (set-window-start window start)))
       (force-mode-line-update))))
 
 (defun bibtex-live--follow ()

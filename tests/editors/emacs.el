@@ -1,14 +1,14 @@
 ;;; emacs.el --- Drives Emacs through a session of writing -*- lexical-binding: t; coding: utf-8 -*-
 
 ;; By keys, and writes what it saw to standard output.  It is started in a folder with a copy of the example, with
-;; PROGRAM, and STEPS, how many steps are taken.  A step is (NAME WHAT-TO-DO WHAT-MUST-BECOME-TRUE); one that isn't true
+;; PROGRAM, PATIENCE, and STEPS, how many steps are taken.  A step is (NAME WHAT-TO-DO WHAT-MUST-BECOME-TRUE); one that isn't true
 ;; within ten seconds ends the session.
 
 (require 'bibtex-live)
 (prefer-coding-system 'utf-8)
 (setq bibtex-live-program (getenv "PROGRAM")
       bibtex-live-interval 0.1
-      bibtex-live-patience 1
+      bibtex-live-patience (string-to-number (getenv "PATIENCE"))
       make-backup-files nil
       auto-save-default nil)
 
@@ -26,7 +26,7 @@
 
 (defun listed ()
   "The lines of the list of messages."
-  (with-current-buffer (bibtex-live--list (car bibtex-live--papers)) (split-string (buffer-string) "\n" t)))
+  (with-current-buffer (bibtex-live--list (car bibtex-live--papers)) (cdr (split-string (buffer-string) "\n" t))))
 
 (defun flagged (file)
   "What Flymake shows in the buffer of FILE, as (LINE TYPE TEXT)."
@@ -72,6 +72,9 @@
      (type 17 "\C-e\C-?")
      (and (member "library.bib:18: error: I was expecting a `,' or a `}'" (listed))
           (equal (flagged "library.bib") '((18 :error "I was expecting a `,' or a `}'")))))
+    ("the list leads there"
+     (progn (bibtex-live-messages) (next-error 1 t))
+     (and (equal (buffer-name) "library.bib") (= (line-number-at-pos) 18)))
     ("and none once it is mended"
      (type 17 "\C-e,")
      (and (null (listed)) (null (flagged "library.bib"))
@@ -80,18 +83,24 @@
      (type 13 "\C-e\C-bw")
      (and (equal (listed) '("library.bib:13: warning: string name \"aww\" is undefined"))
           (equal (flagged "library.bib") '((13 :warning "string name \"aww\" is undefined")))))
-    ("the program is killed, and comes back with what is typed on"
+    ("a text with CR and LF in Latin-1"
      (progn (type 13 "\C-e\C-b\C-?")
-            (setq killed (car (programs)))
+            (set-buffer-file-coding-system 'latin-1-dos)
+            (type 19 "\C-e\C-b\C-b und mehr"))
+     (and (null (listed)) (shows "  mehr}.")
+          (shows "\\newblock {\\em Theory of Zero-Sum Games and Economic Behavior für alle und")))
+    ("the program is killed, and comes back with what is typed on"
+     (progn (setq killed (car (programs)))
             (signal-process killed 'KILL)
             (type 12 "\C-e\C-b\C-b again"))
      (and (shows "\\newblock {\\em The {\\TeX}book again}.")
           (= (length (programs)) 1) (/= (car (programs)) killed)))
     ("the entry at point alone"
      (progn (bibtex-live-view 'entry) (type 28 "\C-e"))
-     (equal (shown) '("\\bibitem[Ste90]{steele:lisp}" "Guy~L. Steele, Jr."
-                      "\\newblock {\\em Common {Lisp}: The Language}."
-                      "\\newblock Digital Press, second edition, 1990.")))
+     (and (equal (shown) '("\\bibitem[Ste90]{steele:lisp}" "Guy~L. Steele, Jr."
+                           "\\newblock {\\em Common {Lisp}: The Language}."
+                           "\\newblock Digital Press, second edition, 1990."))
+          (equal (top) (car (shown)))))
     ("one whose label has braces"
      (type 32 "\C-e")
      (and (equal (nth 0 (shown)) "\\bibitem[G{\\\"o}d31]{goedel:saetze}")
@@ -121,10 +130,6 @@
     ("and none once it is mended"
      (type 1 "\C-k\C-k")
      (and (null (listed)) (null (flagged "labels.bst")) (shows "\\newblock {\\em The {\\TeX}book again}.")))
-    ("a text with CR and LF in Latin-1"
-     (progn (switch-to-buffer "library.bib") (set-buffer-file-coding-system 'latin-1-dos)
-            (type 19 "\C-e\C-b\C-b und mehr"))
-     (and (shows "  mehr}.") (shows "\\newblock {\\em Theory of Zero-Sum Games and Economic Behavior für alle und")))
     ("a name that the program does not take"
      (write-region "" nil "my paper.aux" nil 'silent)
      (and (= 1 (length (programs)))
@@ -147,6 +152,7 @@
                                  (with-current-buffer "*Messages*" (buffer-string))))
                   (kill-emacs 1)))
            (princ (format "passed: %s\n" name)))
-  (princ "done\n"))
+  (princ (format "done, started again %d times\n"
+                 (with-current-buffer "*Messages*" (count-matches "it is started again" (point-min) (point-max))))))
 
 (drive)

@@ -1,5 +1,5 @@
 " Drives Vim through a session of writing, by keys that are typed, and writes what it saw to the file `said`. It is
-" started in a folder with a copy of the example, with EDITORS, PROGRAM, and STEPS, how many steps are taken.
+" started in a folder with a copy of the example, with EDITORS, PROGRAM, PATIENCE, and STEPS, how many steps are taken.
 " A step is [name, what to do, what must become true]; one that isn't true within ten seconds ends the session.
 
 set nocompatible hidden noswapfile encoding=utf-8 fileencodings=utf-8
@@ -8,7 +8,7 @@ let &runtimepath = $EDITORS . '/vim,' . &runtimepath
 runtime plugin/bibtex_live.vim
 let g:bibtex_live_program = $PROGRAM
 let g:bibtex_live_interval = 100
-let g:bibtex_live_patience = 1
+let g:bibtex_live_patience = str2nr($PATIENCE)
 
 function! Shown()
   return getbufline(bufnr('bibliography of'), 1, '$')
@@ -65,18 +65,24 @@ let s:steps = [
 \ ['an entry without the comma after its key has its error at the next line',
 \   'call Type(":17\<CR>$x")',
 \   'HasMessage("E:library.bib:18:I was expecting a `,'' or a `}''")'],
+\ ['the list leads there',
+\   'cfirst',
+\   'bufname("%") ==# "library.bib" && line(".") == 18'],
 \ ['and none once it is mended',
 \   'call Type("u")',
 \   'Messages() ==# [] && Shows("\\newblock {\\em Theory of Zero-Sum Games and Economic Behavior für alle}.")'],
 \ ['a macro that is not defined has its warning',
 \   'call Type(":13\<CR>$iw\<Esc>")',
 \   'Messages() ==# ["W:library.bib:13:string name \"aww\" is undefined"]'],
+\ ['a text with CR and LF in Latin-1',
+\   'call Type("u") | set fileformat=dos fileencoding=latin1 | call Type(":19\<CR>f}i und mehr\<Esc>")',
+\   'Messages() ==# [] && Shows("  mehr}.") && Shows("\\newblock {\\em Theory of Zero-Sum Games and Economic Behavior für alle und")'],
 \ ['the program is killed, and comes back with what is typed on',
-\   'call Type("u") | call Kill() | call Type(":12\<CR>2f}i again\<Esc>")',
+\   'call Kill() | call Type(":12\<CR>2f}i again\<Esc>")',
 \   'Shows("\\newblock {\\em The {\\TeX}book again}.") && len(Programs()) == 1 && Programs()[0] != g:killed'],
 \ ['the entry under the cursor alone',
 \   'BibtexLiveView entry | call Type(":28\<CR>")',
-\   'Shown() ==# ["\\bibitem[Ste90]{steele:lisp}", "Guy~L. Steele, Jr.", "\\newblock {\\em Common {Lisp}: The Language}.", "\\newblock Digital Press, second edition, 1990."]'],
+\   'Shown() ==# ["\\bibitem[Ste90]{steele:lisp}", "Guy~L. Steele, Jr.", "\\newblock {\\em Common {Lisp}: The Language}.", "\\newblock Digital Press, second edition, 1990."] && Top() ==# Shown()[0]'],
 \ ['one whose label has braces',
 \   'call Type(":32\<CR>")',
 \   'get(Shown(), 0) ==# "\\bibitem[G{\\\"o}d31]{goedel:saetze}" && get(Shown(), 1) ==# "Kurt G{\\\"o}del."'],
@@ -101,9 +107,6 @@ let s:steps = [
 \ ['and none once it is mended',
 \   'call Type("u")',
 \   'Messages() ==# [] && Shows("\\newblock {\\em The {\\TeX}book again}.")'],
-\ ['a text with CR and LF in Latin-1',
-\   'buffer library.bib | set fileformat=dos fileencoding=latin1 | call Type(":19\<CR>f}i und mehr\<Esc>")',
-\   'Shows("  mehr}.") && Shows("\\newblock {\\em Theory of Zero-Sum Games and Economic Behavior für alle und")'],
 \ ['a name that the program does not take',
 \   'call writefile([], "my paper.aux") | BibtexLive my paper.aux',
 \   'execute("messages") =~# "my paper.aux can''t be sent: its name may have only" && len(Programs()) == 1'],
@@ -123,7 +126,7 @@ endfunction
 function! Tick(timer)
   if s:at >= min([len(s:steps), str2nr($STEPS)])
     call timer_stop(a:timer)
-    return Finish(['done'])
+    return Finish(['done, started again ' . (len(split(execute('messages'), 'it is started again', 1)) - 1) . ' times'])
   endif
   let [name, action, wanted] = s:steps[s:at]
   if !s:acted

@@ -376,8 +376,9 @@ function! s:Present(paper, name) abort
     return v:null
   endif
   let number = s:Buffer(path)
-  let mark = number > 0 && getbufvar(number, '&modified')
-        \ ? 'buffer ' . getbufvar(number, 'changedtick') : 'file ' . getftime(path) . ' ' . getfsize(path)
+  let mark = number > 0 && (getbufvar(number, '&modified') || !filereadable(path))
+        \ ? join(['buffer', getbufvar(number, 'changedtick'), getbufvar(number, '&fileformat'), getbufvar(number, '&fileencoding')])
+        \ : 'file ' . getftime(path) . ' ' . getfsize(path)
   let kept = get(a:paper.texts, a:name, {})
   if get(kept, 'mark', '') !=# mark || kept.path !=# path
     let kept = {'mark': mark, 'path': path, 'text': mark[0] ==# 'b' ? s:BufferText(number) : s:FileText(path)}
@@ -453,7 +454,11 @@ function! s:FileText(path) abort
   if getfsize(a:path) > s:most_bytes
     return repeat(' ', s:most_bytes + 1)
   endif
-  let lines = readfile(a:path, 'b')
+  try
+    let lines = readfile(a:path, 'b')
+  catch /^Vim\%((\a\+)\)\=:E\%(484\|485\)/
+    return v:null
+  endtry
   return match(lines, "\n") < 0 ? join(lines, "\n") : s:WithNul(lines)
 endfunction
 
@@ -667,8 +672,8 @@ function! s:Show(paper) abort
     let lines = s:Lines(a:paper, strpart(a:paper.bbl, begin, end - begin))
   endif
   call s:Fill(a:paper.buffer, lines)
-  if a:paper.view ==# 'all' && begin >= 0 && exists('*win_execute')
-    let first = len(split(strpart(a:paper.bbl, 0, begin), "\n", 1))
+  if exists('*win_execute') && (a:paper.view ==# 'entry' || (a:paper.view ==# 'all' && begin >= 0))
+    let first = a:paper.view ==# 'entry' ? 1 : len(split(strpart(a:paper.bbl, 0, begin), "\n", 1))
     for window in win_findbuf(a:paper.buffer)
       call win_execute(window, 'call cursor(' . first . ', 1) | normal! zt')
     endfor
