@@ -36,6 +36,7 @@ test:
 	rt ci
 	tests/run
 	tests/originals
+	tests/memory
 
 check:
 	@$(NEEDS_RT)
