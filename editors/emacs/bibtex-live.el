@@ -147,13 +147,15 @@
     (bibtex-live--drop paper)))
 
 (defun bibtex-live--here ()
-  "The paper that this buffer belongs to, else the one that was started last."
-  (or (let ((file (and buffer-file-name (file-truename buffer-file-name))))
-        (cl-find-if (lambda (paper) (or (eq (current-buffer) (bibtex-live--paper-buffer paper))
+  "The paper that this buffer belongs to: it uses its file, or its folder is the nearest; else the latest one."
+  (let* ((file (and buffer-file-name (file-truename buffer-file-name)))
+         (near (lambda (paper) (let ((folder (car (bibtex-live--paper-folders paper))))
+                                 (if (and file (string-prefix-p folder file)) (length folder) 0)))))
+    (or (cl-find-if (lambda (paper) (or (eq (current-buffer) (bibtex-live--paper-buffer paper))
                                         (and file (rassoc file (bibtex-live--paper-places paper)))))
-                    bibtex-live--papers))
-      (car bibtex-live--papers)
-      (user-error "No paper is shown: M-x bibtex-live")))
+                    bibtex-live--papers)
+        (car (cl-stable-sort (copy-sequence bibtex-live--papers) #'> :key near))
+        (user-error "No paper is shown: M-x bibtex-live"))))
 
 ;;; Changes
 

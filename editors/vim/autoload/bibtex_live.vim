@@ -50,7 +50,8 @@ function! bibtex_live#Start(argument) abort
   if !has_key(s:papers, aux)
     let s:papers[aux] = {'aux': aux, 'name': job, 'names': [job . '.aux'], 'places': {}, 'texts': {},
           \ 'folders': [fnamemodify(aux, ':h'), getcwd()], 'unknown': {}, 'job': v:null, 'ends': [],
-          \ 'bbl': '', 'blg': '', 'key': '', 'view': s:Option('view', 'all'), 'messages': [], 'list': 0, 'refusals': {}}
+          \ 'bbl': '', 'blg': '', 'key': '', 'view': s:Option('view', 'all'), 'messages': [], 'items': [], 'list': 0,
+          \ 'refusals': {}}
   endif
   let s:latest = s:papers[aux]
   let s:latest.resting = 0
@@ -102,15 +103,19 @@ function! bibtex_live#Stop() abort
   call s:Drop(paper)
 endfunction
 
-" The paper that the present buffer belongs to, else the one that was started last.
+" The paper that the present buffer belongs to: it uses its file, or its folder is the nearest; else the latest one.
 function! s:Here() abort
   let path = resolve(expand('%:p'))
+  let [found, longest] = [s:latest, 0]
   for paper in values(s:papers)
+    let folder = paper.folders[0] . '/'
     if index(values(paper.places), path) >= 0 || bufnr('%') == get(paper, 'buffer', -1)
       return paper
+    elseif len(folder) > longest && strpart(path, 0, len(folder)) ==# folder
+      let [found, longest] = [paper, len(folder)]
     endif
   endfor
-  return s:latest
+  return found
 endfunction
 
 function! s:Watch() abort
@@ -562,7 +567,7 @@ function! s:List(paper) abort
     endif
     call add(items, item)
   endfor
-  if items ==# get(a:paper, 'items', v:null) || !s:Option('quickfix', 1)
+  if items ==# a:paper.items || !s:Option('quickfix', 1)
     return
   endif
   let a:paper.items = items
