@@ -4,7 +4,7 @@
 # make install    puts it into PREFIX/bin as bibtex (PREFIX=/usr/local; DESTDIR goes in front)
 # make check      proves what has changed since the last check
 # make measure    times the built program (docs/SPEED.md)
-# make try-editors   drives Vim and Emacs with the plugins of editors/, where they are installed
+# make try-editors  drives Vim and Emacs with the plugins of editors/, where they are installed
 
 PREFIX ?= /usr/local
 DESTDIR ?=
