@@ -60,7 +60,7 @@
 ;; At most one command of a paper is in flight (`asked').  When its answer is there, `bibtex-live--pump' compares the texts
 ;; as they are with those that the program has, and sends the next difference: so the newest text wins.
 (cl-defstruct (bibtex-live--paper (:constructor bibtex-live--new-paper))
-  aux name folders
+  aux title name folders    ; its .aux file, what it's called here and by the program, and where its files are looked for
   names                     ; the files that the run wants, or wanted once
   (places nil)              ; where they are: (NAME . FILE)
   (unknown nil)             ; those that kpsewhich didn't find
@@ -89,15 +89,17 @@
   "Show the bibliography of the paper with the file AUX, and keep it up to date."
   (interactive (list (or (bibtex-live--guess) (read-file-name "Paper (.aux): " nil nil t))))
   (let* ((aux (file-truename (concat (replace-regexp-in-string "\\.\\(aux\\|tex\\)\\'" "" aux) ".aux")))
-         (name (file-name-base aux))
+         (title (file-name-base aux))
+         ;; The program opens no file, so that a paper can have any name there.
+         (name (if (bibtex-live--name-p (concat title ".aux")) title "paper"))
          (paper (cl-find aux bibtex-live--papers :key #'bibtex-live--paper-aux :test #'equal)))
-    (cond ((not (bibtex-live--name-p (concat name ".aux")))
-           (user-error "%s.aux can't be sent: %s" name (alist-get 1 bibtex-live--reasons)))
-          ((not (file-readable-p aux)) (user-error "There is no %s: run latex first" aux))
+    (cond ((not (file-readable-p aux)) (user-error "There is no %s: run latex first" aux))
           ((not (executable-find bibtex-live-program))
            (user-error "%s isn't a program: set bibtex-live-program" bibtex-live-program)))
     (unless paper
-      (setq paper (bibtex-live--new-paper :aux aux :name name :names (list (concat name ".aux")) :view bibtex-live-view
+      (setq paper (bibtex-live--new-paper :aux aux :title title :name name :view bibtex-live-view
+                                          :names (list (concat name ".aux"))
+                                          :places (list (cons (concat name ".aux") aux))
                                           :folders (list (file-name-directory aux) default-directory)))
       (push paper bibtex-live--papers))
     (setf (bibtex-live--paper-resting paper) nil)
@@ -147,13 +149,15 @@
     (bibtex-live--drop paper)))
 
 (defun bibtex-live--here ()
-  "The paper that this buffer belongs to, else the one that was started last."
-  (or (let ((file (and buffer-file-name (file-truename buffer-file-name))))
-        (cl-find-if (lambda (paper) (or (eq (current-buffer) (bibtex-live--paper-buffer paper))
+  "The paper that this buffer belongs to: it uses its file, or its folder is the nearest; else the latest one."
+  (let* ((file (and buffer-file-name (file-truename buffer-file-name)))
+         (near (lambda (paper) (let ((folder (car (bibtex-live--paper-folders paper))))
+                                 (if (and file (string-prefix-p folder file)) (length folder) 0)))))
+    (or (cl-find-if (lambda (paper) (or (eq (current-buffer) (bibtex-live--paper-buffer paper))
                                         (and file (rassoc file (bibtex-live--paper-places paper)))))
-                    bibtex-live--papers))
-      (car bibtex-live--papers)
-      (user-error "No paper is shown: M-x bibtex-live")))
+                    bibtex-live--papers)
+        (car (cl-stable-sort (copy-sequence bibtex-live--papers) #'> :key near))
+        (user-error "No paper is shown: M-x bibtex-live"))))
 
 ;;; Changes
 
@@ -560,7 +564,7 @@ only the first 25 of them are looked for."
 
 (defun bibtex-live--list (paper)
   "The buffer with the messages of PAPER, for `next-error'."
-  (let ((list (get-buffer-create (format "*messages of %s*" (bibtex-live--paper-name paper))))
+  (let ((list (get-buffer-create (format "*messages of %s*" (bibtex-live--paper-title paper))))
         (folder (car (bibtex-live--paper-folders paper))))
     (with-current-buffer list
       (unless (derived-mode-p 'compilation-mode)
@@ -568,7 +572,7 @@ only the first 25 of them are looked for."
       (setq default-directory folder)
       (let ((inhibit-read-only t)
             ;; A line without a place comes first: `next-error' goes from there to the first one with a place.
-            (text (concat (format "The messages of %s:\n" (bibtex-live--paper-name paper))
+            (text (concat (format "The messages of %s:\n" (bibtex-live--paper-title paper))
                           (mapconcat (lambda (message) (bibtex-live--line paper message))
                                      (bibtex-live--paper-messages paper) ""))))
         (unless (equal text (buffer-string))
@@ -641,12 +645,15 @@ only the first 25 of them are looked for."
 (defun bibtex-live--open (paper)
   "Show the window of PAPER."
   (unless (buffer-live-p (bibtex-live--paper-buffer paper))
-    (let ((buffer (generate-new-buffer (format "*bibliography of %s*" (bibtex-live--paper-name paper)))))
+    (let ((buffer (generate-new-buffer (format "*bibliography of %s*" (bibtex-live--paper-title paper)))))
       (with-current-buffer buffer (bibtex-live-window-mode))
       (setf (bibtex-live--paper-buffer paper) buffer)
       (bibtex-live--show paper)))
   (display-buffer (bibtex-live--paper-buffer paper)
-                  '((display-buffer-reuse-window display-buffer-at-bottom) (window-height . 15))))
+                  `((display-buffer-reuse-window display-buffer-at-bottom)
+                    (window-height . ,(lambda (window)
+                                        ;; A small frame may have no room for it.
+                                        (ignore-errors (window-resize window (- 15 (window-total-height window)))))))))
 
 (defun bibtex-live--key ()
   "The key of the entry at point."

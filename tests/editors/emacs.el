@@ -130,14 +130,15 @@
     ("and none once it is mended"
      (type 1 "\C-k\C-k")
      (and (null (listed)) (null (flagged "labels.bst")) (shows "\\newblock {\\em The {\\TeX}book again}.")))
-    ("a name that the program does not take"
-     (write-region "" nil "my paper.aux" nil 'silent)
-     (and (= 1 (length (programs)))
-          (condition-case why (bibtex-live "my paper.aux")
-            (user-error (string-match-p "my paper.aux can.t be sent: its name may have only" (cadr why))))))
     ("the end"
      (bibtex-live-stop)
-     (null (programs)))))
+     (null (programs)))
+    ("a paper whose name the program does not take"
+     (progn (copy-file "paper.aux" "my paper.aux")
+            (write-region "\\citation{no:one}\n" nil "my paper.aux" t 'silent)
+            (bibtex-live "my paper.aux"))
+     (and (with-current-buffer "*bibliography of my paper*" (string-match-p "knuth:texbook" (buffer-string)))
+          (equal (listed) '("my paper.aux:16: warning: I didn't find a database entry for \"no:one\""))))))
 
 (defun drive ()
   (cl-loop for (name action wanted) in steps

@@ -107,12 +107,12 @@ let s:steps = [
 \ ['and none once it is mended',
 \   'call Type("u")',
 \   'Messages() ==# [] && Shows("\\newblock {\\em The {\\TeX}book again}.")'],
-\ ['a name that the program does not take',
-\   'call writefile([], "my paper.aux") | BibtexLive my paper.aux',
-\   'execute("messages") =~# "my paper.aux can''t be sent: its name may have only" && len(Programs()) == 1'],
 \ ['the end',
 \   'BibtexLiveStop',
 \   'Programs() ==# []'],
+\ ['a paper whose name the program does not take',
+\   'call writefile(readfile("paper.aux") + ["\\citation{no:one}"], "my paper.aux") | BibtexLive my paper.aux',
+\   'match(getbufline(bufnr("bibliography of my paper"), 1, "$"), "texbook") >= 0 && Messages() ==# ["W:my paper.aux:16:I didn''t find a database entry for \"no:one\""]'],
 \ ]
 
 let s:at = 0

@@ -39,18 +39,20 @@ function! bibtex_live#Start(argument) abort
   endif
   let aux = substitute(aux, '\.tex$', '', '')
   let aux = resolve(aux =~# '\.aux$' ? aux : aux . '.aux')
-  let job = fnamemodify(aux, ':t:r')
-  if !s:IsName(job . '.aux')
-    return s:Warn(job . '.aux can''t be sent: ' . s:reasons[1])
-  elseif !filereadable(aux)
+  let title = fnamemodify(aux, ':t:r')
+  " The program opens no file, so that a paper can have any name there.
+  let name = s:IsName(title . '.aux') ? title : 'paper'
+  if !filereadable(aux)
     return s:Warn('there is no ' . aux . ': run latex first')
   elseif !executable(s:Option('program', 'bibtex'))
     return s:Warn(s:Option('program', 'bibtex') . ' isn''t a program: set g:bibtex_live_program')
   endif
   if !has_key(s:papers, aux)
-    let s:papers[aux] = {'aux': aux, 'name': job, 'names': [job . '.aux'], 'places': {}, 'texts': {},
+    let s:papers[aux] = {'aux': aux, 'title': title, 'name': name, 'names': [name . '.aux'], 'texts': {},
+          \ 'places': {name . '.aux': aux},
           \ 'folders': [fnamemodify(aux, ':h'), getcwd()], 'unknown': {}, 'job': v:null, 'ends': [],
-          \ 'bbl': '', 'blg': '', 'key': '', 'view': s:Option('view', 'all'), 'messages': [], 'list': 0, 'refusals': {}}
+          \ 'bbl': '', 'blg': '', 'key': '', 'view': s:Option('view', 'all'), 'messages': [], 'items': [], 'list': 0,
+          \ 'refusals': {}}
   endif
   let s:latest = s:papers[aux]
   let s:latest.resting = 0
@@ -102,15 +104,19 @@ function! bibtex_live#Stop() abort
   call s:Drop(paper)
 endfunction
 
-" The paper that the present buffer belongs to, else the one that was started last.
+" The paper that the present buffer belongs to: it uses its file, or its folder is the nearest; else the latest one.
 function! s:Here() abort
   let path = resolve(expand('%:p'))
+  let [found, longest] = [s:latest, 0]
   for paper in values(s:papers)
+    let folder = paper.folders[0] . '/'
     if index(values(paper.places), path) >= 0 || bufnr('%') == get(paper, 'buffer', -1)
       return paper
+    elseif len(folder) > longest && strpart(path, 0, len(folder)) ==# folder
+      let [found, longest] = [paper, len(folder)]
     endif
   endfor
-  return s:latest
+  return found
 endfunction
 
 function! s:Watch() abort
@@ -562,11 +568,11 @@ function! s:List(paper) abort
     endif
     call add(items, item)
   endfor
-  if items ==# get(a:paper, 'items', v:null) || !s:Option('quickfix', 1)
+  if items ==# a:paper.items || !s:Option('quickfix', 1)
     return
   endif
   let a:paper.items = items
-  let title = 'bibtex-live: ' . a:paper.name
+  let title = 'bibtex-live: ' . a:paper.title
   if a:paper.list > 0 && getqflist({'id': a:paper.list, 'title': 1}).title ==# title
     call setqflist([], 'r', {'id': a:paper.list, 'items': items, 'title': title})
   else
@@ -589,7 +595,7 @@ function! s:OpenWindow(paper) abort
   execute 'silent noautocmd' s:Option('window', 'botright 15') . 'new'
   let a:paper.buffer = bufnr('%')
   setlocal buftype=nofile bufhidden=hide noswapfile nobuflisted nonumber wrap cursorline undolevels=-1 syntax=tex
-  execute 'silent! file' fnameescape('[bibliography of ' . a:paper.name . ']')
+  execute 'silent! file' fnameescape('[bibliography of ' . a:paper.title . ']')
   let &l:statusline = '%f  %{bibtex_live#StatusLine(' . a:paper.buffer . ')}'
   setlocal nomodifiable
   noautocmd wincmd p
