@@ -6,14 +6,10 @@
 # make uninstall  takes both away
 # make check      proves what has changed since the last check
 # make measure    times the built program (docs/SPEED.md)
-<<<<<<< HEAD
 # make hostile    times the worst inputs that we could think of
 # make compare    runs it and TeX Live's bibtex over the TeX tree's styles and databases, where these are installed
 # make try-latex  tries bibtex-collect with LaTeX and latexmk, where these are installed
 # make try-editors   drives Vim and Emacs with the plugins of editors/, where they are installed
-=======
-# make try-editors  drives Vim and Emacs with the plugins of editors/, where they are installed
->>>>>>> e04b76d077c9e57fbe4d1eb34460726680de5b9d
 
 PREFIX ?= /usr/local
 DESTDIR ?=
