@@ -17,3 +17,18 @@ pub struct Input {
     pub held: Held,
     pub preamble: Shared<Bytes>,
 }
+
+impl Input {
+    ghost use Rattle.std.specs.Prelude.{◌≡◌};
+    ghost use Rattle.bt_machine.specs.Footprint.{function_of};
+
+    /// The function of the type of the entry, if there is one.
+    pub fn type_function(&self) -> Option<usize>
+        ensures { result ≡ function_of self.now.entry }
+    {
+        match &self.entry {
+            None => None,
+            Some(entry) => entry.function,
+        }
+    }
+}

@@ -21,6 +21,7 @@ fn builtin(name: &str) -> Option<Builtin> {
         "int.to.str$" => Builtin::IntToStr,
         "newline$" => Builtin::Newline,
         "pop$" => Builtin::Pop,
+        "preamble$" => Builtin::Preamble,
         "skip$" => Builtin::Skip,
         "stack$" => Builtin::Stack,
         "type$" => Builtin::Type,
