@@ -20,7 +20,7 @@ use bt_job::{
 use bt_machine::Meter;
 use bt_resolve::Cites;
 use bt_style::{Fault, StyleRefusal, fields_are_apart, read_style};
-use bt_text::{Bytes, Sequence};
+use bt_text::{Bytes, Sequence, Shared};
 use std::alloc::{AllocError, Global};
 
 /// What a run shows.
@@ -123,7 +123,7 @@ fn run_with(
     };
     let name = name.as_slice();
     fields_are_apart();
-    let keys = keys.into_sequence();
+    let keys = Shared::new(alloc, keys)?;
     let cites = Cites { keys, star };
     match read_style(alloc, text_in(files, name)) {
         Ok(style) => {

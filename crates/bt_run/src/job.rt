@@ -3,7 +3,7 @@
 ghost use Rattle.std.specs.Prelude.{◌≡◌, ◌≤◌, [], length, unwrap_or, IsTrue};
 ghost use Rattle.std.specs.Option.{ForSome};
 ghost use Rattle.bt_job.specs.Naming.{text_of};
-ghost use Rattle.bt_resolve.specs.Names.{are_apart};
+ghost use Rattle.bt_text.specs.NameList.{are_apart};
 
 use bt_job::{File, text_of};
 use bt_resolve::Cites;
