@@ -4,7 +4,6 @@ pub mod SortingLemmas
 pub mod CommandLemmas
 pub mod ReadingLemmas
 pub mod CountLemmas
-pub mod StyleLemmas
 pub mod AnswerLemmas
 mod Rows
 mod MeaningRows

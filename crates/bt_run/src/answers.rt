@@ -146,7 +146,7 @@ fn run_with(
     };
     let name = name.as_slice();
     fields_are_apart();
-    let keys = keys.into_sequence();
+    let keys = Shared::new(alloc, keys)?;
     let cites = Cites { keys, star };
     let text = shared_text(alloc, files, name)?;
     let bytes = text.as_slice();

@@ -11,47 +11,6 @@ use bt_text::{Bytes, Sequence};
 use itoa::Buffer;
 use std::alloc::{AllocError, Global};
 
-/// The built-in functions, in the order of their table.
-const TABLE: [Builtin; BUILTIN_COUNT] = [
-    Builtin::Greater,
-    Builtin::Less,
-    Builtin::Equals,
-    Builtin::Plus,
-    Builtin::Minus,
-    Builtin::Join,
-    Builtin::Assign,
-    Builtin::AddPeriod,
-    Builtin::CallType,
-    Builtin::ChangeCase,
-    Builtin::ChrToInt,
-    Builtin::Cite,
-    Builtin::Duplicate,
-    Builtin::Empty,
-    Builtin::FormatName,
-    Builtin::If,
-    Builtin::IntToChr,
-    Builtin::IntToStr,
-    Builtin::Missing,
-    Builtin::Newline,
-    Builtin::NumNames,
-    Builtin::Pop,
-    Builtin::Preamble,
-    Builtin::Purify,
-    Builtin::Quote,
-    Builtin::Skip,
-    Builtin::Stack,
-    Builtin::Substring,
-    Builtin::Swap,
-    Builtin::TextLength,
-    Builtin::TextPrefix,
-    Builtin::Top,
-    Builtin::Type,
-    Builtin::Warning,
-    Builtin::While,
-    Builtin::Width,
-    Builtin::Write,
-];
-
 /// Some steps, with how often each built-in function was called in all of them together.
 #[derive(Clone, Copy)]
 struct Tally<'a> {
@@ -110,7 +69,7 @@ fn sum_of_calls(tally: &Tally<'_>, builtins: &[Builtin]) -> u128
 fn all_calls(tally: &Tally<'_>) -> u128
     ensures { result ≡ all_calls tally.now.steps.now }
 {
-    sum_of_calls(tally, TABLE.as_slice())
+    sum_of_calls(tally, Builtin::ALL.as_slice())
 }
 
 /// The line in front of the counts.
@@ -164,6 +123,6 @@ pub fn tell_counts(alloc: Global, course: &mut Course) -> Result<(), AllocError>
     let tally = count_calls(course.trace.as_slice());
     let count = all_calls(&tally);
     course.log.push(all_told(alloc, count)?)?;
-    tell_rows(alloc, &mut course.log, &tally, TABLE.as_slice())?;
+    tell_rows(alloc, &mut course.log, &tally, Builtin::ALL.as_slice())?;
     Ok(())
 }

@@ -5,7 +5,7 @@ ghost use Rattle.bt_style.specs.Program.{program_of};
 ghost use Rattle.bt_run.specs.Work.{IsStep};
 ghost use Rattle.std.specs.Option.{ForSome};
 ghost use Rattle.bt_job.specs.Naming.{text_of};
-ghost use Rattle.bt_resolve.specs.Names.{are_apart};
+ghost use Rattle.bt_text.specs.NameList.{are_apart};
 
 use crate::course::Step;
 use bt_job::{File, text_of};

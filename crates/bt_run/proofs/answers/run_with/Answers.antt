@@ -2,12 +2,11 @@ use Rattle.std.proofs.Common.{◌≡◌, ◌∙◌, sym, ap, Ok}
 use Rattle.bt_style.specs.Program.{program_of}
 use Rattle.bt_style.specs.Reader.{style_of}
 use Rattle.bt_run.specs.Steps.{steps_under}
-use Rattle.bt_run.proofs.StyleLemmas.{known_apart}
 use Rattle.bt_run.proofs.AnswerLemmas.{earlier_steps, run_taken}
 use Rattle.bt_run.proofs.answers.run_with.Goals as goal
 
 pub invariant_of-job-clause-fields_apart : goal.invariant_of-job-clause-fields_apart
-invariant_of-job-clause-fields_apart c = known_apart c.in-Ok.style.fields (c.fields_are_apart.ensures c.as_slice-bytes.result.now (program_of c.in-Ok.style) c.in-Ok.ensures)
+invariant_of-job-clause-fields_apart c = c.fields_are_apart.ensures c.as_slice-bytes.result.now (program_of c.in-Ok.style) c.in-Ok.ensures
 
 pub invariant_of-job-clause-steps : goal.invariant_of-job-clause-steps
 invariant_of-job-clause-steps c =
