@@ -18,6 +18,7 @@ mod style;
 mod token;
 mod verbs;
 
+pub use bodies::BRACE_DEPTH;
 pub use builtin::{BUILTIN_COUNT, Builtin};
 pub use fault::{Fault, FaultKind, StyleRefusal};
 pub use laws::{bodies_are_spelled, fields_are_apart, spelled_bodies_are_read};
