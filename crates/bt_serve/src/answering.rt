@@ -14,12 +14,9 @@ use crate::fault::ServeFault;
 use crate::reading::{drop_bytes, read_bytes};
 use crate::streams::{Failed, Sink, Source};
 use crate::writing::say;
-use bibtex::{Change, Refusal, Report, Session};
+use bibtex::{Change, FILE_BYTES, Refusal, Report, Session};
 use itoa::Buffer;
 use std::alloc::{AllocError, Global};
-
-/// How many bytes an edit may bring.
-const MOST_BYTES: usize = 1_048_576;
 
 /// Reads the bytes that an edit brings, and makes the edit.
 fn take_edit<S: Source>(
@@ -55,7 +52,7 @@ fn take_edit<S: Source>(
 fn room(alloc: Global, count: usize) -> Result<Vec<u8>, AllocError>
     ensures { IfOk result (λ bytes. length bytes.items ≡ count) }
 {
-    if count > MOST_BYTES {
+    if count > FILE_BYTES {
         return Err(AllocError);
     }
     vec![in alloc; 0; count]
