@@ -13,7 +13,7 @@ pub use bt_run::Report;
 pub use bt_text::Bytes;
 pub use edit::{Change, Edit, Refusal};
 pub use edits::edit_all;
-pub use refusal::is_root_name;
+pub use refusal::{FILE_BYTES, FILE_LIMIT, is_root_name};
 pub use session::Session;
 
 #[cfg(test)]

@@ -9,11 +9,11 @@ use crate::changed::place_of;
 use crate::edit::Refusal;
 use bt_job::{File, is_file_name, text_of};
 
-/// How many bytes a text may have.
-const TEXT_LIMIT: usize = 1_048_576;
+/// How many bytes a file may have.
+pub const FILE_BYTES: usize = 1_048_576;
 
 /// How many files there may be.
-const FILE_LIMIT: usize = 64;
+pub const FILE_LIMIT: usize = 64;
 
 /// How many bytes a root name may have: with `.aux` behind it it is a file's name.
 const ROOT_LIMIT: usize = 60;
@@ -32,7 +32,7 @@ pub fn write_refusal(files: &[File], name: &[u8], size: usize) -> Option<Refusal
     if !is_file_name(name) {
         return Some(Refusal::BadName);
     }
-    if size > TEXT_LIMIT {
+    if size > FILE_BYTES {
         return Some(Refusal::FileTooLarge);
     }
     if place_of(files, name).is_none() && files.len() >= FILE_LIMIT {
@@ -49,7 +49,7 @@ fn range_refusal(text: &[u8], start: usize, end: usize, size: usize) -> Option<R
         return Some(Refusal::RangeOutside);
     }
     let kept = start + (text.len() - end);
-    if kept > TEXT_LIMIT || size > TEXT_LIMIT - kept {
+    if kept > FILE_BYTES || size > FILE_BYTES - kept {
         return Some(Refusal::FileTooLarge);
     }
     None

@@ -28,8 +28,8 @@ pub use message::{Message, Rank};
 pub use reading::{
     call_entry_number, call_entry_text, call_field, call_global_number, call_global_text,
 };
-pub use short_text::{ShortText, TEXT_LIMIT};
-pub use state::{Current, Flow, State};
+pub use short_text::ShortText;
+pub use state::{Current, Flow, STACK_LIMIT, State};
 pub use tally::{TICK_LIMIT, Tally};
 pub use value::{Code, Value};
 

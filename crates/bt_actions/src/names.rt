@@ -9,12 +9,12 @@ ghost use Rattle.bt_style.specs.declared.builtin.Builtin.TheVariants as builtin;
 
 use crate::arguments::{take, take_three};
 use crate::complaint::Complaint;
-use crate::short_text::{ShortText, TEXT_LIMIT};
+use crate::short_text::ShortText;
 use crate::state::{Flow, State};
 use crate::texts::push_count;
 use bt_names::{FormatFault, Formatted, count, format_within};
 use bt_style::Builtin;
-use bt_text::Bytes;
+use bt_text::{Bytes, TEXT_BYTES};
 use std::alloc::{AllocError, Global};
 
 /// `num.names$`.
@@ -56,7 +56,7 @@ fn push_formatted(
         names.as_slice(),
         number,
         pattern.as_slice(),
-        TEXT_LIMIT,
+        TEXT_BYTES,
     ) {
         Ok(formatted) => push_within(state, formatted),
         Err(FormatFault::NoSuchName) => {

@@ -1,11 +1,8 @@
 //! The texts that the literal stack takes.
 
-use bt_text::Bytes;
+use bt_text::{Bytes, TEXT_BYTES};
 use std::alloc::{AllocError, Global};
 use std::marker::Model;
-
-/// How many bytes a text on the stack may have.
-pub const TEXT_LIMIT: usize = 65_536;
 
 /// A text of at most 65,536 bytes.
 #[derive(Drop)]
@@ -30,7 +27,7 @@ impl ShortText {
     pub fn within(bytes: Bytes) -> Option<ShortText>
         ensures { result ≡ (if nat_le (length bytes) 65536 then Some bytes else None) }
     {
-        if bytes.len() <= TEXT_LIMIT {
+        if bytes.len() <= TEXT_BYTES {
             Some(ShortText { bytes })
         } else {
             None

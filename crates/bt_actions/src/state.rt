@@ -18,7 +18,7 @@ pub enum Flow {
 }
 
 /// How many values the stack may hold.
-const STACK_LIMIT: usize = 1000;
+pub const STACK_LIMIT: usize = 1_000;
 
 /// The entry of a step, with variables of the step's own.
 #[derive(Drop)]

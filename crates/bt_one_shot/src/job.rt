@@ -49,31 +49,43 @@ fn print_log<O: Sink>(out: &mut O, log: &[u8])
     }
 }
 
-/// Writes the two files of a session, and a log to `out`.
+/// What a run writes: the two files of its session by their names, and the log that is printed.
+#[derive(Drop)]
+struct Outputs<'a> {
+    session: &'a Session,
+    bbl: &'a [u8],
+    blg: &'a [u8],
+    log: &'a [u8],
+}
+
+/// Writes the two files, and the log to `out`.
 #[tactic(auto, using(crate::proofs::PrintLemmas::printed_nothing))]
 fn write_out<F: Folder, O: Sink, E: Sink>(
-    session: &Session,
-    names: (&[u8], &[u8]),
-    log: &[u8],
+    outputs: &Outputs<'_>,
     folder: &mut F,
     out: &mut O,
     err: &mut E,
     known: u64,
 ) -> u8
-    requires bbl { names.0.now ≡ session.now.root ++ codes ".bbl" }
-    requires blg { names.1.now ≡ session.now.root ++ codes ".blg" }
+    requires bbl { outputs.now.bbl.now ≡ outputs.now.session.now.root ++ codes ".bbl" }
+    requires blg { outputs.now.blg.now ≡ outputs.now.session.now.root ++ codes ".blg" }
     requires err { known < 2 ^ 64 - 1 }
     requires out { O.failure_count out.old < 2 ^ 64 - 1 }
-    ensures files { Leaves session.now (F.written folder.old) (F.written folder.new) result }
-    ensures prints { AppendsPart (O.contents out.old) (O.contents out.new) log.now }
+    ensures files { Leaves outputs.now.session.now (F.written folder.old) (F.written folder.new) result }
+    ensures prints { AppendsPart (O.contents out.old) (O.contents out.new) outputs.now.log.now }
 {
-    let (bbl, blg) = names;
+    let Outputs {
+        session,
+        bbl,
+        blg,
+        log,
+    } = *outputs;
     if !folder.write(bbl, session.bbl()) {
-        tell(err, known, b"bibtex: can't write ", bbl, b"", b"");
+        tell(err, known, &[b"bibtex: can't write ", bbl, b"\n"]);
         return UNWRITTEN;
     }
     if !folder.write(blg, session.blg()) {
-        tell(err, known, b"bibtex: can't write ", blg, b"", b"");
+        tell(err, known, &[b"bibtex: can't write ", blg, b"\n"]);
         return UNWRITTEN;
     }
     print_log(out, log);
@@ -109,7 +121,11 @@ pub fn one_shot<F: Folder, O: Sink, E: Sink>(
     load_all(alloc, &mut session, folder, err, known)?;
     let bbl = pair(alloc, root, b".bbl")?;
     let blg = pair(alloc, root, b".blg")?;
-    let names = (bbl.as_slice(), blg.as_slice());
-    let log = printed_log(&session, options.terse);
-    Ok(write_out(&session, names, log, folder, out, err, known))
+    let outputs = Outputs {
+        session: &session,
+        bbl: bbl.as_slice(),
+        blg: blg.as_slice(),
+        log: printed_log(&session, options.terse),
+    };
+    Ok(write_out(&outputs, folder, out, err, known))
 }

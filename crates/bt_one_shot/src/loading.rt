@@ -64,18 +64,11 @@ fn next_names(
 }
 
 /// Writes pieces of a line to a sink that failed so often before, unless it failed since.
-pub fn tell<'a, E: Sink>(
-    err: &mut E,
-    known: u64,
-    first: &'a [u8],
-    second: &'a [u8],
-    third: &'a [u8],
-    fourth: &'a [u8],
-)
+pub fn tell<E: Sink>(err: &mut E, known: u64, pieces: &[&[u8]])
     requires { known < 2 ^ 64 - 1 }
 {
     if err.failures() == known {
-        let _ = say(err, first, second, third, fourth, b"\n");
+        let _ = say(err, pieces);
     }
 }
 
@@ -85,7 +78,7 @@ fn tell_refused<E: Sink>(err: &mut E, known: u64, refusal: Refusal, name: &[u8])
 {
     let mut code = Buffer::new();
     let code = code.format(code_of(refusal)).as_bytes();
-    tell(err, known, b"bibtex: refused ", code, b" ", name);
+    tell(err, known, &[b"bibtex: refused ", code, b" ", name, b"\n"]);
 }
 
 /// Hands a file to the session, if it can be read.
@@ -114,17 +107,23 @@ fn load<F: Folder, E: Sink>(
     }
 }
 
-/// Hands files to the session, each that can be read, and notes that they were read.
+/// Notes names that are read.
+fn note_each(alloc: Global, met: &mut HashSet<Vec<u8>>, names: &[Bytes]) -> Result<(), AllocError> {
+    for name in names {
+        let _ = met.insert(Vec::from_slice(alloc, name.as_slice())?)?;
+    }
+    Ok(())
+}
+
+/// Hands files to the session, each that can be read.
 #[tactic(auto, using(crate::proofs::FolderLemmas::stays_more, crate::proofs::FolderLemmas::stays_none, crate::proofs::FolderLemmas::held_stays))]
 fn load_each<F: Folder, E: Sink>(
-    alloc: Global,
     session: &mut Session,
     folder: &mut F,
     err: &mut E,
     known: u64,
-    met: &mut HashSet<Vec<u8>>,
     names: &[Bytes],
-) -> Result<(), AllocError>
+)
     requires { known < 2 ^ 64 - 1 }
     ensures root { session.new.root ≡ session.old.root }
     ensures min { session.new.min ≡ session.old.min }
@@ -133,10 +132,8 @@ fn load_each<F: Folder, E: Sink>(
     ensures folder { Stays (F.written folder.old) (F.written folder.new) }
 {
     'names: for name in names {
-        let _ = met.insert(Vec::from_slice(alloc, name.as_slice())?)?;
         load(session, folder, err, known, name.as_slice());
     }
-    Ok(())
 }
 
 /// Reads each file that the session wants, once each, until it wants no new one. A file that is refused is told on
@@ -162,15 +159,8 @@ pub fn load_all<F: Folder, E: Sink>(
         if names.len() == 0 {
             break;
         }
-        load_each(
-            alloc,
-            session,
-            folder,
-            err,
-            known,
-            &mut met,
-            names.as_slice(),
-        )?;
+        note_each(alloc, &mut met, names.as_slice())?;
+        load_each(session, folder, err, known, names.as_slice());
     }
     Ok(())
 }

@@ -8,11 +8,10 @@ ghost use Rattle.bt_resolve.specs.Values.{field_value, finished, is_named, joine
 use crate::message::{Message, Place};
 use crate::warnings::{own_macro, too_long, undefined_macro};
 use bt_bib::Part;
-use bt_text::{ByName, Bytes, Sequence, Shared, eq_ignore_ascii_case, join_white};
+use bt_text::{
+    ByName, Bytes, Sequence, Shared, TEXT_BYTES, eq_ignore_ascii_case, join_white,
+};
 use std::alloc::{AllocError, Global};
-
-/// How many bytes the parts of a value may have together.
-const MOST_BYTES: usize = 65_536;
 
 /// Whether a text is there and matches a name.
 fn is_named(text: Option<&[u8]>, name: &[u8]) -> bool
@@ -29,7 +28,7 @@ fn join_part(joined: &mut Option<Bytes>, text: &[u8]) -> Result<(), AllocError>
     ensures { OnOk result (joined.new ≡ option_and_then (with_part text.now) joined.old) }
 {
     if let Some(front) = joined {
-        if text.len() <= MOST_BYTES && front.len() <= MOST_BYTES - text.len() {
+        if text.len() <= TEXT_BYTES && front.len() <= TEXT_BYTES - text.len() {
             front.append(text)?;
         } else {
             *joined = None;

@@ -1,6 +1,5 @@
 -- From an edit that was carried out or refused to its answer.
-use Rattle.std.specs.Prelude.{codes, decimal}
-use Rattle.std.proofs.Common.{◌≡◌, ℕ, List, [], ◌++◌, length, refl, ap, ◌∙◌, subst, append_assoc, Option, None, Some, Bool, true, false, Result, Ok, Err, unwrap_or}
+use Rattle.std.proofs.Common.{◌≡◌, ℕ, List, length, refl, ap, ◌∙◌, subst, Option, None, Some, Bool, true, false, Result, Ok, Err, unwrap_or}
 use Rattle.bt_run.specs.declared.answers.Report.{Report}
 use Rattle.bibtex.specs.declared.edit.Refusal.{Refusal}
 use Rattle.bibtex.specs.declared.edit.Refusal.TheVariants.{OutOfMemory}
@@ -35,15 +34,3 @@ does_taken change n old new s s' (Ok report) Written (bytes, size, consumes, mad
 does_taken change n old new s s' (Err r) Written (bytes, size, consumes, answer, same) w =
     let as_said = refused_as change bytes s r (outcome change bytes s) refl answer in
     (as_said.0, bytes, size, consumes, same ∙ as_said.1, subst Written as_said.2 w, as_said.3)
-
--- Nine pieces, cut behind the fifth.
-nine_pieces : (ok status space ran reused ticks feed : List ℕ) →
-    ok ++ (status ++ (space ++ (ran ++ (space ++ (reused ++ (space ++ (ticks ++ feed))))))) ≡
-    (ok ++ (status ++ (space ++ (ran ++ space)))) ++ (reused ++ (space ++ ([] ++ (ticks ++ feed))))
-nine_pieces ok status space ran reused ticks feed = simp append_assoc
-
--- The answer to an accepted edit in its pieces, the first five and the last ones.
-pub accepted_is : (r : Report) (status ran reused ticks : List ℕ) → status ≡ decimal r.status → ran ≡ decimal r.ran → reused ≡ decimal r.reused → ticks ≡ decimal r.ticks →
-    accepted r ≡ (codes "ok " ++ (status ++ (codes " " ++ (ran ++ codes " ")))) ++ (reused ++ (codes " " ++ ([] ++ (ticks ++ codes "\n"))))
-accepted_is r status ran reused ticks a b c d =
-    rw (a, b, c, d) (nine_pieces (codes "ok ") (decimal r.status) (codes " ") (decimal r.ran) (decimal r.reused) (decimal r.ticks) (codes "\n"))

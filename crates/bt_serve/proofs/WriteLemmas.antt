@@ -40,19 +40,6 @@ flat_map_at f xs i d h =
     sym (ap (flat_map f) (take-append-drop i xs)) ∙ flat_map-append f (take i xs) (drop i xs) ∙
     ap (λ t. flat_map f (take i xs) ++ flat_map f t) e
 
--- What holds of each failure holds of one.
-pub on_err_map : {T E P Q : Type 0} → (r : Result T E) → (P → Q) → OnErr r P → OnErr r Q
-on_err_map (Ok x) f p = tt
-on_err_map (Err e) f p = f p
-
--- A beginning of the first pieces is one of all.
-pub part_of_front : (a b : Option (List ℕ)) (xs rest whole : List ℕ) → whole ≡ xs ++ rest → AppendsPart a b xs → AppendsPart a b whole
-part_of_front a b xs rest whole e q = (q.0, q.1 ++ rest, e ∙ ap (λ t. t ++ rest) q.2 ∙ append_assoc q.0 q.1 rest, q.3)
-
--- The first pieces, and then a beginning of the others.
-pub part_of_back : (a b c : Option (List ℕ)) (xs ys whole : List ℕ) → whole ≡ xs ++ ys → Appends a b xs → AppendsPart b c ys → AppendsPart a c whole
-part_of_back a b c xs ys whole e p q = part_behind a b c xs ys [] whole (e ∙ ap (λ t. xs ++ t) (sym (append-nil ys))) p q
-
 -- A write that took nothing.
 pub keeps_none : (a b : Option (List ℕ)) → Appends a b [] → Keeps a b
 keeps_none None b p = tt

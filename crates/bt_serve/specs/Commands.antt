@@ -145,11 +145,15 @@ unless_wanting true (Err refusal) = Err refusal
 abbrev pub number_line : List ℕ → ℕ → List ℕ
 number_line word n = word ++ (decimal n ++ codes "\n")
 
+-- a text after a word and the number of its bytes
+abbrev pub text_answer : List ℕ → List ℕ → List ℕ
+text_answer word text = word ++ (decimal (length text) ++ (codes "\n" ++ text))
+
 -- the answer to a request with these bytes
 abbrev pub answer_of : Bool → State → Request → List ℕ → List ℕ
 answer_of wants state (edit change n) bytes = edit_answer state (unless_wanting wants (outcome change bytes state))
-answer_of wants state bbl bytes = codes "bbl " ++ (decimal (length (shown state).bbl) ++ (codes "\n" ++ (shown state).bbl))
-answer_of wants state blg bytes = codes "blg " ++ (decimal (length (shown state).blg) ++ (codes "\n" ++ (shown state).blg))
+answer_of wants state bbl bytes = text_answer (codes "bbl ") (shown state).bbl
+answer_of wants state blg bytes = text_answer (codes "blg ") (shown state).blg
 answer_of wants state status bytes = number_line (codes "status ") (shown state).status
 answer_of wants state quit bytes = codes "bye\n"
 answer_of wants state unreadable bytes = codes "fault 1\n"

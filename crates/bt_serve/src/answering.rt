@@ -4,7 +4,7 @@ ghost use Rattle.std.specs.Prelude.{◌≡◌, ◌+◌, ◌-◌, ◌^◌, ◌<�
 ghost use Rattle.std.specs.Io.KnownBytes.{Appends};
 ghost use Rattle.bibtex.specs.Changes.{change_of};
 ghost use Rattle.bt_serve.specs.Asked.{asked};
-ghost use Rattle.bt_serve.specs.Commands.{edit, code_of, number_line, answer_of, ends, IsShown, accepted, refused};
+ghost use Rattle.bt_serve.specs.Commands.{edit, code_of, number_line, text_answer, answer_of, ends, IsShown, accepted, refused};
 ghost use Rattle.bt_serve.specs.Serves.{Takes, taken_text, Replies};
 ghost use Rattle.bt_serve.specs.Writes.{AppendsPart};
 ghost use Rattle.bt_serve.specs.Faults.{HandsOn};
@@ -13,13 +13,10 @@ use crate::command::Request;
 use crate::fault::ServeFault;
 use crate::reading::{drop_bytes, read_bytes};
 use crate::streams::{Failed, Sink, Source};
-use crate::writing::{say, write_five};
-use bibtex::{Change, Refusal, Report, Session};
+use crate::writing::say;
+use bibtex::{Change, FILE_BYTES, Refusal, Report, Session};
 use itoa::Buffer;
 use std::alloc::{AllocError, Global};
-
-/// How many bytes an edit may bring.
-const MOST_BYTES: usize = 1_048_576;
 
 /// Reads the bytes that an edit brings, and makes the edit.
 fn take_edit<S: Source>(
@@ -55,7 +52,7 @@ fn take_edit<S: Source>(
 fn room(alloc: Global, count: usize) -> Result<Vec<u8>, AllocError>
     ensures { IfOk result (λ bytes. length bytes.items ≡ count) }
 {
-    if count > MOST_BYTES {
+    if count > FILE_BYTES {
         return Err(AllocError);
     }
     vec![in alloc; 0; count]
@@ -133,10 +130,10 @@ fn say_accepted<K: Sink>(sink: &mut K, report: Report) -> Result<(), Failed>
     let ran = ran.format(report.ran).as_bytes();
     let reused = reused.format(report.reused).as_bytes();
     let ticks = ticks.format(report.ticks).as_bytes();
-    match write_five(sink, b"ok ", status, b" ", ran, b" ") {
-        Ok(()) => say(sink, reused, b" ", b"", ticks, b"\n"),
-        Err(failed) => Err(failed),
-    }
+    say(
+        sink,
+        &[b"ok ", status, b" ", ran, b" ", reused, b" ", ticks, b"\n"],
+    )
 }
 
 /// Tells why an edit was refused.
@@ -150,7 +147,7 @@ fn say_refused<K: Sink>(sink: &mut K, refusal: Refusal) -> Result<(), Failed>
 {
     let mut code = Buffer::new();
     let code = code.format(code_of(refusal)).as_bytes();
-    say(sink, b"refused ", code, b"\n", b"", b"")
+    say(sink, &[b"refused ", code, b"\n"])
 }
 
 /// Tells how an edit ended.
@@ -179,7 +176,21 @@ fn say_status<K: Sink>(sink: &mut K, status: u8) -> Result<(), Failed>
 {
     let mut number = Buffer::new();
     let number = number.format(status).as_bytes();
-    say(sink, b"status ", number, b"\n", b"", b"")
+    say(sink, &[b"status ", number, b"\n"])
+}
+
+/// Tells a text, after a word and the number of its bytes.
+fn say_text<K: Sink>(sink: &mut K, word: &[u8], text: &[u8]) -> Result<(), Failed>
+    requires { K.failure_count sink.old < 2 ^ 64 - 1 }
+    ensures all { OnOk result (Appends (K.contents sink.old) (K.contents sink.new) (text_answer word.now text.now)) }
+    ensures part { OnErr result (AppendsPart (K.contents sink.old) (K.contents sink.new) (text_answer word.now text.now)) }
+    ensures ok { OnOk result (K.failure_count sink.new ≡ K.failure_count sink.old) }
+    ensures err { OnErr result (K.failure_count sink.new ≡ K.failure_count sink.old + 1) }
+    ensures flushed { OnOk result (K.is_flushed sink.new ≡ true) }
+{
+    let mut size = Buffer::new();
+    let size = size.format(text.len()).as_bytes();
+    say(sink, &[word, size, b"\n", text])
 }
 
 /// Answers a request that changes nothing, and says whether it was the last one.
@@ -193,19 +204,14 @@ fn say_shown<K: Sink>(sink: &mut K, session: &Session, request: Request<'_>) -> 
     ensures err { OnErr result (K.failure_count sink.new ≡ K.failure_count sink.old + 1) }
     ensures flushed { OnOk result (K.is_flushed sink.new ≡ true) }
 {
-    let mut number = Buffer::new();
     match request {
         Request::Edit(_, _) => unreachable!(),
         Request::Bbl => {
-            let text = session.bbl();
-            let size = number.format(text.len()).as_bytes();
-            say(sink, b"bbl ", size, b"\n", b"", text)?;
+            say_text(sink, b"bbl ", session.bbl())?;
             Ok(false)
         }
         Request::Blg => {
-            let text = session.blg();
-            let size = number.format(text.len()).as_bytes();
-            say(sink, b"blg ", size, b"\n", b"", text)?;
+            say_text(sink, b"blg ", session.blg())?;
             Ok(false)
         }
         Request::Status => {
@@ -213,15 +219,15 @@ fn say_shown<K: Sink>(sink: &mut K, session: &Session, request: Request<'_>) -> 
             Ok(false)
         }
         Request::Quit => {
-            say(sink, b"bye\n", b"", b"", b"", b"")?;
+            say(sink, &[b"bye\n"])?;
             Ok(true)
         }
         Request::Unreadable => {
-            say(sink, b"fault 1\n", b"", b"", b"", b"")?;
+            say(sink, &[b"fault 1\n"])?;
             Ok(false)
         }
         Request::TooLong => {
-            say(sink, b"fault 2\n", b"", b"", b"", b"")?;
+            say(sink, &[b"fault 2\n"])?;
             Ok(false)
         }
     }

@@ -1,6 +1,6 @@
 //! Writes answers to a sink.
 
-ghost use Rattle.std.specs.Prelude.{◌≡◌, ℕ, true, ◌+◌, ◌-◌, ◌^◌, ◌<◌, ◌++◌, OnOk, OnErr};
+ghost use Rattle.std.specs.Prelude.{◌≡◌, ℕ, true, ◌+◌, ◌-◌, ◌^◌, ◌<◌, OnOk, OnErr};
 ghost use Rattle.std.specs.List.{flat_map};
 ghost use Rattle.std.specs.Io.KnownBytes.{Appends};
 ghost use Rattle.bt_serve.specs.Writes.{AppendsPart};
@@ -38,44 +38,17 @@ fn write_pieces<K: Sink>(sink: &mut K, pieces: &[&[u8]]) -> Result<(), Failed>
     Ok(())
 }
 
-/// Writes five pieces of an answer.
-pub fn write_five<'a, K: Sink>(
-    sink: &mut K,
-    first: &'a [u8],
-    second: &'a [u8],
-    third: &'a [u8],
-    fourth: &'a [u8],
-    fifth: &'a [u8],
-) -> Result<(), Failed>
+/// Writes the pieces of an answer one after another, and hands them on.
+pub fn say<K: Sink>(sink: &mut K, pieces: &[&[u8]]) -> Result<(), Failed>
     requires { K.failure_count sink.old < 2 ^ 64 - 1 }
     ensures all { OnOk result (Appends (K.contents sink.old) (K.contents sink.new)
-        (first.now ++ (second.now ++ (third.now ++ (fourth.now ++ fifth.now))))) }
+        (flat_map (λ piece. piece.now) pieces.now)) }
     ensures part { OnErr result (AppendsPart (K.contents sink.old) (K.contents sink.new)
-        (first.now ++ (second.now ++ (third.now ++ (fourth.now ++ fifth.now))))) }
-    ensures ok { OnOk result (K.failure_count sink.new ≡ K.failure_count sink.old) }
-    ensures err { OnErr result (K.failure_count sink.new ≡ K.failure_count sink.old + 1) }
-{
-    write_pieces(sink, &[first, second, third, fourth, fifth])
-}
-
-/// Writes the five last pieces of an answer, and hands the answer on.
-pub fn say<'a, K: Sink>(
-    sink: &mut K,
-    first: &'a [u8],
-    second: &'a [u8],
-    third: &'a [u8],
-    fourth: &'a [u8],
-    fifth: &'a [u8],
-) -> Result<(), Failed>
-    requires { K.failure_count sink.old < 2 ^ 64 - 1 }
-    ensures all { OnOk result (Appends (K.contents sink.old) (K.contents sink.new)
-        (first.now ++ (second.now ++ (third.now ++ (fourth.now ++ fifth.now))))) }
-    ensures part { OnErr result (AppendsPart (K.contents sink.old) (K.contents sink.new)
-        (first.now ++ (second.now ++ (third.now ++ (fourth.now ++ fifth.now))))) }
+        (flat_map (λ piece. piece.now) pieces.now)) }
     ensures ok { OnOk result (K.failure_count sink.new ≡ K.failure_count sink.old) }
     ensures err { OnErr result (K.failure_count sink.new ≡ K.failure_count sink.old + 1) }
     ensures flushed { OnOk result (K.is_flushed sink.new ≡ true) }
 {
-    write_five(sink, first, second, third, fourth, fifth)?;
+    write_pieces(sink, pieces)?;
     sink.flush()
 }

@@ -18,6 +18,9 @@ use bt_text::Bytes;
 use std::alloc::{AllocError, Global};
 use std::mem;
 
+/// How deep the braces of a body may stand, its own among them.
+pub const BRACE_DEPTH: usize = 100;
+
 /// Adds an element.
 fn push(ops: &mut Vec<Op>, op: Op) -> Result<(), AllocError>
     ensures { OnOk result (elements_of ops.new.items ≡ elements_of ops.old.items ++ element_of op ∷ []) }
@@ -63,7 +66,7 @@ fn leave(outer: &mut Vec<Vec<Op>>) -> Option<Vec<Op>>
 fn is_deep(outer: &[Vec<Op>]) -> bool
     ensures { result ≡ not (nat_lt (length (opened outer.now)) 99) }
 {
-    outer.len() >= 99
+    outer.len() >= BRACE_DEPTH - 1
 }
 
 /// Reads a body up to the brace that closes it.

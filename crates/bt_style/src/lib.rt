@@ -19,6 +19,7 @@ mod style;
 mod token;
 mod verbs;
 
+pub use bodies::BRACE_DEPTH;
 pub use builtin::{BUILTIN_COUNT, Builtin};
 pub use fault::{Fault, FaultKind, StyleRefusal};
 pub use laws::{

@@ -15,8 +15,8 @@ use std::alloc::{AllocError, Global};
 use std::marker::Model;
 use thiserror::Error;
 
-/// How many bytes the held line and what is written behind it may have together.
-pub const MOST_BYTES: usize = 65_536;
+/// How many bytes a text of a style may have: a value, an argument, and the held line with what is written behind it.
+pub const TEXT_BYTES: usize = 65_536;
 
 /// Why nothing was written.
 #[derive(Clone, Copy, PartialEq, Eq, Debug, Error)]
@@ -120,7 +120,7 @@ impl Held {
         ensures held_stays { OnErr result (self.new ≡ self.old) }
         ensures lines_stay { OnErr result (lines.new ≡ lines.old) }
     {
-        if text.len() > MOST_BYTES - self.bytes.len() {
+        if text.len() > TEXT_BYTES - self.bytes.len() {
             return Err(HeldFault::TooLong);
         }
         if self.breaks_with(text) {

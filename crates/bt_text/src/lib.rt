@@ -37,7 +37,7 @@ pub use classes::Class;
 pub use cutting::{substring, text_prefix};
 pub use depth::{balanced, depth_behind, depth_of};
 pub use folding::{eq_ignore_ascii_case, to_ascii_lowercase};
-pub use held::{Held, HeldFault, MOST_BYTES};
+pub use held::{Held, HeldFault, TEXT_BYTES};
 pub use laws::pieces_make_up_the_text;
 pub use length::text_length;
 pub use modes::Mode;

@@ -79,15 +79,15 @@ fn holds_a_long_line(rt: HostRuntime) -> Result<(), Fail> {
     let alloc = rt.alloc();
     let mut line = Held::new(alloc);
     let mut lines = Sequence::new(alloc);
-    for _ in 0..MOST_BYTES {
+    for _ in 0..TEXT_BYTES {
         line.write(alloc, b"x", &mut lines)?;
     }
-    assert_eq!(rt; line.bytes().len(), MOST_BYTES);
+    assert_eq!(rt; line.bytes().len(), TEXT_BYTES);
     assert_eq!(rt;
         line.write(alloc, b"x", &mut lines),
         Err(HeldFault::TooLong)
     );
-    assert_eq!(rt; line.copy(alloc)?.bytes().len(), MOST_BYTES);
+    assert_eq!(rt; line.copy(alloc)?.bytes().len(), TEXT_BYTES);
     assert_eq!(rt; lines.len(), 0);
     line.newline(alloc, &mut lines)?;
     assert_eq!(rt; lines.len(), 1);
@@ -97,7 +97,7 @@ fn holds_a_long_line(rt: HostRuntime) -> Result<(), Fail> {
 #[test]
 fn the_limit_is_tested_before_a_line_is_broken(rt: HostRuntime) -> Result<(), Fail> {
     let alloc = rt.alloc();
-    let spaces = vec![in alloc; b' '; MOST_BYTES + 1]?;
+    let spaces = vec![in alloc; b' '; TEXT_BYTES + 1]?;
     let mut line = Held::new(alloc);
     let mut lines = Sequence::new(alloc);
     assert_eq!(rt;
