@@ -73,14 +73,16 @@ fn reach_of(
 {
     let function = type_function(input);
     if let Some(one) = find_known(known.as_slice(), input.target, function) {
-        let reach = one.reach.share()?;
-        return Ok(reach);
+        let same = one.reach.share()?;
+        return Ok(same);
     }
-    let reach = Shared::new(alloc, style.reach(alloc, input.target, function)?)?;
+    let found = style.reach(alloc, input.target, function)?;
+    let reach = Shared::new(alloc, found)?;
+    let kept = reach.share()?;
     known.push(Known {
         target: input.target,
         function,
-        reach: reach.share()?,
+        reach: kept,
     })?;
     Ok(reach)
 }
