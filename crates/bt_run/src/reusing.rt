@@ -224,11 +224,12 @@ pub fn take_or_reuse(
     ensures within { OnOk result (reuse.new.meter ≤ reuse.old.meter + 1000000) }
     ensures counted { IfOk result (λ d. IsCounted (program_of style.now) earlier.now (record { command = command; key = key_in input.now; input = input.now; outcome = d.outcome; cost = d.cost }) reuse.old reuse.new) }
 {
-    let reach = reach_of(alloc, style, input, &mut reuse.known)?;
-    match meet(style, earlier, reuse.next, command, input, &reach) {
+    let known = reach_of(alloc, style, input, &mut reuse.known)?;
+    let reach: &Reach = &known;
+    match meet(style, earlier, reuse.next, command, input, reach) {
         Some(found) => {
             reuse.next = found.place + 1;
-            let taken = take_over(alloc, style, found.step, input, &reach)?;
+            let taken = take_over(alloc, style, found.step, input, reach)?;
             Ok(taken)
         }
         None => {
