@@ -73,14 +73,16 @@ fn reach_of(
 {
     let function = type_function(input);
     if let Some(one) = find_known(known.as_slice(), input.target, function) {
-        let reach = one.reach.share()?;
-        return Ok(reach);
+        let same = one.reach.share()?;
+        return Ok(same);
     }
-    let reach = Shared::new(alloc, style.reach(alloc, input.target, function)?)?;
+    let found = style.reach(alloc, input.target, function)?;
+    let reach = Shared::new(alloc, found)?;
+    let kept = reach.share()?;
     known.push(Known {
         target: input.target,
         function,
-        reach: reach.share()?,
+        reach: kept,
     })?;
     Ok(reach)
 }
@@ -222,11 +224,12 @@ pub fn take_or_reuse(
     ensures within { OnOk result (reuse.new.meter ≤ reuse.old.meter + 1000000) }
     ensures counted { IfOk result (λ d. IsCounted (program_of style.now) earlier.now (record { command = command; key = key_in input.now; input = input.now; outcome = d.outcome; cost = d.cost }) reuse.old reuse.new) }
 {
-    let reach = reach_of(alloc, style, input, &mut reuse.known)?;
-    match meet(style, earlier, reuse.next, command, input, &reach) {
+    let known = reach_of(alloc, style, input, &mut reuse.known)?;
+    let reach: &Reach = &known;
+    match meet(style, earlier, reuse.next, command, input, reach) {
         Some(found) => {
             reuse.next = found.place + 1;
-            let taken = take_over(alloc, style, found.step, input, &reach)?;
+            let taken = take_over(alloc, style, found.step, input, reach)?;
             Ok(taken)
         }
         None => {

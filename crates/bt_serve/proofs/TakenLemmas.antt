@@ -10,16 +10,16 @@ use Rattle.bt_serve.specs.Commands.{edit, edit_answer, state_or, unless_wanting,
 use Rattle.bt_serve.specs.Serves.{Takes, Does, taken_text}
 
 -- What answers an edit whose bytes found no room.
-dropped_at : (refusal : Option Refusal) (s : State) → IsAnswer (unless_refused refusal s) (Err (unwrap_or refusal OutOfMemory))
+dropped_at : (refusal : Option Refusal) (s : State) → IsAnswer {A = Report} (unless_refused refusal s) (Err (unwrap_or refusal OutOfMemory))
 dropped_at None s = refl
 dropped_at (Some r) s = refl
 
 pub dropped : (change : Change) (bytes : List ℕ) (n : ℕ) (s : State) (refusal : Option Refusal) → refusal ≡ refusal_of change n s → length bytes ≡ n →
-    IsAnswer (outcome change bytes s) (Err (unwrap_or refusal OutOfMemory))
+    IsAnswer {A = Report} (outcome change bytes s) (Err (unwrap_or refusal OutOfMemory))
 dropped change bytes n s refusal e h = rw (e, ← h) (dropped_at (refusal_of change (length bytes) s) (changed change bytes s))
 
 -- A refusal that the definitions give, or want of memory where they give none.
-refused_as : (change : Change) (bytes : List ℕ) (s : State) (r : Refusal) (made : Result State Refusal) → outcome change bytes s ≡ made → IsAnswer made (Err r) →
+refused_as : (change : Change) (bytes : List ℕ) (s : State) (r : Refusal) (made : Result State Refusal) → outcome change bytes s ≡ made → IsAnswer {A = Report} made (Err r) →
     (wants : Bool) × (s ≡ state_or s (unless_wanting wants (outcome change bytes s))) × (refused r ≡ edit_answer s (unless_wanting wants (outcome change bytes s))) ×
     (wants ≡ true → edit_answer s (unless_wanting wants (outcome change bytes s)) ≡ refused OutOfMemory)
 refused_as change bytes s r (Ok t) e i = (true, rw e refl, rw e (ap refused i), λ _. rw e refl)

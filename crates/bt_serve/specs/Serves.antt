@@ -19,7 +19,7 @@ abbrev pub Takes : Change → ℕ → Option (List ℕ) → Option (List ℕ) �
 Takes change n old new state state' (Ok (Ok report)) =
     (bytes : List ℕ) × (length bytes ≡ n) × Consumes old new bytes × (outcome change bytes state ≡ Ok state') × (report ≡ reported state state')
 Takes change n old new state state' (Ok (Err refusal)) =
-    (bytes : List ℕ) × (length bytes ≡ n) × Consumes old new bytes × IsAnswer (outcome change bytes state) (Err refusal) × (state' ≡ state)
+    (bytes : List ℕ) × (length bytes ≡ n) × Consumes old new bytes × IsAnswer {A = Report} (outcome change bytes state) (Err refusal) × (state' ≡ state)
 Takes change n old new state state' (Err ReadFailed) = ReadsBelow old new n × (state' ≡ state)
 Takes change n old new state state' (Err Truncated) = ReadsBelow old new n × IsAtEnd new × (state' ≡ state)
 Takes change n old new state state' (Err WriteFailed) = ⊥
