@@ -9,7 +9,7 @@ use Rattle.bt_run.specs.Work.{total_cost}
 use Rattle.bt_run.specs.Steps.{work_after}
 use Rattle.bt_run.specs.Meaning.{meaning, trace}
 
--- the text of a style of this name, if there is one
+-- the text of the style of a run that names one; a name without a file counts as an empty text
 abbrev pub named_text : List File → Option (List ℕ) → Option (List ℕ)
 named_text files None = None
 named_text files (Some name) = Some (unwrap_or (text_of files name) [])

@@ -19,7 +19,7 @@ found_from p type_function zero place found = found
 found_from p type_function (suc rounds) place found =
     found_from p type_function rounds (place + 1) (noted_all found (next_names p type_function (slice_get found place)))
 
--- the names that are reached from one: there are no more rounds than names that may be reached at all
+-- the names that are reached from one: no more can be reached than there are rounds, so each has its round
 unfoldable pub reach_of : Program → Option ℕ → Target → List Target
 reach_of p type_function start = found_from p type_function (length (reachable p type_function start) + 1) 0 (start ∷ [])
 

@@ -16,7 +16,7 @@ abbrev pub steps_under : Option (List ℕ) → List Step → List ℕ → List S
 steps_under None steps text = []
 steps_under (Some own) steps text = if bytes_eq own text then steps else []
 
--- the work of steps under a style that could be read; without one there are none
+-- the work of steps under a style that could be read; a style with a fault has no steps
 abbrev pub styled_work : Result Program Fault → List Step → List Step → List Step
 styled_work (Ok p) earlier steps = work_under p earlier steps
 styled_work (Err fault) earlier steps = steps

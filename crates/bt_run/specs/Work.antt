@@ -67,9 +67,9 @@ pub record IsCounted (p : Program) (earlier : List Step) (t : Step) (before afte
   pub ran : after.ran ≡ before.ran + length (work_under p earlier (t ∷ []))
   pub ticks : after.meter ≡ before.meter + total_cost (work_under p earlier (t ∷ []))
 
--- What a run over earlier steps keeps to: what was carried out is the work of its trace, no step of which costs more than
--- a million ticks; its steps are those of the style; what it worked out
--- of the style is so; and its order names entries alone.
+-- What a run over earlier steps keeps to: what was carried out is the work of its trace, and costs at most a million ticks
+-- for each step of it; its steps are those of the style; what it worked out of the style is so; and its order names entries
+-- alone.
 pub record IsConsistent (p : Program) (earlier : List Step) (r : Course) (reuse : Reuse) : Type 0 where
   pub ran : reuse.ran ≡ length (work_under p earlier r.trace)
   pub ticks : reuse.meter ≡ total_cost (work_under p earlier r.trace)
