@@ -47,8 +47,8 @@ abbrev pub shown : State → Meaning
 shown s = meaning s.texts s.root s.min
 
 -- What must be carried out to go from one state to another: the steps of the new state's run that have none of the same
--- command and key in the old state's run which agrees with it in all that it may come to. It is all steps where the texts of the two runs' styles
--- differ, or one has no style. Both runs are runs from scratch.
+-- command and key in the old state's run which agrees with it in all that it may come to. It is all steps where the
+-- texts of the two runs' styles differ, or one has no style. Both runs are runs from scratch.
 abbrev pub work : State → State → List Step
 work old new = run_work (style_text old.texts old.root) (trace old.texts old.root old.min) new.texts new.root new.min
 
