@@ -1,8 +1,12 @@
 //! Whether inputs agree, and what an earlier step leaves for one, at worked changes.
 
+ghost use Rattle.std.specs.Prelude.{IfOk};
+ghost use Rattle.bt_style.specs.Program.{program_of};
+ghost use Rattle.bt_machine.specs.Agreement.{IsFootprint};
+
 use crate::test_steps::style;
 use crate::{Entry, Input, Meter, Outcome, Variables, activate, agrees, left_over};
-use bt_style::{Style, Target};
+use bt_style::{Reach, Style, Target};
 use bt_text::{Bytes, Held, Sequence, Shared};
 use std::alloc::{AllocError, Global};
 use std::test::Fail;
@@ -27,72 +31,159 @@ enum Change {
     Entry,
 }
 
-/// One of two texts of a length: the other one where it is to differ.
-fn either(
-    alloc: Global,
-    differs: bool,
-    first: &str,
-    other: &str,
-) -> Result<Shared<Bytes>, AllocError> {
-    let chosen = if differs { other } else { first };
-    Shared::<Bytes>::copied(alloc, chosen.as_bytes())
+/// What an input is made from.
+#[derive(Clone, Copy)]
+struct Recipe<'a> {
+    target: usize,
+    has_entry: bool,
+    key: &'a str,
+    kind: &'a str,
+    function: Option<usize>,
+    title: &'a str,
+    year: Option<&'a str>,
+    number: i32,
+    label: &'a str,
+    counts: &'a [i32],
+    all: &'a str,
+    held: &'a str,
+    preamble: &'a str,
 }
 
-/// A number and a text.
-fn variables(alloc: Global, number: i32, text: Shared<Bytes>) -> Result<Variables, AllocError> {
-    let mut numbers = Sequence::new(alloc);
-    numbers.push(number)?;
-    let mut texts = Sequence::new(alloc);
-    texts.push(text)?;
-    Ok(Variables { numbers, texts })
+/// What all inputs are made from whose entry's type has this function, but for what differs.
+fn base(function: Option<usize>) -> Recipe<'static> {
+    Recipe {
+        target: 0,
+        has_entry: true,
+        key: "key",
+        kind: "book",
+        function,
+        title: "Title",
+        year: None,
+        number: 7,
+        label: "label",
+        counts: &[8],
+        all: "all",
+        held: "",
+        preamble: "pre",
+    }
 }
 
-/// The entry of an input, whose type has this function.
-fn entry(alloc: Global, function: Option<usize>, change: Change) -> Result<Entry, AllocError> {
-    let mut fields = Sequence::new(alloc);
-    fields.push(Some(either(alloc, change == Change::Title, "Title", "Other")?))?;
-    fields.push(if change == Change::Year {
-        Some(either(alloc, false, "1990", "")?)
-    } else {
-        None
-    })?;
-    let label = either(alloc, change == Change::Label, "label", "other")?;
-    let number = if change == Change::Number { 6 } else { 7 };
-    Ok(Entry {
-        key: either(alloc, change == Change::Key, "key", "yek")?,
-        kind: either(alloc, change == Change::Kind, "book", "misc")?,
-        function: if change == Change::Function {
-            Some(2)
-        } else {
-            function
+/// What an input is made from that differs in one thing; texts that differ have the same length.
+fn recipe_of(function: Option<usize>, change: Change) -> Recipe<'static> {
+    let base = base(function);
+    match change {
+        Change::Nothing => base,
+        Change::Target => Recipe { target: 1, ..base },
+        Change::Key => Recipe { key: "yek", ..base },
+        Change::Kind => Recipe {
+            kind: "misc",
+            ..base
         },
+        Change::Function => Recipe {
+            function: Some(2),
+            ..base
+        },
+        Change::Title => Recipe {
+            title: "Other",
+            ..base
+        },
+        Change::Year => Recipe {
+            year: Some("1990"),
+            ..base
+        },
+        Change::Number => Recipe { number: 6, ..base },
+        Change::Label => Recipe {
+            label: "other",
+            ..base
+        },
+        Change::Count => Recipe {
+            counts: &[9],
+            ..base
+        },
+        Change::All => Recipe { all: "one", ..base },
+        Change::MoreGlobals => Recipe {
+            counts: &[8, 0],
+            ..base
+        },
+        Change::Held => Recipe {
+            held: "held",
+            ..base
+        },
+        Change::Preamble => Recipe {
+            preamble: "erp",
+            ..base
+        },
+        Change::Entry => Recipe {
+            has_entry: false,
+            ..base
+        },
+    }
+}
+
+fn shared(alloc: Global, text: &str) -> Result<Shared<Bytes>, AllocError> {
+    Shared::<Bytes>::copied(alloc, text.as_bytes())
+}
+
+fn field(alloc: Global, text: Option<&str>) -> Result<Option<Shared<Bytes>>, AllocError> {
+    match text {
+        None => Ok(None),
+        Some(text) => Ok(Some(shared(alloc, text)?)),
+    }
+}
+
+fn fields(
+    alloc: Global,
+    recipe: Recipe<'_>,
+) -> Result<Sequence<Option<Shared<Bytes>>>, AllocError> {
+    let mut fields = Sequence::new(alloc);
+    fields.push(field(alloc, Some(recipe.title))?)?;
+    fields.push(field(alloc, recipe.year)?)?;
+    Ok(fields)
+}
+
+/// Some numbers and a text.
+fn variables(alloc: Global, numbers: &[i32], text: &str) -> Result<Shared<Variables>, AllocError> {
+    let mut texts = Sequence::new(alloc);
+    texts.push(shared(alloc, text)?)?;
+    let numbers = Sequence::from_vec(Vec::from_slice(alloc, numbers)?);
+    Shared::new(alloc, Variables { numbers, texts })
+}
+
+fn entry(alloc: Global, recipe: Recipe<'_>) -> Result<Entry, AllocError> {
+    let fields = fields(alloc, recipe)?;
+    Ok(Entry {
+        key: shared(alloc, recipe.key)?,
+        kind: shared(alloc, recipe.kind)?,
+        function: recipe.function,
         fields: Shared::new(alloc, fields)?,
-        variables: Shared::new(alloc, variables(alloc, number, label)?)?,
+        variables: variables(alloc, &[recipe.number], recipe.label)?,
     })
+}
+
+fn maybe_entry(alloc: Global, recipe: Recipe<'_>) -> Result<Option<Entry>, AllocError> {
+    if recipe.has_entry {
+        Ok(Some(entry(alloc, recipe)?))
+    } else {
+        Ok(None)
+    }
+}
+
+fn held(alloc: Global, text: &str) -> Result<Held, Fail> {
+    let mut held = Held::new(alloc);
+    let mut lines = Sequence::new(alloc);
+    held.write(alloc, text.as_bytes(), &mut lines)?;
+    Ok(held)
 }
 
 /// An input that differs in one thing.
 fn changed(alloc: Global, function: Option<usize>, change: Change) -> Result<Input, Fail> {
-    let all = either(alloc, change == Change::All, "all", "one")?;
-    let mut globals = variables(alloc, if change == Change::Count { 9 } else { 8 }, all)?;
-    if change == Change::MoreGlobals {
-        globals.numbers.push(0)?;
-    }
-    let mut held = Held::new(alloc);
-    if change == Change::Held {
-        let mut lines = Sequence::new(alloc);
-        held.write(alloc, b"held", &mut lines)?;
-    }
+    let recipe = recipe_of(function, change);
     Ok(Input {
-        target: Target::Function(if change == Change::Target { 1 } else { 0 }),
-        entry: if change == Change::Entry {
-            None
-        } else {
-            Some(entry(alloc, function, change)?)
-        },
-        globals: Shared::new(alloc, globals)?,
-        held,
-        preamble: either(alloc, change == Change::Preamble, "pre", "erp")?,
+        target: Target::Function(recipe.target),
+        entry: maybe_entry(alloc, recipe)?,
+        globals: variables(alloc, recipe.counts, recipe.all)?,
+        held: held(alloc, recipe.held)?,
+        preamble: shared(alloc, recipe.preamble)?,
     })
 }
 
@@ -150,9 +241,17 @@ const CASES: &[(&str, Option<usize>, Change, bool)] = &[
     ("cite$ pop$", None, Change::Preamble, true),
 ];
 
+/// What the step of an input may come to.
+fn reach_of(alloc: Global, style: &Style, input: &Input) -> Result<Reach, AllocError>
+    ensures { IfOk result (λ reach. IsFootprint (program_of style.now) input.now reach.targets) }
+{
+    let reach = style.reach(alloc, input.target, input.type_function())?;
+    Ok(reach)
+}
+
 /// Whether two inputs agree in what the first one's step may come to.
 fn agree(alloc: Global, style: &Style, old: &Input, new: &Input) -> Result<bool, Fail> {
-    let reach = style.reach(alloc, old.target, old.type_function())?;
+    let reach = reach_of(alloc, style, old)?;
     Ok(agrees(style, old, new, &reach))
 }
 
@@ -184,29 +283,30 @@ fn inputs_agree_in_what_is_reached(rt: HostRuntime) -> Result<(), Fail> {
 /// What an earlier step on the one input leaves for the other one, where they agree.
 fn reused(alloc: Global, style: &Style, old: &Input, new: &Input) -> Result<Option<Outcome>, Fail> {
     let left = activate(alloc, style, old, &mut Meter::new())?;
-    let reach = style.reach(alloc, new.target, new.type_function())?;
+    let reach = reach_of(alloc, style, new)?;
     if !agrees(style, old, new, &reach) {
         return Ok(None);
     }
     Ok(Some(left_over(alloc, style, old, &left, new, &reach)?))
 }
 
-/// What is left of a body for a changed input: the first of its global numbers and texts, and the entry's number.
+/// The first of the global numbers and texts, and the entry's number.
+fn first_values(alloc: Global, outcome: &Outcome) -> Result<(i32, Bytes, i32), Fail> {
+    let globals = &outcome.globals;
+    let count = globals.numbers.as_slice().first().ok_or("no number")?;
+    let all = globals.texts.as_slice().first().ok_or("no text")?;
+    let own = outcome.variables.as_ref().ok_or("no variables")?;
+    let number = own.numbers.as_slice().first().ok_or("no number")?;
+    Ok((*count, Bytes::copied(alloc, all.as_slice())?, *number))
+}
+
+/// The same of what is left of a body for a changed input.
 fn left_after(alloc: Global, body: &str, change: Change) -> Result<(i32, Bytes, i32), Fail> {
     let style = style_of(alloc, body)?;
     let old = changed(alloc, None, Change::Nothing)?;
     let new = changed(alloc, None, change)?;
     let outcome = reused(alloc, &style, &old, &new)?.ok_or("they don't agree")?;
-    let count = outcome
-        .globals
-        .numbers
-        .as_slice()
-        .first()
-        .ok_or("no number")?;
-    let all = outcome.globals.texts.as_slice().first().ok_or("no text")?;
-    let own = outcome.variables.as_ref().ok_or("no variables")?;
-    let number = own.numbers.as_slice().first().ok_or("no number")?;
-    Ok((*count, Bytes::copied(alloc, all.as_slice())?, *number))
+    first_values(alloc, &outcome)
 }
 
 /// A body, what differs, and what is left.
