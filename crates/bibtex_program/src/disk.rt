@@ -2,15 +2,15 @@
 
 ghost use Rattle.std.specs.Prelude.{None};
 
-use bibtex::Bytes;
+use bibtex::{Bytes, FILE_BYTES};
 use bt_one_shot::{Folder, Found};
 use std::alloc::Global;
 use std::fs;
 use std::io::{ErrorKind, Read};
 use std::rt::Files;
 
-/// How many bytes of a file are read: one more than a text may have, so that a longer one is refused.
-const MOST_READ: u64 = 1_048_577;
+/// How many bytes of a file are read: one more than a file may have, so that a longer one is refused.
+const MOST_READ: u64 = FILE_BYTES as u64 + 1;
 
 /// The files of the folder that the program was started in.
 #[derive(Drop)]
