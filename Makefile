@@ -31,6 +31,7 @@ run: build
 test:
 	@$(NEEDS_RT)
 	rt ci
+	tests/sources
 	tests/run
 
 check:
