@@ -34,6 +34,7 @@ run:
 test:
 	@$(NEEDS_RT)
 	rt ci
+	tests/sources
 	tests/run
 	tests/originals
 	tests/memory

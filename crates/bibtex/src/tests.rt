@@ -20,12 +20,12 @@ fn begun(alloc: Global) -> Result<Session, Refusal> {
     Ok(session)
 }
 
-/// The report of a run from scratch.
-fn report(status: u8, ran: u64, ticks: u128) -> Report {
+/// A report.
+fn report(status: u8, ran: u64, reused: u64, ticks: u128) -> Report {
     Report {
         status,
         ran,
-        reused: 0,
+        reused,
         ticks,
     }
 }
@@ -38,7 +38,7 @@ fn missing_files_are_wanted(rt: HostRuntime) -> Result<(), Fail> {
     session.edit(Edit::Write(b"job.aux", AUX))?;
     assert_eq!(rt; session.wanted().len(), 2);
     let answer = session.edit(Edit::Write(b"s.bst", STYLE))?;
-    assert_eq!(rt; answer, report(2, 0, 0));
+    assert_eq!(rt; answer, report(2, 0, 0, 0));
     assert_eq!(rt; session.wanted().len(), 1);
     assert_eq!(rt; session.wanted()[0].as_slice(), b"x.bib".as_slice());
     Ok(())
@@ -56,10 +56,10 @@ fn edits_are_answered_in_turn(rt: HostRuntime) -> Result<(), Fail> {
     ];
     let answers = edit_all(alloc, &mut session, &edits)?;
     assert_eq!(rt; answers.len(), 4);
-    assert_eq!(rt; answers[0], Ok(report(1, 1, 4)));
-    assert_eq!(rt; answers[1], Ok(report(1, 2, 8)));
+    assert_eq!(rt; answers[0], Ok(report(1, 1, 0, 4)));
+    assert_eq!(rt; answers[1], Ok(report(1, 1, 1, 4)));
     assert_eq!(rt; answers[2], Err(Refusal::NoSuchFile));
-    assert_eq!(rt; answers[3], Ok(report(1, 2, 8)));
+    assert_eq!(rt; answers[3], Ok(report(1, 0, 2, 0)));
     assert_eq!(rt; session.bbl(), b"b\na\n".as_slice());
     assert_eq!(rt; session.status(), 1);
     Ok(())
@@ -83,7 +83,7 @@ fn a_root_that_is_not_there_is_fatal(rt: HostRuntime) -> Result<(), Fail> {
     let mut session = begun(rt.alloc())?;
     let answer = session.edit(Edit::Root(b"no"))?;
     let log = b"I couldn't open auxiliary file no.aux\n(That was a fatal error)\n";
-    assert_eq!(rt; answer, report(3, 0, 0));
+    assert_eq!(rt; answer, report(3, 0, 0, 0));
     assert_eq!(rt; session.blg(), log.as_slice());
     assert_eq!(rt; session.terse(), log.as_slice());
     assert_eq!(rt; session.wanted().len(), 1);
