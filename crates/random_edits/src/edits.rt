@@ -1,0 +1,83 @@
+//! The next edit: a splice at a random place, the same bytes again, a text that goes and comes back, another root or
+//! min-crossrefs.
+
+use crate::dice::Dice;
+use crate::texts::{FRAGMENTS, NAMES, text_of};
+use bibtex::{Edit, Session};
+use std::alloc::{AllocError, Global};
+
+/// An edit without the bytes that it brings.
+#[derive(Clone, Copy)]
+pub enum Change {
+    Write(&'static str),
+    Splice(&'static str, usize, usize),
+    Remove(&'static str),
+    Root(&'static str),
+    MinCrossrefs(u32),
+}
+
+impl Change {
+    /// The edit that brings these bytes.
+    pub fn with(self, bytes: &[u8]) -> Edit<'_> {
+        match self {
+            Change::Write(name) => Edit::Write(name.as_bytes(), bytes),
+            Change::Splice(name, start, end) => Edit::Splice(name.as_bytes(), start, end, bytes),
+            Change::Remove(name) => Edit::Remove(name.as_bytes()),
+            Change::Root(name) => Edit::Root(name.as_bytes()),
+            Change::MinCrossrefs(min) => Edit::MinCrossrefs(min),
+        }
+    }
+}
+
+/// The first edits bring the texts; every now and then they come back.
+fn written(alloc: Global, name: &'static str, which: usize) -> Result<(Change, Vec<u8>), AllocError> {
+    Ok((Change::Write(name), Vec::from_slice(alloc, text_of(name, which).as_bytes())?))
+}
+
+/// A splice of a file at a random place.
+fn spliced(
+    alloc: Global,
+    dice: &mut Dice,
+    name: &'static str,
+    size: usize,
+) -> Result<(Change, Vec<u8>), AllocError> {
+    let start = dice.below(size.saturating_add(1));
+    let end = start.saturating_add(dice.below(4)).min(size);
+    let fragment = dice.one_of(FRAGMENTS.as_slice(), "");
+    Ok((
+        Change::Splice(name, start, end),
+        Vec::from_slice(alloc, fragment.as_bytes())?,
+    ))
+}
+
+/// The next edit of a session, with the bytes that it brings.
+pub fn next_change(
+    alloc: Global,
+    dice: &mut Dice,
+    session: &Session,
+    number: u32,
+) -> Result<(Change, Vec<u8>), AllocError> {
+    if let Some(name) = NAMES.get(number as usize) {
+        return written(alloc, name, 0);
+    }
+    let name = dice.one_of(NAMES.as_slice(), "x.bib");
+    let which = dice.below(3);
+    match dice.below(20) {
+        0 | 1 => written(alloc, name, which),
+        2 => Ok((Change::Remove(name), Vec::new(alloc))),
+        3 => {
+            let root = dice.one_of(["job", "two", "job"].as_slice(), "job");
+            Ok((Change::Root(root), Vec::new(alloc)))
+        }
+        4 => Ok((Change::MinCrossrefs(which as u32), Vec::new(alloc))),
+        5 | 6 => {
+            let text = session.file(name.as_bytes()).unwrap_or(b"");
+            Ok((Change::Write(name), Vec::from_slice(alloc, text)?))
+        }
+        7..=10 => written(alloc, "s.bst", 0),
+        _ => {
+            let size = session.file(name.as_bytes()).unwrap_or(b"").len();
+            spliced(alloc, dice, name, size)
+        }
+    }
+}
