@@ -54,8 +54,13 @@ impl Session {
             root: Shared::<Bytes>::copied(alloc, root)?,
             min,
         };
-        let Run { answers, kept, .. } =
-            answers_after(alloc, &[], root, min, &Kept::nothing(alloc))?;
+        let Run { answers, kept, .. } = answers_after(
+            alloc,
+            &[],
+            root,
+            min,
+            &Kept::nothing(alloc),
+        )?;
         Ok(Session {
             alloc,
             state,

@@ -50,8 +50,8 @@ bool_same false true f g = g refl
 same_names : (p : Program) (i : Input) (names others : List Target) → IsFootprint p i names → IsFootprint p i others → is_among names ≡ is_among others
 same_names p i names others h g =
     λ j t. bool_same (is_among names t) (is_among others t)
-        (λ e. found_among others t ((g t).1 ((h t).0 (contained names t e))))
-        (λ e. found_among names t ((h t).1 ((g t).0 (contained others t e)))) j
+    (λ e. found_among others t ((g t).1 ((h t).0 (contained names t e))))
+    (λ e. found_among names t ((h t).1 ((g t).0 (contained others t e)))) j
 
 -- a step of the earlier run is one of the style
 step_of : (p : Program) (earlier : List Step) (s : Step) → All (IsStep p) earlier → Contains earlier s → IsStep p s

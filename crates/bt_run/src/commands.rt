@@ -11,8 +11,8 @@ ghost use Rattle.bt_run.specs.JobView.{job_of};
 use crate::course::{Course, Site, Step};
 use crate::job::Job;
 use crate::reading::read;
-use crate::sorting::sorted_places;
 use crate::reuse::Reuse;
+use crate::sorting::sorted_places;
 use crate::stepping::take_step;
 use bt_style::{Action, Command, Style, Target};
 use bt_text::Bytes;
@@ -39,7 +39,16 @@ fn take_next(
     if course.stopped {
         return Ok(());
     }
-    take_step(alloc, style, site, target, Some(place), earlier, course, reuse)
+    take_step(
+        alloc,
+        style,
+        site,
+        target,
+        Some(place),
+        earlier,
+        course,
+        reuse,
+    )
 }
 
 /// Takes a step for the entry at each of these places, and none after one that stopped.
@@ -103,7 +112,16 @@ fn run_for_each(
     ensures consistent { OnOk result (IsConsistent (program_of style.now) earlier.now course.new reuse.new) }
 {
     let places = places_in(alloc, direction, course.order.as_slice())?;
-    iterate(alloc, style, site, target, places.as_slice(), earlier, course, reuse)
+    iterate(
+        alloc,
+        style,
+        site,
+        target,
+        places.as_slice(),
+        earlier,
+        course,
+        reuse,
+    )
 }
 
 /// Puts the entries into the order of their sort keys.
@@ -147,7 +165,16 @@ fn act_on(
         | Action::Strings => Ok(()),
         Action::Execute(target) => {
             let site = site_of(alloc, job, number, command.line)?;
-            take_step(alloc, job.style, &site, target, None, job.earlier, course, reuse)
+            take_step(
+                alloc,
+                job.style,
+                &site,
+                target,
+                None,
+                job.earlier,
+                course,
+                reuse,
+            )
         }
         Action::Iterate(target) => {
             let site = site_of(alloc, job, number, command.line)?;

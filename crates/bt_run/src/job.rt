@@ -40,11 +40,7 @@ pub fn text_in<'a>(files: &'a [File], name: &[u8]) -> &'a [u8]
 }
 
 /// The same, shared with its file. The one error is out of memory.
-pub fn shared_text(
-    alloc: Global,
-    files: &[File],
-    name: &[u8],
-) -> Result<Shared<Bytes>, AllocError>
+pub fn shared_text(alloc: Global, files: &[File], name: &[u8]) -> Result<Shared<Bytes>, AllocError>
     ensures { IfOk result (λ text. text ≡ unwrap_or (text_of files.now name.now) []) }
 {
     'files: for file in files {

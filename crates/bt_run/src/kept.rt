@@ -4,8 +4,8 @@ ghost use Rattle.std.specs.Prelude.{◌≡◌, None, []};
 ghost use Rattle.bt_run.specs.Steps.{StepsAre, steps_under};
 
 use crate::course::Step;
-use std::alloc::Global;
 use bt_text::{Bytes, Sequence, Shared};
+use std::alloc::Global;
 
 /// What is kept of an earlier run: the text of its style, if it had one, and its steps.
 #[derive(Debug, Drop)]

@@ -10,8 +10,8 @@ ghost use Rattle.bt_run.specs.Course.{world_of, input_at, told_by, all_told, whi
 ghost use Rattle.bt_run.specs.Work.{IsStep, IsConsistent};
 
 use crate::course::{Course, Site, Step};
-use crate::reusing::{Done, take_or_reuse};
 use crate::reuse::Reuse;
+use crate::reusing::{Done, take_or_reuse};
 use bt_actions::{Entry, Variables};
 use bt_job::{Message, Rank};
 use bt_machine::{Input, Outcome, step_depends_on_its_input};
@@ -205,8 +205,7 @@ pub fn take_step(
     let _steps = course.trace.len();
     let input = cut_out(alloc, course, target, place)?;
     let key = key_of(&input)?;
-    let Done { outcome, cost } =
-        take_or_reuse(alloc, style, site.command, &input, earlier, reuse)?;
+    let Done { outcome, cost } = take_or_reuse(alloc, style, site.command, &input, earlier, reuse)?;
     put_back(alloc, course, place, &outcome)?;
     let messages = all_told(alloc, outcome.messages.as_slice(), site)?;
     course.log.append(messages)?;

@@ -29,9 +29,19 @@ impl Change {
     }
 }
 
-/// The first edits bring the texts; every now and then they come back.
-fn written(alloc: Global, name: &'static str, which: usize) -> Result<(Change, Vec<u8>), AllocError> {
-    Ok((Change::Write(name), Vec::from_slice(alloc, text_of(name, which).as_bytes())?))
+/// The files that are spliced, the databases more often.
+const SPLICED: [&str; 6] = ["x.bib", "y.bib", "x.bib", "y.bib", "job.aux", "s.bst"];
+
+/// One of the texts of a file, as it is at first or comes back.
+fn written(
+    alloc: Global,
+    name: &'static str,
+    which: usize,
+) -> Result<(Change, Vec<u8>), AllocError> {
+    Ok((
+        Change::Write(name),
+        Vec::from_slice(alloc, text_of(name, which).as_bytes())?,
+    ))
 }
 
 /// A splice of a file at a random place.
@@ -69,13 +79,19 @@ pub fn next_change(
             let root = dice.one_of(["job", "two", "job"].as_slice(), "job");
             Ok((Change::Root(root), Vec::new(alloc)))
         }
-        4 => Ok((Change::MinCrossrefs(which as u32), Vec::new(alloc))),
+        4 => {
+            let min = u32::try_from(which).unwrap_or(2);
+            Ok((Change::MinCrossrefs(min), Vec::new(alloc)))
+        }
         5 | 6 => {
             let text = session.file(name.as_bytes()).unwrap_or(b"");
             Ok((Change::Write(name), Vec::from_slice(alloc, text)?))
         }
-        7..=10 => written(alloc, "s.bst", 0),
+        7..=9 => written(alloc, "s.bst", 0),
+        10 | 11 => written(alloc, "x.bib", 0),
+        12 => written(alloc, "job.aux", 0),
         _ => {
+            let name = dice.one_of(SPLICED.as_slice(), "x.bib");
             let size = session.file(name.as_bytes()).unwrap_or(b"").len();
             spliced(alloc, dice, name, size)
         }

@@ -136,7 +136,10 @@ fn main(rt: HostRuntime) -> Result<ExitCode> {
             return Ok(ExitCode::FAILURE);
         };
         match make_edits(&rt, seed, edits)? {
-            Some(tally) => println!(rt; "seed {seed}: {} of {edits} edits accepted, {} steps reused, as from scratch", tally.accepted, tally.reused)?,
+            Some(tally) => println!(rt;
+                "seed {seed}: {} of {edits} edits accepted, {} steps reused, as from scratch",
+                tally.accepted, tally.reused
+            )?,
             None => return Ok(ExitCode::FAILURE),
         }
     }
