@@ -1,8 +1,8 @@
-use Rattle.std.proofs.Common.{◌≡◌, ◌∙◌, sym, ap, Ok}
+use Rattle.std.proofs.Common.{◌≡◌, ◌∙◌, sym, ap, Ok, Some}
 use Rattle.bt_style.specs.Program.{program_of}
 use Rattle.bt_style.specs.Reader.{style_of}
 use Rattle.bt_run.specs.Steps.{steps_under}
-use Rattle.bt_run.proofs.AnswerLemmas.{earlier_steps, run_taken}
+use Rattle.bt_run.proofs.AnswerLemmas.{earlier_steps, nothing_taken, run_taken}
 use Rattle.bt_run.proofs.answers.run_with.Goals as goal
 
 pub invariant_of-job-clause-fields_apart : goal.invariant_of-job-clause-fields_apart
@@ -21,3 +21,9 @@ returns-in-Ok-clause-taken c =
     let read : style_of c.in_ok-text.text ≡ Ok p = ap style_of (sym is) ∙ c.in-Ok.ensures in
     run_taken p k.text k.steps c.in_ok-text.text c.steps_under-earlier.result.now c.in_ok-course-in-Ok.course c.carry_out_style.new.reuse
     read (c.steps_under-earlier.ensures ∙ ap (steps_under k.text k.steps) is) c.in_ok-course-in-Ok.ensures.consistent
+
+pub returns-in-Err-Fault-clause-taken : goal.returns-in-Err-Fault-clause-taken
+returns-in-Err-Fault-clause-taken c =
+    let k = c.args.kept.now in
+    let refused = c.in_ok-course-in-Err-Fault in
+    nothing_taken k.text k.steps (Some c.in_ok-text.text) _ _ refused.course c.args.reuse.now refused.ensures c.requires.meter c.requires.ran
