@@ -8,9 +8,7 @@ ghost use Rattle.bt_resolve.specs.Values.{field_value, finished, is_named, joine
 use crate::message::{Message, Place};
 use crate::warnings::{own_macro, too_long, undefined_macro};
 use bt_bib::Part;
-use bt_text::{
-    ByName, Bytes, Sequence, Shared, TEXT_BYTES, eq_ignore_ascii_case, join_white,
-};
+use bt_text::{ByName, Bytes, Sequence, Shared, TEXT_BYTES, eq_ignore_ascii_case, join_white};
 use std::alloc::{AllocError, Global};
 
 /// Whether a text is there and matches a name.
