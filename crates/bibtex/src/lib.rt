@@ -9,6 +9,7 @@ mod refusal;
 mod session;
 mod state;
 
+pub use bt_log::{Message, Place, Rank};
 pub use bt_run::Report;
 pub use bt_text::Bytes;
 pub use edit::{Change, Edit, Refusal};

@@ -7,6 +7,7 @@ use crate::edit::{Change, Edit, Refusal};
 use crate::refusal::{is_root_name, remove_refusal, root_refusal, splice_refusal, write_refusal};
 use crate::state::State;
 use bt_job::text_of;
+use bt_log::Message;
 use bt_run::{Answers, Kept, Report, Run, answers_after};
 use bt_text::{Bytes, Sequence, Shared};
 use std::alloc::Global;
@@ -39,6 +40,7 @@ impl Session {
     ghost use Rattle.bibtex.specs.Changes.{change_of};
     ghost use Rattle.bibtex.specs.Applied.{applied, refusal_of, IsAnswer, IsNew};
     ghost use Rattle.bt_job.specs.Naming.{text_of};
+    ghost use Rattle.bt_log.specs.Log.{log_bytes};
 
     /// A session without files, whose run begins at the root name followed by `.aux`. The errors are `BadName`, exactly
     /// where the root isn't a file name of at most 60 bytes, and `OutOfMemory`.
@@ -139,6 +141,16 @@ impl Session {
         ensures { result.now ≡ (shown self.now).terse }
     {
         self.answers.terse.as_slice()
+    }
+
+    /// The messages of the log in their parts, in order: what each counts as, what it says, the key of its entry, where it
+    /// belongs, its second line. The log is what they are in words, and the last line.
+    #[tactic(auto, using(crate::proofs::SessionLemmas::log_in_words))]
+    pub fn messages(&self) -> &[Message]
+        ensures meaning { result.now ≡ (shown self.now).messages }
+        ensures log { (shown self.now).blg ≡ log_bytes result.now }
+    {
+        self.answers.messages.as_slice()
     }
 
     /// 0 where the run was clean, 1 behind warnings, 2 behind errors, 3 behind a fatal error.

@@ -4,6 +4,7 @@
 use crate::edit::{Change, Edit, Refusal};
 use crate::edits::edit_all;
 use crate::session::Session;
+use bt_log::{Place, Rank};
 use bt_run::Report;
 use std::alloc::Global;
 use std::test::Fail;
@@ -41,6 +42,29 @@ fn missing_files_are_wanted(rt: HostRuntime) -> Result<(), Fail> {
     assert_eq!(rt; answer, report(2, 0, 0, 0));
     assert_eq!(rt; session.wanted().len(), 1);
     assert_eq!(rt; session.wanted()[0].as_slice(), b"x.bib".as_slice());
+    Ok(())
+}
+
+#[test]
+fn messages_have_their_places(rt: HostRuntime) -> Result<(), Fail> {
+    let mut session = begun(rt.alloc())?;
+    session.edit(Edit::Write(b"s.bst", b"ENTRY {}{}{}\nREAD\nEXECUTE {f}\n"))?;
+    let messages = session.messages();
+    assert_eq!(rt; messages.len(), 5);
+    let fault = &messages[4];
+    assert_eq!(rt; fault.rank, Rank::Error);
+    assert_eq!(rt;
+        fault.words.as_slice(),
+        b"This name isn't defined".as_slice()
+    );
+    assert!(rt; fault.entry.is_none());
+    match &fault.place {
+        Some(Place::Line { file, line, .. }) => {
+            assert_eq!(rt; file.as_slice(), b"s.bst".as_slice());
+            assert_eq!(rt; *line, 3);
+        }
+        _ => assert!(rt; false),
+    }
     Ok(())
 }
 

@@ -29,19 +29,19 @@ assign_past_row : Leaves builtin.Assign (Fun (Name (target.GlobalNumber 9)) ∷ 
 assign_past_row = refl
 
 -- what is no variable
-assign_function_row : LeavesWithErrors builtin.Assign (Fun (Name (target.Builtin builtin.Skip)) ∷ Num (pos 5) ∷ []) [] (codes ":= needs a variable for entry b" ∷ [])
+assign_function_row : LeavesWithErrors builtin.Assign (Fun (Name (target.Builtin builtin.Skip)) ∷ Num (pos 5) ∷ []) [] (codes ":= needs a variable" ∷ [])
 assign_function_row = refl
 
 -- a field is no variable
-assign_field_row : LeavesWithErrors builtin.Assign (Fun (Name (target.Field 0)) ∷ Num (pos 5) ∷ []) [] (codes ":= needs a variable for entry b" ∷ [])
+assign_field_row : LeavesWithErrors builtin.Assign (Fun (Name (target.Field 0)) ∷ Num (pos 5) ∷ []) [] (codes ":= needs a variable" ∷ [])
 assign_field_row = refl
 
 -- a text for a number
-assign_kind_row : LeavesWithErrors builtin.Assign (Fun (Name (target.GlobalNumber 0)) ∷ Txt (codes "t") ∷ []) [] (codes ":= got a value of the wrong kind for entry b" ∷ [])
+assign_kind_row : LeavesWithErrors builtin.Assign (Fun (Name (target.GlobalNumber 0)) ∷ Txt (codes "t") ∷ []) [] (codes ":= got a value of the wrong kind" ∷ [])
 assign_kind_row = refl
 
 -- a number for a text of the entry
-assign_own_kind_row : LeavesWithErrors builtin.Assign (Fun (Name (target.EntryText 0)) ∷ Num (pos 1) ∷ []) [] (codes ":= got a value of the wrong kind for entry b" ∷ [])
+assign_own_kind_row : LeavesWithErrors builtin.Assign (Fun (Name (target.EntryText 0)) ∷ Num (pos 1) ∷ []) [] (codes ":= got a value of the wrong kind" ∷ [])
 assign_own_kind_row = refl
 
 -- an entry variable without an entry, also where the kind is wrong
@@ -49,7 +49,7 @@ assign_no_entry_row : basic names builtin.Assign (over alone (Fun (Name (target.
 assign_no_entry_row = refl
 
 -- a number over the empty stack
-assign_number_alone_row : LeavesWithErrors builtin.Assign (Num (pos 1) ∷ []) [] (no_value ∷ codes ":= got a value of the wrong kind for entry b" ∷ [])
+assign_number_alone_row : LeavesWithErrors builtin.Assign (Num (pos 1) ∷ []) [] (no_value ∷ codes ":= got a value of the wrong kind" ∷ [])
 assign_number_alone_row = refl
 
 -- a quoted name over the empty stack
@@ -57,5 +57,5 @@ assign_name_alone_row : LeavesWithErrors builtin.Assign (Fun (Name (target.Built
 assign_name_alone_row = refl
 
 -- a function in braces
-assign_braced_row : LeavesWithErrors builtin.Assign (Fun (Block End) ∷ Num (pos 1) ∷ []) [] (codes ":= got a value of the wrong kind for entry b" ∷ [])
+assign_braced_row : LeavesWithErrors builtin.Assign (Fun (Block End) ∷ Num (pos 1) ∷ []) [] (codes ":= got a value of the wrong kind" ∷ [])
 assign_braced_row = refl

@@ -19,11 +19,11 @@ equal_same_row : Leaves builtin.Equals (Txt (codes "ab") ∷ Txt (codes "ab") �
 equal_same_row = refl
 
 -- a number and a text
-equal_kinds_row : LeavesWithErrors builtin.Equals (Txt (codes "a") ∷ Num (pos 7) ∷ []) (Num (pos 0) ∷ []) (codes "= got a value of the wrong kind for entry b" ∷ [])
+equal_kinds_row : LeavesWithErrors builtin.Equals (Txt (codes "a") ∷ Num (pos 7) ∷ []) (Num (pos 0) ∷ []) (codes "= got a value of the wrong kind" ∷ [])
 equal_kinds_row = refl
 
 -- two functions
-equal_functions_row : LeavesWithErrors builtin.Equals (Fun (Block End) ∷ Fun (Name (target.Builtin builtin.Skip)) ∷ []) (Num (pos 0) ∷ []) (codes "= got a value of the wrong kind for entry b" ∷ [])
+equal_functions_row : LeavesWithErrors builtin.Equals (Fun (Block End) ∷ Fun (Name (target.Builtin builtin.Skip)) ∷ []) (Num (pos 0) ∷ []) (codes "= got a value of the wrong kind" ∷ [])
 equal_functions_row = refl
 
 -- = on the empty stack
@@ -47,7 +47,7 @@ empty_not_row : Leaves builtin.Empty (Txt (codes " a") ∷ []) (Num (pos 0) ∷ 
 empty_not_row = refl
 
 -- empty$ of a number
-empty_wrong_row : LeavesWithErrors builtin.Empty (Num (pos 1) ∷ []) (Num (pos 0) ∷ []) (codes "empty$ got a value of the wrong kind for entry b" ∷ [])
+empty_wrong_row : LeavesWithErrors builtin.Empty (Num (pos 1) ∷ []) (Num (pos 0) ∷ []) (codes "empty$ got a value of the wrong kind" ∷ [])
 empty_wrong_row = refl
 
 -- a missing field
@@ -59,5 +59,5 @@ missing_not_row : Leaves builtin.Missing (Txt [] ∷ []) (Num (pos 0) ∷ [])
 missing_not_row = refl
 
 -- missing$ of a function
-missing_wrong_row : LeavesWithErrors builtin.Missing (Fun (Name (target.Function 0)) ∷ []) (Num (pos 0) ∷ []) (codes "missing$ got a value of the wrong kind for entry b" ∷ [])
+missing_wrong_row : LeavesWithErrors builtin.Missing (Fun (Name (target.Function 0)) ∷ []) (Num (pos 0) ∷ []) (codes "missing$ got a value of the wrong kind" ∷ [])
 missing_wrong_row = refl

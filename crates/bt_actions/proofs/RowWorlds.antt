@@ -4,8 +4,10 @@ use Rattle.bt_style.specs.declared.builtin.Builtin.{Builtin as Primitive}
 use Rattle.bt_style.specs.Tree.{End}
 use Rattle.bt_style.specs.Program.{Program}
 use Rattle.bt_actions.specs.declared.entry.Entry.{Entry}
-use Rattle.bt_actions.specs.declared.message.Message.{Message}
-use Rattle.bt_actions.specs.declared.message.Rank.TheVariants.{Error}
+use Rattle.bt_log.specs.declared.message.Message.{Message}
+use Rattle.bt_log.specs.declared.message.Rank.{Rank}
+use Rattle.bt_log.specs.declared.message.Rank.TheVariants.{Error}
+use Rattle.bt_log.specs.Message.{plain}
 use Rattle.bt_actions.specs.Item.{Item}
 use Rattle.bt_actions.specs.World.{World, Goes, no_variables}
 use Rattle.bt_actions.specs.Actions.{basic}
@@ -52,9 +54,13 @@ second = record start { current = Some 0 }
 abbrev pub alone : World
 alone = record start { current = None }
 
--- errors in these words
+-- errors in these words, in a step for no entry
 abbrev pub errors : List (List ℕ) → List Message
-errors ts = map (λ t. record { rank = Error; words = t }) ts
+errors ts = map (plain Error) ts
+
+-- a message in the step for the second entry
+abbrev pub of_second : Rank → List ℕ → Message
+of_second rank words = record (plain rank words) { entry = Some (codes "b") }
 
 -- a step's world, with a stack, its top first
 abbrev pub over : World → List Item → World
@@ -66,7 +72,7 @@ told_in w vs ms = record w { stack = vs; messages = ms }
 
 -- the error of a value that isn't there
 abbrev pub no_value : List ℕ
-no_value = codes "You can't pop an empty literal stack for entry b"
+no_value = codes "You can't pop an empty literal stack"
 
 -- in the step for the second entry, a function makes of the one stack the other
 abbrev pub Leaves : Primitive → List Item → List Item → Type 0
@@ -74,4 +80,4 @@ Leaves b before after = basic names b (over start before) ≡ Goes (over start a
 
 -- the same, with errors in these words
 abbrev pub LeavesWithErrors : Primitive → List Item → List Item → List (List ℕ) → Type 0
-LeavesWithErrors b before after words = basic names b (over start before) ≡ Goes (told_in start after (errors words))
+LeavesWithErrors b before after words = basic names b (over start before) ≡ Goes (told_in start after (map (of_second Error) words))

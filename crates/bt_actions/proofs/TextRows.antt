@@ -10,7 +10,7 @@ join_row : Leaves builtin.Join (Txt (codes "b") ∷ Txt (codes "a") ∷ []) (Txt
 join_row = refl
 
 -- a missing field under *
-join_wrong_row : LeavesWithErrors builtin.Join (Gap 0 ∷ Txt (codes "a") ∷ []) (Txt [] ∷ []) (codes "* got a value of the wrong kind for entry b" ∷ [])
+join_wrong_row : LeavesWithErrors builtin.Join (Gap 0 ∷ Txt (codes "a") ∷ []) (Txt [] ∷ []) (codes "* got a value of the wrong kind" ∷ [])
 join_wrong_row = refl
 
 -- "a" add.period$
@@ -22,7 +22,7 @@ period_in_braces_row : Leaves builtin.AddPeriod (Txt (codes "a.}") ∷ []) (Txt 
 period_in_braces_row = refl
 
 -- add.period$ of a number
-period_wrong_row : LeavesWithErrors builtin.AddPeriod (Num (pos 1) ∷ []) (Txt [] ∷ []) (codes "add.period$ got a value of the wrong kind for entry b" ∷ [])
+period_wrong_row : LeavesWithErrors builtin.AddPeriod (Num (pos 1) ∷ []) (Txt [] ∷ []) (codes "add.period$ got a value of the wrong kind" ∷ [])
 period_wrong_row = refl
 
 -- change.case$ by t
@@ -38,15 +38,15 @@ case_lower_row : Leaves builtin.ChangeCase (Txt (codes "l") ∷ Txt (codes "A{B}
 case_lower_row = refl
 
 -- change.case$ by another text
-case_bad_row : LeavesWithErrors builtin.ChangeCase (Txt (codes "x") ∷ Txt (codes "Ab") ∷ []) (Txt (codes "Ab") ∷ []) (codes "\"x\" is an illegal case-conversion string for entry b" ∷ [])
+case_bad_row : LeavesWithErrors builtin.ChangeCase (Txt (codes "x") ∷ Txt (codes "Ab") ∷ []) (Txt (codes "Ab") ∷ []) (codes "\"x\" is an illegal case-conversion string" ∷ [])
 case_bad_row = refl
 
 -- change.case$ by two bytes
-case_long_row : LeavesWithErrors builtin.ChangeCase (Txt (codes "tt") ∷ Txt (codes "Ab") ∷ []) (Txt (codes "Ab") ∷ []) (codes "\"tt\" is an illegal case-conversion string for entry b" ∷ [])
+case_long_row : LeavesWithErrors builtin.ChangeCase (Txt (codes "tt") ∷ Txt (codes "Ab") ∷ []) (Txt (codes "Ab") ∷ []) (codes "\"tt\" is an illegal case-conversion string" ∷ [])
 case_long_row = refl
 
 -- change.case$ by a number
-case_wrong_row : LeavesWithErrors builtin.ChangeCase (Num (pos 1) ∷ Txt (codes "Ab") ∷ []) (Txt [] ∷ []) (codes "change.case$ got a value of the wrong kind for entry b" ∷ [])
+case_wrong_row : LeavesWithErrors builtin.ChangeCase (Num (pos 1) ∷ Txt (codes "Ab") ∷ []) (Txt [] ∷ []) (codes "change.case$ got a value of the wrong kind" ∷ [])
 case_wrong_row = refl
 
 -- purify$
@@ -54,7 +54,7 @@ purify_row : Leaves builtin.Purify (Txt (codes "d'Arc~x-1") ∷ []) (Txt (codes 
 purify_row = refl
 
 -- purify$ of a missing field
-purify_wrong_row : LeavesWithErrors builtin.Purify (Gap 0 ∷ []) (Txt [] ∷ []) (codes "purify$ got a value of the wrong kind for entry b" ∷ [])
+purify_wrong_row : LeavesWithErrors builtin.Purify (Gap 0 ∷ []) (Txt [] ∷ []) (codes "purify$ got a value of the wrong kind" ∷ [])
 purify_wrong_row = refl
 
 -- quote$
@@ -70,11 +70,11 @@ substring_front_row : Leaves builtin.Substring (Num (pos 9) ∷ Num (pos 2) ∷ 
 substring_front_row = refl
 
 -- a text for a number
-substring_wrong_row : LeavesWithErrors builtin.Substring (Num (pos 3) ∷ Txt (codes "2") ∷ Txt (codes "abcde") ∷ []) (Txt [] ∷ []) (codes "substring$ got a value of the wrong kind for entry b" ∷ [])
+substring_wrong_row : LeavesWithErrors builtin.Substring (Num (pos 3) ∷ Txt (codes "2") ∷ Txt (codes "abcde") ∷ []) (Txt [] ∷ []) (codes "substring$ got a value of the wrong kind" ∷ [])
 substring_wrong_row = refl
 
 -- two values under substring$, both wrong
-substring_two_row : LeavesWithErrors builtin.Substring (Txt (codes "b") ∷ Txt (codes "a") ∷ []) (Txt [] ∷ []) (no_value ∷ codes "substring$ got a value of the wrong kind for entry b" ∷ [])
+substring_two_row : LeavesWithErrors builtin.Substring (Txt (codes "b") ∷ Txt (codes "a") ∷ []) (Txt [] ∷ []) (no_value ∷ codes "substring$ got a value of the wrong kind" ∷ [])
 substring_two_row = refl
 
 -- text.length$
@@ -82,7 +82,7 @@ length_row : Leaves builtin.TextLength (Txt (codes "{\\'e}b{cd}") ∷ []) (Num (
 length_row = refl
 
 -- text.length$ of a number
-length_wrong_row : LeavesWithErrors builtin.TextLength (Num (pos 1) ∷ []) (Num (pos 0) ∷ []) (codes "text.length$ got a value of the wrong kind for entry b" ∷ [])
+length_wrong_row : LeavesWithErrors builtin.TextLength (Num (pos 1) ∷ []) (Num (pos 0) ∷ []) (codes "text.length$ got a value of the wrong kind" ∷ [])
 length_wrong_row = refl
 
 -- text.prefix$
@@ -90,7 +90,7 @@ prefix_row : Leaves builtin.TextPrefix (Num (pos 3) ∷ Txt (codes "{\\'e}b{cd}"
 prefix_row = refl
 
 -- text.prefix$ by a text
-prefix_wrong_row : LeavesWithErrors builtin.TextPrefix (Txt (codes "b") ∷ Txt (codes "a") ∷ []) (Txt [] ∷ []) (codes "text.prefix$ got a value of the wrong kind for entry b" ∷ [])
+prefix_wrong_row : LeavesWithErrors builtin.TextPrefix (Txt (codes "b") ∷ Txt (codes "a") ∷ []) (Txt [] ∷ []) (codes "text.prefix$ got a value of the wrong kind" ∷ [])
 prefix_wrong_row = refl
 
 -- width$
@@ -99,6 +99,6 @@ unfolding widths
 width_row = refl
 
 -- width$ of a number
-width_wrong_row : LeavesWithErrors builtin.Width (Num (pos 1) ∷ []) (Num (pos 0) ∷ []) (codes "width$ got a value of the wrong kind for entry b" ∷ [])
+width_wrong_row : LeavesWithErrors builtin.Width (Num (pos 1) ∷ []) (Num (pos 0) ∷ []) (codes "width$ got a value of the wrong kind" ∷ [])
 unfolding widths
 width_wrong_row = refl

@@ -11,7 +11,7 @@ write_row : basic names builtin.Write (over start (Txt (codes "x") ∷ [])) ≡ 
 write_row = refl
 
 -- write$ of a number
-write_wrong_row : LeavesWithErrors builtin.Write (Num (pos 1) ∷ []) [] (codes "write$ got a value of the wrong kind for entry b" ∷ [])
+write_wrong_row : LeavesWithErrors builtin.Write (Num (pos 1) ∷ []) [] (codes "write$ got a value of the wrong kind" ∷ [])
 write_wrong_row = refl
 
 -- write$ on the empty stack

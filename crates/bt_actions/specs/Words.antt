@@ -1,10 +1,10 @@
 -- What a step's messages say.
-use Rattle.std.specs.Prelude.{ℕ, List, ◌++◌, Option, Some, None, codes}
+use Rattle.std.specs.Prelude.{ℕ, List, ◌++◌, Option, None, codes}
 use Rattle.std.specs.Fmt.{decimal, signed_decimal}
 use Rattle.bt_style.specs.Builtins.{name_of}
-use Rattle.bt_actions.specs.declared.message.Rank.{Rank}
-use Rattle.bt_actions.specs.declared.message.Rank.TheVariants.{Note, Warning, Error, Fatal}
-use Rattle.bt_actions.specs.declared.message.Message.{Message}
+use Rattle.bt_log.specs.declared.message.Rank.{Rank}
+use Rattle.bt_log.specs.declared.message.Rank.TheVariants.{Note, Warning, Error, Fatal}
+use Rattle.bt_log.specs.declared.message.Message.{Message}
 use Rattle.bt_actions.specs.declared.complaint.Complaint.{Complaint}
 use Rattle.bt_actions.specs.declared.complaint.Complaint.TheVariants.{EmptyStack, WrongKind, NoEntry, OutOfRange, BadCase, NotOneCharacter, NotAscii, NoSuchName, TooManyCommas, PatternFault, NotVariable, LeftOver, Warned, Shown, TicksPassed, StackPassed, TextPassed}
 
@@ -28,22 +28,18 @@ rank_of TicksPassed = Fatal
 rank_of StackPassed = Fatal
 rank_of TextPassed = Fatal
 
--- a text between double quotes
-abbrev pub quoted : List ℕ → List ℕ
-quoted t = codes "\"" ++ t ++ codes "\""
-
 -- what a complaint says of itself
 abbrev pub words_of : Complaint → List ℕ
 words_of EmptyStack = codes "You can't pop an empty literal stack"
 words_of (WrongKind b) = name_of b ++ codes " got a value of the wrong kind"
 words_of NoEntry = codes "You can't mess with entries here"
 words_of (OutOfRange b) = codes "The result of " ++ name_of b ++ codes " is out of range"
-words_of (BadCase t) = quoted t ++ codes " is an illegal case-conversion string"
-words_of (NotOneCharacter t) = quoted t ++ codes " isn't a single character"
+words_of (BadCase t) = codes "\"" ++ t ++ codes "\" is an illegal case-conversion string"
+words_of (NotOneCharacter t) = codes "\"" ++ t ++ codes "\" isn't a single character"
 words_of (NotAscii n) = signed_decimal n ++ codes " isn't valid ASCII"
-words_of (NoSuchName n t) = codes "There is no name " ++ signed_decimal n ++ codes " in " ++ quoted t
-words_of (TooManyCommas n t) = codes "Too many commas in name " ++ signed_decimal n ++ codes " of " ++ quoted t
-words_of (PatternFault t n) = codes "The format string " ++ quoted t ++ codes " has a fault at byte " ++ decimal n
+words_of (NoSuchName n t) = codes "There is no name " ++ signed_decimal n ++ codes " in \"" ++ t ++ codes "\""
+words_of (TooManyCommas n t) = codes "Too many commas in name " ++ signed_decimal n ++ codes " of \"" ++ t ++ codes "\""
+words_of (PatternFault t n) = codes "The format string \"" ++ t ++ codes "\" has a fault at byte " ++ decimal n
 words_of NotVariable = codes ":= needs a variable"
 words_of LeftOver = codes "The literal stack isn't empty"
 words_of (Warned t) = codes "Warning--" ++ t
@@ -52,18 +48,6 @@ words_of TicksPassed = codes "The limit of 1000000 ticks was passed"
 words_of StackPassed = codes "The limit of 1000 stack values was passed"
 words_of TextPassed = codes "The limit of 65536 bytes was passed"
 
--- behind the words of an error, the key of the step's entry, if it has one
-abbrev pub for_entry : Option (List ℕ) → List ℕ → List ℕ
-for_entry None words = words
-for_entry (Some key) words = words ++ codes " for entry " ++ key
-
--- What a style logs stays as it is.
-abbrev pub placed : Rank → Option (List ℕ) → List ℕ → List ℕ
-placed Note key words = words
-placed Warning key words = words
-placed Error key words = for_entry key words
-placed Fatal key words = for_entry key words
-
--- a complaint in a step for the entry with this key, or for none
+-- a complaint in a step for the entry with this key, or for none; the run knows the place of the step
 abbrev pub message_of : Option (List ℕ) → Complaint → Message
-message_of key m = record { rank = rank_of m; words = placed (rank_of m) key (words_of m) }
+message_of key m = record { rank = rank_of m; words = words_of m; entry = key; place = None; second = None }

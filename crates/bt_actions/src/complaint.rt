@@ -1,12 +1,12 @@
 //! What a step tells of, and in what words.
 
-ghost use Rattle.std.specs.Prelude.{◌≡◌, ◌++◌, option_map, IfOk, OnOk, map};
+ghost use Rattle.std.specs.Prelude.{◌≡◌, ◌++◌, codes, option_map, IfOk, map};
 ghost use Rattle.std.specs.Fmt.{signed_decimal};
-ghost use Rattle.bt_actions.specs.Words.{quoted, words_of, placed, message_of};
+ghost use Rattle.bt_actions.specs.Words.{words_of, message_of};
 
-use crate::message::{Message, Rank};
+use bt_log::{Message, Rank};
 use bt_style::Builtin;
-use bt_text::{Bytes, Sequence};
+use bt_text::{Bytes, Sequence, Shared};
 use itoa::Buffer;
 use std::alloc::{AllocError, Global};
 
@@ -47,16 +47,6 @@ pub enum Complaint {
     TextPassed,
 }
 
-/// A text between double quotes.
-fn quoted(alloc: Global, text: &[u8]) -> Result<Bytes, AllocError>
-    ensures { IfOk result (λ words. words ≡ quoted text.now) }
-{
-    let mut words = Bytes::copied(alloc, b"\"")?;
-    words.append(text)?;
-    words.append(b"\"")?;
-    Ok(words)
-}
-
 /// A number in decimal.
 pub fn decimal(alloc: Global, number: i32) -> Result<Bytes, AllocError>
     ensures { IfOk result (λ words. words ≡ signed_decimal number) }
@@ -64,45 +54,102 @@ pub fn decimal(alloc: Global, number: i32) -> Result<Bytes, AllocError>
     Bytes::copied(alloc, Buffer::new().format(number).as_bytes())
 }
 
-/// What is wrong with a name: two texts, with the name's number between them, and the list of names behind them.
-fn about_name(
-    alloc: Global,
-    what: &[u8],
-    number: i32,
-    link: &[u8],
-    names: &[u8],
-) -> Result<Bytes, AllocError>
-    ensures { IfOk result (λ words.
-        words ≡ what.now ++ signed_decimal number ++ link.now ++ quoted names.now) }
+/// A function of this name got a value of the wrong kind.
+fn wrong_kind(alloc: Global, name: &[u8]) -> Result<Bytes, AllocError>
+    ensures { IfOk result (λ words. words ≡ name.now ++ codes " got a value of the wrong kind") }
 {
-    let mut words = Bytes::copied(alloc, what)?;
-    words.append(decimal(alloc, number)?.as_slice())?;
-    words.append(link)?;
-    words.append(quoted(alloc, names)?.as_slice())?;
-    Ok(words)
+    Bytes::of(alloc, &[name, b" got a value of the wrong kind"])
 }
 
-/// A pattern's fault at a place.
-fn pattern_words(alloc: Global, pattern: &[u8], place: usize) -> Result<Bytes, AllocError>
+/// The result of a function of this name is out of range.
+fn out_of_range(alloc: Global, name: &[u8]) -> Result<Bytes, AllocError>
+    ensures { IfOk result (λ words. words ≡ codes "The result of " ++ name.now ++ codes " is out of range") }
+{
+    Bytes::of(alloc, &[b"The result of ", name, b" is out of range"])
+}
+
+/// A text names no change of case.
+fn bad_case(alloc: Global, text: &[u8]) -> Result<Bytes, AllocError>
+    ensures { IfOk result (λ words. words ≡ words_of (Complaint.BadCase text.now)) }
+{
+    Bytes::of(
+        alloc,
+        &[b"\"", text, b"\" is an illegal case-conversion string"],
+    )
+}
+
+/// A text isn't one byte.
+fn not_one_character(alloc: Global, text: &[u8]) -> Result<Bytes, AllocError>
+    ensures { IfOk result (λ words. words ≡ words_of (Complaint.NotOneCharacter text.now)) }
+{
+    Bytes::of(alloc, &[b"\"", text, b"\" isn't a single character"])
+}
+
+/// A number isn't one from 0 to 127.
+fn not_ascii(alloc: Global, number: i32) -> Result<Bytes, AllocError>
+    ensures { IfOk result (λ words. words ≡ words_of (Complaint.NotAscii number)) }
+{
+    let mut buffer = Buffer::new();
+    let number = buffer.format(number).as_bytes();
+    Bytes::of(alloc, &[number, b" isn't valid ASCII"])
+}
+
+/// There is no name of this number in a list of names.
+fn no_such_name(alloc: Global, number: i32, names: &[u8]) -> Result<Bytes, AllocError>
+    ensures { IfOk result (λ words. words ≡ words_of (Complaint.NoSuchName number names.now)) }
+{
+    let mut buffer = Buffer::new();
+    let number = buffer.format(number).as_bytes();
+    Bytes::of(
+        alloc,
+        &[b"There is no name ", number, b" in \"", names, b"\""],
+    )
+}
+
+/// The name of this number in a list of names has more than two commas.
+fn too_many_commas(alloc: Global, number: i32, names: &[u8]) -> Result<Bytes, AllocError>
+    ensures { IfOk result (λ words. words ≡ words_of (Complaint.TooManyCommas number names.now)) }
+{
+    let mut buffer = Buffer::new();
+    let number = buffer.format(number).as_bytes();
+    Bytes::of(
+        alloc,
+        &[b"Too many commas in name ", number, b" of \"", names, b"\""],
+    )
+}
+
+/// A pattern has a fault at a place.
+fn pattern_fault(alloc: Global, pattern: &[u8], place: usize) -> Result<Bytes, AllocError>
     ensures { IfOk result (λ words. words ≡ words_of (Complaint.PatternFault pattern.now place)) }
 {
-    let mut words = Bytes::copied(alloc, b"The format string ")?;
-    words.append(quoted(alloc, pattern)?.as_slice())?;
-    words.append(b" has a fault at byte ")?;
-    words.append(Buffer::new().format(place).as_bytes())?;
-    Ok(words)
+    let mut buffer = Buffer::new();
+    let place = buffer.format(place).as_bytes();
+    Bytes::of(
+        alloc,
+        &[
+            b"The format string \"",
+            pattern,
+            b"\" has a fault at byte ",
+            place,
+        ],
+    )
 }
 
-/// Words of this rank: behind those of an error or of a passed limit stands the key of the step's entry, if it has one.
-fn placed(rank: Rank, key: Option<&[u8]>, words: Bytes) -> Result<Bytes, AllocError>
-    ensures { IfOk result (λ all. all ≡ placed rank (option_map (λ bytes. bytes.now) key.entry) words) }
+/// A warning of the style.
+fn warned(alloc: Global, text: &[u8]) -> Result<Bytes, AllocError>
+    ensures { IfOk result (λ words. words ≡ words_of (Complaint.Warned text.now)) }
 {
-    let mut words = words;
-    if let (Rank::Error | Rank::Fatal, Some(key)) = (rank, key) {
-        words.append(b" for entry ")?;
-        words.append(key)?;
+    Bytes::of(alloc, &[b"Warning--", text])
+}
+
+/// The key for one more owner, if there is one.
+fn shared(key: Option<&Shared<Bytes>>) -> Result<Option<Shared<Bytes>>, AllocError>
+    ensures { IfOk result (λ same. same ≡ option_map (λ bytes. bytes.now) key.entry) }
+{
+    match key {
+        None => Ok(None),
+        Some(key) => Ok(Some(key.share()?)),
     }
-    Ok(words)
 }
 
 impl Complaint {
@@ -136,63 +183,22 @@ impl Complaint {
     {
         match self {
             Complaint::EmptyStack => Bytes::copied(alloc, b"You can't pop an empty literal stack"),
-            Complaint::WrongKind(builtin) => {
-                let mut words = Bytes::copied(alloc, builtin.name())?;
-                words.append(b" got a value of the wrong kind")?;
-                Ok(words)
-            }
+            Complaint::WrongKind(builtin) => wrong_kind(alloc, builtin.name()),
             Complaint::NoEntry => Bytes::copied(alloc, b"You can't mess with entries here"),
-            Complaint::OutOfRange(builtin) => {
-                let mut words = Bytes::copied(alloc, b"The result of ")?;
-                words.append(builtin.name())?;
-                words.append(b" is out of range")?;
-                Ok(words)
-            }
-            Complaint::BadCase(text) => {
-                let mut words = quoted(alloc, text.as_slice())?;
-                words.append(b" is an illegal case-conversion string")?;
-                Ok(words)
-            }
-            Complaint::NotOneCharacter(text) => {
-                let mut words = quoted(alloc, text.as_slice())?;
-                words.append(b" isn't a single character")?;
-                Ok(words)
-            }
-            Complaint::NotAscii(number) => {
-                let mut words = decimal(alloc, *number)?;
-                words.append(b" isn't valid ASCII")?;
-                Ok(words)
-            }
-            Complaint::NoSuchName(number, names) => {
-                about_name(
-                    alloc,
-                    b"There is no name ",
-                    *number,
-                    b" in ",
-                    names.as_slice(),
-                )
-            }
+            Complaint::OutOfRange(builtin) => out_of_range(alloc, builtin.name()),
+            Complaint::BadCase(text) => bad_case(alloc, text.as_slice()),
+            Complaint::NotOneCharacter(text) => not_one_character(alloc, text.as_slice()),
+            Complaint::NotAscii(number) => not_ascii(alloc, *number),
+            Complaint::NoSuchName(number, names) => no_such_name(alloc, *number, names.as_slice()),
             Complaint::TooManyCommas(number, names) => {
-                about_name(
-                    alloc,
-                    b"Too many commas in name ",
-                    *number,
-                    b" of ",
-                    names.as_slice(),
-                )
+                too_many_commas(alloc, *number, names.as_slice())
             }
-            Complaint::PatternFault(pattern, place) => pattern_words(
-                alloc,
-                pattern.as_slice(),
-                *place,
-            ),
+            Complaint::PatternFault(pattern, place) => {
+                pattern_fault(alloc, pattern.as_slice(), *place)
+            }
             Complaint::NotVariable => Bytes::copied(alloc, b":= needs a variable"),
             Complaint::LeftOver => Bytes::copied(alloc, b"The literal stack isn't empty"),
-            Complaint::Warned(text) => {
-                let mut words = Bytes::copied(alloc, b"Warning--")?;
-                words.append(text.as_slice())?;
-                Ok(words)
-            }
+            Complaint::Warned(text) => warned(alloc, text.as_slice()),
             Complaint::Shown(text) => Bytes::copied(alloc, text.as_slice()),
             Complaint::TicksPassed => {
                 Bytes::copied(alloc, b"The limit of 1000000 ticks was passed")
@@ -207,13 +213,17 @@ impl Complaint {
     }
 
     /// The message of a complaint, in a step for the entry with this key or for none.
-    fn message(&self, alloc: Global, key: Option<&[u8]>) -> Result<Message, AllocError>
+    fn message(&self, alloc: Global, key: Option<&Shared<Bytes>>) -> Result<Message, AllocError>
         ensures { IfOk result (λ message.
             message ≡ message_of (option_map (λ bytes. bytes.now) key.entry) self.now) }
     {
-        let rank = self.rank();
-        let words = placed(rank, key, self.words(alloc)?)?;
-        Ok(Message { rank, words })
+        Ok(Message {
+            rank: self.rank(),
+            words: Shared::new(alloc, self.words(alloc)?)?,
+            entry: shared(key)?,
+            place: None,
+            second: None,
+        })
     }
 }
 
@@ -221,7 +231,7 @@ impl Complaint {
 pub fn messages(
     alloc: Global,
     complaints: &[Complaint],
-    key: Option<&[u8]>,
+    key: Option<&Shared<Bytes>>,
 ) -> Result<Sequence<Message>, AllocError>
     ensures { IfOk result (λ messages.
         messages ≡ map (message_of (option_map (λ bytes. bytes.now) key.entry)) complaints.now) }

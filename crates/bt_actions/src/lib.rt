@@ -8,7 +8,6 @@ mod comparing;
 mod complaint;
 mod entry;
 mod logging;
-mod message;
 mod names;
 mod numbers;
 mod reading;
@@ -24,7 +23,6 @@ pub use actions::call_basic;
 pub use arguments::{take_choice, take_number, take_two_codes};
 pub use complaint::Complaint;
 pub use entry::{Entry, Variables};
-pub use message::{Message, Rank};
 pub use reading::{
     call_entry_number, call_entry_text, call_field, call_global_number, call_global_text,
 };

@@ -1,7 +1,8 @@
 //! The limits of the stack, of texts and of the held line.
 
 use crate::test_states::{call, state};
-use crate::{Flow, Message, State, Value};
+use crate::{Flow, State, Value};
+use bt_log::Message;
 use bt_style::Builtin;
 use bt_text::{Bytes, Sequence};
 use std::alloc::{AllocError, Global};

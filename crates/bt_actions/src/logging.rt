@@ -56,18 +56,20 @@ fn target_name(style: &Style, target: Target) -> &[u8]
     }
 }
 
+/// A quoted name as the log shows it.
+fn quoted_name(alloc: Global, name: &[u8]) -> Result<Bytes, AllocError>
+    ensures { IfOk result (λ words. words ≡ codes "`" ++ name.now ++ codes "'") }
+{
+    Bytes::of(alloc, &[b"`", name, b"'"])
+}
+
 /// A function as the log shows it.
 fn shown_code(alloc: Global, style: &Style, code: Code) -> Result<Bytes, AllocError>
     ensures { IfOk result (λ words. words ≡ shown_code (program_of style.now) (code_seen code.entry)) }
 {
     match code {
         Code::Braced(_) => Bytes::copied(alloc, b"`{}'"),
-        Code::Name(target) => {
-            let mut words = Bytes::copied(alloc, b"`")?;
-            words.append(target_name(style, target))?;
-            words.append(b"'")?;
-            Ok(words)
-        }
+        Code::Name(target) => quoted_name(alloc, target_name(style, target)),
     }
 }
 
@@ -76,8 +78,8 @@ fn shown_gap(alloc: Global, style: &Style, field: usize) -> Result<Bytes, AllocE
     ensures { IfOk result (λ words.
         words ≡ codes "missing " ++ name_at (program_of style.now).fields field) }
 {
-    let mut words = Bytes::copied(alloc, b"missing ")?;
-    words.append(name_at(style.fields.as_slice(), field))?;
+    let name = name_at(style.fields.as_slice(), field);
+    let words = Bytes::of(alloc, &[b"missing ", name])?;
     Ok(words)
 }
 

@@ -2,10 +2,10 @@
 
 use crate::complaint::{self, Complaint};
 use crate::entry::{Entry, Variables};
-use crate::message::Message;
 use crate::short_text::ShortText;
 use crate::tally::Tally;
 use crate::value::Value;
+use bt_log::Message;
 use bt_style::Builtin;
 use bt_text::{Bytes, Held, HeldFault, Sequence};
 use std::alloc::{AllocError, Global};
@@ -217,7 +217,7 @@ impl<'a> State<'a> {
     {
         let key = match &self.current {
             None => None,
-            Some(current) => Some(current.entry.key.as_slice()),
+            Some(current) => Some(&current.entry.key),
         };
         complaint::messages(alloc, self.complaints.as_slice(), key)
     }

@@ -1,10 +1,8 @@
 //! States that tests begin with, spelled in words, and what is left of them.
 
 use crate::complaint::decimal;
-use crate::{
-    Code, Current, Entry, Flow, Message, Rank, ShortText, State, Tally, Value, Variables,
-    call_basic,
-};
+use crate::{Code, Current, Entry, Flow, ShortText, State, Tally, Value, Variables, call_basic};
+use bt_log::{Message, Rank};
 use bt_style::{Builtin, Function, Style, Target};
 use bt_text::{Bytes, Held, Sequence, Shared};
 use std::alloc::{AllocError, Global};
@@ -163,12 +161,16 @@ fn append_value(all: &mut Bytes, alloc: Global, value: &Value) -> Result<(), All
 
 fn append_message(all: &mut Bytes, message: &Message) -> Result<(), AllocError> {
     all.append(match message.rank {
-        Rank::Note => b"; note: ".as_slice(),
         Rank::Warning => b"; warning: ".as_slice(),
         Rank::Error => b"; error: ".as_slice(),
         Rank::Fatal => b"; fatal: ".as_slice(),
+        _ => b"; note: ".as_slice(),
     })?;
-    all.append(message.words.as_slice())
+    all.append(message.words.as_slice())?;
+    if let (Rank::Error | Rank::Fatal, Some(key)) = (message.rank, &message.entry) {
+        all.append_all(&[b" for entry ", key.as_slice()])?;
+    }
+    Ok(())
 }
 
 /// The stack, its top last, with a `|` behind each value; the lines and the held line; the messages; whether it stops.

@@ -9,7 +9,8 @@ use Rattle.bt_bib.specs.declared.aux_line.Command.TheVariants.{Citation, Databas
 use Rattle.bt_bib.specs.declared.aux_argument.AuxFault.{AuxFault}
 use Rattle.bt_bib.specs.declared.aux_line.AuxItem.{AuxItem}
 use Rattle.bt_job.specs.declared.files.File.{File}
-use Rattle.bt_job.specs.declared.log.Rank.TheVariants.{FileLine}
+use Rattle.bt_log.specs.declared.message.Rank.TheVariants.{FileLine}
+use Rattle.bt_log.specs.Message.{plain}
 use Rattle.bt_job.specs.declared.citations.Citations.{Citations}
 use Rattle.bt_job.specs.declared.citations.Outcome.{Outcome}
 use Rattle.bt_job.specs.declared.citations.Outcome.TheVariants.{Taken, Wrong, Opens}
@@ -227,7 +228,7 @@ lines_keep files nested file (item ∷ items) r k =
 -- a file that has this text
 opened_keeps : (files : List File) (nested : List ℕ → Citations → Citations) (level : ℕ) (file : List ℕ) (o : Option (List ℕ)) (r : Citations) → Keeps files nested → unmet files (opened nested files level file o r).met ≤ unmet files r.met
 opened_keeps files nested level file None r k = omega arith
-opened_keeps files nested level file (Some text) r k = lines_keep files nested file (aux_lines text) (told FileLine (file_line level file) r) k
+opened_keeps files nested level file (Some text) r k = lines_keep files nested file (aux_lines text) (told (plain FileLine (file_line level file)) r) k
 
 -- a file
 file_keeps : (bound : ℕ) (files : List File) (level : ℕ) → Keeps files (file_taken bound files level)
@@ -258,7 +259,7 @@ lines_same files f g n file (item ∷ items) r k a le =
 -- a file that has this text
 opened_same : (files : List File) (f g : List ℕ → Citations → Citations) (level : ℕ) (file : List ℕ) (o : Option (List ℕ)) (r : Citations) → Keeps files f → Agree files (unmet files r.met) f g → opened f files level file o r ≡ opened g files level file o r
 opened_same files f g level file None r k a = refl
-opened_same files f g level file (Some text) r k a = lines_same files f g (unmet files r.met) file (aux_lines text) (told FileLine (file_line level file) r) k a (omega arith)
+opened_same files f g level file (Some text) r k a = lines_same files f g (unmet files r.met) file (aux_lines text) (told (plain FileLine (file_line level file)) r) k a (omega arith)
 
 -- any two bounds above the number of files that were not met
 pub any_bound_serves : AnyBoundServes

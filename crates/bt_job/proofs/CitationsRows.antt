@@ -3,13 +3,15 @@ use Rattle.std.proofs.Common.{◌≡◌, ℕ, List, [], ◌∷◌, map, Option, 
 use Rattle.std.specs.Prelude.{codes}
 use Rattle.std.specs.Fmt.{digits}
 use Rattle.bt_job.specs.declared.files.File.{File}
-use Rattle.bt_job.specs.declared.log.Rank.{Rank}
-use Rattle.bt_job.specs.declared.log.Rank.TheVariants.{FileLine, Error, Fatal}
+use Rattle.bt_log.specs.declared.message.Rank.{Rank}
+use Rattle.bt_log.specs.declared.message.Rank.TheVariants.{FileLine, Error, Fatal}
 use Rattle.bt_job.specs.declared.citations.Citations.{Citations}
 use Rattle.bt_bib.specs.AuxLine.{aux_lines}
 use Rattle.bt_job.specs.Naming.{name_fault}
 use Rattle.bt_job.specs.Taking.{cited, named, item_taken}
-use Rattle.bt_job.specs.Log.{status_of, log_bytes}
+use Rattle.bt_log.specs.Message.{plain}
+use Rattle.bt_log.specs.Spelling.{spelled}
+use Rattle.bt_log.specs.Log.{status_of, log_bytes}
 use Rattle.bt_job.specs.Citations.{lines_taken, file_taken, ended, citations}
 
 -- a file of this name and text
@@ -24,9 +26,9 @@ others = file (codes "s.bst") [] ∷ file (codes "x.bib") [] ∷ []
 abbrev asked_by : List ℕ → Citations
 asked_by text = citations (file (codes "job.aux") text ∷ others) (codes "job")
 
--- the ranks and words of the log
+-- the messages of the log in words, with their ranks
 abbrev log : Citations → List (Rank × List ℕ)
-log r = map (λ m. (m.rank, m.words)) r.log
+log r = map (λ m. (m.rank, spelled m)) r.log
 
 -- the line of the root
 abbrev top : Rank × List ℕ
@@ -42,7 +44,7 @@ no_root : citations [] (codes "job") ≡ record {
   star = None;
   databases = [];
   style = None;
-  log = (record { rank = Fatal; words = codes "I couldn't open auxiliary file job.aux" }) ∷ [];
+  log = plain Fatal (codes "I couldn't open auxiliary file job.aux") ∷ [];
   wanted = codes "job.aux" ∷ [];
   met = [];
   citation_met = false;

@@ -10,8 +10,9 @@ use Rattle.bt_bib.specs.declared.aux_line.Command.TheVariants.{Citation, Databas
 use Rattle.bt_bib.specs.declared.aux_argument.AuxFault.{AuxFault}
 use Rattle.bt_bib.specs.declared.aux_line.AuxItem.{AuxItem}
 use Rattle.bt_job.specs.declared.files.File.{File}
-use Rattle.bt_job.specs.declared.log.Rank.{Rank}
-use Rattle.bt_job.specs.declared.log.Rank.TheVariants.{FileLine}
+use Rattle.bt_log.specs.declared.message.Rank.TheVariants.{FileLine}
+use Rattle.bt_log.specs.declared.message.Message.{Message}
+use Rattle.bt_log.specs.Message.{plain}
 use Rattle.bt_job.specs.declared.citations.Citations.{Citations}
 use Rattle.bt_job.specs.declared.citations.Outcome.{Outcome}
 use Rattle.bt_job.specs.declared.citations.Outcome.TheVariants.{Taken, Wrong, Opens}
@@ -22,24 +23,24 @@ use Rattle.bt_job.specs.Citations.{file_line, in_place, lines_taken, opened, fil
 use Rattle.bt_job.specs.Fit.{AreDistinct, AreThere, IsWithin, IsFit, AlwaysFit}
 
 -- A property that each line and each message keeps holds behind a file, where it held in front of it.
-place_holds : (P : Citations → Type 0) (nested : List ℕ → Citations → Citations) (file : List ℕ) (line : ℕ) (x : Citations × Outcome) → ((rank : Rank) (words : List ℕ) (r : Citations) → P r → P (told rank words r)) → ((name : List ℕ) (r : Citations) → P r → P (nested name r)) → P x.0 → P (in_place nested file line x)
+place_holds : (P : Citations → Type 0) (nested : List ℕ → Citations → Citations) (file : List ℕ) (line : ℕ) (x : Citations × Outcome) → ((m : Message) (r : Citations) → P r → P (told m r)) → ((name : List ℕ) (r : Citations) → P r → P (nested name r)) → P x.0 → P (in_place nested file line x)
 place_holds P nested file line (r, Taken) t n p = p
-place_holds P nested file line (r, Wrong words) t n p = t _ _ r p
+place_holds P nested file line (r, Wrong words) t n p = t _ r p
 place_holds P nested file line (r, Opens name) t n p = n name r p
 
 -- the same behind the lines of a file
-lines_hold : (P : Citations → Type 0) (files : List File) (nested : List ℕ → Citations → Citations) (file : List ℕ) (items : List AuxItem) (r : Citations) → ((rank : Rank) (words : List ℕ) (r1 : Citations) → P r1 → P (told rank words r1)) → ((item : AuxItem) (r1 : Citations) → P r1 → P (item_taken files item r1).0) → ((name : List ℕ) (r1 : Citations) → P r1 → P (nested name r1)) → P r → P (lines_taken nested files file items r)
+lines_hold : (P : Citations → Type 0) (files : List File) (nested : List ℕ → Citations → Citations) (file : List ℕ) (items : List AuxItem) (r : Citations) → ((m : Message) (r1 : Citations) → P r1 → P (told m r1)) → ((item : AuxItem) (r1 : Citations) → P r1 → P (item_taken files item r1).0) → ((name : List ℕ) (r1 : Citations) → P r1 → P (nested name r1)) → P r → P (lines_taken nested files file items r)
 unfolding lines_taken
 lines_hold P files nested file [] r t i n p = p
 lines_hold P files nested file (item ∷ items) r t i n p = lines_hold P files nested file items _ t i n (place_holds P nested file item.line (item_taken files item r) t n (i item r p))
 
 -- the same behind a file that has this text
-opened_holds : (P : Citations → Type 0) (files : List File) (nested : List ℕ → Citations → Citations) (level : ℕ) (file : List ℕ) (o : Option (List ℕ)) (r : Citations) → ((rank : Rank) (words : List ℕ) (r1 : Citations) → P r1 → P (told rank words r1)) → ((item : AuxItem) (r1 : Citations) → P r1 → P (item_taken files item r1).0) → ((name : List ℕ) (r1 : Citations) → P r1 → P (nested name r1)) → P r → P (opened nested files level file o r)
+opened_holds : (P : Citations → Type 0) (files : List File) (nested : List ℕ → Citations → Citations) (level : ℕ) (file : List ℕ) (o : Option (List ℕ)) (r : Citations) → ((m : Message) (r1 : Citations) → P r1 → P (told m r1)) → ((item : AuxItem) (r1 : Citations) → P r1 → P (item_taken files item r1).0) → ((name : List ℕ) (r1 : Citations) → P r1 → P (nested name r1)) → P r → P (opened nested files level file o r)
 opened_holds P files nested level file None r t i n p = p
-opened_holds P files nested level file (Some text) r t i n p = lines_hold P files nested file (aux_lines text) _ t i n (t FileLine (file_line level file) r p)
+opened_holds P files nested level file (Some text) r t i n p = lines_hold P files nested file (aux_lines text) _ t i n (t (plain FileLine (file_line level file)) r p)
 
 -- the same behind a file
-pub file_holds : (P : Citations → Type 0) (files : List File) → ((rank : Rank) (words : List ℕ) (r : Citations) → P r → P (told rank words r)) → ((item : AuxItem) (r : Citations) → P r → P (item_taken files item r).0) → (bound level : ℕ) (file : List ℕ) (r : Citations) → P r → P (file_taken bound files level file r)
+pub file_holds : (P : Citations → Type 0) (files : List File) → ((m : Message) (r : Citations) → P r → P (told m r)) → ((item : AuxItem) (r : Citations) → P r → P (item_taken files item r).0) → (bound level : ℕ) (file : List ℕ) (r : Citations) → P r → P (file_taken bound files level file r)
 unfolding file_taken
 file_holds P files t i zero level file r p = p
 file_holds P files t i (suc bound) level file r p = opened_holds P files (file_taken bound files (level + 1)) level file (text_of files file) r t i (file_holds P files t i bound (level + 1)) p
@@ -87,8 +88,8 @@ there-append files [] name a h = (h, tt)
 there-append files (n ∷ ns) name a h = (a.0, there-append files ns name a.1 h)
 
 -- rules
-told_fit : (files : List File) (rank : Rank) (words : List ℕ) (r : Citations) → IsFit files r → IsFit files (told rank words r)
-told_fit files rank words r f = record { keys = f.keys; star = f.star; databases = f.databases; style = f.style }
+told_fit : (files : List File) (m : Message) (r : Citations) → IsFit files r → IsFit files (told m r)
+told_fit files m r f = record { keys = f.keys; star = f.star; databases = f.databases; style = f.style }
 
 -- either of two
 if_fit : (files : List File) (b : Bool) (x y : Citations × Outcome) → IsFit files x.0 → IsFit files y.0 → IsFit files (cond b x y).0
@@ -171,9 +172,9 @@ item_fit files item r f = if_fit files (is_second item.command r) _ _ f (parts_f
 
 -- whole runs
 missing_fit : (files : List File) (met nothing : Bool) (command name root : List ℕ) (r : Citations) → IsFit files r → IsFit files (missing_one met nothing command name root r)
-missing_fit files true true command name root r f = told_fit files _ _ r f
+missing_fit files true true command name root r f = told_fit files _ r f
 missing_fit files true false command name root r f = f
-missing_fit files false nothing command name root r f = told_fit files _ _ r f
+missing_fit files false nothing command name root r f = told_fit files _ r f
 
 -- the errors at the end of the root
 ended_fit : (files : List File) (root : List ℕ) (r : Citations) → IsFit files r → IsFit files (ended root r)

@@ -2,4 +2,3 @@ pub mod BoundLemmas
 pub mod FitLemmas
 pub mod NestingLemmas
 mod CitationsRows
-mod LogRows

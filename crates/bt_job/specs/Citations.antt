@@ -4,7 +4,9 @@ use Rattle.std.specs.Option.{is_none}
 use Rattle.bt_bib.specs.declared.aux_line.Command.TheVariants.{Nested}
 use Rattle.bt_bib.specs.declared.aux_line.AuxItem.{AuxItem}
 use Rattle.bt_job.specs.declared.files.File.{File}
-use Rattle.bt_job.specs.declared.log.Rank.TheVariants.{FileLine, Error, Fatal}
+use Rattle.bt_log.specs.declared.message.Rank.TheVariants.{FileLine, Error, Fatal}
+use Rattle.bt_log.specs.declared.message.Place.TheVariants.{WholeFile}
+use Rattle.bt_log.specs.Message.{plain, at}
 use Rattle.bt_job.specs.declared.citations.Citations.{Citations}
 use Rattle.bt_job.specs.declared.citations.Outcome.{Outcome}
 use Rattle.bt_job.specs.declared.citations.Outcome.TheVariants.{Taken, Wrong, Opens}
@@ -35,7 +37,7 @@ lines_taken nested files file (item ∷ items) r =
 -- a file that has this text
 abbrev pub opened : (List ℕ → Citations → Citations) → List File → ℕ → List ℕ → Option (List ℕ) → Citations → Citations
 opened nested files level file None r = r
-opened nested files level file (Some text) r = lines_taken nested files file (aux_lines text) (told FileLine (file_line level file) r)
+opened nested files level file (Some text) r = lines_taken nested files file (aux_lines text) (told (plain FileLine (file_line level file)) r)
 
 -- A file so many levels below the root, and below it as many levels as the bound allows. Which bound it is doesn't matter,
 -- where it is above the number of files that weren't met: a file is opened at most once.
@@ -62,7 +64,7 @@ nothing_met = record {
 
 -- with an error for what the root's files lack
 abbrev pub missing : List ℕ → List ℕ → Citations → Citations
-missing what file r = told Error (codes "I found no " ++ what ++ codes "---while reading file " ++ file) r
+missing what file r = told (at (WholeFile file) (plain Error (codes "I found no " ++ what))) r
 
 -- whether a list has no element
 abbrev pub is_empty : {A : Type 0} → List A → Bool
@@ -84,7 +86,7 @@ ended file r =
 
 -- a root file that has this text
 abbrev pub rooted : List File → List ℕ → Option (List ℕ) → Citations
-rooted files file None = wanting file (told Fatal (codes "I couldn't open auxiliary file " ++ file) nothing_met)
+rooted files file None = wanting file (told (plain Fatal (codes "I couldn't open auxiliary file " ++ file)) nothing_met)
 rooted files file (Some text) = ended file (file_taken (length files + 1) files 0 file (meeting Nested file nothing_met))
 
 -- what the files of a session with this root name ask for

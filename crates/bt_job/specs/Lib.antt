@@ -1,4 +1,3 @@
-pub mod Log
 pub mod Naming
 pub mod Taking
 pub mod Citations

@@ -1,5 +1,5 @@
 -- What a counted line comes to: what it adds to what is asked for, and its error or the file that it opens.
-use Rattle.std.specs.Prelude.{ℕ, Bool, true, false, List, [], ◌∷◌, ◌++◌, length, codes, decimal, Option, Some, None, if◌then◌else◌}
+use Rattle.std.specs.Prelude.{ℕ, Bool, true, false, List, [], ◌∷◌, ◌++◌, length, codes, Option, Some, None, if◌then◌else◌}
 use Rattle.std.specs.Str.{bytes_eq}
 -- whether two keys are one, and the first of some keys that is this one: without regard to case
 pub use Rattle.bt_text.specs.Folding.{is_same_folded as is_same_key}
@@ -10,22 +10,22 @@ use Rattle.bt_bib.specs.declared.aux_argument.AuxFault.{AuxFault}
 use Rattle.bt_bib.specs.declared.aux_argument.AuxFault.TheVariants.{NoBrace, WhiteSpace, StuffAfter}
 use Rattle.bt_bib.specs.declared.aux_line.AuxItem.{AuxItem}
 use Rattle.bt_job.specs.declared.files.File.{File}
-use Rattle.bt_job.specs.declared.log.Rank.{Rank}
-use Rattle.bt_job.specs.declared.log.Rank.TheVariants.{FileLine, Error}
-use Rattle.bt_job.specs.declared.log.Message.{Message}
+use Rattle.bt_log.specs.declared.message.Rank.TheVariants.{FileLine}
+use Rattle.bt_log.specs.declared.message.Place.TheVariants.{Line}
+use Rattle.bt_log.specs.declared.message.Message.{Message}
+use Rattle.bt_log.specs.Message.{plain, skipping}
 use Rattle.bt_job.specs.declared.citations.Citations.{Citations}
 use Rattle.bt_job.specs.declared.citations.Outcome.{Outcome}
 use Rattle.bt_job.specs.declared.citations.Outcome.TheVariants.{Taken, Wrong, Opens}
 use Rattle.bt_job.specs.Naming.{is_among, text_of, named_by, name_fault}
 
--- with a message behind the others
-abbrev pub told : Rank → List ℕ → Citations → Citations
-told rank words r = (let message : Message = record { rank = rank; words = words } in record r { log = r.log ++ message ∷ [] })
+-- with a message after the others
+abbrev pub told : Message → Citations → Citations
+told m r = record r { log = r.log ++ m ∷ [] }
 
 -- with an error at a line of a file
 abbrev pub told_at : List ℕ → ℕ → List ℕ → Citations → Citations
-told_at file line words r =
-    told Error (words ++ codes "---line " ++ decimal line ++ codes " of file " ++ file ++ codes "\nI'm skipping whatever remains of this command") r
+told_at file line words r = told (skipping words (Line file line None) (codes "command")) r
 
 -- Citations
 
@@ -68,7 +68,7 @@ wanting name r = record r { wanted = if is_among r.wanted name then r.wanted els
 -- the name of a file that is there
 abbrev pub found : Command → List ℕ → Citations → Citations × Outcome
 found Database name r = (record r { databases = r.databases ++ name ∷ [] }, Taken)
-found Style name r = (told FileLine (codes "The style file: " ++ name) (record r { style = Some name }), Taken)
+found Style name r = (told (plain FileLine (codes "The style file: " ++ name)) (record r { style = Some name }), Taken)
 found Nested name r = (r, Opens name)
 found Citation name r = (r, Taken)
 

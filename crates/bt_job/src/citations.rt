@@ -1,6 +1,6 @@
 //! What the .aux files of a session ask for.
 
-use crate::log::Message;
+use bt_log::Message;
 use bt_text::{Bytes, NameList, Sequence};
 
 /// What the .aux files have asked for so far.

@@ -1,6 +1,6 @@
 //! Names of files: which are allowed, which text each has, and what is wrong with one.
 
-ghost use Rattle.std.specs.Prelude.{◌≡◌, ◌++◌, IfOk};
+ghost use Rattle.std.specs.Prelude.{◌≡◌, IfOk};
 ghost use Rattle.std.specs.List.{list_all};
 ghost use Rattle.std.specs.Option.{option_map};
 ghost use Rattle.bt_job.specs.Naming.{is_name_byte, is_file_name, with_ending, is_among, text_of, named_by, has_ending, met_before, name_fault};
@@ -51,15 +51,6 @@ pub fn text_of<'a>(files: &'a [File], name: &[u8]) -> Option<&'a [u8]>
     None
 }
 
-/// Two texts, one behind the other. The one error is want of memory.
-pub fn pair(alloc: Global, front: &[u8], back: &[u8]) -> Result<Bytes, AllocError>
-    ensures { IfOk result (λ text. text ≡ front.now ++ back.now) }
-{
-    let mut text = Bytes::copied(alloc, front)?;
-    text.append(back)?;
-    Ok(text)
-}
-
 /// A name with an ending, which is put behind it unless it is there.
 fn with_ending(alloc: Global, ending: &[u8], name: &[u8]) -> Result<Bytes, AllocError>
     ensures { IfOk result (λ text. text ≡ with_ending ending.now name.now) }
@@ -67,7 +58,7 @@ fn with_ending(alloc: Global, ending: &[u8], name: &[u8]) -> Result<Bytes, Alloc
     if name.ends_with(ending) {
         Bytes::copied(alloc, name)
     } else {
-        pair(alloc, name, ending)
+        Bytes::of(alloc, &[name, ending])
     }
 }
 
@@ -97,11 +88,14 @@ fn met_before(alloc: Global, command: Command, name: &[u8]) -> Result<Option<Byt
 {
     match command {
         Command::Database => {
-            let words = pair(alloc, b"This database file appears more than once: ", name)?;
+            let words = Bytes::of(
+                alloc,
+                &[b"This database file appears more than once: ", name],
+            )?;
             Ok(Some(words))
         }
         Command::Nested => {
-            let words = pair(alloc, b"Already encountered file ", name)?;
+            let words = Bytes::of(alloc, &[b"Already encountered file ", name])?;
             Ok(Some(words))
         }
         Command::Style | Command::Citation => Ok(None),
@@ -119,10 +113,10 @@ pub fn name_fault(
     ensures { IfOk result (λ fault. fault ≡ name_fault command met.now name.now) }
 {
     if !has_ending(command, name) {
-        let words = pair(alloc, name, b" has a wrong extension")?;
+        let words = Bytes::of(alloc, &[name, b" has a wrong extension"])?;
         Ok(Some(words))
     } else if !is_file_name(name) {
-        let words = pair(alloc, name, b" isn't a file name of this profile")?;
+        let words = Bytes::of(alloc, &[name, b" isn't a file name of this profile"])?;
         Ok(Some(words))
     } else if is_among(met, name) {
         met_before(alloc, command, name)

@@ -1,31 +1,40 @@
 //! The .aux files of a session, with the lines of each nested file in its place.
 
 ghost use Rattle.std.specs.Prelude.{◌≡◌, ◌<◌, ◌+◌, ◌^◌, IfOk, OnOk};
+ghost use Rattle.bt_log.specs.declared.message.Rank.TheVariants.{FileLine};
+ghost use Rattle.bt_log.specs.Message.{plain};
 ghost use Rattle.bt_job.specs.Fit.{IsFit, AlwaysFit};
 ghost use Rattle.bt_job.specs.Citations.{file_line, file_taken, missing, missing_one, ended, nothing_met, citations, AnyBoundServes, NestedInPlace};
 
 use crate::citations::{Citations, Outcome};
 use crate::files::File;
-use crate::log::Rank;
-use crate::naming::{pair, text_of};
+use crate::naming::text_of;
 use crate::taking::{take_item, tell, tell_at, want};
 use bt_bib::read_aux;
-use bt_text::{Bytes, NameList, Sequence};
+use bt_log::{Message, Place, Rank};
+use bt_text::{Bytes, NameList, Sequence, Shared};
 use itoa::Buffer;
 use std::alloc::{AllocError, Global};
 
 /// The line of the log where a file begins.
-fn file_line(alloc: Global, level: usize, file: &[u8]) -> Result<Bytes, AllocError>
-    ensures { IfOk result (λ words. words ≡ file_line level file.now) }
+fn file_line(alloc: Global, level: usize, file: &[u8]) -> Result<Message, AllocError>
+    ensures { IfOk result (λ line. line ≡ plain FileLine (file_line level file.now)) }
 {
     if level == 0 {
-        return pair(alloc, b"The top-level auxiliary file: ", file);
+        return Message::of(
+            alloc,
+            Rank::FileLine,
+            &[b"The top-level auxiliary file: ", file],
+        );
     }
     let mut buffer = Buffer::new();
-    let mut words = pair(alloc, b"A level-", buffer.format(level).as_bytes())?;
-    words.append(b" auxiliary file: ")?;
-    words.append(file)?;
-    Ok(words)
+    let level = buffer.format(level).as_bytes();
+    let line = Message::of(
+        alloc,
+        Rank::FileLine,
+        &[b"A level-", level, b" auxiliary file: ", file],
+    )?;
+    Ok(line)
 }
 
 /// Takes the lines of a file, and of the files that it nests in their places: `bound` levels at most.
@@ -46,12 +55,13 @@ fn take_file(
     let Some(text) = text_of(files, file) else {
         return Ok(());
     };
-    tell(citations, Rank::FileLine, file_line(alloc, level, file)?)?;
+    tell(citations, file_line(alloc, level, file)?)?;
+    let name = Shared::<Bytes>::copied(alloc, file)?;
     let items = read_aux(alloc, text)?;
     'items: for item in items.as_slice() {
         match take_item(alloc, files, citations, item)? {
             Outcome::Taken => {}
-            Outcome::Wrong(words) => tell_at(citations, file, item.line, words)?,
+            Outcome::Wrong(words) => tell_at(alloc, citations, &name, item.line, words)?,
             Outcome::Opens(name) => {
                 take_file(
                     alloc,
@@ -72,14 +82,15 @@ fn miss(
     alloc: Global,
     citations: &mut Citations,
     what: &[u8],
-    file: &[u8],
+    file: &Shared<Bytes>,
 ) -> Result<(), AllocError>
     ensures { OnOk result (citations.new ≡ missing what.now file.now citations.old) }
 {
-    let mut words = pair(alloc, b"I found no ", what)?;
-    words.append(b"---while reading file ")?;
-    words.append(file)?;
-    tell(citations, Rank::Error, words)
+    let message = Message::of(alloc, Rank::Error, &[b"I found no ", what])?;
+    let place = Place::WholeFile {
+        file: file.share()?,
+    };
+    tell(citations, message.at(place)?)
 }
 
 /// Says that a command wasn't met, or that it named nothing.
@@ -90,7 +101,7 @@ fn miss_one(
     nothing: bool,
     command: &[u8],
     named: &[u8],
-    file: &[u8],
+    file: &Shared<Bytes>,
 ) -> Result<(), AllocError>
     ensures { OnOk result (citations.new ≡ missing_one met nothing command.now named.now file.now citations.old) }
 {
@@ -105,7 +116,7 @@ fn miss_one(
 
 /// The errors at the end of the root.
 #[tactic(auto, unfolding(crate::specs::Citations::ended))]
-fn end(alloc: Global, citations: &mut Citations, file: &[u8]) -> Result<(), AllocError>
+fn end(alloc: Global, citations: &mut Citations, file: &Shared<Bytes>) -> Result<(), AllocError>
     ensures { OnOk result (citations.new ≡ ended file.now citations.old) }
 {
     let no_keys = citations.keys.as_slice().is_empty() && citations.star.is_none();
@@ -170,11 +181,15 @@ pub fn read_citations(alloc: Global, files: &[File], root: &[u8]) -> Result<Cita
     ensures value { IfOk result (λ asked. asked ≡ citations files.now root.now) }
     ensures fit { IfOk result (λ asked. IsFit files.now asked) }
 {
-    let file = pair(alloc, root, b".aux")?;
+    let file = Shared::new(alloc, Bytes::of(alloc, &[root, b".aux"])?)?;
     let mut citations = nothing_met(alloc);
     if text_of(files, file.as_slice()).is_none() {
-        let words = pair(alloc, b"I couldn't open auxiliary file ", file.as_slice())?;
-        tell(&mut citations, Rank::Fatal, words)?;
+        let message = Message::of(
+            alloc,
+            Rank::Fatal,
+            &[b"I couldn't open auxiliary file ", file.as_slice()],
+        )?;
+        tell(&mut citations, message)?;
         want(alloc, &mut citations, file.as_slice())?;
         return Ok(citations);
     }
@@ -187,7 +202,7 @@ pub fn read_citations(alloc: Global, files: &[File], root: &[u8]) -> Result<Cita
         0,
         file.as_slice(),
     )?;
-    end(alloc, &mut citations, file.as_slice())?;
+    end(alloc, &mut citations, &file)?;
     Ok(citations)
 }
 
@@ -212,8 +227,7 @@ pub fn always_fit()
 #[cfg(test)]
 mod tests {
     use super::*;
-    use crate::log::{log_bytes, status};
-    use bt_text::Shared;
+    use bt_log::{log_bytes, status};
     use std::test::Fail;
 
     fn file(alloc: Global, name: &[u8], text: &[u8]) -> Result<File, AllocError> {

@@ -5,41 +5,40 @@ ghost use Rattle.bt_job.specs.Taking.{told, told_at, cited_all, cited_key, cited
 
 use crate::citations::{Citations, Outcome};
 use crate::files::File;
-use crate::log::{Message, Rank};
-use crate::naming::{is_among, name_fault, named_by, pair, text_of};
+use crate::naming::{is_among, name_fault, named_by, text_of};
 use bt_bib::{AuxFault, AuxItem, Command};
-use bt_text::Bytes;
-use itoa::Buffer;
+use bt_log::{Message, Place, Rank};
+use bt_text::{Bytes, Shared};
 use std::alloc::{AllocError, Global};
 
-/// Puts a message behind the others. The one error is want of memory; nothing is told then.
-pub fn tell(citations: &mut Citations, rank: Rank, words: Bytes) -> Result<(), AllocError>
-    ensures ok { OnOk result (citations.new ≡ told rank words citations.old) }
+/// Puts a message after the others. The one error is out of memory; nothing is logged then.
+pub fn tell(citations: &mut Citations, message: Message) -> Result<(), AllocError>
+    ensures ok { OnOk result (citations.new ≡ told message citations.old) }
     ensures err { OnErr result (citations.new ≡ citations.old) }
 {
-    citations.log.push(Message { rank, words })?;
+    citations.log.push(message)?;
     Ok(())
 }
 
-/// Puts an error at a line of a file behind the other messages. The one error is want of memory;
-/// nothing is told then.
+/// Puts an error at a line of a file after the other messages. The one error is out of memory; nothing is logged then.
 pub fn tell_at(
+    alloc: Global,
     citations: &mut Citations,
-    file: &[u8],
+    file: &Shared<Bytes>,
     line: usize,
     words: Bytes,
 ) -> Result<(), AllocError>
     ensures ok { OnOk result (citations.new ≡ told_at file.now line words citations.old) }
     ensures err { OnErr result (citations.new ≡ citations.old) }
 {
-    let mut words = words;
-    let mut buffer = Buffer::new();
-    words.append(b"---line ")?;
-    words.append(buffer.format(line).as_bytes())?;
-    words.append(b" of file ")?;
-    words.append(file)?;
-    words.append(b"\nI'm skipping whatever remains of this command")?;
-    tell(citations, Rank::Error, words)
+    let place = Place::Line {
+        file: file.share()?,
+        line,
+        byte: None,
+    };
+    let message = Message::skipping(alloc, words, place, b"command")?;
+    tell(citations, message)?;
+    Ok(())
 }
 
 /// Takes a part `*`.
@@ -58,10 +57,15 @@ fn cite_all(alloc: Global, citations: &mut Citations) -> Result<Outcome, AllocEr
 fn mismatch(alloc: Global, key: &[u8], old: &[u8]) -> Result<Bytes, AllocError>
     ensures { IfOk result (λ words. words ≡ codes "Case mismatch error between cite keys " ++ key.now ++ codes " and " ++ old.now) }
 {
-    let mut words = pair(alloc, b"Case mismatch error between cite keys ", key)?;
-    words.append(b" and ")?;
-    words.append(old)?;
-    Ok(words)
+    Bytes::of(
+        alloc,
+        &[
+            b"Case mismatch error between cite keys ",
+            key,
+            b" and ",
+            old,
+        ],
+    )
 }
 
 /// Takes a part of `\citation`.
@@ -143,8 +147,8 @@ fn take_found(
         }
         Command::Style => {
             citations.style = Some(text);
-            let words = pair(alloc, b"The style file: ", name)?;
-            tell(citations, Rank::FileLine, words)?;
+            let line = Message::of(alloc, Rank::FileLine, &[b"The style file: ", name])?;
+            tell(citations, line)?;
             Ok(Outcome::Taken)
         }
         Command::Nested => Ok(Outcome::Opens(text)),
@@ -152,14 +156,11 @@ fn take_found(
     }
 }
 
-/// Says that a file isn't there.
-fn not_opened(alloc: Global, command: Command, name: &[u8]) -> Result<Bytes, AllocError>
-    ensures { IfOk result (λ words. words ≡ codes "I couldn't open " ++ kind command ++ codes " file " ++ name.now) }
+/// Says that a file of this kind isn't there.
+fn not_opened(alloc: Global, kind: &[u8], name: &[u8]) -> Result<Bytes, AllocError>
+    ensures { IfOk result (λ words. words ≡ codes "I couldn't open " ++ kind.now ++ codes " file " ++ name.now) }
 {
-    let mut words = pair(alloc, b"I couldn't open ", kind(command))?;
-    words.append(b" file ")?;
-    words.append(name)?;
-    Ok(words)
+    Bytes::of(alloc, &[b"I couldn't open ", kind, b" file ", name])
 }
 
 /// Takes a name of a file.
@@ -181,7 +182,7 @@ fn name(
         take_found(alloc, citations, command, name)
     } else {
         want(alloc, citations, name)?;
-        Ok(Outcome::Wrong(not_opened(alloc, command, name)?))
+        Ok(Outcome::Wrong(not_opened(alloc, kind(command), name)?))
     }
 }
 

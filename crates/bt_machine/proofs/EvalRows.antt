@@ -7,7 +7,7 @@ use Rattle.bt_style.specs.Program.{Definition, Program}
 use Rattle.bt_actions.specs.declared.entry.Entry.{Entry}
 use Rattle.bt_actions.specs.declared.complaint.Complaint.{Complaint}
 use Rattle.bt_actions.specs.declared.complaint.Complaint.TheVariants.{EmptyStack, WrongKind, NoEntry, LeftOver, TicksPassed, StackPassed}
-use Rattle.bt_actions.specs.declared.message.Message.{Message}
+use Rattle.bt_log.specs.declared.message.Message.{Message}
 use Rattle.bt_actions.specs.Item.{Num}
 use Rattle.bt_actions.specs.World.{World, no_variables, told}
 use Rattle.bt_machine.specs.Eval.{eval_within, eval, Done, Stopped}

@@ -10,7 +10,7 @@ use Rattle.bt_style.specs.declared.style.Target.TheVariants.{Builtin, Field, Ent
 use Rattle.bt_style.specs.Program.{Program}
 use Rattle.bt_actions.specs.declared.entry.Variables.{Variables}
 use Rattle.bt_actions.specs.declared.entry.Entry.{Entry}
-use Rattle.bt_actions.specs.declared.message.Message.{Message}
+use Rattle.bt_log.specs.declared.message.Message.{Message}
 use Rattle.bt_actions.specs.declared.complaint.Complaint.{Complaint}
 use Rattle.bt_actions.specs.declared.complaint.Complaint.TheVariants.{EmptyStack, WrongKind, NoEntry, NotVariable, Warned, Shown, StackPassed, TextPassed}
 use Rattle.bt_actions.specs.Item.{Item, Txt}

@@ -1,6 +1,7 @@
 //! What a step leaves.
 
-use bt_actions::{Message, Variables};
+use bt_actions::Variables;
+use bt_log::Message;
 use bt_style::BUILTIN_COUNT;
 use bt_text::{Bytes, Held, Sequence, Shared};
 

@@ -13,7 +13,8 @@ use crate::input::Input;
 use crate::outcome::Outcome;
 use crate::putting::variables_over;
 use crate::step::share_texts;
-use bt_actions::{Entry, Message, Variables};
+use bt_actions::{Entry, Variables};
+use bt_log::Message;
 use bt_style::{Reach, Style};
 use bt_text::{Bytes, Held, Sequence, Shared};
 use std::alloc::{AllocError, Global};
@@ -175,16 +176,13 @@ fn held_left(alloc: Global, left: &Held, new: &Held, reach: &Reach) -> Result<He
     }
 }
 
-/// The same messages again.
-fn copied_messages(alloc: Global, messages: &[Message]) -> Result<Sequence<Message>, AllocError>
+/// The same messages, shared with those who have them.
+fn shared_messages(alloc: Global, messages: &[Message]) -> Result<Sequence<Message>, AllocError>
     ensures { IfOk result (λ same. same ≡ messages.now) }
 {
     let mut same = Sequence::new(alloc);
     'messages: for message in messages {
-        same.push(Message {
-            rank: message.rank,
-            words: Bytes::copied(alloc, message.words.as_slice())?,
-        })?;
+        same.push(message.share()?)?;
     }
     Ok(same)
 }
@@ -205,7 +203,7 @@ fn over(
         variables: variables_left(alloc, &old.entry, &left.variables, &new.entry, reach)?,
         held: held_left(alloc, &left.held, &new.held, reach)?,
         lines: share_texts(alloc, left.lines.as_slice())?,
-        messages: copied_messages(alloc, left.messages.as_slice())?,
+        messages: shared_messages(alloc, left.messages.as_slice())?,
         stop: left.stop,
         calls: left.calls,
     })

@@ -1,6 +1,7 @@
 //! Styles, entries and steps that tests begin with, spelled in words, and what is left of them.
 
-use crate::{Entry, Input, Meter, Outcome, Rank, Variables, activate};
+use crate::{Entry, Input, Meter, Outcome, Variables, activate};
+use bt_log::Rank;
 use bt_style::{Builtin, Function, Op, Style, Target};
 use bt_text::{Bytes, Held, Sequence, Shared};
 use std::alloc::{AllocError, Global};
@@ -136,12 +137,15 @@ pub fn shown(alloc: Global, outcome: &Outcome) -> Result<Bytes, AllocError> {
     all.append(outcome.held.bytes())?;
     for message in outcome.messages.as_slice() {
         all.append(match message.rank {
-            Rank::Note => b"note: ".as_slice(),
             Rank::Warning => b"warning: ".as_slice(),
             Rank::Error => b"error: ".as_slice(),
             Rank::Fatal => b"fatal: ".as_slice(),
+            _ => b"note: ".as_slice(),
         })?;
         all.append(message.words.as_slice())?;
+        if let (Rank::Error | Rank::Fatal, Some(key)) = (message.rank, &message.entry) {
+            all.append_all(&[b" for entry ", key.as_slice()])?;
+        }
         all.append(b"; ")?;
     }
     if outcome.stop {

@@ -10,8 +10,8 @@ use crate::folder::Folder;
 use crate::loading::{load_all, tell};
 use crate::options::Options;
 use bibtex::Session;
-use bt_job::pair;
 use bt_serve::{Sink, write_all};
+use bt_text::Bytes;
 use std::alloc::{AllocError, Global};
 
 /// What a file that can't be written makes of the exit status.
@@ -119,8 +119,8 @@ pub fn one_shot<F: Folder, O: Sink, E: Sink>(
     };
     let known = err.failures();
     load_all(alloc, &mut session, folder, err, known)?;
-    let bbl = pair(alloc, root, b".bbl")?;
-    let blg = pair(alloc, root, b".blg")?;
+    let bbl = Bytes::of(alloc, &[root, b".bbl"])?;
+    let blg = Bytes::of(alloc, &[root, b".blg"])?;
     let outputs = Outputs {
         session: &session,
         bbl: bbl.as_slice(),

@@ -18,7 +18,7 @@ use Rattle.bt_resolve.specs.Listed.{listed}
 use Rattle.bt_resolve.specs.Inherited.{values_behind, is_left_out, final_crossref, entries_seen}
 use Rattle.bt_resolve.specs.References.{reference_messages, missing_messages, list_messages}
 use Rattle.bt_resolve.specs.Resolved.{stored_entries, preamble, messages, resolved}
-use Rattle.bt_resolve.specs.declared.message.Rank.TheVariants.{Error, Warning}
+use Rattle.bt_log.specs.declared.message.Rank.TheVariants.{Error, Warning}
 use Rattle.bt_resolve.proofs.RowWords.{cited, found, said, entry, told}
 
 -- two children keep their parent in the list, behind what is cited
@@ -45,7 +45,7 @@ one_child_is_enough = refl
 -- an uncited parent that stands before its child is not stored
 parent_in_front :
     found (cited (codes "a" ∷ [])) (codes "@misc{p, title = {T}}\n@misc{a, title = {U}, crossref = {p}}" ∷ []) 2
-    ≡ said (entry (codes "a") None (Some (codes "U")) ∷ []) (told Error (codes "A bad cross reference---entry \"a\"") (Some (codes "refers to entry \"p\", which doesn't exist")) ∷ [])
+    ≡ said (entry (codes "a") None (Some (codes "U")) ∷ []) (told (codes "a") Error (codes "A bad cross reference---entry \"a\"") (Some (codes "refers to entry \"p\", which doesn't exist")) ∷ [])
 unfolding sign enclosed word ended name many parts.part parts.joined parts.value field next_field opening piece next_piece pieces_of value field_value value_warnings macro_before given stored_of stored_among stored_messages item_messages fault_words unclosed_entry listed values_behind is_left_out final_crossref entries_seen reference_messages missing_messages list_messages stored_entries preamble messages resolved
 parent_in_front = refl
 
@@ -66,21 +66,21 @@ own_value_stays = refl
 -- nested references: each inherits from its parent as that is when its turn comes
 nested :
     found (cited (codes "a" ∷ [])) (codes "@misc{a, crossref = {b}}\n@misc{b, crossref = {c}}\n@misc{c, title = {T}}" ∷ []) 1
-    ≡ said (entry (codes "a") (Some (codes "b")) None ∷ entry (codes "b") (Some (codes "c")) (Some (codes "T")) ∷ entry (codes "c") None (Some (codes "T")) ∷ []) (told Warning (codes "Warning--you've nested cross references--entry \"a\"") (Some (codes "refers to entry \"b\", which also refers to something")) ∷ [])
+    ≡ said (entry (codes "a") (Some (codes "b")) None ∷ entry (codes "b") (Some (codes "c")) (Some (codes "T")) ∷ entry (codes "c") None (Some (codes "T")) ∷ []) (told (codes "a") Warning (codes "Warning--you've nested cross references--entry \"a\"") (Some (codes "refers to entry \"b\", which also refers to something")) ∷ [])
 unfolding sign enclosed word ended name many parts.part parts.joined parts.value field next_field opening piece next_piece pieces_of value field_value value_warnings macro_before given stored_of stored_among stored_messages item_messages fault_words unclosed_entry listed values_behind is_left_out final_crossref entries_seen reference_messages missing_messages list_messages stored_entries preamble messages resolved
 nested = refl
 
 -- the same warning where the parents are left out
 nested_left_out :
     found (cited (codes "a" ∷ [])) (codes "@misc{a, crossref = {b}}\n@misc{b, crossref = {c}}\n@misc{c, title = {T}}" ∷ []) 2
-    ≡ said (entry (codes "a") None None ∷ []) (told Warning (codes "Warning--you've nested cross references--entry \"a\"") (Some (codes "refers to entry \"b\", which also refers to something")) ∷ [])
+    ≡ said (entry (codes "a") None None ∷ []) (told (codes "a") Warning (codes "Warning--you've nested cross references--entry \"a\"") (Some (codes "refers to entry \"b\", which also refers to something")) ∷ [])
 unfolding sign enclosed word ended name many parts.part parts.joined parts.value field next_field opening piece next_piece pieces_of value field_value value_warnings macro_before given stored_of stored_among stored_messages item_messages fault_words unclosed_entry listed values_behind is_left_out final_crossref entries_seen reference_messages missing_messages list_messages stored_entries preamble messages resolved
 nested_left_out = refl
 
 -- an entry that refers to itself is its own child
 refers_to_itself :
     found (cited (codes "a" ∷ [])) (codes "@misc{a, crossref = {A}}" ∷ []) 2
-    ≡ said (entry (codes "a") (Some (codes "A")) None ∷ []) (told Warning (codes "Warning--you've nested cross references--entry \"a\"") (Some (codes "refers to entry \"A\", which also refers to something")) ∷ [])
+    ≡ said (entry (codes "a") (Some (codes "A")) None ∷ []) (told (codes "a") Warning (codes "Warning--you've nested cross references--entry \"a\"") (Some (codes "refers to entry \"A\", which also refers to something")) ∷ [])
 unfolding sign enclosed word ended name many parts.part parts.joined parts.value field next_field opening piece next_piece pieces_of value field_value value_warnings macro_before given stored_of stored_among stored_messages item_messages fault_words unclosed_entry listed values_behind is_left_out final_crossref entries_seen reference_messages missing_messages list_messages stored_entries preamble messages resolved
 refers_to_itself = refl
 

@@ -7,7 +7,7 @@ use Rattle.std.proofs.lemmas.Bool.{cases_Bool, cond-true, cond-false}
 use Rattle.std.proofs.lemmas.List.{drop_more, take_more}
 use Rattle.bt_text.specs.Folding.{folded, is_same_folded}
 use Rattle.bt_bib.specs.declared.item.Field.{Field}
-use Rattle.bt_resolve.specs.declared.message.Message.{Message}
+use Rattle.bt_log.specs.declared.message.Message.{Message}
 use Rattle.bt_resolve.specs.declared.fields.Slot.{Slot}
 use Rattle.bt_resolve.specs.declared.fields.Slot.TheVariants.{Crossref, Value}
 use Rattle.bt_resolve.specs.declared.fields.Given.{Given}

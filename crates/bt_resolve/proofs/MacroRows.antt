@@ -58,7 +58,7 @@ macro_of_a_database = refl
 -- a string with a fault defines nothing
 faulty_string :
     found (cited (codes "a" ∷ [])) (codes "@string{s = {T} x}@misc{a, title = s}" ∷ []) 2
-    ≡ said (entry (codes "a") None (Some (codes "S")) ∷ []) (error 1 1 (codes "Missing \"}\" in string command") (codes "I'm skipping whatever remains of this command") ∷ [])
+    ≡ said (entry (codes "a") None (Some (codes "S")) ∷ []) (error 1 1 (Some 16) (codes "Missing \"}\" in string command") (codes "command") ∷ [])
 unfolding sign enclosed word ended name many parts.part parts.joined parts.value field next_field opening piece next_piece pieces_of value field_value value_warnings macro_before given stored_of stored_among stored_messages item_messages fault_words unclosed_entry unclosed_command listed values_behind is_left_out final_crossref entries_seen reference_messages missing_messages list_messages stored_entries preamble messages resolved
 faulty_string = refl
 

@@ -5,9 +5,11 @@ use Rattle.bt_resolve.specs.declared.declared.Cites.{Cites}
 use Rattle.bt_resolve.specs.declared.declared.Declared.{Declared}
 use Rattle.bt_resolve.specs.declared.entry.Entry.{Entry}
 use Rattle.bt_resolve.specs.declared.entry.Resolved.{Resolved}
-use Rattle.bt_resolve.specs.declared.message.Message.{Message}
-use Rattle.bt_resolve.specs.declared.message.Rank.{Rank}
-use Rattle.bt_resolve.specs.declared.message.Rank.TheVariants.{Error, Warning}
+use Rattle.bt_log.specs.declared.message.Message.{Message}
+use Rattle.bt_log.specs.declared.message.Place.TheVariants.{DatabaseLine}
+use Rattle.bt_log.specs.Message.{plain, at, skipping}
+use Rattle.bt_log.specs.declared.message.Rank.{Rank}
+use Rattle.bt_log.specs.declared.message.Rank.TheVariants.{Warning}
 use Rattle.bt_resolve.specs.Resolved.{resolved}
 
 -- a style with the fields `crossref` and `title`, a function for `misc`, and the macro `s`, which stands for `S`
@@ -37,12 +39,18 @@ said entries messages = record { entries = entries; preamble = []; messages = me
 abbrev pub entry : List ℕ → Option (List ℕ) → Option (List ℕ) → Entry
 entry key crossref title = record { key = key; kind = codes "misc"; function = Some 0; fields = crossref ∷ title ∷ [] }
 
+-- a warning at a line of a database
 abbrev pub warning : ℕ → ℕ → List ℕ → Message
-warning database line words = record { rank = Warning; place = Some (record { database = database; line = line }); words = words; second = None }
+warning database line words = at (DatabaseLine database line None) (plain Warning words)
 
-abbrev pub error : ℕ → ℕ → List ℕ → List ℕ → Message
-error database line words second = record { rank = Error; place = Some (record { database = database; line = line }); words = words; second = Some second }
+-- an error at a line of a database, and at a byte where that is known
+abbrev pub error : ℕ → ℕ → Option ℕ → List ℕ → List ℕ → Message
+error database line byte words second = skipping words (DatabaseLine database line byte) second
+
+-- a message about the entry of a key
+abbrev pub about : List ℕ → Message → Message
+about key m = record m { entry = Some key }
 
 -- a message about the list
-abbrev pub told : Rank → List ℕ → Option (List ℕ) → Message
-told rank words second = record { rank = rank; place = None; words = words; second = second }
+abbrev pub told : List ℕ → Rank → List ℕ → Option (List ℕ) → Message
+told key rank words second = about key (record (plain rank words) { second = second })

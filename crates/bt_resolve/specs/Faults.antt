@@ -8,19 +8,12 @@ use Rattle.bt_bib.specs.declared.item.Closing.{Closing}
 use Rattle.bt_bib.specs.declared.item.Closing.TheVariants.{Brace, Parenthesis}
 use Rattle.bt_bib.specs.declared.item.Content.{Content}
 use Rattle.bt_bib.specs.declared.item.Content.TheVariants as contents
-use Rattle.bt_resolve.specs.declared.message.Message.{Message}
-use Rattle.bt_resolve.specs.declared.message.Rank.TheVariants.{Error}
-use Rattle.bt_resolve.specs.Warnings.{quoted}
+use Rattle.bt_bib.specs.declared.spot.Spot.{Spot}
+use Rattle.bt_log.specs.declared.message.Place.TheVariants.{DatabaseLine}
+use Rattle.bt_log.specs.declared.message.Message.{Message}
+use Rattle.bt_log.specs.Message.{skipping}
 
-abbrev pub error_at : ℕ → ℕ → List ℕ → List ℕ → Message
-error_at database line words dropped = record {
-  rank = Error;
-  place = Some (record { database = database; line = line });
-  words = words;
-  second = Some (codes "I'm skipping whatever remains of this " ++ dropped);
-}
-
--- what is dropped behind a fault
+-- what is dropped after a fault
 abbrev pub dropped_name : Content → List ℕ
 dropped_name (contents.Entry e) = codes "entry"
 dropped_name (contents.Define d) = codes "command"
@@ -38,31 +31,42 @@ sign_of (Some Brace) = 125
 sign_of (Some Parenthesis) = 41
 
 -- an entry that isn't closed, and a command of this name
-unfoldable pub unclosed_entry : ℕ → List ℕ
-unclosed_entry sign = codes "I was expecting a `,' or a `" ++ sign ∷ codes "'"
+unfoldable pub unclosed_entry : List ℕ → List ℕ
+unclosed_entry sign = codes "I was expecting a `,' or a `" ++ sign ++ codes "'"
 
-unfoldable pub unclosed_command : List ℕ → ℕ → List ℕ
-unclosed_command name sign = codes "Missing " ++ quoted (sign ∷ []) ++ codes " in " ++ name ++ codes " command"
+unfoldable pub unclosed_command : List ℕ → List ℕ → List ℕ
+unclosed_command name sign = codes "Missing \"" ++ sign ++ codes "\" in " ++ name ++ codes " command"
 
 abbrev pub unclosed : Content → Option Closing → List ℕ
-unclosed (contents.Entry e) close = unclosed_entry (sign_of close)
-unclosed (contents.Define d) close = unclosed_command (codes "string") (sign_of close)
-unclosed (contents.Preamble parts) close = unclosed_command (codes "preamble") (sign_of close)
+unclosed (contents.Entry e) close = unclosed_entry (sign_of close ∷ [])
+unclosed (contents.Define d) close = unclosed_command (codes "string") (sign_of close ∷ [])
+unclosed (contents.Preamble parts) close = unclosed_command (codes "preamble") (sign_of close ∷ [])
 
 unfoldable pub fault_words : Content → Option Closing → Fault → List ℕ
 fault_words content close EndOfFile = codes "Illegal end of database file"
 fault_words content close (MissingName what) = codes "You're missing " ++ what_name what
-fault_words content close (BadNameEnd what byte) = quoted (byte ∷ []) ++ codes " immediately follows " ++ what_name what
+fault_words content close (BadNameEnd what byte) = codes "\"" ++ (byte ∷ []) ++ codes "\" immediately follows " ++ what_name what
 fault_words content close ExpectedOpen = codes "I was expecting a `{' or a `('"
 fault_words content close ExpectedCommaOrClose = unclosed content close
 fault_words content close ExpectedEquals = codes "I was expecting an `='"
 fault_words content close UnbalancedBraces = codes "Unbalanced braces"
 fault_words content close MissingPart = codes "You're missing a field part"
 
--- the error of an item with a fault, at the fault's line
-abbrev pub fault_messages : ℕ → ℕ → Content → Option Closing → Option Fault → List Message
-fault_messages database line content close None = []
-fault_messages database line content close (Some fault) = error_at database line (fault_words content close fault) (dropped_name content) ∷ []
+-- the key of an entry, if it has one
+abbrev pub key_of : Content → Option (List ℕ)
+key_of (contents.Entry e) = e.key
+key_of (contents.Define d) = None
+key_of (contents.Preamble parts) = None
 
-abbrev pub repeated : ℕ → ℕ → Message
-repeated database line = error_at database line (codes "Repeated entry") (codes "entry")
+-- the error of a fault at a place of a database
+abbrev pub fault_error : ℕ → Spot → Content → Option Closing → Fault → Message
+fault_error database end content close fault =
+    record (skipping (fault_words content close fault) (DatabaseLine database end.line (Some end.place)) (dropped_name content)) { entry = key_of content }
+
+-- the error of an item with a fault, at the fault's place
+abbrev pub fault_messages : ℕ → Spot → Content → Option Closing → Option Fault → List Message
+fault_messages database end content close None = []
+fault_messages database end content close (Some fault) = fault_error database end content close fault ∷ []
+
+abbrev pub repeated : ℕ → ℕ → List ℕ → Message
+repeated database line key = record (skipping (codes "Repeated entry") (DatabaseLine database line None) (codes "entry")) { entry = Some key }

@@ -3,7 +3,7 @@ use Rattle.std.specs.Prelude.{ℕ, Bool, ◌||◌, List, [], ◌∷◌, ◌++◌
 use Rattle.std.specs.List.{list_any}
 use Rattle.bt_text.specs.Folding.{is_same_folded}
 use Rattle.bt_bib.specs.declared.item.Field.{Field}
-use Rattle.bt_resolve.specs.declared.message.Message.{Message}
+use Rattle.bt_log.specs.declared.message.Message.{Message}
 use Rattle.bt_text.specs.NameList.{has_name}
 use Rattle.bt_resolve.specs.Names.{crossref}
 use Rattle.bt_resolve.specs.Warnings.{extra_field}

@@ -8,7 +8,7 @@ use Rattle.bt_bib.specs.declared.item.Content.TheVariants as contents
 use Rattle.bt_bib.specs.declared.item.Entry.{Entry}
 use Rattle.bt_resolve.specs.declared.asked.Asked.{Asked}
 use Rattle.bt_resolve.specs.declared.declared.Macro.{Macro}
-use Rattle.bt_resolve.specs.declared.message.Message.{Message}
+use Rattle.bt_log.specs.declared.message.Message.{Message}
 use Rattle.bt_resolve.specs.declared.stored.Stored.{Stored}
 use Rattle.bt_resolve.specs.Names.{place_of_name}
 use Rattle.bt_resolve.specs.Values.{MacroTexts, value, value_warnings}
@@ -30,7 +30,7 @@ stored_messages a macros database line e key =
 -- of an entry that is wanted or not, and whose key is stored already or not
 abbrev pub wanted_messages : Bool → Bool → Asked → MacroTexts → ℕ → ℕ → Entry → List ℕ → List Message
 wanted_messages false again a macros database line e key = []
-wanted_messages true true a macros database line e key = repeated database line ∷ []
+wanted_messages true true a macros database line e key = repeated database line key ∷ []
 wanted_messages true false a macros database line e key = stored_messages a macros database line e key
 
 abbrev pub key_messages : Asked → MacroTexts → List Stored → ℕ → ℕ → Entry → Option (List ℕ) → List Message
@@ -55,7 +55,7 @@ content_messages a macros stored database line fault (contents.Preamble parts) =
 unfoldable pub item_messages : Asked → MacroTexts → List Stored → ℕ → Item → List Message
 item_messages a macros stored database item =
     content_messages a macros stored database item.line item.fault item.content
-    ++ fault_messages database item.end.line item.content item.close item.fault
+    ++ fault_messages database item.end item.content item.close item.fault
 
 -- for each item what f makes of it and of the items before it
 abbrev pub for_each : {A : Type 0} → (List Item → Item → List A) → List Item → List Item → List A

@@ -3,7 +3,7 @@ use Rattle.std.specs.Prelude.{ℕ, ◌+◌, List, [], ◌∷◌, ◌++◌}
 use Rattle.bt_bib.specs.declared.item.Item.{Item}
 use Rattle.bt_resolve.specs.declared.asked.Asked.{Asked}
 use Rattle.bt_resolve.specs.declared.declared.Macro.{Macro}
-use Rattle.bt_resolve.specs.declared.message.Message.{Message}
+use Rattle.bt_log.specs.declared.message.Message.{Message}
 use Rattle.bt_resolve.specs.declared.stored.Stored.{Stored}
 use Rattle.bt_resolve.specs.declared.state.Reading.{Reading}
 use Rattle.bt_text.specs.ByName.{known}

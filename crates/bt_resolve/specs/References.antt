@@ -2,32 +2,30 @@
 use Rattle.std.specs.Prelude.{ℕ, List, [], ◌∷◌, ◌++◌, slice_get, codes, Option, Some, None, is_some, option_and_then, if◌then◌else◌}
 use Rattle.std.specs.List.{flat_map}
 use Rattle.bt_resolve.specs.declared.asked.Asked.{Asked}
-use Rattle.bt_resolve.specs.declared.message.Message.{Message}
-use Rattle.bt_resolve.specs.declared.message.Rank.TheVariants.{Warning, Error}
+use Rattle.bt_log.specs.declared.message.Rank.{Rank}
+use Rattle.bt_log.specs.declared.message.Rank.TheVariants.{Warning, Error}
+use Rattle.bt_log.specs.declared.message.Message.{Message}
 use Rattle.bt_resolve.specs.declared.stored.Stored.{Stored}
-use Rattle.bt_resolve.specs.Warnings.{quoted}
 use Rattle.bt_resolve.specs.Stored.{is_stored}
 use Rattle.bt_resolve.specs.Listed.{place_of_key, listed}
 use Rattle.bt_resolve.specs.Inherited.{spelled}
 
+-- a message about the entry of a key
+abbrev pub about : Rank → List ℕ → List ℕ → Option (List ℕ) → Message
+about rank key words second = record { rank = rank; words = words; entry = Some key; place = None; second = second }
+
 abbrev pub bad_reference : List ℕ → List ℕ → Message
-bad_reference key parent = record {
-  rank = Error;
-  place = None;
-  words = codes "A bad cross reference---entry " ++ quoted key;
-  second = Some (codes "refers to entry " ++ quoted parent ++ codes ", which doesn't exist");
-}
+bad_reference key parent =
+    about Error key (codes "A bad cross reference---entry \"" ++ key ++ codes "\"")
+    (Some (codes "refers to entry \"" ++ parent ++ codes "\", which doesn't exist"))
 
 abbrev pub nested : List ℕ → List ℕ → Message
-nested key parent = record {
-  rank = Warning;
-  place = None;
-  words = codes "Warning--you've nested cross references--entry " ++ quoted key;
-  second = Some (codes "refers to entry " ++ quoted parent ++ codes ", which also refers to something");
-}
+nested key parent =
+    about Warning key (codes "Warning--you've nested cross references--entry \"" ++ key ++ codes "\"")
+    (Some (codes "refers to entry \"" ++ parent ++ codes "\", which also refers to something"))
 
 abbrev pub no_entry : List ℕ → Message
-no_entry key = record { rank = Warning; place = None; words = codes "Warning--I didn't find a database entry for " ++ quoted key; second = None }
+no_entry key = about Warning key (codes "Warning--I didn't find a database entry for \"" ++ key ++ codes "\"") None
 
 abbrev pub parent_messages : List ℕ → List ℕ → Option Stored → List Message
 parent_messages key name None = bad_reference key name ∷ []

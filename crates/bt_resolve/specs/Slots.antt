@@ -2,7 +2,7 @@
 use Rattle.std.specs.Prelude.{ℕ, Bool, true, List, [], ◌∷◌, ◌++◌, is_some, slice_get, slice_set, Option, Some, None, option_map, if◌then◌else◌}
 use Rattle.bt_text.specs.Folding.{is_same_folded}
 use Rattle.bt_bib.specs.declared.item.Field.{Field}
-use Rattle.bt_resolve.specs.declared.message.Message.{Message}
+use Rattle.bt_log.specs.declared.message.Message.{Message}
 use Rattle.bt_resolve.specs.declared.fields.Slot.{Slot}
 use Rattle.bt_resolve.specs.declared.fields.Slot.TheVariants.{Crossref, Value}
 use Rattle.bt_resolve.specs.declared.fields.Given.{Given}

@@ -146,7 +146,7 @@ pub fn read_entry(
     match standing_of(alloc, asked, &store, key.as_slice())? {
         Standing::Unwanted => Ok(store),
         Standing::Repeated => {
-            messages.push(repeated(alloc, place)?)?;
+            messages.push(repeated(alloc, place, key)?)?;
             Ok(store)
         }
         Standing::First => {

@@ -1,31 +1,12 @@
 //! The words of the errors of items.
 
 ghost use Rattle.std.specs.Prelude.{◌≡◌, ◌++◌, IfOk, OnOk, codes};
-ghost use Rattle.bt_resolve.specs.Faults.{dropped_name, error_at, fault_messages, fault_words, repeated, sign_of, unclosed, unclosed_command, unclosed_entry, what_name};
+ghost use Rattle.bt_resolve.specs.Faults.{dropped_name, fault_error, fault_messages, fault_words, key_of, repeated, sign_of, unclosed, unclosed_command, unclosed_entry, what_name};
 
-use crate::message::{Message, Place, Rank};
-use crate::warnings::around_quoted;
 use bt_bib::{Closing, Content, Fault, Item, What};
-use bt_text::{Bytes, Sequence};
+use bt_log::{Message, Place};
+use bt_text::{Bytes, Sequence, Shared};
 use std::alloc::{AllocError, Global};
-
-fn error_at(
-    alloc: Global,
-    place: Place,
-    words: Bytes,
-    dropped: &[u8],
-) -> Result<Message, AllocError>
-    ensures { IfOk result (λ message. message ≡ error_at place.database place.line words dropped.now) }
-{
-    let mut second = Bytes::copied(alloc, b"I'm skipping whatever remains of this ")?;
-    second.append(dropped)?;
-    Ok(Message {
-        rank: Rank::Error,
-        place: Some(place),
-        words,
-        second: Some(second),
-    })
-}
 
 fn dropped_name(content: &Content) -> &'static [u8]
     ensures { result.now ≡ dropped_name content.now }
@@ -59,34 +40,42 @@ fn sign_of(close: Option<Closing>) -> u8
 }
 
 #[tactic(auto, unfolding(crate::specs::Faults::unclosed_entry))]
-fn unclosed_entry(alloc: Global, sign: u8) -> Result<Bytes, AllocError>
-    ensures { IfOk result (λ words. words ≡ unclosed_entry sign) }
+fn unclosed_entry(alloc: Global, sign: &[u8]) -> Result<Bytes, AllocError>
+    ensures { IfOk result (λ words. words ≡ unclosed_entry sign.now) }
 {
-    let mut words = Bytes::copied(alloc, b"I was expecting a `,' or a `")?;
-    words.append(&[sign])?;
-    words.append(b"'")?;
-    Ok(words)
+    Bytes::of(alloc, &[b"I was expecting a `,' or a `", sign, b"'"])
 }
 
 #[tactic(auto, unfolding(crate::specs::Faults::unclosed_command))]
-fn unclosed_command(alloc: Global, name: &[u8], sign: u8) -> Result<Bytes, AllocError>
-    ensures { IfOk result (λ words. words ≡ unclosed_command name.now sign) }
+fn unclosed_command(alloc: Global, name: &[u8], sign: &[u8]) -> Result<Bytes, AllocError>
+    ensures { IfOk result (λ words. words ≡ unclosed_command name.now sign.now) }
 {
-    let mut words = around_quoted(alloc, b"Missing ", &[sign], b" in ")?;
-    words.append(name)?;
-    words.append(b" command")?;
-    Ok(words)
+    Bytes::of(alloc, &[b"Missing \"", sign, b"\" in ", name, b" command"])
 }
 
 fn unclosed(alloc: Global, content: &Content, close: Option<Closing>) -> Result<Bytes, AllocError>
     ensures { IfOk result (λ words. words ≡ unclosed content.now close) }
 {
-    let sign = sign_of(close);
+    let sign = &[sign_of(close)];
     match content {
         Content::Entry(_) => unclosed_entry(alloc, sign),
         Content::Define(_) => unclosed_command(alloc, b"string", sign),
         Content::Preamble(_) => unclosed_command(alloc, b"preamble", sign),
     }
+}
+
+/// A thing of this name is missing.
+fn missing(alloc: Global, name: &[u8]) -> Result<Bytes, AllocError>
+    ensures { IfOk result (λ words. words ≡ codes "You're missing " ++ name.now) }
+{
+    Bytes::of(alloc, &[b"You're missing ", name])
+}
+
+/// A thing of this name is followed by a sign that can't follow it.
+fn followed(alloc: Global, sign: &[u8], name: &[u8]) -> Result<Bytes, AllocError>
+    ensures { IfOk result (λ words. words ≡ codes "\"" ++ sign.now ++ codes "\" immediately follows " ++ name.now) }
+{
+    Bytes::of(alloc, &[b"\"", sign, b"\" immediately follows ", name])
 }
 
 #[tactic(auto, unfolding(crate::specs::Faults::fault_words))]
@@ -100,16 +89,8 @@ fn fault_words(
 {
     match fault {
         Fault::EndOfFile => Bytes::copied(alloc, b"Illegal end of database file"),
-        Fault::MissingName(what) => {
-            let mut words = Bytes::copied(alloc, b"You're missing ")?;
-            words.append(what_name(what))?;
-            Ok(words)
-        }
-        Fault::BadNameEnd(what, byte) => {
-            let mut words = around_quoted(alloc, b"", &[byte], b" immediately follows ")?;
-            words.append(what_name(what))?;
-            Ok(words)
-        }
+        Fault::MissingName(what) => missing(alloc, what_name(what)),
+        Fault::BadNameEnd(what, byte) => followed(alloc, &[byte], what_name(what)),
         Fault::ExpectedOpen => Bytes::copied(alloc, b"I was expecting a `{' or a `('"),
         Fault::ExpectedCommaOrClose => unclosed(alloc, content, close),
         Fault::ExpectedEquals => Bytes::copied(alloc, b"I was expecting an `='"),
@@ -118,7 +99,40 @@ fn fault_words(
     }
 }
 
-/// Tells the fault of an item, if it has one.
+/// The key of an entry, if it has one.
+fn key_of(content: &Content) -> Result<Option<Shared<Bytes>>, AllocError>
+    ensures { IfOk result (λ key. key ≡ key_of content.now) }
+{
+    match content {
+        Content::Entry(entry) => match &entry.key {
+            None => Ok(None),
+            Some(key) => Ok(Some(key.share()?)),
+        },
+        Content::Define(_) | Content::Preamble(_) => Ok(None),
+    }
+}
+
+/// The error of a fault at a place.
+fn fault_error(
+    alloc: Global,
+    database: usize,
+    item: &Item,
+    fault: Fault,
+) -> Result<Message, AllocError>
+    ensures { IfOk result (λ message. message ≡ fault_error database item.now.end item.now.content item.now.close fault) }
+{
+    let words = fault_words(alloc, &item.content, item.close, fault)?;
+    let place = Place::DatabaseLine {
+        database,
+        line: item.end.line,
+        byte: Some(item.end.place),
+    };
+    let mut message = Message::skipping(alloc, words, place, dropped_name(&item.content))?;
+    message.entry = key_of(&item.content)?;
+    Ok(message)
+}
+
+/// Reports the fault of an item, if it has one.
 pub fn tell_fault(
     alloc: Global,
     database: usize,
@@ -126,24 +140,27 @@ pub fn tell_fault(
     messages: &mut Sequence<Message>,
 ) -> Result<(), AllocError>
     ensures { OnOk result (messages.new ≡ messages.old
-        ++ fault_messages database item.now.end.line item.now.content item.now.close item.now.fault) }
+        ++ fault_messages database item.now.end item.now.content item.now.close item.now.fault) }
 {
     match item.fault {
         None => Ok(()),
         Some(fault) => {
-            let words = fault_words(alloc, &item.content, item.close, fault)?;
-            let line = item.end.line;
-            let place = Place { database, line };
-            messages.push(error_at(alloc, place, words, dropped_name(&item.content))?)?;
+            messages.push(fault_error(alloc, database, item, fault)?)?;
             Ok(())
         }
     }
 }
 
 /// An entry whose key is stored already.
-pub fn repeated(alloc: Global, place: Place) -> Result<Message, AllocError>
-    ensures { IfOk result (λ message. message ≡ repeated place.database place.line) }
+pub fn repeated(
+    alloc: Global,
+    place: crate::message::Place,
+    key: &Shared<Bytes>,
+) -> Result<Message, AllocError>
+    ensures { IfOk result (λ message. message ≡ repeated place.database place.line key.now) }
 {
     let words = Bytes::copied(alloc, b"Repeated entry")?;
-    error_at(alloc, place, words, b"entry")
+    let mut message = Message::skipping(alloc, words, place.of_message(), b"entry")?;
+    message.entry = Some(key.share()?);
+    Ok(message)
 }

@@ -33,7 +33,7 @@ pub use laws::{
     entries_apart, listed_are_stored, messages_for_each_min, nothing_inherited, stored_are_wanted,
     stored_keys_apart,
 };
-pub use message::{Message, Place, Rank};
+pub use message::Place;
 pub use resolution::resolve;
 
 #[cfg(test)]

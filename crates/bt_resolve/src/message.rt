@@ -1,15 +1,9 @@
-//! Messages about items and entries.
+//! Where a message about an item belongs.
 
-use bt_text::Bytes;
+ghost use Rattle.std.specs.Prelude.{◌≡◌, None};
+ghost use Rattle.bt_log.specs.declared.message.Place.TheVariants.{DatabaseLine};
 
-/// How grave a message is.
-#[derive(Clone, Copy, Debug, PartialEq, Eq)]
-pub enum Rank {
-    /// The run goes on as if nothing were wrong.
-    Warning,
-    /// Something was left out.
-    Error,
-}
+pub use bt_log::Message;
 
 /// A line of a database.
 #[derive(Clone, Copy, Debug, PartialEq, Eq)]
@@ -20,16 +14,15 @@ pub struct Place {
     pub line: usize,
 }
 
-/// A message, as words without a file's name and without a number. Where an error has a place, `---line N of file F`
-/// goes behind its words, in front of its second line; where a warning has one, `--line N of file F` is its second line.
-#[derive(Debug, Drop)]
-pub struct Message {
-    /// How grave it is.
-    pub rank: Rank,
-    /// Where in the databases it belongs; none where it is about the list of entries.
-    pub place: Option<Place>,
-    /// Its first line.
-    pub words: Bytes,
-    /// Its second line, where it has one of words.
-    pub second: Option<Bytes>,
+impl Place {
+    /// The place of a message there.
+    pub fn of_message(self) -> bt_log::Place
+        ensures { result ≡ DatabaseLine self.database self.line None }
+    {
+        bt_log::Place::DatabaseLine {
+            database: self.database,
+            line: self.line,
+            byte: None,
+        }
+    }
 }

@@ -1,73 +1,88 @@
 //! The messages of the list: about cross references, and about cited keys without an entry.
 
-ghost use Rattle.std.specs.Prelude.{◌≡◌, ◌≤◌, ◌++◌, [], codes, length, option_and_then, option_copied, slice_get, IfOk, IfSome, OnOk};
+ghost use Rattle.std.specs.Prelude.{◌≡◌, ◌≤◌, Some, None, ◌++◌, [], codes, length, option_and_then, option_copied, slice_get, IfOk, IfSome, OnOk};
 ghost use Rattle.std.specs.List.{flat_map};
 ghost use Rattle.bt_resolve.specs.Inherited.{spelled};
 ghost use Rattle.bt_resolve.specs.Listed.{place_of_key};
-ghost use Rattle.bt_resolve.specs.References.{bad_reference, crossref_messages, entry_messages, list_messages, missing_messages, nested, no_entry, parent_messages, reference_messages};
+ghost use Rattle.bt_resolve.specs.References.{about, bad_reference, crossref_messages, entry_messages, list_messages, missing_messages, nested, no_entry, parent_messages, reference_messages};
 
 use crate::asked::Asked;
 use crate::family::Family;
-use crate::message::{Message, Rank};
 use crate::stored::Stored;
-use crate::warnings::around_quoted;
+use bt_log::{Message, Rank};
 use bt_text::{Bytes, NameList, Sequence, Shared};
 use std::alloc::{AllocError, Global};
+
+/// A message about the entry of a key.
+fn about(
+    alloc: Global,
+    rank: Rank,
+    key: &[u8],
+    words: Shared<Bytes>,
+    second: Option<Shared<Bytes>>,
+) -> Result<Message, AllocError>
+    ensures { IfOk result (λ message. message ≡ about rank key.now words second) }
+{
+    Ok(Message {
+        rank,
+        words,
+        entry: Some(Shared::<Bytes>::copied(alloc, key)?),
+        place: None,
+        second,
+    })
+}
 
 /// An entry refers to a key that has none.
 fn bad_reference(alloc: Global, key: &[u8], parent: &[u8]) -> Result<Message, AllocError>
     ensures { IfOk result (λ message. message ≡ bad_reference key.now parent.now) }
 {
-    let words = around_quoted(alloc, b"A bad cross reference---entry ", key, b"")?;
-    let second = around_quoted(alloc, b"refers to entry ", parent, b", which doesn't exist")?;
-    Ok(Message {
-        rank: Rank::Error,
-        place: None,
-        words,
-        second: Some(second),
-    })
+    let words = Shared::<Bytes>::of(alloc, &[b"A bad cross reference---entry \"", key, b"\""])?;
+    let second = Shared::<Bytes>::of(
+        alloc,
+        &[b"refers to entry \"", parent, b"\", which doesn't exist"],
+    )?;
+    let message = about(alloc, Rank::Error, key, words, Some(second))?;
+    Ok(message)
 }
 
 /// An entry refers to one that refers to something itself.
 fn nested(alloc: Global, key: &[u8], parent: &[u8]) -> Result<Message, AllocError>
     ensures { IfOk result (λ message. message ≡ nested key.now parent.now) }
 {
-    let words = around_quoted(
+    let words = Shared::<Bytes>::of(
         alloc,
-        b"Warning--you've nested cross references--entry ",
-        key,
-        b"",
+        &[
+            b"Warning--you've nested cross references--entry \"",
+            key,
+            b"\"",
+        ],
     )?;
-    let second = around_quoted(
+    let second = Shared::<Bytes>::of(
         alloc,
-        b"refers to entry ",
-        parent,
-        b", which also refers to something",
+        &[
+            b"refers to entry \"",
+            parent,
+            b"\", which also refers to something",
+        ],
     )?;
-    Ok(Message {
-        rank: Rank::Warning,
-        place: None,
-        words,
-        second: Some(second),
-    })
+    let message = about(alloc, Rank::Warning, key, words, Some(second))?;
+    Ok(message)
 }
 
 /// A cited key has no entry.
 fn no_entry(alloc: Global, key: &[u8]) -> Result<Message, AllocError>
     ensures { IfOk result (λ message. message ≡ no_entry key.now) }
 {
-    let words = around_quoted(
+    let words = Shared::<Bytes>::of(
         alloc,
-        b"Warning--I didn't find a database entry for ",
-        key,
-        b"",
+        &[
+            b"Warning--I didn't find a database entry for \"",
+            key,
+            b"\"",
+        ],
     )?;
-    Ok(Message {
-        rank: Rank::Warning,
-        place: None,
-        words,
-        second: None,
-    })
+    let message = about(alloc, Rank::Warning, key, words, None)?;
+    Ok(message)
 }
 
 /// A key as it is cited, else as in the database.

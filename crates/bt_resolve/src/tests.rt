@@ -1,7 +1,8 @@
 //! What is resolved of some databases.
 
-use crate::{Cites, Declared, Entry, Macro, Message, Rank, Resolved, are_apart, resolve};
+use crate::{Cites, Declared, Entry, Macro, Resolved, are_apart, resolve};
 use bt_bib::read_bib;
+use bt_log::{Message, Place, Rank};
 use bt_text::{Bytes, NameList, Sequence, Shared};
 use std::alloc::{AllocError, Global};
 use std::test::Fail;
@@ -61,12 +62,12 @@ fn show_entry(alloc: Global, entry: &Entry, shown: &mut Bytes) -> Result<(), All
 fn show_message(alloc: Global, message: &Message, shown: &mut Bytes) -> Result<(), AllocError> {
     match message.rank {
         Rank::Error => shown.append(b"error ")?,
-        Rank::Warning => shown.append(b"warning ")?,
+        _ => shown.append(b"warning ")?,
     }
-    if let Some(place) = message.place {
-        show_number(alloc, place.database, shown)?;
+    if let Some(Place::DatabaseLine { database, line, .. }) = &message.place {
+        show_number(alloc, *database, shown)?;
         shown.append(b":")?;
-        show_number(alloc, place.line, shown)?;
+        show_number(alloc, *line, shown)?;
         shown.append(b" ")?;
     }
     shown.append(message.words.as_slice())?;

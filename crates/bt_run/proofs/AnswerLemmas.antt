@@ -10,7 +10,8 @@ use Rattle.bt_actions.specs.declared.entry.Variables.{Variables}
 use Rattle.bt_actions.specs.World.{no_variables}
 use Rattle.bt_job.specs.declared.files.File.{File}
 use Rattle.bt_job.specs.declared.citations.Citations.{Citations}
-use Rattle.bt_job.specs.declared.log.Message.{Message}
+use Rattle.bt_log.specs.declared.message.Message.{Message}
+use Rattle.bt_log.specs.Log.{log_bytes}
 use Rattle.bt_job.specs.Naming.{text_of}
 use Rattle.bt_job.specs.Citations.{citations}
 use Rattle.bt_job.specs.Fit.{IsWithin, IsFit}
@@ -142,6 +143,11 @@ pub meant : (files : List File) (root : List ℕ) (min : ℕ) (c : Citations) (r
 unfolding meaning run_of
 meant files root min c r wanted m is is_run are_wanted is_cited =
     is ∙ (λ j. shown (is_run j) (are_wanted j)) ∙ ap (λ d. shown (run_with files d min d.style) d.wanted) is_cited
+
+-- The log is what the messages are in words.
+pub log_spelled : (files : List File) (root : List ℕ) (min : ℕ) → (meaning files root min).blg ≡ log_bytes (meaning files root min).messages
+unfolding meaning
+log_spelled files root min = refl
 
 -- and so is the report, and what is kept
 

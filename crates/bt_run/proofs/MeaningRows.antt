@@ -1,7 +1,11 @@
 -- Worked examples: what whole texts mean.
 use Rattle.std.specs.Prelude.{codes}
-use Rattle.std.proofs.Common.{◌≡◌, refl, ℕ, List, [], ◌∷◌, ◌++◌, length}
+use Rattle.std.proofs.Common.{◌≡◌, refl, ℕ, List, [], ◌∷◌, ◌++◌, length, None}
 use Rattle.bt_job.specs.declared.files.File.{File}
+use Rattle.bt_log.specs.declared.message.Message.{Message}
+use Rattle.bt_log.specs.declared.message.Rank.TheVariants.{FileLine, Error}
+use Rattle.bt_log.specs.declared.message.Place.TheVariants.{Line}
+use Rattle.bt_log.specs.Message.{plain, at}
 use Rattle.bt_text.specs.Breaking.{near_break}
 use Rattle.bt_text.specs.Widths.{widths}
 use Rattle.bt_bib.specs.AuxLine.{aux_lines}
@@ -81,7 +85,18 @@ Shows files min bbl terse status steps ticks =
 
 -- Whole logs
 
-no_files : run [] 2 ≡ (
+-- what is shown in bytes
+record Written : Type 0 where
+  bbl : List ℕ
+  blg : List ℕ
+  terse : List ℕ
+  status : ℕ
+  wanted : List (List ℕ)
+
+abbrev written : Run → Written × ℕ × ℕ
+written (m, steps, ticks) = (record { bbl = m.bbl; blg = m.blg; terse = m.terse; status = m.status; wanted = m.wanted }, steps, ticks)
+
+no_files : written (run [] 2) ≡ (
   record {
     bbl = [];
     blg = codes "I couldn't open auxiliary file job.aux\n(That was a fatal error)\n";
@@ -99,7 +114,7 @@ no_files = refl
 abbrev keys_style : List ℕ
 keys_style = codes "ENTRY {}{}{}\nFUNCTION {misc} {}\nFUNCTION {f} {\"key \" write$ cite$ write$ newline$}\nREAD\nITERATE {f}\n"
 
-two_citations : run (texts (cites (codes "b,a")) keys_style (codes "@misc{a}@misc{b}")) 2 ≡ (
+two_citations : written (run (texts (cites (codes "b,a")) keys_style (codes "@misc{a}@misc{b}")) 2) ≡ (
   record {
     bbl = codes "key b\nkey a\n";
     blg = codes "The top-level auxiliary file: job.aux\nThe style file: s.bst\nDatabase file #1: x.bib\nThe built-in function-call counts, 8 in all, are:\n> -- 0\n< -- 0\n= -- 0\n+ -- 0\n- -- 0\n* -- 0\n:= -- 0\nadd.period$ -- 0\ncall.type$ -- 0\nchange.case$ -- 0\nchr.to.int$ -- 0\ncite$ -- 2\nduplicate$ -- 0\nempty$ -- 0\nformat.name$ -- 0\nif$ -- 0\nint.to.chr$ -- 0\nint.to.str$ -- 0\nmissing$ -- 0\nnewline$ -- 2\nnum.names$ -- 0\npop$ -- 0\npreamble$ -- 0\npurify$ -- 0\nquote$ -- 0\nskip$ -- 0\nstack$ -- 0\nsubstring$ -- 0\nswap$ -- 0\ntext.length$ -- 0\ntext.prefix$ -- 0\ntop$ -- 0\ntype$ -- 0\nwarning$ -- 0\nwhile$ -- 0\nwidth$ -- 0\nwrite$ -- 4\n";
@@ -114,7 +129,10 @@ unfolding run
 two_citations = refl
 
 -- a name that isn't defined where it stands
-faulty_style : run (texts (cites (codes "a")) (codes "ENTRY {}{}{}\nFUNCTION {f} {g}\nFUNCTION {g} {skip$}\n") (codes "@misc{a}")) 2 ≡ (
+abbrev faulty_texts : List File
+faulty_texts = texts (cites (codes "a")) (codes "ENTRY {}{}{}\nFUNCTION {f} {g}\nFUNCTION {g} {skip$}\n") (codes "@misc{a}")
+
+faulty_style : written (run faulty_texts 2) ≡ (
   record {
     bbl = [];
     blg = codes "The top-level auxiliary file: job.aux\nThe style file: s.bst\nThis name isn't defined---line 2 of file s.bst\n(There was 1 error message)\n";
@@ -128,13 +146,25 @@ faulty_style : run (texts (cites (codes "a")) (codes "ENTRY {}{}{}\nFUNCTION {f}
 unfolding run
 faulty_style = refl
 
+-- the same messages in their parts
+abbrev in_parts : Run → List Message
+in_parts (m, steps, ticks) = m.messages
+
+faulty_style_messages : in_parts (run faulty_texts 2) ≡
+    plain FileLine (codes "The top-level auxiliary file: job.aux")
+    ∷ plain FileLine (codes "The style file: s.bst")
+    ∷ at (Line (codes "s.bst") 2 None) (plain Error (codes "This name isn't defined"))
+    ∷ []
+unfolding run
+faulty_style_messages = refl
+
 -- the same functions in the other order
 right_order : Shows (texts (cites (codes "a")) (codes "ENTRY {}{}{}\nFUNCTION {g} {skip$}\nFUNCTION {f} {g}\n") (codes "@misc{a}")) 2 [] [] 0 0 0
 unfolding run
 right_order = refl
 
 -- a nested file, a database and a style that aren't there
-missing_files : run (file (codes "job.aux") (codes "\\@input{n.aux}\n\\citation{a}\n\\bibdata{x}\n\\bibstyle{s}\n") ∷ []) 2 ≡ (
+missing_files : written (run (file (codes "job.aux") (codes "\\@input{n.aux}\n\\citation{a}\n\\bibdata{x}\n\\bibstyle{s}\n") ∷ []) 2) ≡ (
   record {
     bbl = [];
     blg = codes "The top-level auxiliary file: job.aux\nI couldn't open auxiliary file n.aux---line 1 of file job.aux\nI'm skipping whatever remains of this command\nI couldn't open database file x.bib---line 3 of file job.aux\nI'm skipping whatever remains of this command\nI couldn't open style file s.bst---line 4 of file job.aux\nI'm skipping whatever remains of this command\nI found no database files---while reading file job.aux\nI found no style file---while reading file job.aux\n(There were 5 error messages)\n";

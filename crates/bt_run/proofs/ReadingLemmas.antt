@@ -12,7 +12,7 @@ use Rattle.bt_resolve.specs.declared.declared.Declared.{Declared}
 use Rattle.bt_resolve.specs.declared.declared.Macro.{Macro}
 use Rattle.bt_resolve.specs.declared.entry.Resolved.{Resolved}
 use Rattle.bt_resolve.specs.Resolved.{resolved}
-use Rattle.bt_job.specs.declared.log.Message.{Message}
+use Rattle.bt_log.specs.declared.message.Message.{Message}
 use Rattle.bt_run.specs.Reading.{Job, is_definition, known_macro, declared_before, items_in, found}
 
 abbrev name_of : Definition → List ℕ

@@ -9,18 +9,23 @@ use Rattle.bt_style.specs.declared.fault.FaultKind.TheVariants.{UnknownName}
 use Rattle.bt_style.specs.Builtins.{table}
 use Rattle.bt_style.specs.Tree.{End}
 use Rattle.bt_style.specs.Program.{Program, Definition}
-use Rattle.bt_resolve.specs.declared.message.Message.{Message as FoundMessage}
-use Rattle.bt_resolve.specs.declared.message.Rank.TheVariants as found_rank
-use Rattle.bt_job.specs.declared.log.Message.{Message}
-use Rattle.bt_job.specs.declared.log.Rank.{Rank}
-use Rattle.bt_job.specs.declared.log.Rank.TheVariants.{FileLine, Warning, Error, CallCount}
+use Rattle.bt_log.specs.declared.message.Message.{Message}
+use Rattle.bt_log.specs.declared.message.Rank.{Rank}
+use Rattle.bt_log.specs.declared.message.Rank.TheVariants.{FileLine, Warning, Error, CallCount}
+use Rattle.bt_log.specs.declared.message.Place.TheVariants.{DatabaseLine}
+use Rattle.bt_log.specs.Message.{plain, at, skipping}
+use Rattle.bt_log.specs.Spelling.{spelled}
 use Rattle.bt_run.specs.Sorting.{put_among, sorted}
 use Rattle.bt_run.specs.Reading.{is_definition, functions_before, all_read}
 use Rattle.bt_run.specs.Counts.{all_calls, counts_told}
 use Rattle.bt_run.specs.Meaning.{first_globals, fault_told}
 
-abbrev message : Rank → List ℕ → Message
-message rank words = record { rank = rank; words = words }
+-- a message in words, with its rank
+abbrev message : Rank → List ℕ → Rank × List ℕ
+message rank words = (rank, words)
+
+abbrev in_words : List Message → List (Rank × List ℕ)
+in_words log = map (λ m. (m.rank, spelled m)) log
 
 -- SORT
 
@@ -35,14 +40,14 @@ in_order = refl
 -- READ
 
 -- a warning of the second database, an error of the first, and an error about the list
-abbrev found_messages : List FoundMessage
+abbrev found_messages : List Message
 found_messages =
-    record { rank = found_rank.Error; place = Some (record { database = 1; line = 2 }); words = codes "Repeated entry"; second = Some (codes "I'm skipping whatever remains of this entry") }
-    ∷ record { rank = found_rank.Warning; place = Some (record { database = 2; line = 1 }); words = codes "Warning--string name \"nix\" is undefined"; second = None }
-    ∷ record { rank = found_rank.Error; place = None; words = codes "A bad cross reference---entry \"a\""; second = Some (codes "refers to entry \"p\", which doesn't exist") }
+    skipping (codes "Repeated entry") (DatabaseLine 1 2 None) (codes "entry")
+    ∷ at (DatabaseLine 2 1 None) (plain Warning (codes "Warning--string name \"nix\" is undefined"))
+    ∷ record (plain Error (codes "A bad cross reference---entry \"a\"")) { second = Some (codes "refers to entry \"p\", which doesn't exist") }
     ∷ []
 
-told : all_read (codes "x.bib" ∷ codes "y.bib" ∷ []) found_messages ≡
+told : in_words (all_read (codes "x.bib" ∷ codes "y.bib" ∷ []) found_messages) ≡
     message FileLine (codes "Database file #1: x.bib")
     ∷ message Error (codes "Repeated entry---line 2 of file x.bib\nI'm skipping whatever remains of this entry")
     ∷ message FileLine (codes "Database file #2: y.bib")
@@ -82,13 +87,13 @@ beginning = refl
 
 -- A style's fault
 
-refused : fault_told (codes "s.bst") (record { kind = UnknownName; line = 2 }) ≡ message Error (codes "This name isn't defined---line 2 of file s.bst")
+refused : in_words (fault_told (codes "s.bst") (record { kind = UnknownName; line = 2 }) ∷ []) ≡ message Error (codes "This name isn't defined---line 2 of file s.bst") ∷ []
 unfolding digits
 refused = refl
 
 -- The counts
 
-no_calls : take 2 (counts_told []) ≡ message CallCount (codes "The built-in function-call counts, 0 in all, are:") ∷ message CallCount (codes "> -- 0") ∷ []
+no_calls : in_words (take 2 (counts_told [])) ≡ message CallCount (codes "The built-in function-call counts, 0 in all, are:") ∷ message CallCount (codes "> -- 0") ∷ []
 unfolding counts_told all_calls table digits
 no_calls = refl
 

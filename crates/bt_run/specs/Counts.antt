@@ -2,8 +2,9 @@
 use Rattle.std.specs.Prelude.{ℕ, List, ◌∷◌, ◌++◌, map, sum_by, slice_index_or, codes, decimal}
 use Rattle.bt_style.specs.declared.builtin.Builtin.{Builtin}
 use Rattle.bt_style.specs.Builtins.{Row, table, place_of, name_of}
-use Rattle.bt_job.specs.declared.log.Message.{Message}
-use Rattle.bt_job.specs.declared.log.Rank.TheVariants.{CallCount}
+use Rattle.bt_log.specs.declared.message.Message.{Message}
+use Rattle.bt_log.specs.declared.message.Rank.TheVariants.{CallCount}
+use Rattle.bt_log.specs.Message.{plain}
 use Rattle.bt_run.specs.declared.course.Step.{Step}
 use Rattle.bt_run.specs.declared.course.Course.{Course}
 
@@ -23,7 +24,7 @@ unfoldable pub all_calls : List Step → ℕ
 all_calls trace = sum_by (calls_of trace) table
 
 abbrev pub count_message : List ℕ → Message
-count_message words = record { rank = CallCount; words = words }
+count_message words = plain CallCount words
 
 -- the line of a function
 abbrev pub row_told : List Step → Row → Message

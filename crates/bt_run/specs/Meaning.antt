@@ -1,5 +1,5 @@
 -- What files mean: a run over them from scratch, which knows no edit and no earlier run.
-use Rattle.std.specs.Prelude.{ℕ, ℤ, pos, List, [], ◌∷◌, ◌++◌, map, length, codes, decimal, Option, Some, None, unwrap_or, false, Result, Ok, Err, bytes_eq, if◌then◌else◌}
+use Rattle.std.specs.Prelude.{ℕ, ℤ, pos, List, [], ◌∷◌, ◌++◌, map, codes, Option, Some, None, unwrap_or, false, Result, Ok, Err, bytes_eq, if◌then◌else◌}
 use Rattle.bt_style.specs.declared.fault.Fault.{Fault}
 use Rattle.bt_style.specs.Program.{Program}
 use Rattle.bt_style.specs.Fault.{words_of}
@@ -7,12 +7,14 @@ use Rattle.bt_style.specs.Reader.{style_of}
 use Rattle.bt_actions.specs.declared.entry.Variables.{Variables}
 use Rattle.bt_actions.specs.World.{no_variables}
 use Rattle.bt_job.specs.declared.files.File.{File}
-use Rattle.bt_job.specs.declared.log.Message.{Message}
-use Rattle.bt_job.specs.declared.log.Rank.TheVariants.{Error}
+use Rattle.bt_log.specs.declared.message.Message.{Message}
+use Rattle.bt_log.specs.declared.message.Rank.TheVariants.{Error}
+use Rattle.bt_log.specs.declared.message.Place.TheVariants.{Line}
+use Rattle.bt_log.specs.Message.{plain, at}
 use Rattle.bt_job.specs.declared.citations.Citations.{Citations}
 use Rattle.bt_job.specs.Naming.{text_of}
 use Rattle.bt_job.specs.Citations.{citations}
-use Rattle.bt_job.specs.Log.{status_of, log_bytes, terse_bytes, lines_bytes}
+use Rattle.bt_log.specs.Log.{status_of, log_bytes, terse_bytes, lines_bytes}
 use Rattle.bt_run.specs.declared.course.Course.{Course}
 use Rattle.bt_run.specs.declared.course.Step.{Step}
 use Rattle.bt_run.specs.Reading.{Job}
@@ -49,7 +51,7 @@ begun globals log =
 
 -- the error of a style's fault
 abbrev pub fault_told : List ℕ → Fault → Message
-fault_told file fault = record { rank = Error; words = words_of fault.kind ++ codes "---line " ++ decimal fault.line ++ codes " of file " ++ file }
+fault_told file fault = at (Line file fault.line None) (plain Error (words_of fault.kind))
 
 -- what a run under a style reads
 abbrev pub job_for : List File → Citations → ℕ → List ℕ → Program → Job
@@ -91,11 +93,24 @@ pub record Meaning : Type 0 where
   pub bbl : List ℕ
   pub blg : List ℕ
   pub terse : List ℕ
+  pub messages : List Message
   pub status : ℕ
   pub wanted : List (List ℕ)
 
+-- what these lines, this log and these wanted names show
+abbrev pub shown_of : List (List ℕ) → List Message → List (List ℕ) → Meaning
+shown_of lines log wanted =
+    record {
+      bbl = lines_bytes lines;
+      blg = log_bytes log;
+      terse = terse_bytes log;
+      messages = log;
+      status = status_of log;
+      wanted = wanted;
+    }
+
 abbrev pub shown : Course → List (List ℕ) → Meaning
-shown r wanted = record { bbl = lines_bytes r.lines; blg = log_bytes r.log; terse = terse_bytes r.log; status = status_of r.log; wanted = wanted }
+shown r wanted = shown_of r.lines r.log wanted
 
 -- what files mean from this root, with this min-crossrefs
 unfoldable pub meaning : List File → List ℕ → ℕ → Meaning

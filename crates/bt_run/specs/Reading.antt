@@ -16,15 +16,13 @@ use Rattle.bt_resolve.specs.declared.declared.Declared.{Declared}
 use Rattle.bt_resolve.specs.declared.declared.Macro.{Macro as KnownMacro}
 use Rattle.bt_resolve.specs.declared.entry.Entry.{Entry as FoundEntry}
 use Rattle.bt_resolve.specs.declared.entry.Resolved.{Resolved}
-use Rattle.bt_resolve.specs.declared.message.Message.{Message as FoundMessage}
-use Rattle.bt_resolve.specs.declared.message.Place.{Place}
-use Rattle.bt_resolve.specs.declared.message.Rank.{Rank as FoundRank}
-use Rattle.bt_resolve.specs.declared.message.Rank.TheVariants as found_rank
 use Rattle.bt_resolve.specs.Resolved.{resolved}
 use Rattle.bt_job.specs.declared.files.File.{File}
-use Rattle.bt_job.specs.declared.log.Message.{Message}
-use Rattle.bt_job.specs.declared.log.Rank.{Rank}
-use Rattle.bt_job.specs.declared.log.Rank.TheVariants.{FileLine, Warning, Error}
+use Rattle.bt_log.specs.declared.message.Message.{Message}
+use Rattle.bt_log.specs.declared.message.Rank.TheVariants.{FileLine}
+use Rattle.bt_log.specs.declared.message.Place.{Place}
+use Rattle.bt_log.specs.declared.message.Place.TheVariants.{Line, DatabaseLine, WholeFile, Step}
+use Rattle.bt_log.specs.Message.{plain}
 use Rattle.bt_job.specs.Naming.{text_of}
 use Rattle.bt_run.specs.declared.course.Course.{Course}
 
@@ -88,53 +86,50 @@ entered p e = record { key = e.key; kind = e.kind; function = e.function; fields
 
 -- Messages
 
-abbrev pub log_rank : FoundRank → Rank
-log_rank found_rank.Warning = Warning
-log_rank found_rank.Error = Error
-
--- where a message belongs: in an error behind its words, in a warning on a line of its own
-abbrev pub line_words : FoundRank → List ℕ → ℕ → List ℕ
-line_words found_rank.Error file line = codes "---line " ++ decimal line ++ codes " of file " ++ file
-line_words found_rank.Warning file line = codes "\n--line " ++ decimal line ++ codes " of file " ++ file
-
-abbrev pub place_words : FoundRank → List ℕ → Option Place → List ℕ
-place_words rank file None = []
-place_words rank file (Some place) = line_words rank file place.line
-
-abbrev pub second_line : Option (List ℕ) → List ℕ
-second_line None = []
-second_line (Some words) = codes "\n" ++ words
+-- A line of a database is a line of this file.
+abbrev pub in_file : List ℕ → Option Place → Option Place
+in_file file None = None
+in_file file (Some (DatabaseLine database line byte)) = Some (Line file line byte)
+in_file file (Some (Line other line byte)) = Some (Line other line byte)
+in_file file (Some (WholeFile other)) = Some (WholeFile other)
+in_file file (Some (Step style line)) = Some (Step style line)
 
 -- a message in the log, where it is one about a database in this file
-abbrev pub told_of : List ℕ → FoundMessage → Message
-told_of file m = record { rank = log_rank m.rank; words = m.words ++ place_words m.rank file m.place ++ second_line m.second }
+abbrev pub told_of : List ℕ → Message → Message
+told_of file m = record m { place = in_file file m.place }
 
 -- whether a message is about the database of a number
 abbrev pub is_about : ℕ → Option Place → Bool
 is_about number None = false
-is_about number (Some place) = place.database == number
+is_about number (Some (DatabaseLine database line byte)) = database == number
+is_about number (Some (Line file line byte)) = false
+is_about number (Some (WholeFile file)) = false
+is_about number (Some (Step style line)) = false
 
 -- whether a message is about no database
 abbrev pub is_general : Option Place → Bool
 is_general None = true
-is_general (Some place) = false
+is_general (Some (DatabaseLine database line byte)) = false
+is_general (Some (Line file line byte)) = true
+is_general (Some (WholeFile file)) = true
+is_general (Some (Step style line)) = true
 
 -- the line of a database of this number
 abbrev pub file_line : ℕ → List ℕ → Message
-file_line number file = record { rank = FileLine; words = codes "Database file #" ++ decimal number ++ codes ": " ++ file }
+file_line number file = plain FileLine (codes "Database file #" ++ decimal number ++ codes ": " ++ file)
 
 -- a database of this number: its line, and the messages about it
-abbrev pub database_told : ℕ → List ℕ → List FoundMessage → List Message
-database_told number file messages = file_line number file ∷ map (told_of file) (filter (λ (m : FoundMessage). is_about number m.place) messages)
+abbrev pub database_told : ℕ → List ℕ → List Message → List Message
+database_told number file messages = file_line number file ∷ map (told_of file) (filter (λ (m : Message). is_about number m.place) messages)
 
 -- databases in order, numbered from here on
-abbrev pub databases_told : ℕ → List (List ℕ) → List FoundMessage → List Message
+abbrev pub databases_told : ℕ → List (List ℕ) → List Message → List Message
 databases_told number [] messages = []
 databases_told number (file ∷ files) messages = database_told number file messages ++ databases_told (number + 1) files messages
 
 -- all databases, then the messages that are about none
-abbrev pub all_read : List (List ℕ) → List FoundMessage → List Message
-all_read databases messages = databases_told 1 databases messages ++ map (told_of []) (filter (λ (m : FoundMessage). is_general m.place) messages)
+abbrev pub all_read : List (List ℕ) → List Message → List Message
+all_read databases messages = databases_told 1 databases messages ++ filter (λ (m : Message). is_general m.place) messages
 
 -- The command
 

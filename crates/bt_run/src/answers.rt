@@ -7,7 +7,7 @@ ghost use Rattle.bt_run.specs.Work.{IsConsistent};
 ghost use Rattle.bt_run.specs.Steps.{IsTaken};
 ghost use Rattle.bt_run.specs.Kept.{named_text, style_text, report_after};
 ghost use Rattle.bt_actions.specs.World.{no_variables};
-ghost use Rattle.bt_run.specs.Meaning.{carried, refused, run_with, shown, meaning, trace};
+ghost use Rattle.bt_run.specs.Meaning.{carried, refused, run_with, shown_of, meaning, trace};
 ghost use Rattle.bt_run.specs.JobView.{job_of};
 ghost use Rattle.bt_run.specs.Shown.{meaning_of};
 
@@ -19,9 +19,8 @@ use crate::job::{Job, shared_text};
 use crate::kept::{Kept, steps_under};
 use crate::reuse::Reuse;
 use bt_actions::Variables;
-use bt_job::{
-    Citations, File, Message, lines_bytes, log_bytes, read_citations, status, terse_bytes,
-};
+use bt_job::{Citations, File, read_citations};
+use bt_log::{Message, lines_bytes, log_bytes, status, terse_bytes};
 use bt_machine::Meter;
 use bt_resolve::Cites;
 use bt_style::{Fault, StyleRefusal, fields_are_apart, read_style};
@@ -37,6 +36,8 @@ pub struct Answers {
     pub blg: Bytes,
     /// The log without the lines of files and the counts of calls.
     pub terse: Bytes,
+    /// The messages of the log in their parts, in order.
+    pub messages: Sequence<Message>,
     /// 0 where the run was clean, 1 behind warnings, 2 behind errors, 3 behind a fatal error.
     pub status: u8,
     /// The names of the files that were looked for and not found, in order, each once.
@@ -181,15 +182,21 @@ fn run_with(
     }
 }
 
-/// What a run shows.
-fn show(alloc: Global, course: &Course, wanted: Sequence<Bytes>) -> Result<Answers, AllocError>
-    ensures { IfOk result (λ answers. meaning_of answers ≡ shown course.now wanted) }
+/// What a run of these lines, this log and these wanted names shows.
+fn show(
+    alloc: Global,
+    lines: &Sequence<Shared<Bytes>>,
+    log: Sequence<Message>,
+    wanted: Sequence<Bytes>,
+) -> Result<Answers, AllocError>
+    ensures { IfOk result (λ answers. meaning_of answers ≡ shown_of lines.now log wanted) }
 {
     Ok(Answers {
-        bbl: lines_bytes(alloc, course.lines.as_slice())?,
-        blg: log_bytes(alloc, course.log.as_slice())?,
-        terse: terse_bytes(alloc, course.log.as_slice())?,
-        status: status(course.log.as_slice()),
+        bbl: lines_bytes(alloc, lines.as_slice())?,
+        blg: log_bytes(alloc, log.as_slice())?,
+        terse: terse_bytes(alloc, log.as_slice())?,
+        status: status(log.as_slice()),
+        messages: log,
         wanted,
     })
 }
@@ -231,15 +238,20 @@ pub fn answers_after(
         wanted,
         text,
     } = ran;
-    let answers = show(alloc, &course, wanted)?;
-    let steps = course.trace.len();
+    let Course {
+        lines,
+        log,
+        trace,
+        ..
+    } = course;
+    let answers = show(alloc, &lines, log, wanted)?;
+    let steps = trace.len();
     let report = Report {
         status: answers.status,
         ran: reuse.ran as u64,
         reused: steps as u64 - reuse.ran as u64,
         ticks: reuse.meter.value(),
     };
-    let Course { trace, .. } = course;
     let kept = Kept { text, steps: trace };
     Ok(Run {
         answers,

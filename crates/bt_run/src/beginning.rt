@@ -7,10 +7,9 @@ ghost use Rattle.bt_run.specs.Meaning.{first_number, first_globals, begun, fault
 use crate::course::Course;
 use crate::declaring::empty_texts;
 use bt_actions::Variables;
-use bt_job::{Message, Rank};
+use bt_log::{Message, Place, Rank};
 use bt_style::{Fault, Style};
 use bt_text::{Bytes, Held, Sequence, Shared};
-use itoa::Buffer;
 use std::alloc::{AllocError, Global};
 
 /// The value of a global number at the start.
@@ -72,14 +71,16 @@ pub fn begin(
 pub fn fault_told(alloc: Global, file: &[u8], fault: Fault) -> Result<Message, AllocError>
     ensures { IfOk result (λ message. message ≡ fault_told file.now fault) }
 {
-    let mut buffer = Buffer::new();
-    let mut words = Bytes::copied(alloc, fault.kind.words())?;
-    words.append(b"---line ")?;
-    words.append(buffer.format(fault.line).as_bytes())?;
-    words.append(b" of file ")?;
-    words.append(file)?;
+    let place = Place::Line {
+        file: Shared::<Bytes>::copied(alloc, file)?,
+        line: fault.line,
+        byte: None,
+    };
     Ok(Message {
         rank: Rank::Error,
-        words,
+        words: Shared::<Bytes>::copied(alloc, fault.kind.words())?,
+        entry: None,
+        place: Some(place),
+        second: None,
     })
 }

@@ -15,7 +15,7 @@ use crate::reuse::Reuse;
 use crate::sorting::sorted_places;
 use crate::stepping::take_step;
 use bt_style::{Action, Command, Style, Target};
-use bt_text::Bytes;
+use bt_text::{Bytes, Shared};
 use std::alloc::{AllocError, Global};
 
 /// Takes a step for the entry at a place, unless a step has stopped the run.
@@ -137,7 +137,7 @@ fn site_of(alloc: Global, job: Job<'_>, number: usize, line: usize) -> Result<Si
     ensures { IfOk result (λ site. site ≡ site_of (job_of job.entry) number line) }
 {
     Ok(Site {
-        style: Bytes::copied(alloc, job.name)?,
+        style: Shared::<Bytes>::copied(alloc, job.name)?,
         command: number,
         line,
     })

@@ -5,9 +5,9 @@ ghost use Rattle.bt_style.specs.Builtins.{place_of, name_of};
 ghost use Rattle.bt_run.specs.Counts.{calls_at, all_calls, count_message, all_told, row_of, row_told, counted};
 
 use crate::course::{Course, Step};
-use bt_job::{Message, Rank};
+use bt_log::{Message, Rank};
 use bt_style::{BUILTIN_COUNT, Builtin};
-use bt_text::{Bytes, Sequence};
+use bt_text::Sequence;
 use itoa::Buffer;
 use std::alloc::{AllocError, Global};
 
@@ -72,32 +72,37 @@ fn all_calls(tally: &Tally<'_>) -> u128
     sum_of_calls(tally, Builtin::ALL.as_slice())
 }
 
-/// The line in front of the counts.
+/// The line before the counts.
 fn all_told(alloc: Global, count: u128) -> Result<Message, AllocError>
     ensures { IfOk result (λ message. message ≡ all_told count) }
 {
     let mut buffer = Buffer::new();
-    let mut words = Bytes::copied(alloc, b"The built-in function-call counts, ")?;
-    words.append(buffer.format(count).as_bytes())?;
-    words.append(b" in all, are:")?;
-    Ok(Message {
-        rank: Rank::CallCount,
-        words,
-    })
+    let count = buffer.format(count).as_bytes();
+    Message::of(
+        alloc,
+        Rank::CallCount,
+        &[
+            b"The built-in function-call counts, ",
+            count,
+            b" in all, are:",
+        ],
+    )
+}
+
+/// The line of a function of this name that was called so often.
+fn count_line(alloc: Global, name: &[u8], count: u128) -> Result<Message, AllocError>
+    ensures { IfOk result (λ message. message ≡ count_message (name.now ++ codes " -- " ++ decimal count)) }
+{
+    let mut buffer = Buffer::new();
+    let count = buffer.format(count).as_bytes();
+    Message::of(alloc, Rank::CallCount, &[name, b" -- ", count])
 }
 
 /// The line of a function that was called so often.
 fn row_told(alloc: Global, builtin: Builtin, count: u128) -> Result<Message, AllocError>
     ensures { IfOk result (λ message. message ≡ count_message (name_of builtin ++ codes " -- " ++ decimal count)) }
 {
-    let mut buffer = Buffer::new();
-    let mut words = Bytes::copied(alloc, builtin.name())?;
-    words.append(b" -- ")?;
-    words.append(buffer.format(count).as_bytes())?;
-    Ok(Message {
-        rank: Rank::CallCount,
-        words,
-    })
+    count_line(alloc, builtin.name(), count)
 }
 
 /// Tells the counts of these functions.

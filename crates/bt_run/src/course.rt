@@ -1,7 +1,7 @@
 //! How far a run has come: the world of all entries in the program's form, the log, and the steps so far.
 
 use bt_actions::{Entry, Variables};
-use bt_job::Message;
+use bt_log::Message;
 use bt_machine::{Input, Outcome};
 use bt_text::{Bytes, Held, Sequence, Shared};
 
@@ -38,7 +38,7 @@ pub struct Course {
 #[derive(Debug, Drop)]
 pub struct Site {
     /// The name of the style's file.
-    pub style: Bytes,
+    pub style: Shared<Bytes>,
     /// The number of the command in the style, from 0.
     pub command: usize,
     /// The line of the command's word.

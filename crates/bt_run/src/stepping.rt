@@ -6,18 +6,19 @@ ghost use Rattle.bt_style.specs.Program.{program_of};
 ghost use Rattle.bt_actions.specs.declared.entry.Entry.{Entry as EntrySeen};
 ghost use Rattle.bt_actions.specs.World.{entry_in};
 ghost use Rattle.bt_machine.specs.Place.{IsPlace};
-ghost use Rattle.bt_run.specs.Course.{world_of, input_at, told_by, all_told, while_executing, variables_back, put_back, stepped};
+ghost use Rattle.bt_log.specs.declared.message.Place.TheVariants as places;
+ghost use Rattle.bt_log.specs.Message.{at};
+ghost use Rattle.bt_run.specs.Course.{world_of, input_at, all_told, variables_back, put_back, stepped};
 ghost use Rattle.bt_run.specs.Work.{IsStep, IsConsistent};
 
 use crate::course::{Course, Site, Step};
 use crate::reuse::Reuse;
 use crate::reusing::{Done, take_or_reuse};
 use bt_actions::{Entry, Variables};
-use bt_job::{Message, Rank};
+use bt_log::{Message, Place};
 use bt_machine::{Input, Outcome, step_depends_on_its_input};
 use bt_style::{Style, Target};
 use bt_text::{Bytes, Sequence, Shared};
-use itoa::Buffer;
 use std::alloc::{AllocError, Global};
 
 /// The entry at a place, shared with the run, or none.
@@ -50,60 +51,28 @@ fn cut_out(
     })
 }
 
-/// The second line of a step's error, behind the end of the first.
-fn while_executing(alloc: Global, site: &Site) -> Result<Bytes, AllocError>
-    ensures { IfOk result (λ words. words ≡ while_executing site.now.line site.now.style) }
-{
-    let mut buffer = Buffer::new();
-    let mut words = Bytes::copied(alloc, b"\nwhile executing---line ")?;
-    words.append(buffer.format(site.line).as_bytes())?;
-    words.append(b" of file ")?;
-    words.append(site.style.as_slice())?;
-    Ok(words)
-}
-
 /// A step's message as the log has it.
-fn told(alloc: Global, message: &bt_actions::Message, site: &Site) -> Result<Message, AllocError>
-    ensures { IfOk result (λ m. m ≡ told_by site.now.line site.now.style message.now.rank message.now.words) }
+fn told(message: &Message, site: &Site) -> Result<Message, AllocError>
+    ensures { IfOk result (λ m. m ≡ at (places.Step site.now.style site.now.line) message.now) }
 {
-    let mut words = Bytes::copied(alloc, message.words.as_slice())?;
-    match message.rank {
-        bt_actions::Rank::Note => Ok(Message {
-            rank: Rank::Note,
-            words,
-        }),
-        bt_actions::Rank::Warning => Ok(Message {
-            rank: Rank::Warning,
-            words,
-        }),
-        bt_actions::Rank::Error => {
-            words.append(while_executing(alloc, site)?.as_slice())?;
-            Ok(Message {
-                rank: Rank::Error,
-                words,
-            })
-        }
-        bt_actions::Rank::Fatal => {
-            words.append(while_executing(alloc, site)?.as_slice())?;
-            Ok(Message {
-                rank: Rank::Fatal,
-                words,
-            })
-        }
-    }
+    let place = Place::Step {
+        style: site.style.share()?,
+        line: site.line,
+    };
+    message.at(place)
 }
 
 /// A step's messages as the log has them.
 fn all_told(
     alloc: Global,
-    messages: &[bt_actions::Message],
+    messages: &[Message],
     site: &Site,
 ) -> Result<Sequence<Message>, AllocError>
     ensures { IfOk result (λ ms. ms ≡ all_told site.now.line site.now.style messages.now) }
 {
     let mut log = Sequence::new(alloc);
     for message in messages {
-        log.push(told(alloc, message, site)?)?;
+        log.push(told(message, site)?)?;
     }
     Ok(log)
 }

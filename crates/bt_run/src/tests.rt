@@ -3,8 +3,7 @@
 use crate::databases::tell_databases;
 use crate::sorting::sorted_places;
 use bt_actions::{Entry, Variables};
-use bt_job::log_bytes;
-use bt_resolve::{Message, Place, Rank};
+use bt_log::{Message, Place, Rank, log_bytes};
 use bt_text::{Bytes, Sequence, Shared};
 use std::alloc::{AllocError, Global};
 use std::test::Fail;
@@ -41,30 +40,17 @@ fn equal_keys_stay_in_list_order(rt: HostRuntime) -> Result<(), Fail> {
 fn messages_stand_with_their_databases(rt: HostRuntime) -> Result<(), Fail> {
     let alloc = rt.alloc();
     let mut messages = Sequence::new(alloc);
-    messages.push(Message {
-        rank: Rank::Warning,
-        place: Some(Place {
-            database: 2,
-            line: 7,
-        }),
-        words: Bytes::copied(alloc, b"w")?,
-        second: None,
-    })?;
-    messages.push(Message {
-        rank: Rank::Error,
-        place: None,
-        words: Bytes::copied(alloc, b"e")?,
-        second: Some(Bytes::copied(alloc, b"second")?),
-    })?;
-    messages.push(Message {
-        rank: Rank::Error,
-        place: Some(Place {
-            database: 1,
-            line: 3,
-        }),
-        words: Bytes::copied(alloc, b"f")?,
-        second: Some(Bytes::copied(alloc, b"third")?),
-    })?;
+    let line = |database, line| Place::DatabaseLine {
+        database,
+        line,
+        byte: None,
+    };
+    messages.push(Message::of(alloc, Rank::Warning, &[b"w"])?.at(line(2, 7))?)?;
+    let mut about_none = Message::of(alloc, Rank::Error, &[b"e"])?;
+    about_none.second = Some(Shared::<Bytes>::copied(alloc, b"second")?);
+    messages.push(about_none)?;
+    let words = Bytes::copied(alloc, b"f")?;
+    messages.push(Message::skipping(alloc, words, line(1, 3), b"entry")?)?;
     let databases = [
         Bytes::copied(alloc, b"x.bib")?,
         Bytes::copied(alloc, b"y.bib")?,
@@ -73,7 +59,7 @@ fn messages_stand_with_their_databases(rt: HostRuntime) -> Result<(), Fail> {
     tell_databases(alloc, &mut log, &databases, messages.as_slice())?;
     let bytes = log_bytes(alloc, log.as_slice())?;
     let expected =
-        b"Database file #1: x.bib\nf---line 3 of file x.bib\nthird\nDatabase file #2: y.bib\nw\n--line 7 of file y.bib\ne\nsecond\n(There were 2 error messages)\n";
+        b"Database file #1: x.bib\nf---line 3 of file x.bib\nI'm skipping whatever remains of this entry\nDatabase file #2: y.bib\nw\n--line 7 of file y.bib\ne\nsecond\n(There were 2 error messages)\n";
     assert_eq!(rt; bytes.as_slice(), expected.as_slice());
     Ok(())
 }

@@ -10,4 +10,5 @@ pub mod TitlePlaceLemmas
 pub mod WidthsLemmas
 pub mod BreakingLemmas
 pub mod HeldLemmas
+pub mod JoinedLemmas
 pub mod NameLemmas

@@ -1,3 +1,4 @@
+pub mod Joined
 pub mod ByteTests
 pub mod Classes
 pub mod Depth

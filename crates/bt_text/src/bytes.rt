@@ -1,6 +1,7 @@
 //! A byte text, seen in contracts as the list of its bytes.
 
-ghost use Rattle.std.specs.Prelude.{◌≡◌, [], ◌++◌, length, IfOk, OnOk, OnErr};
+ghost use Rattle.std.specs.Prelude.{◌≡◌, [], ◌++◌, length, map, IfOk, OnOk, OnErr};
+ghost use Rattle.bt_text.specs.Joined.{joined};
 
 use std::alloc::{AllocError, Global};
 use std::marker::Model;
@@ -45,6 +46,15 @@ impl Bytes {
         })
     }
 
+    /// The pieces in order, as one text. The one error is out of memory.
+    pub fn of(alloc: Global, pieces: &[&[u8]]) -> Result<Self, AllocError>
+        ensures { IfOk result (λ text. text ≡ joined (map (λ piece. piece.now) pieces.now)) }
+    {
+        let mut text = Bytes::new(alloc);
+        text.append_all(pieces)?;
+        Ok(text)
+    }
+
     /// The bytes.
     pub fn as_slice(&self) -> &[u8]
         ensures { result.now ≡ self.now }
@@ -65,6 +75,16 @@ impl Bytes {
         ensures err { OnErr result (self.new ≡ self.old) }
     {
         self.bytes.extend_from_slice(more)
+    }
+
+    /// Puts the pieces in order after the bytes that are there. After out of memory some of them may be there.
+    pub fn append_all(&mut self, pieces: &[&[u8]]) -> Result<(), AllocError>
+        ensures { OnOk result (self.new ≡ self.old ++ joined (map (λ piece. piece.now) pieces.now)) }
+    {
+        'pieces: for piece in pieces {
+            self.append(piece)?;
+        }
+        Ok(())
     }
 
     /// The bytes as a vector, which takes no memory.

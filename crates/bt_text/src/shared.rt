@@ -1,6 +1,7 @@
 //! Values with several owners, seen in contracts as the values themselves.
 
-ghost use Rattle.std.specs.Prelude.{◌≡◌, IfOk};
+ghost use Rattle.std.specs.Prelude.{◌≡◌, map, IfOk};
+ghost use Rattle.bt_text.specs.Joined.{joined};
 
 use crate::bytes::Bytes;
 use std::alloc::{AllocError, Global};
@@ -59,5 +60,12 @@ impl Shared<Bytes> {
         ensures { IfOk result (λ text. text ≡ bytes.now) }
     {
         Shared::new(alloc, Bytes::copied(alloc, bytes)?)
+    }
+
+    /// The pieces in order, as one text with one owner. The one error is out of memory.
+    pub fn of(alloc: Global, pieces: &[&[u8]]) -> Result<Self, AllocError>
+        ensures { IfOk result (λ text. text ≡ joined (map (λ piece. piece.now) pieces.now)) }
+    {
+        Shared::new(alloc, Bytes::of(alloc, pieces)?)
     }
 }

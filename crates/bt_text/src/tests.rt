@@ -16,6 +16,16 @@ fn bytes_are_copied_and_appended(rt: HostRuntime) -> Result<(), Fail> {
 }
 
 #[test]
+fn pieces_are_joined_in_order(rt: HostRuntime) -> Result<(), Fail> {
+    let alloc = rt.alloc();
+    let key = b"a".as_slice();
+    let text = Bytes::of(alloc, &[b"key ", key, b" of ", key])?;
+    assert_eq!(rt; text.as_slice(), b"key a of a".as_slice());
+    assert_eq!(rt; Bytes::of(alloc, &[])?.len(), 0);
+    Ok(())
+}
+
+#[test]
 fn elements_are_pushed_set_and_appended(rt: HostRuntime) -> Result<(), Fail> {
     let alloc = rt.alloc();
     let mut numbers = Sequence::new(alloc);

@@ -1,5 +1,5 @@
 use Rattle.std.proofs.Common.{refl, ◌∙◌, ap, ℕ, List, map, ◌++◌, ◌+◌, take, drop}
-use Rattle.bt_resolve.specs.declared.message.Message.{Message}
+use Rattle.bt_log.specs.declared.message.Message.{Message}
 use Rattle.bt_text.specs.ByName.{known}
 use Rattle.bt_resolve.specs.Fields.{fields_messages}
 use Rattle.bt_text.specs.ByName.{no_value}

@@ -1,5 +1,5 @@
 use Rattle.std.proofs.Common.{◌≡◌, ◌++◌, drop, map, filter}
-use Rattle.bt_resolve.specs.declared.message.Message.{Message}
+use Rattle.bt_log.specs.declared.message.Message.{Message}
 use Rattle.bt_run.specs.Reading.{told_of, is_about, database_told}
 use Rattle.bt_run.proofs.databases.tell_database.Given as goal
 

@@ -1,9 +1,10 @@
 -- The log: its bytes, and the status that it comes to.
 use Rattle.std.specs.Prelude.{ℕ, Bool, true, false, ◌==◌, List, [], ◌∷◌, ◌++◌, map, filter, count_by, codes, decimal, if◌then◌else◌}
 use Rattle.std.specs.List.{list_any}
-use Rattle.bt_job.specs.declared.log.Rank.{Rank}
-use Rattle.bt_job.specs.declared.log.Rank.TheVariants.{FileLine, Note, CallCount, Warning, Error, Fatal}
-use Rattle.bt_job.specs.declared.log.Message.{Message}
+use Rattle.bt_log.specs.declared.message.Rank.{Rank}
+use Rattle.bt_log.specs.declared.message.Rank.TheVariants.{FileLine, Note, CallCount, Warning, Error, Fatal}
+use Rattle.bt_log.specs.declared.message.Message.{Message}
+use Rattle.bt_log.specs.Spelling.{spelled}
 
 -- The status
 
@@ -29,26 +30,30 @@ status_of log =
     else 0
 
 -- whether the terse log has messages of a rank: all but the lines of files and the counts of calls
-abbrev pub is_told_tersely : Rank → Bool
-is_told_tersely FileLine = false
-is_told_tersely CallCount = false
-is_told_tersely Note = true
-is_told_tersely Warning = true
-is_told_tersely Error = true
-is_told_tersely Fatal = true
+abbrev pub is_in_terse_log : Rank → Bool
+is_in_terse_log FileLine = false
+is_in_terse_log CallCount = false
+is_in_terse_log Note = true
+is_in_terse_log Warning = true
+is_in_terse_log Error = true
+is_in_terse_log Fatal = true
 
 -- The bytes
 
--- each line with a line feed behind it
+-- each line with a line feed after it
 abbrev pub lines_bytes : List (List ℕ) → List ℕ
 lines_bytes [] = []
 lines_bytes (line ∷ lines) = line ++ 10 ∷ lines_bytes lines
+
+-- several of a thing that has this name
+abbrev pub several : ℕ → List ℕ → List ℕ
+several n name = codes "(There were " ++ decimal n ++ codes " " ++ name ++ codes "s)\n"
 
 -- how many there were of a thing that has this name
 abbrev pub count_line : ℕ → List ℕ → List ℕ
 count_line n name =
     if n == 1 then codes "(There was 1 " ++ name ++ codes ")\n"
-    else codes "(There were " ++ decimal n ++ codes " " ++ name ++ codes "s)\n"
+    else several n name
 
 -- the last line of a log that comes to this status
 abbrev pub last_line_of : ℕ → List Message → List ℕ
@@ -62,14 +67,18 @@ last_line_of status log =
 abbrev pub last_line : List Message → List ℕ
 last_line log = last_line_of (status_of log) log
 
--- the words of each message
-abbrev pub words_of : List Message → List (List ℕ)
-words_of log = map (λ m. m.words) log
+-- each message in words, in their order
+abbrev pub messages_bytes : List Message → List ℕ
+messages_bytes log = lines_bytes (map spelled log)
 
 -- the log's messages in order, then the last line
 abbrev pub log_bytes : List Message → List ℕ
-log_bytes log = lines_bytes (words_of log) ++ last_line log
+log_bytes log = messages_bytes log ++ last_line log
 
--- the same without the lines of files and the counts of calls
+-- the messages but the lines of files and the counts of calls
+abbrev pub terse : List Message → List Message
+terse log = filter (λ m. is_in_terse_log m.rank) log
+
+-- the same without them; the last line is that of the whole log
 abbrev pub terse_bytes : List Message → List ℕ
-terse_bytes log = lines_bytes (words_of (filter (λ m. is_told_tersely m.rank) log)) ++ last_line log
+terse_bytes log = messages_bytes (terse log) ++ last_line log

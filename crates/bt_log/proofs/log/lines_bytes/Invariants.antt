@@ -1,6 +1,6 @@
 use Rattle.std.proofs.Common.{◌≡◌, ◌++◌, drop}
-use Rattle.bt_job.specs.Log.{lines_bytes}
-use Rattle.bt_job.proofs.log.lines_bytes.Given as goal
+use Rattle.bt_log.specs.Log.{lines_bytes}
+use Rattle.bt_log.proofs.log.lines_bytes.Given as goal
 
 abbrev pub invariant-lines : goal.invariant-lines
 invariant-lines l = l.text ++ lines_bytes (drop l.line-index l.lines) ≡ lines_bytes l.lines

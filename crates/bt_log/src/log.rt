@@ -2,26 +2,13 @@
 
 ghost use Rattle.std.specs.Prelude.{◌≡◌, [], ◌∷◌, ◌++◌, count_by, filter, decimal, IfOk, OnOk};
 ghost use Rattle.std.specs.List.{list_any};
-ghost use Rattle.bt_job.specs.Log.{rank_status, has_status, status_of, lines_bytes, count_line, last_line_of, last_line, words_of, log_bytes, is_told_tersely, terse_bytes};
+ghost use Rattle.bt_log.specs.Log.{rank_status, has_status, status_of, lines_bytes, several, count_line, last_line_of, last_line, messages_bytes, log_bytes, is_in_terse_log, terse, terse_bytes};
 
+use crate::message::{Message, Rank};
+use crate::spelling::spell;
 use bt_text::{Bytes, Shared};
 use itoa::Buffer;
 use std::alloc::{AllocError, Global};
-
-/// What a message counts as.
-#[derive(Clone, Copy, Debug, PartialEq, Eq)]
-pub enum Rank {
-    /// The line of a file that is read.
-    FileLine,
-    /// It counts as nothing.
-    Note,
-    /// How often a built-in function was called. It counts as nothing.
-    CallCount,
-    Warning,
-    Error,
-    /// It ends the run.
-    Fatal,
-}
 
 impl Rank {
     /// The status of a log that has a message of this rank alone.
@@ -37,21 +24,14 @@ impl Rank {
     }
 
     /// Whether the terse log has messages of this rank.
-    fn is_told_tersely(self) -> bool
-        ensures { result ≡ is_told_tersely self }
+    fn is_in_terse_log(self) -> bool
+        ensures { result ≡ is_in_terse_log self }
     {
         match self {
             Rank::FileLine | Rank::CallCount => false,
             Rank::Note | Rank::Warning | Rank::Error | Rank::Fatal => true,
         }
     }
-}
-
-/// A message of the log; its words may hold a line feed.
-#[derive(Debug, Drop)]
-pub struct Message {
-    pub rank: Rank,
-    pub words: Bytes,
 }
 
 fn has_status(log: &[Message], status: u8) -> bool
@@ -84,23 +64,25 @@ pub fn status(log: &[Message]) -> u8
     }
 }
 
+/// The line that says that there were several of a thing that has this name.
+fn several(alloc: Global, count: usize, name: &[u8]) -> Result<Bytes, AllocError>
+    ensures { IfOk result (λ line. line ≡ several count name.now) }
+{
+    let mut buffer = Buffer::new();
+    let count = buffer.format(count).as_bytes();
+    let line = Bytes::of(alloc, &[b"(There were ", count, b" ", name, b"s)\n"])?;
+    Ok(line)
+}
+
 /// The line that says how many there were of a thing that has this name.
 fn count_line(alloc: Global, count: usize, name: &[u8]) -> Result<Bytes, AllocError>
     ensures { IfOk result (λ line. line ≡ count_line count name.now) }
 {
     if count == 1 {
-        let mut line = Bytes::copied(alloc, b"(There was 1 ")?;
-        line.append(name)?;
-        line.append(b")\n")?;
-        return Ok(line);
+        Bytes::of(alloc, &[b"(There was 1 ", name, b")\n"])
+    } else {
+        several(alloc, count, name)
     }
-    let mut buffer = Buffer::new();
-    let mut line = Bytes::copied(alloc, b"(There were ")?;
-    line.append(buffer.format(count).as_bytes())?;
-    line.append(b" ")?;
-    line.append(name)?;
-    line.append(b"s)\n")?;
-    Ok(line)
 }
 
 fn last_line(alloc: Global, log: &[Message]) -> Result<Bytes, AllocError>
@@ -114,7 +96,7 @@ fn last_line(alloc: Global, log: &[Message]) -> Result<Bytes, AllocError>
     }
 }
 
-/// Puts a line and a line feed behind a text.
+/// Adds a line and a line feed.
 fn add_line(text: &mut Bytes, line: &[u8]) -> Result<(), AllocError>
     ensures { OnOk result (text.new ≡ text.old ++ line.now ++ 10 ∷ []) }
 {
@@ -122,7 +104,7 @@ fn add_line(text: &mut Bytes, line: &[u8]) -> Result<(), AllocError>
     text.append(b"\n")
 }
 
-/// The lines, each with a line feed behind it. The one error is want of memory.
+/// The lines, each with a line feed after it. The one error is out of memory.
 pub fn lines_bytes(alloc: Global, lines: &[Shared<Bytes>]) -> Result<Bytes, AllocError>
     ensures { IfOk result (λ bytes. bytes ≡ lines_bytes lines.now) }
 {
@@ -133,31 +115,39 @@ pub fn lines_bytes(alloc: Global, lines: &[Shared<Bytes>]) -> Result<Bytes, Allo
     Ok(text)
 }
 
-/// The words of each message, with a line feed behind them.
-fn words_bytes(alloc: Global, log: &[Message]) -> Result<Bytes, AllocError>
-    ensures { IfOk result (λ bytes. bytes ≡ lines_bytes (words_of log.now)) }
+/// Adds a message in words and a line feed.
+fn add_message(text: &mut Bytes, message: &Message) -> Result<(), AllocError>
+    ensures { OnOk result (text.new ≡ text.old ++ messages_bytes (message.now ∷ [])) }
+{
+    spell(text, message)?;
+    text.append(b"\n")
+}
+
+/// Each message in words, with a line feed after it.
+fn messages_bytes(alloc: Global, log: &[Message]) -> Result<Bytes, AllocError>
+    ensures { IfOk result (λ bytes. bytes ≡ messages_bytes log.now) }
 {
     let mut text = Bytes::new(alloc);
     'messages: for message in log {
-        add_line(&mut text, message.words.as_slice())?;
+        add_message(&mut text, message)?;
     }
     Ok(text)
 }
 
-/// Puts the words of a message behind a text, if the terse log has them.
+/// Adds a message in words and a line feed, if the terse log has it.
 fn add_tersely(text: &mut Bytes, message: &Message) -> Result<(), AllocError>
-    ensures { OnOk result (text.new ≡ text.old ++ lines_bytes (words_of (filter (λ m. is_told_tersely m.rank) (message.now ∷ [])))) }
+    ensures { OnOk result (text.new ≡ text.old ++ messages_bytes (terse (message.now ∷ []))) }
 {
-    if message.rank.is_told_tersely() {
-        add_line(text, message.words.as_slice())
+    if message.rank.is_in_terse_log() {
+        add_message(text, message)
     } else {
         Ok(())
     }
 }
 
-/// The words of each message that the terse log has, with a line feed behind them.
-fn terse_words(alloc: Global, log: &[Message]) -> Result<Bytes, AllocError>
-    ensures { IfOk result (λ bytes. bytes ≡ lines_bytes (words_of (filter (λ m. is_told_tersely m.rank) log.now))) }
+/// The same of each message that the terse log has.
+fn terse_messages(alloc: Global, log: &[Message]) -> Result<Bytes, AllocError>
+    ensures { IfOk result (λ bytes. bytes ≡ messages_bytes (terse log.now)) }
 {
     let mut text = Bytes::new(alloc);
     'messages: for message in log {
@@ -166,21 +156,21 @@ fn terse_words(alloc: Global, log: &[Message]) -> Result<Bytes, AllocError>
     Ok(text)
 }
 
-/// The bytes of the log: its messages and the last line. The one error is want of memory.
+/// The bytes of the log: its messages and the last line. The one error is out of memory.
 pub fn log_bytes(alloc: Global, log: &[Message]) -> Result<Bytes, AllocError>
     ensures { IfOk result (λ bytes. bytes ≡ log_bytes log.now) }
 {
-    let mut text = words_bytes(alloc, log)?;
+    let mut text = messages_bytes(alloc, log)?;
     text.append(last_line(alloc, log)?.as_slice())?;
     Ok(text)
 }
 
 /// The same without the lines of files and the counts of calls; the last line is that of the whole log. The one error
-/// is want of memory.
+/// is out of memory.
 pub fn terse_bytes(alloc: Global, log: &[Message]) -> Result<Bytes, AllocError>
     ensures { IfOk result (λ bytes. bytes ≡ terse_bytes log.now) }
 {
-    let mut text = terse_words(alloc, log)?;
+    let mut text = terse_messages(alloc, log)?;
     text.append(last_line(alloc, log)?.as_slice())?;
     Ok(text)
 }
@@ -192,10 +182,7 @@ mod tests {
     use std::test::Fail;
 
     fn message(alloc: Global, rank: Rank, words: &[u8]) -> Result<Message, AllocError> {
-        Ok(Message {
-            rank,
-            words: Bytes::copied(alloc, words)?,
-        })
+        Message::of(alloc, rank, &[words])
     }
 
     #[test]

@@ -1,0 +1,115 @@
+-- Worked examples: messages in words, and the status and the bytes of logs.
+use Rattle.std.proofs.Common.{◌≡◌, ℕ, List, [], ◌∷◌, ◌++◌, Some, None, refl}
+use Rattle.std.specs.Prelude.{codes}
+use Rattle.std.specs.Fmt.{digits}
+use Rattle.bt_log.specs.declared.message.Rank.TheVariants.{FileLine, Note, CallCount, Warning, Error, Fatal}
+use Rattle.bt_log.specs.declared.message.Place.TheVariants.{Line, DatabaseLine, WholeFile, Step}
+use Rattle.bt_log.specs.declared.message.Message.{Message}
+use Rattle.bt_log.specs.Message.{plain, at}
+use Rattle.bt_log.specs.Spelling.{spelled}
+use Rattle.bt_log.specs.Log.{status_of, last_line, lines_bytes, log_bytes, terse_bytes}
+
+-- Messages in words
+
+-- an error at a line of a file, with its second line
+error_at_line : spelled (record (plain Error (codes "No \"}\"")) { place = Some (Line (codes "job.aux") 12 None); second = Some (codes "I'm skipping whatever remains of this command") })
+    ≡ codes "No \"}\"---line 12 of file job.aux\nI'm skipping whatever remains of this command"
+unfolding digits
+error_at_line = refl
+
+-- The line of a warning is a line of its own, and the byte isn't told.
+warning_at_line : spelled (at (Line (codes "x.bib") 3 (Some 40)) (plain Warning (codes "Warning--string name \"nix\" is undefined")))
+    ≡ codes "Warning--string name \"nix\" is undefined\n--line 3 of file x.bib"
+unfolding digits
+warning_at_line = refl
+
+-- a file without a name
+numbered_database : spelled (at (DatabaseLine 2 3 None) (plain Error (codes "Repeated entry"))) ≡ codes "Repeated entry---line 3 of database #2"
+unfolding digits
+numbered_database = refl
+
+-- a file at its end
+whole_file : spelled (at (WholeFile (codes "job.aux")) (plain Error (codes "I found no style file"))) ≡ codes "I found no style file---while reading file job.aux"
+whole_file = refl
+
+-- an error of a step for an entry, and of one for none
+step_error : spelled (at (Step (codes "s.bst") 7) (record (plain Error (codes "The literal stack isn't empty")) { entry = Some (codes "a") }))
+    ≡ codes "The literal stack isn't empty for entry a\nwhile executing---line 7 of file s.bst"
+unfolding digits
+step_error = refl
+
+step_for_none : spelled (at (Step (codes "s.bst") 7) (plain Fatal (codes "The limit of 1000000 ticks was passed")))
+    ≡ codes "The limit of 1000000 ticks was passed\nwhile executing---line 7 of file s.bst"
+unfolding digits
+step_for_none = refl
+
+-- What a style logs stays as it is.
+step_warning : spelled (at (Step (codes "s.bst") 7) (record (plain Warning (codes "Warning--beware")) { entry = Some (codes "a") })) ≡ codes "Warning--beware"
+step_warning = refl
+
+step_note : spelled (at (Step (codes "s.bst") 7) (plain Note (codes "3"))) ≡ codes "3"
+step_note = refl
+
+-- An entry without a place isn't told: the words name it.
+about_entry : spelled (record (plain Error (codes "A bad cross reference---entry \"a\"")) { entry = Some (codes "a"); second = Some (codes "refers to entry \"p\", which doesn't exist") })
+    ≡ codes "A bad cross reference---entry \"a\"\nrefers to entry \"p\", which doesn't exist"
+about_entry = refl
+
+-- Logs
+
+-- the line of a file, and a note
+abbrev quiet : List Message
+quiet = plain FileLine (codes "The top-level auxiliary file: job.aux") ∷ plain Note (codes "note") ∷ []
+
+-- a warning
+abbrev warning : Message
+warning = plain Warning (codes "w")
+
+-- an error
+abbrev error : Message
+error = plain Error (codes "e")
+
+-- a fatal message
+abbrev fatal : Message
+fatal = plain Fatal (codes "f")
+
+all_well : status_of quiet ≡ 0
+all_well = refl
+
+no_last_line : last_line quiet ≡ []
+no_last_line = refl
+
+one_warning : last_line (warning ∷ quiet) ≡ codes "(There was 1 warning)\n"
+one_warning = refl
+
+two_warnings : last_line (warning ∷ quiet ++ warning ∷ []) ≡ codes "(There were 2 warnings)\n"
+unfolding digits
+two_warnings = refl
+
+-- Errors alone are counted.
+one_error : last_line (warning ∷ error ∷ warning ∷ []) ≡ codes "(There was 1 error message)\n"
+one_error = refl
+
+three_errors : last_line (error ∷ warning ∷ error ∷ error ∷ []) ≡ codes "(There were 3 error messages)\n"
+unfolding digits
+three_errors = refl
+
+fatal_status : status_of (error ∷ fatal ∷ warning ∷ []) ≡ 3
+fatal_status = refl
+
+fatal_line : last_line (error ∷ fatal ∷ warning ∷ []) ≡ codes "(That was a fatal error)\n"
+fatal_line = refl
+
+whole_log : log_bytes (quiet ++ warning ∷ []) ≡ codes "The top-level auxiliary file: job.aux\nnote\nw\n(There was 1 warning)\n"
+whole_log = refl
+
+-- The line of the file is left out; the note and the last line stay.
+terse_log : terse_bytes (quiet ++ warning ∷ []) ≡ codes "note\nw\n(There was 1 warning)\n"
+terse_log = refl
+
+-- The count of a function's calls is left out too, and counts for no status.
+terse_counts : terse_bytes (quiet ++ plain CallCount (codes "skip$ -- 3") ∷ []) ≡ codes "note\n"
+terse_counts = refl
+
+two_lines : lines_bytes (codes "a" ∷ [] ∷ []) ≡ codes "a\n\n"
+two_lines = refl

@@ -1,0 +1,9 @@
+//! Messages: what each counts as, what it says and where it belongs; and the log, which puts them into words.
+#![tactic(auto)]
+
+mod log;
+mod message;
+mod spelling;
+
+pub use log::{lines_bytes, log_bytes, status, terse_bytes};
+pub use message::{Message, Place, Rank};
