@@ -28,8 +28,8 @@ use Rattle.bt_run.specs.Commands.{commands_from}
 use Rattle.bt_run.specs.Counts.{counted}
 use Rattle.bt_run.specs.Meaning.{begun, first_globals, carried, job_for, fault_told, styled, run_with, run_of, Meaning, shown, meaning, trace}
 
-pub begun_consistent : (p : Program) (earlier : List Step) (globals : Variables) (log : List Message) (r : Course) (reuse : Reuse) → r ≡ begun globals log → reuse.meter ≡ 0 → reuse.ran ≡ 0 → reuse.known ≡ [] → IsConsistent p earlier r reuse
-begun_consistent p earlier globals log r reuse is ticks ran none =
+pub begun_consistent : (p : Program) (earlier : List Step) (globals : Variables) (log : List Message) (r : Course) (reuse : Reuse) → r ≡ begun globals log → reuse.meter ≡ 0 → reuse.ran ≡ 0 → reuse.known ≡ [] → reuse.index ≡ None → IsConsistent p earlier r reuse
+begun_consistent p earlier globals log r reuse is ticks ran none unmade =
     rw is (record {
       ran = ran ∙ ap length (sym (work_none p earlier));
       ticks = ticks ∙ ap total_cost (sym (work_none p earlier));
@@ -37,11 +37,12 @@ begun_consistent p earlier globals log r reuse is ticks ran none =
       bounded = omega (arith, ticks);
       steps = λ k d h. absurd (omega (arith, h));
       known = rw none (λ k d h. absurd (omega (arith, h)));
+      indexed = rw unmade (λ x e. absurd cc);
       ordered = λ k d h. absurd (omega (arith, h));
     })
 
 pub counted_consistent : (p : Program) (earlier : List Step) (r next : Course) (reuse : Reuse) → next ≡ counted r → IsConsistent p earlier r reuse → IsConsistent p earlier next reuse
-counted_consistent p earlier r next reuse is h = rw is (record { ran = h.ran; ticks = h.ticks; fewer = h.fewer; bounded = h.bounded; steps = h.steps; known = h.known; ordered = h.ordered })
+counted_consistent p earlier r next reuse is h = rw is (record { ran = h.ran; ticks = h.ticks; fewer = h.fewer; bounded = h.bounded; steps = h.steps; known = h.known; indexed = h.indexed; ordered = h.ordered })
 
 -- What was carried out
 

@@ -12,8 +12,8 @@ use Rattle.bt_run.proofs.OrderLemmas.{places_below}
 use Rattle.bt_run.proofs.SortingLemmas.{sorted_all}
 
 pub read_consistent : (p : Program) (earlier : List Step) (job : Job) (number : ℕ) (r next : Course) (reuse : Reuse) → next ≡ read job number r → IsConsistent p earlier r reuse → IsConsistent p earlier next reuse
-read_consistent p earlier job number r next reuse is h = rw is (record { ran = h.ran; ticks = h.ticks; fewer = h.fewer; bounded = h.bounded; steps = h.steps; known = h.known; ordered = places_below (length (read job number r).entries) })
+read_consistent p earlier job number r next reuse is h = rw is (record { ran = h.ran; ticks = h.ticks; fewer = h.fewer; bounded = h.bounded; steps = h.steps; known = h.known; indexed = h.indexed; ordered = places_below (length (read job number r).entries) })
 
 pub sorted_consistent : (p : Program) (earlier : List Step) (r next : Course) (reuse : Reuse) → next ≡ sorted_run r → IsConsistent p earlier r reuse → IsConsistent p earlier next reuse
 sorted_consistent p earlier r next reuse is h =
-    rw is (record { ran = h.ran; ticks = h.ticks; fewer = h.fewer; bounded = h.bounded; steps = h.steps; known = h.known; ordered = sorted_all (key_at r.entries) (λ k. k < length r.entries) (list_order r.entries) (places_below (length r.entries)) })
+    rw is (record { ran = h.ran; ticks = h.ticks; fewer = h.fewer; bounded = h.bounded; steps = h.steps; known = h.known; indexed = h.indexed; ordered = sorted_all (key_at r.entries) (λ k. k < length r.entries) (list_order r.entries) (places_below (length r.entries)) })

@@ -1,6 +1,6 @@
 -- A step in the world of all entries, by its outcome on its input alone.
 use Rattle.std.specs.Prelude.{slice_index_or}
-use Rattle.std.specs.Option.{option_map}
+use Rattle.std.specs.Option.{option_map, ForSome}
 use Rattle.std.proofs.Common.{append-nil, zero, suc, ◌≡◌, refl, ℕ, ◌+◌, ◌≤◌, ◌<◌, List, [], ◌∷◌, ◌++◌, length, All, Option, Some, None, sym, ap, ◌∙◌, arith}
 use Rattle.std.proofs.Math.Seq.{drop-append_seam}
 use Rattle.std.proofs.lemmas.List.{get_or-set_same, length-set, length-append}
@@ -21,6 +21,7 @@ use Rattle.bt_run.specs.declared.course.Step.{Step}
 use Rattle.bt_run.specs.declared.course.Site.{Site}
 use Rattle.bt_run.specs.Course.{world_of, input_at, kept, left_by, stepped, all_told, with_variables, variables_back, put_back}
 use Rattle.bt_run.specs.declared.reuse.Reuse.{Reuse}
+use Rattle.bt_run.specs.Index.{IsIndex}
 use Rattle.bt_run.specs.Work.{total_cost, work_under, IsStep, IsKnown, IsCounted, IsConsistent}
 use Rattle.bt_run.proofs.WorkLemmas.{work_append, work_fewer}
 
@@ -102,8 +103,8 @@ pub all_behind : {A : Type 0} (P : A → Type 0) (xs : List A) (y : A) → All P
 all_behind P xs y h g = All-append P xs (y ∷ []) h (all_one P y g)
 
 -- a step keeps what a run keeps to
-pub consistent_behind : (p : Program) (earlier : List Step) (x : Option ℕ) (o : Outcome) (r back : Course) (s : Step) (log : List Message) (steps : List Step) (before after : Reuse) → IsConsistent p earlier r before → back ≡ put_back x o r → steps ≡ back.trace ++ s ∷ [] → IsCounted p earlier s before after → IsStep p s → after.meter ≤ before.meter + 1000000 → All (IsKnown p) after.known → IsConsistent p earlier (record back { log = log; trace = steps }) after
-consistent_behind p earlier x o r back s log steps before after h is_back are_steps counted is_step within known =
+pub consistent_behind : (p : Program) (earlier : List Step) (x : Option ℕ) (o : Outcome) (r back : Course) (s : Step) (log : List Message) (steps : List Step) (before after : Reuse) → IsConsistent p earlier r before → back ≡ put_back x o r → steps ≡ back.trace ++ s ∷ [] → IsCounted p earlier s before after → IsStep p s → after.meter ≤ before.meter + 1000000 → All (IsKnown p) after.known → ForSome after.index (IsIndex earlier) → IsConsistent p earlier (record back { log = log; trace = steps }) after
+consistent_behind p earlier x o r back s log steps before after h is_back are_steps counted is_step within known indexed =
     let cost : Step → ℕ = λ (t : Step). t.cost in
     let so_far = work_under p earlier r.trace in
     let more = work_under p earlier (s ∷ []) in
@@ -115,5 +116,6 @@ consistent_behind p earlier x o r back s log steps before after h is_back are_st
       bounded = omega (arith, length-append r.trace (s ∷ []), h.bounded, within);
       steps = all_behind (IsStep p) r.trace s h.steps is_step;
       known = known;
+      indexed = indexed;
       ordered = λ k d lt. omega (arith, length-variables_back x o.variables r.entries, h.ordered k d lt);
     })

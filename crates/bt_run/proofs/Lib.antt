@@ -9,3 +9,4 @@ mod Rows
 mod MeaningRows
 pub mod ReachedLemmas
 pub mod WorkLemmas
+pub mod IndexLemmas

@@ -1,5 +1,6 @@
 pub mod Course
 pub mod Reached
+pub mod Index
 pub mod Work
 pub mod Sorting
 pub mod Reading

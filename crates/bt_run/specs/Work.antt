@@ -1,7 +1,7 @@
 -- What is carried out of a run after an earlier run: the steps that the earlier run does not have.
-use Rattle.std.specs.Prelude.{◌≡◌, ◌↔◌, ◌<◌, ◌≤◌, ◌+◌, ◌*◌, ◌==◌, ◌&&◌, not, ℕ, Bool, true, false, List, [], ◌∷◌, Option, Some, None, All, Contains, filter, length, sum_by, bytes_eq}
+use Rattle.std.specs.Prelude.{◌≡◌, ◌↔◌, ◌<◌, ◌≤◌, ◌+◌, ◌*◌, ◌==◌, ◌&&◌, not, ℕ, Bool, true, false, List, [], ◌∷◌, Option, Some, None, All, Contains, filter, length, sum_by, slice_get, bytes_eq}
 use Rattle.std.specs.List.{list_any}
-use Rattle.std.specs.Option.{option_map}
+use Rattle.std.specs.Option.{option_map, ForSome}
 use Rattle.bt_style.specs.declared.style.Target.{Target}
 use Rattle.bt_style.specs.Program.{Program}
 use Rattle.bt_actions.specs.declared.entry.Entry.{Entry}
@@ -15,6 +15,7 @@ use Rattle.bt_run.specs.declared.course.Course.{Course}
 use Rattle.bt_run.specs.declared.reuse.Known.{Known}
 use Rattle.bt_run.specs.declared.reuse.Reuse.{Reuse}
 use Rattle.bt_run.specs.Reached.{names_in, reach_by}
+use Rattle.bt_run.specs.Index.{IsIndex}
 
 -- the key of an input's entry
 abbrev pub key_in : Input → Option (List ℕ)
@@ -58,6 +59,10 @@ pub record IsLike (command : ℕ) (names : List Target) (i : Input) (s : Step) :
   pub of_command : s.command ≡ command
   pub agree : Agree (is_among names) s.input i
 
+-- the step at a place, if there is one, is not like
+abbrev pub IsUnlikeAt : ℕ → List Target → Input → List Step → ℕ → Type 0
+IsUnlikeAt command names i steps k = (s : Step) → slice_get steps k ≡ Some s → IsLike command names i s → ⊥
+
 -- what is known to be reached from a name
 abbrev pub IsKnown : Program → Known → Type 0
 IsKnown p k = (t : Target) → Contains k.reach.targets t ↔ Reaches p k.function k.target t
@@ -68,8 +73,8 @@ pub record IsCounted (p : Program) (earlier : List Step) (t : Step) (before afte
   pub ticks : after.meter ≡ before.meter + total_cost (work_under p earlier (t ∷ []))
 
 -- What a run over earlier steps keeps to: what was carried out is the work of its trace, and costs at most a million ticks
--- for each step of it; its steps are those of the style; what it worked out of the style is so; and its order names entries
--- alone.
+-- for each step of it; its steps are those of the style; what it worked out of the style is so; its index, if there is one, is
+-- that of the earlier steps; and its order names entries alone.
 pub record IsConsistent (p : Program) (earlier : List Step) (r : Course) (reuse : Reuse) : Type 0 where
   pub ran : reuse.ran ≡ length (work_under p earlier r.trace)
   pub ticks : reuse.meter ≡ total_cost (work_under p earlier r.trace)
@@ -77,4 +82,5 @@ pub record IsConsistent (p : Program) (earlier : List Step) (r : Course) (reuse 
   pub bounded : reuse.meter ≤ 1000000 * length r.trace
   pub steps : All (IsStep p) r.trace
   pub known : All (IsKnown p) reuse.known
+  pub indexed : ForSome reuse.index (IsIndex earlier)
   pub ordered : All (λ n. n < length r.entries) r.order

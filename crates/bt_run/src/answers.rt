@@ -1,6 +1,6 @@
 //! What files mean, computed from scratch.
 
-ghost use Rattle.std.specs.Prelude.{◌≡◌, ◌≤◌, [], length, IfOk};
+ghost use Rattle.std.specs.Prelude.{◌≡◌, ◌≤◌, [], None, length, IfOk};
 ghost use Rattle.std.specs.Option.{ForSome};
 ghost use Rattle.bt_style.specs.Program.{program_of};
 ghost use Rattle.bt_run.specs.Work.{IsConsistent};
@@ -78,6 +78,7 @@ fn carry_out_style(
     requires meter { reuse.old.meter ≡ 0 }
     requires ran { reuse.old.ran ≡ 0 }
     requires known { reuse.old.known ≡ [] }
+    requires index { reuse.old.index ≡ None }
     ensures run { IfOk result (λ course. course ≡ carried (job_of job.entry) log) }
     ensures consistent { IfOk result (λ course. IsConsistent (program_of job.entry.style.now) job.entry.earlier.now course reuse.new) }
 {
@@ -122,6 +123,7 @@ fn run_with(
     requires meter { reuse.old.meter ≡ 0 }
     requires ran { reuse.old.ran ≡ 0 }
     requires known { reuse.old.known ≡ [] }
+    requires index { reuse.old.index ≡ None }
     requires star { ForSome citations.star (λ before. before ≤ length citations.keys) }
     ensures run { IfOk result (λ r. r.course ≡ run_with files.now citations min citations.style) }
     ensures wanted { IfOk result (λ r. r.wanted ≡ citations.wanted) }
@@ -230,6 +232,7 @@ pub fn answers_after(
         meter: Meter::new(),
         ran: 0,
         next: 0,
+        index: None,
         known: Sequence::new(alloc),
     };
     let ran = run_with(alloc, files, citations, min, kept, &mut reuse)?;

@@ -9,6 +9,7 @@ mod counts;
 mod course;
 mod databases;
 mod declaring;
+mod index;
 mod job;
 mod kept;
 mod reading;

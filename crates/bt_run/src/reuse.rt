@@ -1,5 +1,6 @@
 //! How a run goes over the steps of an earlier one.
 
+use crate::index::Index;
 use bt_machine::Meter;
 use bt_style::{Reach, Target};
 use bt_text::{Sequence, Shared};
@@ -14,12 +15,14 @@ pub struct Known {
 
 /// How many steps were carried out, and their ticks; steps that were taken over from the earlier run do not count. And what
 /// makes the next step quick.
-#[derive(Debug, Drop)]
+#[derive(Drop)]
 pub struct Reuse {
     pub meter: Meter,
     pub ran: u128,
     /// The place after that of the earlier step that was met last.
     pub next: usize,
+    /// Where the earlier steps stand, from the first step on that isn't met there.
+    pub index: Option<Index>,
     /// What was worked out of the style so far, each once.
     pub known: Sequence<Known>,
 }

@@ -1,14 +1,17 @@
 //! A step of an earlier run is taken over where it does the same.
 
 ghost use Rattle.std.specs.Prelude.{◌≡◌, ◌+◌, ◌<◌, ◌≤◌, ◌^◌, ◌↔◌, All, Contains, IsTrue, IfOk, IfSome, OnOk, MatchOption, length};
+ghost use Rattle.std.specs.Option.{ForSome};
 ghost use Rattle.bt_style.specs.Program.{program_of};
 ghost use Rattle.bt_style.specs.Reach.{is_among};
 ghost use Rattle.bt_machine.specs.Step.{step_in, outcome_of};
 ghost use Rattle.bt_machine.specs.Agreement.{Agree, IsFootprint};
 ghost use Rattle.bt_machine.specs.Footprint.{function_of};
-ghost use Rattle.bt_run.specs.Work.{key_in, IsStep, IsLike, IsKnown, IsCounted};
+ghost use Rattle.bt_run.specs.Index.{IsIndex};
+ghost use Rattle.bt_run.specs.Work.{key_in, IsStep, IsLike, IsUnlikeAt, IsKnown, IsCounted};
 
 use crate::course::Step;
+use crate::index::Index;
 use crate::reuse::{Known, Reuse};
 use bt_machine::{Input, Outcome, activate, agreeing_inputs_have_one_step, agrees, left_over};
 use bt_style::{Reach, Style, Target};
@@ -89,6 +92,14 @@ fn reach_of(
 
 // Earlier steps
 
+/// A step that is looked for: its command, its input, and what it may come to.
+#[derive(Clone, Copy)]
+struct Sought<'a> {
+    command: usize,
+    input: &'a Input,
+    reach: &'a Reach,
+}
+
 /// An earlier step, and its place.
 #[derive(Clone, Copy)]
 struct Found<'a> {
@@ -97,28 +108,10 @@ struct Found<'a> {
 }
 
 /// Whether a step is one of this command, and its input agrees with this one in what is reached.
-fn is_like(style: &Style, step: &Step, command: usize, input: &Input, reach: &Reach) -> bool
-    ensures { IsTrue result ↔ IsLike command reach.now.targets input.now step.now }
+fn is_like(style: &Style, step: &Step, sought: Sought<'_>) -> bool
+    ensures { IsTrue result ↔ IsLike sought.entry.command sought.entry.reach.now.targets sought.entry.input.now step.now }
 {
-    step.command == command && agrees(style, &step.input, input, reach)
-}
-
-/// The first step of this command whose input agrees with this one in what is reached.
-fn find_like<'a>(
-    style: &Style,
-    earlier: &'a [Step],
-    command: usize,
-    input: &Input,
-    reach: &Reach,
-) -> Option<Found<'a>>
-    ensures { MatchOption result (All (λ s. IsLike command reach.now.targets input.now s → ⊥) earlier.now) (λ f. (f.place < length earlier.now) × Contains earlier.now f.step.now × IsLike command reach.now.targets input.now f.step.now) }
-{
-    'steps: for (place, step) in earlier.iter().enumerate() {
-        if is_like(style, step, command, input, reach) {
-            return Some(Found { place, step });
-        }
-    }
-    None
+    step.command == sought.command && agrees(style, &step.input, sought.input, sought.reach)
 }
 
 /// The step at a place, if it is one of this command and its input agrees with this one in what is reached.
@@ -126,36 +119,105 @@ fn like_at<'a>(
     style: &Style,
     earlier: &'a [Step],
     place: usize,
-    command: usize,
-    input: &Input,
-    reach: &Reach,
+    sought: Sought<'_>,
 ) -> Option<Found<'a>>
-    ensures { IfSome result (λ f. (f.place < length earlier.now) × Contains earlier.now f.step.now × IsLike command reach.now.targets input.now f.step.now) }
+    ensures { MatchOption result (IsUnlikeAt sought.entry.command sought.entry.reach.now.targets sought.entry.input.now earlier.now place) (λ f. (f.place < length earlier.now) × Contains earlier.now f.step.now × IsLike sought.entry.command sought.entry.reach.now.targets sought.entry.input.now f.step.now) }
 {
     if place < earlier.len() {
         let step = &earlier[place];
-        if is_like(style, step, command, input, reach) {
+        if is_like(style, step, sought) {
             return Some(Found { place, step });
         }
     }
     None
 }
 
-/// The step that is met: mostly the one after that which was met last.
+/// The first step at these places that is one of this command, and whose input agrees with this one in what is reached.
+fn find_like<'a>(
+    style: &Style,
+    earlier: &'a [Step],
+    places: &[usize],
+    sought: Sought<'_>,
+) -> Option<Found<'a>>
+    ensures { MatchOption result (All (IsUnlikeAt sought.entry.command sought.entry.reach.now.targets sought.entry.input.now earlier.now) places.now) (λ f. (f.place < length earlier.now) × Contains earlier.now f.step.now × IsLike sought.entry.command sought.entry.reach.now.targets sought.entry.input.now f.step.now) }
+{
+    'places: for place in places {
+        if let Some(found) = like_at(style, earlier, *place, sought) {
+            return Some(found);
+        }
+    }
+    None
+}
+
+/// The index of the earlier steps, which is made where there is none yet.
+fn index_of(alloc: Global, earlier: &[Step], index: Option<Index>) -> Result<Index, AllocError>
+    requires { ForSome index (IsIndex earlier.now) }
+    ensures { IfOk result (λ made. IsIndex earlier.now made) }
+{
+    match index {
+        Some(made) => Ok(made),
+        None => Index::of(alloc, earlier),
+    }
+}
+
+/// The step that is met by the index.
+fn meet_by_index<'a>(
+    alloc: Global,
+    style: &Style,
+    earlier: &'a [Step],
+    sought: Sought<'_>,
+    index: &mut Option<Index>,
+) -> Result<Option<Found<'a>>, AllocError>
+    requires { ForSome index.old (IsIndex earlier.now) }
+    ensures met { IfOk result (λ met. MatchOption met (All (λ s. IsLike sought.entry.command sought.entry.reach.now.targets sought.entry.input.now s → ⊥) earlier.now) (λ f. (f.place < length earlier.now) × Contains earlier.now f.step.now × IsLike sought.entry.command sought.entry.reach.now.targets sought.entry.input.now f.step.now)) }
+    ensures indexed { OnOk result (ForSome index.new (IsIndex earlier.now)) }
+{
+    let made = index_of(alloc, earlier, index.take())?;
+    let places = made.places(alloc, sought.command, sought.input)?;
+    let met = find_like(style, earlier, places, sought);
+    *index = Some(made);
+    Ok(met)
+}
+
+/// The step that is met: mostly the one at the place to try next.
 fn meet<'a>(
+    alloc: Global,
     style: &Style,
     earlier: &'a [Step],
     next: usize,
-    command: usize,
-    input: &Input,
-    reach: &Reach,
-) -> Option<Found<'a>>
-    ensures { MatchOption result (All (λ s. IsLike command reach.now.targets input.now s → ⊥) earlier.now) (λ f. (f.place < length earlier.now) × Contains earlier.now f.step.now × IsLike command reach.now.targets input.now f.step.now) }
+    sought: Sought<'_>,
+    index: &mut Option<Index>,
+) -> Result<Option<Found<'a>>, AllocError>
+    requires { ForSome index.old (IsIndex earlier.now) }
+    ensures met { IfOk result (λ met. MatchOption met (All (λ s. IsLike sought.entry.command sought.entry.reach.now.targets sought.entry.input.now s → ⊥) earlier.now) (λ f. (f.place < length earlier.now) × Contains earlier.now f.step.now × IsLike sought.entry.command sought.entry.reach.now.targets sought.entry.input.now f.step.now)) }
+    ensures indexed { OnOk result (ForSome index.new (IsIndex earlier.now)) }
 {
-    match like_at(style, earlier, next, command, input, reach) {
-        Some(found) => Some(found),
-        None => find_like(style, earlier, command, input, reach),
+    match like_at(style, earlier, next, sought) {
+        Some(found) => Ok(Some(found)),
+        None => meet_by_index(alloc, style, earlier, sought, index),
     }
+}
+
+/// Whether a step is for the same key.
+fn is_same_key(step: &Step, input: &Input) -> bool {
+    match (&step.key, &input.entry) {
+        (None, None) => true,
+        (Some(key), Some(entry)) => key.as_slice() == entry.key.as_slice(),
+        _ => false,
+    }
+}
+
+/// The place to try after a step that isn't met: one further, where the step here is of the same command and key.
+fn place_after(earlier: &[Step], next: usize, sought: Sought<'_>) -> usize
+    ensures { result ≤ next + 1 }
+{
+    if next < earlier.len() {
+        let step = &earlier[next];
+        if step.command == sought.command && is_same_key(step, sought.input) {
+            return next + 1;
+        }
+    }
+    next
 }
 
 // A step
@@ -197,6 +259,7 @@ fn carry_out(
     ensures within { OnOk result (reuse.new.meter ≤ reuse.old.meter + 1000000) }
     ensures ticks { OnOk result (reuse.new.meter ≡ reuse.old.meter + (step_in (program_of style.now) input.now).cost) }
     ensures known { OnOk result (reuse.new.known ≡ reuse.old.known) }
+    ensures index { OnOk result (reuse.new.index ≡ reuse.old.index) }
 {
     let before = reuse.meter.value();
     let outcome = activate(alloc, style, input, &mut reuse.meter)?;
@@ -217,22 +280,31 @@ pub fn take_or_reuse(
     requires meter { reuse.old.meter + 1000000 < 2 ^ 128 }
     requires ran { reuse.old.ran + 1 < 2 ^ 128 }
     requires known { All (IsKnown (program_of style.now)) reuse.old.known }
+    requires indexed { ForSome reuse.old.index (IsIndex earlier.now) }
     requires steps { All (IsStep (program_of style.now)) earlier.now }
     ensures outcome { IfOk result (λ d. d.outcome ≡ outcome_of (step_in (program_of style.now) input.now)) }
     ensures cost { IfOk result (λ d. d.cost ≡ (step_in (program_of style.now) input.now).cost) }
     ensures known { OnOk result (All (IsKnown (program_of style.now)) reuse.new.known) }
+    ensures indexed { OnOk result (ForSome reuse.new.index (IsIndex earlier.now)) }
     ensures within { OnOk result (reuse.new.meter ≤ reuse.old.meter + 1000000) }
     ensures counted { IfOk result (λ d. IsCounted (program_of style.now) earlier.now (record { command = command; key = key_in input.now; input = input.now; outcome = d.outcome; cost = d.cost }) reuse.old reuse.new) }
 {
     let known = reach_of(alloc, style, input, &mut reuse.known)?;
     let reach: &Reach = &known;
-    match meet(style, earlier, reuse.next, command, input, reach) {
+    let sought = Sought {
+        command,
+        input,
+        reach,
+    };
+    let met = meet(alloc, style, earlier, reuse.next, sought, &mut reuse.index)?;
+    match met {
         Some(found) => {
             reuse.next = found.place + 1;
             let taken = take_over(alloc, style, found.step, input, reach)?;
             Ok(taken)
         }
         None => {
+            reuse.next = place_after(earlier, reuse.next, sought);
             let ran = carry_out(alloc, style, input, reuse)?;
             Ok(ran)
         }

@@ -24,7 +24,7 @@ returns-clause-consistent c =
     let one = sym c.in_ok-key.ensures in
     let counted = subst (λ (s : Step). IsCounted p c.args.earlier.now s c.args.reuse.now c.take_or_reuse.new.reuse) (λ j. now (one j) o cost) c.in_ok-outcome.ensures.counted in
     consistent_behind p c.args.earlier.now c.args.place o c.args.course.now c.put_back.new.course (now c.in_ok-key.key o cost) c.append.new.self c.push.new.self c.args.reuse.now c.take_or_reuse.new.reuse
-    c.requires.consistent c.in_ok-put_back.ensures c.in_ok-push.ensures.ok counted (record { key = c.in_ok-key.ensures; outcome = c.in_ok-outcome.ensures.outcome; cost = c.in_ok-outcome.ensures.cost }) c.in_ok-outcome.ensures.within c.in_ok-outcome.ensures.known
+    c.requires.consistent c.in_ok-put_back.ensures c.in_ok-push.ensures.ok counted (record { key = c.in_ok-key.ensures; outcome = c.in_ok-outcome.ensures.outcome; cost = c.in_ok-outcome.ensures.cost }) c.in_ok-outcome.ensures.within c.in_ok-outcome.ensures.known c.in_ok-outcome.ensures.indexed
 
 pub returns-clause-entries : goal.returns-clause-entries
 returns-clause-entries c = ap (λ (r : Course). length r.entries) c.in_ok-put_back.ensures ∙ length-variables_back c.args.place _ c.args.course.now.entries
