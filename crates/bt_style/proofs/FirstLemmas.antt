@@ -11,7 +11,7 @@ use Rattle.bt_style.specs.Draft.{preset}
 use Rattle.bt_style.specs.Verbs.{verb_named, verb_of, in_order, out_of_order, stage_after}
 use Rattle.bt_style.specs.Commands.{arguments_at, command_at}
 use Rattle.bt_style.specs.Reader.{commands_at, reading, style_of}
-use Rattle.bt_style.specs.FirstFault.{in_front, first_line, BeginsAs, StandsAtItsToken, FaultIsFirst}
+use Rattle.bt_style.specs.Laws.{in_front, first_line, BeginsAs, StandsAtItsToken, FaultIsFirst, AnyReserveServes}
 use Rattle.bt_style.proofs.ReaderLemmas.{in_front_append, count_behind, Takes, Stops, Reads, Took, Stopped, Reader, just, then}
 use Rattle.bt_style.proofs.OnLineLemmas.{on_line, verb_on, order_on}
 use Rattle.bt_style.proofs.RuleLemmas.{with_rest, arguments_reader}
@@ -98,6 +98,10 @@ enough (suc m) (suc n) stage p (Front (Word word) line rest) a b =
 enough (suc m) (suc n) stage p (Front (Literal bytes) line rest) a b = refl
 enough (suc m) (suc n) stage p (Front Unclosed line rest) a b = refl
 enough (suc m) (suc n) stage p (Front Joined line rest) a b = refl
+
+pub any_reserve_serves : AnyReserveServes
+unfolding reading
+any_reserve_serves most tokens lt = enough most (suc (count tokens)) BeforeEntry preset tokens lt (omega arith)
 
 -- the commands up to the end
 abbrev through : Stage → Program → Tokens → Result Program Fault

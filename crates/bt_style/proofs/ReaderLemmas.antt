@@ -4,7 +4,7 @@ use Rattle.std.proofs.Common.{◌≡◌, ℕ, ◌≤◌, List, [], ◌∷◌, �
 use Rattle.bt_style.specs.declared.fault.Fault.{Fault}
 use Rattle.bt_style.specs.Fault.{◌>>=◌}
 use Rattle.bt_style.specs.Token.{Token, Tokens, AtEnd, Front, tokens_behind, count}
-use Rattle.bt_style.specs.FirstFault.{in_front, first_line, BeginsAs}
+use Rattle.bt_style.specs.Laws.{in_front, first_line, BeginsAs}
 
 pub in_front_append : (front more : List (Token × ℕ)) (rest : Tokens) → in_front (front ++ more) rest ≡ in_front front (in_front more rest)
 in_front_append [] more rest = refl

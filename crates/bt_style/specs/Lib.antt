@@ -15,7 +15,7 @@ pub mod Spelled
 pub mod Verbs
 pub mod Commands
 pub mod Reader
-pub mod FirstFault
 pub mod Apart
 pub mod Numbers
 pub mod Reach
+pub mod Laws

@@ -1,9 +1,14 @@
--- Where the first fault of a style stands.
-use Rattle.std.specs.Prelude.{◌≡◌, ℕ, List, [], ◌∷◌, Ok, Err}
+-- Laws of styles: where a first fault stands, how many commands are read at most, and the names of built-in functions.
+use Rattle.std.specs.Prelude.{◌≡◌, ℕ, ◌<◌, List, [], ◌∷◌, Some, Ok, Err}
 use Rattle.bt_style.specs.declared.fault.Fault.{Fault}
-use Rattle.bt_style.specs.Token.{Token, Tokens, AtEnd, Front, tokens_behind, tokens_of}
+use Rattle.bt_style.specs.declared.builtin.Builtin.{Builtin}
+use Rattle.bt_style.specs.declared.verbs.Stage.TheVariants.{BeforeEntry}
+use Rattle.bt_style.specs.Builtins.{name_of}
+use Rattle.bt_style.specs.Token.{Token, Tokens, AtEnd, Front, tokens_behind, tokens_of, count}
 use Rattle.bt_style.specs.Program.{Program}
-use Rattle.bt_style.specs.Reader.{reading, style_of}
+use Rattle.bt_style.specs.Names.{builtin_named}
+use Rattle.bt_style.specs.Draft.{preset}
+use Rattle.bt_style.specs.Reader.{commands_at, reading, style_of}
 
 -- tokens with their lines, in front of others
 abbrev pub in_front : List (Token × ℕ) → Tokens → Tokens
@@ -38,3 +43,11 @@ pub record StandsAtItsToken (tokens : Tokens) (f : Fault) : Type 0 where
 -- So a fault is neither too early nor too late.
 abbrev pub FaultIsFirst : Type 0
 FaultIsFirst = (text : List ℕ) (f : Fault) → style_of text ≡ Err f → StandsAtItsToken (tokens_of text) f
+
+-- The greatest number of commands that `reading` allows is never reached: each one above the number of tokens serves.
+abbrev pub AnyReserveServes : Type 0
+AnyReserveServes = (most : ℕ) (tokens : Tokens) → count tokens < most → commands_at most BeforeEntry preset tokens ≡ reading tokens
+
+-- Each function that needs no definition is the one that its name stands for; so no two have one name.
+abbrev pub FoundByTheirNames : Type 0
+FoundByTheirNames = (b : Builtin) → builtin_named (name_of b) ≡ Some b
