@@ -9,7 +9,7 @@
 # make hostile    times the worst inputs that we could think of
 # make compare    runs it and TeX Live's bibtex over the TeX tree's styles and databases, where these are installed
 # make try-latex  tries bibtex-collect with LaTeX and latexmk, where these are installed
-# make try-editors   drives Vim and Emacs with the plugins of editors/, where they are installed
+# make try-editors   drives Vim, Neovim and Emacs with the plugins of editors/, where they are installed
 
 PREFIX ?= /usr/local
 DESTDIR ?=
