@@ -5,11 +5,11 @@
 # make install    puts it into PREFIX/bin as bibtex, and bibtex-collect beside it (PREFIX=/usr/local; DESTDIR goes before it)
 # make uninstall  takes both away
 # make check      proves what has changed since the last check
-# make measure    times the built program (docs/SPEED.md)
+# make measure    times the built program, beside TeX Live's where that is installed, and writes docs/SPEED.md
 # make hostile    times the worst inputs that we could think of
 # make compare    runs it and TeX Live's bibtex over the TeX tree's styles and databases, where these are installed
 # make try-latex  tries bibtex-collect with LaTeX and latexmk, where these are installed
-# make try-editors   drives Vim and Emacs with the plugins of editors/, where they are installed
+# make try-editors   drives Vim, Neovim and Emacs with the plugins of editors/, where they are installed
 
 PREFIX ?= /usr/local
 DESTDIR ?=
@@ -58,7 +58,7 @@ uninstall:
 	rm -f "$(DESTDIR)$(PREFIX)/bin/bibtex" "$(DESTDIR)$(PREFIX)/bin/bibtex-collect"
 
 measure: build
-	tests/measure $(PROGRAM)
+	tests/measure $(PROGRAM) --write
 
 hostile: build
 	tests/hostile $(PROGRAM)

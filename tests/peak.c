@@ -1,4 +1,4 @@
-/* peak FILE COMMAND..: runs a command and writes into the file its processor time in milliseconds and the most memory that
+/* peak FILE COMMAND..: runs a command and writes into the file its processor time in microseconds and the most memory that
  * it had, in kilobytes. The exit status is the command's, 128 and more where a signal ended it. */
 #include <stdio.h>
 #include <sys/resource.h>
@@ -22,7 +22,7 @@ int main(int count, char **words) {
   file = fopen(words[1], "w");
   if (!file) return 2;
   fprintf(file, "%ld %ld\n",
-          (used.ru_utime.tv_sec + used.ru_stime.tv_sec) * 1000 + (used.ru_utime.tv_usec + used.ru_stime.tv_usec) / 1000,
+          (used.ru_utime.tv_sec + used.ru_stime.tv_sec) * 1000000L + used.ru_utime.tv_usec + used.ru_stime.tv_usec,
           used.ru_maxrss);
   fclose(file);
   return WIFSIGNALED(status) ? 128 + WTERMSIG(status) : WEXITSTATUS(status);

@@ -1,8 +1,8 @@
-" Drives Vim through a session of writing, by keys that are typed, and writes what it saw to the file `said`. It is
+" Drives Vim or Neovim through a session of writing, by keys that are typed, and writes what it saw to the file `said`. It is
 " started in a folder with a copy of the example, with EDITORS, PROGRAM, PATIENCE, and STEPS, how many steps are taken.
 " A step is [name, what to do, what must become true]; one that isn't true within ten seconds ends the session.
 
-set nocompatible hidden noswapfile encoding=utf-8 fileencodings=utf-8
+set nocompatible startofline hidden noswapfile encoding=utf-8 fileencodings=utf-8
 scriptencoding utf-8
 let &runtimepath = $EDITORS . '/vim,' . &runtimepath
 runtime plugin/bibtex_live.vim
@@ -39,6 +39,9 @@ endfunction
 
 " The numbers of the programs that this editor runs.
 function! Programs()
+  if has('nvim')
+    return map(filter(nvim_list_chans(), 'v:val.stream ==# "job"'), 'jobpid(v:val.id)')
+  endif
   return map(filter(job_info(), 'job_status(v:val) ==# "run"'), 'job_info(v:val).process')
 endfunction
 

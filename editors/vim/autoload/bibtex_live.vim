@@ -1,5 +1,5 @@
-" bibtex_live.vim: keeps `bibtex --resident PAPER` beside Vim, sends it each change, and shows the bibliography and
-" the messages.   :help bibtex-live
+" bibtex_live.vim: keeps `bibtex --resident PAPER` beside Vim or Neovim, sends it each change, and shows the bibliography
+" and the messages.   :help bibtex-live
 "
 " A paper is a dictionary. At most one command of it is in flight (`asked`); when its answer is there, `s:Pump` compares
 " the texts as they are now with those that the program has, and sends the next difference. So the newest text wins, and
@@ -30,8 +30,8 @@ endfunction
 " --- Commands ---
 
 function! bibtex_live#Start(argument) abort
-  if !(has('job') && has('channel') && has('timers') && exists('*deletebufline'))
-    return s:Warn('Vim 8.1.0039 or later is needed, with +job, +channel and +timers')
+  if !(has('nvim-0.7') || has('job') && has('channel') && has('timers') && exists('*deletebufline'))
+    return s:Warn('Vim 8.1.0039 or later is needed, with +job, +channel and +timers, or Neovim 0.7 or later')
   endif
   let aux = a:argument ==# '' ? s:Guess() : fnamemodify(a:argument, ':p')
   if aux ==# ''
@@ -128,6 +128,7 @@ function! s:Watch() abort
     endif
     autocmd FocusGained * call s:Changed()
     autocmd CursorMoved,CursorMovedI,BufEnter *.aux,*.bib,*.bst,*.tex call s:Follow()
+    autocmd VimLeavePre * call s:Leave()
   augroup END
   if !exists('s:clock')
     " Files that aren't edited here, as the .aux file that LaTeX writes.
@@ -137,6 +138,13 @@ endfunction
 
 function! s:Tick() abort
   call map(values(s:papers), 's:Pump(v:val)')
+endfunction
+
+" The editor ends: so do the programs, and none is started again.
+function! s:Leave() abort
+  let papers = values(s:papers)
+  let s:papers = {}
+  call map(papers, 's:Drop(v:val)')
 endfunction
 
 function! s:Changed() abort
@@ -150,16 +158,43 @@ endfunction
 " --- The program ---
 
 function! s:Launch(paper) abort
+  call extend(a:paper, {'sent': {}, 'asked': '', 'input': '', 'wanted': -1, 'stale': '', 'said': '', 'began': reltime()})
+  let words = [s:Option('program', 'bibtex'), '--resident'] + s:Option('arguments', []) + [a:paper.name]
+  if has('nvim')
+    let options = {'cwd': a:paper.folders[0],
+          \ 'on_stdout': {job, lines, _ -> s:Receive(a:paper, job, join(lines, "\n"))},
+          \ 'on_stderr': {_, lines, __ -> s:Complain(a:paper, lines[0])},
+          \ 'on_exit': {job, _, __ -> s:Ended(a:paper, job)}}
+    let a:paper.job = jobstart(words, options)
+    let a:paper.channel = a:paper.job
+    return
+  endif
   let options = {'mode': 'raw', 'in_io': 'pipe', 'out_io': 'pipe', 'err_io': 'pipe', 'err_mode': 'nl',
         \ 'cwd': a:paper.folders[0], 'out_cb': function('s:Receive', [a:paper]),
-        \ 'err_cb': {_, line -> a:paper.said ==# '' ? extend(a:paper, {'said': line}) : 0}, 'close_cb': function('s:Ended', [a:paper])}
+        \ 'err_cb': {_, line -> s:Complain(a:paper, line)}, 'close_cb': function('s:Ended', [a:paper])}
   if has('patch-8.1.350')
     let options.noblock = 1
   endif
-  call extend(a:paper, {'sent': {}, 'asked': '', 'input': '', 'wanted': -1, 'stale': '', 'said': '', 'began': reltime()})
-  let words = [s:Option('program', 'bibtex'), '--resident'] + s:Option('arguments', []) + [a:paper.name]
   let a:paper.job = job_start(words, options)
   let a:paper.channel = job_getchannel(a:paper.job)
+endfunction
+
+" Keeps the first line that the program says on standard error.
+function! s:Complain(paper, line) abort
+  let a:paper.said = a:paper.said ==# '' ? a:line : a:paper.said
+endfunction
+
+" Sends a text or a blob to the program.
+function! s:Send(paper, bytes) abort
+  try
+    if has('nvim')
+      call chansend(a:paper.channel, a:bytes)
+    else
+      call ch_sendraw(a:paper.channel, a:bytes)
+    endif
+  catch /^Vim\%((\a\+)\)\=:E\%(630\|631\|900\|906\)/
+    " The channel is closed: s:Ended comes.
+  endtry
 endfunction
 
 " Ends the program without a word; what it still says is for nobody.
@@ -168,7 +203,11 @@ function! s:Drop(paper) abort
     let job = a:paper.job
     let a:paper.job = v:null
     call s:Calm(a:paper)
-    call job_stop(job, 'kill')
+    if has('nvim')
+      call jobstop(job)
+    else
+      call job_stop(job, 'kill')
+    endif
   endif
 endfunction
 
@@ -200,16 +239,11 @@ function! s:Say(paper, asked, line, bytes) abort
   let a:paper.asked = a:asked
   call s:Calm(a:paper)
   let a:paper.patience = timer_start(s:Option('patience', 20) * 1000, function('s:Late', [a:paper]))
-  try
-    if type(a:bytes) == type('')
-      call ch_sendraw(a:paper.channel, a:line . "\n" . a:bytes)
-    else
-      call ch_sendraw(a:paper.channel, a:line . "\n")
-      call ch_sendraw(a:paper.channel, a:bytes)
-    endif
-  catch /^Vim\%((\a\+)\)\=:E\%(630\|631\|906\)/
-    " The channel is closed: s:Ended comes.
-  endtry
+  if type(a:bytes) == type('')
+    return s:Send(a:paper, a:line . "\n" . a:bytes)
+  endif
+  call s:Send(a:paper, a:line . "\n")
+  call s:Send(a:paper, a:bytes)
 endfunction
 
 " Does the next thing that is to be done: an edit, else what the answers of the last edits made stale.
