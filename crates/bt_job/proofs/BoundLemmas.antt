@@ -39,7 +39,7 @@ or_false true = refl
 or_false false = refl
 
 -- a name is among some or is the last one
-is_among-append : (met : List (List ℕ)) (name n : List ℕ) → is_among (met ++ name ∷ []) n ≡ (is_among met n || bytes_eq name n)
+pub is_among-append : (met : List (List ℕ)) (name n : List ℕ) → is_among (met ++ name ∷ []) n ≡ (is_among met n || bytes_eq name n)
 is_among-append [] name n = or_false (bytes_eq name n)
 is_among-append (m ∷ ms) name n = or_step (bytes_eq m n) _ (is_among ms n) (bytes_eq name n) (is_among-append ms name n)
 

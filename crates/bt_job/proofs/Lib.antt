@@ -1,4 +1,5 @@
 pub mod BoundLemmas
 pub mod FitLemmas
+pub mod NameTableLemmas
 pub mod NestingLemmas
 mod CitationsRows

@@ -1,4 +1,5 @@
 pub mod Naming
+pub mod NameTable
 pub mod Taking
 pub mod Citations
 pub mod Fit

@@ -3,11 +3,13 @@
 
 mod citations;
 mod files;
+mod name_table;
 mod naming;
 mod nesting;
+mod reader;
 mod taking;
 
 pub use citations::Citations;
 pub use files::File;
-pub use naming::{is_file_name, text_of};
+pub use naming::{FILE_NAME_BYTES, is_file_name, text_of};
 pub use nesting::{always_fit, any_bound_serves, nested_in_place, read_citations};

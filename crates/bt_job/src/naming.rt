@@ -3,12 +3,16 @@
 ghost use Rattle.std.specs.Prelude.{◌≡◌, IfOk};
 ghost use Rattle.std.specs.List.{list_all};
 ghost use Rattle.std.specs.Option.{option_map};
-ghost use Rattle.bt_job.specs.Naming.{is_name_byte, is_file_name, with_ending, is_among, text_of, named_by, has_ending, met_before, name_fault};
+ghost use Rattle.bt_job.specs.Naming.{is_name_byte, is_file_name, with_ending, text_of, named_by, has_ending, met_before, name_fault};
 
 use crate::files::File;
+use crate::reader::Reader;
 use bt_bib::Command;
-use bt_text::{Bytes, Sequence};
+use bt_text::Bytes;
 use std::alloc::{AllocError, Global};
+
+/// How many bytes a file's name may have, with its folder and ending.
+pub const FILE_NAME_BYTES: usize = 64;
 
 fn is_name_byte(byte: u8) -> bool
     ensures { result ≡ is_name_byte byte }
@@ -26,17 +30,7 @@ fn has_name_bytes(name: &[u8]) -> bool
 pub fn is_file_name(name: &[u8]) -> bool
     ensures { result ≡ is_file_name name.now }
 {
-    name.len() >= 1 && name.len() <= 64 && has_name_bytes(name)
-}
-
-/// Whether a name is among some.
-pub fn is_among(names: &Sequence<Bytes>, name: &[u8]) -> bool
-    ensures { result ≡ is_among names.now name.now }
-{
-    names
-        .as_slice()
-        .iter()
-        .any(|known| known.as_slice() == name)
+    name.len() >= 1 && name.len() <= FILE_NAME_BYTES && has_name_bytes(name)
 }
 
 /// The text of a name, if there is one.
@@ -51,7 +45,7 @@ pub fn text_of<'a>(files: &'a [File], name: &[u8]) -> Option<&'a [u8]>
     None
 }
 
-/// A name with an ending, which is put behind it unless it is there.
+/// A name with an ending, which is put after it unless it is there.
 fn with_ending(alloc: Global, ending: &[u8], name: &[u8]) -> Result<Bytes, AllocError>
     ensures { IfOk result (λ text. text ≡ with_ending ending.now name.now) }
 {
@@ -62,7 +56,7 @@ fn with_ending(alloc: Global, ending: &[u8], name: &[u8]) -> Result<Bytes, Alloc
     }
 }
 
-/// The name that a part of a command stands for. The one error is want of memory.
+/// The name that a part of a command stands for. The one error is out of memory.
 pub fn named_by(alloc: Global, command: Command, part: &[u8]) -> Result<Bytes, AllocError>
     ensures { IfOk result (λ name. name ≡ named_by command part.now) }
 {
@@ -102,25 +96,23 @@ fn met_before(alloc: Global, command: Command, name: &[u8]) -> Result<Option<Byt
     }
 }
 
-/// What is wrong with a name, where these files were met. The one error is want of memory.
-#[tactic(auto, unfolding(crate::specs::Naming::name_fault))]
-pub fn name_fault(
-    alloc: Global,
-    command: Command,
-    met: &Sequence<Bytes>,
-    name: &[u8],
-) -> Result<Option<Bytes>, AllocError>
-    ensures { IfOk result (λ fault. fault ≡ name_fault command met.now name.now) }
-{
-    if !has_ending(command, name) {
-        let words = Bytes::of(alloc, &[name, b" has a wrong extension"])?;
-        Ok(Some(words))
-    } else if !is_file_name(name) {
-        let words = Bytes::of(alloc, &[name, b" isn't a file name of this profile"])?;
-        Ok(Some(words))
-    } else if is_among(met, name) {
-        met_before(alloc, command, name)
-    } else {
-        Ok(None)
+impl Reader {
+    /// What is wrong with a name, where the files were met that were met so far. The one error is out of memory.
+    #[tactic(auto, unfolding(crate::specs::Naming::name_fault))]
+    pub fn name_fault(&self, command: Command, name: &[u8]) -> Result<Option<Bytes>, AllocError>
+        ensures { IfOk result (λ fault. fault ≡ name_fault command self.now.citations.met name.now) }
+    {
+        let alloc = self.alloc;
+        if !has_ending(command, name) {
+            let words = Bytes::of(alloc, &[name, b" has a wrong extension"])?;
+            Ok(Some(words))
+        } else if !is_file_name(name) {
+            let words = Bytes::of(alloc, &[name, b" isn't a file name of this profile"])?;
+            Ok(Some(words))
+        } else if self.was_met(name) {
+            met_before(alloc, command, name)
+        } else {
+            Ok(None)
+        }
     }
 }

@@ -4,15 +4,16 @@ ghost use Rattle.std.specs.Prelude.{◌≡◌, ◌<◌, ◌+◌, ◌^◌, IfOk, 
 ghost use Rattle.bt_log.specs.declared.message.Rank.TheVariants.{FileLine};
 ghost use Rattle.bt_log.specs.Message.{plain};
 ghost use Rattle.bt_job.specs.Fit.{IsFit, AlwaysFit};
-ghost use Rattle.bt_job.specs.Citations.{file_line, file_taken, missing, missing_one, ended, nothing_met, citations, AnyBoundServes, NestedInPlace};
+ghost use Rattle.bt_job.specs.Naming.{text_of};
+ghost use Rattle.bt_job.specs.Citations.{file_line, file_taken, missing, missing_one, ended, nothing_met, rooted, citations, AnyBoundServes, NestedInPlace};
 
 use crate::citations::{Citations, Outcome};
 use crate::files::File;
 use crate::naming::text_of;
-use crate::taking::{take_item, tell, tell_at, want};
-use bt_bib::read_aux;
+use crate::reader::Reader;
+use bt_bib::{Command, read_aux};
 use bt_log::{Message, Place, Rank};
-use bt_text::{Bytes, NameList, Sequence, Shared};
+use bt_text::{Bytes, Shared};
 use itoa::Buffer;
 use std::alloc::{AllocError, Global};
 
@@ -37,173 +38,126 @@ fn file_line(alloc: Global, level: usize, file: &[u8]) -> Result<Message, AllocE
     Ok(line)
 }
 
-/// Takes the lines of a file, and of the files that it nests in their places: `bound` levels at most.
-fn take_file(
-    alloc: Global,
-    files: &[File],
-    citations: &mut Citations,
-    bound: usize,
-    level: usize,
-    file: &[u8],
-) -> Result<(), AllocError>
-    requires { level + bound < 2 ^ 64 }
-    ensures { OnOk result (citations.new ≡ file_taken bound files.now level file.now citations.old) }
-{
-    if bound == 0 {
-        return Ok(());
-    }
-    let Some(text) = text_of(files, file) else {
-        return Ok(());
-    };
-    tell(citations, file_line(alloc, level, file)?)?;
-    let name = Shared::<Bytes>::copied(alloc, file)?;
-    let items = read_aux(alloc, text)?;
-    'items: for item in items.as_slice() {
-        match take_item(alloc, files, citations, item)? {
-            Outcome::Taken => {}
-            Outcome::Wrong(words) => tell_at(alloc, citations, &name, item.line, words)?,
-            Outcome::Opens(name) => {
-                take_file(
-                    alloc,
-                    files,
-                    citations,
-                    bound - 1,
-                    level + 1,
-                    name.as_slice(),
-                )?
+impl Reader {
+    /// Takes the lines of a file, and of the files that it nests in their places: `bound` levels at most.
+    fn take_file(
+        &mut self,
+        files: &[File],
+        bound: usize,
+        level: usize,
+        file: &[u8],
+    ) -> Result<(), AllocError>
+        requires { level + bound < 2 ^ 64 }
+        ensures { OnOk result (self.new.citations ≡ file_taken bound files.now level file.now self.old.citations) }
+    {
+        if bound == 0 {
+            return Ok(());
+        }
+        let Some(text) = text_of(files, file) else {
+            return Ok(());
+        };
+        self.tell(file_line(self.alloc, level, file)?)?;
+        let name = Shared::<Bytes>::copied(self.alloc, file)?;
+        let items = read_aux(self.alloc, text)?;
+        'items: for item in items.as_slice() {
+            match self.take_item(files, item)? {
+                Outcome::Taken => {}
+                Outcome::Wrong(words) => self.tell_at(&name, item.line, words)?,
+                Outcome::Opens(name) => {
+                    self.take_file(files, bound - 1, level + 1, name.as_slice())?
+                }
             }
         }
-    }
-    Ok(())
-}
-
-/// Says what is missing.
-fn miss(
-    alloc: Global,
-    citations: &mut Citations,
-    what: &[u8],
-    file: &Shared<Bytes>,
-) -> Result<(), AllocError>
-    ensures { OnOk result (citations.new ≡ missing what.now file.now citations.old) }
-{
-    let message = Message::of(alloc, Rank::Error, &[b"I found no ", what])?;
-    let place = Place::WholeFile {
-        file: file.share()?,
-    };
-    tell(citations, message.at(place)?)
-}
-
-/// Says that a command wasn't met, or that it named nothing.
-fn miss_one(
-    alloc: Global,
-    citations: &mut Citations,
-    met: bool,
-    nothing: bool,
-    command: &[u8],
-    named: &[u8],
-    file: &Shared<Bytes>,
-) -> Result<(), AllocError>
-    ensures { OnOk result (citations.new ≡ missing_one met nothing command.now named.now file.now citations.old) }
-{
-    if !met {
-        miss(alloc, citations, command, file)
-    } else if nothing {
-        miss(alloc, citations, named, file)
-    } else {
         Ok(())
     }
-}
 
-/// The errors at the end of the root.
-#[tactic(auto, unfolding(crate::specs::Citations::ended))]
-fn end(alloc: Global, citations: &mut Citations, file: &Shared<Bytes>) -> Result<(), AllocError>
-    ensures { OnOk result (citations.new ≡ ended file.now citations.old) }
-{
-    let no_keys = citations.keys.as_slice().is_empty() && citations.star.is_none();
-    let no_databases = citations.databases.as_slice().is_empty();
-    let no_style = citations.style.is_none();
-    let (citation, database, style) = (
-        citations.citation_met,
-        citations.database_met,
-        citations.style_met,
-    );
-    miss_one(
-        alloc,
-        citations,
-        citation,
-        no_keys,
-        b"\\citation commands",
-        b"cite keys",
-        file,
-    )?;
-    miss_one(
-        alloc,
-        citations,
-        database,
-        no_databases,
-        b"\\bibdata command",
-        b"database files",
-        file,
-    )?;
-    miss_one(
-        alloc,
-        citations,
-        style,
-        no_style,
-        b"\\bibstyle command",
-        b"style file",
-        file,
-    )
-}
+    /// Says what is missing.
+    fn miss(&mut self, what: &[u8], file: &Shared<Bytes>) -> Result<(), AllocError>
+        ensures { OnOk result (self.new.citations ≡ missing what.now file.now self.old.citations) }
+    {
+        let message = Message::of(self.alloc, Rank::Error, &[b"I found no ", what])?;
+        let place = Place::WholeFile {
+            file: file.share()?,
+        };
+        self.tell(message.at(place)?)
+    }
 
-/// What is asked for before a file was read.
-fn nothing_met(alloc: Global) -> Citations
-    ensures { result ≡ nothing_met }
-{
-    Citations {
-        keys: NameList::new(alloc),
-        star: None,
-        databases: Sequence::new(alloc),
-        style: None,
-        log: Sequence::new(alloc),
-        wanted: Sequence::new(alloc),
-        met: Sequence::new(alloc),
-        citation_met: false,
-        database_met: false,
-        style_met: false,
+    /// Says that a command wasn't met, or that it named nothing.
+    fn miss_one(
+        &mut self,
+        met: bool,
+        nothing: bool,
+        command: &[u8],
+        named: &[u8],
+        file: &Shared<Bytes>,
+    ) -> Result<(), AllocError>
+        ensures { OnOk result (self.new.citations ≡ missing_one met nothing command.now named.now file.now self.old.citations) }
+    {
+        if !met {
+            self.miss(command, file)
+        } else if nothing {
+            self.miss(named, file)
+        } else {
+            Ok(())
+        }
+    }
+
+    /// The errors at the end of the root.
+    #[tactic(auto, unfolding(crate::specs::Citations::ended))]
+    fn end(&mut self, file: &Shared<Bytes>) -> Result<(), AllocError>
+        ensures { OnOk result (self.new.citations ≡ ended file.now self.old.citations) }
+    {
+        let asked = &self.citations;
+        let no_keys = asked.keys.as_slice().is_empty() && asked.star.is_none();
+        let no_databases = asked.databases.as_slice().is_empty();
+        let no_style = asked.style.is_none();
+        let (citation, database, style) = (asked.citation_met, asked.database_met, asked.style_met);
+        self.miss_one(
+            citation,
+            no_keys,
+            b"\\citation commands",
+            b"cite keys",
+            file,
+        )?;
+        self.miss_one(
+            database,
+            no_databases,
+            b"\\bibdata command",
+            b"database files",
+            file,
+        )?;
+        self.miss_one(style, no_style, b"\\bibstyle command", b"style file", file)
+    }
+
+    /// Takes the root and all files that it nests. Nothing was read before.
+    fn read_root(&mut self, files: &[File], file: &Shared<Bytes>) -> Result<(), AllocError>
+        requires { self.old.citations ≡ nothing_met }
+        ensures { OnOk result (self.new.citations ≡ rooted files.now file.now (text_of files.now file.now)) }
+    {
+        let name = file.as_slice();
+        if text_of(files, name).is_none() {
+            let words: &[&[u8]] = &[b"I couldn't open auxiliary file ", name];
+            self.tell(Message::of(self.alloc, Rank::Fatal, words)?)?;
+            return self.want(name);
+        }
+        self.meet(Command::Nested, name)?;
+        self.take_file(files, files.len() + 1, 0, name)?;
+        self.end(file)
     }
 }
 
-/// What the files of a session ask for whose root name is this, which has no `.aux` at its end. The one
-/// error is want of memory.
+/// What the files of a session ask for whose root name is this, which has no `.aux` at its end. The one error is out of
+/// memory.
 #[tactic(auto, unfolding(crate::specs::Citations::citations))]
 pub fn read_citations(alloc: Global, files: &[File], root: &[u8]) -> Result<Citations, AllocError>
     ensures value { IfOk result (λ asked. asked ≡ citations files.now root.now) }
     ensures fit { IfOk result (λ asked. IsFit files.now asked) }
 {
     let file = Shared::new(alloc, Bytes::of(alloc, &[root, b".aux"])?)?;
-    let mut citations = nothing_met(alloc);
-    if text_of(files, file.as_slice()).is_none() {
-        let message = Message::of(
-            alloc,
-            Rank::Fatal,
-            &[b"I couldn't open auxiliary file ", file.as_slice()],
-        )?;
-        tell(&mut citations, message)?;
-        want(alloc, &mut citations, file.as_slice())?;
-        return Ok(citations);
-    }
-    citations.met.push(Bytes::copied(alloc, file.as_slice())?)?;
-    take_file(
-        alloc,
-        files,
-        &mut citations,
-        files.len() + 1,
-        0,
-        file.as_slice(),
-    )?;
-    end(alloc, &mut citations, &file)?;
-    Ok(citations)
+    let mut reader = Reader::new(alloc);
+    reader.read_root(files, &file)?;
+    let asked = reader.into_citations();
+    Ok(asked)
 }
 
 /// A law: a file's lines are taken in order, and those of a file that it nests in their place, at any

@@ -6,5 +6,5 @@ use Rattle.bt_job.proofs.nesting.read_citations.Goals as goal
 pub returns-clause-fit : goal.returns-clause-fit
 unfolding citations
 returns-clause-fit c =
-    let value : c.end.new.citations ≡ citations c.args.files.now c.args.root.now = search rules in
-    reads_fit c.args.files.now c.args.root.now c.end.new.citations value
+    let value : c.into_citations-asked.result ≡ citations c.args.files.now c.args.root.now = search rules in
+    reads_fit c.args.files.now c.args.root.now c.into_citations-asked.result value

@@ -1,6 +1,0 @@
-use Rattle.std.proofs.Common.{◌≡◌, drop}
-use Rattle.bt_job.specs.Taking.{parts_taken}
-use Rattle.bt_job.proofs.taking.take_item.Given as goal
-
-abbrev pub invariant-parts : goal.invariant-parts
-invariant-parts l = parts_taken l.files l.item.command l.item.fault (drop l.part-index l.item.parts) l.citations ≡ parts_taken l.files l.item.command l.item.fault l.item.parts l.initial.citations

@@ -1,0 +1,53 @@
+//! Tables of names of files, which match byte for byte and are found by hashing.
+
+ghost use Rattle.std.specs.Prelude.{◌≡◌, ℕ, List, [], ◌∷◌, ◌++◌, OnOk, OnErr};
+ghost use Rattle.bt_job.specs.NameTable.{Mirrors, has_name};
+
+use bt_text::{Bytes, Sequence};
+use indexmap::IndexSet;
+use std::alloc::{AllocError, Global};
+
+/// The names of a list, found by hashing.
+#[derive(Drop)]
+pub struct NameTable {
+    names: IndexSet<Vec<u8>>,
+}
+
+impl NameTable {
+    /// The table of no names. It takes no memory.
+    pub fn new(alloc: Global) -> Self
+        ensures { Mirrors result [] }
+    {
+        NameTable {
+            names: IndexSet::new(alloc),
+        }
+    }
+
+    /// Whether a name is among the names.
+    pub fn has(&self, name: &[u8]) -> bool
+        ensures { result ≡ has_name self.now name.now }
+    {
+        self.names.contains(name)
+    }
+
+    /// Puts a name at the end of a list, and into the table of that list. After out of memory both have the names that
+    /// they had.
+    pub fn note(
+        &mut self,
+        alloc: Global,
+        list: &mut Sequence<Bytes>,
+        name: &[u8],
+    ) -> Result<(), AllocError>
+        requires { Mirrors self.old list.old }
+        ensures ok { OnOk result (list.new ≡ list.old ++ name.now ∷ []) }
+        ensures err { OnErr result (list.new ≡ list.old) }
+        ensures mirrors { Mirrors self.new list.new }
+    {
+        let key = Vec::from_slice(alloc, name)?;
+        let text = Bytes::copied(alloc, name)?;
+        self.names.reserve(1)?;
+        list.push(text)?;
+        let _ = self.names.insert(key);
+        Ok(())
+    }
+}
