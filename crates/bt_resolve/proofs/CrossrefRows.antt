@@ -21,7 +21,7 @@ use Rattle.bt_resolve.specs.Resolved.{stored_entries, preamble, messages, resolv
 use Rattle.bt_log.specs.declared.message.Rank.TheVariants.{Error, Warning}
 use Rattle.bt_resolve.proofs.RowWords.{cited, found, said, entry, told}
 
--- two children keep their parent in the list, behind what is cited
+-- two children keep their parent in the list, after what is cited
 two_children :
     found (cited (codes "a" ∷ codes "b" ∷ [])) (codes "@misc{a, crossref = {P}}\n@misc{p, title = {T}}\n@misc{b, crossref = {p}}" ∷ []) 2
     ≡ said (entry (codes "a") (Some (codes "P")) (Some (codes "T")) ∷ entry (codes "b") (Some (codes "p")) (Some (codes "T")) ∷ entry (codes "p") None (Some (codes "T")) ∷ []) ([])

@@ -15,6 +15,7 @@ use Rattle.bt_text.specs.ByName.{no_value}
 use Rattle.bt_text.specs.NameList.{has_name, are_apart}
 use Rattle.bt_resolve.specs.Names.{crossref, place_of_name}
 use Rattle.bt_resolve.specs.Values.{MacroTexts, field_value, value_warnings}
+use Rattle.bt_resolve.specs.Warnings.{line_of}
 use Rattle.bt_resolve.specs.Fields.{given, own_value, is_declared, has_field, field_messages, declared_messages, fields_messages}
 use Rattle.bt_resolve.specs.Slots.{slot_of, given_by, is_filled, is_filled_at, fill, with_field, extra_messages, slot_messages}
 
@@ -281,7 +282,7 @@ Tells ns macros database key before f slot = slot_messages slot (given_by ns mac
 -- of a declared field, whose slot is filled where a field of its name stands before
 tells_slot : (ns : List (List ℕ)) (macros : MacroTexts) (database : ℕ) (key : List ℕ) (before : List Field) (f : Field) (slot : Slot) → is_declared ns f.name ≡ true → is_filled slot (given_by ns macros before) ≡ has_field before f.name → Tells ns macros database key before f (Some slot)
 tells_slot ns macros database key before f slot declared filled =
-    ap (λ (b : Bool). value_warnings None macros database f.name f.line f.value ++ extra_messages b database key f) filled
+    ap (λ (b : Bool). value_warnings None macros (line_of database f.line) f.name f.value ++ extra_messages b database key f) filled
     ∙ sym (cond-true (is_declared ns f.name) (field_messages macros database key before f) [] declared)
 
 tells_by : (ns : List (List ℕ)) (macros : MacroTexts) (database : ℕ) (key : List ℕ) (before : List Field) (f : Field) (b : Bool) (o : Option ℕ) → is_same_folded f.name crossref ≡ b → place_of_name ns f.name ≡ o → Tells ns macros database key before f (if b then Some Crossref else option_map (λ p. Value p) o)

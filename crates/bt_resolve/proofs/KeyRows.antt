@@ -43,13 +43,13 @@ unfolding sign enclosed word ended name many parts.part parts.joined parts.value
 repeated_uncited = refl
 
 -- what is cited before `*` comes first
-star_behind_a_key :
+star_after_a_key :
     found (cited_with_star 1 (codes "b" ∷ [])) (codes "@misc{a, title = {A}}@misc{b, title = {B}}@misc{c, title = {C}}" ∷ []) 2
     ≡ said (entry (codes "b") None (Some (codes "B")) ∷ entry (codes "a") None (Some (codes "A")) ∷ entry (codes "c") None (Some (codes "C")) ∷ []) ([])
 unfolding sign enclosed word ended name many parts.part parts.joined parts.value field next_field opening piece next_piece pieces_of value field_value value_warnings macro_before given stored_of stored_among stored_messages item_messages fault_words unclosed_entry listed values_behind is_left_out final_crossref entries_seen reference_messages missing_messages list_messages stored_entries preamble messages resolved
-star_behind_a_key = refl
+star_after_a_key = refl
 
--- a key behind `*` has its place in the databases
+-- a key after `*` has its place in the databases
 star_before_a_key :
     found (cited_with_star 0 (codes "C" ∷ [])) (codes "@misc{a, title = {A}}@misc{b, title = {B}}@misc{c, title = {C}}" ∷ []) 2
     ≡ said (entry (codes "a") None (Some (codes "A")) ∷ entry (codes "b") None (Some (codes "B")) ∷ entry (codes "C") None (Some (codes "C")) ∷ []) ([])

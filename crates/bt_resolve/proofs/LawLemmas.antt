@@ -1,6 +1,6 @@
 -- Proofs of the laws.
-use Rattle.std.proofs.Common.{◌≡◌, ◌∙◌, ap, refl, ℕ, zero, suc, ◌+◌, ◌<◌, ◌≤◌, Bool, true, false, List, [], ◌∷◌, ◌++◌, length, reverse, take, Option, Some, None, arith}
-use Rattle.std.specs.Prelude.{◌==◌, ◌||◌, ◌&&◌, not, cond, slice_get, filter, filter_map, option_map, option_and_then, if◌then◌else◌, is_some}
+use Rattle.std.proofs.Common.{◌≡◌, ◌∙◌, ap, sym, refl, append_assoc, append-nil, ℕ, zero, suc, ◌+◌, ◌<◌, ◌≤◌, Bool, true, false, List, [], ◌∷◌, ◌++◌, length, reverse, take, Option, Some, None, arith}
+use Rattle.std.specs.Prelude.{◌==◌, ◌&&◌, not, cond, slice_get, filter, filter_map, option_map, option_and_then, if◌then◌else◌}
 use Rattle.std.specs.List.{AllByRecursion, range_with_len, cons_option}
 use Rattle.bt_text.specs.Folding.{is_same_folded}
 use Rattle.bt_bib.specs.declared.item.Item.{Item}
@@ -11,14 +11,14 @@ use Rattle.bt_resolve.specs.declared.asked.Asked.{Asked}
 use Rattle.bt_resolve.specs.declared.declared.Macro.{Macro}
 use Rattle.bt_resolve.specs.declared.stored.Stored.{Stored}
 use Rattle.bt_text.specs.ByName.{place_of}
-use Rattle.bt_text.specs.NameList.{has_name}
 use Rattle.bt_resolve.specs.Macros.{macro_before}
-use Rattle.bt_resolve.specs.Values.{MacroTexts, is_named}
-use Rattle.bt_resolve.specs.Stored.{stored_of, is_referred_to, is_wanted, is_stored, with_entry, with_item, stored_among}
+use Rattle.bt_resolve.specs.Values.{MacroTexts}
+use Rattle.bt_resolve.specs.Stored.{stored_of, is_wanted, is_stored, with_entry, with_item, stored_among}
 use Rattle.bt_resolve.specs.Listed.{place_of_key, parent_of, is_cited_at, is_among, firsts, cited_places, parents, uncited_parents, listed_by, listed}
 use Rattle.bt_resolve.specs.Inherited.{inherits, values_behind}
 use Rattle.bt_resolve.specs.Resolved.{resolved, stored_entries, all_items}
-use Rattle.bt_resolve.specs.Laws.{MessagesForEachMin, ListedAreStored, StoredAreWanted, KeysApart, StoredKeysApart, NothingInherited}
+use Rattle.bt_resolve.proofs.FieldLemmas.{or_false}
+use Rattle.bt_resolve.specs.Laws.{MessagesForEachMin, ListedAreStored, WantedInTurn, StoredAreWanted, KeysApart, StoredKeysApart, NothingInherited}
 
 pub same_messages : MessagesForEachMin
 unfolding resolved
@@ -96,10 +96,6 @@ listed_stored a stored = listed_below a.keys a.star stored
 
 -- ---- no two stored keys are alike
 
-or_false : (a b : Bool) → (a || b) ≡ false → (a ≡ false) × (b ≡ false)
-or_false true b h = let wrong : true ≡ false = h in cc
-or_false false b h = (refl, h)
-
 apart_last : (s t : Stored) (ss : List Stored) → is_same_folded s.key t.key ≡ false → AllByRecursion (λ (u : Stored). is_same_folded s.key u.key ≡ false) ss → AllByRecursion (λ (u : Stored). is_same_folded s.key u.key ≡ false) (ss ++ t ∷ [])
 apart_last s t [] h hs = (h, tt)
 apart_last s t (u ∷ us) h hs = (hs.0, apart_last s t us h hs.1)
@@ -136,49 +132,26 @@ stored_apart a ms databases = apart_among a ms (reverse (all_items databases))
 
 -- ---- each stored entry is wanted
 
-or_more : (a b : Bool) → a ≡ true → (a || b) ≡ true
-or_more true b h = refl
-or_more false b h = let wrong : false ≡ true = h in cc
+turn_last : (a : Asked) (before ss : List Stored) (t : Stored) → WantedInTurn a before ss → is_wanted a (before ++ ss) t.key ≡ true → WantedInTurn a before (ss ++ t ∷ [])
+turn_last a before [] t h is = (ap (λ (all : List Stored). is_wanted a all t.key) (sym (append-nil before)) ∙ is, tt)
+turn_last a before (s ∷ ss) t h is = (h.0, turn_last a (before ++ s ∷ []) ss t h.1 (ap (λ (all : List Stored). is_wanted a all t.key) (append_assoc before (s ∷ []) ss) ∙ is))
 
-or_behind : (a b c : Bool) → (b ≡ true → c ≡ true) → (a || b) ≡ true → (a || c) ≡ true
-or_behind true b c h is = refl
-or_behind false b c h is = h is
-
--- a key that is referred to stays so
-referred_more : (ss : List Stored) (t : Stored) (key : List ℕ) → is_referred_to ss key ≡ true → is_referred_to (ss ++ t ∷ []) key ≡ true
-referred_more [] t key h = let wrong : false ≡ true = h in cc
-referred_more (s ∷ ss) t key h = or_behind (is_named s.crossref key) (is_referred_to ss key) (is_referred_to (ss ++ t ∷ []) key) (referred_more ss t key) h
-
-wanted_more : (a : Asked) (ss : List Stored) (t : Stored) (key : List ℕ) → is_wanted a ss key ≡ true → is_wanted a (ss ++ t ∷ []) key ≡ true
-wanted_more a ss t key h = or_behind (is_some a.star || has_name a.keys key) (is_referred_to ss key) (is_referred_to (ss ++ t ∷ []) key) (referred_more ss t key) h
-
-abbrev Wanted : Asked → List Stored → List Stored → Type 0
-Wanted a all ss = AllByRecursion (λ (s : Stored). is_wanted a all s.key ≡ true) ss
-
-all_wanted_more : (a : Asked) (all ss : List Stored) (t : Stored) → Wanted a all ss → Wanted a (all ++ t ∷ []) ss
-all_wanted_more a all [] t h = tt
-all_wanted_more a all (s ∷ ss) t h = (wanted_more a all t s.key h.0, all_wanted_more a all ss t h.1)
-
-wanted_last : (a : Asked) (all ss : List Stored) (t : Stored) → Wanted a all ss → is_wanted a all t.key ≡ true → Wanted a all (ss ++ t ∷ [])
-wanted_last a all [] t h is = (is, tt)
-wanted_last a all (s ∷ ss) t h is = (h.0, wanted_last a all ss t h.1 is)
-
-wanted_test : (a : Asked) (b again : Bool) (ss : List Stored) (t : Stored) → is_wanted a ss t.key ≡ b → Wanted a ss ss → (let all = (if b && not again then ss ++ t ∷ [] else ss) in Wanted a all all)
+wanted_test : (a : Asked) (b again : Bool) (ss : List Stored) (t : Stored) → is_wanted a ss t.key ≡ b → WantedInTurn a [] ss → WantedInTurn a [] (if b && not again then ss ++ t ∷ [] else ss)
 wanted_test a true true ss t is h = h
-wanted_test a true false ss t is h = wanted_last a (ss ++ t ∷ []) ss t (all_wanted_more a ss ss t h) (wanted_more a ss t t.key is)
+wanted_test a true false ss t is h = turn_last a [] ss t h is
 wanted_test a false again ss t is h = h
 
-wanted_entry : (a : Asked) (macros : MacroTexts) (e : Entry) (key : Option (List ℕ)) (ss : List Stored) → Wanted a ss ss → Wanted a (with_entry a macros e key ss) (with_entry a macros e key ss)
+wanted_entry : (a : Asked) (macros : MacroTexts) (e : Entry) (key : Option (List ℕ)) (ss : List Stored) → WantedInTurn a [] ss → WantedInTurn a [] (with_entry a macros e key ss)
 unfolding stored_of
 wanted_entry a macros e None ss h = h
 wanted_entry a macros e (Some key) ss h = wanted_test a (is_wanted a ss key) (is_stored ss key) ss (stored_of a macros e key) refl h
 
-wanted_item : (a : Asked) (macros : MacroTexts) (content : Content) (ss : List Stored) → Wanted a ss ss → Wanted a (with_item a macros content ss) (with_item a macros content ss)
+wanted_item : (a : Asked) (macros : MacroTexts) (content : Content) (ss : List Stored) → WantedInTurn a [] ss → WantedInTurn a [] (with_item a macros content ss)
 wanted_item a macros (contents.Entry e) ss h = wanted_entry a macros e e.key ss h
 wanted_item a macros (contents.Define s) ss h = h
 wanted_item a macros (contents.Preamble p) ss h = h
 
-wanted_among : (a : Asked) (ms : List Macro) (before : List Item) → Wanted a (stored_among a ms before) (stored_among a ms before)
+wanted_among : (a : Asked) (ms : List Macro) (before : List Item) → WantedInTurn a [] (stored_among a ms before)
 unfolding stored_among
 wanted_among a ms [] = tt
 wanted_among a ms (item ∷ before) = wanted_item a (macro_before ms before) item.content (stored_among a ms before) (wanted_among a ms before)

@@ -93,6 +93,13 @@ all_add a ms databases =
       messages = all.messages;
     }
 
+-- what was read, once no database is left
+pub whole_is : (a : Asked) (ms : List Macro) (databases rest : List (List Item)) (number : ℕ) (first read : State) → rest ≡ [] → first ≡ nothing_read ms →
+    after_databases a number read rest ≡ after_databases a 1 first databases → read ≡ after_databases a 1 (nothing_read ms) databases
+whole_is a ms databases rest number first read none nothing whole =
+    ap (λ (left : List (List Item)). after_databases a number read left) (sym none)
+    ∙ whole ∙ ap (λ (s : State). after_databases a 1 s databases) nothing
+
 pub stored_is : (a : Asked) (ms : List Macro) (databases : List (List Item)) → (after_databases a 1 (nothing_read ms) databases).stored ≡ stored_entries a ms databases
 unfolding stored_entries
 stored_is a ms databases = (all_add a ms databases).stands.stored

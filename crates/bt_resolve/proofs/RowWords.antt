@@ -23,7 +23,7 @@ style = record {
 abbrev pub cited : List (List ℕ) → Cites
 cited keys = record { keys = keys; star = None }
 
--- these keys, with `*` behind so many of them
+-- these keys, with `*` after so many of them
 abbrev pub cited_with_star : ℕ → List (List ℕ) → Cites
 cited_with_star before keys = record { keys = keys; star = Some before }
 

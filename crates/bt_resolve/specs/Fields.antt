@@ -6,7 +6,7 @@ use Rattle.bt_bib.specs.declared.item.Field.{Field}
 use Rattle.bt_log.specs.declared.message.Message.{Message}
 use Rattle.bt_text.specs.NameList.{has_name}
 use Rattle.bt_resolve.specs.Names.{crossref}
-use Rattle.bt_resolve.specs.Warnings.{extra_field}
+use Rattle.bt_resolve.specs.Warnings.{line_of, extra_field}
 use Rattle.bt_resolve.specs.Values.{MacroTexts, field_value, value_warnings}
 
 -- what fields give for a name: the value of the first field of that name
@@ -30,13 +30,13 @@ has_field fields name = list_any (λ (f : Field). is_same_folded f.name name) fi
 -- of a declared field: its value's warnings, and that a field of its name stands before it
 abbrev pub field_messages : MacroTexts → ℕ → List ℕ → List Field → Field → List Message
 field_messages macros database key before f =
-    value_warnings None macros database f.name f.line f.value ++ (if has_field before f.name then extra_field database f.line key f.name ∷ [] else [])
+    value_warnings None macros (line_of database f.line) f.name f.value ++ (if has_field before f.name then extra_field (line_of database f.line) key f.name ∷ [] else [])
 
 abbrev pub declared_messages : List (List ℕ) → MacroTexts → ℕ → List ℕ → List Field → Field → List Message
 declared_messages declared macros database key before f =
     if is_declared declared f.name then field_messages macros database key before f else []
 
--- of the fields behind those before
+-- of the fields after those before
 abbrev pub fields_messages : List (List ℕ) → MacroTexts → ℕ → List ℕ → List Field → List Field → List Message
 fields_messages declared macros database key before [] = []
 fields_messages declared macros database key before (f ∷ fs) =

@@ -1,5 +1,5 @@
 -- What the definitions promise together.
-use Rattle.std.specs.Prelude.{IsTrue, map, ◌≡◌, ℕ, ◌<◌, true, false, List, [], ◌∷◌, length, None}
+use Rattle.std.specs.Prelude.{IsTrue, map, ◌≡◌, ℕ, ◌<◌, true, false, List, [], ◌∷◌, ◌++◌, length, None}
 use Rattle.std.specs.List.{AllByRecursion}
 use Rattle.bt_text.specs.Folding.{is_same_folded}
 use Rattle.bt_bib.specs.declared.item.Item.{Item}
@@ -24,9 +24,14 @@ MessagesForEachMin = (d : Declared) (c : Cites) (databases : List (List Item)) (
 abbrev pub ListedAreStored : Type 0
 ListedAreStored = (a : Asked) (stored : List Stored) → AllByRecursion (λ p. p < length stored) (listed a stored)
 
--- all entries are cited, or the key of each stored one is, or a stored one refers to it
+-- each of these is wanted after those that are stored before it
+abbrev pub WantedInTurn : Asked → List Stored → List Stored → Type 0
+WantedInTurn a before [] = Unit {0}
+WantedInTurn a before (s ∷ ss) = (is_wanted a before s.key ≡ true) × WantedInTurn a (before ++ s ∷ []) ss
+
+-- all entries are cited, or the key of each stored one is, or one that is stored before it refers to it
 abbrev pub StoredAreWanted : Type 0
-StoredAreWanted = (a : Asked) (macros : List Macro) (databases : List (List Item)) → AllByRecursion (λ (s : Stored). is_wanted a (stored_entries a macros databases) s.key ≡ true) (stored_entries a macros databases)
+StoredAreWanted = (a : Asked) (macros : List Macro) (databases : List (List Item)) → WantedInTurn a [] (stored_entries a macros databases)
 
 -- no two keys match
 abbrev pub KeysApart : List Stored → Type 0

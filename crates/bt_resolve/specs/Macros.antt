@@ -19,7 +19,7 @@ abbrev pub faultless : {A : Type 0} → Option Fault → Option A → Option A
 faultless None value = value
 faultless (Some fault) value = None
 
--- the macros behind a string, from those before it
+-- the macros after a string, from those before it
 abbrev pub with_string : Option (List ℕ) → Option (List Part) → MacroTexts → MacroTexts
 with_string None parts macros = macros
 with_string (Some name) None macros = macros

@@ -1,5 +1,5 @@
 -- The messages of the items, in their order.
-use Rattle.std.specs.Prelude.{ℕ, ◌+◌, Bool, true, false, List, [], ◌∷◌, ◌++◌, reverse, codes, Option, Some, None}
+use Rattle.std.specs.Prelude.{ℕ, ◌+◌, List, [], ◌∷◌, ◌++◌, reverse, codes, Option, Some, None, if◌then◌else◌}
 use Rattle.bt_bib.specs.declared.fault.Fault.{Fault}
 use Rattle.bt_bib.specs.declared.item.Item.{Item}
 use Rattle.bt_bib.specs.declared.item.Part.{Part}
@@ -10,51 +10,50 @@ use Rattle.bt_resolve.specs.declared.asked.Asked.{Asked}
 use Rattle.bt_resolve.specs.declared.declared.Macro.{Macro}
 use Rattle.bt_log.specs.declared.message.Message.{Message}
 use Rattle.bt_resolve.specs.declared.stored.Stored.{Stored}
+use Rattle.bt_resolve.specs.declared.message.Place.{Place}
 use Rattle.bt_resolve.specs.Names.{place_of_name}
 use Rattle.bt_resolve.specs.Values.{MacroTexts, value, value_warnings}
 use Rattle.bt_resolve.specs.Macros.{faultless, macro_before}
-use Rattle.bt_resolve.specs.Warnings.{no_function}
+use Rattle.bt_resolve.specs.Warnings.{line_of, no_function}
 use Rattle.bt_resolve.specs.Faults.{fault_messages, repeated}
 use Rattle.bt_resolve.specs.Fields.{fields_messages}
 use Rattle.bt_resolve.specs.Stored.{kind_of, is_wanted, is_stored, stored_among}
 
-abbrev pub type_messages : Option ℕ → ℕ → ℕ → List ℕ → List Message
-type_messages None database line key = no_function database line key ∷ []
-type_messages (Some function) database line key = []
+abbrev pub type_messages : Option ℕ → Place → List ℕ → List Message
+type_messages None place key = no_function place key ∷ []
+type_messages (Some function) place key = []
 
 -- of an entry that is stored: that its type has no function, then those of its fields
-unfoldable pub stored_messages : Asked → MacroTexts → ℕ → ℕ → Entry → List ℕ → List Message
-stored_messages a macros database line e key =
-    type_messages (place_of_name a.types (kind_of e)) database line key ++ fields_messages a.fields macros database key [] e.fields
+unfoldable pub stored_messages : Asked → MacroTexts → Place → Entry → List ℕ → List Message
+stored_messages a macros place e key =
+    type_messages (place_of_name a.types (kind_of e)) place key ++ fields_messages a.fields macros place.database key [] e.fields
 
--- of an entry that is wanted or not, and whose key is stored already or not
-abbrev pub wanted_messages : Bool → Bool → Asked → MacroTexts → ℕ → ℕ → Entry → List ℕ → List Message
-wanted_messages false again a macros database line e key = []
-wanted_messages true true a macros database line e key = repeated database line key ∷ []
-wanted_messages true false a macros database line e key = stored_messages a macros database line e key
+-- of an entry that is wanted: its key is stored already, or it is stored
+abbrev pub wanted_messages : Asked → MacroTexts → List Stored → Place → Entry → List ℕ → List Message
+wanted_messages a macros stored place e key = if is_stored stored key then repeated place key ∷ [] else stored_messages a macros place e key
 
-abbrev pub key_messages : Asked → MacroTexts → List Stored → ℕ → ℕ → Entry → Option (List ℕ) → List Message
-key_messages a macros stored database line e None = []
-key_messages a macros stored database line e (Some key) = wanted_messages (is_wanted a stored key) (is_stored stored key) a macros database line e key
+abbrev pub key_messages : Asked → MacroTexts → List Stored → Place → Entry → Option (List ℕ) → List Message
+key_messages a macros stored place e None = []
+key_messages a macros stored place e (Some key) = if is_wanted a stored key then wanted_messages a macros stored place e key else []
 
-abbrev pub string_messages : MacroTexts → ℕ → ℕ → Option (List ℕ) → Option (List Part) → List Message
-string_messages macros database line None parts = []
-string_messages macros database line (Some name) None = []
-string_messages macros database line (Some name) (Some parts) = value_warnings (Some name) macros database name line parts
+abbrev pub string_messages : MacroTexts → Place → Option (List ℕ) → Option (List Part) → List Message
+string_messages macros place None parts = []
+string_messages macros place (Some name) None = []
+string_messages macros place (Some name) (Some parts) = value_warnings (Some name) macros place name parts
 
-abbrev pub preamble_messages : MacroTexts → ℕ → ℕ → Option (List Part) → List Message
-preamble_messages macros database line None = []
-preamble_messages macros database line (Some parts) = value_warnings None macros database (codes "preamble") line parts
+abbrev pub preamble_messages : MacroTexts → Place → Option (List Part) → List Message
+preamble_messages macros place None = []
+preamble_messages macros place (Some parts) = value_warnings None macros place (codes "preamble") parts
 
-abbrev pub content_messages : Asked → MacroTexts → List Stored → ℕ → ℕ → Option Fault → Content → List Message
-content_messages a macros stored database line fault (contents.Entry e) = key_messages a macros stored database line e e.key
-content_messages a macros stored database line fault (contents.Define d) = string_messages macros database line d.name (faultless fault d.value)
-content_messages a macros stored database line fault (contents.Preamble parts) = preamble_messages macros database line (faultless fault parts)
+abbrev pub content_messages : Asked → MacroTexts → List Stored → Place → Option Fault → Content → List Message
+content_messages a macros stored place fault (contents.Entry e) = key_messages a macros stored place e e.key
+content_messages a macros stored place fault (contents.Define d) = string_messages macros place d.name (faultless fault d.value)
+content_messages a macros stored place fault (contents.Preamble parts) = preamble_messages macros place (faultless fault parts)
 
 -- what an item gives, with the macros before it and the entries that are stored before it; its fault comes last
 unfoldable pub item_messages : Asked → MacroTexts → List Stored → ℕ → Item → List Message
 item_messages a macros stored database item =
-    content_messages a macros stored database item.line item.fault item.content
+    content_messages a macros stored (line_of database item.line) item.fault item.content
     ++ fault_messages database item.end item.content item.close item.fault
 
 -- for each item what f makes of it and of the items before it

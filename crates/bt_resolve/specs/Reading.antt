@@ -10,6 +10,7 @@ use Rattle.bt_text.specs.ByName.{known}
 use Rattle.bt_resolve.specs.Values.{MacroTexts}
 use Rattle.bt_resolve.specs.Macros.{style_macro, with_content}
 use Rattle.bt_resolve.specs.Stored.{with_item}
+use Rattle.bt_resolve.specs.Warnings.{line_of}
 use Rattle.bt_resolve.specs.Messages.{preamble_of, content_messages, item_messages}
 
 -- what was read, with the macros as a function
@@ -27,23 +28,18 @@ after_content a database item s = record {
   macros = with_content item.fault item.content s.macros;
   stored = with_item a s.macros item.content s.stored;
   preamble = s.preamble ++ preamble_of s.macros item.fault item.content;
-  messages = s.messages ++ content_messages a s.macros s.stored database item.line item.fault item.content;
+  messages = s.messages ++ content_messages a s.macros s.stored (line_of database item.line) item.fault item.content;
 }
 
 abbrev pub after_item : Asked → ℕ → Item → State → State
-after_item a database item s = record {
-  macros = with_content item.fault item.content s.macros;
-  stored = with_item a s.macros item.content s.stored;
-  preamble = s.preamble ++ preamble_of s.macros item.fault item.content;
-  messages = s.messages ++ item_messages a s.macros s.stored database item;
-}
+after_item a database item s = record (after_content a database item s) { messages = s.messages ++ item_messages a s.macros s.stored database item }
 
--- behind the items of a database
+-- after the items of a database
 abbrev pub after_items : Asked → ℕ → State → List Item → State
 after_items a database s [] = s
 after_items a database s (item ∷ items) = after_items a database (after_item a database item s) items
 
--- behind the databases from this number on
+-- after the databases from this number on
 abbrev pub after_databases : Asked → ℕ → State → List (List Item) → State
 after_databases a number s [] = s
 after_databases a number s (these ∷ databases) = after_databases a (number + 1) (after_items a number s these) databases

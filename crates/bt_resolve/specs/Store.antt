@@ -1,7 +1,8 @@
 -- What the hashed tables of a store have.
-use Rattle.std.specs.Prelude.{◌≡◌, ℕ, is_some, map, List, Option, Some, None}
+use Rattle.std.specs.Prelude.{◌≡◌, ℕ, is_some, map, List, Option, Some, None, bytes_eq, if◌then◌else◌}
 use Rattle.bt_text.specs.declared.by_name.ByName.{ByName}
-use Rattle.bt_text.specs.ByName.{by_small, known, listed, with_value}
+use Rattle.bt_text.specs.ByName.{by_small, known, listed}
+use Rattle.bt_text.specs.Folding.{folded}
 use Rattle.bt_resolve.specs.declared.stored.Stored.{Stored}
 use Rattle.bt_resolve.specs.Stored.{is_referred_to}
 
@@ -14,7 +15,7 @@ pub record IsIndexed (entries : ByName Stored) (referred : ByName (Unit {0})) : 
   pub keys_known : listed entries ≡ by_small (λ (s : Stored). s.key) (stored_in entries)
   pub references_known : (key : List ℕ) → is_some (known referred key) ≡ is_referred_to (stored_in entries) key
 
--- the keys that are referred to, once an entry with this `crossref` is there too
+-- the keys that are referred to, once that is too which has these small letters
 abbrev pub with_reference : Option (List ℕ) → (List ℕ → Option (Unit {0})) → List ℕ → Option (Unit {0})
-with_reference None before = before
-with_reference (Some key) before = with_value key tt before
+with_reference None before key = before key
+with_reference (Some small) before key = if bytes_eq small (folded key) then Some tt else before key

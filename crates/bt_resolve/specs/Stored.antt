@@ -44,7 +44,7 @@ with_entry a macros e None stored = stored
 with_entry a macros e (Some key) stored =
     if is_wanted a stored key && not (is_stored stored key) then stored ++ stored_of a macros e key ∷ [] else stored
 
--- the stored entries behind an item, from those before it
+-- the stored entries after an item, from those before it
 abbrev pub with_item : Asked → MacroTexts → Content → List Stored → List Stored
 with_item a macros (contents.Entry e) stored = with_entry a macros e e.key stored
 with_item a macros (contents.Define d) stored = stored

@@ -6,7 +6,8 @@ use Rattle.bt_text.specs.White.{white_joined}
 use Rattle.bt_bib.specs.declared.item.Part.{Part}
 use Rattle.bt_bib.specs.declared.item.Part.TheVariants.{Text, Macro}
 use Rattle.bt_log.specs.declared.message.Message.{Message}
-use Rattle.bt_resolve.specs.Warnings.{undefined_macro, own_macro, too_long}
+use Rattle.bt_resolve.specs.declared.message.Place.{Place}
+use Rattle.bt_resolve.specs.Warnings.{line_of, undefined_macro, own_macro, too_long}
 
 -- what each macro stands for, if it is defined
 abbrev pub MacroTexts : Type 0
@@ -36,7 +37,7 @@ is_too_long text = nat_lt 65536 (length text)
 abbrev pub within_limit : List ℕ → Option (List ℕ)
 within_limit text = if is_too_long text then None else Some text
 
--- a text with another behind it, within the limit
+-- a text with another after it, within the limit
 abbrev pub with_part : List ℕ → List ℕ → Option (List ℕ)
 with_part text front = within_limit (front ++ text)
 
@@ -59,21 +60,21 @@ without_last_space t = if slice_index t (length t - 1) == 32 then take (length t
 unfoldable pub field_value : MacroTexts → List Part → List ℕ
 field_value macros parts = without_last_space (without_first_space (value macros parts))
 
-abbrev pub macro_warnings : Bool → Option (List ℕ) → ℕ → ℕ → List ℕ → List Message
-macro_warnings own (Some text) database line name = []
-macro_warnings true None database line name = own_macro database line name ∷ []
-macro_warnings false None database line name = undefined_macro database line name ∷ []
+abbrev pub macro_warnings : Bool → Option (List ℕ) → Place → List ℕ → List Message
+macro_warnings own (Some text) place name = []
+macro_warnings true None place name = own_macro place name ∷ []
+macro_warnings false None place name = undefined_macro place name ∷ []
 
 -- a macro that stands for nothing here gives a warning
 abbrev pub part_warnings : Option (List ℕ) → MacroTexts → ℕ → Part → List Message
 part_warnings own macros database (Text text) = []
-part_warnings own macros database (Macro name line) = macro_warnings (is_named own name) (others own macros name) database line name
+part_warnings own macros database (Macro name line) = macro_warnings (is_named own name) (others own macros name) (line_of database line) name
 
-abbrev pub length_warnings : Option (List ℕ) → ℕ → List ℕ → ℕ → List Message
-length_warnings None database name line = too_long database line name ∷ []
-length_warnings (Some text) database name line = []
+abbrev pub length_warnings : Option (List ℕ) → Place → List ℕ → List Message
+length_warnings None place name = too_long place name ∷ []
+length_warnings (Some text) place name = []
 
 -- The warnings of a value: those of its macros, each at its own line, and that it is too long, at the line of its name.
-unfoldable pub value_warnings : Option (List ℕ) → MacroTexts → ℕ → List ℕ → ℕ → List Part → List Message
-value_warnings own macros database name line parts =
-    flat_map (part_warnings own macros database) parts ++ length_warnings (within_limit (joined_parts (others own macros) parts)) database name line
+unfoldable pub value_warnings : Option (List ℕ) → MacroTexts → Place → List ℕ → List Part → List Message
+value_warnings own macros place name parts =
+    flat_map (part_warnings own macros place.database) parts ++ length_warnings (within_limit (joined_parts (others own macros) parts)) place name

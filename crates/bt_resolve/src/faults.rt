@@ -157,7 +157,7 @@ pub fn repeated(
     place: crate::message::Place,
     key: &Shared<Bytes>,
 ) -> Result<Message, AllocError>
-    ensures { IfOk result (λ message. message ≡ repeated place.database place.line key.now) }
+    ensures { IfOk result (λ message. message ≡ repeated place key.now) }
 {
     let words = Bytes::copied(alloc, b"Repeated entry")?;
     let mut message = Message::skipping(alloc, words, place.of_message(), b"entry")?;

@@ -39,8 +39,8 @@ fn or_first(
     }
 }
 
-/// What stands behind the first of some values.
-fn behind(values: &[Option<Shared<Bytes>>], count: usize) -> &[Option<Shared<Bytes>>]
+/// What stands after the first of some values, so many of them.
+fn after(values: &[Option<Shared<Bytes>>], count: usize) -> &[Option<Shared<Bytes>>]
     ensures { result.now ≡ drop count values.now }
 {
     values.get(count..).unwrap_or(&[])
@@ -56,7 +56,7 @@ fn inherited(
 {
     let mut values = Sequence::new(alloc);
     'values: for i in 0..mine.len() {
-        values.push(or_first(&mine[i], behind(theirs, i))?)?;
+        values.push(or_first(&mine[i], after(theirs, i))?)?;
     }
     Ok(values)
 }

@@ -12,7 +12,7 @@ pub fn listed_are_stored()
     ensures { ListedAreStored }
 {}
 
-/// Each stored entry is cited, or all are, or a stored entry refers to it.
+/// Each stored entry is cited, or all are, or an entry that is stored before it refers to it.
 pub fn stored_are_wanted()
     ensures { StoredAreWanted }
 {}

@@ -15,6 +15,7 @@ mod laws;
 mod list;
 mod macros;
 mod message;
+mod reader;
 mod reading;
 mod references;
 mod resolution;
@@ -33,7 +34,6 @@ pub use laws::{
     entries_apart, listed_are_stored, messages_for_each_min, nothing_inherited, stored_are_wanted,
     stored_keys_apart,
 };
-pub use message::Place;
 pub use resolution::resolve;
 
 #[cfg(test)]

@@ -78,7 +78,7 @@ fn uncited(
     Ok(found)
 }
 
-/// Puts a place behind those found, unless it is among them.
+/// Puts a place after those found, unless it is among them.
 fn add_first(
     place: usize,
     seen: &mut HashSet<usize>,
@@ -133,7 +133,7 @@ fn place_set(alloc: Global, places: &[usize]) -> Result<HashSet<usize>, AllocErr
     Ok(set)
 }
 
-/// Puts a place behind those found, unless it is in the set.
+/// Puts a place after those found, unless it is in the set.
 fn add_other(set: &HashSet<usize>, place: usize, found: &mut Vec<usize>) -> Result<(), AllocError>
     ensures { OnOk result (found.new.items ≡ found.old.items
         ++ (if not (contains nat_eq set.now place) then place ∷ [] else [])) }

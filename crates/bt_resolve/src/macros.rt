@@ -4,10 +4,12 @@ ghost use Rattle.std.specs.Prelude.{◌≡◌, ◌++◌, option_copied, IfOk, On
 ghost use Rattle.bt_text.specs.ByName.{known};
 ghost use Rattle.bt_resolve.specs.Macros.{faultless, style_macro, with_string};
 ghost use Rattle.bt_resolve.specs.Messages.{preamble_messages, preamble_value, string_messages};
+ghost use Rattle.bt_resolve.specs.Warnings.{line_of};
 
 use crate::declared::Macro;
-use crate::message::{Message, Place};
-use crate::values::read_value;
+use crate::message::Message;
+use crate::reader::Reader;
+use crate::values::ValueReader;
 use bt_bib::{Definition, Item, Part};
 use bt_text::{ByName, Bytes, Sequence};
 use std::alloc::{AllocError, Global};
@@ -36,69 +38,61 @@ fn faultless<'a>(item: &Item, parts: &'a Option<Sequence<Part>>) -> Option<&'a S
     }
 }
 
-/// Reads a string: its macro is defined, unless the item has a fault.
-pub fn read_string(
-    alloc: Global,
-    database: usize,
-    item: &Item,
-    string: &Definition,
-    macros: &mut ByName<Bytes>,
-    messages: &mut Sequence<Message>,
-) -> Result<(), AllocError>
-    ensures macros { OnOk result (known macros.new
-        ≡ with_string string.now.name (faultless item.now.fault string.now.value) (known macros.old)) }
-    ensures messages { OnOk result (messages.new ≡ messages.old ++ string_messages (known macros.old)
-        database item.now.line string.now.name (faultless item.now.fault string.now.value)) }
-{
-    let Some(name) = &string.name else {
-        return Ok(());
-    };
-    let Some(parts) = faultless(item, &string.value) else {
-        return Ok(());
-    };
-    let name = name.as_slice();
-    let line = item.line;
-    let place = Place { database, line };
-    let value = read_value(
-        alloc,
-        macros,
-        Some(name),
-        name,
-        place,
-        parts.as_slice(),
-        messages,
-    )?;
-    macros.insert(alloc, name, value)
-}
+impl Reader<'_> {
+    /// Reads a string: its macro is defined, unless the item has a fault.
+    pub fn string(
+        &self,
+        item: &Item,
+        string: &Definition,
+        macros: &mut ByName<Bytes>,
+        messages: &mut Sequence<Message>,
+    ) -> Result<(), AllocError>
+        ensures macros { OnOk result (known macros.new
+            ≡ with_string string.now.name (faultless item.now.fault string.now.value) (known macros.old)) }
+        ensures messages { OnOk result (messages.new ≡ messages.old ++ string_messages (known macros.old)
+            (line_of self.now.database item.now.line) string.now.name (faultless item.now.fault string.now.value)) }
+    {
+        let Some(name) = &string.name else {
+            return Ok(());
+        };
+        let Some(parts) = faultless(item, &string.value) else {
+            return Ok(());
+        };
+        let name = name.as_slice();
+        let reader = ValueReader {
+            alloc: self.alloc,
+            macros,
+            own: Some(name),
+            database: self.database,
+        };
+        let value = reader.value(name, item.line, parts.as_slice(), messages)?;
+        macros.insert(self.alloc, name, value)
+    }
 
-/// Reads a preamble: its value is put behind those before it, unless the item has a fault.
-pub fn read_preamble(
-    alloc: Global,
-    database: usize,
-    item: &Item,
-    parts: &Option<Sequence<Part>>,
-    macros: &ByName<Bytes>,
-    preamble: &mut Bytes,
-    messages: &mut Sequence<Message>,
-) -> Result<(), AllocError>
-    ensures preamble { OnOk result (preamble.new ≡ preamble.old
-        ++ preamble_value (known macros.now) (faultless item.now.fault parts.now)) }
-    ensures messages { OnOk result (messages.new ≡ messages.old ++ preamble_messages (known macros.now)
-        database item.now.line (faultless item.now.fault parts.now)) }
-{
-    let Some(parts) = faultless(item, parts) else {
-        return Ok(());
-    };
-    let line = item.line;
-    let place = Place { database, line };
-    let value = read_value(
-        alloc,
-        macros,
-        None,
-        b"preamble",
-        place,
-        parts.as_slice(),
-        messages,
-    )?;
-    preamble.append(value.as_slice())
+    /// Reads a preamble: its value is put after those before it, unless the item has a fault.
+    pub fn preamble(
+        &self,
+        item: &Item,
+        parts: &Option<Sequence<Part>>,
+        macros: &ByName<Bytes>,
+        preamble: &mut Bytes,
+        messages: &mut Sequence<Message>,
+    ) -> Result<(), AllocError>
+        ensures preamble { OnOk result (preamble.new ≡ preamble.old
+            ++ preamble_value (known macros.now) (faultless item.now.fault parts.now)) }
+        ensures messages { OnOk result (messages.new ≡ messages.old ++ preamble_messages (known macros.now)
+            (line_of self.now.database item.now.line) (faultless item.now.fault parts.now)) }
+    {
+        let Some(parts) = faultless(item, parts) else {
+            return Ok(());
+        };
+        let reader = ValueReader {
+            alloc: self.alloc,
+            macros,
+            own: None,
+            database: self.database,
+        };
+        let value = reader.value(b"preamble", item.line, parts.as_slice(), messages)?;
+        preamble.append(value.as_slice())
+    }
 }

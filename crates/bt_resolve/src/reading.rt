@@ -1,134 +1,77 @@
 //! The databases are read, item for item.
 
-ghost use Rattle.std.specs.Prelude.{◌≡◌, ◌+◌, ◌∷◌, [], IfOk, IsTrue, map};
+ghost use Rattle.std.specs.Prelude.{◌≡◌, ◌+◌, ◌∷◌, [], IfOk, IsTrue, OnOk, map};
 ghost use Rattle.bt_bib.specs.Items.{items_of};
 ghost use Rattle.bt_text.specs.NameList.{are_apart};
-ghost use Rattle.bt_resolve.specs.Reading.{after_content, after_databases, after_item, after_items, nothing_read, state_of};
+ghost use Rattle.bt_resolve.specs.Messages.{database_messages};
+ghost use Rattle.bt_resolve.specs.Reading.{after_content, after_item, after_items, nothing_read, state_of};
+ghost use Rattle.bt_resolve.specs.Resolved.{preamble, stored_entries};
 
 use crate::asked::Asked;
 use crate::declared::Macro;
-use crate::entries::read_entry;
 use crate::faults::tell_fault;
-use crate::macros::{read_preamble, read_string, style_macros};
-use crate::message::Place;
+use crate::macros::style_macros;
+use crate::reader::Reader;
 use crate::state::Reading;
 use crate::store::Store;
 use bt_bib::{Content, Item, Items, Piece};
 use bt_text::{Bytes, Sequence};
 use std::alloc::{AllocError, Global};
 
-/// Reads what an item says.
-fn read_content(
-    alloc: Global,
-    asked: &Asked<'_>,
-    database: usize,
-    item: &Item,
-    reading: Reading,
-) -> Result<Reading, AllocError>
-    requires { IsTrue (are_apart asked.now.fields) }
-    ensures { IfOk result (λ read. state_of read
-        ≡ after_content asked.now database item.now (state_of reading)) }
-{
-    let Reading {
-        mut macros,
-        store,
-        mut preamble,
-        mut messages,
-    } = reading;
-    match &item.content {
-        Content::Entry(entry) => {
-            let line = item.line;
-            let place = Place { database, line };
-            let store = read_entry(alloc, asked, &macros, place, entry, store, &mut messages)?;
-            Ok(Reading {
-                macros,
-                store,
-                preamble,
-                messages,
-            })
-        }
-        Content::Define(string) => {
-            read_string(alloc, database, item, string, &mut macros, &mut messages)?;
-            Ok(Reading {
-                macros,
-                store,
-                preamble,
-                messages,
-            })
-        }
-        Content::Preamble(parts) => {
-            read_preamble(
-                alloc,
-                database,
-                item,
-                parts,
-                &macros,
-                &mut preamble,
-                &mut messages,
-            )?;
-            Ok(Reading {
-                macros,
-                store,
-                preamble,
-                messages,
-            })
+impl Reader<'_> {
+    /// Reads what an item says.
+    fn content(&self, item: &Item, reading: &mut Reading) -> Result<(), AllocError>
+        requires { IsTrue (are_apart self.now.asked.now.fields) }
+        ensures { OnOk result (state_of reading.new
+            ≡ after_content self.now.asked.now self.now.database item.now (state_of reading.old)) }
+    {
+        let Reading {
+            macros,
+            store,
+            preamble,
+            messages,
+        } = reading;
+        match &item.content {
+            Content::Entry(entry) => self.entry(item.line, entry, macros, store, messages),
+            Content::Define(string) => self.string(item, string, macros, messages),
+            Content::Preamble(parts) => self.preamble(item, parts, macros, preamble, messages),
         }
     }
-}
 
-/// Reads an item: what it says, then its fault.
-#[tactic(auto, unfolding(crate::specs::Messages::item_messages))]
-fn read_item(
-    alloc: Global,
-    asked: &Asked<'_>,
-    database: usize,
-    item: &Item,
-    reading: Reading,
-) -> Result<Reading, AllocError>
-    requires { IsTrue (are_apart asked.now.fields) }
-    ensures { IfOk result (λ read. state_of read
-        ≡ after_item asked.now database item.now (state_of reading)) }
-{
-    let mut read = read_content(alloc, asked, database, item, reading)?;
-    tell_fault(alloc, database, item, &mut read.messages)?;
-    Ok(read)
-}
-
-/// Reads an item, or passes over a comment word.
-fn read_piece(
-    alloc: Global,
-    asked: &Asked<'_>,
-    database: usize,
-    piece: &Piece,
-    reading: Reading,
-) -> Result<Reading, AllocError>
-    requires { IsTrue (are_apart asked.now.fields) }
-    ensures { IfOk result (λ read. state_of read
-        ≡ after_items asked.now database (state_of reading) (items_of (piece.now ∷ []))) }
-{
-    match piece {
-        Piece::Comment(_, _) => Ok(reading),
-        Piece::Item(item) => read_item(alloc, asked, database, item, reading),
+    /// Reads an item: what it says, then its fault.
+    #[tactic(auto, unfolding(crate::specs::Messages::item_messages))]
+    fn item(&self, item: &Item, reading: &mut Reading) -> Result<(), AllocError>
+        requires { IsTrue (are_apart self.now.asked.now.fields) }
+        ensures { OnOk result (state_of reading.new
+            ≡ after_item self.now.asked.now self.now.database item.now (state_of reading.old)) }
+    {
+        self.content(item, reading)?;
+        tell_fault(self.alloc, self.database, item, &mut reading.messages)
     }
-}
 
-/// Reads the items of a database.
-fn read_pieces(
-    alloc: Global,
-    asked: &Asked<'_>,
-    database: usize,
-    pieces: &[Piece],
-    reading: Reading,
-) -> Result<Reading, AllocError>
-    requires { IsTrue (are_apart asked.now.fields) }
-    ensures { IfOk result (λ read. state_of read
-        ≡ after_items asked.now database (state_of reading) (items_of pieces.now)) }
-{
-    let mut read = reading;
-    'pieces: for piece in pieces {
-        read = read_piece(alloc, asked, database, piece, read)?;
+    /// Reads an item, or passes over a comment word.
+    fn piece(&self, piece: &Piece, reading: &mut Reading) -> Result<(), AllocError>
+        requires { IsTrue (are_apart self.now.asked.now.fields) }
+        ensures { OnOk result (state_of reading.new
+            ≡ after_items self.now.asked.now self.now.database (state_of reading.old) (items_of (piece.now ∷ []))) }
+    {
+        match piece {
+            Piece::Comment(_, _) => Ok(()),
+            Piece::Item(item) => self.item(item, reading),
+        }
     }
-    Ok(read)
+
+    /// Reads the items of the database.
+    fn pieces(&self, pieces: &[Piece], reading: &mut Reading) -> Result<(), AllocError>
+        requires { IsTrue (are_apart self.now.asked.now.fields) }
+        ensures { OnOk result (state_of reading.new
+            ≡ after_items self.now.asked.now self.now.database (state_of reading.old) (items_of pieces.now)) }
+    {
+        'pieces: for piece in pieces {
+            self.piece(piece, reading)?;
+        }
+        Ok(())
+    }
 }
 
 /// What is known before the first item.
@@ -151,12 +94,22 @@ pub fn read_databases(
     databases: &[&Items],
 ) -> Result<Reading, AllocError>
     requires { IsTrue (are_apart asked.now.fields) }
-    ensures { IfOk result (λ read. state_of read ≡ after_databases asked.now 1 (nothing_read macros.now)
-        (map (λ d. items_of d.now) databases.now)) }
+    ensures stored { IfOk result (λ read. read.store
+        ≡ stored_entries asked.now macros.now (map (λ d. items_of d.now) databases.now)) }
+    ensures preamble { IfOk result (λ read. read.preamble
+        ≡ preamble macros.now (map (λ d. items_of d.now) databases.now)) }
+    ensures messages { IfOk result (λ read. read.messages
+        ≡ database_messages asked.now macros.now 1 [] (map (λ d. items_of d.now) databases.now)) }
 {
     let mut read = nothing_read(alloc, macros)?;
     'databases: for i in 0..databases.len() {
-        read = read_pieces(alloc, asked, i + 1, databases[i].pieces(), read)?;
+        let database = i + 1;
+        let reader = Reader {
+            alloc,
+            asked: &*asked,
+            database,
+        };
+        reader.pieces(databases[i].pieces(), &mut read)?;
     }
     Ok(read)
 }

@@ -1,12 +1,11 @@
 //! The messages of the list: about cross references, and about cited keys without an entry.
 
-ghost use Rattle.std.specs.Prelude.{◌≡◌, ◌≤◌, Some, None, ◌++◌, [], codes, length, option_and_then, option_copied, slice_get, IfOk, IfSome, OnOk};
+ghost use Rattle.std.specs.Prelude.{◌≡◌, Some, None, ◌++◌, option_and_then, option_copied, slice_get, IfOk, OnOk};
 ghost use Rattle.std.specs.List.{flat_map};
 ghost use Rattle.bt_resolve.specs.Inherited.{spelled};
 ghost use Rattle.bt_resolve.specs.Listed.{place_of_key};
-ghost use Rattle.bt_resolve.specs.References.{about, bad_reference, crossref_messages, entry_messages, list_messages, missing_messages, nested, no_entry, parent_messages, reference_messages};
+ghost use Rattle.bt_resolve.specs.References.{about, bad_reference, crossref_messages, entry_messages, missing_messages, nested, no_entry, parent_messages, reference_messages};
 
-use crate::asked::Asked;
 use crate::family::Family;
 use crate::stored::Stored;
 use bt_log::{Message, Rank};
@@ -126,138 +125,123 @@ fn tell_parent(
     }
 }
 
-/// The entry of a key.
-fn entry_of_key<'a>(
-    alloc: Global,
-    family: &'a Family,
-    key: &[u8],
-) -> Result<Option<&'a Stored>, AllocError>
-    ensures { IfOk result (λ entry. option_copied entry
-        ≡ option_and_then (slice_get family.now) (place_of_key family.now key.now)) }
-{
-    match family.place(alloc, key)? {
-        None => Ok(None),
-        Some(place) => Ok(family.entries().get(place)),
-    }
+/// What the messages of the list are told with.
+#[derive(Clone, Copy, Drop)]
+pub struct Teller<'a> {
+    pub alloc: Global,
+    /// The cited keys.
+    pub keys: &'a NameList,
+    pub family: &'a Family,
 }
 
-/// Tells what is wrong with a reference of the entry of a key.
-fn tell_crossref(
-    alloc: Global,
-    family: &Family,
-    key: &[u8],
-    crossref: &Option<Shared<Bytes>>,
-    messages: &mut Sequence<Message>,
-) -> Result<(), AllocError>
-    ensures { OnOk result (messages.new ≡ messages.old
-        ++ crossref_messages family.now key.now crossref.now) }
-{
-    match crossref {
-        None => Ok(()),
-        Some(name) => {
-            let name = name.as_slice();
-            let parent = entry_of_key(alloc, family, name)?;
-            tell_parent(alloc, key, name, parent, messages)
+impl<'a> Teller<'a> {
+    /// The entry of a key.
+    fn entry_of_key(&self, key: &[u8]) -> Result<Option<&'a Stored>, AllocError>
+        ensures { IfOk result (λ entry. option_copied entry ≡ option_and_then
+            (slice_get self.now.family.now) (place_of_key self.now.family.now key.now)) }
+    {
+        match self.family.place(self.alloc, key)? {
+            None => Ok(None),
+            Some(place) => Ok(self.family.entries().get(place)),
         }
     }
-}
 
-/// Tells what is wrong with the reference of an entry.
-fn tell_entry(
-    alloc: Global,
-    keys: &NameList,
-    family: &Family,
-    entry: Option<&Stored>,
-    messages: &mut Sequence<Message>,
-) -> Result<(), AllocError>
-    ensures { OnOk result (messages.new ≡ messages.old
-        ++ entry_messages keys.now family.now (option_copied entry.entry)) }
-{
-    match entry {
-        None => Ok(()),
-        Some(entry) => {
-            let key = spelled(alloc, keys, &entry.key)?;
-            tell_crossref(alloc, family, key.as_slice(), &entry.crossref, messages)
+    /// Tells what is wrong with a reference of the entry of a key.
+    fn crossref(
+        &self,
+        key: &[u8],
+        crossref: &Option<Shared<Bytes>>,
+        messages: &mut Sequence<Message>,
+    ) -> Result<(), AllocError>
+        ensures { OnOk result (messages.new ≡ messages.old
+            ++ crossref_messages self.now.family.now key.now crossref.now) }
+    {
+        match crossref {
+            None => Ok(()),
+            Some(name) => {
+                let name = name.as_slice();
+                let parent = self.entry_of_key(name)?;
+                tell_parent(self.alloc, key, name, parent, messages)
+            }
         }
     }
-}
 
-/// Tells what is wrong with the reference of the entry of a place.
-#[tactic(auto, unfolding(crate::specs::References::reference_messages))]
-fn tell_reference(
-    alloc: Global,
-    keys: &NameList,
-    family: &Family,
-    place: usize,
-    messages: &mut Sequence<Message>,
-) -> Result<(), AllocError>
-    ensures { OnOk result (messages.new ≡ messages.old
-        ++ reference_messages keys.now family.now place) }
-{
-    tell_entry(alloc, keys, family, family.entries().get(place), messages)
-}
-
-fn tell_references(
-    alloc: Global,
-    keys: &NameList,
-    family: &Family,
-    places: &[usize],
-    messages: &mut Sequence<Message>,
-) -> Result<(), AllocError>
-    ensures { OnOk result (messages.new ≡ messages.old
-        ++ flat_map (reference_messages keys.now family.now) places.now) }
-{
-    'places: for place in places {
-        tell_reference(alloc, keys, family, *place, messages)?;
+    /// Tells what is wrong with the reference of an entry.
+    fn entry(
+        &self,
+        entry: Option<&Stored>,
+        messages: &mut Sequence<Message>,
+    ) -> Result<(), AllocError>
+        ensures { OnOk result (messages.new ≡ messages.old
+            ++ entry_messages self.now.keys.now self.now.family.now (option_copied entry.entry)) }
+    {
+        match entry {
+            None => Ok(()),
+            Some(entry) => {
+                let key = spelled(self.alloc, self.keys, &entry.key)?;
+                self.crossref(key.as_slice(), &entry.crossref, messages)
+            }
+        }
     }
-    Ok(())
-}
 
-/// Tells that a key has no entry.
-#[tactic(auto, unfolding(crate::specs::References::missing_messages))]
-fn tell_missing(
-    alloc: Global,
-    family: &Family,
-    key: &[u8],
-    messages: &mut Sequence<Message>,
-) -> Result<(), AllocError>
-    ensures { OnOk result (messages.new ≡ messages.old ++ missing_messages family.now key.now) }
-{
-    if family.has(alloc, key)? {
-        Ok(())
-    } else {
-        messages.push(no_entry(alloc, key)?)?;
+    /// Tells what is wrong with the reference of the entry of a place.
+    #[tactic(auto, unfolding(crate::specs::References::reference_messages))]
+    fn reference(&self, place: usize, messages: &mut Sequence<Message>) -> Result<(), AllocError>
+        ensures { OnOk result (messages.new ≡ messages.old
+            ++ reference_messages self.now.keys.now self.now.family.now place) }
+    {
+        self.entry(self.family.entries().get(place), messages)
+    }
+
+    fn references(
+        &self,
+        places: &[usize],
+        messages: &mut Sequence<Message>,
+    ) -> Result<(), AllocError>
+        ensures { OnOk result (messages.new ≡ messages.old
+            ++ flat_map (reference_messages self.now.keys.now self.now.family.now) places.now) }
+    {
+        'places: for place in places {
+            self.reference(*place, messages)?;
+        }
         Ok(())
     }
-}
 
-fn tell_all_missing(
-    alloc: Global,
-    family: &Family,
-    keys: &[Bytes],
-    messages: &mut Sequence<Message>,
-) -> Result<(), AllocError>
-    ensures { OnOk result (messages.new ≡ messages.old
-        ++ flat_map (missing_messages family.now) keys.now) }
-{
-    'keys: for key in keys {
-        tell_missing(alloc, family, key.as_slice(), messages)?;
+    /// Tells that a key has no entry.
+    #[tactic(auto, unfolding(crate::specs::References::missing_messages))]
+    fn missing(&self, key: &[u8], messages: &mut Sequence<Message>) -> Result<(), AllocError>
+        ensures { OnOk result (messages.new ≡ messages.old
+            ++ missing_messages self.now.family.now key.now) }
+    {
+        if self.family.has(self.alloc, key)? {
+            Ok(())
+        } else {
+            messages.push(no_entry(self.alloc, key)?)?;
+            Ok(())
+        }
     }
-    Ok(())
-}
 
-/// Tells the messages of a list of entries, then those of the cited keys.
-pub fn tell_list(
-    alloc: Global,
-    asked: &Asked<'_>,
-    family: &Family,
-    places: &[usize],
-    messages: &mut Sequence<Message>,
-) -> Result<(), AllocError>
-    ensures { OnOk result (messages.new ≡ messages.old
-        ++ flat_map (reference_messages asked.now.keys family.now) places.now
-        ++ flat_map (missing_messages family.now) asked.now.keys) }
-{
-    tell_references(alloc, &asked.keys, family, places, messages)?;
-    tell_all_missing(alloc, family, asked.keys.as_slice(), messages)
+    fn all_missing(
+        &self,
+        keys: &[Bytes],
+        messages: &mut Sequence<Message>,
+    ) -> Result<(), AllocError>
+        ensures { OnOk result (messages.new ≡ messages.old
+            ++ flat_map (missing_messages self.now.family.now) keys.now) }
+    {
+        'keys: for key in keys {
+            self.missing(key.as_slice(), messages)?;
+        }
+        Ok(())
+    }
+
+    /// Tells the messages of a list of entries, then those of the cited keys.
+    pub fn list(&self, places: &[usize], messages: &mut Sequence<Message>) -> Result<(), AllocError>
+        ensures { OnOk result (messages.new ≡ messages.old
+            ++ flat_map (reference_messages self.now.keys.now self.now.family.now) places.now
+            ++ flat_map (missing_messages self.now.family.now) self.now.keys.now) }
+    {
+        self.references(places, messages)?;
+        self.all_missing(self.keys.as_slice(), messages)
+    }
 }

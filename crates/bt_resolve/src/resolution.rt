@@ -1,12 +1,11 @@
 //! The whole resolution.
 
-ghost use Rattle.std.specs.Prelude.{◌≡◌, ◌≤◌, ◌++◌, [], length, map, IfOk, IfSome, IsTrue, OnOk};
+ghost use Rattle.std.specs.Prelude.{◌≡◌, ◌≤◌, ◌++◌, length, map, IfOk, IfSome, IsTrue, OnOk};
 ghost use Rattle.bt_bib.specs.Items.{items_of};
 ghost use Rattle.bt_resolve.specs.Inherited.{entries_seen};
-ghost use Rattle.bt_resolve.specs.Messages.{database_messages};
 ghost use Rattle.bt_text.specs.NameList.{are_apart};
 ghost use Rattle.bt_resolve.specs.References.{list_messages};
-ghost use Rattle.bt_resolve.specs.Resolved.{asked, preamble, resolved, resolved_by, stored_entries};
+ghost use Rattle.bt_resolve.specs.Resolved.{asked, resolved, resolved_by};
 
 use crate::asked::Asked;
 use crate::declared::{Cites, Declared, Macro};
@@ -16,33 +15,14 @@ use crate::index::Index;
 use crate::list::listed;
 use crate::message::Message;
 use crate::reading::read_databases;
-use crate::references::tell_list;
+use crate::references::Teller;
 use crate::state::Reading;
-use crate::visible::entries_of_list;
+use crate::visible::View;
 use bt_bib::Items;
 use bt_text::{Sequence, Shared};
 use std::alloc::{AllocError, Global};
 
-/// Reads all databases.
-fn read_all(
-    alloc: Global,
-    asked: &Asked<'_>,
-    macros: &[Macro],
-    databases: &[&Items],
-) -> Result<Reading, AllocError>
-    requires { IsTrue (are_apart asked.now.fields) }
-    ensures stored { IfOk result (λ read. read.store
-        ≡ stored_entries asked.now macros.now (map (λ d. items_of d.now) databases.now)) }
-    ensures preamble { IfOk result (λ read. read.preamble
-        ≡ preamble macros.now (map (λ d. items_of d.now) databases.now)) }
-    ensures messages { IfOk result (λ read. read.messages
-        ≡ database_messages asked.now macros.now 1 [] (map (λ d. items_of d.now) databases.now)) }
-{
-    let read = read_databases(alloc, asked, macros, databases)?;
-    Ok(read)
-}
-
-/// The list of entries, with its messages put behind the others.
+/// The list of entries, with its messages put after the others.
 #[tactic(auto, unfolding(crate::specs::References::list_messages))]
 fn resolve_list(
     alloc: Global,
@@ -56,8 +36,19 @@ fn resolve_list(
     ensures messages { OnOk result (messages.new ≡ messages.old ++ list_messages asked.now family.now) }
 {
     let places = listed(alloc, asked, family)?;
-    let entries = entries_of_list(alloc, asked, min, family, places.as_slice())?;
-    tell_list(alloc, asked, family, places.as_slice(), messages)?;
+    let view = View {
+        alloc,
+        asked,
+        min,
+        family,
+    };
+    let entries = view.entries_of_list(places.as_slice())?;
+    let teller = Teller {
+        alloc,
+        keys: &asked.keys,
+        family,
+    };
+    teller.list(places.as_slice(), messages)?;
     Ok(entries)
 }
 
@@ -80,7 +71,7 @@ fn resolve_asked(
         store,
         preamble,
         mut messages,
-    } = read_all(alloc, asked, macros, databases)?;
+    } = read_databases(alloc, asked, macros, databases)?;
     let family = Family::new(alloc, store)?;
     let entries = resolve_list(alloc, asked, min, &family, &mut messages)?;
     Ok(Resolved {
@@ -91,7 +82,7 @@ fn resolve_asked(
 }
 
 /// The list of entries that a style sees, the preamble, and all messages, from the items of the databases in their
-/// order. An uncited entry to which fewer than `min` entries refer isn't in the list. The one error is want of memory.
+/// order. An uncited entry to which fewer than `min` entries refer isn't in the list. The one error is out of memory.
 #[tactic(auto, unfolding(crate::specs::Resolved::resolved))]
 pub fn resolve(
     alloc: Global,

@@ -62,7 +62,7 @@ fn an_entry_is_repeated_where_it_is_wanted(rt: HostRuntime) -> Result<(), Fail> 
 }
 
 #[test]
-fn a_key_behind_a_star_keeps_its_place(rt: HostRuntime) -> Result<(), Fail> {
+fn a_key_after_a_star_keeps_its_place(rt: HostRuntime) -> Result<(), Fail> {
     let text = "@misc{a, title = {A}}@misc{b, crossref = {C}}@misc{c, title = {C}}";
     let shown = resolved(rt.alloc(), &["*", "C"], text, "", 2)?;
     let want = "a misc 0 - [A]\nb misc 0 [C] [C]\nC misc 0 - [C]\n";

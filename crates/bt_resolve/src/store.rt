@@ -1,13 +1,14 @@
 //! The entries that are stored, with what is looked up in them.
 
-ghost use Rattle.std.specs.Prelude.{◌≡◌, ◌++◌, ◌∷◌, [], false, IfOk, OnOk};
-ghost use Rattle.bt_text.specs.ByName.{known};
+ghost use Rattle.std.specs.Prelude.{◌≡◌, ◌++◌, ◌∷◌, [], ℕ, List, Option, false, option_map, IfOk, OnOk, OnErr};
+ghost use Rattle.bt_text.specs.ByName.{HasRoom, known, listed};
+ghost use Rattle.bt_text.specs.Folding.{folded};
 ghost use Rattle.bt_resolve.specs.Listed.{place_of_key};
 ghost use Rattle.bt_resolve.specs.Store.{with_reference};
 ghost use Rattle.bt_resolve.specs.Stored.{is_referred_to, is_stored};
 
 use crate::stored::Stored;
-use bt_text::ByName;
+use bt_text::{ByName, to_ascii_lowercase};
 use std::alloc::{AllocError, Global};
 use std::marker::Model;
 
@@ -52,49 +53,60 @@ impl Store {
         self.entries.values()
     }
 
-    /// The place of the entry of a key. The one error is want of memory.
+    /// The place of the entry of a key. The one error is out of memory.
     pub fn place(&self, alloc: Global, key: &[u8]) -> Result<Option<usize>, AllocError>
         ensures { IfOk result (λ place. place ≡ place_of_key self.now key.now) }
     {
         self.entries.place(alloc, key)
     }
 
-    /// Whether a key has an entry. The one error is want of memory.
+    /// Whether a key has an entry. The one error is out of memory.
     pub fn has(&self, alloc: Global, key: &[u8]) -> Result<bool, AllocError>
         ensures { IfOk result (λ stored. stored ≡ is_stored self.now key.now) }
     {
         self.entries.has(alloc, key)
     }
 
-    /// Whether an entry refers to a key. The one error is want of memory.
+    /// Whether an entry refers to a key. The one error is out of memory.
     pub fn refers_to(&self, alloc: Global, key: &[u8]) -> Result<bool, AllocError>
         ensures { IfOk result (λ referred. referred ≡ is_referred_to self.now key.now) }
     {
         self.referred.has(alloc, key)
     }
 
-    /// These entries with one more behind them, whose key has none yet. The one error is want of memory.
-    pub fn with(self, alloc: Global, entry: Stored) -> Result<Self, AllocError>
-        requires { is_stored self entry.key ≡ false }
-        ensures { IfOk result (λ store. store ≡ self ++ entry ∷ []) }
+    /// Puts an entry after the others, whose key has none yet. After out of memory they are as before.
+    pub fn push(&mut self, alloc: Global, entry: Stored) -> Result<(), AllocError>
+        requires { is_stored self.old entry.key ≡ false }
+        ensures ok { OnOk result (self.new ≡ self.old ++ entry ∷ []) }
+        ensures err { OnErr result (self.new ≡ self.old) }
     {
-        let Store {
-            mut entries,
-            mut referred,
-        } = self;
-        refer_to(alloc, &mut referred, &entry)?;
         let key = entry.key.share()?;
-        entries.insert(alloc, key.as_slice(), entry)?;
-        Ok(Store { entries, referred })
+        let small = small_reference(alloc, &entry)?;
+        self.referred.make_room()?;
+        self.entries.insert(alloc, key.as_slice(), entry)?;
+        refer_to(&mut self.referred, small);
+        Ok(())
     }
 }
 
-/// Notes the key that an entry refers to, if it does.
-fn refer_to(alloc: Global, referred: &mut ByName<()>, entry: &Stored) -> Result<(), AllocError>
-    ensures { OnOk result (known referred.new ≡ with_reference entry.now.crossref (known referred.old)) }
+/// The key that an entry refers to, in small letters.
+fn small_reference(alloc: Global, entry: &Stored) -> Result<Option<Vec<u8>>, AllocError>
+    ensures { IfOk result (λ small. option_map (λ v. v.items) small ≡ option_map folded entry.now.crossref) }
 {
     match &entry.crossref {
-        None => Ok(()),
-        Some(key) => referred.insert(alloc, key.as_slice(), ()),
+        None => Ok(None),
+        Some(key) => Ok(Some(to_ascii_lowercase(alloc, key.as_slice())?.into_vec())),
+    }
+}
+
+/// Notes a key in small letters, to which an entry refers, where there is one and room for it.
+fn refer_to(referred: &mut ByName<()>, small: Option<Vec<u8>>)
+    requires { HasRoom referred.old }
+    ensures { (key : List ℕ) → known referred.new key
+        ≡ with_reference (option_map (λ v. v.items) small) (known referred.old) key }
+{
+    match small {
+        None => {}
+        Some(small) => referred.put(small, ()),
     }
 }

@@ -58,7 +58,7 @@ fn show_entry(alloc: Global, entry: &Entry, shown: &mut Bytes) -> Result<(), All
     shown.append(b"\n")
 }
 
-/// A message with its place, and its second line behind a bar.
+/// A message with its place, and its second line after a bar.
 fn show_message(alloc: Global, message: &Message, shown: &mut Bytes) -> Result<(), AllocError> {
     match message.rank {
         Rank::Error => shown.append(b"error ")?,
@@ -185,7 +185,7 @@ fn inherits_and_counts_references(rt: HostRuntime) -> Result<(), Fail> {
 }
 
 #[test]
-fn a_parent_stands_behind_its_children(rt: HostRuntime) -> Result<(), Fail> {
+fn a_parent_stands_after_its_children(rt: HostRuntime) -> Result<(), Fail> {
     let first = "@misc{p, title = {T}}\n@misc{a, title = {U}, crossref = {p}}";
     let shown = resolved(rt.alloc(), &["a"], first, "", 2)?;
     let want =

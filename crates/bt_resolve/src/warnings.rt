@@ -1,6 +1,7 @@
 //! The words of the warnings that items give.
 
-ghost use Rattle.std.specs.Prelude.{◌≡◌, Some, IfOk};
+ghost use Rattle.std.specs.Prelude.{◌≡◌, ◌++◌, Some, None, IfOk};
+ghost use Rattle.bt_text.specs.Folding.{folded};
 ghost use Rattle.bt_resolve.specs.Warnings.{extra_field, no_function, own_macro, too_long, undefined_macro, warning_at};
 
 use crate::message::{Message, Place};
@@ -10,7 +11,7 @@ use std::alloc::{AllocError, Global};
 
 /// A warning, about the entry of a key or about none.
 fn warning_at(place: Place, words: Shared<Bytes>, entry: Option<Shared<Bytes>>) -> Message
-    ensures { result ≡ warning_at place.database place.line words entry }
+    ensures { result ≡ warning_at place words entry }
 {
     Message {
         rank: Rank::Warning,
@@ -21,47 +22,62 @@ fn warning_at(place: Place, words: Shared<Bytes>, entry: Option<Shared<Bytes>>) 
     }
 }
 
-/// A macro that isn't defined.
-pub fn undefined_macro(alloc: Global, place: Place, name: &[u8]) -> Result<Message, AllocError>
-    ensures { IfOk result (λ message. message ≡ undefined_macro place.database place.line name.now) }
+/// A warning that says these words around a name in small letters.
+fn naming(
+    alloc: Global,
+    place: Place,
+    before: &[u8],
+    name: &[u8],
+    after: &[u8],
+) -> Result<Message, AllocError>
+    ensures { IfOk result (λ message. message
+        ≡ warning_at place (before.now ++ folded name.now ++ after.now) None) }
 {
     let name = to_ascii_lowercase(alloc, name)?;
-    let name = name.as_slice();
-    let words = Shared::<Bytes>::of(
-        alloc,
-        &[b"Warning--string name \"", name, b"\" is undefined"],
-    )?;
+    let words = Shared::<Bytes>::of(alloc, &[before, name.as_slice(), after])?;
     Ok(warning_at(place, words, None))
+}
+
+/// A macro that isn't defined.
+pub fn undefined_macro(alloc: Global, place: Place, name: &[u8]) -> Result<Message, AllocError>
+    ensures { IfOk result (λ message. message ≡ undefined_macro place name.now) }
+{
+    naming(
+        alloc,
+        place,
+        b"Warning--string name \"",
+        name,
+        b"\" is undefined",
+    )
 }
 
 /// A macro that is used where it is defined.
 pub fn own_macro(alloc: Global, place: Place, name: &[u8]) -> Result<Message, AllocError>
-    ensures { IfOk result (λ message. message ≡ own_macro place.database place.line name.now) }
+    ensures { IfOk result (λ message. message ≡ own_macro place name.now) }
 {
-    let name = to_ascii_lowercase(alloc, name)?;
-    let name = name.as_slice();
-    let words = Shared::<Bytes>::of(
-        alloc,
-        &[
-            b"Warning--string name \"",
-            name,
-            b"\" is used in its own definition",
-        ],
-    )?;
-    Ok(warning_at(place, words, None))
+    let after = b"\" is used in its own definition";
+    naming(alloc, place, b"Warning--string name \"", name, after)
 }
 
 /// A value that is over the limit.
 pub fn too_long(alloc: Global, place: Place, name: &[u8]) -> Result<Message, AllocError>
-    ensures { IfOk result (λ message. message ≡ too_long place.database place.line name.now) }
+    ensures { IfOk result (λ message. message ≡ too_long place name.now) }
 {
-    let name = to_ascii_lowercase(alloc, name)?;
-    let name = name.as_slice();
-    let words = Shared::<Bytes>::of(
-        alloc,
-        &[b"Warning--the value of \"", name, b"\" is over 65536 bytes"],
-    )?;
-    Ok(warning_at(place, words, None))
+    let after = b"\" is over 65536 bytes";
+    naming(alloc, place, b"Warning--the value of \"", name, after)
+}
+
+/// A warning about the entry of a key.
+fn about(
+    alloc: Global,
+    place: Place,
+    key: &[u8],
+    words: Shared<Bytes>,
+) -> Result<Message, AllocError>
+    ensures { IfOk result (λ message. message ≡ warning_at place words (Some key.now)) }
+{
+    let entry = Shared::<Bytes>::copied(alloc, key)?;
+    Ok(warning_at(place, words, Some(entry)))
 }
 
 /// A second field of one name in the entry of a key.
@@ -71,7 +87,7 @@ pub fn extra_field(
     key: &[u8],
     name: &[u8],
 ) -> Result<Message, AllocError>
-    ensures { IfOk result (λ message. message ≡ extra_field place.database place.line key.now name.now) }
+    ensures { IfOk result (λ message. message ≡ extra_field place key.now name.now) }
 {
     let name = to_ascii_lowercase(alloc, name)?;
     let name = name.as_slice();
@@ -85,13 +101,12 @@ pub fn extra_field(
             b"\" field",
         ],
     )?;
-    let entry = Shared::<Bytes>::copied(alloc, key)?;
-    Ok(warning_at(place, words, Some(entry)))
+    about(alloc, place, key, words)
 }
 
 /// The entry of a key has a type without a function.
 pub fn no_function(alloc: Global, place: Place, key: &[u8]) -> Result<Message, AllocError>
-    ensures { IfOk result (λ message. message ≡ no_function place.database place.line key.now) }
+    ensures { IfOk result (λ message. message ≡ no_function place key.now) }
 {
     let words = Shared::<Bytes>::of(
         alloc,
@@ -101,6 +116,5 @@ pub fn no_function(alloc: Global, place: Place, key: &[u8]) -> Result<Message, A
             b"\" isn't style-file defined",
         ],
     )?;
-    let entry = Shared::<Bytes>::copied(alloc, key)?;
-    Ok(warning_at(place, words, Some(entry)))
+    about(alloc, place, key, words)
 }

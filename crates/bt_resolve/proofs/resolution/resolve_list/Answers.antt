@@ -1,5 +1,7 @@
-use Rattle.std.proofs.Common.{◌∙◌, refl}
+use Rattle.std.proofs.Common.{◌∙◌, ap, refl, ◌++◌, ℕ, List}
+use Rattle.std.specs.List.{flat_map}
 use Rattle.bt_resolve.specs.Inheriting.{all_inherit, values_read}
+use Rattle.bt_resolve.specs.References.{reference_messages, missing_messages}
 use Rattle.bt_resolve.proofs.InheritingLemmas.{entries_are}
 use Rattle.bt_resolve.proofs.PlacingLemmas.{list_told}
 use Rattle.bt_resolve.proofs.resolution.resolve_list.Goals as goal
@@ -13,5 +15,6 @@ returns-clause-entries c =
 
 pub returns-clause-messages : goal.returns-clause-messages
 returns-clause-messages c =
-    c.in_ok-tell_list.ensures
+    c.in_ok-list.ensures
+    ∙ ap (λ (keys : List (List ℕ)). c.args.messages.now ++ flat_map (reference_messages keys c.args.family.now) c.as_slice-2.result.now ++ flat_map (missing_messages c.args.family.now) keys) c.deref.ensures
     ∙ list_told c.args.asked.now c.args.family.now c.as_slice-2.result.now c.args.messages.now (c.as_slice-2.ensures.value ∙ c.in_ok-places.ensures)

@@ -1,9 +1,0 @@
-use Rattle.std.proofs.Common.{◌≡◌, ◌++◌, [], drop}
-use Rattle.std.specs.List.{slice_index_or}
-use Rattle.bt_resolve.specs.Inherited.{entries_by}
-use Rattle.bt_resolve.proofs.visible.entries_by.Given as goal
-
-abbrev pub invariant-places : goal.invariant-places
-invariant-places l =
-    l.entries ++ entries_by l.asked l.min l.family (λ q. slice_index_or l.values q []) (drop l.place-index l.places)
-    ≡ entries_by l.asked l.min l.family (λ q. slice_index_or l.values q []) l.places
