@@ -1,11 +1,16 @@
--- What a session shows.
-use Rattle.std.proofs.Common.{◌≡◌, ◌∙◌, sym, ap, List}
+-- What a session shows, and what it reads again.
+use Rattle.std.proofs.Common.{◌≡◌, ◌≤◌, ◌∙◌, refl, sym, ap, ℕ, List, length}
+use Rattle.bt_bib.specs.Splice.{IsSplice}
 use Rattle.bt_log.specs.declared.message.Message.{Message}
 use Rattle.bt_log.specs.Log.{log_bytes}
 use Rattle.bt_run.proofs.AnswerLemmas.{log_spelled}
 use Rattle.bibtex.specs.declared.state.State.{State}
-use Rattle.bibtex.specs.Present.{shown}
+use Rattle.bibtex.specs.Present.{replaced, shown}
 
 -- The log is what the messages are in words.
 pub log_in_words : (s : State) (messages : List Message) → messages ≡ (shown s).messages → (shown s).blg ≡ log_bytes messages
 log_in_words s messages are = log_spelled s.texts s.root s.min ∙ ap log_bytes (sym are)
+
+-- A text with other bytes in the place of some of its own is a splice of it.
+pub replaced_is_splice : (start end : ℕ) (old bytes new : List ℕ) → start ≤ end → end ≤ length old → new ≡ replaced start end bytes old → IsSplice old new start end (length bytes)
+replaced_is_splice start end old bytes new order inside is = record { order = order; inside = inside; bytes = bytes; count = refl; text = is }

@@ -6,6 +6,7 @@ mod changed;
 mod edit;
 mod edits;
 mod refusal;
+mod reread;
 mod session;
 mod state;
 

@@ -5,22 +5,26 @@ ghost use Rattle.std.specs.Option.{option_map};
 
 use crate::edit::{Change, Edit, Refusal};
 use crate::refusal::{is_root_name, remove_refusal, root_refusal, splice_refusal, write_refusal};
+use crate::reread::Reread;
 use crate::state::State;
+use bt_bib::ReadMeter;
 use bt_job::text_of;
 use bt_log::Message;
-use bt_run::{Answers, Kept, Report, Run, answers_after};
+use bt_run::{Answers, Database, Kept, Report, Run, answers_after};
 use bt_text::{Bytes, Sequence, Shared};
 use std::alloc::Global;
 use std::marker::Model;
 
 /// A session over the texts of `.aux`, `.bib` and `.bst` files. Contracts see its present state: the texts by name, the
-/// root name and min-crossrefs. What else it keeps is what these mean, and the steps of their run.
+/// root name and min-crossrefs. What else it keeps is what these mean, the steps of their run, and the databases that it
+/// read.
 #[derive(Drop)]
 pub struct Session {
     alloc: Global,
     state: State,
     answers: Answers,
     kept: Kept,
+    databases: Sequence<Database>,
 }
 
 impl Model for Session {
@@ -56,18 +60,25 @@ impl Session {
             root: Shared::<Bytes>::copied(alloc, root)?,
             min,
         };
-        let Run { answers, kept, .. } = answers_after(
+        let Run {
+            answers,
+            kept,
+            databases,
+            ..
+        } = answers_after(
             alloc,
             &[],
             root,
             min,
             &Kept::nothing(alloc),
+            Sequence::new(alloc),
         )?;
         Ok(Session {
             alloc,
             state,
             answers,
             kept,
+            databases,
         })
     }
 
@@ -85,8 +96,9 @@ impl Session {
         }
     }
 
-    /// Goes over to a state: all that it means is made beside what is kept, which is then replaced.
-    fn go_to(&mut self, state: State) -> Result<Report, Refusal>
+    /// Goes over to a state, over these databases that were read: all that it means is made beside what is kept, which is
+    /// then replaced.
+    fn go_to(&mut self, state: State, databases: Sequence<Database>) -> Result<Report, Refusal>
         ensures ok { IfOk result (λ _. self.new ≡ state) }
         ensures report { IfOk result (λ report. report ≡ reported self.old self.new) }
         ensures refused { IfErr result (λ refusal. refusal ≡ Refusal.OutOfMemory) }
@@ -95,6 +107,7 @@ impl Session {
         let Run {
             answers,
             kept,
+            databases,
             report,
         } = answers_after(
             self.alloc,
@@ -102,10 +115,12 @@ impl Session {
             state.root.as_slice(),
             state.min,
             &self.kept,
+            databases,
         )?;
         self.state = state;
         self.answers = answers;
         self.kept = kept;
+        self.databases = databases;
         Ok(report)
     }
 
@@ -118,8 +133,15 @@ impl Session {
         ensures refused { IsAnswer (applied edit.entry self.old) result }
         ensures err { OnErr result (self.new ≡ self.old) }
     {
-        let state = self.state.after(self.alloc, edit)?;
-        self.go_to(state)
+        let mut reread = Reread {
+            alloc: self.alloc,
+            known: self.databases.as_slice(),
+            spliced: None,
+            meter: ReadMeter::new(),
+        };
+        let state = self.state.after(edit, &mut reread)?;
+        let databases = reread.databases()?;
+        self.go_to(state, databases)
     }
 
     /// The bytes of the `.bbl` file.

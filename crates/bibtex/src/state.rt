@@ -7,6 +7,8 @@ ghost use Rattle.bibtex.specs.Applied.{applied, outcome, IsAnswer};
 use crate::changed::{all_shared, replaced, with_text, without};
 use crate::edit::{Edit, Refusal};
 use crate::refusal::{remove_refusal, root_refusal, splice_refusal, write_refusal};
+use crate::reread::Reread;
+use bt_bib::Splice;
 use bt_job::{File, text_of};
 use bt_text::{Bytes, Sequence, Shared};
 use std::alloc::{AllocError, Global};
@@ -45,15 +47,18 @@ impl State {
         Ok(self.with_texts(with_text(alloc, files, name, text)?)?)
     }
 
-    /// The state with bytes in the place of the bytes `start..end` of a text.
+    /// The state with bytes in the place of the bytes `start..end` of a text, which is read again where it is known as a
+    /// database.
+    #[tactic(auto, using(crate::proofs::SessionLemmas::replaced_is_splice))]
     fn spliced(
         &self,
-        alloc: Global,
         name: &[u8],
         start: usize,
         end: usize,
         bytes: &[u8],
+        reread: &mut Reread<'_>,
     ) -> Result<State, Refusal>
+        requires meter { reread.old.meter ≡ 0 }
         ensures ok { IfOk result (λ state. outcome (splice name.now start end) bytes.now self.now ≡ Ok state) }
         ensures refused { IsAnswer (outcome (splice name.now start end) bytes.now self.now) result }
     {
@@ -61,8 +66,15 @@ impl State {
         if let Some(refusal) = splice_refusal(files, name, start, end, bytes.len()) {
             return Err(refusal);
         }
-        let text = text_of(files, name).unwrap_or(b"");
-        let text = Shared::new(alloc, replaced(alloc, text, start, end, bytes)?)?;
+        let alloc = reread.alloc;
+        let old = text_of(files, name).unwrap_or(b"");
+        let text = Shared::new(alloc, replaced(alloc, old, start, end, bytes)?)?;
+        let splice = Splice {
+            begin: start,
+            end,
+            inserted: bytes.len(),
+        };
+        reread.splice(old, &text, splice)?;
         Ok(self.with_texts(with_text(alloc, files, name, text)?)?)
     }
 
@@ -105,14 +117,16 @@ impl State {
     }
 
     /// The state after an edit, made beside this one, with which it shares all that the edit leaves. Refusals are tested in
-    /// the order of their cases, out of memory last.
-    pub fn after(&self, alloc: Global, edit: Edit<'_>) -> Result<State, Refusal>
+    /// the order of their cases, out of memory last. A known database that is spliced is read again.
+    pub fn after(&self, edit: Edit<'_>, reread: &mut Reread<'_>) -> Result<State, Refusal>
+        requires meter { reread.old.meter ≡ 0 }
         ensures ok { IfOk result (λ state. applied edit.entry self.now ≡ Ok state) }
         ensures refused { IsAnswer (applied edit.entry self.now) result }
     {
+        let alloc = reread.alloc;
         match edit {
             Edit::Write(name, text) => self.written(alloc, name, text),
-            Edit::Splice(name, start, end, bytes) => self.spliced(alloc, name, start, end, bytes),
+            Edit::Splice(name, start, end, bytes) => self.spliced(name, start, end, bytes, reread),
             Edit::Remove(name) => self.removed(alloc, name),
             Edit::Root(name) => self.rooted(alloc, name),
             Edit::MinCrossrefs(min) => Ok(self.with_min(alloc, min)?),

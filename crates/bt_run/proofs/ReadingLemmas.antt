@@ -8,12 +8,15 @@ use Rattle.bt_style.specs.declared.style.Style.{Style}
 use Rattle.bt_style.specs.Program.{Definition, definition_of, definitions_of, program_of}
 use Rattle.bt_bib.specs.declared.item.Piece.{Piece}
 use Rattle.bt_bib.specs.Items.{items_of}
+use Rattle.bt_bib.specs.Reading.{pieces_of}
 use Rattle.bt_resolve.specs.declared.declared.Declared.{Declared}
 use Rattle.bt_resolve.specs.declared.declared.Macro.{Macro}
 use Rattle.bt_resolve.specs.declared.entry.Resolved.{Resolved}
 use Rattle.bt_resolve.specs.Resolved.{resolved}
 use Rattle.bt_log.specs.declared.message.Message.{Message}
-use Rattle.bt_run.specs.Reading.{Job, is_definition, known_macro, declared_before, items_in, found}
+use Rattle.bt_job.specs.declared.files.File.{File}
+use Rattle.bt_run.specs.declared.database.Database.{Database}
+use Rattle.bt_run.specs.Reading.{Job, is_definition, known_macro, declared_before, text_in, items_in, found}
 
 abbrev name_of : Definition → List ℕ
 name_of d = d.name
@@ -31,11 +34,16 @@ maps : {A B C : Type 0} (f : B → C) (g : A → B) (xs : List A) → map (λ x.
 maps f g [] = refl
 maps f g (x ∷ xs) = ap (λ ys. f (g x) ∷ ys) (maps f g xs)
 
+-- the items of databases whose texts are those of some names
+items_by : (files : List File) (databases : List Database) (names : List (List ℕ)) → map (λ (d : Database). d.text) databases ≡ map (text_in files) names → map (λ (d : Database). items_of (pieces_of d.text)) databases ≡ map (items_in files) names
+items_by files databases names are_texts =
+    maps (λ text. items_of (pieces_of text)) (λ (d : Database). d.text) databases ∙ ap (map (λ text. items_of (pieces_of text))) are_texts ∙ sym (maps (λ text. items_of (pieces_of text)) (text_in files) names)
+
 -- what the databases give, from references to their items
-pub found_by : {R : Type 0} (now : R → List Piece) (refs refs_seen : List R) (items items_seen : List (List Piece)) (job : Job) (number : ℕ) (d : Declared) (all : Resolved) → d ≡ declared_before number job.program → map items_of items ≡ map (items_in job.files) job.databases → items_seen ≡ items → map now refs ≡ items_seen → refs_seen ≡ refs → all ≡ resolved d job.cites (map (λ r. items_of (now r)) refs_seen) job.min → all ≡ found job number
-found_by now refs refs_seen items items_seen job number d all is_declared are_items same_items are_refs same_refs is =
+pub found_by : {R : Type 0} (now : R → List Piece) (refs refs_seen : List R) (items items_seen : List (List Piece)) (databases seen_databases : List Database) (job : Job) (number : ℕ) (d : Declared) (all : Resolved) → d ≡ declared_before number job.program → map (λ (d : Database). d.text) databases ≡ map (text_in job.files) job.databases → seen_databases ≡ databases → map items_of items ≡ map (λ (d : Database). items_of (pieces_of d.text)) seen_databases → items_seen ≡ items → map now refs ≡ items_seen → refs_seen ≡ refs → all ≡ resolved d job.cites (map (λ r. items_of (now r)) refs_seen) job.min → all ≡ found job number
+found_by now refs refs_seen items items_seen databases seen_databases job number d all is_declared are_texts same_databases are_items same_items are_refs same_refs is =
     let seen : map (λ r. items_of (now r)) refs_seen ≡ map (items_in job.files) job.databases =
-    ap (map (λ r. items_of (now r))) same_refs ∙ maps items_of now refs ∙ ap (map items_of) (are_refs ∙ same_items) ∙ are_items in
+    ap (map (λ r. items_of (now r))) same_refs ∙ maps items_of now refs ∙ ap (map items_of) (are_refs ∙ same_items) ∙ are_items ∙ ap (map (λ (d : Database). items_of (pieces_of d.text))) same_databases ∙ items_by job.files databases job.databases are_texts in
     is ∙ ap (λ e. resolved e job.cites (map (λ r. items_of (now r)) refs_seen) job.min) is_declared ∙ ap (λ ds. resolved (declared_before number job.program) job.cites ds job.min) seen
 
 -- what follows a message that was pushed

@@ -68,9 +68,13 @@ declared_before number p = record {
 
 -- What the databases give
 
+-- the text of a name; the empty text where there is none
+abbrev pub text_in : List File → List ℕ → List ℕ
+text_in files name = unwrap_or (text_of files name) []
+
 -- the items of a database
 abbrev pub items_in : List File → List ℕ → List Item
-items_in files name = items_of (pieces_of (unwrap_or (text_of files name) []))
+items_in files name = items_of (pieces_of (text_in files name))
 
 -- what the databases give for the citations, at the command of this number
 abbrev pub found : Job → ℕ → Resolved

@@ -15,6 +15,7 @@ use crate::beginning::{begin, fault_told, first_globals};
 use crate::commands::run_commands;
 use crate::counts::tell_counts;
 use crate::course::Course;
+use crate::database::{Database, present};
 use crate::job::{Job, shared_text};
 use crate::kept::{Kept, steps_under};
 use crate::reuse::Reuse;
@@ -209,12 +210,14 @@ fn show(
 pub struct Run {
     pub answers: Answers,
     pub kept: Kept,
+    /// The databases that were read, of those texts that are there.
+    pub databases: Sequence<Database>,
     pub report: Report,
 }
 
 /// What the files mean from this root, the name of its file without `.aux`, with this min-crossrefs. Of the steps that
 /// are kept of an earlier run, those that agree are taken over where its style has the same text; all others are carried
-/// out, and reported. The one error is out of memory.
+/// out, and reported. Of the databases only those are read that weren't before. The one error is out of memory.
 #[tactic(auto, using(crate::proofs::AnswerLemmas::star_within))]
 pub fn answers_after(
     alloc: Global,
@@ -222,6 +225,7 @@ pub fn answers_after(
     root: &[u8],
     min: u32,
     kept: &Kept,
+    databases: Sequence<Database>,
 ) -> Result<Run, AllocError>
     ensures shown { IfOk result (λ run. meaning_of run.answers ≡ meaning files.now root.now min) }
     ensures report { IfOk result (λ run. run.report ≡ report_after kept.now.text kept.now.steps files.now root.now min) }
@@ -235,6 +239,7 @@ pub fn answers_after(
         next: 0,
         index: None,
         known: Sequence::new(alloc),
+        databases,
     };
     let ran = run_with(alloc, files, citations, min, kept, &mut reuse)?;
     let Ran {
@@ -256,10 +261,12 @@ pub fn answers_after(
         reused: steps as u64 - reuse.ran as u64,
         ticks: reuse.meter.value(),
     };
+    let databases = present(alloc, files, reuse.databases.as_slice())?;
     let kept = Kept { text, steps: trace };
     Ok(Run {
         answers,
         kept,
+        databases,
         report,
     })
 }

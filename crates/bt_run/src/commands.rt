@@ -69,7 +69,7 @@ fn act_on(
         Action::Iterate(target) => caller.iterate(target, course, reuse),
         Action::Reverse(target) => caller.reverse(target, course, reuse),
         Action::Read => {
-            read(alloc, job, number, course)?;
+            read(alloc, job, number, course, &mut reuse.databases)?;
             Ok(())
         }
         Action::Sort => {

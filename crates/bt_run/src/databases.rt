@@ -1,32 +1,13 @@
-//! The databases of a run: their items, and what the log tells of them.
+//! What the log tells of the databases.
 
 ghost use Rattle.std.specs.Prelude.{◌≡◌, ◌++◌, ◌∷◌, [], map, filter, IfOk, OnOk};
-ghost use Rattle.bt_bib.specs.Items.{items_of};
 ghost use Rattle.bt_log.specs.declared.message.Message.{Message as MessageSeen};
-ghost use Rattle.bt_run.specs.Reading.{items_in, told_of, is_about, is_general, file_line, database_told, all_read};
+ghost use Rattle.bt_run.specs.Reading.{told_of, is_about, is_general, file_line, database_told, all_read};
 
-use crate::job::text_in;
-use bt_bib::{Items, read_bib};
-use bt_job::File;
 use bt_log::{Message, Place, Rank};
 use bt_text::{Bytes, Sequence, Shared};
 use itoa::Buffer;
 use std::alloc::{AllocError, Global};
-
-/// The items of all databases, in order.
-pub fn all_items(
-    alloc: Global,
-    files: &[File],
-    databases: &[Bytes],
-) -> Result<Vec<Items>, AllocError>
-    ensures { IfOk result (λ items. map items_of items.items ≡ map (items_in files.now) databases.now) }
-{
-    let mut items = Vec::new(alloc);
-    'databases: for name in databases {
-        items.push(read_bib(alloc, text_in(files, name.as_slice()))?)?;
-    }
-    Ok(items)
-}
 
 /// A message in the log, where it is one about a database in this file.
 fn told_of(file: &Shared<Bytes>, message: &Message) -> Result<Message, AllocError>

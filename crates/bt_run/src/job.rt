@@ -8,7 +8,7 @@ ghost use Rattle.bt_job.specs.Naming.{text_of};
 ghost use Rattle.bt_text.specs.NameList.{are_apart};
 
 use crate::course::Step;
-use bt_job::{File, text_of};
+use bt_job::File;
 use bt_resolve::Cites;
 use bt_style::Style;
 use bt_text::{Bytes, Shared};
@@ -32,14 +32,7 @@ pub struct Job<'a> {
     ghost star_within: { ForSome cites.now.star (λ before. before ≤ length cites.now.keys) },
 }
 
-/// The text of a name; the empty text where there is none.
-pub fn text_in<'a>(files: &'a [File], name: &[u8]) -> &'a [u8]
-    ensures { result.now ≡ unwrap_or (text_of files.now name.now) [] }
-{
-    text_of(files, name).unwrap_or(b"")
-}
-
-/// The same, shared with its file. The one error is out of memory.
+/// The text of a name, shared with its file; the empty text where there is none. The one error is out of memory.
 pub fn shared_text(alloc: Global, files: &[File], name: &[u8]) -> Result<Shared<Bytes>, AllocError>
     ensures { IfOk result (λ text. text ≡ unwrap_or (text_of files.now name.now) []) }
 {

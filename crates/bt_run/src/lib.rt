@@ -8,6 +8,7 @@ mod caller;
 mod commands;
 mod counts;
 mod course;
+mod database;
 mod databases;
 mod declaring;
 mod index;
@@ -21,6 +22,7 @@ mod stepping;
 
 pub use answers::{Answers, Report, Run, answers_after};
 pub use course::{Course, Site, Step};
+pub use database::{Database, database_of};
 pub use kept::Kept;
 pub use reuse::Reuse;
 

@@ -6,7 +6,8 @@ ghost use Rattle.bt_run.specs.Reading.{found, entered, list_order, read_in, read
 ghost use Rattle.bt_run.specs.JobView.{job_of};
 
 use crate::course::Course;
-use crate::databases::{all_items, tell_databases};
+use crate::database::{Database, all_items, databases_in};
+use crate::databases::tell_databases;
 use crate::declaring::{blank, declared_before};
 use crate::job::Job;
 use bt_actions::{Entry, Variables};
@@ -27,12 +28,18 @@ fn references(alloc: Global, items: &[Items]) -> Result<Vec<&Items>, AllocError>
     Ok(references)
 }
 
-/// What the databases give for the citations, at the command of this number.
-fn found(alloc: Global, job: Job<'_>, number: usize) -> Result<Resolved, AllocError>
+/// What the databases give for the citations, at the command of this number. Those that weren't read before are read.
+fn found(
+    alloc: Global,
+    job: Job<'_>,
+    number: usize,
+    databases: &mut Sequence<Database>,
+) -> Result<Resolved, AllocError>
     ensures { IfOk result (λ all. all ≡ found (job_of job.entry) number) }
 {
     let declared = declared_before(alloc, job.style, number)?;
-    let items = all_items(alloc, job.files, job.databases)?;
+    let read = databases_in(alloc, job.files, job.databases, databases)?;
+    let items = all_items(alloc, read.as_slice())?;
     let references = references(alloc, items.as_slice())?;
     let all = resolve(alloc, &declared, job.cites, references.as_slice(), job.min)?;
     Ok(all)
@@ -87,12 +94,14 @@ fn list_order(alloc: Global, entries: &[Entry]) -> Result<Sequence<usize>, Alloc
     Ok(order)
 }
 
-/// Reads the databases: the entries with their variables, the list order, the preamble, and what is told.
+/// Reads the databases: the entries with their variables, the list order, the preamble, and what is told. Of these
+/// databases only those are read that weren't before; they are put behind those that were.
 pub fn read(
     alloc: Global,
     job: Job<'_>,
     number: usize,
     course: &mut Course,
+    databases: &mut Sequence<Database>,
 ) -> Result<(), AllocError>
     ensures { OnOk result (course.new ≡ read (job_of job.entry) number course.old) }
 {
@@ -100,7 +109,7 @@ pub fn read(
         entries,
         preamble,
         messages,
-    } = found(alloc, job, number)?;
+    } = found(alloc, job, number, databases)?;
     tell_databases(alloc, &mut course.log, job.databases, messages.as_slice())?;
     let entries = all_entered(alloc, job.style, entries)?;
     course.order = list_order(alloc, entries.as_slice())?;

@@ -1,5 +1,6 @@
 //! How a run goes over the steps of an earlier one.
 
+use crate::database::Database;
 use crate::index::Index;
 use bt_machine::Meter;
 use bt_style::{Reach, Target};
@@ -25,4 +26,6 @@ pub struct Reuse {
     pub index: Option<Index>,
     /// What was worked out of the style so far, each once.
     pub known: Sequence<Known>,
+    /// The databases that were read, by earlier runs and this one.
+    pub databases: Sequence<Database>,
 }

@@ -1,0 +1,8 @@
+use Rattle.std.proofs.Common.{◌≡◌, map, take}
+use Rattle.bt_bib.specs.Items.{items_of}
+use Rattle.bt_bib.specs.Reading.{pieces_of}
+use Rattle.bt_run.specs.declared.database.Database.{Database}
+use Rattle.bt_run.proofs.database.all_items.Given as goal
+
+abbrev pub invariant-databases : goal.invariant-databases
+invariant-databases l = map items_of l.items.items ≡ map (λ (d : Database). items_of (pieces_of d.text)) (take l.database-index l.databases)
