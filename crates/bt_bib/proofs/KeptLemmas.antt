@@ -12,7 +12,7 @@ use Rattle.bt_bib.specs.declared.item.Piece.TheVariants as pieces
 use Rattle.bt_bib.specs.Spot.{Here, here}
 use Rattle.bt_bib.specs.Pieces.{next_piece}
 use Rattle.bt_bib.specs.Reading.{next_one, pieces_from}
-use Rattle.bt_bib.specs.Moved.{moved, moved_part, moved_value, moved_field, moved_content, moved_option, moved_piece}
+use Rattle.bt_bib.specs.Moved.{nowhere, moved, moved_part, moved_value, moved_field, moved_content, moved_option, moved_piece}
 use Rattle.bt_bib.specs.Boundaries.{end_of, below, last_end}
 use Rattle.bt_bib.proofs.RunLemmas.{same_spot}
 use Rattle.bt_bib.proofs.ReachLemmas.{Reaches, reaches_then, reaches_self}
@@ -22,9 +22,6 @@ use Rattle.bt_bib.proofs.AlikeLemmas.{Alike}
 use Rattle.bt_bib.proofs.SameLemmas.{Same}
 use Rattle.bt_bib.proofs.PieceMoveLemmas.{next_piece_same}
 use Rattle.bt_bib.proofs.BoundaryLemmas.{EndsAt, next_ends, pieces_by, pieces_step, here_reached}
-
-abbrev pub nowhere : Spot
-nowhere = record { place = 0; line = 0 }
 
 -- what was read below the limit is read again, and from there on the other text
 pub record Keeps (m : Spot) (limit : ℕ) (h k : Here) (ps : List Piece) : Type 0 where

@@ -20,6 +20,7 @@ pub mod KeptLemmas
 pub mod RiseLemmas
 pub mod SmallLemmas
 pub mod SpliceLemmas
+pub mod PlacedLemmas
 pub mod LawLemmas
 pub mod LineLemmas
 pub mod CutLemmas

@@ -218,7 +218,7 @@ type_read_small : (n : ℕ) (s : Spot) (h : Here) (r : Result (List ℕ × Here)
 type_read_small n s h (Err x) p b a = (p, small_spot n x.1 (bound n h x.1 a.ahead b), p.1, tt)
 type_read_small n s h (Ok w) p b a = type_ended_small n s w.0 w.1 (ended EntryType (codes "{(") w.1) p (bound n h w.1 a.ahead b) (ended_moves EntryType (codes "{(") w.1)
 
-piece_small : (n : ℕ) (h : Here) → Bound n h → SmallPiece n (piece h).0
+pub piece_small : (n : ℕ) (h : Here) → Bound n h → SmallPiece n (piece h).0
 unfolding piece
 piece_small n h b =
     let w = white (behind h) in
@@ -238,7 +238,7 @@ unfolding pieces_of
 pieces_small text = many_small (length text + 1) (SmallPiece (length text + 1)) next_one (λ h. record { ahead = next_piece_reaches h }) (next_piece_small (length text + 1)) (suc (length text)) (here text start) (record { place = omega arith; line = omega arith })
 
 -- so the numbers of a copy that is one of these pieces fit
-all_mapped : {A : Type 0} (f : A → A) (P Q : A → Type 0) → ((a : A) → P (f a) → Q a) → (xs : List A) → AllByRecursion P (map f xs) → AllByRecursion Q xs
+pub all_mapped : {A : Type 0} (f : A → A) (P Q : A → Type 0) → ((a : A) → P (f a) → Q a) → (xs : List A) → AllByRecursion P (map f xs) → AllByRecursion Q xs
 all_mapped f P Q k [] h = tt
 all_mapped f P Q k (x ∷ xs) h = (k x h.0, all_mapped f P Q k xs h.1)
 
@@ -264,7 +264,7 @@ fits_content n a b lt (contents.Preamble v) h = fits_value n a b lt v h
 fits_spot : (n : ℕ) (a b s : Spot) → n < 2 ^ 64 → SmallSpot n (rebased a b s) → FitsSpot a b s
 fits_spot n a b s lt h = (omega (arith, h.0), omega (arith, h.1))
 
-fits_piece : (n : ℕ) (a b : Spot) → n < 2 ^ 64 → (p : Piece) → SmallPiece n (rebased_piece a b p) → FitsPiece a b p
+pub fits_piece : (n : ℕ) (a b : Spot) → n < 2 ^ 64 → (p : Piece) → SmallPiece n (rebased_piece a b p) → FitsPiece a b p
 fits_piece n a b lt (pieces.Comment s e) h = (fits_spot n a b s lt h.0, fits_spot n a b e lt h.1)
 fits_piece n a b lt (pieces.Item i) h = record {
   start = fits_spot n a b i.start lt h.0;

@@ -15,7 +15,7 @@ use Rattle.bt_bib.specs.declared.item.Piece.TheVariants as pieces
 use Rattle.bt_bib.specs.Spot.{Here, at, here, start, is_line_end, IsIn}
 use Rattle.bt_bib.specs.Pieces.{next_piece}
 use Rattle.bt_bib.specs.Reading.{pieces_from, pieces_of}
-use Rattle.bt_bib.specs.Moved.{moved, moved_part, moved_value, moved_field, moved_content, moved_piece}
+use Rattle.bt_bib.specs.Moved.{nowhere, moved, moved_part, moved_value, moved_field, moved_content, moved_piece}
 use Rattle.bt_bib.specs.Boundaries.{end_of, last_end, below, InOrder, Rises}
 use Rattle.bt_bib.specs.Splice.{IsSplice, is_common, is_boundary, reread_from, reread_upto}
 use Rattle.bt_bib.specs.Rereading.{until, IsJoint}
@@ -24,7 +24,7 @@ use Rattle.bt_bib.proofs.RunLemmas.{same_spot}
 use Rattle.bt_bib.proofs.ReachLemmas.{Reaches}
 use Rattle.bt_bib.proofs.AlikeLemmas.{Alike}
 use Rattle.bt_bib.proofs.BoundaryLemmas.{rest_law, moved_law, EndsAt, next_ends, pieces_by, pieces_step}
-use Rattle.bt_bib.proofs.KeptLemmas.{kept_law, keeps, still, map_still, nowhere}
+use Rattle.bt_bib.proofs.KeptLemmas.{kept_law, keeps, still, map_still}
 use Rattle.bt_bib.proofs.RiseLemmas.{spans_rise, below_zero, from_is_greatest, first_boundary, least_is_first, boundary_is_last}
 
 -- moved to one spot, or to another
@@ -38,7 +38,7 @@ part_rebased : (a b : Spot) (p : Part) → rebased_part a b (moved_part a p) ≡
 part_rebased a b (Text t) = refl
 part_rebased a b (Macro t line) = ap (Macro t) (num_rebased line a.line b.line)
 
-map_same : {A : Type 0} (f g k : A → A) → ((x : A) → f (g x) ≡ k x) → (xs : List A) → map f (map g xs) ≡ map k xs
+pub map_same : {A : Type 0} (f g k : A → A) → ((x : A) → f (g x) ≡ k x) → (xs : List A) → map f (map g xs) ≡ map k xs
 map_same f g k e [] = refl
 map_same f g k e (x ∷ xs) = rw (e x, map_same f g k e xs) refl
 
@@ -54,7 +54,7 @@ content_rebased a b (contents.Entry e) = rw (map_same (rebased_field a b) (moved
 content_rebased a b (contents.Define d) = rw (value_rebased a b d.value) refl
 content_rebased a b (contents.Preamble v) = ap (λ v. contents.Preamble v) (value_rebased a b v)
 
-piece_rebased : (a b : Spot) (p : Piece) → rebased_piece a b (moved_piece a p) ≡ moved_piece b p
+pub piece_rebased : (a b : Spot) (p : Piece) → rebased_piece a b (moved_piece a p) ≡ moved_piece b p
 piece_rebased a b (pieces.Comment s e) = rw (spot_rebased a b s, spot_rebased a b e) refl
 piece_rebased a b (pieces.Item i) = rw (spot_rebased a b i.start, spot_rebased a b i.end, num_rebased i.line a.line b.line, content_rebased a b i.content) refl
 

@@ -17,4 +17,5 @@ pub mod Boundaries
 pub mod Splice
 pub mod Rereading
 pub mod Moving
+pub mod Placed
 pub mod Laws

@@ -12,6 +12,10 @@ use Rattle.bt_bib.specs.declared.item.Item.{Item}
 use Rattle.bt_bib.specs.declared.item.Piece.{Piece}
 use Rattle.bt_bib.specs.declared.item.Piece.TheVariants as pieces
 
+-- place 0 of line 0: what is moved by it stays where it is
+abbrev pub nowhere : Spot
+nowhere = record { place = 0; line = 0 }
+
 -- a spot moved on by some places and some lines
 abbrev pub moved : Spot → Spot → Spot
 moved m s = record { place = s.place + m.place; line = s.line + m.line }

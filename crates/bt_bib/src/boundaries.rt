@@ -2,25 +2,13 @@
 
 ghost use Rattle.std.specs.Prelude.{◌≡◌, ◌≤◌, length, take};
 ghost use Rattle.bt_bib.specs.Spot.{start};
-ghost use Rattle.bt_bib.specs.Boundaries.{below, end_of, last_end, InOrder};
+ghost use Rattle.bt_bib.specs.Boundaries.{below, last_end, InOrder};
 
-use crate::item::Piece;
+use crate::placed::PlacedPiece;
 use crate::spot::Spot;
 
-impl Piece {
-    /// The place behind it.
-    pub(crate) fn end(&self) -> Spot
-        ensures { result ≡ end_of self.now }
-    {
-        match self {
-            Piece::Comment(_, end) => *end,
-            Piece::Item(item) => item.end,
-        }
-    }
-}
-
 /// How many pieces end below a place. Their ends rise, so they are those in front.
-pub fn count_below(pieces: &[Piece], limit: usize) -> usize
+pub fn count_below(pieces: &[PlacedPiece], limit: usize) -> usize
     requires { InOrder pieces.now }
     ensures within { result ≤ length pieces.now }
     ensures value { below limit pieces.now ≡ take result pieces.now }
@@ -29,7 +17,7 @@ pub fn count_below(pieces: &[Piece], limit: usize) -> usize
 }
 
 /// The last boundary of so many pieces of a text.
-pub fn last_boundary(pieces: &[Piece], count: usize) -> Spot
+pub fn last_boundary(pieces: &[PlacedPiece], count: usize) -> Spot
     requires { count ≤ length pieces.now }
     ensures { result ≡ last_end start (take count pieces.now) }
 {

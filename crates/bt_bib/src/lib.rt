@@ -9,12 +9,14 @@ mod fault;
 mod fields;
 mod item;
 mod items;
+mod kept_items;
 mod keywords;
 mod laws;
 mod meter;
 mod moving;
 mod names;
 mod pieces;
+mod placed;
 mod reader;
 mod reading;
 mod rereading;
@@ -29,10 +31,12 @@ pub use aux_line::{AuxItem, Command, read_aux};
 pub use fault::{Fault, What};
 pub use item::{Closing, Content, Definition, Entry, Field, Item, Part, Piece};
 pub use items::Items;
+pub use kept_items::KeptItems;
 pub use laws::{
     boundary_stays, fault_is_final, fault_is_first, lines_lie_inside, rest_is_moved, spans_rise,
 };
 pub use meter::ReadMeter;
+pub use placed::PlacedPiece;
 pub use reading::read_bib;
 pub use rereading::Splice;
 pub use spot::Spot;

@@ -1,10 +1,9 @@
 //! What was read behind one place, as it is read behind another. Its texts are shared and not copied.
 
-ghost use Rattle.std.specs.Prelude.{◌≡◌, ◌<◌, ◌+◌, ◌-◌, ◌++◌, ◌^◌, map, All, IfOk};
+ghost use Rattle.std.specs.Prelude.{◌≡◌, ◌<◌, ◌+◌, ◌-◌, ◌^◌, map, All, IfOk};
 ghost use Rattle.bt_bib.specs.Moving.{rebased, rebased_content, rebased_field, rebased_item, rebased_line, rebased_part, rebased_piece, rebased_value, FitsContent, FitsField, FitsItem, FitsLine, FitsPart, FitsPiece, FitsSpot, FitsValue};
 
 use crate::item::{Content, Definition, Entry, Field, Item, Part, Piece};
-use crate::items::Items;
 use crate::spot::Spot;
 use bt_text::{Bytes, Sequence, Shared};
 use std::alloc::{AllocError, Global};
@@ -18,7 +17,7 @@ fn rebased_line(line: usize, a: Spot, b: Spot) -> usize
 }
 
 /// The same of a place with its line.
-fn rebased(spot: Spot, a: Spot, b: Spot) -> Spot
+pub fn rebased(spot: Spot, a: Spot, b: Spot) -> Spot
     requires { FitsSpot a b spot }
     ensures { result ≡ rebased a b spot }
 {
@@ -148,7 +147,7 @@ fn rebased_item(alloc: Global, item: &Item, a: Spot, b: Spot) -> Result<Item, Al
     })
 }
 
-fn rebased_piece(alloc: Global, piece: &Piece, a: Spot, b: Spot) -> Result<Piece, AllocError>
+pub fn rebased_piece(alloc: Global, piece: &Piece, a: Spot, b: Spot) -> Result<Piece, AllocError>
     requires { FitsPiece a b piece.now }
     ensures { IfOk result (λ copy. copy ≡ rebased_piece a b piece.now) }
 {
@@ -158,22 +157,4 @@ fn rebased_piece(alloc: Global, piece: &Piece, a: Spot, b: Spot) -> Result<Piece
         }
         Piece::Item(item) => Ok(Piece::Item(rebased_item(alloc, item, a, b)?)),
     }
-}
-
-/// Some pieces, and behind them copies of others that stand behind `a`, where the text from `a` on stands from `b` on.
-pub fn with_rebased(
-    alloc: Global,
-    items: Items,
-    others: &[Piece],
-    a: Spot,
-    b: Spot,
-) -> Result<Items, AllocError>
-    requires { All (FitsPiece a b) others.now }
-    ensures { IfOk result (λ all. all ≡ items ++ map (rebased_piece a b) others.now) }
-{
-    let mut items = items;
-    'pieces: for piece in others {
-        items.push(rebased_piece(alloc, piece, a, b)?)?;
-    }
-    Ok(items)
 }

@@ -4,13 +4,16 @@ ghost use Rattle.std.specs.Prelude.{◌≡◌, ◌==◌, count_by, IfOk};
 ghost use Rattle.bt_bib.specs.Spot.{here, is_line_end, IsAhead, IsIn};
 ghost use Rattle.bt_bib.specs.Stop.{Makes};
 ghost use Rattle.bt_bib.specs.Scan.{past};
-ghost use Rattle.bt_bib.specs.Pieces.{is_text, next_piece};
+ghost use Rattle.bt_bib.specs.Pieces.{is_text, next_piece, piece};
 ghost use Rattle.bt_bib.specs.Reading.{pieces_from, pieces_of};
 
 use crate::item::Piece;
 use crate::items::Items;
+use crate::kept_items::KeptItems;
+use crate::placed::PlacedPiece;
 use crate::reader::Reader;
 use crate::spot::Spot;
+use bt_text::Shared;
 use memchr::memchr;
 use std::alloc::{AllocError, Global};
 
@@ -60,6 +63,57 @@ impl Reader<'_> {
         let mut at = from;
         'pieces: loop {
             let (next, end) = self.next_piece(at)?;
+            match next {
+                None => return Ok(items),
+                Some(piece) => items.push(piece)?,
+            }
+            at = end;
+        }
+    }
+}
+
+impl Reader<'_> {
+    /// What begins with an `@`, from it on, kept apart from where it stands.
+    pub fn placed_piece(&self, start: Spot) -> Result<(PlacedPiece, Spot), AllocError>
+        requires { IsIn self.now.text.now start }
+        ensures { Makes self.now.text.now start result (piece (here self.now.text.now start)) }
+    {
+        let own = Reader {
+            alloc: self.alloc,
+            text: &self.text[start.place..],
+        };
+        let (piece, reached) = own.piece(Spot::NOWHERE)?;
+        let end = Spot {
+            place: reached.place + start.place,
+            line: reached.line + start.line,
+        };
+        let piece = PlacedPiece::new(start, end, Shared::new(self.alloc, piece)?);
+        Ok((piece, end))
+    }
+
+    /// The next `@` with what it begins, kept apart from where it stands, or none.
+    #[tactic(auto, unfolding(crate::specs::Pieces::next_piece))]
+    pub fn next_placed(&self, from: Spot) -> Result<(Option<PlacedPiece>, Spot), AllocError>
+        requires { IsIn self.now.text.now from }
+        ensures { Makes self.now.text.now from result (next_piece (here self.now.text.now from)) }
+    {
+        let at = self.seek(from);
+        let Some(_) = self.peek(at) else {
+            return Ok((None, at));
+        };
+        let (piece, end) = self.placed_piece(at)?;
+        Ok((Some(piece), end))
+    }
+
+    /// The comment words and items from a place on, each kept apart from where it stands.
+    pub fn kept_from(&self, from: Spot) -> Result<KeptItems, AllocError>
+        requires { IsIn self.now.text.now from }
+        ensures { IfOk result (λ items. items ≡ pieces_from (here self.now.text.now from)) }
+    {
+        let mut items = KeptItems::new(self.alloc);
+        let mut at = from;
+        'pieces: loop {
+            let (next, end) = self.next_placed(at)?;
             match next {
                 None => return Ok(items),
                 Some(piece) => items.push(piece)?,

@@ -8,8 +8,8 @@ ghost use Rattle.bt_bib.specs.Splice.{is_common};
 ghost use Rattle.bt_bib.specs.Rereading.{until, IsJoint};
 
 use crate::boundaries::{count_below, last_boundary};
-use crate::item::Piece;
-use crate::items::Items;
+use crate::kept_items::KeptItems;
+use crate::placed::PlacedPiece;
 use crate::reader::Reader;
 use crate::spot::Spot;
 use std::alloc::AllocError;
@@ -23,7 +23,7 @@ pub struct Splice {
 }
 
 /// How many pieces of the old text end at or before this place of the new one, where it is a boundary of both.
-fn joint(old: &[Piece], splice: Splice, place: usize) -> Option<usize>
+fn joint(old: &[PlacedPiece], splice: Splice, place: usize) -> Option<usize>
     requires order { InOrder old.now }
     requires first { splice.begin + splice.inserted < 2 ^ 64 }
     requires back { place - (splice.begin + splice.inserted) + splice.end + 1 < 2 ^ 64 }
@@ -46,11 +46,11 @@ impl Reader<'_> {
     /// Reads on from a place, behind the pieces that are there, up to a boundary of both texts, or to the text's end.
     pub fn reread(
         &self,
-        items: Items,
+        items: KeptItems,
         from: Spot,
-        old: &[Piece],
+        old: &[PlacedPiece],
         splice: Splice,
-    ) -> Result<(Items, Spot, Option<usize>), AllocError>
+    ) -> Result<(KeptItems, Spot, Option<usize>), AllocError>
         requires at { IsIn self.now.text.now from }
         requires order { InOrder old.now }
         requires first { splice.begin + splice.inserted < 2 ^ 64 }
@@ -67,7 +67,7 @@ impl Reader<'_> {
             if let Some(count) = joint(old, splice, at.place) {
                 return Ok((items, at, Some(count)));
             }
-            let (next, end) = self.next_piece(at)?;
+            let (next, end) = self.next_placed(at)?;
             match next {
                 None => return Ok((items, at, None)),
                 Some(piece) => items.push(piece)?,

@@ -4,21 +4,20 @@ ghost use Rattle.std.specs.Prelude.{◌≡◌, ◌<◌, ◌+◌, ◌-◌, ◌^�
 ghost use Rattle.bt_bib.specs.Reading.{pieces_of};
 
 use crate::boundaries::{count_below, last_boundary};
-use crate::items::Items;
+use crate::kept_items::KeptItems;
 use crate::meter::ReadMeter;
-use crate::moving::with_rebased;
 use crate::reader::Reader;
 use crate::rereading::Splice;
 use crate::spot::Spot;
 use std::alloc::{AllocError, Global};
 
-impl Items {
+impl KeptItems {
     ghost use Rattle.bt_bib.specs.Splice.{reread_from, reread_upto, IsSplice};
 
-    /// The items of `new_text`, which is `old_text` with this splice. These are the items of `old_text`. Only a part of the new text is read: from the greatest boundary below
-    /// the splice up to the least one behind it that both texts have. The meter rises by the number of its bytes. The
-    /// other items are taken over, with their places and lines moved. The one error is want of memory; the meter is then
-    /// as before.
+    /// The items of `new_text`, which is `old_text` with this splice. These are the items of `old_text`. Only a part of
+    /// the new text is read: from the greatest boundary below the splice up to the least one behind it that both texts
+    /// have. The meter rises by the number of its bytes. The other items are taken over as they are; only where each
+    /// stands is new. The one error is out of memory; the meter is then as before.
     pub fn respliced(
         &self,
         alloc: Global,
@@ -26,7 +25,7 @@ impl Items {
         new_text: &[u8],
         splice: Splice,
         meter: &mut ReadMeter,
-    ) -> Result<Items, AllocError>
+    ) -> Result<KeptItems, AllocError>
         requires old { self.now ≡ pieces_of old_text.now }
         requires splice { IsSplice old_text.now new_text.now splice.begin splice.end splice.inserted }
         requires meter { meter.old + length new_text.now < 2 ^ 128 }
@@ -37,17 +36,17 @@ impl Items {
         let old = self.pieces();
         let kept = count_below(old, splice.begin);
         let from = last_boundary(old, kept);
-        let nowhere = Spot { place: 0, line: 0 };
         let reader = Reader {
             alloc,
             text: new_text,
         };
-        let items = with_rebased(alloc, Items::new(alloc), &old[..kept], nowhere, nowhere)?;
+        let front = KeptItems::new(alloc);
+        let items = front.with_rebased(&old[..kept], Spot::NOWHERE, Spot::NOWHERE)?;
         let (items, at, joint) = reader.reread(items, from, old, splice)?;
         match joint {
             Some(passed) => {
                 let back = last_boundary(old, passed);
-                let items = with_rebased(alloc, items, &old[passed..], back, at)?;
+                let items = items.with_rebased(&old[passed..], back, at)?;
                 meter.raise(at.place - from.place);
                 Ok(items)
             }

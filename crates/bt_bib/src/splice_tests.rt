@@ -3,7 +3,7 @@
 ghost use Rattle.std.specs.Prelude.{◌≤◌, length, IfOk};
 ghost use Rattle.bt_bib.specs.Splice.{IsSplice};
 
-use crate::{ReadMeter, Splice, read_bib};
+use crate::{KeptItems, Piece, ReadMeter, Splice, Spot, read_bib};
 use bt_text::Bytes;
 use std::alloc::{AllocError, Global};
 use std::test::Fail;
@@ -44,6 +44,30 @@ struct Told {
     read: u128,
 }
 
+/// The items of a spliced text from those of the text, and how many bytes were read; none where the splice lies
+/// outside it.
+fn respliced(
+    alloc: Global,
+    text: &[u8],
+    start: usize,
+    end: usize,
+    bytes: &[u8],
+) -> Result<Option<(KeptItems, Bytes, u128)>, AllocError> {
+    if end < start || text.len() < end {
+        return Ok(None);
+    }
+    let old = KeptItems::read(alloc, text)?;
+    let new = spliced(alloc, text, start, end, bytes)?;
+    let mut meter = ReadMeter::new();
+    let splice = Splice {
+        begin: start,
+        end,
+        inserted: bytes.len(),
+    };
+    let items = old.respliced(alloc, text, new.as_slice(), splice, &mut meter)?;
+    Ok(Some((items, new, meter.value())))
+}
+
 /// Reads a text and a splice of it; none where the splice lies outside it.
 fn both_ways(
     alloc: Global,
@@ -52,28 +76,15 @@ fn both_ways(
     end: usize,
     bytes: &[u8],
 ) -> Result<Option<Told>, AllocError> {
-    if end < start || text.len() < end {
+    let Some((again, new, read)) = respliced(alloc, text, start, end, bytes)? else {
         return Ok(None);
-    }
-    let old = read_bib(alloc, text)?;
-    let new = spliced(alloc, text, start, end, bytes)?;
-    let mut meter = ReadMeter::new();
-    let again = old.respliced(
-        alloc,
-        text,
-        new.as_slice(),
-        Splice {
-            begin: start,
-            end,
-            inserted: bytes.len(),
-        },
-        &mut meter,
-    )?;
+    };
+    let again = again.items(alloc)?;
     let whole = read_bib(alloc, new.as_slice())?;
     Ok(Some(Told {
         again: format!(in alloc; "{again:?}")?,
         whole: format!(in alloc; "{whole:?}")?,
-        read: meter.value(),
+        read,
     }))
 }
 
@@ -117,5 +128,21 @@ fn nothing_is_read_where_the_last_item_goes_whole(rt: HostRuntime) -> Result<(),
     let told = both_ways(alloc, TWO, 0, 21, b"")?.ok_or("outside")?;
     assert_eq!(rt; told.read, 0);
     assert_eq!(rt; told.again.as_str(), told.whole.as_str());
+    Ok(())
+}
+
+#[test]
+fn items_that_are_taken_over_stand_where_they_moved(rt: HostRuntime) -> Result<(), Fail> {
+    let alloc = rt.alloc();
+    let (items, _, _) = respliced(alloc, TWO, 0, 0, b"\n\n")?.ok_or("outside")?;
+    let stand: [(usize, usize, usize); 2] = [(2, 3, 23), (24, 4, 45)];
+    assert_eq!(rt; items.pieces().len(), stand.len());
+    for (piece, (place, line, end)) in items.pieces().iter().zip(stand) {
+        assert_eq!(rt; piece.start(), Spot { place, line });
+        assert_eq!(rt; piece.end(), Spot { place: end, line });
+        if let Piece::Item(item) = piece.piece() {
+            assert_eq!(rt; item.end, Spot { place: 21, line: 0 });
+        }
+    }
     Ok(())
 }

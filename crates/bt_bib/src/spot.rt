@@ -17,6 +17,9 @@ impl Spot {
     /// The first place of a text.
     pub const START: Spot = Spot { place: 0, line: 1 };
 
+    /// Place 0 of line 0, where the `@` of a piece stands that is kept apart from its text.
+    pub(crate) const NOWHERE: Spot = Spot { place: 0, line: 0 };
+
     /// The place behind a byte that stands here.
     pub(crate) fn after(self, byte: u8) -> Spot
         requires place { self.place + 1 < 2 ^ 64 }

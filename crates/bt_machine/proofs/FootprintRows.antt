@@ -12,7 +12,7 @@ use Rattle.bt_machine.specs.declared.input.Input.{Input}
 use Rattle.bt_machine.specs.declared.outcome.Outcome.{Outcome}
 use Rattle.bt_machine.specs.Footprint.{blend, among, input_over}
 use Rattle.bt_machine.specs.Agreement.{outcome_over}
-use Rattle.bt_machine.specs.Comparison.{agreement}
+use Rattle.bt_machine.specs.Comparison.{reach_by, agreement}
 use Rattle.bt_machine.specs.Step.{step_in}
 use Rattle.bt_machine.specs.Eval.{eval_within}
 
@@ -74,49 +74,12 @@ given title year function held =
 
 -- reads the title
 abbrev reads_title : Reach
-reads_title =
-    record {
-      targets = Function 0 ∷ Field 0 ∷ [];
-      fields = 0 ∷ [];
-      entry_numbers = [];
-      entry_texts = [];
-      global_numbers = [];
-      global_texts = [];
-      held = false;
-      preamble = false;
-      kind = false;
-      fields_among = refl;
-      entry_numbers_among = refl;
-      entry_texts_among = refl;
-      global_numbers_among = refl;
-      global_texts_among = refl;
-      held_named = refl;
-      preamble_named = refl;
-      kind_named = refl;
-    }
+reads_title = reach_by (Function 0 ∷ Field 0 ∷ [])
 
 -- calls the type of a book, which reads the title, or else the default, which reads the year; both are reached
 abbrev calls_type : Reach
 calls_type =
-    record {
-      targets = Function 0 ∷ Builtin builtin.CallType ∷ Function 1 ∷ Function 2 ∷ Field 0 ∷ Field 1 ∷ [];
-      fields = 0 ∷ 1 ∷ [];
-      entry_numbers = [];
-      entry_texts = [];
-      global_numbers = [];
-      global_texts = [];
-      held = false;
-      preamble = false;
-      kind = true;
-      fields_among = refl;
-      entry_numbers_among = refl;
-      entry_texts_among = refl;
-      global_numbers_among = refl;
-      global_texts_among = refl;
-      held_named = refl;
-      preamble_named = refl;
-      kind_named = refl;
-    }
+    reach_by (Function 0 ∷ Builtin builtin.CallType ∷ Function 1 ∷ Function 2 ∷ Field 0 ∷ Field 1 ∷ [])
 
 -- another year, which is not read, and another held line
 other_year : agreement reads_title (given (codes "A") (codes "1") None []) (given (codes "A") (codes "2") None (codes "x")) ≡ true

@@ -137,9 +137,10 @@ leads_name p flow t fs fs1 fs' w w1 w' k k1 k' q ef ew h =
     LeadsTo_along p flow fs' w' k' _ _ _ _ same (omega arith) h
 
 -- the same, as `elements` comes by it
-pub leads_elements : (p : Program) (flow : Flow) (first : Op) (rest ops : List Op) (fs fs1 fs' : List Frame) (w w1 w' : World) (k k1 k' : ℕ) → ops ≡ first ∷ rest → k1 + 1 ≡ k → fs1 ≡ Run (Block (ops_body rest)) ∷ fs → w1 ≡ counted (element_of first) w → LeadsTo p flow fs' w' k' (then_go (act p (eval p) (element_of first) w1 k1) (left p fs1)) (load fs1 w1 k1 + 4) → LeadsTo p flow fs' w' k' (then_go (eval p (ops_body ops) w k) (left p fs)) (load fs w k + 0)
-leads_elements p flow first rest ops fs fs1 fs' w w1 w' k k1 k' eo q ef ew h =
-    subst (λ ops. LeadsTo p flow fs' w' k' (then_go (eval p (ops_body ops) w k) (left p fs)) (load fs w k + 0)) (sym eo) (leads_then p flow (element_of first) (ops_body rest) fs fs1 fs' w w1 w' k k1 k' q ef ew h)
+pub leads_elements : (p q : Program) (flow : Flow) (first : Op) (rest ops : List Op) (fs fs1 fs' : List Frame) (w w1 w' : World) (k k1 k' : ℕ) → ops ≡ first ∷ rest → q ≡ p → k1 + 1 ≡ k → fs1 ≡ Run (Block (ops_body rest)) ∷ fs → w1 ≡ counted (element_of first) w → LeadsTo q flow fs' w' k' (then_go (act q (eval q) (element_of first) w1 k1) (left q fs1)) (load fs1 w1 k1 + 4) → LeadsTo p flow fs' w' k' (then_go (eval p (ops_body ops) w k) (left p fs)) (load fs w k + 0)
+leads_elements p q flow first rest ops fs fs1 fs' w w1 w' k k1 k' eo ep ek ef ew h =
+    let i = subst (λ p. LeadsTo p flow fs' w' k' (then_go (act p (eval p) (element_of first) w1 k1) (left p fs1)) (load fs1 w1 k1 + 4)) ep h in
+    subst (λ ops. LeadsTo p flow fs' w' k' (then_go (eval p (ops_body ops) w k) (left p fs)) (load fs w k + 0)) (sym eo) (leads_then p flow (element_of first) (ops_body rest) fs fs1 fs' w w1 w' k k1 k' ek ef ew i)
 
 -- nothing left to do
 then_go-done : (p : Program) (o : Ending) → then_go o (left p []) ≡ o

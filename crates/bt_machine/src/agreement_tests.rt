@@ -283,11 +283,11 @@ fn inputs_agree_in_what_is_reached(rt: HostRuntime) -> Result<(), Fail> {
 /// What an earlier step on the one input leaves for the other one, where they agree.
 fn reused(alloc: Global, style: &Style, old: &Input, new: &Input) -> Result<Option<Outcome>, Fail> {
     let left = activate(alloc, style, old, &mut Meter::new())?;
-    let reach = reach_of(alloc, style, new)?;
+    let reach = reach_of(alloc, style, old)?;
     if !agrees(style, old, new, &reach) {
         return Ok(None);
     }
-    Ok(Some(left_over(alloc, style, old, &left, new, &reach)?))
+    Ok(Some(left_over(alloc, old, &left, new, &reach)?))
 }
 
 /// The first of the global numbers and texts, and the entry's number.

@@ -27,9 +27,10 @@ pub enum Frame<'a> {
     Test(Code<'a>, Code<'a>),
 }
 
-/// A step that is under way, and what is left to do, the next at the end.
+/// A step of a style that is under way, and what is left to do, the next at the end.
 #[derive(Drop)]
 pub struct Machine<'a> {
+    pub script: Script<'a>,
     pub state: State<'a>,
     pub control: Vec<Frame<'a>>,
 }
@@ -55,46 +56,46 @@ fn builtin_called(op: &Op) -> Option<Builtin>
 }
 
 impl<'a> Machine<'a> {
-    ghost use Rattle.bt_machine.specs.Control.{CarriesOut, Test, program_in, frames_of, frame_seen, meant, rest_of, ended_at};
+    ghost use Rattle.bt_machine.specs.Control.{CarriesOut, Test, frames_of, frame_seen, meant, rest_of, ended_at};
 
     /// Puts something on top of what is left to do.
     fn plan(&mut self, frame: Frame<'a>) -> Result<(), AllocError>
         ensures frames { OnOk result (frames_of self.new ≡ frame_seen frame.entry ∷ frames_of self.old) }
         ensures state { OnOk result (self.new.state ≡ self.old.state) }
+        ensures script { self.new.script ≡ self.old.script }
     {
         self.control.push(frame)?;
         Ok(())
     }
 
     /// Runs a function, later.
-    fn plan_run(&mut self, script: Script<'a>, code: Code<'a>) -> Result<Flow, AllocError>
-        ensures { IfOk result (CarriesOut script.entry self.old self.new
+    fn plan_run(&mut self, code: Code<'a>) -> Result<Flow, AllocError>
+        ensures run { IfOk result (CarriesOut self.old self.new
             (λ p. eval p (code_body (code_seen code.entry))) 2) }
+        ensures script { self.new.script ≡ self.old.script }
     {
         self.plan(Frame::Run(code))?;
         Ok(Flow::Go)
     }
 
     /// Runs a function of the style, later.
-    fn enter(&mut self, script: Script<'a>, n: usize) -> Result<Flow, AllocError>
-        ensures { IfOk result (CarriesOut script.entry self.old self.new
+    fn enter(&mut self, n: usize) -> Result<Flow, AllocError>
+        ensures run { IfOk result (CarriesOut self.old self.new
             (λ p. run_function p.functions (eval p) (Some n)) 2) }
+        ensures script { self.new.script ≡ self.old.script }
     {
-        if n < script.style.functions.len() {
-            self.plan(Frame::Run(Code::Braced(&script.style.functions[n].body)))?;
+        let style = self.script.style;
+        if n < style.functions.len() {
+            self.plan(Frame::Run(Code::Braced(&style.functions[n].body)))?;
         }
         Ok(Flow::Go)
     }
 
     /// Runs a loop, later.
-    fn plan_loop(
-        &mut self,
-        script: Script<'a>,
-        test: Code<'a>,
-        body: Code<'a>,
-    ) -> Result<Flow, AllocError>
-        ensures { IfOk result (CarriesOut script.entry self.old self.new
+    fn plan_loop(&mut self, test: Code<'a>, body: Code<'a>) -> Result<Flow, AllocError>
+        ensures run { IfOk result (CarriesOut self.old self.new
             (λ p. looped (eval p) (code_seen test.entry) (code_seen body.entry)) 2) }
+        ensures script { self.new.script ≡ self.old.script }
     {
         self.plan(Frame::Test(test, body))?;
         self.plan(Frame::Run(test))?;
@@ -102,98 +103,95 @@ impl<'a> Machine<'a> {
     }
 
     /// `call.type$`.
-    fn call_type(&mut self, script: Script<'a>) -> Result<Flow, AllocError>
-        ensures { IfOk result (CarriesOut script.entry self.old self.new
+    fn call_type(&mut self) -> Result<Flow, AllocError>
+        ensures run { IfOk result (CarriesOut self.old self.new
             (λ p. built_in p (eval p) builtin.CallType) 4) }
+        ensures script { self.new.script ≡ self.old.script }
     {
         match &self.state.current {
             None => {
                 self.state.tell(Complaint::NoEntry)?;
                 Ok(Flow::Go)
             }
-            Some(current) => match current.entry.function.or(script.fallback) {
+            Some(current) => match current.entry.function.or(self.script.fallback) {
                 None => Ok(Flow::Go),
-                Some(n) => self.enter(script, n),
+                Some(n) => self.enter(n),
             },
         }
     }
 
     /// `if$`.
-    fn choose(&mut self, script: Script<'a>) -> Result<Flow, AllocError>
-        ensures { IfOk result (CarriesOut script.entry self.old self.new
+    fn choose(&mut self) -> Result<Flow, AllocError>
+        ensures run { IfOk result (CarriesOut self.old self.new
             (λ p. built_in p (eval p) builtin.If) 4) }
+        ensures script { self.new.script ≡ self.old.script }
     {
         match take_choice(&mut self.state, Builtin::If)? {
             None => Ok(Flow::Go),
             Some((number, above, other)) => {
-                self.plan_run(script, if number > 0 { above } else { other })
+                self.plan_run(if number > 0 { above } else { other })
             }
         }
     }
 
     /// `while$`.
-    fn begin_loop(&mut self, script: Script<'a>) -> Result<Flow, AllocError>
-        ensures { IfOk result (CarriesOut script.entry self.old self.new
+    fn begin_loop(&mut self) -> Result<Flow, AllocError>
+        ensures run { IfOk result (CarriesOut self.old self.new
             (λ p. built_in p (eval p) builtin.While) 4) }
+        ensures script { self.new.script ≡ self.old.script }
     {
         match take_two_codes(&mut self.state, Builtin::While)? {
             None => Ok(Flow::Go),
-            Some((test, body)) => self.plan_loop(script, test, body),
+            Some((test, body)) => self.plan_loop(test, body),
         }
     }
 
     /// A built-in function.
-    fn call_builtin(
-        &mut self,
-        alloc: Global,
-        script: Script<'a>,
-        builtin: Builtin,
-    ) -> Result<Flow, AllocError>
-        ensures { IfOk result (CarriesOut script.entry self.old self.new
+    fn call_builtin(&mut self, alloc: Global, builtin: Builtin) -> Result<Flow, AllocError>
+        ensures run { IfOk result (CarriesOut self.old self.new
             (λ p. built_in p (eval p) builtin) 4) }
+        ensures script { self.new.script ≡ self.old.script }
     {
         match builtin {
-            Builtin::CallType => self.call_type(script),
-            Builtin::If => self.choose(script),
-            Builtin::While => self.begin_loop(script),
-            _ => call_basic(&mut self.state, alloc, script.style, builtin),
+            Builtin::CallType => self.call_type(),
+            Builtin::If => self.choose(),
+            Builtin::While => self.begin_loop(),
+            _ => call_basic(&mut self.state, alloc, self.script.style, builtin),
         }
     }
 
     /// Puts a value on the stack.
-    fn push(&mut self, script: Script<'a>, value: Value<'a>) -> Result<Flow, AllocError>
+    fn push(&mut self, value: Value<'a>) -> Result<Flow, AllocError>
         requires { text_len (item_of value) ≤ 65536 }
-        ensures { IfOk result (CarriesOut script.entry self.old self.new
+        ensures run { IfOk result (CarriesOut self.old self.new
             (λ p w k. acted (pushed (item_of value.entry) w) k) 4) }
+        ensures script { self.new.script ≡ self.old.script }
     {
         self.state.push(value)
     }
 
     /// A call of a name.
-    fn call(
-        &mut self,
-        alloc: Global,
-        script: Script<'a>,
-        target: Target,
-    ) -> Result<Flow, AllocError>
-        ensures { IfOk result (CarriesOut script.entry self.old self.new
+    fn call(&mut self, alloc: Global, target: Target) -> Result<Flow, AllocError>
+        ensures run { IfOk result (CarriesOut self.old self.new
             (λ p. called p (eval p) target) 4) }
+        ensures script { self.new.script ≡ self.old.script }
     {
         match target {
-            Target::Builtin(builtin) => self.call_builtin(alloc, script, builtin),
+            Target::Builtin(builtin) => self.call_builtin(alloc, builtin),
             Target::Field(n) => call_field(&mut self.state, alloc, n),
             Target::EntryNumber(n) => call_entry_number(&mut self.state, n),
             Target::EntryText(n) => call_entry_text(&mut self.state, alloc, n),
             Target::GlobalNumber(n) => call_global_number(&mut self.state, n),
             Target::GlobalText(n) => call_global_text(&mut self.state, alloc, n),
-            Target::Function(n) => self.enter(script, n),
+            Target::Function(n) => self.enter(n),
         }
     }
 
     /// One element, after its tick.
-    fn element(&mut self, alloc: Global, script: Script<'a>, op: &'a Op) -> Result<Flow, AllocError>
-        ensures { IfOk result (CarriesOut script.entry self.old self.new
+    fn element(&mut self, alloc: Global, op: &'a Op) -> Result<Flow, AllocError>
+        ensures run { IfOk result (CarriesOut self.old self.new
             (λ p. act p (eval p) (element_of op.now)) 4) }
+        ensures script { self.new.script ≡ self.old.script }
     {
         match op {
             Op::Number(n) => self.state.push_number(*n),
@@ -201,21 +199,17 @@ impl<'a> Machine<'a> {
                 let text = Bytes::copied(alloc, text.as_slice())?;
                 self.state.push_text(text)
             }
-            Op::Quote(target) => self.push(script, Value::Code(Code::Name(*target))),
-            Op::Block(ops) => self.push(script, Value::Code(Code::Braced(ops))),
-            Op::Call(target) => self.call(alloc, script, *target),
+            Op::Quote(target) => self.push(Value::Code(Code::Name(*target))),
+            Op::Block(ops) => self.push(Value::Code(Code::Braced(ops))),
+            Op::Call(target) => self.call(alloc, *target),
         }
     }
 
     /// The next element of a body, with the rest for later.
-    fn elements(
-        &mut self,
-        alloc: Global,
-        script: Script<'a>,
-        ops: &'a [Op],
-    ) -> Result<Flow, AllocError>
-        ensures { IfOk result (CarriesOut script.entry self.old self.new
+    fn elements(&mut self, alloc: Global, ops: &'a [Op]) -> Result<Flow, AllocError>
+        ensures run { IfOk result (CarriesOut self.old self.new
             (λ p. eval p (ops_body ops.now)) 0) }
+        ensures script { self.new.script ≡ self.old.script }
     {
         match ops.split_first() {
             None => Ok(Flow::Go),
@@ -226,38 +220,30 @@ impl<'a> Machine<'a> {
                 }
                 self.state.tally.take(builtin_called(first));
                 self.plan(Frame::Run(Code::Braced(rest)))?;
-                self.element(alloc, script, first)
+                self.element(alloc, first)
             }
         }
     }
 
     /// A quoted name, as one call.
-    fn name(
-        &mut self,
-        alloc: Global,
-        script: Script<'a>,
-        target: Target,
-    ) -> Result<Flow, AllocError>
-        ensures { IfOk result (CarriesOut script.entry self.old self.new
+    fn name(&mut self, alloc: Global, target: Target) -> Result<Flow, AllocError>
+        ensures run { IfOk result (CarriesOut self.old self.new
             (λ p. eval p (Then (Called target) End)) 0) }
+        ensures script { self.new.script ≡ self.old.script }
     {
         if self.state.tally.ticks == 0 {
             self.state.tell(Complaint::TicksPassed)?;
             return Ok(Flow::Stop);
         }
         self.state.tally.take(builtin_in(target));
-        self.call(alloc, script, target)
+        self.call(alloc, target)
     }
 
     /// Looks at the number that a loop's test left.
-    fn look(
-        &mut self,
-        script: Script<'a>,
-        test: Code<'a>,
-        body: Code<'a>,
-    ) -> Result<Flow, AllocError>
-        ensures { IfOk result (CarriesOut script.entry self.old self.new
+    fn look(&mut self, test: Code<'a>, body: Code<'a>) -> Result<Flow, AllocError>
+        ensures run { IfOk result (CarriesOut self.old self.new
             (λ p. meant p (Test (code_seen test.entry) (code_seen body.entry))) 0) }
+        ensures script { self.new.script ≡ self.old.script }
     {
         if let Some(number) = take_number(&mut self.state, Builtin::While)? {
             if number > 0 {
@@ -270,19 +256,15 @@ impl<'a> Machine<'a> {
     }
 
     /// What stood on top of what is left to do.
-    fn advance(
-        &mut self,
-        alloc: Global,
-        script: Script<'a>,
-        frame: Frame<'a>,
-    ) -> Result<Flow, AllocError>
-        ensures { IfOk result (CarriesOut script.entry self.old self.new
+    fn advance(&mut self, alloc: Global, frame: Frame<'a>) -> Result<Flow, AllocError>
+        ensures run { IfOk result (CarriesOut self.old self.new
             (λ p. meant p (frame_seen frame.entry)) 0) }
+        ensures script { self.new.script ≡ self.old.script }
     {
         match frame {
-            Frame::Run(Code::Name(target)) => self.name(alloc, script, target),
-            Frame::Run(Code::Braced(ops)) => self.elements(alloc, script, ops),
-            Frame::Test(test, body) => self.look(script, test, body),
+            Frame::Run(Code::Name(target)) => self.name(alloc, target),
+            Frame::Run(Code::Braced(ops)) => self.elements(alloc, ops),
+            Frame::Test(test, body) => self.look(test, body),
         }
     }
 
@@ -292,16 +274,17 @@ impl<'a> Machine<'a> {
             (λ frame. frames_of self.old ≡ frame_seen frame ∷ frames_of self.new) }
         ensures empty { IfNone result (frames_of self.new ≡ []) }
         ensures state { self.new.state ≡ self.old.state }
+        ensures script { self.new.script ≡ self.old.script }
     {
         self.control.pop()
     }
 
     /// Does all that is left to do.
-    pub fn run(&mut self, alloc: Global, script: Script<'a>) -> Result<Flow, AllocError>
-        ensures { IfOk result (λ flow. ended_at flow self.new ≡ rest_of (program_in script.entry) self.old) }
+    pub fn run(&mut self, alloc: Global) -> Result<Flow, AllocError>
+        ensures { IfOk result (λ flow. ended_at flow self.new ≡ rest_of self.old) }
     {
         'frames: while let Some(frame) = self.take_frame() {
-            match self.advance(alloc, script, frame)? {
+            match self.advance(alloc, frame)? {
                 Flow::Go => {}
                 Flow::Stop => return Ok(Flow::Stop),
             }

@@ -1,21 +1,20 @@
 //! What a step leaves that need not be carried out again, since an earlier one agrees with it.
 
 ghost use Rattle.std.specs.Prelude.{◌≡◌, ◌&&◌, IsTrue, IfOk, option_map, length};
-ghost use Rattle.bt_style.specs.Program.{program_of};
 ghost use Rattle.bt_style.specs.Reach.{is_among, keeps_held};
-ghost use Rattle.bt_machine.specs.Agreement.{Agree, IsFootprint, outcome_over, own_over};
+ghost use Rattle.bt_machine.specs.Agreement.{IsNextOutcome, outcome_over, own_over};
 ghost use Rattle.bt_machine.specs.Comparison.{same_counts, same_variables};
-ghost use Rattle.bt_machine.specs.Footprint.{among, blend_globals, blend_own, blend_variables, pick};
-ghost use Rattle.bt_machine.specs.Step.{step_in, outcome_of};
+ghost use Rattle.bt_machine.specs.Footprint.{blend_globals, pick};
+ghost use Rattle.bt_machine.specs.Putting.{blend_at};
 
 use crate::agreement::{same_counts, same_text_at, same_variables};
 use crate::input::Input;
 use crate::outcome::Outcome;
-use crate::putting::variables_over;
+use crate::putting::{Places, reached_globals, reached_owns, variables_over};
 use crate::step::share_texts;
-use bt_actions::{Entry, Variables};
+use bt_actions::Variables;
 use bt_log::Message;
-use bt_style::{Reach, Style};
+use bt_style::Reach;
 use bt_text::{Bytes, Held, Sequence, Shared};
 use std::alloc::{AllocError, Global};
 
@@ -51,10 +50,10 @@ fn equal_variables(old: &Variables, new: &Variables) -> bool
 }
 
 /// Whether others' variables are as many, and have all that was left at some places.
-fn has_left(left: &Variables, base: &Variables, numbers: &[usize], texts: &[usize]) -> bool
-    ensures { result ≡ (same_counts left.now base.now && same_variables numbers.now texts.now left.now base.now) }
+fn has_left(left: &Variables, base: &Variables, places: Places<'_>) -> bool
+    ensures { result ≡ (same_counts left.now base.now && same_variables places.entry.numbers.now places.entry.texts.now left.now base.now) }
 {
-    same_counts(left, base) && same_variables(left, base, numbers, texts)
+    same_counts(left, base) && same_variables(left, base, places.numbers, places.texts)
 }
 
 /// Others' variables, with those at some places that were left. They are shared where they have these already.
@@ -62,107 +61,75 @@ fn left_at(
     alloc: Global,
     left: &Variables,
     base: &Shared<Variables>,
-    numbers: &[usize],
-    texts: &[usize],
+    places: Places<'_>,
 ) -> Result<Shared<Variables>, AllocError>
-    ensures { IfOk result (λ both. both ≡ blend_variables (among numbers.now) (among texts.now) left.now base.now) }
+    ensures { IfOk result (λ both. both ≡ blend_at places.entry left.now base.now) }
 {
-    if has_left(left, base, numbers, texts) {
+    if has_left(left, base, places) {
         let same = base.share()?;
         return Ok(same);
     }
-    Ok(Shared::new(alloc, variables_over(alloc, left, base, numbers, texts)?)?)
+    Ok(Shared::new(alloc, variables_over(alloc, left, base, places)?)?)
 }
 
-/// The present globals, with the reached ones that were left.
-fn globals_over(
+/// The variables after a step that comes to those at some places. The earlier step's are shared where it had the present
+/// ones before it.
+fn variables_after(
     alloc: Global,
-    left: &Variables,
+    old: &Variables,
+    left: &Shared<Variables>,
     new: &Shared<Variables>,
-    reach: &Reach,
+    places: Places<'_>,
 ) -> Result<Shared<Variables>, AllocError>
-    ensures { IfOk result (λ both. both ≡ blend_globals (is_among reach.now.targets) left.now new.now) }
+    requires { left.now ≡ blend_at places left.now old.now }
+    ensures { IfOk result (λ both. both ≡ blend_at places.entry left.now new.now) }
 {
-    let numbers = reach.global_numbers.as_slice();
-    let texts = reach.global_texts.as_slice();
-    let both = left_at(alloc, left, new, numbers, texts)?;
+    if equal_variables(old, new) {
+        return left.share();
+    }
+    let both = left_at(alloc, left, new, places)?;
     Ok(both)
 }
 
-/// An entry's present variables, with the reached ones that were left.
-fn owns_over(
-    alloc: Global,
-    left: &Variables,
-    new: &Shared<Variables>,
-    reach: &Reach,
-) -> Result<Shared<Variables>, AllocError>
-    ensures { IfOk result (λ both. both ≡ blend_own (is_among reach.now.targets) left.now new.now) }
-{
-    let numbers = reach.entry_numbers.as_slice();
-    let texts = reach.entry_texts.as_slice();
-    let both = left_at(alloc, left, new, numbers, texts)?;
-    Ok(both)
-}
-
-/// The globals after a step. The earlier step's are shared where it had the present ones before it.
+/// The globals after a step.
 fn globals_left(
     alloc: Global,
-    old: &Variables,
-    left: &Shared<Variables>,
-    new: &Shared<Variables>,
+    old: &Input,
+    left: &Outcome,
+    new: &Input,
     reach: &Reach,
 ) -> Result<Shared<Variables>, AllocError>
-    requires { left.now ≡ blend_globals (is_among reach.now.targets) left.now old.now }
-    ensures { IfOk result (λ both. both ≡ blend_globals (is_among reach.now.targets) left.now new.now) }
+    requires { left.now.globals ≡ blend_globals (is_among reach.now.targets) left.now.globals old.now.globals }
+    ensures { IfOk result (λ both. both ≡ blend_globals (is_among reach.now.targets) left.now.globals new.now.globals) }
 {
-    if equal_variables(old, new) {
-        return left.share();
-    }
-    globals_over(alloc, left, new, reach)
-}
-
-/// The variables of an entry after a step, in the same way.
-fn owns_left(
-    alloc: Global,
-    old: &Variables,
-    left: &Shared<Variables>,
-    new: &Shared<Variables>,
-    reach: &Reach,
-) -> Result<Shared<Variables>, AllocError>
-    requires { left.now ≡ blend_own (is_among reach.now.targets) left.now old.now }
-    ensures { IfOk result (λ both. both ≡ blend_own (is_among reach.now.targets) left.now new.now) }
-{
-    if equal_variables(old, new) {
-        return left.share();
-    }
-    owns_over(alloc, left, new, reach)
+    let places = reached_globals(reach);
+    let both = variables_after(alloc, &old.globals, &left.globals, &new.globals, places)?;
+    Ok(both)
 }
 
 /// The variables of the step's entry, if it has one.
-fn variables_left(
+fn owns_left(
     alloc: Global,
-    old: &Option<Entry>,
-    left: &Option<Shared<Variables>>,
-    new: &Option<Entry>,
+    old: &Input,
+    left: &Outcome,
+    new: &Input,
     reach: &Reach,
 ) -> Result<Option<Shared<Variables>>, AllocError>
-    requires { left.now ≡ option_map (own_over (is_among reach.now.targets) old.now) left.now }
-    ensures { IfOk result (λ both. both ≡ option_map (own_over (is_among reach.now.targets) new.now) left.now) }
+    requires { left.now.variables ≡ option_map (own_over (is_among reach.now.targets) old.now.entry) left.now.variables }
+    ensures { IfOk result (λ both. both ≡ option_map (own_over (is_among reach.now.targets) new.now.entry) left.now.variables) }
 {
-    let Some(left) = left else {
+    let Some(left) = &left.variables else {
         return Ok(None);
     };
-    match (old, new) {
-        (Some(old), Some(new)) => Ok(Some(owns_left(
-            alloc,
-            &old.variables,
-            left,
-            &new.variables,
-            reach,
-        )?)),
-        (None, Some(new)) => Ok(Some(owns_over(alloc, left, &new.variables, reach)?)),
-        (_, None) => Ok(Some(left.share()?)),
-    }
+    let Some(new) = &new.entry else {
+        return Ok(Some(left.share()?));
+    };
+    let places = reached_owns(reach);
+    let both = match &old.entry {
+        None => left_at(alloc, left, &new.variables, places)?,
+        Some(old) => variables_after(alloc, &old.variables, left, &new.variables, places)?,
+    };
+    Ok(Some(both))
 }
 
 /// The held line after a step.
@@ -199,8 +166,8 @@ fn over(
     ensures { IfOk result (λ outcome. outcome ≡ outcome_over (is_among reach.now.targets) new.now left.now) }
 {
     Ok(Outcome {
-        globals: globals_left(alloc, &old.globals, &left.globals, &new.globals, reach)?,
-        variables: variables_left(alloc, &old.entry, &left.variables, &new.entry, reach)?,
+        globals: globals_left(alloc, old, left, new, reach)?,
+        variables: owns_left(alloc, old, left, new, reach)?,
         held: held_left(alloc, &left.held, &new.held, reach)?,
         lines: share_texts(alloc, left.lines.as_slice())?,
         messages: shared_messages(alloc, left.messages.as_slice())?,
@@ -209,26 +176,21 @@ fn over(
     })
 }
 
-/// What a step leaves, from what an earlier step of the style left (`left`) on an input that agrees with its own in all
-/// that it may come to: the reached values of the earlier outcome, and all else as its own input has it. Lines are shared.
-/// So are the globals, and the entry's variables, where the earlier step had the same ones before it or left no others
-/// than the present ones; else they are a copy of the present ones, with the reached ones put in. The one error is out of
-/// memory.
+/// What a step leaves, from what an earlier step left (`left`) on an input that agrees with its own in all that it may
+/// come to: the reached values of the earlier outcome, and all else as its own input has it. Lines are shared. So are the
+/// globals, and the entry's variables, where the earlier step had the same ones before it or left no others than the
+/// present ones; else they are a copy of the present ones, with the reached ones put in. The one error is out of memory.
 pub fn left_over(
     alloc: Global,
-    style: &Style,
     old: &Input,
     left: &Outcome,
     new: &Input,
     reach: &Reach,
 ) -> Result<Outcome, AllocError>
-    requires left { left.now ≡ outcome_of (step_in (program_of style.now) old.now) }
-    requires reach { IsFootprint (program_of style.now) new.now reach.now.targets }
-    requires agree { Agree (is_among reach.now.targets) old.now new.now }
+    requires { left.now ≡ outcome_over (is_among reach.now.targets) old.now left.now }
     ensures over { IfOk result (λ outcome. outcome ≡ outcome_over (is_among reach.now.targets) new.now left.now) }
-    ensures step { IfOk result (λ outcome. outcome ≡ outcome_of (step_in (program_of style.now) new.now)) }
+    ensures step { IfOk result (IsNextOutcome reach.now.targets old.now left.now new.now) }
 {
-    let _ = style;
     let outcome = over(alloc, old, left, new, reach)?;
     Ok(outcome)
 }

@@ -9,7 +9,7 @@ use Rattle.bt_text.specs.Blocks.{blocks}
 use Rattle.std.specs.Char.{to_ascii_lowercase}
 use Rattle.bt_text.specs.Depth.{depth, depth_behind}
 use Rattle.bt_text.proofs.BlockLemmas.{depth_take}
-use Rattle.bt_names.specs.Patterns.{block_fault, fault_of_blocks, first_of, is_doubled_at, letter_fault, letter_places, names_part, letters_from, moved_by, or_else, pattern_fault, IsLetterPlace}
+use Rattle.bt_names.specs.Patterns.{block_fault, fault_of_blocks, first_place, is_doubled_at, letter_fault, letter_places, names_part, letters_from, moved_by, or_else, pattern_fault, IsLetterPlace}
 
 pub letters_more : (t : List ℕ) (i : ℕ) → i < length t → letters_from t i ≡ cond (is_letter (get_or t i 0) && eqb (depth (take i t)) 0) (i ∷ letters_from t (i + 1)) (letters_from t (i + 1))
 letters_more t i h =
@@ -72,10 +72,10 @@ letters_doubled t i h e =
     let two : i + 1 + 1 ≡ i + 2 = omega arith in
     cond-true (is_doubled_at t i) (drop 1 (letters_from t (i + 1))) (letters_from t (i + 1)) e ∙ ap (drop 1) (letter_here t (i + 1) (letter_twice t i h e)) ∙ ap (letters_from t) two
 
-pub second_fault : (t : List ℕ) (i e : ℕ) (o : Option ℕ) → letters_from t 0 ≡ i ∷ letters_from t (i + 1) → names_part (get_or t i 0) ≡ true → cond (is_doubled_at t i) (drop 1 (letters_from t (i + 1))) (letters_from t (i + 1)) ≡ letters_from t e → o ≡ first_of (letters_from t e) → o ≡ letter_fault t (letter_places t)
+pub second_fault : (t : List ℕ) (i e : ℕ) (o : Option ℕ) → letters_from t 0 ≡ i ∷ letters_from t (i + 1) → names_part (get_or t i 0) ≡ true → cond (is_doubled_at t i) (drop 1 (letters_from t (i + 1))) (letters_from t (i + 1)) ≡ letters_from t e → o ≡ first_place (letters_from t e) → o ≡ letter_fault t (letter_places t)
 second_fault t i e o f n g h =
     let others = letters_from t (i + 1) in
-    h ∙ ap first_of (sym g) ∙ sym (cond-true (names_part (get_or t i 0)) (first_of (cond (is_doubled_at t i) (drop 1 others) others)) (Some i) n) ∙ ap (letter_fault t) (sym f)
+    h ∙ ap first_place (sym g) ∙ sym (cond-true (names_part (get_or t i 0)) (first_place (cond (is_doubled_at t i) (drop 1 others) others)) (Some i) n) ∙ ap (letter_fault t) (sym f)
 
 moved_none : (o : Option ℕ) → moved_by 0 o ≡ o
 moved_none None = refl

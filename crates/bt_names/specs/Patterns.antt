@@ -37,15 +37,15 @@ is_doubled_at t i = to_ascii_lowercase (slice_index t i) == to_ascii_lowercase (
 abbrev pub letter_end : List ℕ → ℕ → ℕ
 letter_end t i = if is_doubled_at t i then i + 2 else i + 1
 
-abbrev pub first_of : List ℕ → Option ℕ
-first_of [] = None
-first_of (i ∷ is) = Some i
+abbrev pub first_place : List ℕ → Option ℕ
+first_place [] = None
+first_place (i ∷ is) = Some i
 
 -- The first letter that may not stand there, among those at the places: the first where it names no part,
 -- else the second, or the third where the second doubles the first.
 abbrev pub letter_fault : List ℕ → List ℕ → Option ℕ
 letter_fault t [] = None
-letter_fault t (i ∷ is) = if names_part (slice_index t i) then first_of (if is_doubled_at t i then drop 1 is else is) else Some i
+letter_fault t (i ∷ is) = if names_part (slice_index t i) then first_place (if is_doubled_at t i then drop 1 is else is) else Some i
 
 abbrev pub or_else : Option ℕ → Option ℕ → Option ℕ
 or_else (Some i) other = Some i

@@ -29,7 +29,7 @@ pub enum FormatFault {
     #[error("TooManyCommas")]
     TooManyCommas,
     /// The pattern has a fault, the first from the left at this place, counted from 0.
-    #[error("PatternFault {0}")]
+    #[error("PatternFault")]
     PatternFault(usize),
     /// There is no memory left.
     #[error("OutOfMemory")]

@@ -1,7 +1,7 @@
 //! Names in patterns, on worked examples.
 
 use crate::list_tests::repeated;
-use crate::{FormatFault, Formatted, format, format_within};
+use crate::{FormatFault, Formatted, NameFault, format, format_within};
 use bt_text::Bytes;
 use std::alloc::Global;
 use std::test::Fail;
@@ -109,5 +109,26 @@ fn stops_early(rt: HostRuntime) -> Result<(), Fail> {
     let pattern = repeated(alloc, b"{ff}{f.}", 8_000)?;
     let told = within(alloc, name.as_slice(), pattern.as_slice(), 65_536)?;
     assert_eq!(rt; told.as_slice(), b"longer".as_slice());
+    Ok(())
+}
+
+#[test]
+fn faults_show_the_name_of_their_case(rt: HostRuntime) -> Result<(), Fail> {
+    let alloc = rt.alloc();
+    for (fault, want) in [
+        (NameFault::NoSuchName, "NoSuchName"),
+        (NameFault::TooManyCommas, "TooManyCommas"),
+        (NameFault::OutOfMemory, "OutOfMemory"),
+    ] {
+        assert_eq!(rt; format!(in alloc; "{fault}")?.as_str(), want);
+    }
+    for (fault, want) in [
+        (FormatFault::NoSuchName, "NoSuchName"),
+        (FormatFault::TooManyCommas, "TooManyCommas"),
+        (FormatFault::PatternFault(4), "PatternFault"),
+        (FormatFault::OutOfMemory, "OutOfMemory"),
+    ] {
+        assert_eq!(rt; format!(in alloc; "{fault}")?.as_str(), want);
+    }
     Ok(())
 }

@@ -1,7 +1,7 @@
 -- A whole run, from its beginning to its counts.
 use Rattle.std.specs.Prelude.{unwrap_or, bytes_eq, Bool, true, false, if◌then◌else◌, ◌-◌, Result}
 use Rattle.std.specs.Option.{ForSome}
-use Rattle.std.proofs.Common.{All, ◌+◌, ◌≡◌, refl, sym, ap, ◌∙◌, ℕ, List, [], ◌∷◌, ◌++◌, Option, Some, None, Ok, Err, ◌≤◌, length, subst, arith}
+use Rattle.std.proofs.Common.{All, ◌≡◌, refl, sym, ap, ◌∙◌, ℕ, List, [], ◌∷◌, ◌++◌, Option, Some, None, Ok, Err, ◌≤◌, length, subst, arith}
 use Rattle.std.proofs.lemmas.Slice.Eq.{bytes_eq-Decides}
 use Rattle.bt_style.specs.declared.fault.Fault.{Fault}
 use Rattle.bt_style.specs.Program.{Program}
@@ -18,7 +18,6 @@ use Rattle.bt_job.specs.Fit.{IsWithin, IsFit}
 use Rattle.bt_run.specs.declared.course.Course.{Course}
 use Rattle.bt_run.specs.declared.course.Step.{Step}
 use Rattle.bt_run.specs.declared.reuse.Reuse.{Reuse}
-use Rattle.bt_run.specs.declared.answers.Report.{Report}
 use Rattle.bt_run.specs.Work.{total_cost, work_under, IsStep, IsConsistent}
 use Rattle.bt_run.specs.Steps.{StepsAre, steps_under, styled_work, work_after, IsTaken}
 use Rattle.bt_run.specs.Kept.{named_text, style_text, run_work, report_after}

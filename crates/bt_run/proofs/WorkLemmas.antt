@@ -1,8 +1,8 @@
 -- What is taken over is what would have been carried out, and how it counts.
-use Rattle.std.specs.Prelude.{◌==◌, ◌&&◌, not, bytes_eq, filter}
-use Rattle.std.specs.List.{Contains, list_any}
+use Rattle.std.specs.Prelude.{◌==◌, ◌&&◌, not}
+use Rattle.std.specs.List.{Contains}
 use Rattle.std.specs.Option.{option_map}
-use Rattle.std.proofs.Common.{◌≡◌, refl, sym, ap, ◌∙◌, subst, ◌↔◌, ◌⊎◌, inl, inr, ◌+◌, ◌≤◌, ℕ, Bool, true, false, List, [], ◌∷◌, ◌++◌, Option, Some, None, All, length, arith}
+use Rattle.std.proofs.Common.{◌≡◌, refl, sym, ap, ◌∙◌, subst, ◌↔◌, inl, inr, ◌+◌, ◌≤◌, ℕ, Bool, true, false, List, [], ◌∷◌, ◌++◌, Option, Some, None, All, length, arith}
 use Rattle.std.proofs.lemmas.Bool.{cases_Bool}
 use Rattle.std.proofs.lemmas.Bool.Decides.{nat_tests}
 use Rattle.std.proofs.lemmas.List.Elements.{filter-append}
@@ -11,22 +11,21 @@ use Rattle.std.proofs.lemmas.List.Sums.{length-filter, count_by-le-length}
 use Rattle.std.proofs.lemmas.Slice.Eq.{bytes_eq-Decides}
 use Rattle.bt_style.specs.declared.style.Target.{Target}
 use Rattle.bt_style.specs.Program.{Program}
-use Rattle.bt_style.specs.declared.reach.Reach.{Reach}
 use Rattle.bt_style.specs.Reach.{is_among, Reaches}
 use Rattle.bt_style.proofs.FoundLemmas.{contained, among as found_among}
 use Rattle.bt_actions.specs.declared.entry.Entry.{Entry}
 use Rattle.bt_machine.specs.declared.input.Input.{Input}
 use Rattle.bt_machine.specs.declared.outcome.Outcome.{Outcome}
-use Rattle.bt_machine.specs.Step.{step_in, outcome_of}
-use Rattle.bt_machine.specs.Footprint.{entry_over, input_over, function_of}
-use Rattle.bt_machine.specs.Agreement.{Agree, IsFootprint, outcome_over, AgreeingInputsSameStep}
-use Rattle.bt_machine.specs.Comparison.{agreement}
+use Rattle.bt_machine.specs.Step.{step_in}
+use Rattle.bt_machine.specs.Footprint.{entry_over, function_of}
+use Rattle.bt_machine.specs.Agreement.{Agree, IsFootprint, AgreeingInputsSameStep}
+use Rattle.bt_machine.specs.Comparison.{reach_by, agreement}
 use Rattle.bt_machine.proofs.Comparing.{compared_tells}
 use Rattle.bt_run.specs.declared.course.Step.{Step}
 use Rattle.bt_run.specs.declared.reuse.Reuse.{Reuse}
 use Rattle.bt_run.specs.declared.reuse.Known.{Known}
-use Rattle.bt_run.specs.Reached.{names_in, reach_by}
-use Rattle.bt_run.specs.Work.{key_in, IsStep, same_key, is_same, is_again, work_under, total_cost, IsLike, IsKnown, IsCounted}
+use Rattle.bt_run.specs.Reached.{names_in}
+use Rattle.bt_run.specs.Work.{key_in, IsStep, same_key, is_same, is_again, work_under, IsLike, IsKnown, step_now, IsCounted}
 use Rattle.bt_run.proofs.ReachedLemmas.{footprint_named}
 
 -- Agreement
@@ -66,10 +65,6 @@ taken_cost p names i s cost law reach own agree is =
     is ∙ own.cost ∙ sym ((law names s.input i agree).1 reach).1
 
 -- Whether an earlier run has a step
-
--- the step as it is kept
-abbrev step_now : ℕ → Input → Outcome → ℕ → Step
-step_now command i o cost = record { command = command; key = key_in i; input = i; outcome = o; cost = cost }
 
 and_both : (a b c : Bool) → a ≡ true → b ≡ true → c ≡ true → (a && b && c) ≡ true
 and_both a b c x y z = rw (x, y, z) refl

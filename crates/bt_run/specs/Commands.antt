@@ -5,8 +5,6 @@ use Rattle.bt_style.specs.declared.style.Command.{Command}
 use Rattle.bt_style.specs.declared.style.Action.{Action}
 use Rattle.bt_style.specs.declared.style.Action.TheVariants.{Entry, Execute, Function, Integers, Iterate, Macro, Read, Reverse, Sort, Strings}
 use Rattle.bt_style.specs.Program.{Program}
-use Rattle.bt_run.specs.declared.commands.Direction.{Direction}
-use Rattle.bt_run.specs.declared.commands.Direction.TheVariants.{Forward, Backward}
 use Rattle.bt_run.specs.declared.course.Course.{Course}
 use Rattle.bt_run.specs.declared.course.Site.{Site}
 use Rattle.bt_run.specs.Course.{stepped}
@@ -22,11 +20,6 @@ unless_stopped false r next = next
 abbrev pub iterated : Program → Site → Target → List ℕ → Course → Course
 iterated p site t [] r = r
 iterated p site t (n ∷ ns) r = iterated p site t ns (unless_stopped r.stopped r (stepped p site t (Some n) r))
-
--- the present order, or its reverse
-abbrev pub in_direction : Direction → List ℕ → List ℕ
-in_direction Forward order = order
-in_direction Backward order = reverse order
 
 -- The entries are put into the order of their sort keys. Those whose keys are equal stand in list order, whatever order
 -- there was.

@@ -1,7 +1,6 @@
 -- How often each built-in function was called in a run, and the lines of the log that tell it.
 use Rattle.std.specs.Prelude.{ℕ, List, ◌∷◌, ◌++◌, map, sum_by, slice_index_or, codes, decimal}
-use Rattle.bt_style.specs.declared.builtin.Builtin.{Builtin}
-use Rattle.bt_style.specs.Builtins.{Row, table, place_of, name_of}
+use Rattle.bt_style.specs.Builtins.{Row, table, place_of}
 use Rattle.bt_log.specs.declared.message.Message.{Message}
 use Rattle.bt_log.specs.declared.message.Rank.TheVariants.{CallCount}
 use Rattle.bt_log.specs.Message.{plain}
@@ -15,10 +14,6 @@ calls_at trace place = sum_by (λ (s : Step). slice_index_or s.outcome.calls pla
 abbrev pub calls_of : List Step → Row → ℕ
 calls_of trace row = calls_at trace (place_of row.builtin)
 
--- the row of a function
-abbrev pub row_of : Builtin → Row
-row_of b = record { builtin = b; name = name_of b }
-
 -- how often all of them were called
 unfoldable pub all_calls : List Step → ℕ
 all_calls trace = sum_by (calls_of trace) table
@@ -31,12 +26,12 @@ abbrev pub row_told : List Step → Row → Message
 row_told trace row = count_message (row.name ++ codes " -- " ++ decimal (calls_of trace row))
 
 -- the line in front of them
-abbrev pub all_told : ℕ → Message
-all_told count = count_message (codes "The built-in function-call counts, " ++ decimal count ++ codes " in all, are:")
+abbrev pub total_told : ℕ → Message
+total_told count = count_message (codes "The built-in function-call counts, " ++ decimal count ++ codes " in all, are:")
 
 -- the counts of a run, function by function in the order of the table
 unfoldable pub counts_told : List Step → List Message
-counts_told trace = all_told (all_calls trace) ∷ map (row_told trace) table
+counts_told trace = total_told (all_calls trace) ∷ map (row_told trace) table
 
 -- a run with the counts of its calls behind its messages
 abbrev pub counted : Course → Course

@@ -1,10 +1,8 @@
 -- The names that a step may come to, as a list.
-use Rattle.std.specs.Prelude.{ℕ, zero, suc, ◌+◌, List, [], ◌∷◌, length, Option, Some, None, filter_map, slice_get, refl}
+use Rattle.std.specs.Prelude.{ℕ, zero, suc, ◌+◌, List, [], ◌∷◌, length, Option, Some, None, slice_get}
 use Rattle.bt_style.specs.declared.style.Target.{Target}
 use Rattle.bt_style.specs.Program.{Program}
-use Rattle.bt_style.specs.declared.reach.Reach.{Reach}
-use Rattle.bt_style.specs.Numbers.{as_field, as_entry_number, as_entry_text, as_global_number, as_global_text}
-use Rattle.bt_style.specs.Reach.{leads_to, noted_all, reachable, is_among, keeps_held, keeps_preamble, keeps_kind}
+use Rattle.bt_style.specs.Reach.{leads_to, noted_all, reachable}
 use Rattle.bt_machine.specs.declared.input.Input.{Input}
 use Rattle.bt_machine.specs.Footprint.{function_of}
 
@@ -26,26 +24,3 @@ reach_of p type_function start = found_from p type_function (length (reachable p
 -- the names that the step of an input may come to
 abbrev pub names_in : Program → Input → List Target
 names_in p i = reach_of p (function_of i.entry) i.target
-
--- names with what is worked out of them
-abbrev pub reach_by : List Target → Reach
-reach_by names =
-    record {
-      targets = names;
-      fields = filter_map as_field names;
-      entry_numbers = filter_map as_entry_number names;
-      entry_texts = filter_map as_entry_text names;
-      global_numbers = filter_map as_global_number names;
-      global_texts = filter_map as_global_text names;
-      held = keeps_held (is_among names);
-      preamble = keeps_preamble (is_among names);
-      kind = keeps_kind (is_among names);
-      fields_among = refl;
-      entry_numbers_among = refl;
-      entry_texts_among = refl;
-      global_numbers_among = refl;
-      global_texts_among = refl;
-      held_named = refl;
-      preamble_named = refl;
-      kind_named = refl;
-    }

@@ -6,15 +6,18 @@ use Rattle.bt_style.specs.declared.style.Target.{Target}
 use Rattle.bt_style.specs.Program.{Program}
 use Rattle.bt_actions.specs.declared.entry.Entry.{Entry}
 use Rattle.bt_machine.specs.declared.input.Input.{Input}
+use Rattle.bt_machine.specs.declared.outcome.Outcome.{Outcome}
 use Rattle.bt_machine.specs.Step.{step_in, outcome_of}
 use Rattle.bt_style.specs.Reach.{Reaches, is_among}
 use Rattle.bt_machine.specs.Agreement.{Agree}
-use Rattle.bt_machine.specs.Comparison.{agreement}
+use Rattle.bt_machine.specs.Comparison.{reach_by, agreement}
 use Rattle.bt_run.specs.declared.course.Step.{Step}
 use Rattle.bt_run.specs.declared.course.Course.{Course}
 use Rattle.bt_run.specs.declared.reuse.Known.{Known}
 use Rattle.bt_run.specs.declared.reuse.Reuse.{Reuse}
-use Rattle.bt_run.specs.Reached.{names_in, reach_by}
+use Rattle.bt_run.specs.declared.reusing.Sought.{Sought}
+use Rattle.bt_run.specs.declared.reusing.Found.{Found}
+use Rattle.bt_run.specs.Reached.{names_in}
 use Rattle.bt_run.specs.Index.{IsIndex}
 
 -- the key of an input's entry
@@ -63,9 +66,26 @@ pub record IsLike (command : ℕ) (names : List Target) (i : Input) (s : Step) :
 abbrev pub IsUnlikeAt : ℕ → List Target → Input → List Step → ℕ → Type 0
 IsUnlikeAt command names i steps k = (s : Step) → slice_get steps k ≡ Some s → IsLike command names i s → ⊥
 
+-- Of a step that is looked for: that none at a place is like it, that no earlier one is, and that one was met which is.
+
+abbrev pub IsNoneAt : Sought → List Step → ℕ → Type 0
+IsNoneAt sought steps k = IsUnlikeAt sought.command sought.reach.now.targets sought.input.now steps k
+
+abbrev pub IsNone : Sought → List Step → Type 0
+IsNone sought steps = All (λ s. IsLike sought.command sought.reach.now.targets sought.input.now s → ⊥) steps
+
+abbrev pub IsMet : Sought → List Step → Found → Type 0
+IsMet sought steps found =
+    (found.place < length steps) × Contains steps found.step.now
+    × IsLike sought.command sought.reach.now.targets sought.input.now found.step.now
+
 -- what is known to be reached from a name
 abbrev pub IsKnown : Program → Known → Type 0
 IsKnown p k = (t : Target) → Contains k.reach.targets t ↔ Reaches p k.function k.target t
+
+-- the step of an input, as it is kept
+abbrev pub step_now : ℕ → Input → Outcome → ℕ → Step
+step_now command i o cost = record { command = command; key = key_in i; input = i; outcome = o; cost = cost }
 
 -- a step counts as its part of the work
 pub record IsCounted (p : Program) (earlier : List Step) (t : Step) (before after : Reuse) : Type 0 where

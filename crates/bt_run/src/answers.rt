@@ -80,7 +80,8 @@ fn carry_out_style(
     requires known { reuse.old.known ≡ [] }
     requires index { reuse.old.index ≡ None }
     ensures run { IfOk result (λ course. course ≡ carried (job_of job.entry) log) }
-    ensures consistent { IfOk result (λ course. IsConsistent (program_of job.entry.style.now) job.entry.earlier.now course reuse.new) }
+    ensures consistent { IfOk result
+        (λ course. IsConsistent (program_of job.entry.style.now) job.entry.earlier.now course reuse.new) }
 {
     let globals = first_globals(alloc, job.style)?;
     let mut course = begin(alloc, globals, log)?;

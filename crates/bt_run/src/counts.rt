@@ -2,7 +2,8 @@
 
 ghost use Rattle.std.specs.Prelude.{◌≡◌, ℕ, ◌+◌, ◌++◌, ◌*◌, ◌≤◌, ◌<◌, ◌^◌, length, map, sum_by, slice_index_or, codes, decimal, IfOk, OnOk};
 ghost use Rattle.bt_style.specs.Builtins.{place_of, name_of};
-ghost use Rattle.bt_run.specs.Counts.{calls_at, all_calls, count_message, all_told, row_of, row_told, counted};
+ghost use Rattle.bt_style.specs.Names.{row_of};
+ghost use Rattle.bt_run.specs.Counts.{calls_at, all_calls, count_message, total_told, row_told, counted};
 
 use crate::course::{Course, Step};
 use bt_log::{Message, Rank};
@@ -73,8 +74,8 @@ fn all_calls(tally: &Tally<'_>) -> u128
 }
 
 /// The line before the counts.
-fn all_told(alloc: Global, count: u128) -> Result<Message, AllocError>
-    ensures { IfOk result (λ message. message ≡ all_told count) }
+fn total_told(alloc: Global, count: u128) -> Result<Message, AllocError>
+    ensures { IfOk result (λ message. message ≡ total_told count) }
 {
     let mut buffer = Buffer::new();
     let count = buffer.format(count).as_bytes();
@@ -127,7 +128,7 @@ pub fn tell_counts(alloc: Global, course: &mut Course) -> Result<(), AllocError>
 {
     let tally = count_calls(course.trace.as_slice());
     let count = all_calls(&tally);
-    course.log.push(all_told(alloc, count)?)?;
+    course.log.push(total_told(alloc, count)?)?;
     tell_rows(alloc, &mut course.log, &tally, Builtin::ALL.as_slice())?;
     Ok(())
 }

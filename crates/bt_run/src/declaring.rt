@@ -16,18 +16,7 @@ use std::alloc::{AllocError, Global};
 fn is_definition(action: Action) -> bool
     ensures { result ≡ is_definition action }
 {
-    match action {
-        Action::Function(_) => true,
-        Action::Entry
-        | Action::Execute(_)
-        | Action::Integers
-        | Action::Iterate(_)
-        | Action::Macro(_)
-        | Action::Read
-        | Action::Reverse(_)
-        | Action::Sort
-        | Action::Strings => false,
-    }
+    matches!(action, Action::Function(_))
 }
 
 /// How many of these commands define a function.
@@ -43,25 +32,14 @@ fn definition_count(commands: &[Command]) -> usize
     count
 }
 
-/// The first commands, so many; all where there are fewer.
-fn first_commands(commands: &[Command], count: usize) -> &[Command]
-    ensures { result.now ≡ take count commands.now }
+/// The first ones, so many; all where there are fewer.
+fn first<T>(items: &[T], count: usize) -> &[T]
+    ensures { result.now ≡ take count items.now }
 {
-    if count < commands.len() {
-        commands.split_at(count).0
+    if count < items.len() {
+        items.split_at(count).0
     } else {
-        commands
-    }
-}
-
-/// The first functions, so many; all where there are fewer.
-fn first_functions(functions: &[Function], count: usize) -> &[Function]
-    ensures { result.now ≡ take count functions.now }
-{
-    if count < functions.len() {
-        functions.split_at(count).0
-    } else {
-        functions
+        items
     }
 }
 
@@ -106,8 +84,8 @@ fn known_macros(alloc: Global, macros: &[bt_style::Macro]) -> Result<Sequence<Ma
 pub fn declared_before(alloc: Global, style: &Style, number: usize) -> Result<Declared, AllocError>
     ensures { IfOk result (λ declared. declared ≡ declared_before number (program_of style.now)) }
 {
-    let before = first_commands(style.commands.as_slice(), number);
-    let functions = first_functions(style.functions.as_slice(), definition_count(before));
+    let before = first(style.commands.as_slice(), number);
+    let functions = first(style.functions.as_slice(), definition_count(before));
     Ok(Declared {
         fields: copied_texts(alloc, style.fields.as_slice())?,
         types: names_of(alloc, functions)?,

@@ -10,7 +10,8 @@ use bt_text::{ByName, Bytes, Sequence};
 use itoa::Buffer;
 use std::alloc::{AllocError, Global};
 
-/// The places of steps, by the command and the key of each. A command takes one step for a key, so a name has few places.
+/// The places of steps, by the command and the key of each. A command takes one step for a key, so a name has few
+/// places.
 #[derive(Drop)]
 pub struct Index {
     places: ByName<Sequence<usize>>,
@@ -70,7 +71,8 @@ impl Index {
         Ok(index)
     }
 
-    /// The places at which a step of this command may stand, if its input has the same key. The one error is out of memory.
+    /// The places at which a step of this command may stand, if its input has the same key. The one error is out of
+    /// memory.
     pub fn places(
         &self,
         alloc: Global,

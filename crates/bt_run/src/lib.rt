@@ -1,9 +1,10 @@
-//! A run of BibTeX over the present files: the commands of the style, the log and the counts. Steps of an earlier run that
-//! agree are taken over.
+//! A run of BibTeX over the present files: the commands of the style, the log and the counts. Steps of an earlier run
+//! that agree are taken over.
 #![tactic(auto)]
 
 mod answers;
 mod beginning;
+mod caller;
 mod commands;
 mod counts;
 mod course;

@@ -13,8 +13,8 @@ pub struct Known {
     pub reach: Shared<Reach>,
 }
 
-/// How many steps were carried out, and their ticks; steps that were taken over from the earlier run do not count. And what
-/// makes the next step quick.
+/// How many steps were carried out, and their ticks; steps that were taken over from the earlier run do not count. And
+/// what makes the next step quick.
 #[derive(Drop)]
 pub struct Reuse {
     pub meter: Meter,

@@ -1,14 +1,13 @@
 //! A step of an earlier run is taken over where it does the same.
 
-ghost use Rattle.std.specs.Prelude.{◌≡◌, ◌+◌, ◌<◌, ◌≤◌, ◌^◌, ◌↔◌, All, Contains, IsTrue, IfOk, IfSome, OnOk, MatchOption, length};
+ghost use Rattle.std.specs.Prelude.{◌≡◌, ◌+◌, ◌<◌, ◌≤◌, ◌^◌, ◌↔◌, All, Contains, IsTrue, IfOk, IfSome, OnOk, MatchOption};
 ghost use Rattle.std.specs.Option.{ForSome};
 ghost use Rattle.bt_style.specs.Program.{program_of};
 ghost use Rattle.bt_style.specs.Reach.{is_among};
 ghost use Rattle.bt_machine.specs.Step.{step_in, outcome_of};
-ghost use Rattle.bt_machine.specs.Agreement.{Agree, IsFootprint};
-ghost use Rattle.bt_machine.specs.Footprint.{function_of};
+ghost use Rattle.bt_machine.specs.Agreement.{IsFootprint, IsNextOutcome, outcome_over};
 ghost use Rattle.bt_run.specs.Index.{IsIndex};
-ghost use Rattle.bt_run.specs.Work.{key_in, IsStep, IsLike, IsUnlikeAt, IsKnown, IsCounted};
+ghost use Rattle.bt_run.specs.Work.{IsStep, IsLike, IsNoneAt, IsNone, IsMet, IsKnown, step_now, IsCounted};
 
 use crate::course::Step;
 use crate::index::Index;
@@ -26,16 +25,6 @@ pub struct Done {
 }
 
 // What is reached
-
-/// The function of the type of an input's entry.
-fn type_function(input: &Input) -> Option<usize>
-    ensures { result ≡ function_of input.now.entry }
-{
-    match &input.entry {
-        None => None,
-        Some(entry) => entry.function,
-    }
-}
 
 /// Whether two functions of types are the same.
 fn is_same_function(one: Option<usize>, other: Option<usize>) -> bool
@@ -74,7 +63,7 @@ fn reach_of(
     ensures reach { IfOk result (λ reach. IsFootprint (program_of style.now) input.now reach.targets) }
     ensures known { OnOk result (All (IsKnown (program_of style.now)) known.new) }
 {
-    let function = type_function(input);
+    let function = input.type_function();
     if let Some(one) = find_known(known.as_slice(), input.target, function) {
         let same = one.reach.share()?;
         return Ok(same);
@@ -109,7 +98,8 @@ struct Found<'a> {
 
 /// Whether a step is one of this command, and its input agrees with this one in what is reached.
 fn is_like(style: &Style, step: &Step, sought: Sought<'_>) -> bool
-    ensures { IsTrue result ↔ IsLike sought.entry.command sought.entry.reach.now.targets sought.entry.input.now step.now }
+    ensures { IsTrue result
+        ↔ IsLike sought.entry.command sought.entry.reach.now.targets sought.entry.input.now step.now }
 {
     step.command == sought.command && agrees(style, &step.input, sought.input, sought.reach)
 }
@@ -121,7 +111,7 @@ fn like_at<'a>(
     place: usize,
     sought: Sought<'_>,
 ) -> Option<Found<'a>>
-    ensures { MatchOption result (IsUnlikeAt sought.entry.command sought.entry.reach.now.targets sought.entry.input.now earlier.now place) (λ f. (f.place < length earlier.now) × Contains earlier.now f.step.now × IsLike sought.entry.command sought.entry.reach.now.targets sought.entry.input.now f.step.now) }
+    ensures { MatchOption result (IsNoneAt sought.entry earlier.now place) (IsMet sought.entry earlier.now) }
 {
     if place < earlier.len() {
         let step = &earlier[place];
@@ -139,7 +129,7 @@ fn find_like<'a>(
     places: &[usize],
     sought: Sought<'_>,
 ) -> Option<Found<'a>>
-    ensures { MatchOption result (All (IsUnlikeAt sought.entry.command sought.entry.reach.now.targets sought.entry.input.now earlier.now) places.now) (λ f. (f.place < length earlier.now) × Contains earlier.now f.step.now × IsLike sought.entry.command sought.entry.reach.now.targets sought.entry.input.now f.step.now) }
+    ensures { MatchOption result (All (IsNoneAt sought.entry earlier.now) places.now) (IsMet sought.entry earlier.now) }
 {
     'places: for place in places {
         if let Some(found) = like_at(style, earlier, *place, sought) {
@@ -169,7 +159,8 @@ fn meet_by_index<'a>(
     index: &mut Option<Index>,
 ) -> Result<Option<Found<'a>>, AllocError>
     requires { ForSome index.old (IsIndex earlier.now) }
-    ensures met { IfOk result (λ met. MatchOption met (All (λ s. IsLike sought.entry.command sought.entry.reach.now.targets sought.entry.input.now s → ⊥) earlier.now) (λ f. (f.place < length earlier.now) × Contains earlier.now f.step.now × IsLike sought.entry.command sought.entry.reach.now.targets sought.entry.input.now f.step.now)) }
+    ensures met { IfOk result
+        (λ met. MatchOption met (IsNone sought.entry earlier.now) (IsMet sought.entry earlier.now)) }
     ensures indexed { OnOk result (ForSome index.new (IsIndex earlier.now)) }
 {
     let made = index_of(alloc, earlier, index.take())?;
@@ -189,7 +180,8 @@ fn meet<'a>(
     index: &mut Option<Index>,
 ) -> Result<Option<Found<'a>>, AllocError>
     requires { ForSome index.old (IsIndex earlier.now) }
-    ensures met { IfOk result (λ met. MatchOption met (All (λ s. IsLike sought.entry.command sought.entry.reach.now.targets sought.entry.input.now s → ⊥) earlier.now) (λ f. (f.place < length earlier.now) × Contains earlier.now f.step.now × IsLike sought.entry.command sought.entry.reach.now.targets sought.entry.input.now f.step.now)) }
+    ensures met { IfOk result
+        (λ met. MatchOption met (IsNone sought.entry earlier.now) (IsMet sought.entry earlier.now)) }
     ensures indexed { OnOk result (ForSome index.new (IsIndex earlier.now)) }
 {
     match like_at(style, earlier, next, sought) {
@@ -223,21 +215,13 @@ fn place_after(earlier: &[Step], next: usize, sought: Sought<'_>) -> usize
 // A step
 
 /// An earlier step, taken over: what it left of all that it may come to, and all else as it is now.
-fn take_over(
-    alloc: Global,
-    style: &Style,
-    step: &Step,
-    input: &Input,
-    reach: &Reach,
-) -> Result<Done, AllocError>
-    requires true_step { IsStep (program_of style.now) step.now }
-    requires reach { IsFootprint (program_of style.now) input.now reach.now.targets }
-    requires agree { Agree (is_among reach.now.targets) step.now.input input.now }
-    ensures outcome { IfOk result (λ d. d.outcome ≡ outcome_of (step_in (program_of style.now) input.now)) }
-    ensures cost { IfOk result (λ d. d.cost ≡ (step_in (program_of style.now) input.now).cost) }
+fn take_over(alloc: Global, step: &Step, input: &Input, reach: &Reach) -> Result<Done, AllocError>
+    requires { step.now.outcome ≡ outcome_over (is_among reach.now.targets) step.now.input step.now.outcome }
+    ensures outcome { IfOk result
+        (λ d. IsNextOutcome reach.now.targets step.now.input step.now.outcome input.now d.outcome) }
+    ensures cost { IfOk result (λ d. d.cost ≡ step.now.cost) }
 {
-    agreeing_inputs_have_one_step();
-    let outcome = left_over(alloc, style, &step.input, &step.outcome, input, reach)?;
+    let outcome = left_over(alloc, &step.input, &step.outcome, input, reach)?;
     Ok(Done {
         outcome,
         cost: step.cost,
@@ -257,7 +241,8 @@ fn carry_out(
     ensures cost { IfOk result (λ d. d.cost ≡ (step_in (program_of style.now) input.now).cost) }
     ensures ran { OnOk result (reuse.new.ran ≡ reuse.old.ran + 1) }
     ensures within { OnOk result (reuse.new.meter ≤ reuse.old.meter + 1000000) }
-    ensures ticks { OnOk result (reuse.new.meter ≡ reuse.old.meter + (step_in (program_of style.now) input.now).cost) }
+    ensures ticks { OnOk result
+        (reuse.new.meter ≡ reuse.old.meter + (step_in (program_of style.now) input.now).cost) }
     ensures known { OnOk result (reuse.new.known ≡ reuse.old.known) }
     ensures index { OnOk result (reuse.new.index ≡ reuse.old.index) }
 {
@@ -287,8 +272,10 @@ pub fn take_or_reuse(
     ensures known { OnOk result (All (IsKnown (program_of style.now)) reuse.new.known) }
     ensures indexed { OnOk result (ForSome reuse.new.index (IsIndex earlier.now)) }
     ensures within { OnOk result (reuse.new.meter ≤ reuse.old.meter + 1000000) }
-    ensures counted { IfOk result (λ d. IsCounted (program_of style.now) earlier.now (record { command = command; key = key_in input.now; input = input.now; outcome = d.outcome; cost = d.cost }) reuse.old reuse.new) }
+    ensures counted { IfOk result (λ d. IsCounted (program_of style.now) earlier.now
+        (step_now command input.now d.outcome d.cost) reuse.old reuse.new) }
 {
+    agreeing_inputs_have_one_step();
     let known = reach_of(alloc, style, input, &mut reuse.known)?;
     let reach: &Reach = &known;
     let sought = Sought {
@@ -300,7 +287,7 @@ pub fn take_or_reuse(
     match met {
         Some(found) => {
             reuse.next = found.place + 1;
-            let taken = take_over(alloc, style, found.step, input, reach)?;
+            let taken = take_over(alloc, found.step, input, reach)?;
             Ok(taken)
         }
         None => {

@@ -1,23 +1,19 @@
 //! A step of a run: its input is cut out of the run, and its outcome put back.
 
-ghost use Rattle.std.specs.Prelude.{◌≡◌, ◌<◌, ◌++◌, All, Some, length, IfOk, OnOk};
+ghost use Rattle.std.specs.Prelude.{◌≡◌, ◌<◌, Some, length, IfOk, OnOk};
 ghost use Rattle.std.specs.Option.{option_map, ForSome};
-ghost use Rattle.bt_style.specs.Program.{program_of};
 ghost use Rattle.bt_actions.specs.declared.entry.Entry.{Entry as EntrySeen};
 ghost use Rattle.bt_actions.specs.World.{entry_in};
 ghost use Rattle.bt_machine.specs.Place.{IsPlace};
 ghost use Rattle.bt_log.specs.declared.message.Place.TheVariants as places;
 ghost use Rattle.bt_log.specs.Message.{at};
-ghost use Rattle.bt_run.specs.Course.{world_of, input_at, all_told, variables_back, put_back, stepped};
-ghost use Rattle.bt_run.specs.Work.{IsStep, IsConsistent};
+ghost use Rattle.bt_run.specs.Course.{world_of, input_at, all_told, variables_back, put_back};
 
-use crate::course::{Course, Site, Step};
-use crate::reuse::Reuse;
-use crate::reusing::{Done, take_or_reuse};
+use crate::course::{Course, Site};
 use bt_actions::{Entry, Variables};
 use bt_log::{Message, Place};
-use bt_machine::{Input, Outcome, step_depends_on_its_input};
-use bt_style::{Style, Target};
+use bt_machine::{Input, Outcome};
+use bt_style::Target;
 use bt_text::{Bytes, Sequence, Shared};
 use std::alloc::{AllocError, Global};
 
@@ -33,7 +29,7 @@ fn entry_at(course: &Course, place: Option<usize>) -> Result<Option<Entry>, Allo
 }
 
 /// What a step is given, shared with the run.
-fn cut_out(
+pub fn cut_out(
     alloc: Global,
     course: &Course,
     target: Target,
@@ -63,7 +59,7 @@ fn told(message: &Message, site: &Site) -> Result<Message, AllocError>
 }
 
 /// A step's messages as the log has them.
-fn all_told(
+pub fn all_told(
     alloc: Global,
     messages: &[Message],
     site: &Site,
@@ -124,7 +120,7 @@ fn shared_lines(
 }
 
 /// Puts what a step left back into the run.
-fn put_back(
+pub fn put_back(
     alloc: Global,
     course: &mut Course,
     place: Option<usize>,
@@ -143,47 +139,11 @@ fn put_back(
 }
 
 /// The key of an input's entry.
-fn key_of(input: &Input) -> Result<Option<Shared<Bytes>>, AllocError>
+pub fn key_of(input: &Input) -> Result<Option<Shared<Bytes>>, AllocError>
     ensures { IfOk result (λ key. key ≡ option_map (λ (e : EntrySeen). e.key) input.now.entry) }
 {
     match &input.entry {
         None => Ok(None),
         Some(entry) => Ok(Some(entry.key.share()?)),
     }
-}
-
-/// Takes a step for the entry at a place, or for none, with its cost on the meter.
-pub fn take_step(
-    alloc: Global,
-    style: &Style,
-    site: &Site,
-    target: Target,
-    place: Option<usize>,
-    earlier: &[Step],
-    course: &mut Course,
-    reuse: &mut Reuse,
-) -> Result<(), AllocError>
-    requires placed { IsPlace place (world_of course.old) }
-    requires steps { All (IsStep (program_of style.now)) earlier.now }
-    requires consistent { IsConsistent (program_of style.now) earlier.now course.old reuse.old }
-    ensures run { OnOk result (course.new ≡ stepped (program_of style.now) site.now target place course.old) }
-    ensures consistent { OnOk result (IsConsistent (program_of style.now) earlier.now course.new reuse.new) }
-    ensures entries { OnOk result (length course.new.entries ≡ length course.old.entries) }
-{
-    step_depends_on_its_input();
-    let _steps = course.trace.len();
-    let input = cut_out(alloc, course, target, place)?;
-    let key = key_of(&input)?;
-    let Done { outcome, cost } = take_or_reuse(alloc, style, site.command, &input, earlier, reuse)?;
-    put_back(alloc, course, place, &outcome)?;
-    let messages = all_told(alloc, outcome.messages.as_slice(), site)?;
-    course.log.append(messages)?;
-    course.trace.push(Step {
-        command: site.command,
-        key,
-        input,
-        outcome,
-        cost,
-    })?;
-    Ok(())
 }

@@ -2,6 +2,8 @@
 use Rattle.std.proofs.Common.{refl}
 use Rattle.bt_style.specs.declared.builtin.Builtin.TheVariants as builtins
 use Rattle.bt_style.specs.Builtins.{table, StandInTheirPlaces}
+use Rattle.bt_style.specs.Names.{builtin_named}
+use Rattle.bt_style.specs.Laws.{FoundByTheirNames}
 
 pub stands_in_its_place : StandInTheirPlaces
 unfolding table
@@ -42,3 +44,43 @@ stands_in_its_place builtins.Warning = refl
 stands_in_its_place builtins.While = refl
 stands_in_its_place builtins.Width = refl
 stands_in_its_place builtins.Write = refl
+
+pub found_by_its_name : FoundByTheirNames
+unfolding builtin_named table
+found_by_its_name builtins.Greater = refl
+found_by_its_name builtins.Less = refl
+found_by_its_name builtins.Equals = refl
+found_by_its_name builtins.Plus = refl
+found_by_its_name builtins.Minus = refl
+found_by_its_name builtins.Join = refl
+found_by_its_name builtins.Assign = refl
+found_by_its_name builtins.AddPeriod = refl
+found_by_its_name builtins.CallType = refl
+found_by_its_name builtins.ChangeCase = refl
+found_by_its_name builtins.ChrToInt = refl
+found_by_its_name builtins.Cite = refl
+found_by_its_name builtins.Duplicate = refl
+found_by_its_name builtins.Empty = refl
+found_by_its_name builtins.FormatName = refl
+found_by_its_name builtins.If = refl
+found_by_its_name builtins.IntToChr = refl
+found_by_its_name builtins.IntToStr = refl
+found_by_its_name builtins.Missing = refl
+found_by_its_name builtins.Newline = refl
+found_by_its_name builtins.NumNames = refl
+found_by_its_name builtins.Pop = refl
+found_by_its_name builtins.Preamble = refl
+found_by_its_name builtins.Purify = refl
+found_by_its_name builtins.Quote = refl
+found_by_its_name builtins.Skip = refl
+found_by_its_name builtins.Stack = refl
+found_by_its_name builtins.Substring = refl
+found_by_its_name builtins.Swap = refl
+found_by_its_name builtins.TextLength = refl
+found_by_its_name builtins.TextPrefix = refl
+found_by_its_name builtins.Top = refl
+found_by_its_name builtins.Type = refl
+found_by_its_name builtins.Warning = refl
+found_by_its_name builtins.While = refl
+found_by_its_name builtins.Width = refl
+found_by_its_name builtins.Write = refl

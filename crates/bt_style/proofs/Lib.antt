@@ -8,6 +8,11 @@ pub mod SpelledLemmas
 pub mod ApartLemmas
 pub mod ReadBackLemmas
 pub mod PresetLemmas
+pub mod ReaderLemmas
+pub mod FreshLemmas
+pub mod OnLineLemmas
+pub mod RuleLemmas
+pub mod FirstLemmas
 mod FaultRows
 mod StyleRows
 pub mod ReachLemmas

@@ -18,3 +18,4 @@ pub mod Reader
 pub mod Apart
 pub mod Numbers
 pub mod Reach
+pub mod Laws

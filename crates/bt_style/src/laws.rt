@@ -7,6 +7,7 @@ ghost use Rattle.bt_style.specs.Token.{Tokens};
 ghost use Rattle.bt_style.specs.Bodies.{body_at};
 ghost use Rattle.bt_style.specs.Apart.{FieldsAreApart};
 ghost use Rattle.bt_style.specs.Builtins.{StandInTheirPlaces};
+ghost use Rattle.bt_style.specs.Laws.{AnyReserveServes, FaultIsFirst, FoundByTheirNames};
 ghost use Rattle.bt_style.specs.Spelled.{SpellsBody, depth_of};
 
 /// The body that is read from tokens is one that they spell, by the grammar of bodies.
@@ -27,4 +28,20 @@ pub fn fields_are_apart()
 /// Each function that needs no definition stands in the table at its place, with its name.
 pub fn builtins_stand_in_their_places()
     ensures { StandInTheirPlaces }
+{}
+
+/// A fault stands at one token, or at the end: no style begins with the tokens up to this one, whatever stands behind it, and
+/// some style begins with those before it. So it is neither too early nor too late.
+pub fn fault_is_first()
+    ensures { FaultIsFirst }
+{}
+
+/// Any number of commands above that of a text's tokens serves as the greatest one: it is never reached.
+pub fn any_reserve_serves()
+    ensures { AnyReserveServes }
+{}
+
+/// Each function that needs no definition is found by its name, so no two have one name.
+pub fn builtins_are_found_by_name()
+    ensures { FoundByTheirNames }
 {}

@@ -1,109 +1,34 @@
-//! The numbers of the names of one kind, among some names.
+//! The numbers of the names of one list, among some names.
 
 ghost use Rattle.std.specs.Prelude.{◌≡◌, IfOk, filter_map};
-ghost use Rattle.bt_style.specs.Numbers.{as_field, as_entry_number, as_entry_text, as_global_number, as_global_text};
+ghost use Rattle.bt_style.specs.Numbers.{number_in};
 
+use crate::names::Names;
 use crate::style::Target;
 use std::alloc::{AllocError, Global};
 
 impl Target {
-    /// The number of a field; none for another name.
-    pub fn as_field(self) -> Option<usize>
-        ensures { result ≡ as_field self }
+    /// The number of a name of a list; none for another name.
+    fn number_in(self, list: Names) -> Option<usize>
+        ensures { result ≡ number_in list self }
     {
-        match self {
-            Target::Field(number) => Some(number),
-            _ => None,
-        }
-    }
-
-    /// The number of an integer variable of entries; none for another name.
-    pub fn as_entry_number(self) -> Option<usize>
-        ensures { result ≡ as_entry_number self }
-    {
-        match self {
-            Target::EntryNumber(number) => Some(number),
-            _ => None,
-        }
-    }
-
-    /// The number of a string variable of entries; none for another name.
-    pub fn as_entry_text(self) -> Option<usize>
-        ensures { result ≡ as_entry_text self }
-    {
-        match self {
-            Target::EntryText(number) => Some(number),
-            _ => None,
-        }
-    }
-
-    /// The number of a global integer variable; none for another name.
-    pub fn as_global_number(self) -> Option<usize>
-        ensures { result ≡ as_global_number self }
-    {
-        match self {
-            Target::GlobalNumber(number) => Some(number),
-            _ => None,
-        }
-    }
-
-    /// The number of a global string variable; none for another name.
-    pub fn as_global_text(self) -> Option<usize>
-        ensures { result ≡ as_global_text self }
-    {
-        match self {
-            Target::GlobalText(number) => Some(number),
+        match (list, self) {
+            (Names::Fields, Target::Field(number))
+            | (Names::EntryNumbers, Target::EntryNumber(number))
+            | (Names::EntryTexts, Target::EntryText(number))
+            | (Names::GlobalNumbers, Target::GlobalNumber(number))
+            | (Names::GlobalTexts, Target::GlobalText(number)) => Some(number),
             _ => None,
         }
     }
 }
 
-/// The numbers of the fields.
-pub fn fields(alloc: Global, names: &[Target]) -> Result<Vec<usize>, AllocError>
-    ensures { IfOk result (λ numbers. numbers.items ≡ filter_map as_field names.now) }
+/// The numbers of the names of a list.
+pub fn numbers_of(alloc: Global, names: &[Target], list: Names) -> Result<Vec<usize>, AllocError>
+    ensures { IfOk result (λ numbers. numbers.items ≡ filter_map (number_in list) names.now) }
 {
     names
         .iter()
-        .filter_map(|name| name.as_field())
-        .collect(alloc)
-}
-
-/// The numbers of the integer variables of entries.
-pub fn entry_numbers(alloc: Global, names: &[Target]) -> Result<Vec<usize>, AllocError>
-    ensures { IfOk result (λ numbers. numbers.items ≡ filter_map as_entry_number names.now) }
-{
-    names
-        .iter()
-        .filter_map(|name| name.as_entry_number())
-        .collect(alloc)
-}
-
-/// The numbers of the string variables of entries.
-pub fn entry_texts(alloc: Global, names: &[Target]) -> Result<Vec<usize>, AllocError>
-    ensures { IfOk result (λ numbers. numbers.items ≡ filter_map as_entry_text names.now) }
-{
-    names
-        .iter()
-        .filter_map(|name| name.as_entry_text())
-        .collect(alloc)
-}
-
-/// The numbers of the global integer variables.
-pub fn global_numbers(alloc: Global, names: &[Target]) -> Result<Vec<usize>, AllocError>
-    ensures { IfOk result (λ numbers. numbers.items ≡ filter_map as_global_number names.now) }
-{
-    names
-        .iter()
-        .filter_map(|name| name.as_global_number())
-        .collect(alloc)
-}
-
-/// The numbers of the global string variables.
-pub fn global_texts(alloc: Global, names: &[Target]) -> Result<Vec<usize>, AllocError>
-    ensures { IfOk result (λ numbers. numbers.items ≡ filter_map as_global_text names.now) }
-{
-    names
-        .iter()
-        .filter_map(|name| name.as_global_text())
+        .filter_map(|name| name.number_in(list))
         .collect(alloc)
 }

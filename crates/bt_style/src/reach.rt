@@ -9,7 +9,8 @@ ghost use Rattle.bt_style.specs.Numbers.{as_field, as_entry_number, as_entry_tex
 ghost use Rattle.bt_style.specs.Reach.{Knows, Reaches, noted, noted_all, waiting_names, waiting_size, body_names, body_size, function_body_names, maybe_function, is_call_type, default_type, leads_to, target_eq, is_among, keeps_held, keeps_preamble, keeps_kind};
 
 use crate::builtin::Builtin;
-use crate::numbers;
+use crate::names::Names;
+use crate::numbers::numbers_of;
 use crate::style::{Function, Op, Style, Target};
 use bt_text::Sequence;
 use std::alloc::{AllocError, Global};
@@ -269,12 +270,13 @@ fn listed(
     let held = has(&found, seen, Builtin::Write) || has(&found, seen, Builtin::Newline);
     let preamble = has(&found, seen, Builtin::Preamble);
     let kind = has(&found, seen, Builtin::Type) || has(&found, seen, Builtin::CallType);
+    let names = found.as_slice();
     Ok(Reach {
-        fields: Sequence::from_vec(numbers::fields(alloc, found.as_slice())?),
-        entry_numbers: Sequence::from_vec(numbers::entry_numbers(alloc, found.as_slice())?),
-        entry_texts: Sequence::from_vec(numbers::entry_texts(alloc, found.as_slice())?),
-        global_numbers: Sequence::from_vec(numbers::global_numbers(alloc, found.as_slice())?),
-        global_texts: Sequence::from_vec(numbers::global_texts(alloc, found.as_slice())?),
+        fields: Sequence::from_vec(numbers_of(alloc, names, Names::Fields)?),
+        entry_numbers: Sequence::from_vec(numbers_of(alloc, names, Names::EntryNumbers)?),
+        entry_texts: Sequence::from_vec(numbers_of(alloc, names, Names::EntryTexts)?),
+        global_numbers: Sequence::from_vec(numbers_of(alloc, names, Names::GlobalNumbers)?),
+        global_texts: Sequence::from_vec(numbers_of(alloc, names, Names::GlobalTexts)?),
         targets: found,
         held,
         preamble,

@@ -237,3 +237,37 @@ fn a_body_is_a_tree(rt: HostRuntime) -> Result<(), Fail> {
     }
     Ok(())
 }
+
+/// Each kind with the name of its case.
+static SHOWN: [(FaultKind, &'static str); 14] = [
+    (FaultKind::UnknownCommand, "UnknownCommand"),
+    (FaultKind::CommandOrder, "CommandOrder"),
+    (FaultKind::SecondEntry, "SecondEntry"),
+    (FaultKind::SecondRead, "SecondRead"),
+    (FaultKind::NoEntry, "NoEntry"),
+    (FaultKind::UnknownName, "UnknownName"),
+    (FaultKind::NameTaken, "NameTaken"),
+    (FaultKind::NumberTooLarge, "NumberTooLarge"),
+    (FaultKind::UnclosedText, "UnclosedText"),
+    (FaultKind::UnclosedBrace, "UnclosedBrace"),
+    (FaultKind::BadName, "BadName"),
+    (FaultKind::StrayByte, "StrayByte"),
+    (FaultKind::NotAFunction, "NotAFunction"),
+    (FaultKind::MissingArgument, "MissingArgument"),
+];
+
+#[test]
+fn faults_show_the_name_of_their_case(rt: HostRuntime) -> Result<(), Fail> {
+    let alloc = rt.alloc();
+    for (kind, want) in &SHOWN {
+        let refusal = StyleRefusal::Fault(Fault {
+            kind: *kind,
+            line: 7,
+        });
+        assert_eq!(rt; format!(in alloc; "{kind}")?.as_str(), *want);
+        assert_eq!(rt; format!(in alloc; "{refusal}")?.as_str(), "Fault");
+    }
+    let refusal = StyleRefusal::OutOfMemory;
+    assert_eq!(rt; format!(in alloc; "{refusal}")?.as_str(), "OutOfMemory");
+    Ok(())
+}

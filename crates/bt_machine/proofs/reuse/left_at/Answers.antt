@@ -7,5 +7,5 @@ use Rattle.bt_machine.proofs.reuse.left_at.Goals as goal
 pub returns-then-has_left : goal.returns-then-has_left
 returns-then-has_left c =
     let a = c.args in
-    let e = c.has_left.ensures ∙ ap (λ (b : Variables). same_counts a.left.now b && same_variables a.numbers.now a.texts.now a.left.now b) c.deref.ensures in
-    c.in_ok-same.ensures ∙ has_left a.numbers.now a.texts.now a.left.now a.base.now c.has_left.result e c.if-has_left.true
+    let e = c.has_left.ensures ∙ ap (λ (b : Variables). same_counts a.left.now b && same_variables a.places.numbers.now a.places.texts.now a.left.now b) c.deref.ensures in
+    c.in_ok-same.ensures ∙ has_left a.places.numbers.now a.places.texts.now a.left.now a.base.now c.has_left.result e c.if-has_left.true

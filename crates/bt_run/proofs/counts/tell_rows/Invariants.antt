@@ -1,5 +1,6 @@
 use Rattle.std.proofs.Common.{◌≡◌, ◌++◌, map, drop}
-use Rattle.bt_run.specs.Counts.{row_of, row_told}
+use Rattle.bt_style.specs.Names.{row_of}
+use Rattle.bt_run.specs.Counts.{row_told}
 use Rattle.bt_run.proofs.counts.tell_rows.Given as goal
 
 abbrev pub invariant-builtins : goal.invariant-builtins

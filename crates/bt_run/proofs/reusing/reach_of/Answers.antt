@@ -1,5 +1,5 @@
 use Rattle.std.specs.Prelude.{Contains}
-use Rattle.std.proofs.Common.{◌≡◌, ◌↔◌, ◌∙◌, sym, subst, All, List}
+use Rattle.std.proofs.Common.{◌↔◌, ◌∙◌, sym, subst, All, List}
 use Rattle.bt_style.specs.declared.reach.Reach.{Reach}
 use Rattle.bt_style.specs.declared.style.Target.{Target}
 use Rattle.bt_style.specs.Program.{program_of}

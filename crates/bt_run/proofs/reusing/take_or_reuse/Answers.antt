@@ -1,22 +1,38 @@
-use Rattle.std.specs.Prelude.{Contains}
-use Rattle.std.proofs.Common.{◌<◌, refl, sym, ap, ◌∙◌, ◌+◌, subst, length, All}
+use Rattle.std.proofs.Common.{refl, sym, ap, ◌∙◌, ◌+◌, subst}
 use Rattle.bt_style.specs.declared.reach.Reach.{Reach}
-use Rattle.bt_machine.specs.Agreement.{IsFootprint}
 use Rattle.bt_style.specs.Program.{program_of}
-use Rattle.bt_run.specs.Work.{IsLike}
+use Rattle.bt_machine.specs.Agreement.{IsFootprint}
+use Rattle.bt_machine.proofs.ReuseLemmas.{earlier_rest}
+use Rattle.bt_run.specs.Work.{IsStep}
 use Rattle.bt_run.proofs.IndexLemmas.{met_some, met_none}
-use Rattle.bt_run.proofs.WorkLemmas.{true_step, taken_counted, ran_counted}
+use Rattle.bt_run.proofs.WorkLemmas.{true_step, taken_cost, taken_counted, ran_counted}
 use Rattle.bt_run.proofs.reusing.take_or_reuse.Goals as goal
 
-pub take_over-requires-clause-true_step : goal.take_over-requires-clause-true_step
-take_over-requires-clause-true_step c =
+pub take_over-requires : goal.take_over-requires
+take_over-requires c =
+    let p = program_of c.args.style.now in
     let met = met_some _ _ c.in_ok-met.met c.in-Some.found c.in-Some.is c.in_ok-met.ensures.met in
-    true_step (program_of c.args.style.now) c.args.earlier.now c.in-Some.found.step.now c.requires.steps met.1
+    let step = c.in-Some.found.step.now in
+    let own : IsStep p step = true_step p c.args.earlier.now step c.requires.steps met.1 in
+    let reached = subst (λ (r : Reach). IsFootprint p c.args.input.now r.targets) (sym c.deref-reach.ensures) c.in_ok-known.ensures.reach in
+    earlier_rest p c.deref-reach.result.now.targets step.input c.args.input.now step.outcome own.outcome reached met.2.agree
 
-pub take_over-requires-clause-agree : goal.take_over-requires-clause-agree
-take_over-requires-clause-agree c =
+pub returns-in-Some-clause-outcome : goal.returns-in-Some-clause-outcome
+returns-in-Some-clause-outcome c =
+    let p = program_of c.args.style.now in
     let met = met_some _ _ c.in_ok-met.met c.in-Some.found c.in-Some.is c.in_ok-met.ensures.met in
-    met.2.agree
+    let own : IsStep p c.in-Some.found.step.now = true_step p c.args.earlier.now c.in-Some.found.step.now c.requires.steps met.1 in
+    let reached = subst (λ (r : Reach). IsFootprint p c.args.input.now r.targets) (sym c.deref-reach.ensures) c.in_ok-known.ensures.reach in
+    c.in_ok-taken-in-Some.ensures.outcome p own.outcome reached met.2.agree
+
+pub returns-in-Some-clause-cost : goal.returns-in-Some-clause-cost
+returns-in-Some-clause-cost c =
+    let p = program_of c.args.style.now in
+    let met = met_some _ _ c.in_ok-met.met c.in-Some.found c.in-Some.is c.in_ok-met.ensures.met in
+    let step = c.in-Some.found.step.now in
+    let own : IsStep p step = true_step p c.args.earlier.now step c.requires.steps met.1 in
+    let reached = subst (λ (r : Reach). IsFootprint p c.args.input.now r.targets) (sym c.deref-reach.ensures) c.in_ok-known.ensures.reach in
+    taken_cost p c.deref-reach.result.now.targets c.args.input.now step c.in_ok-taken-in-Some.taken.cost (c.agreeing_inputs_have_one_step.ensures p) reached own met.2.agree c.in_ok-taken-in-Some.ensures.cost
 
 pub returns-in-Some-clause-counted : goal.returns-in-Some-clause-counted
 returns-in-Some-clause-counted c =

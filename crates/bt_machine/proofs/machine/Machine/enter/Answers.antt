@@ -4,6 +4,6 @@ use Rattle.bt_machine.specs.Control.{program_in, frames_of, ticks_of}
 use Rattle.bt_machine.proofs.Steps.{left_past}
 use Rattle.bt_machine.proofs.machine.Machine.enter.Goals as goal
 
-pub returns-else-n-len : goal.returns-else-n-len
-returns-else-n-len c =
-    (left_past (program_in c.args.script) c.args.script.style.now.functions.items c.args.n (frames_of c.args.self.now) (world_of c.args.self.now.state) (ticks_of c.args.self.now) refl (omega arith), omega arith)
+pub returns-else-n-len-clause-run : goal.returns-else-n-len-clause-run
+returns-else-n-len-clause-run c =
+    (left_past (program_in c.args.self.now) c.args.self.now.script.style.now.functions.items c.args.n (frames_of c.args.self.now) (world_of c.args.self.now.state) (ticks_of c.args.self.now) refl (omega arith), omega arith)

@@ -1,6 +1,0 @@
-use Rattle.std.proofs.Common.{◌≡◌, ◌++◌, take, map}
-use Rattle.bt_bib.specs.Moving.{rebased_piece}
-use Rattle.bt_bib.proofs.moving.with_rebased.Given as goal
-
-abbrev pub invariant-pieces : goal.invariant-pieces
-invariant-pieces l = l.items ≡ l.fn.items ++ map (rebased_piece l.a l.b) (take l.piece-index l.others)

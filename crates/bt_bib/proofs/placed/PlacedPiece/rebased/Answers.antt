@@ -1,0 +1,20 @@
+use Rattle.std.proofs.Common.{◌∙◌, sym, ap, subst}
+use Rattle.bt_bib.specs.Moving.{rebased_piece, FitsPiece}
+use Rattle.bt_bib.specs.Placed.{BeginsBehind}
+use Rattle.bt_bib.proofs.PlacedLemmas.{taken_over, shown_over}
+use Rattle.bt_bib.proofs.placed.PlacedPiece.rebased.Goals as goal
+
+pub invariant_of-result : goal.invariant_of-result
+invariant_of-result c =
+    let a = c.args.a in
+    let b = c.args.b in
+    let fits = subst (FitsPiece a b) (sym c.self.view_is) c.requires.fits in
+    let behind = subst (BeginsBehind a) (sym c.self.view_is) c.requires.behind in
+    taken_over a b c.self.inside.start c.self.inside.end c.rebased.result c.rebased-2.result c.self.inside.piece c.in_ok-share.field-0 c.self.invariant fits behind c.rebased.ensures c.rebased-2.ensures c.in_ok-share.ensures
+
+pub returns : goal.returns
+returns c =
+    let a = c.args.a in
+    let b = c.args.b in
+    let behind = subst (BeginsBehind a) (sym c.self.view_is) c.requires.behind in
+    shown_over a b c.self.inside.start c.self.inside.end c.rebased.result c.self.inside.piece c.in_ok-share.field-0 c.self.invariant behind c.rebased.ensures c.in_ok-share.ensures ∙ ap (rebased_piece a b) c.self.view_is

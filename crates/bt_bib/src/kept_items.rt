@@ -1,0 +1,93 @@
+//! The items of a database as they are kept from edit to edit.
+
+ghost use Rattle.std.specs.Prelude.{◌≡◌, [], ◌++◌, ◌∷◌, map, All, IfOk, OnOk, OnErr};
+ghost use Rattle.bt_bib.specs.Moving.{rebased_piece, FitsPiece};
+ghost use Rattle.bt_bib.specs.Placed.{BeginsBehind};
+ghost use Rattle.bt_bib.specs.Reading.{pieces_of};
+
+use crate::items::Items;
+use crate::placed::PlacedPiece;
+use crate::reader::Reader;
+use crate::spot::Spot;
+use bt_text::Sequence;
+use std::alloc::{AllocError, AllocFailed, Global};
+use std::marker::Model;
+
+/// The items of a database in the order of its text, with the comment words among them, each kept apart from where it
+/// stands. Contracts see the list of the pieces, as they do of `Items`.
+#[derive(Debug, Drop)]
+pub struct KeptItems {
+    pieces: Sequence<PlacedPiece>,
+}
+
+impl Model for KeptItems {
+    ghost use Rattle.std.specs.Prelude.{List};
+    ghost use Rattle.bt_bib.specs.declared.item.Piece.{Piece};
+
+    ghost Value = { List Piece };
+
+    ghost view = { λ items. items.pieces };
+}
+
+impl KeptItems {
+    /// No items. They take no memory.
+    pub(crate) fn new(alloc: Global) -> Self
+        ensures { result ≡ [] }
+    {
+        KeptItems {
+            pieces: Sequence::new(alloc),
+        }
+    }
+
+    /// The items of a database, in the order of its text, as `read_bib` reads them. The one error is out of memory.
+    #[tactic(auto, unfolding(crate::specs::Reading::pieces_of))]
+    pub fn read(alloc: Global, text: &[u8]) -> Result<KeptItems, AllocError>
+        ensures { IfOk result (λ items. items ≡ pieces_of text.now) }
+    {
+        Reader { alloc, text }.kept_from(Spot::START)
+    }
+
+    /// The items and comment words, in the order of the text.
+    pub fn pieces(&self) -> &[PlacedPiece]
+        ensures { result.now ≡ self.now }
+    {
+        self.pieces.as_slice()
+    }
+
+    /// The items as `read_bib` gives them, in lists of their own. The one error is out of memory.
+    pub fn items(&self, alloc: Global) -> Result<Items, AllocError>
+        ensures { IfOk result (λ items. items ≡ self.now) }
+    {
+        let mut items = Items::new(alloc);
+        'pieces: for piece in self.pieces() {
+            items.push(piece.copied(alloc)?)?;
+        }
+        Ok(items)
+    }
+
+    /// Puts a piece behind the others. After want of memory they are as before.
+    pub(crate) fn push(&mut self, piece: PlacedPiece) -> Result<(), AllocFailed<PlacedPiece>>
+        ensures ok { OnOk result (self.new ≡ self.old ++ piece ∷ []) }
+        ensures err { OnErr result (self.new ≡ self.old) }
+    {
+        self.pieces.push(piece)
+    }
+
+    /// Takes others over behind these, where the text from `a` on stands from `b` on. They are not copied.
+    pub(crate) fn with_rebased(
+        self,
+        others: &[PlacedPiece],
+        a: Spot,
+        b: Spot,
+    ) -> Result<KeptItems, AllocError>
+        requires fits { All (FitsPiece a b) others.now }
+        requires behind { All (BeginsBehind a) others.now }
+        ensures { IfOk result (λ all. all ≡ self ++ map (rebased_piece a b) others.now) }
+    {
+        let mut items = self;
+        'pieces: for piece in others {
+            items.push(piece.rebased(a, b)?)?;
+        }
+        Ok(items)
+    }
+}

@@ -1,0 +1,155 @@
+//! A command of the style that takes steps: EXECUTE, ITERATE or REVERSE.
+
+ghost use Rattle.std.specs.Prelude.{◌≡◌, ◌<◌, Some, All, OnOk, length, reverse};
+ghost use Rattle.bt_style.specs.Program.{program_of};
+ghost use Rattle.bt_machine.specs.Place.{IsPlace};
+ghost use Rattle.bt_run.specs.Course.{world_of, stepped};
+ghost use Rattle.bt_run.specs.Work.{IsStep, IsConsistent};
+ghost use Rattle.bt_run.specs.Commands.{iterated, unless_stopped};
+
+use crate::course::{Course, Site, Step};
+use crate::reuse::Reuse;
+use crate::reusing::{Done, take_or_reuse};
+use crate::stepping::{all_told, cut_out, key_of, put_back};
+use bt_machine::step_depends_on_its_input;
+use bt_style::{Style, Target};
+use std::alloc::{AllocError, Global};
+
+/// A command that takes steps, and what goes through all of them.
+#[derive(Clone, Copy)]
+pub struct Caller<'a> {
+    pub alloc: Global,
+    pub style: &'a Style,
+    pub site: &'a Site,
+    /// The steps of an earlier run under this style.
+    pub earlier: &'a [Step],
+    ghost steps: { All (IsStep (program_of style.now)) earlier.now },
+}
+
+impl Caller<'_> {
+    /// Takes a step for the entry at a place, or for none, with its cost on the meter.
+    pub fn take_step(
+        self,
+        target: Target,
+        place: Option<usize>,
+        course: &mut Course,
+        reuse: &mut Reuse,
+    ) -> Result<(), AllocError>
+        requires placed { IsPlace place (world_of course.old) }
+        requires consistent { IsConsistent (program_of self.style.now) self.earlier.now course.old reuse.old }
+        ensures run { OnOk result (course.new
+            ≡ stepped (program_of self.entry.style.now) self.entry.site.now target place course.old) }
+        ensures consistent { OnOk result
+            (IsConsistent (program_of self.entry.style.now) self.entry.earlier.now course.new reuse.new) }
+        ensures entries { OnOk result (length course.new.entries ≡ length course.old.entries) }
+    {
+        let Caller {
+            alloc,
+            style,
+            site,
+            earlier,
+        } = self;
+        step_depends_on_its_input();
+        // Its length fits 64 bits, so that the count of the steps that were carried out can't overflow.
+        let _steps = course.trace.len();
+        let input = cut_out(alloc, course, target, place)?;
+        let key = key_of(&input)?;
+        let Done { outcome, cost } = take_or_reuse(
+            alloc,
+            style,
+            site.command,
+            &input,
+            earlier,
+            reuse,
+        )?;
+        put_back(alloc, course, place, &outcome)?;
+        let messages = all_told(alloc, outcome.messages.as_slice(), site)?;
+        course.log.append(messages)?;
+        course.trace.push(Step {
+            command: site.command,
+            key,
+            input,
+            outcome,
+            cost,
+        })?;
+        Ok(())
+    }
+
+    /// Takes a step for the entry at a place, unless a step has stopped the run.
+    fn take_next(
+        self,
+        target: Target,
+        place: usize,
+        course: &mut Course,
+        reuse: &mut Reuse,
+    ) -> Result<(), AllocError>
+        requires placed { place < length course.old.entries }
+        requires consistent { IsConsistent (program_of self.style.now) self.earlier.now course.old reuse.old }
+        ensures run { OnOk result (course.new ≡ unless_stopped course.old.stopped course.old
+            (stepped (program_of self.entry.style.now) self.entry.site.now target (Some place) course.old)) }
+        ensures consistent { OnOk result
+            (IsConsistent (program_of self.entry.style.now) self.entry.earlier.now course.new reuse.new) }
+        ensures entries { OnOk result (length course.new.entries ≡ length course.old.entries) }
+    {
+        if course.stopped {
+            return Ok(());
+        }
+        self.take_step(target, Some(place), course, reuse)
+    }
+
+    /// Takes a step for the entry at each of these places, and none after one that stopped.
+    fn run_for_each(
+        self,
+        target: Target,
+        places: &[usize],
+        course: &mut Course,
+        reuse: &mut Reuse,
+    ) -> Result<(), AllocError>
+        requires placed { All (λ n. n < length course.old.entries) places.now }
+        requires consistent { IsConsistent (program_of self.style.now) self.earlier.now course.old reuse.old }
+        ensures run { OnOk result (course.new
+            ≡ iterated (program_of self.entry.style.now) self.entry.site.now target places.now course.old) }
+        ensures consistent { OnOk result
+            (IsConsistent (program_of self.entry.style.now) self.entry.earlier.now course.new reuse.new) }
+    {
+        'places: for place in places {
+            self.take_next(target, *place, course, reuse)?;
+        }
+        Ok(())
+    }
+
+    /// Takes a step for each entry in the present order.
+    pub fn iterate(
+        self,
+        target: Target,
+        course: &mut Course,
+        reuse: &mut Reuse,
+    ) -> Result<(), AllocError>
+        requires { IsConsistent (program_of self.style.now) self.earlier.now course.old reuse.old }
+        ensures run { OnOk result (course.new
+            ≡ iterated (program_of self.entry.style.now) self.entry.site.now target course.old.order course.old) }
+        ensures consistent { OnOk result
+            (IsConsistent (program_of self.entry.style.now) self.entry.earlier.now course.new reuse.new) }
+    {
+        let places = Vec::from_slice(self.alloc, course.order.as_slice())?;
+        self.run_for_each(target, places.as_slice(), course, reuse)
+    }
+
+    /// Takes a step for each entry in the reverse of the present order.
+    pub fn reverse(
+        self,
+        target: Target,
+        course: &mut Course,
+        reuse: &mut Reuse,
+    ) -> Result<(), AllocError>
+        requires { IsConsistent (program_of self.style.now) self.earlier.now course.old reuse.old }
+        ensures run { OnOk result (course.new ≡ iterated
+            (program_of self.entry.style.now) self.entry.site.now target (reverse course.old.order) course.old) }
+        ensures consistent { OnOk result
+            (IsConsistent (program_of self.entry.style.now) self.entry.earlier.now course.new reuse.new) }
+    {
+        let mut places = Vec::from_slice(self.alloc, course.order.as_slice())?;
+        places.reverse();
+        self.run_for_each(target, places.as_slice(), course, reuse)
+    }
+}

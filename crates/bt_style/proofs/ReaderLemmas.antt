@@ -1,0 +1,159 @@
+-- Readers of tokens: what one takes it takes whatever stands behind, and where one stops at a fault, nothing goes on with
+-- the token there, and some bytes go on in its place.
+use Rattle.std.proofs.Common.{◌≡◌, ℕ, ◌≤◌, List, [], ◌∷◌, ◌++◌, Result, Ok, Err, refl, sym, ◌∙◌, ap, subst, append_assoc, arith}
+use Rattle.bt_style.specs.declared.fault.Fault.{Fault}
+use Rattle.bt_style.specs.Fault.{◌>>=◌}
+use Rattle.bt_style.specs.Token.{Token, Tokens, AtEnd, Front, tokens_behind, count}
+use Rattle.bt_style.specs.Laws.{in_front, first_line, BeginsAs}
+
+pub in_front_append : (front more : List (Token × ℕ)) (rest : Tokens) → in_front (front ++ more) rest ≡ in_front front (in_front more rest)
+in_front_append [] more rest = refl
+in_front_append (t ∷ front) more rest = ap (Front t.0 t.1) (in_front_append front more rest)
+
+pub count_behind : (front : List (Token × ℕ)) (rest : Tokens) → count rest ≤ count (in_front front rest)
+count_behind [] rest = omega arith
+count_behind (t ∷ front) rest = omega (arith, count_behind front rest)
+
+-- These bytes are read, and what stands behind them is left.
+pub record Completes {A Y : Type 0} (pair : A → Tokens → Y) (r : Tokens → Result Y Fault) (line : ℕ) : Type 0 where
+  pub bytes : List ℕ
+  pub value : A
+  pub reads : (behind : List ℕ) → r (tokens_behind 0 line (bytes ++ behind)) ≡ Ok (pair value (tokens_behind 0 line behind))
+
+-- some tokens are taken, whatever stands behind them
+pub record Takes {A Y : Type 0} (pair : A → Tokens → Y) (r : Tokens → Result Y Fault) (tokens : Tokens) : Type 0 where
+  pub used : List (Token × ℕ)
+  pub value : A
+  pub rest : Tokens
+  pub whole : tokens ≡ in_front used rest
+  pub reads : (other : Tokens) → r (in_front used other) ≡ Ok (pair value other)
+
+-- there is a fault at a token, whatever stands behind it; bytes in its place complete what is before it
+pub record Stops {A Y : Type 0} (pair : A → Tokens → Y) (r : Tokens → Result Y Fault) (tokens : Tokens) : Type 0 where
+  pub front : List (Token × ℕ)
+  pub here : Tokens
+  pub fault : Fault
+  pub whole : tokens ≡ in_front front here
+  pub line : fault.line ≡ first_line here
+  pub final : (other : Tokens) → BeginsAs here other → r (in_front front other) ≡ Err fault
+  pub first : (line : ℕ) → Completes pair (λ t. r (in_front front t)) line
+
+pub data Reads {A Y : Type 0} (pair : A → Tokens → Y) (r : Tokens → Result Y Fault) (tokens : Tokens) : Type 0 where
+  Took : Takes pair r tokens → Reads pair r tokens
+  Stopped : Stops pair r tokens → Reads pair r tokens
+
+pub record Reader {A Y : Type 0} (pair : A → Tokens → Y) (r : Tokens → Result Y Fault) : Type 0 where
+  pub reads : (tokens : Tokens) → Reads pair r tokens
+  pub done : (line : ℕ) → Completes pair r line
+
+-- nothing is taken
+pub just : {A Y : Type 0} (pair : A → Tokens → Y) (a : A) → Reader pair (λ t. Ok (pair a t))
+just pair a = record {
+  reads = λ tokens. Took (record { used = []; value = a; rest = tokens; whole = refl; reads = λ other. refl });
+  done = λ line. record { bytes = []; value = a; reads = λ behind. refl };
+}
+
+-- one reader behind another
+then_done : {A B Y Z : Type 0} (pair : A → Tokens → Y) (other : B → Tokens → Z) (r : Tokens → Result Y Fault) (k : Y → Result Z Fault) (line : ℕ) →
+    Completes pair r line → ((a : A) → Completes other (λ t. k (pair a t)) line) → Completes other (λ t. r t >>= k) line
+then_done pair other r k line d next =
+    let e = next d.value in
+    record {
+      bytes = d.bytes ++ e.bytes;
+      value = e.value;
+      reads = λ behind.
+          ap (λ bs. r (tokens_behind 0 line bs) >>= k) (append_assoc d.bytes e.bytes behind)
+          ∙ ap (λ x. x >>= k) (d.reads (e.bytes ++ behind)) ∙ e.reads behind;
+    }
+
+behind_taken : {A B Y Z : Type 0} (pair : A → Tokens → Y) (other : B → Tokens → Z) (r : Tokens → Result Y Fault) (k : Y → Result Z Fault) (tokens : Tokens) →
+    (t : Takes pair r tokens) → Reads other (λ u. k (pair t.value u)) t.rest → Reads other (λ u. r u >>= k) tokens
+behind_taken pair other r k tokens t (Took u) = Took (record {
+  used = t.used ++ u.used;
+  value = u.value;
+  rest = u.rest;
+  whole = t.whole ∙ ap (in_front t.used) u.whole ∙ sym (in_front_append t.used u.used u.rest);
+  reads = λ o. ap (λ x. r x >>= k) (in_front_append t.used u.used o) ∙ ap (λ x. x >>= k) (t.reads (in_front u.used o)) ∙ u.reads o;
+})
+behind_taken pair other r k tokens t (Stopped s) =
+    let on : (o : Tokens) → (r (in_front (t.used ++ s.front) o) >>= k) ≡ k (pair t.value (in_front s.front o)) =
+    λ o. ap (λ x. r x >>= k) (in_front_append t.used s.front o) ∙ ap (λ x. x >>= k) (t.reads (in_front s.front o)) in
+    Stopped (record {
+      front = t.used ++ s.front;
+      here = s.here;
+      fault = s.fault;
+      whole = t.whole ∙ ap (in_front t.used) s.whole ∙ sym (in_front_append t.used s.front s.here);
+      line = s.line;
+      final = λ o a. on o ∙ s.final o a;
+      first = λ line. (let d = s.first line in record { bytes = d.bytes; value = d.value; reads = λ behind. on (tokens_behind 0 line (d.bytes ++ behind)) ∙ d.reads behind });
+    })
+
+then_reads : {A B Y Z : Type 0} (pair : A → Tokens → Y) (other : B → Tokens → Z) (r : Tokens → Result Y Fault) (k : Y → Result Z Fault) (tokens : Tokens) →
+    Reads pair r tokens → ((a : A) → Reader other (λ t. k (pair a t))) → Reads other (λ t. r t >>= k) tokens
+then_reads pair other r k tokens (Took t) next = behind_taken pair other r k tokens t ((next t.value).reads t.rest)
+then_reads pair other r k tokens (Stopped s) next = Stopped (record {
+  front = s.front;
+  here = s.here;
+  fault = s.fault;
+  whole = s.whole;
+  line = s.line;
+  final = λ o a. ap (λ x. x >>= k) (s.final o a);
+  first = λ line. then_done pair other (λ t. r (in_front s.front t)) k line (s.first line) (λ a. (next a).done line);
+})
+
+pub then : {A B Y Z : Type 0} (pair : A → Tokens → Y) (other : B → Tokens → Z) (r : Tokens → Result Y Fault) (k : Y → Result Z Fault) →
+    Reader pair r → ((a : A) → Reader other (λ t. k (pair a t))) → Reader other (λ t. r t >>= k)
+then pair other r k first next = record {
+  reads = λ tokens. then_reads pair other r k tokens (first.reads tokens) next;
+  done = λ line. then_done pair other r k line (first.done line) (λ a. (next a).done line);
+}
+
+-- one token, and then another reader
+pub goes_on : {A Y : Type 0} (pair : A → Tokens → Y) (r s : Tokens → Result Y Fault) (token : Token) (line : ℕ) (rest : Tokens) →
+    ((t : Tokens) → r (Front token line t) ≡ s t) → Reads pair s rest → Reads pair r (Front token line rest)
+goes_on pair r s token line rest e (Took t) = Took (record {
+  used = (token, line) ∷ t.used;
+  value = t.value;
+  rest = t.rest;
+  whole = ap (Front token line) t.whole;
+  reads = λ o. e (in_front t.used o) ∙ t.reads o;
+})
+goes_on pair r s token line rest e (Stopped x) = Stopped (record {
+  front = (token, line) ∷ x.front;
+  here = x.here;
+  fault = x.fault;
+  whole = ap (Front token line) x.whole;
+  line = x.line;
+  final = λ o a. e (in_front x.front o) ∙ x.final o a;
+  first = λ l. (let d = x.first l in record { bytes = d.bytes; value = d.value; reads = λ behind. e (in_front x.front (tokens_behind 0 l (d.bytes ++ behind))) ∙ d.reads behind });
+})
+
+-- one token alone
+pub takes_one : {A Y : Type 0} (pair : A → Tokens → Y) (r : Tokens → Result Y Fault) (token : Token) (line : ℕ) (rest : Tokens) (a : A) →
+    ((t : Tokens) → r (Front token line t) ≡ Ok (pair a t)) → Reads pair r (Front token line rest)
+takes_one pair r token line rest a e = Took (record { used = (token, line) ∷ []; value = a; rest = rest; whole = refl; reads = e })
+
+-- a token that is refused, and an end
+pub refuses : {A Y : Type 0} (pair : A → Tokens → Y) (r : Tokens → Result Y Fault) (token : Token) (line : ℕ) (rest : Tokens) (f : Fault) → f.line ≡ line →
+    ((t : Tokens) → r (Front token line t) ≡ Err f) → ((line : ℕ) → Completes pair r line) → Reads pair r (Front token line rest)
+refuses pair r token line rest f at e done = Stopped (record {
+  front = [];
+  here = Front token line rest;
+  fault = f;
+  whole = refl;
+  line = at;
+  final = λ o a. subst (λ t. r t ≡ Err f) (sym a.1) (e a.0);
+  first = done;
+})
+
+pub refuses_end : {A Y : Type 0} (pair : A → Tokens → Y) (r : Tokens → Result Y Fault) (line : ℕ) (f : Fault) → f.line ≡ line →
+    r (AtEnd line) ≡ Err f → ((line : ℕ) → Completes pair r line) → Reads pair r (AtEnd line)
+refuses_end pair r line f at e done = Stopped (record {
+  front = [];
+  here = AtEnd line;
+  fault = f;
+  whole = refl;
+  line = at;
+  final = λ o a. subst (λ t. r t ≡ Err f) (sym a) e;
+  first = done;
+})
