@@ -4,26 +4,24 @@ ghost use Rattle.std.specs.Prelude.{◌≡◌, ◌<◌, Some, All, OnOk, length,
 ghost use Rattle.bt_style.specs.Program.{program_of};
 ghost use Rattle.bt_machine.specs.Place.{IsPlace};
 ghost use Rattle.bt_run.specs.Course.{world_of, stepped};
-ghost use Rattle.bt_run.specs.Work.{IsStep, IsConsistent};
+ghost use Rattle.bt_run.specs.Work.{IsConsistent};
 ghost use Rattle.bt_run.specs.Commands.{iterated, unless_stopped};
 
 use crate::course::{Course, Site, Step};
+use crate::job::Job;
 use crate::reuse::Reuse;
 use crate::reusing::{Done, take_or_reuse};
 use crate::stepping::{all_told, cut_out, key_of, put_back};
 use bt_machine::step_depends_on_its_input;
-use bt_style::{Style, Target};
+use bt_style::Target;
 use std::alloc::{AllocError, Global};
 
-/// A command that takes steps, and what goes through all of them.
+/// A command that takes steps, in what a run reads.
 #[derive(Clone, Copy)]
 pub struct Caller<'a> {
     pub alloc: Global,
-    pub style: &'a Style,
+    pub job: Job<'a>,
     pub site: &'a Site,
-    /// The steps of an earlier run under this style.
-    pub earlier: &'a [Step],
-    ghost steps: { All (IsStep (program_of style.now)) earlier.now },
 }
 
 impl Caller<'_> {
@@ -36,19 +34,14 @@ impl Caller<'_> {
         reuse: &mut Reuse,
     ) -> Result<(), AllocError>
         requires placed { IsPlace place (world_of course.old) }
-        requires consistent { IsConsistent (program_of self.style.now) self.earlier.now course.old reuse.old }
+        requires consistent { IsConsistent (program_of self.job.style.now) self.job.earlier.now course.old reuse.old }
         ensures run { OnOk result (course.new
-            ≡ stepped (program_of self.entry.style.now) self.entry.site.now target place course.old) }
+            ≡ stepped (program_of self.entry.job.style.now) self.entry.site.now target place course.old) }
         ensures consistent { OnOk result
-            (IsConsistent (program_of self.entry.style.now) self.entry.earlier.now course.new reuse.new) }
+            (IsConsistent (program_of self.entry.job.style.now) self.entry.job.earlier.now course.new reuse.new) }
         ensures entries { OnOk result (length course.new.entries ≡ length course.old.entries) }
     {
-        let Caller {
-            alloc,
-            style,
-            site,
-            earlier,
-        } = self;
+        let Caller { alloc, job, site } = self;
         step_depends_on_its_input();
         // Its length fits 64 bits, so that the count of the steps that were carried out can't overflow.
         let _steps = course.trace.len();
@@ -56,10 +49,10 @@ impl Caller<'_> {
         let key = key_of(&input)?;
         let Done { outcome, cost } = take_or_reuse(
             alloc,
-            style,
+            job.style,
             site.command,
             &input,
-            earlier,
+            job.earlier,
             reuse,
         )?;
         put_back(alloc, course, place, &outcome)?;
@@ -84,11 +77,11 @@ impl Caller<'_> {
         reuse: &mut Reuse,
     ) -> Result<(), AllocError>
         requires placed { place < length course.old.entries }
-        requires consistent { IsConsistent (program_of self.style.now) self.earlier.now course.old reuse.old }
+        requires consistent { IsConsistent (program_of self.job.style.now) self.job.earlier.now course.old reuse.old }
         ensures run { OnOk result (course.new ≡ unless_stopped course.old.stopped course.old
-            (stepped (program_of self.entry.style.now) self.entry.site.now target (Some place) course.old)) }
+            (stepped (program_of self.entry.job.style.now) self.entry.site.now target (Some place) course.old)) }
         ensures consistent { OnOk result
-            (IsConsistent (program_of self.entry.style.now) self.entry.earlier.now course.new reuse.new) }
+            (IsConsistent (program_of self.entry.job.style.now) self.entry.job.earlier.now course.new reuse.new) }
         ensures entries { OnOk result (length course.new.entries ≡ length course.old.entries) }
     {
         if course.stopped {
@@ -106,11 +99,11 @@ impl Caller<'_> {
         reuse: &mut Reuse,
     ) -> Result<(), AllocError>
         requires placed { All (λ n. n < length course.old.entries) places.now }
-        requires consistent { IsConsistent (program_of self.style.now) self.earlier.now course.old reuse.old }
+        requires consistent { IsConsistent (program_of self.job.style.now) self.job.earlier.now course.old reuse.old }
         ensures run { OnOk result (course.new
-            ≡ iterated (program_of self.entry.style.now) self.entry.site.now target places.now course.old) }
+            ≡ iterated (program_of self.entry.job.style.now) self.entry.site.now target places.now course.old) }
         ensures consistent { OnOk result
-            (IsConsistent (program_of self.entry.style.now) self.entry.earlier.now course.new reuse.new) }
+            (IsConsistent (program_of self.entry.job.style.now) self.entry.job.earlier.now course.new reuse.new) }
     {
         'places: for place in places {
             self.take_next(target, *place, course, reuse)?;
@@ -125,11 +118,11 @@ impl Caller<'_> {
         course: &mut Course,
         reuse: &mut Reuse,
     ) -> Result<(), AllocError>
-        requires { IsConsistent (program_of self.style.now) self.earlier.now course.old reuse.old }
+        requires { IsConsistent (program_of self.job.style.now) self.job.earlier.now course.old reuse.old }
         ensures run { OnOk result (course.new
-            ≡ iterated (program_of self.entry.style.now) self.entry.site.now target course.old.order course.old) }
+            ≡ iterated (program_of self.entry.job.style.now) self.entry.site.now target course.old.order course.old) }
         ensures consistent { OnOk result
-            (IsConsistent (program_of self.entry.style.now) self.entry.earlier.now course.new reuse.new) }
+            (IsConsistent (program_of self.entry.job.style.now) self.entry.job.earlier.now course.new reuse.new) }
     {
         let places = Vec::from_slice(self.alloc, course.order.as_slice())?;
         self.run_for_each(target, places.as_slice(), course, reuse)
@@ -142,11 +135,11 @@ impl Caller<'_> {
         course: &mut Course,
         reuse: &mut Reuse,
     ) -> Result<(), AllocError>
-        requires { IsConsistent (program_of self.style.now) self.earlier.now course.old reuse.old }
+        requires { IsConsistent (program_of self.job.style.now) self.job.earlier.now course.old reuse.old }
         ensures run { OnOk result (course.new ≡ iterated
-            (program_of self.entry.style.now) self.entry.site.now target (reverse course.old.order) course.old) }
+            (program_of self.entry.job.style.now) self.entry.site.now target (reverse course.old.order) course.old) }
         ensures consistent { OnOk result
-            (IsConsistent (program_of self.entry.style.now) self.entry.earlier.now course.new reuse.new) }
+            (IsConsistent (program_of self.entry.job.style.now) self.entry.job.earlier.now course.new reuse.new) }
     {
         let mut places = Vec::from_slice(self.alloc, course.order.as_slice())?;
         places.reverse();

@@ -52,22 +52,24 @@ fn act_on(
     ensures consistent { OnOk result
         (IsConsistent (program_of job.entry.style.now) job.entry.earlier.now course.new reuse.new) }
 {
-    let site = site_of(alloc, job, number, command.line)?;
-    let caller = Caller {
-        alloc,
-        style: job.style,
-        site: &site,
-        earlier: job.earlier,
-    };
     match command.action {
         Action::Entry
         | Action::Function(_)
         | Action::Integers
         | Action::Macro(_)
         | Action::Strings => Ok(()),
-        Action::Execute(target) => caller.take_step(target, None, course, reuse),
-        Action::Iterate(target) => caller.iterate(target, course, reuse),
-        Action::Reverse(target) => caller.reverse(target, course, reuse),
+        Action::Execute(target) => {
+            let site = &site_of(alloc, job, number, command.line)?;
+            Caller { alloc, job, site }.take_step(target, None, course, reuse)
+        }
+        Action::Iterate(target) => {
+            let site = &site_of(alloc, job, number, command.line)?;
+            Caller { alloc, job, site }.iterate(target, course, reuse)
+        }
+        Action::Reverse(target) => {
+            let site = &site_of(alloc, job, number, command.line)?;
+            Caller { alloc, job, site }.reverse(target, course, reuse)
+        }
         Action::Read => {
             read(alloc, job, number, course, &mut reuse.databases)?;
             Ok(())
