@@ -1,15 +1,12 @@
 -- The definitions of footprints at small styles: what is reached, whether inputs agree in it, and what is left.
-use Rattle.std.specs.Prelude.{◌≡◌, ℕ, true, false, pos, List, [], ◌∷◌, Option, None, Some, Contains, codes, refl}
+use Rattle.std.specs.Prelude.{◌≡◌, ℕ, true, false, pos, List, [], ◌∷◌, Option, None, Some, codes, refl}
 use Rattle.bt_style.specs.declared.builtin.Builtin.TheVariants as builtin
-use Rattle.bt_style.specs.declared.style.Target.{Target}
-use Rattle.bt_style.specs.declared.style.Target.TheVariants.{Builtin, Field, EntryNumber, GlobalNumber, GlobalText, Function}
+use Rattle.bt_style.specs.declared.style.Target.TheVariants.{Builtin, Field, GlobalNumber, GlobalText, Function}
 use Rattle.bt_style.specs.declared.reach.Reach.{Reach}
 use Rattle.bt_style.specs.Tree.{Element, Words, Quoted, Braced, Called, body_of}
 use Rattle.bt_style.specs.Program.{Definition, Program}
 use Rattle.bt_style.specs.Reach.{leads_to, is_among}
-use Rattle.bt_actions.specs.declared.entry.Entry.{Entry}
 use Rattle.bt_machine.specs.declared.input.Input.{Input}
-use Rattle.bt_machine.specs.declared.outcome.Outcome.{Outcome}
 use Rattle.bt_machine.specs.Footprint.{blend, among, input_over}
 use Rattle.bt_machine.specs.Agreement.{outcome_over}
 use Rattle.bt_machine.specs.Comparison.{reach_by, agreement}

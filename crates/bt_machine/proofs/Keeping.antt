@@ -1,5 +1,5 @@
 -- What holds in every world of a step: each action keeps it, where what is pushed and what is assigned does.
-use Rattle.std.proofs.Common.{◌≡◌, ◌≤◌, ℕ, Bool, true, false, List, [], ◌∷◌, length, Option, Some, None, refl, sym, subst, ◌∙◌}
+use Rattle.std.proofs.Common.{◌≡◌, ◌≤◌, ℕ, Bool, true, false, List, [], ◌∷◌, length, Option, Some, None, refl, sym, subst}
 use Rattle.std.specs.Prelude.{ℤ, pos, if◌then◌else◌, nat_lt, nat_le, option_and_then, slice_index_or}
 use Rattle.std.proofs.lemmas.Bool.{leb-true}
 use Rattle.bt_style.specs.declared.builtin.Builtin.{Builtin as Primitive}

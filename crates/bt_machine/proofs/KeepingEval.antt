@@ -1,5 +1,5 @@
 -- An evaluation keeps what each of its elements keeps, where every function may be pushed.
-use Rattle.std.proofs.Common.{◌≡◌, ℕ, zero, suc, ◌+◌, List, [], ◌∷◌, length, Option, Some, None, refl}
+use Rattle.std.proofs.Common.{ℕ, zero, suc, ◌+◌, List, [], ◌∷◌, length, Option, Some, None}
 use Rattle.std.specs.Prelude.{ℤ, pos, negsuc, slice_index_or}
 use Rattle.bt_style.specs.declared.builtin.Builtin.{Builtin as Primitive}
 use Rattle.bt_style.specs.declared.builtin.Builtin.TheVariants as builtin

@@ -1,4 +1,3 @@
-use Rattle.std.proofs.Common.{◌≡◌, ◌∙◌, ap, sym}
 use Rattle.bt_machine.proofs.PutLemmas.{fitted}
 use Rattle.bt_machine.proofs.putting.fitted_numbers.Goals as goal
 

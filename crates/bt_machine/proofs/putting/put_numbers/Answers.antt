@@ -1,4 +1,3 @@
-use Rattle.std.proofs.Common.{List, []}
 use Rattle.std.specs.Prelude.{pos}
 use Rattle.bt_machine.proofs.PutLemmas.{all_put}
 use Rattle.bt_machine.proofs.putting.put_numbers.Goals as goal

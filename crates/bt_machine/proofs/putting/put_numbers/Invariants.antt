@@ -1,4 +1,4 @@
-use Rattle.std.proofs.Common.{◌≡◌, List, [], length, drop}
+use Rattle.std.proofs.Common.{◌≡◌, length, drop}
 use Rattle.std.specs.Prelude.{pos}
 use Rattle.bt_machine.specs.Putting.{values_put}
 use Rattle.bt_machine.proofs.putting.put_numbers.Given as goal

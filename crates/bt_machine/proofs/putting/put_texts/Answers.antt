@@ -1,5 +1,4 @@
-use Rattle.std.proofs.Common.{List, []}
-use Rattle.std.specs.Prelude.{pos}
+use Rattle.std.proofs.Common.{[]}
 use Rattle.bt_machine.proofs.PutLemmas.{all_put}
 use Rattle.bt_machine.proofs.putting.put_texts.Goals as goal
 

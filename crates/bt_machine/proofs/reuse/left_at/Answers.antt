@@ -1,4 +1,4 @@
-use Rattle.std.proofs.Common.{◌≡◌, ◌∙◌, ◌&&◌, ap}
+use Rattle.std.proofs.Common.{◌∙◌, ◌&&◌, ap}
 use Rattle.bt_actions.specs.declared.entry.Variables.{Variables}
 use Rattle.bt_machine.specs.Comparison.{same_counts, same_variables}
 use Rattle.bt_machine.proofs.ReuseLemmas.{has_left}
