@@ -1,5 +1,5 @@
 -- What a reach has told of the held line, the preamble and the type.
-use Rattle.std.proofs.Common.{◌≡◌, ◌⊎◌, ◌↔◌, sym, subst, Bool}
+use Rattle.std.proofs.Common.{◌⊎◌, ◌↔◌, sym, subst, Bool}
 use Rattle.std.specs.Prelude.{Contains, IfOk, IsTrue, Result, Ok, Err}
 use Rattle.bt_style.specs.declared.builtin.Builtin.TheVariants as builtins
 use Rattle.bt_style.specs.declared.style.Target.TheVariants as targets

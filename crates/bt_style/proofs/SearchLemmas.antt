@@ -6,7 +6,7 @@ use Rattle.std.specs.Option.{option_map_or}
 use Rattle.bt_style.specs.declared.style.Target.{Target}
 use Rattle.bt_style.specs.declared.style.Target.TheVariants as targets
 use Rattle.bt_style.specs.Program.{Program, Definition}
-use Rattle.bt_style.specs.Reach.{target_eq, is_among, noted_all, body_names, maybe_function, default_type, is_call_type, leads_to, Reaches, Start, Next, all_body_names, reachable}
+use Rattle.bt_style.specs.Reach.{target_eq, noted_all, body_names, maybe_function, default_type, is_call_type, leads_to, Reaches, Start, Next, all_body_names, reachable}
 use Rattle.bt_style.proofs.FoundLemmas.{In, in_first, in_second, in_one, placed, at_place, contained, among, all_old, all_new, all_from, all_at, all_once, all_work, unseen}
 
 -- what is found, of which so many were gone over
