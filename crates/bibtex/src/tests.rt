@@ -90,27 +90,6 @@ fn edits_are_answered_in_turn(rt: HostRuntime) -> Result<(), Fail> {
 }
 
 #[test]
-fn steps_are_taken_over(rt: HostRuntime) -> Result<(), Fail> {
-    let mut session = Session::new(rt.alloc(), b"job", 2)?;
-    let style = b"ENTRY {title}{}{}\nFUNCTION {f} {title write$ newline$}\nREAD\nITERATE {f}\n";
-    let database = b"@misc{a,title={A}}@misc{b,title={B}}@misc{c,title={C}}";
-    session.edit(Edit::Write(b"s.bst", style))?;
-    session.edit(Edit::Write(b"x.bib", database))?;
-    let in_order = b"\\citation{a,b,c}\n\\bibdata{x}\n\\bibstyle{s}\n";
-    let first = session.edit(Edit::Write(b"job.aux", in_order))?;
-    assert_eq!(rt; first, report(1, 3, 0, 12));
-    let same = session.edit(Edit::Write(b"x.bib", database))?;
-    assert_eq!(rt; same, report(1, 0, 3, 0));
-    let changed = session.edit(Edit::Splice(b"x.bib", 33, 34, b"new"))?;
-    assert_eq!(rt; changed, report(1, 1, 2, 4));
-    let turned = b"\\citation{c,a,b}\n\\bibdata{x}\n\\bibstyle{s}\n";
-    let moved = session.edit(Edit::Write(b"job.aux", turned))?;
-    assert_eq!(rt; moved, report(1, 0, 3, 0));
-    assert_eq!(rt; session.bbl(), b"C\nA\nnew\n".as_slice());
-    Ok(())
-}
-
-#[test]
 fn texts_come_and_go(rt: HostRuntime) -> Result<(), Fail> {
     let mut session = begun(rt.alloc())?;
     assert_eq!(rt; session.file(b"x.bib"), None);
