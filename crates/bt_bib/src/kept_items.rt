@@ -5,7 +5,6 @@ ghost use Rattle.bt_bib.specs.Moving.{rebased_piece, FitsPiece};
 ghost use Rattle.bt_bib.specs.Placed.{BeginsBehind};
 ghost use Rattle.bt_bib.specs.Reading.{pieces_of};
 
-use crate::items::Items;
 use crate::placed::PlacedPiece;
 use crate::reader::Reader;
 use crate::spot::Spot;
@@ -52,17 +51,6 @@ impl KeptItems {
         ensures { result.now ≡ self.now }
     {
         self.pieces.as_slice()
-    }
-
-    /// The items as `read_bib` gives them, in lists of their own. The one error is out of memory.
-    pub fn items(&self, alloc: Global) -> Result<Items, AllocError>
-        ensures { IfOk result (λ items. items ≡ self.now) }
-    {
-        let mut items = Items::new(alloc);
-        'pieces: for piece in self.pieces() {
-            items.push(piece.copied(alloc)?)?;
-        }
-        Ok(items)
     }
 
     /// Puts a piece behind the others. After want of memory they are as before.

@@ -40,10 +40,3 @@ pub use placed::PlacedPiece;
 pub use reading::read_bib;
 pub use rereading::Splice;
 pub use spot::Spot;
-
-#[cfg(test)]
-mod aux_tests;
-#[cfg(test)]
-mod reading_tests;
-#[cfg(test)]
-mod splice_tests;

@@ -7,7 +7,7 @@ ghost use Rattle.bt_bib.specs.Moving.{rebased_piece, FitsPiece};
 ghost use Rattle.bt_bib.specs.Placed.{BeginsBehind, IsPlaced};
 
 use crate::item::Piece;
-use crate::moving::{rebased, rebased_piece};
+use crate::moving::rebased;
 use crate::spot::Spot;
 use bt_text::Shared;
 use std::alloc::{AllocError, Global};
@@ -64,14 +64,6 @@ impl PlacedPiece {
         ensures fits { FitsPiece nowhere (start_of self.now) result.now }
     {
         &self.piece
-    }
-
-    /// It with the places and lines of its text, in lists of its own.
-    pub(crate) fn copied(&self, alloc: Global) -> Result<Piece, AllocError>
-        ensures { IfOk result (λ copy. copy ≡ self.now) }
-    {
-        let copy = rebased_piece(alloc, &self.piece, Spot::NOWHERE, self.start)?;
-        Ok(copy)
     }
 
     /// The same piece for one more owner, where the text from `a` on stands from `b` on.

@@ -1,6 +1,7 @@
 //! A job of BibTeX: its files, its log, and what its `.aux` files ask for.
 #![tactic(auto)]
 
+mod aux_texts;
 mod citations;
 mod files;
 mod name_table;
@@ -9,6 +10,7 @@ mod nesting;
 mod reader;
 mod taking;
 
+pub use aux_texts::AuxTexts;
 pub use citations::Citations;
 pub use files::File;
 pub use naming::{FILE_NAME_BYTES, is_file_name, text_of};

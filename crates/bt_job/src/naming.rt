@@ -8,7 +8,7 @@ ghost use Rattle.bt_job.specs.Naming.{is_name_byte, is_file_name, with_ending, t
 use crate::files::File;
 use crate::reader::Reader;
 use bt_bib::Command;
-use bt_text::Bytes;
+use bt_text::{Bytes, Shared};
 use std::alloc::{AllocError, Global};
 
 /// How many bytes a file's name may have, with its folder and ending.
@@ -33,16 +33,24 @@ pub fn is_file_name(name: &[u8]) -> bool
     name.len() >= 1 && name.len() <= FILE_NAME_BYTES && has_name_bytes(name)
 }
 
-/// The text of a name, if there is one.
-pub fn text_of<'a>(files: &'a [File], name: &[u8]) -> Option<&'a [u8]>
+/// The text of a name, as its file owns it, if there is one.
+pub fn owned_text_of<'a>(files: &'a [File], name: &[u8]) -> Option<&'a Shared<Bytes>>
     ensures { option_map (λ t. t.now) result ≡ text_of files.now name.now }
 {
     'files: for file in files {
         if file.name.as_slice() == name {
-            return Some(file.text.as_slice());
+            return Some(&file.text);
         }
     }
     None
+}
+
+/// The text of a name, if there is one.
+pub fn text_of<'a>(files: &'a [File], name: &[u8]) -> Option<&'a [u8]>
+    ensures { option_map (λ t. t.now) result ≡ text_of files.now name.now }
+{
+    let text = owned_text_of(files, name)?;
+    Some(text.as_slice())
 }
 
 /// A name with an ending, which is put after it unless it is there.

@@ -18,8 +18,3 @@ pub use calls::{Formatted, format, format_within, parts};
 pub use faults::{FormatFault, NameFault};
 pub use listing::count;
 pub use tokens::{Parts, Token};
-
-#[cfg(test)]
-mod format_tests;
-#[cfg(test)]
-mod list_tests;

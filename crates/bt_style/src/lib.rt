@@ -29,8 +29,3 @@ pub use laws::{
 pub use reach::Reach;
 pub use reader::read_style;
 pub use style::{Action, Command, Function, Macro, Op, Style, Target};
-
-#[cfg(test)]
-mod reach_tests;
-#[cfg(test)]
-mod tests;

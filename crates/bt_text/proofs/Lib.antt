@@ -12,3 +12,5 @@ pub mod BreakingLemmas
 pub mod HeldLemmas
 pub mod JoinedLemmas
 pub mod NameLemmas
+pub mod FoldingLemmas
+pub mod SparseLemmas

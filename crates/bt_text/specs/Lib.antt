@@ -19,3 +19,5 @@ pub mod NameList
 pub mod NameBytes
 pub mod Breaking
 pub mod Held
+pub mod Sparse
+pub mod Merging

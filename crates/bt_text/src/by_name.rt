@@ -4,7 +4,7 @@ ghost use Rattle.std.specs.Prelude.{◌≡◌, [], map, ℕ, List, Some, is_some
 ghost use Rattle.bt_text.specs.ByName.{HasRoom, at_small, known, listed, no_value, place_of, with_entry, with_value};
 ghost use Rattle.bt_text.specs.Folding.{folded};
 
-use crate::folding::to_ascii_lowercase;
+use crate::folding::{is_ascii_lowercase, to_ascii_lowercase};
 use indexmap::IndexMap;
 use std::alloc::{AllocError, Global};
 
@@ -32,6 +32,9 @@ impl<V: Drop> ByName<V> {
     pub fn get(&self, alloc: Global, name: &[u8]) -> Result<Option<&V>, AllocError>
         ensures { IfOk result (λ value. option_copied value ≡ known self.now name.now) }
     {
+        if is_ascii_lowercase(name) {
+            return Ok(self.get_small(name));
+        }
         let small = to_ascii_lowercase(alloc, name)?;
         Ok(self.get_small(small.as_slice()))
     }
@@ -50,12 +53,22 @@ impl<V: Drop> ByName<V> {
         Ok(self.get(alloc, name)?.is_some())
     }
 
+    /// The place of a name in small letters.
+    fn place_small(&self, small: &[u8]) -> Option<usize>
+        ensures { result ≡ place_of (λ e. bytes_eq small.now e.0) (listed self.now) }
+    {
+        self.values.get_index_of(small)
+    }
+
     /// The place of a name in the order in which the names came. The one error is out of memory.
     pub fn place(&self, alloc: Global, name: &[u8]) -> Result<Option<usize>, AllocError>
         ensures { IfOk result (λ place. place ≡ place_of (λ e. bytes_eq (folded name.now) e.0) (listed self.now)) }
     {
+        if is_ascii_lowercase(name) {
+            return Ok(self.place_small(name));
+        }
         let small = to_ascii_lowercase(alloc, name)?;
-        Ok(self.values.get_index_of(small.as_slice()))
+        Ok(self.place_small(small.as_slice()))
     }
 
     /// The values in the order in which their names came.

@@ -23,6 +23,7 @@ mod period;
 mod purifying;
 mod sequence;
 mod shared;
+mod sparse;
 mod special;
 mod title_place;
 mod white;
@@ -47,15 +48,7 @@ pub use period::add_period;
 pub use purifying::purify;
 pub use sequence::Sequence;
 pub use shared::Shared;
+pub use sparse::SparseTexts;
 pub use special::{control_name_len, is_foreign};
 pub use white::{join_white, trim_end, white_run};
 pub use widths::width;
-
-#[cfg(test)]
-mod line_tests;
-#[cfg(test)]
-mod name_tests;
-#[cfg(test)]
-mod tests;
-#[cfg(test)]
-mod worked;

@@ -20,7 +20,7 @@ returns-in_default t c = sym (file_opens c.args.bound c.args.files.now c.args.le
 pub items-init : goal.items-init
 items-init t c =
     let nested : List ℕ → Citations → Citations = file_taken (c.args.bound - 1) c.args.files.now (c.args.level + 1) in
-    ap (λ (is : List AuxItem). lines_taken nested c.args.files.now c.args.file.now is c.tell.new.self.citations) (c.as_slice-item-items.ensures ∙ c.in_ok-items.ensures)
+    ap (λ (is : List AuxItem). lines_taken nested c.args.files.now c.args.file.now is c.tell.new.self.citations) (c.as_slice-item-items.ensures ∙ c.deref.ensures ∙ c.in_ok-items.ensures)
     ∙ ap (lines_taken nested c.args.files.now c.args.file.now (aux_lines c.in-Some.text.now)) (c.in_ok-tell.ensures.ok ∙ ap (λ (m : Message). told m c.args.self.now.citations) c.in_ok-file_line.ensures)
     ∙ sym (file_opens c.args.bound c.args.files.now c.args.level c.args.file.now (Some c.in-Some.text.now) c.args.self.now.citations c.if-bound-eq0.false c.in-Some.ensures)
 

@@ -1,0 +1,99 @@
+//! `.aux` texts as they were read, which outlast the run that read them.
+
+ghost use Rattle.std.specs.Prelude.{◌≡◌, IfOk, IfSome};
+ghost use Rattle.bt_bib.specs.AuxLine.{aux_lines};
+
+use crate::files::File;
+use bt_bib::{AuxItem, read_aux};
+use bt_text::{Bytes, Sequence, Shared};
+use std::alloc::{AllocError, Global};
+
+/// An `.aux` text as it was read: the text and its counted lines.
+#[derive(Debug, Drop)]
+pub struct AuxText {
+    text: Shared<Bytes>,
+    lines: Shared<Sequence<AuxItem>>,
+    ghost read: { lines ≡ aux_lines text },
+}
+
+impl AuxText {
+    /// Reads a text. The one error is out of memory.
+    fn read(alloc: Global, text: Shared<Bytes>) -> Result<AuxText, AllocError>
+        ensures { IfOk result (λ known. known.text ≡ text) }
+    {
+        let lines = Shared::new(alloc, read_aux(alloc, text.as_slice())?)?;
+        Ok(AuxText { text, lines })
+    }
+
+    /// The same for one more owner; no part of it is copied. The one error is that a part has no room for another owner.
+    fn share(&self) -> Result<AuxText, AllocError>
+        ensures { IfOk result (λ same. same.text ≡ self.now.text) }
+    {
+        Ok(AuxText {
+            text: self.text.share()?,
+            lines: self.lines.share()?,
+        })
+    }
+}
+
+/// The `.aux` texts that runs have read.
+#[derive(Debug, Drop)]
+pub struct AuxTexts {
+    known: Sequence<AuxText>,
+}
+
+impl AuxTexts {
+    /// None. It takes no memory.
+    pub fn new(alloc: Global) -> AuxTexts {
+        AuxTexts {
+            known: Sequence::new(alloc),
+        }
+    }
+
+    /// The same for one more owner; no text is copied. The one error is out of memory.
+    pub fn share(&self, alloc: Global) -> Result<AuxTexts, AllocError> {
+        let mut known = Sequence::new(alloc);
+        'texts: for text in self.known.as_slice() {
+            known.push(text.share()?)?;
+        }
+        Ok(AuxTexts { known })
+    }
+
+    /// A text as it was read, if it was.
+    fn find(&self, text: &[u8]) -> Option<&AuxText>
+        ensures { IfSome result (λ known. known.now.text ≡ text.now) }
+    {
+        self.known
+            .as_slice()
+            .iter()
+            .find(|known| known.text.as_slice() == text)
+    }
+
+    /// The counted lines of a text. It is read where it wasn't before. The one error is out of memory.
+    pub fn lines(
+        &mut self,
+        alloc: Global,
+        text: &Shared<Bytes>,
+    ) -> Result<Shared<Sequence<AuxItem>>, AllocError>
+        ensures { IfOk result (λ lines. lines ≡ aux_lines text.now) }
+    {
+        if let Some(known) = self.find(text.as_slice()) {
+            return known.lines.share();
+        }
+        let read = AuxText::read(alloc, text.share()?)?;
+        let lines = read.lines.share()?;
+        self.known.push(read)?;
+        Ok(lines)
+    }
+
+    /// Those that are still the text of one of these files. The one error is out of memory.
+    pub fn present(&self, alloc: Global, files: &[File]) -> Result<AuxTexts, AllocError> {
+        let mut known = Sequence::new(alloc);
+        'files: for file in files {
+            if let Some(text) = self.find(file.text.as_slice()) {
+                known.push(text.share()?)?;
+            }
+        }
+        Ok(AuxTexts { known })
+    }
+}

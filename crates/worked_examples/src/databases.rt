@@ -1,0 +1,238 @@
+//! What is read of some databases, and the faults.
+
+use bt_bib::{Closing, Content, Entry, Fault, Item, Items, Part, Piece, Spot, What, read_bib};
+use bt_text::{Bytes, Shared};
+use std::alloc::{AllocError, Global};
+use std::test::Fail;
+
+/// The last item, where the last piece is one.
+fn last_item(items: &Items) -> Option<&Item> {
+    match items.pieces().last() {
+        Some(Piece::Item(item)) => Some(item),
+        _ => None,
+    }
+}
+
+/// The fault of the last item, and where it stands.
+fn last_fault(alloc: Global, text: &[u8]) -> Result<Option<(Fault, Spot)>, AllocError> {
+    let items = read_bib(alloc, text)?;
+    match last_item(&items) {
+        Some(item) => Ok(item.fault.map(|fault| (fault, item.end))),
+        None => Ok(None),
+    }
+}
+
+/// The same of a text that begins with a line feed before these bytes.
+fn fault_below(alloc: Global, text: &[u8]) -> Result<Option<(Fault, Spot)>, AllocError> {
+    let mut below = Bytes::copied(alloc, b"\n")?;
+    below.append(text)?;
+    last_fault(alloc, below.as_slice())
+}
+
+/// The items of a text, without the comment words.
+fn item_count(alloc: Global, text: &[u8]) -> Result<usize, AllocError> {
+    let items = read_bib(alloc, text)?;
+    Ok(
+        items
+            .pieces()
+            .iter()
+            .filter(|piece| matches!(piece, Piece::Item(_)))
+            .count(),
+    )
+}
+
+fn entry(item: &Item) -> Option<&Entry> {
+    match &item.content {
+        Content::Entry(entry) => Some(entry),
+        _ => None,
+    }
+}
+
+/// The bytes of a text, none where there is no text.
+fn bytes_of(text: &Option<Shared<Bytes>>) -> &[u8] {
+    match text {
+        Some(text) => text.as_slice(),
+        None => &[],
+    }
+}
+
+/// The bytes of a part that is a text.
+fn text_of(part: &Part) -> Option<&[u8]> {
+    match part {
+        Part::Text(text) => Some(text.as_slice()),
+        Part::Macro(_, _) => None,
+    }
+}
+
+/// Some bytes, and behind them one byte so many times.
+fn repeated(alloc: Global, front: &[u8], byte: u8, count: usize) -> Result<Bytes, AllocError> {
+    let mut text = Bytes::copied(alloc, front)?;
+    for _ in 0..count {
+        text.append(&[byte])?;
+    }
+    Ok(text)
+}
+
+/// Texts with their fault and its place.
+const FAULTS: [(&[u8], Fault, usize); 20] = [
+    (b"@misc{a, t = ", Fault::EndOfFile, 13),
+    (b"@1{a}", Fault::MissingName(What::EntryType), 1),
+    (b"@misc\"", Fault::BadNameEnd(What::EntryType, b'"'), 5),
+    (b"@misc a", Fault::ExpectedOpen, 6),
+    (b"@misc{a b}", Fault::ExpectedCommaOrClose, 8),
+    (b"@misc{a, t {x}}", Fault::ExpectedEquals, 11),
+    (b"@misc{a, t = \"x}\"}", Fault::UnbalancedBraces, 15),
+    (b"@misc{a, t = }", Fault::MissingPart, 13),
+    (b"@", Fault::EndOfFile, 1),
+    (b"@misc{", Fault::EndOfFile, 6),
+    (b"@string", Fault::EndOfFile, 7),
+    (b"@comment,", Fault::BadNameEnd(What::EntryType, b','), 8),
+    (b"@string{1 = 2}", Fault::MissingName(What::StringName), 8),
+    (
+        b"@string{m' = 2}",
+        Fault::BadNameEnd(What::StringName, b'\''),
+        9,
+    ),
+    (b"@misc{a, 1 = 2}", Fault::MissingName(What::FieldName), 9),
+    (
+        b"@misc{a, b% = 2}",
+        Fault::BadNameEnd(What::FieldName, b'%'),
+        10,
+    ),
+    (
+        b"@misc(a, b = c})",
+        Fault::BadNameEnd(What::FieldPart, b'}'),
+        14,
+    ),
+    (b"@string{m = n,}", Fault::ExpectedCommaOrClose, 13),
+    (b"@preamble{n,}", Fault::ExpectedCommaOrClose, 11),
+    (b"@misc{a,b=\x0c1}", Fault::MissingPart, 10),
+];
+
+#[test]
+fn each_fault_stands_at_the_first_byte_that_fits_no_rule(rt: HostRuntime) -> Result<(), Fail> {
+    let alloc = rt.alloc();
+    for (text, fault, place) in &FAULTS {
+        let at = Spot {
+            place: *place,
+            line: 1,
+        };
+        assert_eq!(rt; last_fault(alloc, text)?, Some((*fault, at)));
+        let below = Spot {
+            place: place.saturating_add(1),
+            line: 2,
+        };
+        assert_eq!(rt; fault_below(alloc, text)?, Some((*fault, below)));
+    }
+    Ok(())
+}
+
+/// Texts without a fault, with the number of their items.
+const WELL_FORMED: [(&[u8], usize); 11] = [
+    (b"", 0),
+    (b"no item", 0),
+    (b"@comment", 0),
+    (b"@comment{@misc{a, title = {T}}}", 1),
+    (b"@misc{a}@misc{b}", 2),
+    (b"@misc{}", 1),
+    (b"@@misc{a}", 1),
+    (b" @ misc \n( a} , )", 1),
+    (b"@STRING{m = 1 # n # \"{\"}\" # {}}", 1),
+    (b"@Preamble(m)", 1),
+    (b"@misc{a\r, b = 1, c = d,}", 1),
+];
+
+#[test]
+fn well_formed_texts_have_no_fault(rt: HostRuntime) -> Result<(), Fail> {
+    let alloc = rt.alloc();
+    for (text, count) in &WELL_FORMED {
+        assert_eq!(rt; item_count(alloc, text)?, *count);
+        assert_eq!(rt; last_fault(alloc, text)?, None);
+    }
+    Ok(())
+}
+
+/// An entry with one whole field, and a fault in its second one.
+const FAULTY: &[u8] = b"@Misc(\nKey, title = \"x {\"} y\" # nix\n, b = 1 # )";
+
+#[test]
+fn an_item_has_its_span_and_line(rt: HostRuntime) -> Result<(), Fail> {
+    let items = read_bib(rt.alloc(), FAULTY)?;
+    let item = last_item(&items).ok_or("no item")?;
+    assert_eq!(rt; item.start, Spot::START);
+    assert_eq!(rt; item.end, Spot { place: 46, line: 3 });
+    assert_eq!(rt; item.line, 2);
+    assert_eq!(rt; item.close, Some(Closing::Parenthesis));
+    assert_eq!(rt; item.fault, Some(Fault::MissingPart));
+    Ok(())
+}
+
+#[test]
+fn type_and_key_stay_as_written(rt: HostRuntime) -> Result<(), Fail> {
+    let items = read_bib(rt.alloc(), FAULTY)?;
+    let item = last_item(&items).ok_or("no item")?;
+    let entry = entry(item).ok_or("no entry")?;
+    assert_eq!(rt; bytes_of(&entry.kind), b"Misc".as_slice());
+    assert_eq!(rt; bytes_of(&entry.key), b"Key".as_slice());
+    assert_eq!(rt; entry.fields.len(), 1);
+    Ok(())
+}
+
+#[test]
+fn fields_that_were_read_whole_stay(rt: HostRuntime) -> Result<(), Fail> {
+    let items = read_bib(rt.alloc(), FAULTY)?;
+    let item = last_item(&items).ok_or("no item")?;
+    let entry = entry(item).ok_or("no entry")?;
+    let field = entry.fields.as_slice().first().ok_or("no field")?;
+    assert_eq!(rt; field.name.as_slice(), b"title".as_slice());
+    assert_eq!(rt; field.line, 2);
+    let first = field.value.as_slice().first().ok_or("no part")?;
+    assert_eq!(rt; text_of(first), Some(b"x {\"} y".as_slice()));
+    let last = field.value.as_slice().last().ok_or("no part")?;
+    assert!(rt; matches!(last, Part::Macro(_, 2)));
+    Ok(())
+}
+
+#[test]
+fn each_beginning_is_read(rt: HostRuntime) -> Result<(), Fail> {
+    let alloc = rt.alloc();
+    let text = b"@misc{a, crossref = {P}}\n@misc{p, title = {T}}\n@misc{b, crossref = {p}}\n";
+    let spans = [(0, 24), (25, 46), (47, 71)];
+    for end in 0..=text.len() {
+        let fault = last_fault(alloc, &text[..end])?;
+        let inside = spans.iter().any(|span| span.0 < end && end < span.1);
+        if inside {
+            assert_eq!(rt; fault.map(|found| found.0), Some(Fault::EndOfFile));
+            assert_eq!(rt; fault.map(|found| found.1.place), Some(end));
+        } else {
+            assert_eq!(rt; fault, None);
+        }
+    }
+    Ok(())
+}
+
+#[test]
+fn reading_goes_on_at_the_next_sign_from_the_fault_on(rt: HostRuntime) -> Result<(), Fail> {
+    let alloc = rt.alloc();
+    assert_eq!(rt; item_count(alloc, b"@misc{a b}@misc{c}")?, 2);
+    assert_eq!(rt; item_count(alloc, b"@misc{a, b = 1 @misc{c}")?, 2);
+    assert_eq!(rt; item_count(alloc, b"@misc{a, b = \"}@misc{c}\"}")?, 2);
+    assert_eq!(rt; item_count(alloc, b"@misc @misc{c}")?, 2);
+    Ok(())
+}
+
+#[test]
+fn a_megabyte_of_left_braces_ends(rt: HostRuntime) -> Result<(), Fail> {
+    let alloc = rt.alloc();
+    let text = repeated(alloc, b"@misc{a, title = ", b'{', 1_048_559)?;
+    let end = Spot {
+        place: text.len(),
+        line: 1,
+    };
+    assert_eq!(rt; text.len(), 1_048_576);
+    assert_eq!(rt;
+        last_fault(alloc, text.as_slice())?,
+        Some((Fault::EndOfFile, end))
+    );
+    Ok(())
+}

@@ -1,0 +1,134 @@
+//! Names in patterns, on worked examples.
+
+use crate::lists_of_names::repeated;
+use bt_names::{FormatFault, Formatted, NameFault, format, format_within};
+use bt_text::Bytes;
+use std::alloc::Global;
+use std::test::Fail;
+
+#[test]
+fn formats_names(rt: HostRuntime) -> Result<(), Fail> {
+    for (name, pattern, want) in [
+        (
+            "Charles Louis Xavier Joseph de la Vall{\\'e}e Poussin",
+            "{vv~}{ll}{, jj}{, f.}",
+            "de~la Vall{\\'e}e~Poussin, C. L. X.~J.",
+        ),
+        ("Donald E. Knuth", "{ff~}{vv~}{ll}{, jj}", "Donald~E. Knuth"),
+        ("Jean-Paul Sartre", "{f.~}{ll}", "J.-P. Sartre"),
+        (
+            "von Beethoven, Ludwig",
+            "{vv~}{ll}, {f.}",
+            "von Beethoven, L.",
+        ),
+        (
+            "King, Jr, Martin Luther",
+            "{ll}{, jj}{, f.}",
+            "King, Jr, M.~L.",
+        ),
+        ("Donald Ervin Knuth", "{ff{/}}", "Donald/Ervin"),
+        ("de Aa", "{vv~}{ll}", "de~Aa"),
+        ("della Aa", "{vv~}{ll}", "della Aa"),
+        ("Della Aa", "{ff~~}{ll}", "Della~Aa"),
+        ("A B", "{fF}", "A"),
+        ("A B", "x{1~}{2~~}{345~}", "x1~2~345 "),
+        ("A B", "", ""),
+        ("X, {\\'E}a 1d 12", "{f{ }}", "{\\'E} d "),
+        ("Aa Bb Cc Dd", "{f{}}", "ABC"),
+    ] {
+        let text = format(rt.alloc(), name.as_bytes(), 1, pattern.as_bytes())?;
+        assert_eq!(rt; text.as_slice(), want.as_bytes(), "of {name} in {pattern}");
+    }
+    Ok(())
+}
+
+#[test]
+fn tells_the_first_fault(rt: HostRuntime) -> Result<(), Fail> {
+    for (names, n, pattern, want) in [
+        ("", 1, "}", FormatFault::NoSuchName),
+        ("A and B", 3, "{ll}", FormatFault::NoSuchName),
+        ("A and B", 0, "{ll}", FormatFault::NoSuchName),
+        ("A and B", -1, "{ll}", FormatFault::NoSuchName),
+        ("A, B, C, D and E", 3, "}", FormatFault::NoSuchName),
+        ("A, B, C, D", 1, "{ll}", FormatFault::TooManyCommas),
+        ("A, B, C, D", 1, "}", FormatFault::TooManyCommas),
+        ("A", 1, "{ff x}", FormatFault::PatternFault(4)),
+        ("A", 1, "{ff", FormatFault::PatternFault(3)),
+        ("A", 1, "}", FormatFault::PatternFault(0)),
+        ("A", 1, "{ll}a}{x}", FormatFault::PatternFault(5)),
+        ("A", 1, "{fff}", FormatFault::PatternFault(3)),
+        ("A", 1, "{\\bf f}", FormatFault::PatternFault(2)),
+    ] {
+        let told = format(rt.alloc(), names.as_bytes(), n, pattern.as_bytes()).err();
+        assert_eq!(rt; told, Some(want), "of {names} in {pattern}");
+        let told = format_within(rt.alloc(), names.as_bytes(), n, pattern.as_bytes(), 0).err();
+        assert_eq!(rt; told, Some(want), "of {names} in {pattern}, within a limit");
+    }
+    Ok(())
+}
+
+/// The formatted text, or `longer` in its place.
+fn within(alloc: Global, name: &[u8], pattern: &[u8], limit: usize) -> Result<Bytes, FormatFault> {
+    match format_within(alloc, name, 1, pattern, limit)? {
+        Formatted::Text(text) => Ok(text),
+        Formatted::Longer => Ok(Bytes::copied(alloc, b"longer")?),
+    }
+}
+
+#[test]
+fn keeps_to_the_limit(rt: HostRuntime) -> Result<(), Fail> {
+    for (name, pattern, limit, want) in [
+        ("Donald Ervin Knuth", "{ff{/}}", 11, "longer"),
+        ("Donald Ervin Knuth", "{ff{/}}", 12, "Donald/Ervin"),
+        ("Donald Ervin Knuth", "{ff{/}}", 13, "Donald/Ervin"),
+        ("Donald Ervin Knuth", "{ff}{ll}", 16, "longer"),
+        ("Donald Ervin Knuth", "{ff}{ll}", 17, "Donald~ErvinKnuth"),
+        ("Jean-Paul Sartre", "{f.~}{ll}", 11, "longer"),
+        ("Jean-Paul Sartre", "{f.~}{ll}", 12, "J.-P. Sartre"),
+        ("Al", "{ll~~}", 2, "longer"),
+        ("Al", "{ll~~}", 3, "Al~"),
+        ("Al", "{jj}abc", 2, "longer"),
+        ("Al", "{jj}abc", 3, "abc"),
+        ("Al", "", 0, ""),
+        ("Al", "{jj, }", 0, ""),
+    ] {
+        let told = within(rt.alloc(), name.as_bytes(), pattern.as_bytes(), limit)?;
+        assert_eq!(rt;
+            told.as_slice(),
+            want.as_bytes(),
+            "of {name} in {pattern} within {limit}"
+        );
+    }
+    Ok(())
+}
+
+#[test]
+fn stops_early(rt: HostRuntime) -> Result<(), Fail> {
+    let alloc = rt.alloc();
+    let name = repeated(alloc, b"Aa ", 20_000)?;
+    let pattern = repeated(alloc, b"{ff}{f.}", 8_000)?;
+    let told = within(alloc, name.as_slice(), pattern.as_slice(), 65_536)?;
+    assert_eq!(rt; told.as_slice(), b"longer".as_slice());
+    Ok(())
+}
+
+#[test]
+fn faults_show_the_name_of_their_case(rt: HostRuntime) -> Result<(), Fail> {
+    let alloc = rt.alloc();
+    for (fault, want) in [
+        (NameFault::NoSuchName, "NoSuchName"),
+        (NameFault::TooManyCommas, "TooManyCommas"),
+        (NameFault::OutOfMemory, "OutOfMemory"),
+    ] {
+        assert_eq!(rt; format!(in alloc; "{fault}")?.as_str(), want);
+    }
+    for (fault, want) in [
+        (FormatFault::NoSuchName, "NoSuchName"),
+        (FormatFault::TooManyCommas, "TooManyCommas"),
+        (FormatFault::PatternFault(4), "PatternFault"),
+        (FormatFault::OutOfMemory, "OutOfMemory"),
+    ] {
+        assert_eq!(rt; format!(in alloc; "{fault}")?.as_str(), want);
+    }
+    Ok(())
+}
