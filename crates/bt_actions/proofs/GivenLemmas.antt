@@ -9,7 +9,7 @@ use Rattle.bt_text.specs.Widths.{width_of}
 use Rattle.bt_names.specs.Listing.{names_of}
 use Rattle.bt_names.specs.declared.faults.FormatFault.{FormatFault}
 use Rattle.bt_names.specs.declared.faults.FormatFault.TheVariants as fault
-use Rattle.bt_actions.specs.Item.{Item, Num, Txt, Fun, Gap}
+use Rattle.bt_actions.specs.Item.{Item, Num, Txt}
 use Rattle.bt_actions.specs.Given.{Given, Gives, Errs, zero_item, empty_item, fits_number, number_given, truth}
 use Rattle.bt_actions.specs.Numbers.{greater_of, less_of, sum_of, difference_of, byte_number, ascii_text, digits_text}
 use Rattle.bt_actions.specs.Comparing.{equality_of, emptiness_of, missing_of}

@@ -1,16 +1,14 @@
 -- A formatted name that was cut off where it is too long for the stack.
-use Rattle.std.proofs.Common.{◌≡◌, ℕ, ℤ, Bool, true, false, List, [], length, Result, Ok, Err, refl, ap, sym, ◌∙◌}
+use Rattle.std.proofs.Common.{◌≡◌, ℕ, ℤ, Bool, true, false, List, length, Result, Ok, Err, refl, ap, sym, ◌∙◌}
 use Rattle.std.specs.Prelude.{nat_le, if◌then◌else◌}
 use Rattle.std.proofs.lemmas.Bool.{false≢true}
 use Rattle.bt_names.specs.declared.faults.FormatFault.{FormatFault}
-use Rattle.bt_names.specs.declared.faults.FormatFault.TheVariants as fault
 use Rattle.bt_names.specs.declared.calls.Formatted.{Formatted}
 use Rattle.bt_names.specs.declared.calls.Formatted.TheVariants.{Text, Longer}
 use Rattle.bt_names.specs.Calls.{cut_off, cut_off_text, formatted_name, formatted_within}
-use Rattle.bt_actions.specs.declared.complaint.Complaint.TheVariants.{TooManyCommas}
 use Rattle.bt_actions.specs.Item.{Txt}
 use Rattle.bt_actions.specs.World.{World, Act, Goes}
-use Rattle.bt_actions.specs.State.{pushed, pushed_in_error}
+use Rattle.bt_actions.specs.State.{pushed}
 use Rattle.bt_actions.specs.Given.{answered}
 use Rattle.bt_actions.specs.Names.{format_given, name_formatted, pushed_within}
 
@@ -38,7 +36,3 @@ of_result names n pattern (Err f) formatted w e = absurd (false≢true (ap is_th
 pub answered_within : (names : List ℕ) (n : ℤ) (pattern : List ℕ) (formatted : Formatted) (w : World) → formatted_within names n pattern 65536 ≡ Ok formatted → pushed_within formatted w ≡ answered (name_formatted (names, n, pattern)) w
 unfolding formatted_within
 answered_within names n pattern formatted w e = of_result names n pattern (formatted_name names n pattern) formatted w e
-
--- a name with too many commas is told of, and the empty text goes on the stack
-pub answered_commas : (names : List ℕ) (n : ℤ) (pattern : List ℕ) (m : ℤ) (bytes empty : List ℕ) (w : World) → m ≡ n → bytes ≡ names → empty ≡ [] → formatted_name names n pattern ≡ Err fault.TooManyCommas → pushed_in_error (TooManyCommas m bytes) (Txt empty) w ≡ answered (name_formatted (names, n, pattern)) w
-answered_commas names n pattern m bytes empty w is_number is_names is_empty is_fault = rw (is_number, is_names, is_empty, is_fault) refl

@@ -1,3 +1,5 @@
+pub mod ShortText
+pub mod StepVariables
 pub mod Item
 pub mod Words
 pub mod Tally

@@ -41,14 +41,14 @@ impl<'a> Argument<'a> for i32 {
     }
 }
 
-impl<'a> Argument<'a> for ShortText {
+impl<'a> Argument<'a> for ShortText<'a> {
     ghost Seen = { List ℕ };
 
     ghost kind = { text_of };
 
     ghost seen = { λ text. text };
 
-    fn of(value: Value<'a>) -> Option<ShortText> {
+    fn of(value: Value<'a>) -> Option<ShortText<'a>> {
         match value {
             Value::Text(text) => Some(text),
             _ => None,
@@ -57,14 +57,14 @@ impl<'a> Argument<'a> for ShortText {
 }
 
 /// A text, or a field that is missing.
-impl<'a> Argument<'a> for Option<ShortText> {
+impl<'a> Argument<'a> for Option<ShortText<'a>> {
     ghost Seen = { Option (List ℕ) };
 
     ghost kind = { field_text_of };
 
     ghost seen = { λ text. text };
 
-    fn of(value: Value<'a>) -> Option<Option<ShortText>> {
+    fn of(value: Value<'a>) -> Option<Option<ShortText<'a>>> {
         match value {
             Value::Text(text) => Some(Some(text)),
             Value::Missing(_) => Some(None),

@@ -1,6 +1,6 @@
 //! How variables get values.
 
-ghost use Rattle.std.specs.Prelude.{◌≡◌, IfOk, OnOk, slice_set};
+ghost use Rattle.std.specs.Prelude.{◌≡◌, IfOk, OnOk};
 ghost use Rattle.bt_actions.specs.World.{say};
 ghost use Rattle.bt_actions.specs.Actions.{goes_with};
 ghost use Rattle.bt_actions.specs.Arguments.{any_of, target_of, taken_two};
@@ -11,30 +11,10 @@ ghost use Rattle.bt_style.specs.declared.style.Target.TheVariants as target;
 
 use crate::arguments::take_two;
 use crate::complaint::Complaint;
-use crate::entry::Variables;
 use crate::state::{Flow, State};
 use crate::value::Value;
 use bt_style::{Builtin, Target};
-use bt_text::{Bytes, Shared};
 use std::alloc::{AllocError, Global};
-
-/// Gives the number variable at a place a value, if there is one.
-fn put_number(variables: &mut Variables, n: usize, number: i32)
-    ensures { variables.new ≡ record variables.old { numbers = slice_set variables.old.numbers n number } }
-{
-    if n < variables.numbers.len() {
-        variables.numbers.set(n, number);
-    }
-}
-
-/// Gives the text variable at a place a value, if there is one.
-fn put_text(variables: &mut Variables, n: usize, text: Shared<Bytes>)
-    ensures { variables.new ≡ record variables.old { texts = slice_set variables.old.texts n text } }
-{
-    if n < variables.texts.len() {
-        variables.texts.set(n, text);
-    }
-}
 
 /// What a value of another kind than its variable's is told as.
 fn tell_wrong_kind(state: &mut State) -> Result<(), AllocError>
@@ -46,14 +26,19 @@ fn tell_wrong_kind(state: &mut State) -> Result<(), AllocError>
 }
 
 /// Gives a number variable of the style a value.
-fn assign_global_number(state: &mut State, n: usize, value: Value) -> Result<(), AllocError>
+fn assign_global_number(
+    state: &mut State,
+    alloc: Global,
+    n: usize,
+    value: Value,
+) -> Result<(), AllocError>
     ensures world { OnOk result (world_of state.new
         ≡ assigned (item_of value.entry, target.GlobalNumber n) (world_of state.old)) }
     ensures tally { state.new.tally ≡ state.old.tally }
 {
     match value {
         Value::Number(number) => {
-            put_number(&mut state.globals, n, number);
+            state.globals.set_number(alloc, n, number)?;
             Ok(())
         }
         _ => tell_wrong_kind(state),
@@ -73,8 +58,8 @@ fn assign_global_text(
 {
     match value {
         Value::Text(text) => {
-            let text = Shared::new(alloc, text.into_bytes())?;
-            put_text(&mut state.globals, n, text);
+            let text = text.into_shared(alloc)?;
+            state.globals.set_text(alloc, n, text)?;
             Ok(())
         }
         _ => tell_wrong_kind(state),
@@ -82,7 +67,12 @@ fn assign_global_text(
 }
 
 /// Gives a number variable of the step's entry a value.
-fn assign_entry_number(state: &mut State, n: usize, value: Value) -> Result<(), AllocError>
+fn assign_entry_number(
+    state: &mut State,
+    alloc: Global,
+    n: usize,
+    value: Value,
+) -> Result<(), AllocError>
     ensures world { OnOk result (world_of state.new
         ≡ assigned (item_of value.entry, target.EntryNumber n) (world_of state.old)) }
     ensures tally { state.new.tally ≡ state.old.tally }
@@ -91,7 +81,7 @@ fn assign_entry_number(state: &mut State, n: usize, value: Value) -> Result<(), 
         None => state.tell(Complaint::NoEntry),
         Some(current) => match value {
             Value::Number(number) => {
-                put_number(&mut current.variables, n, number);
+                current.variables.set_number(alloc, n, number)?;
                 Ok(())
             }
             _ => tell_wrong_kind(state),
@@ -114,8 +104,8 @@ fn assign_entry_text(
         None => state.tell(Complaint::NoEntry),
         Some(current) => match value {
             Value::Text(text) => {
-                let text = Shared::new(alloc, text.into_bytes())?;
-                put_text(&mut current.variables, n, text);
+                let text = text.into_shared(alloc)?;
+                current.variables.set_text(alloc, n, text)?;
                 Ok(())
             }
             _ => tell_wrong_kind(state),
@@ -134,9 +124,9 @@ fn assign_to(
     ensures tally { state.new.tally ≡ state.old.tally }
 {
     match target {
-        Target::EntryNumber(n) => assign_entry_number(state, n, value),
+        Target::EntryNumber(n) => assign_entry_number(state, alloc, n, value),
         Target::EntryText(n) => assign_entry_text(state, alloc, n, value),
-        Target::GlobalNumber(n) => assign_global_number(state, n, value),
+        Target::GlobalNumber(n) => assign_global_number(state, alloc, n, value),
         Target::GlobalText(n) => assign_global_text(state, alloc, n, value),
         Target::Builtin(_) | Target::Field(_) | Target::Function(_) => {
             state.tell(Complaint::NotVariable)

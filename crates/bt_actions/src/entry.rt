@@ -1,13 +1,43 @@
 //! The entries that a style works on, with their variables.
 
-use bt_text::{Bytes, Sequence, Shared};
-use std::alloc::AllocError;
+ghost use Rattle.std.specs.Prelude.{◌≡◌, IfOk};
+
+use bt_text::{Bytes, Sequence, Shared, SparseTexts};
+use std::alloc::{AllocError, Global};
 
 /// The values of variables: the numbers and the texts, each by the number of its variable.
 #[derive(Debug, Drop)]
 pub struct Variables {
     pub numbers: Sequence<i32>,
     pub texts: Sequence<Shared<Bytes>>,
+}
+
+/// The same texts for one more owner; none of them is copied. The one error is out of memory.
+pub fn share_texts(
+    alloc: Global,
+    texts: &[Shared<Bytes>],
+) -> Result<Sequence<Shared<Bytes>>, AllocError>
+    ensures { IfOk result (λ same. same ≡ texts.now) }
+{
+    let mut same = Vec::with_capacity(alloc, texts.len())?;
+    'texts: for text in texts {
+        same.push(text.share()?)?;
+    }
+    Ok(Sequence::from_vec(same))
+}
+
+impl Variables {
+    ghost use Rattle.std.specs.Prelude.{◌≡◌, IfOk};
+
+    /// The same variables, which can be changed, with the same texts. The one error is out of memory.
+    pub fn copy(&self, alloc: Global) -> Result<Variables, AllocError>
+        ensures { IfOk result (λ copy. copy ≡ self.now) }
+    {
+        Ok(Variables {
+            numbers: Sequence::from_vec(Vec::from_slice(alloc, self.numbers.as_slice())?),
+            texts: share_texts(alloc, self.texts.as_slice())?,
+        })
+    }
 }
 
 /// An entry of the list.
@@ -19,7 +49,7 @@ pub struct Entry {
     /// The function of its type, if it has one.
     pub function: Option<usize>,
     /// Its fields, each by its number, where one that is missing has no text.
-    pub fields: Shared<Sequence<Option<Shared<Bytes>>>>,
+    pub fields: Shared<SparseTexts>,
     pub variables: Shared<Variables>,
 }
 

@@ -14,6 +14,7 @@ mod reading;
 mod short_text;
 mod stacking;
 mod state;
+mod step_variables;
 mod tally;
 mod texts;
 mod value;
@@ -22,12 +23,13 @@ mod writing;
 pub use actions::call_basic;
 pub use arguments::{take_choice, take_number, take_two_codes};
 pub use complaint::Complaint;
-pub use entry::{Entry, Variables};
+pub use entry::{Entry, Variables, share_texts};
 pub use reading::{
     call_entry_number, call_entry_text, call_field, call_global_number, call_global_text,
 };
-pub use short_text::ShortText;
+pub use short_text::{ShortText, Text};
 pub use state::{Current, Flow, STACK_LIMIT, State};
+pub use step_variables::StepVariables;
 pub use tally::{TICK_LIMIT, Tally};
 pub use value::{Code, Value};
 

@@ -1,7 +1,7 @@
 //! The limits of the stack, of texts and of the held line.
 
 use crate::test_states::{call, state};
-use crate::{Flow, State, Value};
+use crate::{Flow, State, Text, Value};
 use bt_log::Message;
 use bt_style::Builtin;
 use bt_text::{Bytes, Sequence};
@@ -67,8 +67,8 @@ fn call_over_texts(
     lower: usize,
     upper: usize,
 ) -> Result<Flow, AllocError> {
-    state.push_text(letters(alloc, lower)?)?;
-    state.push_text(letters(alloc, upper)?)?;
+    state.push_text(Text::Own(letters(alloc, lower)?))?;
+    state.push_text(Text::Own(letters(alloc, upper)?))?;
     call(state, alloc, builtin)
 }
 
@@ -106,7 +106,7 @@ fn texts_have_a_limit(rt: HostRuntime) -> Result<(), Fail> {
 /// Writes a letter behind so many held ones.
 fn write_behind(state: &mut State, alloc: Global, held: usize) -> Result<Flow, AllocError> {
     state.write(alloc, letters(alloc, held)?.as_slice())?;
-    state.push_text(letters(alloc, 1)?)?;
+    state.push_text(Text::Own(letters(alloc, 1)?))?;
     call(state, alloc, Builtin::Write)
 }
 

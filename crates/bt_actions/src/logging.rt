@@ -89,7 +89,7 @@ fn shown(alloc: Global, style: &Style, value: Value) -> Result<Bytes, AllocError
 {
     match value {
         Value::Number(number) => decimal(alloc, number),
-        Value::Text(text) => Ok(text.into_bytes()),
+        Value::Text(text) => text.into_bytes(alloc),
         Value::Code(code) => shown_code(alloc, style, code),
         Value::Missing(field) => shown_gap(alloc, style, field),
     }
@@ -135,22 +135,23 @@ pub fn all(state: &mut State, alloc: Global, style: &Style) -> Result<Flow, Allo
 }
 
 /// Logs a warning.
-fn log_warning(state: &mut State, text: ShortText) -> Result<Flow, AllocError>
-    ensures world { IfOk result (Acts (λ world. Goes (log_warning text world)) state.old state.new) }
+fn log_warning(state: &mut State, alloc: Global, text: ShortText) -> Result<Flow, AllocError>
+    ensures world { IfOk result (Acts (λ world. Goes (log_warning text.entry world)) state.old state.new) }
     ensures tally { state.new.tally ≡ state.old.tally }
 {
-    state.tell(Complaint::Warned(text.into_bytes()))?;
+    let words = text.into_bytes(alloc)?;
+    state.tell(Complaint::Warned(words))?;
     Ok(Flow::Go)
 }
 
 /// `warning$`.
-pub fn warning(state: &mut State) -> Result<Flow, AllocError>
+pub fn warning(state: &mut State, alloc: Global) -> Result<Flow, AllocError>
     ensures world { IfOk result (Acts (λ world.
         goes_with log_warning (taken builtin.Warning text_of world)) state.old state.new) }
     ensures tally { state.new.tally ≡ state.old.tally }
 {
     match take::<ShortText>(state, Builtin::Warning)? {
         None => Ok(Flow::Go),
-        Some(text) => log_warning(state, text),
+        Some(text) => log_warning(state, alloc, text),
     }
 }

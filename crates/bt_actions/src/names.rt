@@ -9,12 +9,12 @@ ghost use Rattle.bt_style.specs.declared.builtin.Builtin.TheVariants as builtin;
 
 use crate::arguments::{take, take_three};
 use crate::complaint::Complaint;
-use crate::short_text::ShortText;
+use crate::short_text::{ShortText, Text};
 use crate::state::{Flow, State};
 use crate::texts::push_count;
 use bt_names::{FormatFault, Formatted, count, format_within};
 use bt_style::Builtin;
-use bt_text::{Bytes, TEXT_BYTES};
+use bt_text::TEXT_BYTES;
 use std::alloc::{AllocError, Global};
 
 /// `num.names$`.
@@ -35,7 +35,7 @@ fn push_within(state: &mut State, formatted: Formatted) -> Result<Flow, AllocErr
     ensures tally { state.new.tally ≡ state.old.tally }
 {
     match formatted {
-        Formatted::Text(text) => state.push_text(text),
+        Formatted::Text(text) => state.push_text(Text::Own(text)),
         Formatted::Longer => state.pass_text_limit(),
     }
 }
@@ -48,7 +48,7 @@ fn push_formatted(
     number: i32,
     pattern: ShortText,
 ) -> Result<Flow, AllocError>
-    ensures world { IfOk result (Acts (answered (name_formatted (names, number, pattern))) state.old state.new) }
+    ensures world { IfOk result (Acts (answered (name_formatted (names.entry, number, pattern.entry))) state.old state.new) }
     ensures tally { state.new.tally ≡ state.old.tally }
 {
     match format_within(
@@ -60,16 +60,16 @@ fn push_formatted(
     ) {
         Ok(formatted) => push_within(state, formatted),
         Err(FormatFault::NoSuchName) => {
-            let complaint = Complaint::NoSuchName(number, names.into_bytes());
-            state.push_text_in_error(complaint, Bytes::new(alloc))
+            let complaint = Complaint::NoSuchName(number, names.into_bytes(alloc)?);
+            state.push_text_in_error(complaint, Text::Lent(b""))
         }
         Err(FormatFault::TooManyCommas) => {
-            let complaint = Complaint::TooManyCommas(number, names.into_bytes());
-            state.push_text_in_error(complaint, Bytes::new(alloc))
+            let listed = names.into_bytes(alloc)?;
+            state.push_text_in_error(Complaint::TooManyCommas(number, listed), Text::Lent(b""))
         }
         Err(FormatFault::PatternFault(place)) => {
-            let complaint = Complaint::PatternFault(pattern.into_bytes(), place);
-            state.push_text_in_error(complaint, Bytes::new(alloc))
+            let complaint = Complaint::PatternFault(pattern.into_bytes(alloc)?, place);
+            state.push_text_in_error(complaint, Text::Lent(b""))
         }
         Err(FormatFault::OutOfMemory) => Err(AllocError),
     }
@@ -83,7 +83,7 @@ pub fn format_name(state: &mut State, alloc: Global) -> Result<Flow, AllocError>
     ensures tally { state.new.tally ≡ state.old.tally }
 {
     match take_three::<ShortText, i32, ShortText>(state, Builtin::FormatName)? {
-        None => state.push_text(Bytes::new(alloc)),
+        None => state.push_text(Text::Lent(b"")),
         Some((names, number, pattern)) => push_formatted(state, alloc, names, number, pattern),
     }
 }

@@ -10,7 +10,7 @@ ghost use Rattle.bt_style.specs.declared.builtin.Builtin.TheVariants as builtin;
 
 use crate::arguments::{take, take_two};
 use crate::complaint::{Complaint, decimal};
-use crate::short_text::ShortText;
+use crate::short_text::{ShortText, Text};
 use crate::state::{Flow, State};
 use bt_style::Builtin;
 use bt_text::Bytes;
@@ -104,9 +104,9 @@ fn push_ascii(state: &mut State, alloc: Global, number: i32) -> Result<Flow, All
 {
     if 0 <= number && number < 128 {
         let text = Bytes::copied(alloc, &[number as u8])?;
-        state.push_text(text)
+        state.push_text(Text::Own(text))
     } else {
-        state.push_text_in_error(Complaint::NotAscii(number), Bytes::new(alloc))
+        state.push_text_in_error(Complaint::NotAscii(number), Text::Lent(b""))
     }
 }
 
@@ -117,7 +117,7 @@ pub fn int_to_chr(state: &mut State, alloc: Global) -> Result<Flow, AllocError>
     ensures tally { state.new.tally ≡ state.old.tally }
 {
     match take::<i32>(state, Builtin::IntToChr)? {
-        None => state.push_text(Bytes::new(alloc)),
+        None => state.push_text(Text::Lent(b"")),
         Some(number) => push_ascii(state, alloc, number),
     }
 }
@@ -129,10 +129,10 @@ pub fn int_to_str(state: &mut State, alloc: Global) -> Result<Flow, AllocError>
     ensures tally { state.new.tally ≡ state.old.tally }
 {
     match take::<i32>(state, Builtin::IntToStr)? {
-        None => state.push_text(Bytes::new(alloc)),
+        None => state.push_text(Text::Lent(b"")),
         Some(number) => {
             let digits = decimal(alloc, number)?;
-            state.push_text(digits)
+            state.push_text(Text::Own(digits))
         }
     }
 }

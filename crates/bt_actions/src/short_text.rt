@@ -1,47 +1,99 @@
 //! The texts that the literal stack takes.
 
-use bt_text::{Bytes, TEXT_BYTES};
+ghost use Rattle.std.specs.Prelude.{◌≡◌, ◌++◌, IfOk};
+ghost use Rattle.bt_actions.specs.ShortText.{bytes_of};
+
+use bt_text::{Bytes, Shared, TEXT_BYTES};
 use std::alloc::{AllocError, Global};
 use std::marker::Model;
 
-/// A text of at most 65,536 bytes.
+/// The bytes of a text, and who has them.
 #[derive(Drop)]
-pub struct ShortText {
-    bytes: Bytes,
+pub enum Text<'a> {
+    /// The style or the step's input has them.
+    Lent(&'a [u8]),
+    /// The step's input has them, and they can be shared.
+    Given(&'a Shared<Bytes>),
+    /// Variables and other values have them too.
+    Shared(Shared<Bytes>),
+    /// The text alone has them, and more can be appended.
+    Own(Bytes),
 }
 
-impl Model for ShortText {
+impl<'a> Text<'a> {
+    ghost use Rattle.std.specs.Prelude.{◌≡◌, IfOk};
+    ghost use Rattle.bt_actions.specs.ShortText.{bytes_of};
+
+    /// The bytes.
+    fn as_slice(&self) -> &[u8]
+        ensures { result.now ≡ bytes_of self.now }
+    {
+        match self {
+            Text::Lent(bytes) => bytes,
+            Text::Given(bytes) => bytes.as_slice(),
+            Text::Shared(bytes) => bytes.as_slice(),
+            Text::Own(bytes) => bytes.as_slice(),
+        }
+    }
+
+    /// The text twice, both with the same bytes. The one error is out of memory.
+    fn twice(self, alloc: Global) -> Result<(Text<'a>, Text<'a>), AllocError>
+        ensures first { IfOk result (λ both. bytes_of both.0 ≡ bytes_of self.entry) }
+        ensures second { IfOk result (λ both. bytes_of both.1 ≡ bytes_of self.entry) }
+    {
+        match self {
+            Text::Lent(bytes) => Ok((Text::Lent(bytes), Text::Lent(bytes))),
+            Text::Given(bytes) => Ok((Text::Given(bytes), Text::Given(bytes))),
+            Text::Shared(bytes) => Ok((Text::Shared(bytes.share()?), Text::Shared(bytes))),
+            Text::Own(bytes) => {
+                let bytes = Shared::new(alloc, bytes)?;
+                Ok((Text::Shared(bytes.share()?), Text::Shared(bytes)))
+            }
+        }
+    }
+}
+
+/// Both pieces in one text of its own.
+fn copied_with<'a>(alloc: Global, front: &[u8], back: &[u8]) -> Result<Text<'a>, AllocError>
+    ensures { IfOk result (λ text. bytes_of text ≡ front.now ++ back.now) }
+{
+    let mut bytes = Vec::with_capacity(alloc, front.len().saturating_add(back.len()))?;
+    bytes.extend_from_slice(front)?;
+    bytes.extend_from_slice(back)?;
+    Ok(Text::Own(Bytes::from_vec(bytes)))
+}
+
+/// A text of at most 65,536 bytes. Contracts see its bytes, and not who has them.
+#[derive(Drop)]
+pub struct ShortText<'a> {
+    text: Text<'a>,
+}
+
+impl<'a> Model for ShortText<'a> {
     ghost use Rattle.std.specs.Prelude.{◌≤◌, length, List, ℕ};
 
     ghost Value = { List ℕ };
 
-    ghost view = { λ text. text.bytes };
+    ghost use Rattle.bt_actions.specs.ShortText.{bytes_of};
 
-    ghost invariant = { λ text. length text.bytes ≤ 65536 };
+    ghost view = { λ t. bytes_of t.text };
+
+    ghost invariant = { λ t. length (bytes_of t.text) ≤ 65536 };
 }
 
-impl ShortText {
-    ghost use Rattle.std.specs.Prelude.{◌≡◌, ◌≤◌, length, IfOk, Some, None, nat_le, if◌then◌else◌};
+impl<'a> ShortText<'a> {
+    ghost use Rattle.std.specs.Prelude.{◌≡◌, ◌≤◌, ◌++◌, length, IfOk, Some, None, nat_le, if◌then◌else◌};
+    ghost use Rattle.bt_actions.specs.ShortText.{bytes_of};
 
     /// The text of these bytes, or none where they are too many.
-    pub fn within(bytes: Bytes) -> Option<ShortText>
-        ensures { result ≡ (if nat_le (length bytes) 65536 then Some bytes else None) }
+    pub fn within(text: Text<'a>) -> Option<ShortText<'a>>
+        ensures { result ≡ (if nat_le (length (bytes_of text.entry)) 65536 then Some (bytes_of text.entry) else None) }
     {
-        if bytes.len() <= TEXT_BYTES {
-            Some(ShortText { bytes })
+        if text.as_slice().len() <= TEXT_BYTES {
+            Some(ShortText { text })
         } else {
             None
         }
-    }
-
-    /// The same text again. The one error is want of memory.
-    pub fn copy(&self, alloc: Global) -> Result<ShortText, AllocError>
-        ensures value { IfOk result (λ text. text ≡ self.now) }
-        ensures short { length self.now ≤ 65536 }
-    {
-        Ok(ShortText {
-            bytes: Bytes::copied(alloc, self.bytes.as_slice())?,
-        })
     }
 
     /// Its bytes.
@@ -49,14 +101,73 @@ impl ShortText {
         ensures value { result.now ≡ self.now }
         ensures short { length self.now ≤ 65536 }
     {
-        self.bytes.as_slice()
+        self.text.as_slice()
     }
 
-    /// Its bytes, which can be appended to.
-    pub fn into_bytes(self) -> Bytes
-        ensures { result ≡ self }
+    /// The text twice, both with the same bytes. The one error is out of memory.
+    pub fn twice(self, alloc: Global) -> Result<(ShortText<'a>, ShortText<'a>), AllocError>
+        ensures first { IfOk result (λ both. both.0 ≡ self.entry) }
+        ensures second { IfOk result (λ both. both.1 ≡ self.entry) }
+        ensures short { length self.entry ≤ 65536 }
     {
-        let ShortText { bytes } = self;
-        bytes
+        let ShortText { text } = self;
+        let (first, second) = text.twice(alloc)?;
+        Ok((ShortText { text: first }, ShortText { text: second }))
+    }
+
+    /// The text with another one after it, which may be too long. Bytes that this text alone has are not copied, nor those
+    /// of either where the other one is empty. The one error is out of memory.
+    pub fn joined(self, alloc: Global, upper: ShortText<'a>) -> Result<Text<'a>, AllocError>
+        ensures { IfOk result (λ text. bytes_of text ≡ self.entry ++ upper.entry) }
+    {
+        if upper.as_slice().is_empty() {
+            return Ok(self.into_text());
+        }
+        let ShortText { text } = self;
+        match text {
+            Text::Lent([]) => Ok(upper.into_text()),
+            Text::Lent(bytes) => copied_with(alloc, bytes, upper.as_slice()),
+            Text::Given(bytes) => copied_with(alloc, bytes.as_slice(), upper.as_slice()),
+            Text::Shared(bytes) => copied_with(alloc, bytes.as_slice(), upper.as_slice()),
+            Text::Own(mut bytes) => {
+                bytes.append(upper.as_slice())?;
+                Ok(Text::Own(bytes))
+            }
+        }
+    }
+
+    /// The text, which nothing is known of but its bytes.
+    pub fn into_text(self) -> Text<'a>
+        ensures { bytes_of result ≡ self.entry }
+    {
+        let ShortText { text } = self;
+        text
+    }
+
+    /// Its bytes for one owner. Those that it alone has are not copied. The one error is out of memory.
+    pub fn into_bytes(self, alloc: Global) -> Result<Bytes, AllocError>
+        ensures { IfOk result (λ bytes. bytes ≡ self.entry) }
+    {
+        let ShortText { text } = self;
+        match text {
+            Text::Lent(bytes) => Bytes::copied(alloc, bytes),
+            Text::Given(bytes) => Bytes::copied(alloc, bytes.as_slice()),
+            Text::Shared(bytes) => Bytes::copied(alloc, bytes.as_slice()),
+            Text::Own(bytes) => Ok(bytes),
+        }
+    }
+
+    /// Its bytes for many owners. They are copied where they are lent by one that can't share them. The one error is
+    /// out of memory.
+    pub fn into_shared(self, alloc: Global) -> Result<Shared<Bytes>, AllocError>
+        ensures { IfOk result (λ bytes. bytes ≡ self.entry) }
+    {
+        let ShortText { text } = self;
+        match text {
+            Text::Lent(bytes) => Shared::<Bytes>::copied(alloc, bytes),
+            Text::Given(bytes) => bytes.share(),
+            Text::Shared(bytes) => Ok(bytes),
+            Text::Own(bytes) => Shared::new(alloc, bytes),
+        }
     }
 }

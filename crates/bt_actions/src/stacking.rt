@@ -15,14 +15,15 @@ pub fn duplicate(state: &mut State, alloc: Global) -> Result<Flow, AllocError>
     ensures world { IfOk result (Acts (λ world. duplicated world.stack world) state.old state.new) }
     ensures tally { state.new.tally ≡ state.old.tally }
 {
-    match state.stack.last() {
+    match state.stack.pop() {
         None => {
             state.tell(Complaint::EmptyStack)?;
             Ok(Flow::Go)
         }
         Some(value) => {
-            let copy = value.copy(alloc)?;
-            state.push(copy)
+            let (lower, upper) = value.twice(alloc)?;
+            state.stack.push(lower)?;
+            state.push(upper)
         }
     }
 }

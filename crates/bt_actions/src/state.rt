@@ -1,8 +1,9 @@
 //! What a step works on.
 
 use crate::complaint::{self, Complaint};
-use crate::entry::{Entry, Variables};
-use crate::short_text::ShortText;
+use crate::entry::Entry;
+use crate::short_text::{ShortText, Text};
+use crate::step_variables::StepVariables;
 use crate::tally::Tally;
 use crate::value::Value;
 use bt_log::Message;
@@ -20,18 +21,18 @@ pub enum Flow {
 /// How many values the stack may hold.
 pub const STACK_LIMIT: usize = 1_000;
 
-/// The entry of a step, with variables of the step's own.
+/// The entry of a step, with its variables as they are now.
 #[derive(Drop)]
 pub struct Current<'a> {
     pub entry: &'a Entry,
-    pub variables: Variables,
+    pub variables: StepVariables<'a>,
 }
 
 /// A step's own part of the world.
 #[derive(Drop)]
 pub struct State<'a> {
     pub current: Option<Current<'a>>,
-    pub globals: Variables,
+    pub globals: StepVariables<'a>,
     pub preamble: &'a [u8],
     pub held: Held,
     pub lines: Sequence<Bytes>,
@@ -48,6 +49,7 @@ impl<'a> State<'a> {
     ghost use Rattle.bt_actions.specs.State.{popped, pushed, pushed_in_error, told_with_room, limit_passed, appended, ended, text_len};
     ghost use Rattle.bt_actions.specs.Arguments.{judged};
     ghost use Rattle.bt_actions.specs.Given.{zero_item, truth};
+    ghost use Rattle.bt_actions.specs.ShortText.{bytes_of};
     ghost use Rattle.bt_actions.specs.View.{world_of, item_of, Acts};
 
     /// Adds a complaint.
@@ -113,8 +115,8 @@ impl<'a> State<'a> {
     }
 
     /// Puts a text on the stack, unless that would pass a limit.
-    pub fn push_text(&mut self, text: Bytes) -> Result<Flow, AllocError>
-        ensures world { IfOk result (Acts (pushed (Txt text)) self.old self.new) }
+    pub fn push_text(&mut self, text: Text<'a>) -> Result<Flow, AllocError>
+        ensures world { IfOk result (Acts (pushed (Txt (bytes_of text.entry))) self.old self.new) }
         ensures tally { self.new.tally ≡ self.old.tally }
     {
         match ShortText::within(text) {
@@ -176,9 +178,10 @@ impl<'a> State<'a> {
     pub fn push_text_in_error(
         &mut self,
         complaint: Complaint,
-        text: Bytes,
+        text: Text<'a>,
     ) -> Result<Flow, AllocError>
-        ensures world { IfOk result (Acts (pushed_in_error complaint (Txt text)) self.old self.new) }
+        ensures world { IfOk result
+            (Acts (pushed_in_error complaint (Txt (bytes_of text.entry))) self.old self.new) }
         ensures tally { self.new.tally ≡ self.old.tally }
     {
         self.tell_unless_full(complaint)?;

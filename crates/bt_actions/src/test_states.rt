@@ -1,10 +1,13 @@
 //! States that tests begin with, spelled in words, and what is left of them.
 
 use crate::complaint::decimal;
-use crate::{Code, Current, Entry, Flow, ShortText, State, Tally, Value, Variables, call_basic};
+use crate::{
+    Code, Current, Entry, Flow, ShortText, State, StepVariables, Tally, Text, Value, Variables,
+    call_basic,
+};
 use bt_log::{Message, Rank};
 use bt_style::{Builtin, Function, Style, Target};
-use bt_text::{Bytes, Held, Sequence, Shared};
+use bt_text::{Bytes, Held, Sequence, Shared, SparseTexts};
 use std::alloc::{AllocError, Global};
 use std::test::Fail;
 
@@ -49,7 +52,8 @@ fn value<'a>(alloc: Global, word: &[u8]) -> Result<Value<'a>, Fail> {
                     *byte = b' ';
                 }
             }
-            Value::Text(ShortText::within(Bytes::from_vec(bytes)).ok_or("a long text")?)
+            let text = Text::Own(Bytes::from_vec(bytes));
+            Value::Text(ShortText::within(text).ok_or("a long text")?)
         }
         [b'\'', letter, ..] => Value::Code(Code::Name(target(*letter))),
         [b'?', ..] => Value::Missing(1),
@@ -105,9 +109,8 @@ fn style(alloc: Global) -> Result<Style, AllocError> {
 
 /// The entry `b`, a book with a title and without a cross reference.
 pub fn entry(alloc: Global, function: Option<usize>) -> Result<Entry, AllocError> {
-    let mut fields = Sequence::new(alloc);
-    fields.push(None)?;
-    fields.push(Some(Shared::<Bytes>::copied(alloc, b"B title")?))?;
+    let mut fields = SparseTexts::new(alloc, 2);
+    fields.set(1, Some(Shared::<Bytes>::copied(alloc, b"B title")?))?;
     Ok(Entry {
         key: Shared::<Bytes>::copied(alloc, b"b")?,
         kind: Shared::<Bytes>::copied(alloc, b"book")?,
@@ -127,12 +130,12 @@ pub fn state<'a>(
         None => None,
         Some(entry) => Some(Current {
             entry,
-            variables: variables(alloc, 7, "label")?,
+            variables: StepVariables::given(&entry.variables),
         }),
     };
     Ok(State {
         current,
-        globals: variables(alloc, 8, "all")?,
+        globals: StepVariables::own(variables(alloc, 8, "all")?),
         preamble: b"pre",
         held: Held::new(alloc),
         lines: Sequence::new(alloc),

@@ -11,12 +11,10 @@ ghost use Rattle.bt_style.specs.declared.builtin.Builtin.TheVariants as builtin;
 
 use crate::arguments::{take, take_three, take_two};
 use crate::complaint::Complaint;
-use crate::short_text::ShortText;
+use crate::short_text::{ShortText, Text};
 use crate::state::{Flow, State};
 use bt_style::Builtin;
-use bt_text::{
-    Bytes, Mode, add_period, change_case, purify, substring, text_length, text_prefix, width,
-};
+use bt_text::{Mode, add_period, change_case, purify, substring, text_length, text_prefix, width};
 use std::alloc::{AllocError, Global};
 
 /// `*`.
@@ -26,10 +24,9 @@ pub fn join(state: &mut State, alloc: Global) -> Result<Flow, AllocError>
     ensures tally { state.new.tally ≡ state.old.tally }
 {
     match take_two::<ShortText, ShortText>(state, Builtin::Join)? {
-        None => state.push_text(Bytes::new(alloc)),
+        None => state.push_text(Text::Lent(b"")),
         Some((lower, upper)) => {
-            let mut text = lower.into_bytes();
-            text.append(upper.as_slice())?;
+            let text = lower.joined(alloc, upper)?;
             state.push_text(text)
         }
     }
@@ -42,10 +39,10 @@ pub fn end_with_period(state: &mut State, alloc: Global) -> Result<Flow, AllocEr
     ensures tally { state.new.tally ≡ state.old.tally }
 {
     match take::<ShortText>(state, Builtin::AddPeriod)? {
-        None => state.push_text(Bytes::new(alloc)),
+        None => state.push_text(Text::Lent(b"")),
         Some(text) => {
             let ended = add_period(alloc, text.as_slice())?;
-            state.push_text(ended)
+            state.push_text(Text::Own(ended))
         }
     }
 }
@@ -63,22 +60,23 @@ fn mode_of(name: &[u8]) -> Option<Mode>
 }
 
 /// Changes the case of a text as another one names it. Where that names no change the text stays.
-fn push_case(
-    state: &mut State,
+fn push_case<'a>(
+    state: &mut State<'a>,
     alloc: Global,
-    text: ShortText,
-    name: ShortText,
+    text: ShortText<'a>,
+    name: ShortText<'a>,
 ) -> Result<Flow, AllocError>
-    ensures world { IfOk result (Acts (answered (case_of (text, name))) state.old state.new) }
+    ensures world { IfOk result (Acts (answered (case_of (text.entry, name.entry))) state.old state.new) }
     ensures tally { state.new.tally ≡ state.old.tally }
 {
     match mode_of(name.as_slice()) {
         None => {
-            state.push_text_in_error(Complaint::BadCase(name.into_bytes()), text.into_bytes())
+            let complaint = Complaint::BadCase(name.into_bytes(alloc)?);
+            state.push_text_in_error(complaint, text.into_text())
         }
         Some(mode) => {
             let changed = change_case(alloc, text.as_slice(), mode)?;
-            state.push_text(changed)
+            state.push_text(Text::Own(changed))
         }
     }
 }
@@ -90,7 +88,7 @@ pub fn convert_case(state: &mut State, alloc: Global) -> Result<Flow, AllocError
     ensures tally { state.new.tally ≡ state.old.tally }
 {
     match take_two::<ShortText, ShortText>(state, Builtin::ChangeCase)? {
-        None => state.push_text(Bytes::new(alloc)),
+        None => state.push_text(Text::Lent(b"")),
         Some((text, name)) => push_case(state, alloc, text, name),
     }
 }
@@ -102,10 +100,10 @@ pub fn purified(state: &mut State, alloc: Global) -> Result<Flow, AllocError>
     ensures tally { state.new.tally ≡ state.old.tally }
 {
     match take::<ShortText>(state, Builtin::Purify)? {
-        None => state.push_text(Bytes::new(alloc)),
+        None => state.push_text(Text::Lent(b"")),
         Some(text) => {
             let pure = purify(alloc, text.as_slice())?;
-            state.push_text(pure)
+            state.push_text(Text::Own(pure))
         }
     }
 }
@@ -118,10 +116,10 @@ pub fn cut(state: &mut State, alloc: Global) -> Result<Flow, AllocError>
     ensures tally { state.new.tally ≡ state.old.tally }
 {
     match take_three::<ShortText, i32, i32>(state, Builtin::Substring)? {
-        None => state.push_text(Bytes::new(alloc)),
+        None => state.push_text(Text::Lent(b"")),
         Some((text, start, len)) => {
             let part = substring(alloc, text.as_slice(), start, len)?;
-            state.push_text(part)
+            state.push_text(Text::Own(part))
         }
     }
 }
@@ -133,10 +131,10 @@ pub fn prefix(state: &mut State, alloc: Global) -> Result<Flow, AllocError>
     ensures tally { state.new.tally ≡ state.old.tally }
 {
     match take_two::<ShortText, i32>(state, Builtin::TextPrefix)? {
-        None => state.push_text(Bytes::new(alloc)),
+        None => state.push_text(Text::Lent(b"")),
         Some((text, most)) => {
             let prefix = text_prefix(alloc, text.as_slice(), most)?;
-            state.push_text(prefix)
+            state.push_text(Text::Own(prefix))
         }
     }
 }
@@ -177,10 +175,9 @@ pub fn printed_width(state: &mut State) -> Result<Flow, AllocError>
 }
 
 /// `quote$`.
-pub fn push_quote(state: &mut State, alloc: Global) -> Result<Flow, AllocError>
+pub fn push_quote(state: &mut State) -> Result<Flow, AllocError>
     ensures world { IfOk result (Acts (pushed (Txt quote)) state.old state.new) }
     ensures tally { state.new.tally ≡ state.old.tally }
 {
-    let text = Bytes::copied(alloc, b"\"")?;
-    state.push_text(text)
+    state.push_text(Text::Lent(b"\""))
 }

@@ -15,7 +15,7 @@ pub enum Code<'a> {
 #[derive(Drop)]
 pub enum Value<'a> {
     Number(i32),
-    Text(ShortText),
+    Text(ShortText<'a>),
     Code(Code<'a>),
     /// The field of this number, which is missing.
     Missing(usize),
@@ -26,16 +26,20 @@ impl<'a> Value<'a> {
     ghost use Rattle.bt_actions.specs.State.{text_len};
     ghost use Rattle.bt_actions.specs.View.{item_of};
 
-    /// The same value again. The one error is want of memory.
-    pub fn copy(&self, alloc: Global) -> Result<Value<'a>, AllocError>
-        ensures value { IfOk result (λ copy. item_of copy ≡ item_of self.now) }
-        ensures short { text_len (item_of self.now) ≤ 65536 }
+    /// The value twice. The bytes of a text are shared by both. The one error is out of memory.
+    pub fn twice(self, alloc: Global) -> Result<(Value<'a>, Value<'a>), AllocError>
+        ensures first { IfOk result (λ both. item_of both.0 ≡ item_of self.entry) }
+        ensures second { IfOk result (λ both. item_of both.1 ≡ item_of self.entry) }
+        ensures short { text_len (item_of self.entry) ≤ 65536 }
     {
         match self {
-            Value::Number(n) => Ok(Value::Number(*n)),
-            Value::Text(text) => Ok(Value::Text(text.copy(alloc)?)),
-            Value::Code(code) => Ok(Value::Code(*code)),
-            Value::Missing(field) => Ok(Value::Missing(*field)),
+            Value::Number(n) => Ok((Value::Number(n), Value::Number(n))),
+            Value::Text(text) => {
+                let (first, second) = text.twice(alloc)?;
+                Ok((Value::Text(first), Value::Text(second)))
+            }
+            Value::Code(code) => Ok((Value::Code(code), Value::Code(code))),
+            Value::Missing(field) => Ok((Value::Missing(field), Value::Missing(field))),
         }
     }
 }

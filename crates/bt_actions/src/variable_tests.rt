@@ -11,17 +11,17 @@ use std::alloc::{AllocError, Global};
 use std::test::Fail;
 
 /// Calls a variable of each sort.
-fn call_variables(state: &mut State, alloc: Global) -> Result<Flow, AllocError> {
+fn call_variables(state: &mut State) -> Result<Flow, AllocError> {
     call_global_number(state, 0)?;
-    call_global_text(state, alloc, 0)?;
+    call_global_text(state, 0)?;
     call_entry_number(state, 0)?;
-    call_entry_text(state, alloc, 0)
+    call_entry_text(state, 0)
 }
 
 /// Assigns what is on the stack, and calls all variables.
 fn assign_and_call(state: &mut State, alloc: Global) -> Result<Flow, AllocError> {
     call(state, alloc, Builtin::Assign)?;
-    call_variables(state, alloc)
+    call_variables(state)
 }
 
 /// All variables, behind an assignment of what words spell.
@@ -32,18 +32,39 @@ fn variables_behind(alloc: Global, words: &str, book: &Entry) -> Result<Bytes, F
 }
 
 /// Calls a field that is missing, one that isn't, one out of range, and a number.
-fn call_fields(state: &mut State, alloc: Global) -> Result<Flow, AllocError> {
-    call_field(state, alloc, 0)?;
-    call_field(state, alloc, 1)?;
-    call_field(state, alloc, 9)?;
+fn call_fields(state: &mut State) -> Result<Flow, AllocError> {
+    call_field(state, 0)?;
+    call_field(state, 1)?;
+    call_field(state, 9)?;
     call_entry_number(state, 0)
 }
 
 /// What these calls leave in a step for an entry or for none.
 fn fields(alloc: Global, book: Option<&Entry>) -> Result<Bytes, AllocError> {
     let mut state = state(alloc, book, Vec::new(alloc))?;
-    let flow = call_fields(&mut state, alloc)?;
+    let flow = call_fields(&mut state)?;
     shown(alloc, &state, flow)
+}
+
+/// Assigns a field twice in a row to a variable, which is called.
+fn assign_title_twice(state: &mut State, alloc: Global) -> Result<Flow, AllocError> {
+    call_field(state, 1)?;
+    for builtin in [
+        Builtin::Duplicate,
+        Builtin::Join,
+        Builtin::Swap,
+        Builtin::Assign,
+    ] {
+        call(state, alloc, builtin)?;
+    }
+    call_global_text(state, 0)
+}
+
+/// What is left of this where the variable's name is on the stack.
+fn title_twice(alloc: Global, book: &Entry) -> Result<Bytes, Fail> {
+    let mut state = state(alloc, Some(book), stack(alloc, "'s")?)?;
+    let flow = assign_title_twice(&mut state, alloc)?;
+    Ok(shown(alloc, &state, flow)?)
 }
 
 /// Four errors of a step without an entry, behind what it leaves.
@@ -135,6 +156,17 @@ fn fields_go_on_the_stack(rt: HostRuntime) -> Result<(), Fail> {
     assert_eq!(rt; own.as_slice(), b"?|\"B title|?|#7|".as_slice());
     let none = fields(alloc, None)?;
     assert_eq!(rt; none.as_slice(), without_entry(alloc)?.as_slice());
+    Ok(())
+}
+
+#[test]
+fn texts_that_are_lent_and_shared_stay(rt: HostRuntime) -> Result<(), Fail> {
+    let alloc = rt.alloc();
+    let book = entry(alloc, Some(0))?;
+    let twice = title_twice(alloc, &book)?;
+    assert_eq!(rt; twice.as_slice(), b"\"B titleB title|".as_slice());
+    let own = fields(alloc, Some(&book))?;
+    assert_eq!(rt; own.as_slice(), b"?|\"B title|?|#7|".as_slice());
     Ok(())
 }
 
