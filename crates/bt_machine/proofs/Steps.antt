@@ -7,7 +7,7 @@ use Rattle.bt_style.specs.declared.builtin.Builtin.TheVariants.{CallType, If, Wh
 use Rattle.bt_style.specs.declared.style.Function.{Function}
 use Rattle.bt_style.specs.declared.style.Op.{Op}
 use Rattle.bt_style.specs.declared.style.Target.{Target}
-use Rattle.bt_style.specs.Tree.{Element, Called, Body, End, Then, element_of, ops_body}
+use Rattle.bt_style.specs.Tree.{Element, Called, Body, End, Then, ops_body}
 use Rattle.bt_style.specs.Program.{Definition, Program, definitions_of, definition_of}
 use Rattle.bt_actions.specs.declared.state.Flow.{Flow}
 use Rattle.bt_actions.specs.declared.state.Flow.TheVariants.{Go, Stop}
@@ -19,7 +19,7 @@ use Rattle.bt_actions.specs.Actions.{basic}
 use Rattle.bt_actions.specs.View.{act_of}
 use Rattle.bt_machine.specs.Eval.{Ending, Done, Stopped, Runner, then_go, acted, code_body, body_at, no_definition, turn, looped, built_in, act, called, counted, eval}
 use Rattle.bt_machine.specs.Step.{tick_limit, begun, finished_at, finished, step}
-use Rattle.bt_machine.specs.Control.{Frame, Run, Test, left, load, LeadsTo, is_stop, checked_at, ended}
+use Rattle.bt_machine.specs.Control.{Frame, Run, Test, left, load, LeadsTo, on_top, is_stop, checked_at, ended}
 use Rattle.bt_machine.proofs.Bounds.{Grows, basic_grows, taken_some_len}
 use Rattle.bt_machine.proofs.Equations.{eval-end, eval-no_tick, eval-then, looped-turn}
 
@@ -56,28 +56,65 @@ then_go-eval_end : (p : Program) (o : Ending) (g : World → ℕ → Ending) →
 then_go-eval_end p (Done w k) g = ap (λ o. then_go o g) (eval-end p w k)
 then_go-eval_end p (Stopped w k) g = refl
 
+-- nothing to run
+left_end : (p : Program) (fs : List Frame) (w : World) (k : ℕ) → left p fs w k ≡ then_go (eval p End w k) (left p fs)
+left_end p fs w k = sym (ap (λ o. then_go o (left p fs)) (eval-end p w k))
+
+-- a function on top of what is left to do
+pub left-on_top : (p : Program) (c : Code) (fs : List Frame) (w : World) (k : ℕ) → left p (on_top c fs) w k ≡ then_go (eval p (code_body c) w k) (left p fs)
+left-on_top p (Name t) fs w k = refl
+left-on_top p (Block End) fs w k = left_end p fs w k
+left-on_top p (Block (Then e rest)) fs w k = refl
+
+length-on_top : (c : Code) (fs : List Frame) → length (on_top c fs) ≤ suc (length fs)
+length-on_top (Name t) fs = omega arith
+length-on_top (Block End) fs = omega arith
+length-on_top (Block (Then e rest)) fs = omega arith
+
+-- of a body that has no element, and of one that has
+pub on_top_of_none : (ops : List Op) (fs : List Frame) → length ops ≡ 0 → on_top (Block (ops_body ops)) fs ≡ fs
+on_top_of_none [] fs e = refl
+on_top_of_none (op ∷ ops) fs e = absurd (omega arith)
+
+pub on_top_of_some : (ops : List Op) (fs : List Frame) → length ops ≢ 0 → on_top (Block (ops_body ops)) fs ≡ Run (Block (ops_body ops)) ∷ fs
+on_top_of_some [] fs n = absurd (n refl)
+on_top_of_some (op ∷ ops) fs n = refl
+
+-- a function was planned
+pub leads_run : (p : Program) (c : Code) (fs fs1 : List Frame) (w w1 : World) (k k1 : ℕ) → fs1 ≡ on_top c fs → w1 ≡ w → k1 ≡ k → LeadsTo p Go fs1 w1 k1 (then_go (eval p (code_body c) w k) (left p fs)) (load fs w k + 2)
+leads_run p c fs fs1 w w1 k k1 ef ew ek =
+    let l = length-on_top c fs in
+    rw (ef, ew, ek) (left-on_top p c fs w k, omega arith)
+
 -- an element, with the rest of its body planned
-left-then : (p : Program) (e : Element) (rest : Body) (fs : List Frame) (w : World) (k : ℕ) → then_go (eval p (Then e rest) w (suc k)) (left p fs) ≡ then_go (act p (eval p) e (counted e w) k) (left p (Run (Block rest) ∷ fs))
-left-then p e rest fs w k = ap (λ o. then_go o (left p fs)) (eval-then p e rest w k) ∙ then_go-then_go _ (eval p rest) (left p fs)
+left-then : (p : Program) (e : Element) (rest : Body) (fs : List Frame) (w : World) (k : ℕ) → then_go (eval p (Then e rest) w (suc k)) (left p fs) ≡ then_go (act p (eval p) e (counted e w) k) (left p (on_top (Block rest) fs))
+left-then p e rest fs w k =
+    ap (λ o. then_go o (left p fs)) (eval-then p e rest w k)
+    ∙ then_go-then_go _ (eval p rest) (left p fs)
+    ∙ (λ i. then_go (act p (eval p) e (counted e w) k) (λ w' k'. sym (left-on_top p (Block rest) fs w' k') i))
 
 -- a name alone
 left-name : (p : Program) (t : Target) (fs : List Frame) (w : World) (k : ℕ) → then_go (eval p (Then (Called t) End) w (suc k)) (left p fs) ≡ then_go (called p (eval p) t (counted (Called t) w) k) (left p fs)
 left-name p t fs w k = ap (λ o. then_go o (left p fs)) (eval-then p (Called t) End w k) ∙ then_go-eval_end p _ (left p fs)
 
 -- a loop, with its test planned and then the look at the number
-pub left-loop : (p : Program) (test body : Code) (fs : List Frame) (w : World) (k : ℕ) → left p (Run test ∷ Test test body ∷ fs) w k ≡ then_go (looped (eval p) test body w k) (left p fs)
+pub left-loop : (p : Program) (test body : Code) (fs : List Frame) (w : World) (k : ℕ) → left p (on_top test (Test test body ∷ fs)) w k ≡ then_go (looped (eval p) test body w k) (left p fs)
 left-loop p test body fs w k =
-    sym (ap (λ o. then_go o (left p fs)) (looped-turn p test body w k) ∙ then_go-then_go (eval p (code_body test) w k) _ (left p fs))
+    left-on_top p test (Test test body ∷ fs) w k
+    ∙ sym (ap (λ o. then_go o (left p fs)) (looped-turn p test body w k) ∙ then_go-then_go (eval p (code_body test) w k) _ (left p fs))
 
 -- a turn's body, with the loop planned behind it
-pub left-turn : (p : Program) (test body : Code) (fs : List Frame) (w : World) (k : ℕ) → left p (Run body ∷ Run test ∷ Test test body ∷ fs) w k ≡ then_go (then_go (eval p (code_body body) w k) (looped (eval p) test body)) (left p fs)
+pub left-turn : (p : Program) (test body : Code) (fs : List Frame) (w : World) (k : ℕ) → left p (on_top body (on_top test (Test test body ∷ fs))) w k ≡ then_go (then_go (eval p (code_body body) w k) (looped (eval p) test body)) (left p fs)
 left-turn p test body fs w k =
-    (λ i. then_go (eval p (code_body body) w k) (λ w' k'. left-loop p test body fs w' k' i))
+    left-on_top p body (on_top test (Test test body ∷ fs)) w k
+    ∙ (λ i. then_go (eval p (code_body body) w k) (λ w' k'. left-loop p test body fs w' k' i))
     ∙ sym (then_go-then_go (eval p (code_body body) w k) (looped (eval p) test body) (left p fs))
 
 -- a loop was planned
-pub leads_loop : (p : Program) (test body : Code) (fs fs2 : List Frame) (w w2 : World) (k k2 : ℕ) → fs2 ≡ Run test ∷ Test test body ∷ fs → w2 ≡ w → k2 ≡ k → LeadsTo p Go fs2 w2 k2 (then_go (looped (eval p) test body w k) (left p fs)) (load fs w k + 2)
-leads_loop p test body fs fs2 w w2 k k2 ef ew ek = rw (ef, ew, ek) (left-loop p test body fs w k, omega arith)
+pub leads_loop : (p : Program) (test body : Code) (fs fs2 : List Frame) (w w2 : World) (k k2 : ℕ) → fs2 ≡ on_top test (Test test body ∷ fs) → w2 ≡ w → k2 ≡ k → LeadsTo p Go fs2 w2 k2 (then_go (looped (eval p) test body w k) (left p fs)) (load fs w k + 2)
+leads_loop p test body fs fs2 w w2 k k2 ef ew ek =
+    let l = length-on_top test (Test test body ∷ fs) in
+    rw (ef, ew, ek) (left-loop p test body fs w k, omega arith)
 
 -- a turn after a number above 0
 turn_above : (n : ℤ) (w : World) (k : ℕ) (body again : World → ℕ → Ending) → pos 0 <ℤ n → turn (Some n, w) k body again ≡ then_go (body w k) again
@@ -86,24 +123,17 @@ turn_above (pos (suc n)) w k body again h = refl
 turn_above (negsuc n) w k body again h = absurd (omega arith)
 
 -- a turn of a loop was planned, with n the number that its test left
-pub leads_turn : (p : Program) (test body : Code) (n : ℤ) (fs fs3 : List Frame) (w w3 : World) (k k3 : ℕ) → pos 0 <ℤ n → Some n ≡ (taken While number_of w).0 → fs3 ≡ Run body ∷ Run test ∷ Test test body ∷ fs → w3 ≡ (taken While number_of w).1 → k3 ≡ k → LeadsTo p Go fs3 w3 k3 (then_go (turn (taken While number_of w) k (eval p (code_body body)) (looped (eval p) test body)) (left p fs)) (load fs w k + 0)
+pub leads_turn : (p : Program) (test body : Code) (n : ℤ) (fs fs3 : List Frame) (w w3 : World) (k k3 : ℕ) → pos 0 <ℤ n → Some n ≡ (taken While number_of w).0 → fs3 ≡ on_top body (on_top test (Test test body ∷ fs)) → w3 ≡ (taken While number_of w).1 → k3 ≡ k → LeadsTo p Go fs3 w3 k3 (then_go (turn (taken While number_of w) k (eval p (code_body body)) (looped (eval p) test body)) (left p fs)) (load fs w k + 0)
 leads_turn p test body n fs fs3 w w3 k k3 h e ef ew ek =
     let v = (taken While number_of w).1 in
     let l = taken_some_len While number_of w n (sym e) in
     let m : length w3.stack ≡ length v.stack = ap (λ (u : World). length u.stack) ew in
     let f = ap length ef in
-    let same : left p fs3 w3 k3 ≡ left p (Run body ∷ Run test ∷ Test test body ∷ fs) v k = rw (ef, ew, ek) refl in
+    let g = length-on_top test (Test test body ∷ fs) in
+    let b = length-on_top body (on_top test (Test test body ∷ fs)) in
+    let same : left p fs3 w3 k3 ≡ left p (on_top body (on_top test (Test test body ∷ fs))) v k = rw (ef, ew, ek) refl in
     let turned : then_go (eval p (code_body body) v k) (looped (eval p) test body) ≡ turn (taken While number_of w) k (eval p (code_body body)) (looped (eval p) test body) = sym (turn_above n v k (eval p (code_body body)) (looped (eval p) test body) h) ∙ ap (λ o. turn (o, v) k (eval p (code_body body)) (looped (eval p) test body)) e in
     (same ∙ left-turn p test body fs v k ∙ ap (λ o. then_go o (left p fs)) turned, omega arith)
-
--- nothing to run
-left_end : (p : Program) (fs : List Frame) (w : World) (k : ℕ) → left p fs w k ≡ then_go (eval p End w k) (left p fs)
-left_end p fs w k = sym (ap (λ o. then_go o (left p fs)) (eval-end p w k))
-
--- an empty slice
-pub left_nothing : (p : Program) (ops : List Op) (fs : List Frame) (w : World) (k : ℕ) → length ops ≡ 0 → left p fs w k ≡ then_go (eval p (ops_body ops) w k) (left p fs)
-left_nothing p [] fs w k e = left_end p fs w k
-left_nothing p (op ∷ ops) fs w k e = absurd (omega arith)
 
 -- no function of this number: nothing is run
 pub left_past : (p : Program) (functions : List Function) (n : ℕ) (fs : List Frame) (w : World) (k : ℕ) → p.functions ≡ definitions_of functions → length functions ≤ n → left p fs w k ≡ then_go (eval p (body_at p.functions n) w k) (left p fs)
@@ -116,14 +146,14 @@ left_past p functions n fs w k e h =
 pub left_no_tick : (p : Program) (e : Element) (rest : Body) (fs : List Frame) (w : World) → Stopped (say TicksPassed w) 0 ≡ then_go (eval p (Then e rest) w 0) (left p fs)
 left_no_tick p e rest fs w = sym (ap (λ o. then_go o (left p fs)) (eval-no_tick p e rest w))
 
--- an element took its tick and was carried out, with the rest of its body planned
-pub leads_then : (p : Program) (flow : Flow) (e : Element) (rest : Body) (fs fs1 fs' : List Frame) (w w1 w' : World) (k k1 k' : ℕ) → k1 + 1 ≡ k → fs1 ≡ Run (Block rest) ∷ fs → w1 ≡ counted e w → LeadsTo p flow fs' w' k' (then_go (act p (eval p) e w1 k1) (left p fs1)) (load fs1 w1 k1 + 4) → LeadsTo p flow fs' w' k' (then_go (eval p (Then e rest) w k) (left p fs)) (load fs w k + 0)
-leads_then p flow e rest fs fs1 fs' w w1 w' k k1 k' q ef ew h =
+-- an element took its tick and was carried out, before the rest of its body
+pub leads_then : (p : Program) (flow : Flow) (e : Element) (rest : Body) (fs fs' : List Frame) (w w1 w' : World) (k k1 k' : ℕ) → k1 + 1 ≡ k → w1 ≡ counted e w → LeadsTo p flow fs' w' k' (then_go (act p (eval p) e w1 k1) (left p (on_top (Block rest) fs))) (load (on_top (Block rest) fs) w1 k1 + 4) → LeadsTo p flow fs' w' k' (then_go (eval p (Then e rest) w k) (left p fs)) (load fs w k)
+leads_then p flow e rest fs fs' w w1 w' k k1 k' q ew h =
     let r : k ≡ suc k1 = omega arith in
-    let l = ap length ef in
+    let l = length-on_top (Block rest) fs in
     let m : length w1.stack ≡ length w.stack = ap (λ (v : World). length v.stack) ew in
-    let same : then_go (act p (eval p) e w1 k1) (left p fs1) ≡ then_go (eval p (Then e rest) w k) (left p fs) =
-    ap (λ fs. then_go (act p (eval p) e w1 k1) (left p fs)) ef ∙ ap (λ w. then_go (act p (eval p) e w k1) (left p (Run (Block rest) ∷ fs))) ew ∙ sym (left-then p e rest fs w k1) ∙ ap (λ k. then_go (eval p (Then e rest) w k) (left p fs)) (sym r) in
+    let same : then_go (act p (eval p) e w1 k1) (left p (on_top (Block rest) fs)) ≡ then_go (eval p (Then e rest) w k) (left p fs) =
+    ap (λ w. then_go (act p (eval p) e w k1) (left p (on_top (Block rest) fs))) ew ∙ sym (left-then p e rest fs w k1) ∙ ap (λ k. then_go (eval p (Then e rest) w k) (left p fs)) (sym r) in
     LeadsTo_along p flow fs' w' k' _ _ _ _ same (omega arith) h
 
 -- a name took its tick and was called
@@ -135,12 +165,6 @@ leads_name p flow t fs fs1 fs' w w1 w' k k1 k' q ef ew h =
     let same : then_go (called p (eval p) t w1 k1) (left p fs1) ≡ then_go (eval p (Then (Called t) End) w k) (left p fs) =
     ap (λ fs. then_go (called p (eval p) t w1 k1) (left p fs)) ef ∙ ap (λ w. then_go (called p (eval p) t w k1) (left p fs)) ew ∙ sym (left-name p t fs w k1) ∙ ap (λ k. then_go (eval p (Then (Called t) End) w k) (left p fs)) (sym r) in
     LeadsTo_along p flow fs' w' k' _ _ _ _ same (omega arith) h
-
--- the same, as `elements` comes by it
-pub leads_elements : (p q : Program) (flow : Flow) (first : Op) (rest ops : List Op) (fs fs1 fs' : List Frame) (w w1 w' : World) (k k1 k' : ℕ) → ops ≡ first ∷ rest → q ≡ p → k1 + 1 ≡ k → fs1 ≡ Run (Block (ops_body rest)) ∷ fs → w1 ≡ counted (element_of first) w → LeadsTo q flow fs' w' k' (then_go (act q (eval q) (element_of first) w1 k1) (left q fs1)) (load fs1 w1 k1 + 4) → LeadsTo p flow fs' w' k' (then_go (eval p (ops_body ops) w k) (left p fs)) (load fs w k + 0)
-leads_elements p q flow first rest ops fs fs1 fs' w w1 w' k k1 k' eo ep ek ef ew h =
-    let i = subst (λ p. LeadsTo p flow fs' w' k' (then_go (act p (eval p) (element_of first) w1 k1) (left p fs1)) (load fs1 w1 k1 + 4)) ep h in
-    subst (λ ops. LeadsTo p flow fs' w' k' (then_go (eval p (ops_body ops) w k) (left p fs)) (load fs w k + 0)) (sym eo) (leads_then p flow (element_of first) (ops_body rest) fs fs1 fs' w w1 w' k k1 k' ek ef ew i)
 
 -- nothing left to do
 then_go-done : (p : Program) (o : Ending) → then_go o (left p []) ≡ o

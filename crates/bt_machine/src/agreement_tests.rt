@@ -7,7 +7,7 @@ ghost use Rattle.bt_machine.specs.Agreement.{IsFootprint};
 use crate::test_steps::style;
 use crate::{Entry, Input, Meter, Outcome, Variables, activate, agrees, left_over};
 use bt_style::{Reach, Style, Target};
-use bt_text::{Bytes, Held, Sequence, Shared};
+use bt_text::{Bytes, Held, Sequence, Shared, SparseTexts};
 use std::alloc::{AllocError, Global};
 use std::test::Fail;
 
@@ -131,13 +131,10 @@ fn field(alloc: Global, text: Option<&str>) -> Result<Option<Shared<Bytes>>, All
     }
 }
 
-fn fields(
-    alloc: Global,
-    recipe: Recipe<'_>,
-) -> Result<Sequence<Option<Shared<Bytes>>>, AllocError> {
-    let mut fields = Sequence::new(alloc);
-    fields.push(field(alloc, Some(recipe.title))?)?;
-    fields.push(field(alloc, recipe.year)?)?;
+fn fields(alloc: Global, recipe: Recipe<'_>) -> Result<SparseTexts, AllocError> {
+    let mut fields = SparseTexts::new(alloc, 2);
+    fields.set(0, field(alloc, Some(recipe.title))?)?;
+    fields.set(1, field(alloc, recipe.year)?)?;
     Ok(fields)
 }
 

@@ -3,19 +3,18 @@
 ghost use Rattle.std.specs.Prelude.{◌≡◌, ◌≤◌, ◌∷◌, [], IfOk, OnOk, IfNone, MatchOption, Some};
 ghost use Rattle.bt_style.specs.Tree.{End, Then, Called, element_of, ops_body};
 ghost use Rattle.bt_style.specs.declared.builtin.Builtin.TheVariants as builtin;
-ghost use Rattle.bt_actions.specs.World.{entry_of};
+ghost use Rattle.bt_actions.specs.World.{entry_of, say};
 ghost use Rattle.bt_actions.specs.Arguments.{number_of, code_of, taken, taken_two, taken_three};
 ghost use Rattle.bt_actions.specs.State.{text_len, pushed};
-ghost use Rattle.bt_actions.specs.View.{code_seen, item_of};
+ghost use Rattle.bt_actions.specs.View.{code_seen, item_of, world_of};
 ghost use Rattle.bt_machine.specs.Eval.{eval, act, acted, called, built_in, run_chosen, run_loop, run_function, run_type, looped, turn, code_body, builtin_in, builtin_called};
 
 use crate::script::Script;
 use bt_actions::{
-    Code, Complaint, Flow, State, Value, call_basic, call_entry_number, call_entry_text,
+    Code, Complaint, Flow, State, Text, Value, call_basic, call_entry_number, call_entry_text,
     call_field, call_global_number, call_global_text, take_choice, take_number, take_two_codes,
 };
 use bt_style::{Builtin, Op, Target};
-use bt_text::Bytes;
 use std::alloc::{AllocError, Global};
 
 /// One thing that is left to do.
@@ -27,11 +26,14 @@ pub enum Frame<'a> {
     Test(Code<'a>, Code<'a>),
 }
 
-/// A step of a style that is under way, and what is left to do, the next at the end.
+/// A step of a style that is under way.
 #[derive(Drop)]
 pub struct Machine<'a> {
     pub script: Script<'a>,
     pub state: State<'a>,
+    /// What is left of the body that is being run.
+    pub body: &'a [Op],
+    /// What is left to do behind it, the next at the end.
     pub control: Vec<Frame<'a>>,
 }
 
@@ -55,8 +57,41 @@ fn builtin_called(op: &Op) -> Option<Builtin>
     }
 }
 
+/// Tells that no tick is left.
+#[cold]
+#[inline(never)]
+fn tell_no_tick(state: &mut State) -> Result<(), AllocError>
+    ensures world { OnOk result (world_of state.new ≡ say Complaint.TicksPassed (world_of state.old)) }
+    ensures tally { state.new.tally ≡ state.old.tally }
+{
+    state.tell(Complaint::TicksPassed)
+}
+
 impl<'a> Machine<'a> {
-    ghost use Rattle.bt_machine.specs.Control.{CarriesOut, Test, frames_of, frame_seen, meant, rest_of, ended_at};
+    ghost use Rattle.bt_machine.specs.Control.{CarriesOut, RunsBody, Test, on_top, waiting, frames_of, frame_seen, meant, rest_of, ended_at};
+
+    /// Puts something on the control stack.
+    fn defer(&mut self, frame: Frame<'a>) -> Result<(), AllocError>
+        ensures waiting { OnOk result (waiting self.new ≡ frame_seen frame.entry ∷ waiting self.old) }
+        ensures state { self.new.state ≡ self.old.state }
+        ensures script { self.new.script ≡ self.old.script }
+    {
+        self.control.push(frame)?;
+        Ok(())
+    }
+
+    /// Keeps what is left of the body, so that another one can be run before it.
+    #[tactic(auto, using(crate::proofs::Steps::on_top_of_none))]
+    fn keep_rest(&mut self) -> Result<(), AllocError>
+        ensures waiting { OnOk result (waiting self.new ≡ frames_of self.old) }
+        ensures state { self.new.state ≡ self.old.state }
+        ensures script { self.new.script ≡ self.old.script }
+    {
+        if !self.body.is_empty() {
+            self.defer(Frame::Run(Code::Braced(self.body)))?;
+        }
+        Ok(())
+    }
 
     /// Puts something on top of what is left to do.
     fn plan(&mut self, frame: Frame<'a>) -> Result<(), AllocError>
@@ -64,8 +99,26 @@ impl<'a> Machine<'a> {
         ensures state { OnOk result (self.new.state ≡ self.old.state) }
         ensures script { self.new.script ≡ self.old.script }
     {
-        self.control.push(frame)?;
+        self.keep_rest()?;
+        self.defer(frame)?;
+        self.body = &[];
         Ok(())
+    }
+
+    /// Puts a function on top of what is left to do.
+    fn plan_code(&mut self, code: Code<'a>) -> Result<(), AllocError>
+        ensures frames { OnOk result (frames_of self.new ≡ on_top (code_seen code.entry) (frames_of self.old)) }
+        ensures state { OnOk result (self.new.state ≡ self.old.state) }
+        ensures script { self.new.script ≡ self.old.script }
+    {
+        match code {
+            Code::Name(_) => self.plan(Frame::Run(code)),
+            Code::Braced(ops) => {
+                self.keep_rest()?;
+                self.body = ops;
+                Ok(())
+            }
+        }
     }
 
     /// Runs a function, later.
@@ -74,7 +127,7 @@ impl<'a> Machine<'a> {
             (λ p. eval p (code_body (code_seen code.entry))) 2) }
         ensures script { self.new.script ≡ self.old.script }
     {
-        self.plan(Frame::Run(code))?;
+        self.plan_code(code)?;
         Ok(Flow::Go)
     }
 
@@ -86,9 +139,10 @@ impl<'a> Machine<'a> {
     {
         let style = self.script.style;
         if n < style.functions.len() {
-            self.plan(Frame::Run(Code::Braced(&style.functions[n].body)))?;
+            self.plan_run(Code::Braced(&style.functions[n].body))
+        } else {
+            Ok(Flow::Go)
         }
-        Ok(Flow::Go)
     }
 
     /// Runs a loop, later.
@@ -98,7 +152,7 @@ impl<'a> Machine<'a> {
         ensures script { self.new.script ≡ self.old.script }
     {
         self.plan(Frame::Test(test, body))?;
-        self.plan(Frame::Run(test))?;
+        self.plan_code(test)?;
         Ok(Flow::Go)
     }
 
@@ -171,6 +225,7 @@ impl<'a> Machine<'a> {
     }
 
     /// A call of a name.
+    #[inline(always)]
     fn call(&mut self, alloc: Global, target: Target) -> Result<Flow, AllocError>
         ensures run { IfOk result (CarriesOut self.old self.new
             (λ p. called p (eval p) target) 4) }
@@ -178,11 +233,11 @@ impl<'a> Machine<'a> {
     {
         match target {
             Target::Builtin(builtin) => self.call_builtin(alloc, builtin),
-            Target::Field(n) => call_field(&mut self.state, alloc, n),
+            Target::Field(n) => call_field(&mut self.state, n),
             Target::EntryNumber(n) => call_entry_number(&mut self.state, n),
-            Target::EntryText(n) => call_entry_text(&mut self.state, alloc, n),
+            Target::EntryText(n) => call_entry_text(&mut self.state, n),
             Target::GlobalNumber(n) => call_global_number(&mut self.state, n),
-            Target::GlobalText(n) => call_global_text(&mut self.state, alloc, n),
+            Target::GlobalText(n) => call_global_text(&mut self.state, n),
             Target::Function(n) => self.enter(n),
         }
     }
@@ -195,34 +250,48 @@ impl<'a> Machine<'a> {
     {
         match op {
             Op::Number(n) => self.state.push_number(*n),
-            Op::Text(text) => {
-                let text = Bytes::copied(alloc, text.as_slice())?;
-                self.state.push_text(text)
-            }
+            Op::Text(text) => self.state.push_text(Text::Lent(text.as_slice())),
             Op::Quote(target) => self.push(Value::Code(Code::Name(*target))),
             Op::Block(ops) => self.push(Value::Code(Code::Braced(ops))),
             Op::Call(target) => self.call(alloc, *target),
         }
     }
 
-    /// The next element of a body, with the rest for later.
+    /// The next element of a body, which is run before the rest of it.
+    fn next_element(
+        &mut self,
+        alloc: Global,
+        first: &'a Op,
+        rest: &'a [Op],
+    ) -> Result<Flow, AllocError>
+        ensures run { IfOk result (RunsBody self.old self.new
+            (Then (element_of first.now) (ops_body rest.now))) }
+        ensures script { self.new.script ≡ self.old.script }
+    {
+        if self.state.tally.ticks == 0 {
+            tell_no_tick(&mut self.state)?;
+            return Ok(Flow::Stop);
+        }
+        self.state.tally.take(builtin_called(first));
+        self.body = rest;
+        self.element(alloc, first)
+    }
+
+    /// The elements of a body, and of those that they run, one after the other.
     fn elements(&mut self, alloc: Global, ops: &'a [Op]) -> Result<Flow, AllocError>
         ensures run { IfOk result (CarriesOut self.old self.new
             (λ p. eval p (ops_body ops.now)) 0) }
         ensures script { self.new.script ≡ self.old.script }
     {
-        match ops.split_first() {
-            None => Ok(Flow::Go),
-            Some((first, rest)) => {
-                if self.state.tally.ticks == 0 {
-                    self.state.tell(Complaint::TicksPassed)?;
-                    return Ok(Flow::Stop);
-                }
-                self.state.tally.take(builtin_called(first));
-                self.plan(Frame::Run(Code::Braced(rest)))?;
-                self.element(alloc, first)
+        self.keep_rest()?;
+        self.body = ops;
+        'elements: while let Some((first, rest)) = self.body.split_first() {
+            match self.next_element(alloc, first, rest)? {
+                Flow::Go => {}
+                Flow::Stop => return Ok(Flow::Stop),
             }
         }
+        Ok(Flow::Go)
     }
 
     /// A quoted name, as one call.
@@ -232,7 +301,7 @@ impl<'a> Machine<'a> {
         ensures script { self.new.script ≡ self.old.script }
     {
         if self.state.tally.ticks == 0 {
-            self.state.tell(Complaint::TicksPassed)?;
+            tell_no_tick(&mut self.state)?;
             return Ok(Flow::Stop);
         }
         self.state.tally.take(builtin_in(target));
@@ -248,8 +317,8 @@ impl<'a> Machine<'a> {
         if let Some(number) = take_number(&mut self.state, Builtin::While)? {
             if number > 0 {
                 self.plan(Frame::Test(test, body))?;
-                self.plan(Frame::Run(test))?;
-                self.plan(Frame::Run(body))?;
+                self.plan_code(test)?;
+                self.plan_code(body)?;
             }
         }
         Ok(Flow::Go)
@@ -269,6 +338,7 @@ impl<'a> Machine<'a> {
     }
 
     /// Takes what is to be done next.
+    #[tactic(auto, using(crate::proofs::Steps::on_top_of_none))]
     fn take_frame(&mut self) -> Option<Frame<'a>>
         ensures frames { MatchOption result (frames_of self.old ≡ [])
             (λ frame. frames_of self.old ≡ frame_seen frame ∷ frames_of self.new) }
@@ -276,7 +346,13 @@ impl<'a> Machine<'a> {
         ensures state { self.new.state ≡ self.old.state }
         ensures script { self.new.script ≡ self.old.script }
     {
-        self.control.pop()
+        if self.body.is_empty() {
+            self.control.pop()
+        } else {
+            let ops = self.body;
+            self.body = &[];
+            Some(Frame::Run(Code::Braced(ops)))
+        }
     }
 
     /// Does all that is left to do.

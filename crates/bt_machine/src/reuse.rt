@@ -11,8 +11,7 @@ use crate::agreement::{same_counts, same_text_at, same_variables};
 use crate::input::Input;
 use crate::outcome::Outcome;
 use crate::putting::{Places, reached_globals, reached_owns, variables_over};
-use crate::step::share_texts;
-use bt_actions::Variables;
+use bt_actions::{Variables, share_texts};
 use bt_log::Message;
 use bt_style::Reach;
 use bt_text::{Bytes, Held, Sequence, Shared};
@@ -39,7 +38,7 @@ fn equal_numbers(old: &[i32], new: &[i32]) -> bool
 }
 
 /// Whether all variables are equal.
-fn equal_variables(old: &Variables, new: &Variables) -> bool
+pub fn equal_variables(old: &Variables, new: &Variables) -> bool
     ensures { IsTrue result → old.now ≡ new.now }
 {
     if !same_counts(old, new) {

@@ -3,7 +3,7 @@
 use crate::{Entry, Input, Meter, Outcome, Variables, activate};
 use bt_log::Rank;
 use bt_style::{Builtin, Function, Op, Style, Target};
-use bt_text::{Bytes, Held, Sequence, Shared};
+use bt_text::{Bytes, Held, Sequence, Shared, SparseTexts};
 use std::alloc::{AllocError, Global};
 use std::mem;
 use std::test::Fail;
@@ -115,9 +115,8 @@ fn variables(alloc: Global, number: i32, text: &[u8]) -> Result<Variables, Alloc
 
 /// The entry `key`, a book with a title and without a year.
 pub fn book(alloc: Global, function: Option<usize>) -> Result<Entry, AllocError> {
-    let mut fields = Sequence::new(alloc);
-    fields.push(Some(Shared::<Bytes>::copied(alloc, b"Title")?))?;
-    fields.push(None)?;
+    let mut fields = SparseTexts::new(alloc, 2);
+    fields.set(0, Some(Shared::<Bytes>::copied(alloc, b"Title")?))?;
     Ok(Entry {
         key: Shared::<Bytes>::copied(alloc, b"key")?,
         kind: Shared::<Bytes>::copied(alloc, b"book")?,

@@ -9,7 +9,7 @@ use Rattle.bt_machine.proofs.machine.Machine.name.Goals as goal
 
 pub returns-then-self-eq0-clause-run : goal.returns-then-self-eq0-clause-run
 returns-then-self-eq0-clause-run c =
-    rw (c.in_ok-tell.ensures.world, c.in_ok-tell.ensures.tally, c.if-self-eq0.true) (left_no_tick (program_in c.args.self.now) (Called c.args.target) End (frames_of c.args.self.now) (world_of c.args.self.now.state))
+    rw (c.in_ok-tell_no_tick.ensures.world, c.in_ok-tell_no_tick.ensures.tally, c.if-self-eq0.true) (left_no_tick (program_in c.args.self.now) (Called c.args.target) End (frames_of c.args.self.now) (world_of c.args.self.now.state))
 
 pub returns-clause-run : goal.returns-clause-run
 returns-clause-run c =
