@@ -1,14 +1,14 @@
 -- Inheriting one after another gives the values by place in the list.
-use Rattle.std.proofs.Common.{◌≡◌, ◌≢◌, ◌∙◌, ap, sym, refl, ℕ, zero, suc, ◌+◌, ◌<◌, ◌≤◌, Bool, true, false, List, [], ◌∷◌, ◌++◌, length, reverse, get_or, set, drop, Option, Some, None, append_assoc, append-nil, arith, inl, inr, ◌⊎◌}
+use Rattle.std.proofs.Common.{◌≡◌, ◌≢◌, ◌∙◌, ap, sym, refl, ℕ, zero, suc, ◌<◌, ◌≤◌, Bool, true, false, List, [], ◌∷◌, ◌++◌, length, reverse, get_or, set, Option, Some, None, append_assoc, append-nil, arith, inl, inr, ◌⊎◌}
 use Rattle.std.specs.Prelude.{◌==◌, slice_get}
 use Rattle.std.proofs.Math.Path.{fun_ext}
 use Rattle.std.proofs.lemmas.Grind.{reverse_onto}
-use Rattle.std.proofs.lemmas.List.{get_or-set_same, get_or-set_other, get_or_past, set_past, drop_more, drop-drop}
+use Rattle.std.proofs.lemmas.List.{get_or-set_same, get_or-set_other, get_or_past, set_past}
 use Rattle.std.proofs.lemmas.Bool.Decides.{Decides-eqb}
 use Rattle.bt_resolve.specs.declared.asked.Asked.{Asked}
 use Rattle.bt_resolve.specs.declared.stored.Stored.{Stored}
 use Rattle.bt_resolve.specs.Listed.{listed}
-use Rattle.bt_resolve.specs.Inherited.{inherited, or_first, values_of, parent_at, inherits, values_behind, entries_by, entries_seen}
+use Rattle.bt_resolve.specs.Inherited.{inherited, values_of, parent_at, inherits, values_behind, entries_by, entries_seen}
 use Rattle.bt_resolve.specs.Inheriting.{inherits_from, inherits_at, all_inherit, values_read}
 
 abbrev Values : Type 0
@@ -71,14 +71,3 @@ entries_are a min stored places values listed_is values_is =
     ap (λ (vs : List Values). entries_by a min stored (λ k. get_or vs k []) places) values_is
     ∙ ap (λ (now : ℕ → Values). entries_by a min stored now places) (values_are stored places)
     ∙ ap (λ (ps : List ℕ). entries_by a min stored (values_behind stored (reverse ps)) ps) listed_is
-
-abbrev Value : Type 0
-Value = Option (List ℕ)
-
-pub inherited_more : (vs mine theirs : List Value) (i : ℕ) (v : Value) → i < length mine → v ≡ get_or mine i v →
-    (vs ++ or_first v (drop i theirs) ∷ []) ++ inherited (drop (i + 1) mine) (drop (i + 1) theirs) ≡ vs ++ inherited (drop i mine) (drop i theirs)
-inherited_more vs mine theirs i v less is =
-    let d : drop i mine ≡ v ∷ drop (i + 1) mine = drop_more mine i v less ∙ ap (λ (x : Value). x ∷ drop (i + 1) mine) (sym is) in
-    append_assoc vs (or_first v (drop i theirs) ∷ []) (inherited (drop (i + 1) mine) (drop (i + 1) theirs))
-    ∙ ap (λ (ts : List Value). vs ++ or_first v (drop i theirs) ∷ inherited (drop (i + 1) mine) ts) (sym (drop-drop 1 i theirs))
-    ∙ ap (λ (ms : List Value). vs ++ inherited ms (drop i theirs)) (sym d)

@@ -7,8 +7,10 @@ pub mod InheritingLemmas
 pub mod PlacingLemmas
 pub mod LawLemmas
 pub mod ApartLemmas
+pub mod MovedLemmas
 mod RowWords
 mod MacroRows
 mod CrossrefRows
 mod KeyRows
 mod LimitRows
+pub mod SparseValueLemmas

@@ -1,16 +1,18 @@
 //! Entries as they are read: which are stored, and as what.
 
-ghost use Rattle.std.specs.Prelude.{◌≡◌, ◌++◌, ◌∷◌, [], IfOk, IsTrue, OnOk};
+ghost use Rattle.std.specs.Prelude.{◌≡◌, ◌++◌, ◌∷◌, [], All, IfOk, IsTrue, OnOk};
+ghost use Rattle.bt_bib.specs.Moved.{moved_entry, nowhere};
+ghost use Rattle.bt_bib.specs.Moving.{FitsField, FitsLine};
 ghost use Rattle.bt_text.specs.ByName.{known};
 ghost use Rattle.bt_resolve.specs.Entries.{standing_of};
 ghost use Rattle.bt_resolve.specs.Messages.{key_messages, stored_messages, type_messages};
 ghost use Rattle.bt_text.specs.NameList.{are_apart};
 ghost use Rattle.bt_resolve.specs.Stored.{is_wanted, kind_of, stored_of, with_entry};
-ghost use Rattle.bt_resolve.specs.Warnings.{line_of};
+ghost use Rattle.bt_resolve.specs.Warnings.{line_at};
 
 use crate::faults::repeated;
 use crate::fields::FieldReader;
-use crate::message::{Message, Place};
+use crate::message::Message;
 use crate::reader::Reader;
 use crate::store::Store;
 use crate::stored::Stored;
@@ -72,8 +74,9 @@ impl Reader<'_> {
         key: &[u8],
         messages: &mut Sequence<Message>,
     ) -> Result<(), AllocError>
+        requires { FitsLine nowhere self.now.origin.start line }
         ensures { OnOk result (messages.new ≡ messages.old
-            ++ type_messages function (line_of self.now.database line) key.now) }
+            ++ type_messages function (line_at self.now.origin line) key.now) }
     {
         match function {
             None => {
@@ -94,12 +97,15 @@ impl Reader<'_> {
         macros: &ByName<Bytes>,
         messages: &mut Sequence<Message>,
     ) -> Result<Stored, AllocError>
-        requires { IsTrue (are_apart self.now.asked.now.fields) }
+        requires apart { IsTrue (are_apart self.now.asked.now.fields) }
+        requires line { FitsLine nowhere self.now.origin.start line }
+        requires fits { All (FitsField nowhere self.now.origin.start) entry.now.fields }
         ensures key { IfOk result (λ stored. stored.key ≡ key.now) }
-        ensures stored { IfOk result (λ stored. stored
-            ≡ stored_of self.now.asked.now (known macros.now) entry.now key.now) }
+        ensures stored { IfOk result (λ stored. stored ≡ stored_of self.now.asked.now (known macros.now)
+            (moved_entry self.now.origin.start entry.now) key.now) }
         ensures messages { OnOk result (messages.new ≡ messages.old ++ stored_messages
-            self.now.asked.now (known macros.now) (line_of self.now.database line) entry.now key.now) }
+            self.now.asked.now (known macros.now) (line_at self.now.origin line)
+            (moved_entry self.now.origin.start entry.now) key.now) }
     {
         let kind = kind_of(entry);
         let function = self.asked.types.place(self.alloc, kind)?;
@@ -108,7 +114,7 @@ impl Reader<'_> {
             alloc: self.alloc,
             declared: &self.asked.fields,
             macros,
-            database: self.database,
+            origin: self.origin,
             key: key.as_slice(),
         };
         let given = reader.fields(entry.fields.as_slice(), messages)?;
@@ -130,11 +136,14 @@ impl Reader<'_> {
         store: &mut Store,
         messages: &mut Sequence<Message>,
     ) -> Result<(), AllocError>
-        requires { IsTrue (are_apart self.now.asked.now.fields) }
-        ensures store { OnOk result (store.new
-            ≡ with_entry self.now.asked.now (known macros.now) entry.now entry.now.key store.old) }
+        requires apart { IsTrue (are_apart self.now.asked.now.fields) }
+        requires line { FitsLine nowhere self.now.origin.start line }
+        requires fits { All (FitsField nowhere self.now.origin.start) entry.now.fields }
+        ensures store { OnOk result (store.new ≡ with_entry self.now.asked.now (known macros.now)
+            (moved_entry self.now.origin.start entry.now) entry.now.key store.old) }
         ensures messages { OnOk result (messages.new ≡ messages.old ++ key_messages self.now.asked.now
-            (known macros.now) store.old (line_of self.now.database line) entry.now entry.now.key) }
+            (known macros.now) store.old (line_at self.now.origin line)
+            (moved_entry self.now.origin.start entry.now) entry.now.key) }
     {
         let Some(key) = &entry.key else {
             return Ok(());

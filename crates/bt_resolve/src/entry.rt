@@ -1,7 +1,7 @@
 //! What a style sees of the databases.
 
 use crate::message::Message;
-use bt_text::{Bytes, Sequence, Shared};
+use bt_text::{Bytes, Sequence, Shared, SparseTexts};
 
 /// An entry of the list. Its texts and its values have several owners, and are shared without copying.
 #[derive(Debug, Drop)]
@@ -13,7 +13,7 @@ pub struct Entry {
     /// Which of the types that have a function it has.
     pub function: Option<usize>,
     /// Its values, in the order of the style's fields; none where a field is missing.
-    pub fields: Shared<Sequence<Option<Shared<Bytes>>>>,
+    pub fields: Shared<SparseTexts>,
 }
 
 /// The list of entries, what the preambles say, and every message, in the order of the log.

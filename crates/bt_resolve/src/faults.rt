@@ -1,8 +1,11 @@
 //! The words of the errors of items.
 
 ghost use Rattle.std.specs.Prelude.{◌≡◌, ◌++◌, IfOk, OnOk, codes};
+ghost use Rattle.bt_bib.specs.Moved.{moved, moved_content, nowhere};
+ghost use Rattle.bt_bib.specs.Moving.{FitsSpot};
 ghost use Rattle.bt_resolve.specs.Faults.{dropped_name, fault_error, fault_messages, fault_words, key_of, repeated, sign_of, unclosed, unclosed_command, unclosed_entry, what_name};
 
+use crate::message::Origin;
 use bt_bib::{Closing, Content, Fault, Item, What};
 use bt_log::{Message, Place};
 use bt_text::{Bytes, Sequence, Shared};
@@ -115,17 +118,19 @@ fn key_of(content: &Content) -> Result<Option<Shared<Bytes>>, AllocError>
 /// The error of a fault at a place.
 fn fault_error(
     alloc: Global,
-    database: usize,
+    origin: Origin,
     item: &Item,
     fault: Fault,
 ) -> Result<Message, AllocError>
-    ensures { IfOk result (λ message. message ≡ fault_error database item.now.end item.now.content item.now.close fault) }
+    requires { FitsSpot nowhere origin.start item.now.end }
+    ensures { IfOk result (λ message. message ≡ fault_error origin.database (moved origin.start item.now.end)
+        item.now.content item.now.close fault) }
 {
     let words = fault_words(alloc, &item.content, item.close, fault)?;
     let place = Place::DatabaseLine {
-        database,
-        line: item.end.line,
-        byte: Some(item.end.place),
+        database: origin.database,
+        line: item.end.line + origin.start.line,
+        byte: Some(item.end.place + origin.start.place),
     };
     let mut message = Message::skipping(alloc, words, place, dropped_name(&item.content))?;
     message.entry = key_of(&item.content)?;
@@ -135,17 +140,18 @@ fn fault_error(
 /// Reports the fault of an item, if it has one.
 pub fn tell_fault(
     alloc: Global,
-    database: usize,
+    origin: Origin,
     item: &Item,
     messages: &mut Sequence<Message>,
 ) -> Result<(), AllocError>
-    ensures { OnOk result (messages.new ≡ messages.old
-        ++ fault_messages database item.now.end item.now.content item.now.close item.now.fault) }
+    requires { FitsSpot nowhere origin.start item.now.end }
+    ensures { OnOk result (messages.new ≡ messages.old ++ fault_messages origin.database
+        (moved origin.start item.now.end) (moved_content origin.start item.now.content) item.now.close item.now.fault) }
 {
     match item.fault {
         None => Ok(()),
         Some(fault) => {
-            messages.push(fault_error(alloc, database, item, fault)?)?;
+            messages.push(fault_error(alloc, origin, item, fault)?)?;
             Ok(())
         }
     }

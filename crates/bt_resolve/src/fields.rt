@@ -1,21 +1,22 @@
 //! What the fields of an entry give.
 
-ghost use Rattle.std.specs.Prelude.{◌≡◌, ◌++◌, [], Some, None, IfOk, IsTrue, OnOk, map};
+ghost use Rattle.std.specs.Prelude.{◌≡◌, ◌++◌, [], All, Some, None, IfOk, IsTrue, OnOk, map, slice_get};
+ghost use Rattle.bt_bib.specs.Moved.{moved_field, moved_part, nowhere};
+ghost use Rattle.bt_bib.specs.Moving.{FitsField};
 ghost use Rattle.bt_text.specs.ByName.{known};
 ghost use Rattle.bt_resolve.specs.Fields.{fields_messages};
-ghost use Rattle.bt_text.specs.ByName.{no_value};
 ghost use Rattle.bt_text.specs.NameList.{are_apart};
-ghost use Rattle.bt_resolve.specs.Slots.{extra_messages, fill, given_by, is_filled, slot_messages, slot_of, with_field};
+ghost use Rattle.bt_resolve.specs.Slots.{extra_messages, fill, given_by, is_filled, is_filled_at, slot_messages, slot_of, with_field};
 ghost use Rattle.bt_resolve.specs.Values.{field_value, value_warnings};
-ghost use Rattle.bt_resolve.specs.Warnings.{line_of};
+ghost use Rattle.bt_resolve.specs.Warnings.{line_at};
 
 use crate::index::Index;
-use crate::message::{Message, Place};
+use crate::message::{Message, Origin};
 use crate::stored::FieldValues;
 use crate::values::{ValueReader, trimmed};
 use crate::warnings::extra_field;
 use bt_bib::Field;
-use bt_text::{ByName, Bytes, Sequence, Shared, eq_ignore_ascii_case};
+use bt_text::{ByName, Bytes, Sequence, Shared, SparseTexts, eq_ignore_ascii_case};
 use std::alloc::{AllocError, Global};
 
 /// The field that refers to another entry.
@@ -46,10 +47,21 @@ pub struct FieldReader<'a> {
     pub declared: &'a Index<'a>,
     /// The macros before the entry.
     pub macros: &'a ByName<Bytes>,
-    /// The number of the entry's database.
-    pub database: usize,
+    /// Where the entry stands.
+    pub origin: Origin,
     /// The entry's key.
     pub key: &'a [u8],
+}
+
+/// Whether a place has a value already, or there is no such place.
+fn is_filled_at(values: &FieldValues, place: usize) -> bool
+    ensures { result ≡ is_filled_at (slice_get values.now place) }
+{
+    if place < values.len() {
+        values.get(place).is_some()
+    } else {
+        true
+    }
 }
 
 /// Whether a slot has a value already.
@@ -58,36 +70,21 @@ fn is_filled(given: &Given, slot: Slot) -> bool
 {
     match slot {
         Slot::Crossref => given.crossref.is_some(),
-        Slot::Value(place) => match given.values.as_slice().get(place) {
-            None => true,
-            Some(value) => value.is_some(),
-        },
+        Slot::Value(place) => is_filled_at(&given.values, place),
     }
 }
 
 /// Puts a value in its slot.
-fn fill(given: &mut Given, slot: Slot, value: Shared<Bytes>)
-    ensures { given.new ≡ fill slot value given.old }
+fn fill(given: &mut Given, slot: Slot, value: Shared<Bytes>) -> Result<(), AllocError>
+    ensures { OnOk result (given.new ≡ fill slot value given.old) }
 {
     match slot {
-        Slot::Crossref => given.crossref = Some(value),
-        Slot::Value(place) => {
-            if place < given.values.len() {
-                given.values.set(place, Some(value));
-            }
+        Slot::Crossref => {
+            given.crossref = Some(value);
+            Ok(())
         }
+        Slot::Value(place) => given.values.set(place, Some(value)),
     }
-}
-
-/// No value for any field.
-fn no_values(alloc: Global, names: &[Bytes]) -> Result<FieldValues, AllocError>
-    ensures { IfOk result (λ values. values ≡ map no_value names.now) }
-{
-    let mut values = Sequence::new(alloc);
-    'names: for _name in names {
-        values.push(None)?;
-    }
-    Ok(values)
 }
 
 impl FieldReader<'_> {
@@ -111,15 +108,18 @@ impl FieldReader<'_> {
         field: &Field,
         messages: &mut Sequence<Message>,
     ) -> Result<Shared<Bytes>, AllocError>
-        ensures value { IfOk result (λ text. text ≡ field_value (known self.now.macros.now) field.now.value) }
+        requires { FitsField nowhere self.now.origin.start field.now }
+        ensures value { IfOk result (λ text. text ≡ field_value (known self.now.macros.now)
+            (map (moved_part self.now.origin.start) field.now.value)) }
         ensures messages { OnOk result (messages.new ≡ messages.old ++ value_warnings None
-            (known self.now.macros.now) (line_of self.now.database field.now.line) field.now.name field.now.value) }
+            (known self.now.macros.now) (line_at self.now.origin field.now.line) field.now.name
+            (map (moved_part self.now.origin.start) field.now.value)) }
     {
         let reader = ValueReader {
             alloc: self.alloc,
             macros: self.macros,
             own: None,
-            database: self.database,
+            origin: self.origin,
         };
         let name = field.name.as_slice();
         let value = reader.value(name, field.line, field.value.as_slice(), messages)?;
@@ -135,19 +135,18 @@ impl FieldReader<'_> {
         given: &mut Given,
         messages: &mut Sequence<Message>,
     ) -> Result<(), AllocError>
+        requires { FitsField nowhere self.now.origin.start field.now }
         ensures given { OnOk result (given.new ≡ with_field (Some slot) value given.old) }
         ensures messages { OnOk result (messages.new ≡ messages.old
-            ++ extra_messages (is_filled slot given.old) self.now.database self.now.key.now field.now) }
+            ++ extra_messages (is_filled slot given.old) self.now.origin.database self.now.key.now
+            (moved_field self.now.origin.start field.now)) }
     {
         if is_filled(given, slot) {
-            let database = self.database;
-            let line = field.line;
-            let place = Place { database, line };
+            let place = self.origin.place(field.line);
             messages.push(extra_field(self.alloc, place, self.key, field.name.as_slice())?)?;
             Ok(())
         } else {
-            fill(given, slot, value);
-            Ok(())
+            fill(given, slot, value)
         }
     }
 
@@ -159,10 +158,12 @@ impl FieldReader<'_> {
         given: &mut Given,
         messages: &mut Sequence<Message>,
     ) -> Result<(), AllocError>
-        ensures given { OnOk result (given.new ≡ with_field (Some slot)
-            (field_value (known self.now.macros.now) field.now.value) given.old) }
+        requires { FitsField nowhere self.now.origin.start field.now }
+        ensures given { OnOk result (given.new ≡ with_field (Some slot) (field_value (known self.now.macros.now)
+            (map (moved_part self.now.origin.start) field.now.value)) given.old) }
         ensures messages { OnOk result (messages.new ≡ messages.old ++ slot_messages (Some slot) given.old
-            (known self.now.macros.now) self.now.database self.now.key.now field.now) }
+            (known self.now.macros.now) self.now.origin.database self.now.key.now
+            (moved_field self.now.origin.start field.now)) }
     {
         let value = self.value(field, messages)?;
         self.put(field, slot, value, given, messages)
@@ -175,11 +176,14 @@ impl FieldReader<'_> {
         given: &mut Given,
         messages: &mut Sequence<Message>,
     ) -> Result<(), AllocError>
+        requires { FitsField nowhere self.now.origin.start field.now }
         ensures given { OnOk result (given.new ≡ with_field (slot_of self.now.declared.now field.now.name)
-            (field_value (known self.now.macros.now) field.now.value) given.old) }
+            (field_value (known self.now.macros.now) (map (moved_part self.now.origin.start) field.now.value))
+            given.old) }
         ensures messages { OnOk result (messages.new ≡ messages.old
             ++ slot_messages (slot_of self.now.declared.now field.now.name) given.old
-            (known self.now.macros.now) self.now.database self.now.key.now field.now) }
+            (known self.now.macros.now) self.now.origin.database self.now.key.now
+            (moved_field self.now.origin.start field.now)) }
     {
         match self.slot(field.name.as_slice())? {
             None => Ok(()),
@@ -193,15 +197,16 @@ impl FieldReader<'_> {
         fields: &[Field],
         messages: &mut Sequence<Message>,
     ) -> Result<Given, AllocError>
-        requires { IsTrue (are_apart self.now.declared.now) }
-        ensures given { IfOk result (λ given. given
-            ≡ given_by self.now.declared.now (known self.now.macros.now) fields.now) }
+        requires apart { IsTrue (are_apart self.now.declared.now) }
+        requires fits { All (FitsField nowhere self.now.origin.start) fields.now }
+        ensures given { IfOk result (λ given. given ≡ given_by self.now.declared.now (known self.now.macros.now)
+            (map (moved_field self.now.origin.start) fields.now)) }
         ensures messages { OnOk result (messages.new ≡ messages.old ++ fields_messages self.now.declared.now
-            (known self.now.macros.now) self.now.database self.now.key.now [] fields.now) }
+            (known self.now.macros.now) self.now.origin.database self.now.key.now []
+            (map (moved_field self.now.origin.start) fields.now)) }
     {
-        let values = no_values(self.alloc, self.declared.names())?;
         let mut given = Given {
-            values,
+            values: SparseTexts::new(self.alloc, self.declared.names().len()),
             crossref: None,
         };
         'fields: for field in fields {

@@ -1,13 +1,13 @@
 //! What entries inherit from those that they refer to.
 
-ghost use Rattle.std.specs.Prelude.{◌≡◌, [], drop, IfOk, OnOk};
-ghost use Rattle.std.specs.List.{slice_index_or};
-ghost use Rattle.bt_resolve.specs.Inherited.{inherited, or_first};
+ghost use Rattle.std.specs.Prelude.{◌≡◌, IfOk, OnOk};
+ghost use Rattle.bt_resolve.specs.Inherited.{inherited};
 ghost use Rattle.bt_resolve.specs.Inheriting.{all_inherit, inherits_at, values_read};
 
 use crate::family::Family;
+use crate::seen_values::shared_at;
 use crate::stored::{FieldValues, Stored};
-use bt_text::{Bytes, Sequence, Shared};
+use bt_text::{Bytes, Shared};
 use std::alloc::{AllocError, Global};
 
 /// A value that may be missing, for one more owner.
@@ -20,45 +20,19 @@ pub fn shared(value: &Option<Shared<Bytes>>) -> Result<Option<Shared<Bytes>>, Al
     }
 }
 
-/// A value, else the first of the parent's.
-fn or_first(
-    mine: &Option<Shared<Bytes>>,
-    theirs: &[Option<Shared<Bytes>>],
-) -> Result<Option<Shared<Bytes>>, AllocError>
-    ensures { IfOk result (λ value. value ≡ or_first mine.now theirs.now) }
-{
-    match mine {
-        Some(text) => Ok(Some(text.share()?)),
-        None => {
-            if theirs.is_empty() {
-                Ok(None)
-            } else {
-                shared(&theirs[0])
-            }
-        }
-    }
-}
-
-/// What stands after the first of some values, so many of them.
-fn after(values: &[Option<Shared<Bytes>>], count: usize) -> &[Option<Shared<Bytes>>]
-    ensures { result.now ≡ drop count values.now }
-{
-    values.get(count..).unwrap_or(&[])
-}
-
-/// Each missing value taken from the parent.
+/// Each missing value taken from the parent. An entry without a value of its own has the parent's list itself.
 fn inherited(
     alloc: Global,
-    mine: &[Option<Shared<Bytes>>],
-    theirs: &[Option<Shared<Bytes>>],
-) -> Result<FieldValues, AllocError>
+    mine: &Shared<FieldValues>,
+    theirs: &Shared<FieldValues>,
+) -> Result<Shared<FieldValues>, AllocError>
     ensures { IfOk result (λ values. values ≡ inherited mine.now theirs.now) }
 {
-    let mut values = Sequence::new(alloc);
-    'values: for i in 0..mine.len() {
-        values.push(or_first(&mine[i], after(theirs, i))?)?;
+    if mine.has_none() && mine.len() == theirs.len() {
+        theirs.share()
+    } else {
+        Shared::new(alloc, mine.filled_from(alloc, theirs)?)
     }
-    Ok(values)
 }
 
 /// The values of all entries, as they were read.
@@ -70,17 +44,6 @@ pub fn values_read(alloc: Global, stored: &[Stored]) -> Result<Vec<Shared<FieldV
         values.push(entry.values.share()?)?;
     }
     Ok(values)
-}
-
-/// The values of the entry of a place.
-fn values_at(values: &[Shared<FieldValues>], place: usize) -> &[Option<Shared<Bytes>>]
-    ensures { result.now ≡ slice_index_or values.now place [] }
-{
-    if place < values.len() {
-        values[place].as_slice()
-    } else {
-        &[]
-    }
 }
 
 /// The entry of a place inherits from its parent, as that is now.
@@ -95,9 +58,9 @@ fn inherit_at(
     let Some(parent) = family.parent_at(place) else {
         return Ok(());
     };
-    let mine = values_at(values.as_slice(), place);
-    let theirs = values_at(values.as_slice(), parent);
-    let filled = Shared::new(alloc, inherited(alloc, mine, theirs)?)?;
+    let mine = shared_at(alloc, values.as_slice(), place)?;
+    let theirs = shared_at(alloc, values.as_slice(), parent)?;
+    let filled = inherited(alloc, &mine, &theirs)?;
     if place < values.len() {
         values[place] = filled;
     }

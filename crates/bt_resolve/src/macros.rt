@@ -1,10 +1,12 @@
 //! What macros stand for, and the strings that define them.
 
 ghost use Rattle.std.specs.Prelude.{◌≡◌, ◌++◌, option_copied, IfOk, OnOk};
+ghost use Rattle.bt_bib.specs.Moved.{moved_value, nowhere};
+ghost use Rattle.bt_bib.specs.Moving.{FitsLine, FitsValue};
 ghost use Rattle.bt_text.specs.ByName.{known};
 ghost use Rattle.bt_resolve.specs.Macros.{faultless, style_macro, with_string};
 ghost use Rattle.bt_resolve.specs.Messages.{preamble_messages, preamble_value, string_messages};
-ghost use Rattle.bt_resolve.specs.Warnings.{line_of};
+ghost use Rattle.bt_resolve.specs.Warnings.{line_at};
 
 use crate::declared::Macro;
 use crate::message::Message;
@@ -47,10 +49,13 @@ impl Reader<'_> {
         macros: &mut ByName<Bytes>,
         messages: &mut Sequence<Message>,
     ) -> Result<(), AllocError>
-        ensures macros { OnOk result (known macros.new
-            ≡ with_string string.now.name (faultless item.now.fault string.now.value) (known macros.old)) }
+        requires line { FitsLine nowhere self.now.origin.start item.now.line }
+        requires value { FitsValue nowhere self.now.origin.start string.now.value }
+        ensures macros { OnOk result (known macros.new ≡ with_string string.now.name
+            (faultless item.now.fault (moved_value self.now.origin.start string.now.value)) (known macros.old)) }
         ensures messages { OnOk result (messages.new ≡ messages.old ++ string_messages (known macros.old)
-            (line_of self.now.database item.now.line) string.now.name (faultless item.now.fault string.now.value)) }
+            (line_at self.now.origin item.now.line) string.now.name
+            (faultless item.now.fault (moved_value self.now.origin.start string.now.value))) }
     {
         let Some(name) = &string.name else {
             return Ok(());
@@ -63,7 +68,7 @@ impl Reader<'_> {
             alloc: self.alloc,
             macros,
             own: Some(name),
-            database: self.database,
+            origin: self.origin,
         };
         let value = reader.value(name, item.line, parts.as_slice(), messages)?;
         macros.insert(self.alloc, name, value)
@@ -78,10 +83,13 @@ impl Reader<'_> {
         preamble: &mut Bytes,
         messages: &mut Sequence<Message>,
     ) -> Result<(), AllocError>
-        ensures preamble { OnOk result (preamble.new ≡ preamble.old
-            ++ preamble_value (known macros.now) (faultless item.now.fault parts.now)) }
+        requires line { FitsLine nowhere self.now.origin.start item.now.line }
+        requires value { FitsValue nowhere self.now.origin.start parts.now }
+        ensures preamble { OnOk result (preamble.new ≡ preamble.old ++ preamble_value (known macros.now)
+            (faultless item.now.fault (moved_value self.now.origin.start parts.now))) }
         ensures messages { OnOk result (messages.new ≡ messages.old ++ preamble_messages (known macros.now)
-            (line_of self.now.database item.now.line) (faultless item.now.fault parts.now)) }
+            (line_at self.now.origin item.now.line)
+            (faultless item.now.fault (moved_value self.now.origin.start parts.now))) }
     {
         let Some(parts) = faultless(item, parts) else {
             return Ok(());
@@ -90,7 +98,7 @@ impl Reader<'_> {
             alloc: self.alloc,
             macros,
             own: None,
-            database: self.database,
+            origin: self.origin,
         };
         let value = reader.value(b"preamble", item.line, parts.as_slice(), messages)?;
         preamble.append(value.as_slice())

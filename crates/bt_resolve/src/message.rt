@@ -1,8 +1,12 @@
 //! Where a message about an item belongs.
 
 ghost use Rattle.std.specs.Prelude.{◌≡◌, None};
+ghost use Rattle.bt_bib.specs.Moved.{nowhere};
+ghost use Rattle.bt_bib.specs.Moving.{FitsLine};
 ghost use Rattle.bt_log.specs.declared.message.Place.TheVariants.{DatabaseLine};
+ghost use Rattle.bt_resolve.specs.Warnings.{line_at};
 
+use bt_bib::Spot;
 pub use bt_log::Message;
 
 /// A line of a database.
@@ -23,6 +27,28 @@ impl Place {
             database: self.database,
             line: self.line,
             byte: None,
+        }
+    }
+}
+
+/// Where an item stands, from which its lines count.
+#[derive(Clone, Copy, Debug, PartialEq, Eq)]
+pub struct Origin {
+    /// The number of its database, from 1.
+    pub database: usize,
+    /// Where its `@` stands there.
+    pub start: Spot,
+}
+
+impl Origin {
+    /// A line of the item.
+    pub fn place(self, line: usize) -> Place
+        requires { FitsLine nowhere self.start line }
+        ensures { result ≡ line_at self line }
+    {
+        Place {
+            database: self.database,
+            line: line + self.start.line,
         }
     }
 }

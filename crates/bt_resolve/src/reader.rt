@@ -1,28 +1,30 @@
-//! What reads the items of a database.
+//! What reads an item of a database.
 
 ghost use Rattle.std.specs.Prelude.{◌≡◌};
-ghost use Rattle.bt_resolve.specs.Warnings.{line_of};
+ghost use Rattle.bt_bib.specs.Moved.{nowhere};
+ghost use Rattle.bt_bib.specs.Moving.{FitsLine};
+ghost use Rattle.bt_resolve.specs.Warnings.{line_at};
 
 use crate::asked::Asked;
-use crate::message::Place;
+use crate::message::{Origin, Place};
 use std::alloc::Global;
 
-/// What the items of a database are read with.
+/// What an item of a database is read with.
 #[derive(Clone, Copy, Drop)]
 pub struct Reader<'a> {
     pub alloc: Global,
-    /// What they are looked up in.
+    /// What it is looked up in.
     pub asked: &'a Asked<'a>,
-    /// The number of the database, from 1.
-    pub database: usize,
+    /// Where it stands.
+    pub origin: Origin,
 }
 
 impl Reader<'_> {
-    /// A line of the database.
+    /// A line of the item.
     pub fn place(&self, line: usize) -> Place
-        ensures { result ≡ line_of self.now.database line }
+        requires { FitsLine nowhere self.now.origin.start line }
+        ensures { result ≡ line_at self.now.origin line }
     {
-        let database = self.database;
-        Place { database, line }
+        self.origin.place(line)
     }
 }

@@ -18,7 +18,7 @@ use crate::reading::read_databases;
 use crate::references::Teller;
 use crate::state::Reading;
 use crate::visible::View;
-use bt_bib::Items;
+use bt_bib::KeptItems;
 use bt_text::{Sequence, Shared};
 use std::alloc::{AllocError, Global};
 
@@ -58,7 +58,7 @@ fn resolve_asked(
     alloc: Global,
     asked: &Asked<'_>,
     macros: &[Macro],
-    databases: &[&Items],
+    databases: &[&KeptItems],
     min: u32,
 ) -> Result<Resolved, AllocError>
     requires fields { IsTrue (are_apart asked.now.fields) }
@@ -88,7 +88,7 @@ pub fn resolve(
     alloc: Global,
     declared: &Declared,
     cites: &Cites,
-    databases: &[&Items],
+    databases: &[&KeptItems],
     min: u32,
 ) -> Result<Resolved, AllocError>
     requires fields { IsTrue (are_apart declared.now.fields) }

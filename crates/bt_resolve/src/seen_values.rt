@@ -4,9 +4,8 @@ ghost use Rattle.std.specs.Prelude.{◌≡◌, [], true, slice_set, None, IfOk};
 ghost use Rattle.std.specs.List.{slice_index_or};
 ghost use Rattle.bt_resolve.specs.Inherited.{with_crossref};
 
-use crate::inheriting::shared;
 use crate::stored::FieldValues;
-use bt_text::{Bytes, Sequence, Shared};
+use bt_text::{Bytes, Shared, SparseTexts};
 use std::alloc::{AllocError, Global};
 
 /// The values of the entry of a place, for one more owner.
@@ -20,29 +19,15 @@ pub fn shared_at(
     if place < values.len() {
         values[place].share()
     } else {
-        Shared::new(alloc, Sequence::new(alloc))
+        Shared::new(alloc, SparseTexts::new(alloc, 0))
     }
 }
 
 /// Whether the value of a place is missing already, or there is no such place.
-fn is_missing(values: &[Option<Shared<Bytes>>], place: usize) -> bool
+fn is_missing(values: &FieldValues, place: usize) -> bool
     ensures { result ≡ true → slice_set values.now place None ≡ values.now }
 {
-    match values.get(place) {
-        None => true,
-        Some(value) => value.is_none(),
-    }
-}
-
-/// All values, each for one more owner.
-fn all_shared(alloc: Global, values: &[Option<Shared<Bytes>>]) -> Result<FieldValues, AllocError>
-    ensures { IfOk result (λ same. same ≡ values.now) }
-{
-    let mut same = Sequence::new(alloc);
-    'values: for value in values {
-        same.push(shared(value)?)?;
-    }
-    Ok(same)
+    values.get(place).is_none()
 }
 
 /// The values with one more in its place.
@@ -50,14 +35,12 @@ fn with_value(
     alloc: Global,
     place: usize,
     value: Option<Shared<Bytes>>,
-    values: &[Option<Shared<Bytes>>],
+    values: &FieldValues,
 ) -> Result<Shared<FieldValues>, AllocError>
     ensures { IfOk result (λ all. all ≡ slice_set values.now place value) }
 {
-    let mut all = all_shared(alloc, values)?;
-    if place < all.len() {
-        all.set(place, value);
-    }
+    let mut all = values.copied(alloc)?;
+    all.set(place, value)?;
     Shared::new(alloc, all)
 }
 
@@ -73,10 +56,10 @@ pub fn put_crossref(
     match place {
         None => Ok(values),
         Some(place) => {
-            if name.is_none() && is_missing(values.as_slice(), place) {
+            if name.is_none() && is_missing(&values, place) {
                 Ok(values)
             } else {
-                with_value(alloc, place, name, values.as_slice())
+                with_value(alloc, place, name, &values)
             }
         }
     }

@@ -1,9 +1,9 @@
 //! Entries that are stored.
 
-use bt_text::{Bytes, Sequence, Shared};
+use bt_text::{Bytes, Shared, SparseTexts};
 
 /// Values in the order of the style's fields; none where a field is missing.
-pub type FieldValues = Sequence<Option<Shared<Bytes>>>;
+pub type FieldValues = SparseTexts;
 
 /// An entry as it is stored, before it inherits. What the entries of the list have of it is shared, and not copied.
 #[derive(Debug, Drop)]

@@ -1,7 +1,7 @@
 //! What is resolved of some databases.
 
 use crate::{Cites, Declared, Entry, Macro, Resolved, are_apart, resolve};
-use bt_bib::read_bib;
+use bt_bib::KeptItems;
 use bt_log::{Message, Place, Rank};
 use bt_text::{Bytes, NameList, Sequence, Shared};
 use std::alloc::{AllocError, Global};
@@ -45,8 +45,8 @@ fn show_entry(alloc: Global, entry: &Entry, shown: &mut Bytes) -> Result<(), All
         shown.append(b" ")?;
         show_number(alloc, function, shown)?;
     }
-    for value in entry.fields.as_slice() {
-        match value {
+    for place in 0..entry.fields.len() {
+        match entry.fields.get(place) {
             None => shown.append(b" -")?,
             Some(text) => {
                 shown.append(b" [")?;
@@ -116,8 +116,8 @@ pub fn resolved(
     let star = star.filter(|before| *before <= keys.as_slice().len());
     let keys = Shared::new(alloc, keys)?;
     let cites = Cites { keys, star };
-    let first = read_bib(alloc, first.as_bytes())?;
-    let second = read_bib(alloc, second.as_bytes())?;
+    let first = KeptItems::read(alloc, first.as_bytes())?;
+    let second = KeptItems::read(alloc, second.as_bytes())?;
     if !are_apart(alloc, declared.fields.as_slice())? {
         return Ok(Bytes::new(alloc));
     }

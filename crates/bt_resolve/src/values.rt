@@ -1,12 +1,14 @@
 //! The value of parts joined by `#`, and the warnings that it gives.
 
-ghost use Rattle.std.specs.Prelude.{◌≡◌, ◌++◌, [], ◌∷◌, Some, None, option_copied, option_and_then, unwrap_or, IfOk, OnOk};
+ghost use Rattle.std.specs.Prelude.{◌≡◌, ◌++◌, [], ◌∷◌, All, Some, None, map, option_copied, option_and_then, unwrap_or, IfOk, OnOk};
 ghost use Rattle.std.specs.List.{flat_map};
+ghost use Rattle.bt_bib.specs.Moved.{moved_part, nowhere};
+ghost use Rattle.bt_bib.specs.Moving.{FitsLine, FitsPart};
 ghost use Rattle.bt_text.specs.ByName.{known};
 ghost use Rattle.bt_resolve.specs.Values.{finished, is_named, joined_parts, length_warnings, macro_warnings, others, part_text, part_warnings, value, value_warnings, with_part, within_limit, without_first_space, without_last_space};
-ghost use Rattle.bt_resolve.specs.Warnings.{line_of};
+ghost use Rattle.bt_resolve.specs.Warnings.{line_at};
 
-use crate::message::{Message, Place};
+use crate::message::{Message, Origin};
 use crate::warnings::{own_macro, too_long, undefined_macro};
 use bt_bib::Part;
 use bt_text::{ByName, Bytes, Sequence, Shared, TEXT_BYTES, eq_ignore_ascii_case, join_white};
@@ -20,8 +22,8 @@ pub struct ValueReader<'a> {
     pub macros: &'a ByName<Bytes>,
     /// The string whose value it is; none of a field or a preamble.
     pub own: Option<&'a [u8]>,
-    /// The number of the database.
-    pub database: usize,
+    /// Where its item stands.
+    pub origin: Origin,
 }
 
 /// Whether a text is there and matches a name.
@@ -63,11 +65,11 @@ impl<'a> ValueReader<'a> {
 
     /// The warning of a macro that stands for nothing.
     fn empty_macro(&self, name: &[u8], line: usize) -> Result<Message, AllocError>
+        requires { FitsLine nowhere self.now.origin.start line }
         ensures { IfOk result (λ message. message ∷ [] ≡ macro_warnings
-            (is_named (option_copied self.now.own) name.now) None (line_of self.now.database line) name.now) }
+            (is_named (option_copied self.now.own) name.now) None (line_at self.now.origin line) name.now) }
     {
-        let database = self.database;
-        let place = Place { database, line };
+        let place = self.origin.place(line);
         if is_named(self.own, name) {
             own_macro(self.alloc, place, name)
         } else {
@@ -83,12 +85,13 @@ impl<'a> ValueReader<'a> {
         joined: &mut Option<Bytes>,
         messages: &mut Sequence<Message>,
     ) -> Result<(), AllocError>
+        requires { FitsLine nowhere self.now.origin.start line }
         ensures joined { OnOk result (joined.new ≡ option_and_then (with_part (unwrap_or
             (others (option_copied self.now.own) (known self.now.macros.now) name.now) [])) joined.old) }
         ensures messages { OnOk result (messages.new ≡ messages.old ++ macro_warnings
             (is_named (option_copied self.now.own) name.now)
             (others (option_copied self.now.own) (known self.now.macros.now) name.now)
-            (line_of self.now.database line) name.now) }
+            (line_at self.now.origin line) name.now) }
     {
         match self.macro_text(name)? {
             None => {
@@ -106,10 +109,13 @@ impl<'a> ValueReader<'a> {
         joined: &mut Option<Bytes>,
         messages: &mut Sequence<Message>,
     ) -> Result<(), AllocError>
+        requires { FitsPart nowhere self.now.origin.start part.now }
         ensures joined { OnOk result (joined.new ≡ option_and_then (with_part
-            (part_text (others (option_copied self.now.own) (known self.now.macros.now)) part.now)) joined.old) }
+            (part_text (others (option_copied self.now.own) (known self.now.macros.now))
+            (moved_part self.now.origin.start part.now))) joined.old) }
         ensures messages { OnOk result (messages.new ≡ messages.old ++ part_warnings
-            (option_copied self.now.own) (known self.now.macros.now) self.now.database part.now) }
+            (option_copied self.now.own) (known self.now.macros.now) self.now.origin.database
+            (moved_part self.now.origin.start part.now)) }
     {
         match part {
             Part::Text(text) => join_part(joined, text.as_slice()),
@@ -123,10 +129,13 @@ impl<'a> ValueReader<'a> {
         parts: &[Part],
         messages: &mut Sequence<Message>,
     ) -> Result<Option<Bytes>, AllocError>
+        requires { All (FitsPart nowhere self.now.origin.start) parts.now }
         ensures joined { IfOk result (λ joined. joined ≡ within_limit
-            (joined_parts (others (option_copied self.now.own) (known self.now.macros.now)) parts.now)) }
+            (joined_parts (others (option_copied self.now.own) (known self.now.macros.now))
+            (map (moved_part self.now.origin.start) parts.now))) }
         ensures messages { OnOk result (messages.new ≡ messages.old ++ flat_map (part_warnings
-            (option_copied self.now.own) (known self.now.macros.now) self.now.database) parts.now) }
+            (option_copied self.now.own) (known self.now.macros.now) self.now.origin.database)
+            (map (moved_part self.now.origin.start) parts.now)) }
     {
         let mut joined = Some(Bytes::new(self.alloc));
         'parts: for part in parts {
@@ -143,15 +152,14 @@ impl<'a> ValueReader<'a> {
         line: usize,
         messages: &mut Sequence<Message>,
     ) -> Result<Bytes, AllocError>
+        requires { FitsLine nowhere self.now.origin.start line }
         ensures value { IfOk result (λ text. text ≡ finished joined) }
         ensures messages { OnOk result (messages.new ≡ messages.old
-            ++ length_warnings joined (line_of self.now.database line) name.now) }
+            ++ length_warnings joined (line_at self.now.origin line) name.now) }
     {
         match joined {
             None => {
-                let database = self.database;
-                let place = Place { database, line };
-                messages.push(too_long(self.alloc, place, name)?)?;
+                messages.push(too_long(self.alloc, self.origin.place(line), name)?)?;
                 Ok(Bytes::new(self.alloc))
             }
             Some(text) => join_white(self.alloc, text.as_slice()),
@@ -167,10 +175,14 @@ impl<'a> ValueReader<'a> {
         parts: &[Part],
         messages: &mut Sequence<Message>,
     ) -> Result<Bytes, AllocError>
-        ensures value { IfOk result (λ text. text
-            ≡ value (others (option_copied self.now.own) (known self.now.macros.now)) parts.now) }
-        ensures messages { OnOk result (messages.new ≡ messages.old ++ value_warnings
-            (option_copied self.now.own) (known self.now.macros.now) (line_of self.now.database line) name.now parts.now) }
+        requires line { FitsLine nowhere self.now.origin.start line }
+        requires parts { All (FitsPart nowhere self.now.origin.start) parts.now }
+        ensures value { IfOk result (λ text. text ≡ value
+            (others (option_copied self.now.own) (known self.now.macros.now))
+            (map (moved_part self.now.origin.start) parts.now)) }
+        ensures messages { OnOk result (messages.new ≡ messages.old ++ value_warnings (option_copied self.now.own)
+            (known self.now.macros.now) (line_at self.now.origin line) name.now
+            (map (moved_part self.now.origin.start) parts.now)) }
     {
         let joined = self.parts(parts, messages)?;
         self.finished(joined, name, line, messages)

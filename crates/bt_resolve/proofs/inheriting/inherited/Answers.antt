@@ -1,13 +1,24 @@
-use Rattle.std.proofs.Common.{◌∙◌, ap, ℕ, List, [], ◌∷◌, ◌++◌, ◌+◌, drop, Option}
-use Rattle.bt_resolve.specs.Inherited.{inherited, or_first}
-use Rattle.bt_resolve.proofs.InheritingLemmas.{inherited_more}
+use Rattle.std.proofs.Common.{◌≡◌, sym, ap, ◌∙◌, true, List, ℕ, Option, length}
+use Rattle.std.specs.Prelude.{is_none}
+use Rattle.std.specs.List.{list_all}
+use Rattle.bt_text.proofs.NameLemmas.{if_ok}
+use Rattle.bt_text.specs.Sparse.{filled_from}
+use Rattle.bt_resolve.proofs.SparseValueLemmas.{all_theirs, filled_is}
 use Rattle.bt_resolve.proofs.inheriting.inherited.Goals as goal
 
-pub values-preserved : goal.values-preserved
-values-preserved c =
-    let rest = inherited (drop (c.values.i + 1) c.args.mine.now) (drop (c.values.i + 1) c.args.theirs.now) in
-    ap (λ (vs : List (Option (List ℕ))). vs ++ rest) c.in_ok-push.ensures.ok
-    ∙ ap (λ (v : Option (List ℕ)). (c.values.values ++ v ∷ []) ++ rest) c.in_ok-or_first.ensures
-    ∙ ap (λ (ts : List (Option (List ℕ))). (c.values.values ++ or_first c.index-mine-i.result ts ∷ []) ++ rest) c.after.ensures
-    ∙ inherited_more c.values.values c.args.mine.now c.args.theirs.now c.values.i c.index-mine-i.result c.values-test.true c.index-mine-i.is
-    ∙ c.values.invariant
+pub returns-then-len : goal.returns-then-len
+returns-then-len c =
+    let mine = c.args.mine.now in
+    let theirs = c.args.theirs.now in
+    let none : list_all is_none mine ≡ true = ap (list_all is_none) (sym c.deref.ensures) ∙ sym c.has_none.ensures ∙ c.if-has_none.true in
+    let long : length mine ≡ length theirs =
+    ap (λ (vs : List (Option (List ℕ))). length vs) (sym c.deref-then-has_none.ensures) ∙ sym c.len.ensures ∙ c.if-len.true ∙ c.len-then-has_none.ensures
+    ∙ ap (λ (vs : List (Option (List ℕ))). length vs) c.deref-then-has_none-2.ensures in
+    if_ok _ _ c.share.result (λ (values : List (Option (List ℕ))) is. is ∙ all_theirs mine theirs none long) c.share.ensures
+
+pub returns-in_ok-filled_from : goal.returns-in_ok-filled_from
+returns-in_ok-filled_from c =
+    if_ok _ _ c.new.result (λ (values : List (Option (List ℕ))) is.
+    is ∙ c.in_ok-filled_from.ensures
+    ∙ ap (λ (mine : List (Option (List ℕ))). filled_from mine c.deref-else-has_none-2.result.now) c.deref-else-has_none.ensures
+    ∙ ap (filled_from c.args.mine.now) c.deref-else-has_none-2.ensures ∙ filled_is c.args.mine.now c.args.theirs.now) c.new.ensures
