@@ -3,6 +3,9 @@ use Rattle.std.proofs.Common.{◌≡◌, ◌≤◌, ◌∙◌, refl, sym, ap, �
 use Rattle.bt_bib.specs.Splice.{IsSplice}
 use Rattle.bt_log.specs.declared.message.Message.{Message}
 use Rattle.bt_log.specs.Log.{log_bytes}
+use Rattle.bt_job.specs.declared.citations.Citations.{Citations}
+use Rattle.bt_job.specs.Citations.{citations}
+use Rattle.bt_run.specs.Meaning.{meaning}
 use Rattle.bt_run.proofs.AnswerLemmas.{log_spelled}
 use Rattle.bibtex.specs.declared.state.State.{State}
 use Rattle.bibtex.specs.Present.{replaced, shown}
@@ -14,3 +17,8 @@ log_in_words s messages are = log_spelled s.texts s.root s.min ∙ ap log_bytes 
 -- A text with other bytes in the place of some of its own is a splice of it.
 pub replaced_is_splice : (start end : ℕ) (old bytes new : List ℕ) → start ≤ end → end ≤ length old → new ≡ replaced start end bytes old → IsSplice old new start end (length bytes)
 replaced_is_splice start end old bytes new order inside is = record { order = order; inside = inside; bytes = bytes; count = refl; text = is }
+
+-- The names that are wanted are those that the .aux files want.
+pub wanted_by : (s : State) (c : Citations) (names : List (List ℕ)) → c ≡ citations s.texts s.root → names ≡ c.wanted → names ≡ (shown s).wanted
+unfolding meaning
+wanted_by s c names is_cited are = are ∙ ap (λ (d : Citations). d.wanted) is_cited

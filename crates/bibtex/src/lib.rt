@@ -3,6 +3,7 @@
 #![tactic(auto)]
 
 mod changed;
+mod draft;
 mod edit;
 mod edits;
 mod refusal;
@@ -13,6 +14,7 @@ mod state;
 pub use bt_log::{Message, Place, Rank};
 pub use bt_run::Report;
 pub use bt_text::Bytes;
+pub use draft::Draft;
 pub use edit::{Change, Edit, Refusal};
 pub use edits::edit_all;
 pub use refusal::{FILE_BYTES, FILE_LIMIT, is_root_name};

@@ -3,28 +3,28 @@
 ghost use Rattle.std.specs.Prelude.{◌≡◌, [], length, IfOk, IfErr, OnErr, Ok, Err};
 ghost use Rattle.std.specs.Option.{option_map};
 
+use crate::draft::Draft;
 use crate::edit::{Change, Edit, Refusal};
-use crate::refusal::{is_root_name, remove_refusal, root_refusal, splice_refusal, write_refusal};
+use crate::refusal::{remove_refusal, root_refusal, splice_refusal, write_refusal};
 use crate::reread::Reread;
 use crate::state::State;
-use bt_bib::ReadMeter;
 use bt_job::text_of;
 use bt_log::Message;
-use bt_run::{Answers, Database, Kept, Report, Run, answers_after};
-use bt_text::{Bytes, Sequence, Shared};
-use std::alloc::Global;
+use bt_run::{Answers, Kept, Readings, Report, Run, answers_after};
+use bt_text::Bytes;
+use std::alloc::{AllocError, Global};
 use std::marker::Model;
 
 /// A session over the texts of `.aux`, `.bib` and `.bst` files. Contracts see its present state: the texts by name, the
-/// root name and min-crossrefs. What else it keeps is what these mean, the steps of their run, and the databases that it
-/// read.
+/// root name and min-crossrefs. What else it keeps is what these mean, the steps of their run, and what its
+/// texts were read as.
 #[derive(Drop)]
 pub struct Session {
     alloc: Global,
     state: State,
     answers: Answers,
     kept: Kept,
-    databases: Sequence<Database>,
+    readings: Readings,
 }
 
 impl Model for Session {
@@ -52,33 +52,36 @@ impl Session {
         ensures ok { IfOk result (λ session. session ≡ no_texts root.now min) }
         ensures refused { IsNew (is_root_name root.now) result }
     {
-        if !is_root_name(root) {
-            return Err(Refusal::BadName);
-        }
-        let state = State {
-            texts: Sequence::new(alloc),
-            root: Shared::<Bytes>::copied(alloc, root)?,
-            min,
-        };
+        Ok(Session::of(Draft::new(alloc, root, min)?)?)
+    }
+
+    /// A session at this state, which is run from scratch. The one error is out of memory.
+    pub fn of(draft: Draft) -> Result<Session, AllocError>
+        ensures { IfOk result (λ session. session ≡ draft) }
+    {
+        let Draft {
+            alloc,
+            state: first,
+        } = draft;
         let Run {
             answers,
             kept,
-            databases,
+            readings,
             ..
         } = answers_after(
             alloc,
-            &[],
-            root,
-            min,
+            first.texts.as_slice(),
+            first.root.as_slice(),
+            first.min,
             &Kept::nothing(alloc),
-            Sequence::new(alloc),
+            Readings::nothing(alloc),
         )?;
         Ok(Session {
             alloc,
-            state,
+            state: first,
             answers,
             kept,
-            databases,
+            readings,
         })
     }
 
@@ -96,9 +99,9 @@ impl Session {
         }
     }
 
-    /// Goes over to a state, over these databases that were read: all that it means is made beside what is kept, which is
+    /// Goes over to a state, over what was read before: all that it means is made beside what is kept, which is
     /// then replaced.
-    fn go_to(&mut self, state: State, databases: Sequence<Database>) -> Result<Report, Refusal>
+    fn go_to(&mut self, state: State, readings: Readings) -> Result<Report, Refusal>
         ensures ok { IfOk result (λ _. self.new ≡ state) }
         ensures report { IfOk result (λ report. report ≡ reported self.old self.new) }
         ensures refused { IfErr result (λ refusal. refusal ≡ Refusal.OutOfMemory) }
@@ -107,7 +110,7 @@ impl Session {
         let Run {
             answers,
             kept,
-            databases,
+            readings,
             report,
         } = answers_after(
             self.alloc,
@@ -115,12 +118,12 @@ impl Session {
             state.root.as_slice(),
             state.min,
             &self.kept,
-            databases,
+            readings,
         )?;
         self.state = state;
         self.answers = answers;
         self.kept = kept;
-        self.databases = databases;
+        self.readings = readings;
         Ok(report)
     }
 
@@ -133,15 +136,10 @@ impl Session {
         ensures refused { IsAnswer (applied edit.entry self.old) result }
         ensures err { OnErr result (self.new ≡ self.old) }
     {
-        let mut reread = Reread {
-            alloc: self.alloc,
-            known: self.databases.as_slice(),
-            spliced: None,
-            meter: ReadMeter::new(),
-        };
+        let mut reread = Reread::of(self.alloc, &self.readings);
         let state = self.state.after(edit, &mut reread)?;
-        let databases = reread.databases()?;
-        self.go_to(state, databases)
+        let readings = reread.readings()?;
+        self.go_to(state, readings)
     }
 
     /// The bytes of the `.bbl` file.

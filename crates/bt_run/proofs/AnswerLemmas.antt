@@ -4,7 +4,8 @@ use Rattle.std.specs.Option.{ForSome}
 use Rattle.std.proofs.Common.{All, ◌≡◌, refl, sym, ap, ◌∙◌, ℕ, List, [], ◌∷◌, ◌++◌, Option, Some, None, Ok, Err, ◌≤◌, length, subst, arith}
 use Rattle.std.proofs.lemmas.Slice.Eq.{bytes_eq-Decides}
 use Rattle.bt_style.specs.declared.fault.Fault.{Fault}
-use Rattle.bt_style.specs.Program.{Program}
+use Rattle.bt_style.specs.declared.style.Style.{Style}
+use Rattle.bt_style.specs.Program.{Program, program_of}
 use Rattle.bt_style.specs.Reader.{style_of}
 use Rattle.bt_actions.specs.declared.entry.Variables.{Variables}
 use Rattle.bt_actions.specs.World.{no_variables}
@@ -27,7 +28,7 @@ use Rattle.bt_run.specs.Commands.{commands_from}
 use Rattle.bt_run.specs.Counts.{counted}
 use Rattle.bt_run.specs.Meaning.{begun, first_globals, carried, job_for, fault_told, styled, run_with, run_of, Meaning, shown, meaning, trace}
 
-pub begun_consistent : (p : Program) (earlier : List Step) (globals : Variables) (log : List Message) (r : Course) (reuse : Reuse) → r ≡ begun globals log → reuse.meter ≡ 0 → reuse.ran ≡ 0 → reuse.known ≡ [] → reuse.index ≡ None → IsConsistent p earlier r reuse
+pub begun_consistent : (p : Program) (earlier : List Step) (globals : Variables) (log : List Message) (r : Course) (reuse : Reuse) → r ≡ begun globals log → reuse.meter ≡ 0 → reuse.ran ≡ 0 → reuse.known ≡ [] → reuse.lookup.index ≡ None → IsConsistent p earlier r reuse
 begun_consistent p earlier globals log r reuse is ticks ran none unmade =
     rw is (record {
       ran = ran ∙ ap length (sym (work_none p earlier));
@@ -115,6 +116,12 @@ carried_by job log globals first r next are is_first is_r is = rw (is, is_r, is_
 -- without a style
 pub no_style : (files : List File) (c : Citations) (min : ℕ) (globals : Variables) (r : Course) → r ≡ begun globals c.log → globals ≡ no_variables → c.style ≡ None → r ≡ run_with files c min c.style
 no_style files c min globals r is none named = is ∙ ap (λ g. begun g c.log) none ∙ ap (run_with files c min) (sym named)
+
+-- a style that is lent by its owner
+pub lent_style : (text : List ℕ) (own lent : Style) → style_of text ≡ Ok (program_of own) → lent ≡ own → style_of text ≡ Ok (program_of lent)
+lent_style text own lent read is =
+    let again : Style → Result Program Fault = λ s. Ok (program_of s) in
+    read ∙ ap again (sym is)
 
 -- a style that could be read
 pub style_ran : (files : List File) (c : Citations) (min : ℕ) (style s1 s2 text : List ℕ) (databases : List (List ℕ)) (p : Program) (r : Course) → r ≡ carried (record { files = files; cites = record { keys = c.keys; star = c.star }; databases = databases; min = min; style = s2; program = p }) c.log → c.style ≡ Some style → databases ≡ c.databases → s2 ≡ style → style_of text ≡ Ok p → text ≡ unwrap_or (text_of files s1) [] → s1 ≡ style → r ≡ run_with files c min c.style

@@ -3,7 +3,7 @@ use Rattle.std.proofs.Common.{◌≡◌, ℕ, ◌<◌, List, length}
 use Rattle.bt_style.specs.Program.{Program}
 use Rattle.bt_run.specs.declared.course.Course.{Course}
 use Rattle.bt_run.specs.declared.course.Step.{Step}
-use Rattle.bt_run.specs.declared.database.Database.{Database}
+use Rattle.bt_run.specs.declared.readings.Readings.{Readings}
 use Rattle.bt_run.specs.declared.reuse.Reuse.{Reuse}
 use Rattle.bt_run.specs.Work.{IsConsistent}
 use Rattle.bt_run.specs.Sorting.{key_at}
@@ -12,8 +12,8 @@ use Rattle.bt_run.specs.Commands.{sorted_run}
 use Rattle.bt_run.proofs.OrderLemmas.{places_below}
 use Rattle.bt_run.proofs.SortingLemmas.{sorted_all}
 
-pub read_consistent : (p : Program) (earlier : List Step) (job : Job) (number : ℕ) (r next : Course) (reuse : Reuse) (databases : List Database) → next ≡ read job number r → IsConsistent p earlier r reuse → IsConsistent p earlier next (record reuse { databases = databases })
-read_consistent p earlier job number r next reuse databases is h = rw is (record { ran = h.ran; ticks = h.ticks; fewer = h.fewer; bounded = h.bounded; steps = h.steps; known = h.known; indexed = h.indexed; ordered = places_below (length (read job number r).entries) })
+pub read_consistent : (p : Program) (earlier : List Step) (job : Job) (number : ℕ) (r next : Course) (reuse : Reuse) (readings : Readings) → next ≡ read job number r → IsConsistent p earlier r reuse → IsConsistent p earlier next (record reuse { readings = readings })
+read_consistent p earlier job number r next reuse readings is h = rw is (record { ran = h.ran; ticks = h.ticks; fewer = h.fewer; bounded = h.bounded; steps = h.steps; known = h.known; indexed = h.indexed; ordered = places_below (length (read job number r).entries) })
 
 pub sorted_consistent : (p : Program) (earlier : List Step) (r next : Course) (reuse : Reuse) → next ≡ sorted_run r → IsConsistent p earlier r reuse → IsConsistent p earlier next reuse
 sorted_consistent p earlier r next reuse is h =

@@ -1,7 +1,6 @@
 -- A step in the world of all entries, by its outcome on its input alone.
 use Rattle.std.specs.Prelude.{slice_index_or}
-use Rattle.std.specs.Option.{option_map, ForSome}
-use Rattle.std.proofs.Common.{zero, suc, ◌≡◌, refl, ℕ, ◌+◌, ◌≤◌, ◌<◌, List, [], ◌∷◌, ◌++◌, length, All, Option, Some, None, sym, ap, ◌∙◌, arith}
+use Rattle.std.proofs.Common.{zero, suc, ◌≡◌, refl, ℕ, ◌+◌, ◌<◌, List, [], ◌∷◌, ◌++◌, length, All, Option, Some, None, sym, ap, ◌∙◌, arith}
 use Rattle.std.proofs.Math.Seq.{drop-append_seam}
 use Rattle.std.proofs.lemmas.List.{get_or-set_same, length-set, length-append}
 use Rattle.std.proofs.lemmas.List.Elements.{All-append}
@@ -21,8 +20,7 @@ use Rattle.bt_run.specs.declared.course.Step.{Step}
 use Rattle.bt_run.specs.declared.course.Site.{Site}
 use Rattle.bt_run.specs.Course.{world_of, input_at, kept, left_by, stepped, all_told, with_variables, variables_back, put_back}
 use Rattle.bt_run.specs.declared.reuse.Reuse.{Reuse}
-use Rattle.bt_run.specs.Index.{IsIndex}
-use Rattle.bt_run.specs.Work.{total_cost, work_under, IsStep, IsKnown, IsCounted, IsConsistent}
+use Rattle.bt_run.specs.Work.{key_in, total_cost, work_under, IsStep, IsNext, IsConsistent}
 use Rattle.bt_run.proofs.WorkLemmas.{work_append, work_fewer}
 
 -- what a step leaves in the world of its entry alone, or of none
@@ -83,9 +81,19 @@ step_back p law site t (Some n) r h =
     back ∙ (λ j. record { entries = variables_back (Some n) (entries j) r.entries; order = r.order; globals = f.world.globals; preamble = r.preamble; held = f.world.held; lines = r.lines ++ f.world.lines; log = r.log ++ all_told site.line site.style f.world.messages; trace = r.trace ++ kept site.command (input_at t (Some n) w) (own_part j) ∷ []; stopped = f.stopped })
 
 -- The same for a run's own way of putting an outcome back, piece by piece.
-pub step_taken : (p : Program) → DependsOnInput p → (site : Site) (t : Target) (x : Option ℕ) (r back : Course) (i : Input) (key : Option (List ℕ)) (o : Outcome) (cost : ℕ) (messages log : List Message) (steps : List Step) → IsPlace x (world_of r) → i ≡ input_at t x (world_of r) → key ≡ option_map (λ (e : Entry). e.key) i.entry → o ≡ outcome_of (step_in p i) → cost ≡ (step_in p i).cost → back ≡ put_back x o r → messages ≡ all_told site.line site.style o.messages → log ≡ back.log ++ messages → steps ≡ back.trace ++ record { command = site.command; key = key; input = i; outcome = o; cost = cost } ∷ [] → record back { log = log; trace = steps } ≡ stepped p site t x r
-step_taken p law site t x r back i key o cost messages log steps h is_input is_key is_outcome is_cost is_back are_told is_log are_steps =
-    rw (is_log, are_steps, are_told, is_back, is_key, is_cost, is_outcome, is_input) (sym (step_back p law site t x r h))
+pub step_taken : (p : Program) → DependsOnInput p → (site : Site) (t : Target) (x : Option ℕ) (r back : Course) (s : Step) (messages log : List Message) (steps : List Step) → IsPlace x (world_of r) → s.command ≡ site.command → s.input ≡ input_at t x (world_of r) → IsStep p s → back ≡ put_back x s.outcome r → messages ≡ all_told site.line site.style s.outcome.messages → log ≡ back.log ++ messages → steps ≡ back.trace ++ s ∷ [] → record back { log = log; trace = steps } ≡ stepped p site t x r
+step_taken p law site t x r back s messages log steps h is_command is_input own is_back are_told is_log are_steps =
+    let i = input_at t x (world_of r) in
+    let is_outcome = own.outcome ∙ ap (λ (j : Input). outcome_of (step_in p j)) is_input in
+    let is_step : s ≡ kept site.command i (own_left (step_in p i)) =
+    λ j. record {
+      command = is_command j;
+      key = (own.key ∙ ap key_in is_input) j;
+      input = is_input j;
+      outcome = is_outcome j;
+      cost = (own.cost ∙ ap (λ (k : Input). (step_in p k).cost) is_input) j;
+    } in
+    rw (is_log, are_steps, are_told, is_back, is_step) (sym (step_back p law site t x r h))
 
 -- What a step leaves of what a run keeps to
 
@@ -103,19 +111,19 @@ pub all_behind : {A : Type 0} (P : A → Type 0) (xs : List A) (y : A) → All P
 all_behind P xs y h g = All-append P xs (y ∷ []) h (all_one P y g)
 
 -- a step keeps what a run keeps to
-pub consistent_behind : (p : Program) (earlier : List Step) (x : Option ℕ) (o : Outcome) (r back : Course) (s : Step) (log : List Message) (steps : List Step) (before after : Reuse) → IsConsistent p earlier r before → back ≡ put_back x o r → steps ≡ back.trace ++ s ∷ [] → IsCounted p earlier s before after → IsStep p s → after.meter ≤ before.meter + 1000000 → All (IsKnown p) after.known → ForSome after.index (IsIndex earlier) → IsConsistent p earlier (record back { log = log; trace = steps }) after
-consistent_behind p earlier x o r back s log steps before after h is_back are_steps counted is_step within known indexed =
+pub consistent_behind : (p : Program) (earlier : List Step) (x : Option ℕ) (o : Outcome) (r back : Course) (s : Step) (log : List Message) (steps : List Step) (before after : Reuse) → IsConsistent p earlier r before → back ≡ put_back x o r → steps ≡ back.trace ++ s ∷ [] → IsNext p earlier s before after → IsConsistent p earlier (record back { log = log; trace = steps }) after
+consistent_behind p earlier x o r back s log steps before after h is_back are_steps next =
     let cost : Step → ℕ = λ (t : Step). t.cost in
     let so_far = work_under p earlier r.trace in
     let more = work_under p earlier (s ∷ []) in
     let works = work_append p earlier r.trace (s ∷ []) in
     rw (are_steps, is_back) (record {
-      ran = counted.ran ∙ ap (λ n. n + length more) h.ran ∙ sym (ap length works ∙ length-append so_far more);
-      ticks = counted.ticks ∙ ap (λ n. n + total_cost more) h.ticks ∙ sym (ap total_cost works ∙ sum_by-append cost so_far more);
-      fewer = omega (arith, length-append r.trace (s ∷ []), h.fewer, counted.ran, work_fewer p earlier (s ∷ []));
-      bounded = omega (arith, length-append r.trace (s ∷ []), h.bounded, within);
-      steps = all_behind (IsStep p) r.trace s h.steps is_step;
-      known = known;
-      indexed = indexed;
+      ran = next.counted.ran ∙ ap (λ n. n + length more) h.ran ∙ sym (ap length works ∙ length-append so_far more);
+      ticks = next.counted.ticks ∙ ap (λ n. n + total_cost more) h.ticks ∙ sym (ap total_cost works ∙ sum_by-append cost so_far more);
+      fewer = omega (arith, length-append r.trace (s ∷ []), h.fewer, next.counted.ran, work_fewer p earlier (s ∷ []));
+      bounded = omega (arith, length-append r.trace (s ∷ []), h.bounded, next.within);
+      steps = all_behind (IsStep p) r.trace s h.steps next.step;
+      known = next.known;
+      indexed = next.indexed;
       ordered = λ k d lt. omega (arith, length-variables_back x o.variables r.entries, h.ordered k d lt);
     })

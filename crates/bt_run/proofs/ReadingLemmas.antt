@@ -40,11 +40,11 @@ items_by files databases names are_texts =
     maps (λ text. items_of (pieces_of text)) (λ (d : Database). d.text) databases ∙ ap (map (λ text. items_of (pieces_of text))) are_texts ∙ sym (maps (λ text. items_of (pieces_of text)) (text_in files) names)
 
 -- what the databases give, from references to their items
-pub found_by : {R : Type 0} (now : R → List Piece) (refs refs_seen : List R) (items items_seen : List (List Piece)) (databases seen_databases : List Database) (job : Job) (number : ℕ) (d : Declared) (all : Resolved) → d ≡ declared_before number job.program → map (λ (d : Database). d.text) databases ≡ map (text_in job.files) job.databases → seen_databases ≡ databases → map items_of items ≡ map (λ (d : Database). items_of (pieces_of d.text)) seen_databases → items_seen ≡ items → map now refs ≡ items_seen → refs_seen ≡ refs → all ≡ resolved d job.cites (map (λ r. items_of (now r)) refs_seen) job.min → all ≡ found job number
-found_by now refs refs_seen items items_seen databases seen_databases job number d all is_declared are_texts same_databases are_items same_items are_refs same_refs is =
-    let seen : map (λ r. items_of (now r)) refs_seen ≡ map (items_in job.files) job.databases =
-    ap (map (λ r. items_of (now r))) same_refs ∙ maps items_of now refs ∙ ap (map items_of) (are_refs ∙ same_items) ∙ are_items ∙ ap (map (λ (d : Database). items_of (pieces_of d.text))) same_databases ∙ items_by job.files databases job.databases are_texts in
-    is ∙ ap (λ e. resolved e job.cites (map (λ r. items_of (now r)) refs_seen) job.min) is_declared ∙ ap (λ ds. resolved (declared_before number job.program) job.cites ds job.min) seen
+pub found_by : {R : Type 0} (now : R → List Piece) (items items_seen : List R) (databases seen_databases : List Database) (job : Job) (number : ℕ) (d : Declared) (all : Resolved) → d ≡ declared_before number job.program → map (λ (d : Database). d.text) databases ≡ map (text_in job.files) job.databases → seen_databases ≡ databases → map (λ i. items_of (now i)) items ≡ map (λ (d : Database). items_of (pieces_of d.text)) seen_databases → items_seen ≡ items → all ≡ resolved d job.cites (map (λ i. items_of (now i)) items_seen) job.min → all ≡ found job number
+found_by now items items_seen databases seen_databases job number d all is_declared are_texts same_databases are_items same_items is =
+    let seen : map (λ i. items_of (now i)) items_seen ≡ map (items_in job.files) job.databases =
+    ap (map (λ i. items_of (now i))) same_items ∙ are_items ∙ ap (map (λ (d : Database). items_of (pieces_of d.text))) same_databases ∙ items_by job.files databases job.databases are_texts in
+    is ∙ ap (λ e. resolved e job.cites (map (λ i. items_of (now i)) items_seen) job.min) is_declared ∙ ap (λ ds. resolved (declared_before number job.program) job.cites ds job.min) seen
 
 -- what follows a message that was pushed
 pub told_behind : (old log rest : List Message) (line seen : Message) → line ≡ seen → log ≡ old ++ line ∷ [] → log ++ rest ≡ old ++ seen ∷ rest

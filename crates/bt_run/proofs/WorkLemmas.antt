@@ -1,7 +1,7 @@
 -- What is taken over is what would have been carried out, and how it counts.
 use Rattle.std.specs.Prelude.{◌==◌, ◌&&◌, not}
 use Rattle.std.specs.List.{Contains}
-use Rattle.std.specs.Option.{option_map}
+use Rattle.std.specs.Option.{option_map, ForSome}
 use Rattle.std.proofs.Common.{◌≡◌, refl, sym, ap, ◌∙◌, subst, ◌↔◌, inl, inr, ◌+◌, ◌≤◌, ℕ, Bool, true, false, List, [], ◌∷◌, ◌++◌, Option, Some, None, All, length, arith}
 use Rattle.std.proofs.lemmas.Bool.{cases_Bool}
 use Rattle.std.proofs.lemmas.Bool.Decides.{nat_tests}
@@ -20,12 +20,14 @@ use Rattle.bt_machine.specs.Step.{step_in}
 use Rattle.bt_machine.specs.Footprint.{entry_over, function_of}
 use Rattle.bt_machine.specs.Agreement.{Agree, IsFootprint, AgreeingInputsSameStep}
 use Rattle.bt_machine.specs.Comparison.{reach_by, agreement}
+use Rattle.bt_machine.proofs.Agreeing.{itself}
 use Rattle.bt_machine.proofs.Comparing.{compared_tells}
 use Rattle.bt_run.specs.declared.course.Step.{Step}
 use Rattle.bt_run.specs.declared.reuse.Reuse.{Reuse}
 use Rattle.bt_run.specs.declared.reuse.Known.{Known}
 use Rattle.bt_run.specs.Reached.{names_in}
-use Rattle.bt_run.specs.Work.{key_in, IsStep, same_key, is_same, is_again, work_under, IsLike, IsKnown, step_now, IsCounted}
+use Rattle.bt_run.specs.Index.{IsIndex}
+use Rattle.bt_run.specs.Work.{key_in, IsStep, same_key, is_same, is_again, work_under, IsLike, IsKnown, step_now, IsCounted, IsNext}
 use Rattle.bt_run.proofs.ReachedLemmas.{footprint_named}
 
 -- Agreement
@@ -169,6 +171,26 @@ pub ran_counted : (p : Program) (earlier : List Step) (command : ℕ) (names : L
 ran_counted p earlier command names i o cost before after reach none ran ticks =
     let one = work_new p earlier (step_now command i o cost) (not_again p earlier command names i o cost reach none) in
     record { ran = rw one (omega (arith, ran)); ticks = rw one (omega (arith, ticks)) }
+
+-- an earlier step itself, met again
+same_itself : (p : Program) (s : Step) → is_same p s s ≡ true
+unfolding is_same
+same_itself p s =
+    let names = names_in p s.input in
+    and_both (s.command == s.command) (same_key s.key s.key) (agreement (reach_by names) s.input s.input)
+    (same_number s.command s.command refl) (key_itself s.key) ((agreed names s.input s.input).1 (itself (is_among names) s.input))
+
+pub met_again : (p : Program) (earlier : List Step) (s : Step) (before after : Reuse) → All (IsStep p) earlier → Contains earlier s → All (IsKnown p) before.known → ForSome before.lookup.index (IsIndex earlier) → after ≡ record before { next = after.next } → IsNext p earlier s before after
+met_again p earlier s before after all among known indexed is =
+    let same = subst (λ (t : Step). is_same p s t ≡ true) (sym among.2) (same_itself p s) in
+    let none = work_again p earlier s (list_any_at (is_same p s) earlier among.0 s among.1 same) in
+    rw is (record {
+      step = step_of p earlier s all among;
+      counted = record { ran = rw none (omega arith); ticks = rw none (omega arith) };
+      within = omega arith;
+      known = known;
+      indexed = indexed;
+    })
 
 -- what was worked out is the footprint of an input
 pub footprint_known : (p : Program) (i : Input) (k : Known) (names : List Target) → IsKnown p k → k.target ≡ i.target → k.function ≡ function_of i.entry → names ≡ k.reach.targets → IsFootprint p i names

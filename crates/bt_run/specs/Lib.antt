@@ -4,6 +4,8 @@ pub mod Index
 pub mod Work
 pub mod Sorting
 pub mod Reading
+pub mod Styles
+pub mod BodySet
 pub mod Commands
 pub mod Counts
 pub mod Meaning

@@ -15,16 +15,16 @@ use crate::beginning::{begin, fault_told, first_globals};
 use crate::commands::run_commands;
 use crate::counts::tell_counts;
 use crate::course::Course;
-use crate::database::{Database, present};
 use crate::job::{Job, shared_text};
 use crate::kept::{Kept, steps_under};
-use crate::reuse::Reuse;
+use crate::readings::Readings;
+use crate::reuse::{Lookup, Reuse};
 use bt_actions::Variables;
 use bt_job::{Citations, File, read_citations};
 use bt_log::{Message, lines_bytes, log_bytes, status, terse_bytes};
 use bt_machine::Meter;
 use bt_resolve::Cites;
-use bt_style::{Fault, StyleRefusal, fields_are_apart, read_style};
+use bt_style::{Fault, StyleRefusal, fields_are_apart};
 use bt_text::{Bytes, Sequence, Shared};
 use std::alloc::{AllocError, Global};
 
@@ -79,7 +79,7 @@ fn carry_out_style(
     requires meter { reuse.old.meter ≡ 0 }
     requires ran { reuse.old.ran ≡ 0 }
     requires known { reuse.old.known ≡ [] }
-    requires index { reuse.old.index ≡ None }
+    requires index { reuse.old.lookup.index ≡ None }
     ensures run { IfOk result (λ course. course ≡ carried (job_of job.entry) log) }
     ensures consistent { IfOk result
         (λ course. IsConsistent (program_of job.entry.style.now) job.entry.earlier.now course reuse.new) }
@@ -113,7 +113,7 @@ struct Ran {
 }
 
 /// Runs what the `.aux` files ask for.
-#[tactic(auto, using(crate::proofs::AnswerLemmas::begun_consistent, crate::proofs::AnswerLemmas::no_style, crate::proofs::AnswerLemmas::style_ran, crate::proofs::AnswerLemmas::style_refused, crate::proofs::AnswerLemmas::nothing_taken, crate::proofs::AnswerLemmas::run_taken, crate::proofs::AnswerLemmas::earlier_steps))]
+#[tactic(auto, using(crate::proofs::AnswerLemmas::begun_consistent, crate::proofs::AnswerLemmas::no_style, crate::proofs::AnswerLemmas::lent_style, crate::proofs::AnswerLemmas::style_ran, crate::proofs::AnswerLemmas::style_refused, crate::proofs::AnswerLemmas::nothing_taken, crate::proofs::AnswerLemmas::run_taken, crate::proofs::AnswerLemmas::earlier_steps))]
 fn run_with(
     alloc: Global,
     files: &[File],
@@ -125,7 +125,7 @@ fn run_with(
     requires meter { reuse.old.meter ≡ 0 }
     requires ran { reuse.old.ran ≡ 0 }
     requires known { reuse.old.known ≡ [] }
-    requires index { reuse.old.index ≡ None }
+    requires index { reuse.old.lookup.index ≡ None }
     requires star { ForSome citations.star (λ before. before ≤ length citations.keys) }
     ensures run { IfOk result (λ r. r.course ≡ run_with files.now citations min citations.style) }
     ensures wanted { IfOk result (λ r. r.wanted ≡ citations.wanted) }
@@ -155,7 +155,7 @@ fn run_with(
     let cites = Cites { keys, star };
     let text = shared_text(alloc, files, name)?;
     let bytes = text.as_slice();
-    match read_style(alloc, bytes) {
+    match reuse.readings.style(alloc, &text) {
         Ok(style) => {
             let earlier = steps_under(kept, bytes);
             let job = Job {
@@ -210,14 +210,14 @@ fn show(
 pub struct Run {
     pub answers: Answers,
     pub kept: Kept,
-    /// The databases that were read, of those texts that are there.
-    pub databases: Sequence<Database>,
+    /// What was read of the files.
+    pub readings: Readings,
     pub report: Report,
 }
 
 /// What the files mean from this root, the name of its file without `.aux`, with this min-crossrefs. Of the steps that
 /// are kept of an earlier run, those that agree are taken over where its style has the same text; all others are carried
-/// out, and reported. Of the databases only those are read that weren't before. The one error is out of memory.
+/// out, and reported. Texts that were read before aren't read again. The one error is out of memory.
 #[tactic(auto, using(crate::proofs::AnswerLemmas::star_within))]
 pub fn answers_after(
     alloc: Global,
@@ -225,21 +225,25 @@ pub fn answers_after(
     root: &[u8],
     min: u32,
     kept: &Kept,
-    databases: Sequence<Database>,
+    readings: Readings,
 ) -> Result<Run, AllocError>
     ensures shown { IfOk result (λ run. meaning_of run.answers ≡ meaning files.now root.now min) }
     ensures report { IfOk result (λ run. run.report ≡ report_after kept.now.text kept.now.steps files.now root.now min) }
     ensures text { IfOk result (λ run. run.kept.text ≡ style_text files.now root.now) }
     ensures steps { IfOk result (λ run. run.kept.steps ≡ trace files.now root.now min) }
 {
-    let citations = read_citations(alloc, files, root)?;
+    let mut readings = readings;
+    let citations = read_citations(alloc, files, root, &mut readings.aux_texts)?;
     let mut reuse = Reuse {
         meter: Meter::new(),
         ran: 0,
         next: 0,
-        index: None,
+        lookup: Lookup {
+            scans: 0,
+            index: None,
+        },
         known: Sequence::new(alloc),
-        databases,
+        readings,
     };
     let ran = run_with(alloc, files, citations, min, kept, &mut reuse)?;
     let Ran {
@@ -261,12 +265,12 @@ pub fn answers_after(
         reused: steps as u64 - reuse.ran as u64,
         ticks: reuse.meter.value(),
     };
-    let databases = present(alloc, files, reuse.databases.as_slice())?;
+    let readings = reuse.readings.present(alloc, files)?;
     let kept = Kept { text, steps: trace };
     Ok(Run {
         answers,
         kept,
-        databases,
+        readings,
         report,
     })
 }

@@ -1,19 +1,21 @@
 //! A command of the style that takes steps: EXECUTE, ITERATE or REVERSE.
 
-ghost use Rattle.std.specs.Prelude.{◌≡◌, ◌<◌, Some, All, OnOk, length, reverse};
+ghost use Rattle.std.specs.Prelude.{◌≡◌, ◌<◌, Some, All, Contains, IfOk, IfSome, IsSome, OnOk, length, reverse};
 ghost use Rattle.bt_style.specs.Program.{program_of};
 ghost use Rattle.bt_machine.specs.Place.{IsPlace};
-ghost use Rattle.bt_run.specs.Course.{world_of, stepped};
-ghost use Rattle.bt_run.specs.Work.{IsConsistent};
+ghost use Rattle.bt_run.specs.Course.{world_of, input_at, stepped};
+ghost use Rattle.bt_run.specs.Work.{IsConsistent, IsNext};
 ghost use Rattle.bt_run.specs.Commands.{iterated, unless_stopped};
 
 use crate::course::{Course, Site, Step};
 use crate::job::Job;
 use crate::reuse::Reuse;
 use crate::reusing::{Done, take_or_reuse};
+use crate::same_input::is_input;
 use crate::stepping::{all_told, cut_out, key_of, put_back};
 use bt_machine::step_depends_on_its_input;
 use bt_style::Target;
+use bt_text::Shared;
 use std::alloc::{AllocError, Global};
 
 /// A command that takes steps, in what a run reads.
@@ -24,7 +26,100 @@ pub struct Caller<'a> {
     pub site: &'a Site,
 }
 
-impl Caller<'_> {
+impl<'a> Caller<'a> {
+    /// The earlier step at a place, if it is one of this command and was given what a step is given now.
+    fn given_again(
+        self,
+        target: Target,
+        place: Option<usize>,
+        course: &Course,
+        next: usize,
+    ) -> Option<&'a Shared<Step>>
+        requires { IsPlace place (world_of course.now) }
+        ensures within { IsSome result → next < length self.entry.job.earlier.now }
+        ensures among { IfSome result (λ s. Contains self.entry.job.earlier.now s.now) }
+        ensures command { IfSome result (λ s. s.now.command ≡ self.entry.site.now.command) }
+        ensures input { IfSome result (λ s. s.now.input ≡ input_at target place (world_of course.now)) }
+    {
+        let earlier = self.job.earlier;
+        if next < earlier.len() {
+            let step = &earlier[next];
+            if step.command == self.site.command && is_input(&step.input, course, target, place) {
+                return Some(step);
+            }
+        }
+        None
+    }
+
+    /// The step that a run comes to, taken over or carried out by what it is given.
+    fn make_step(
+        self,
+        target: Target,
+        place: Option<usize>,
+        course: &Course,
+        reuse: &mut Reuse,
+    ) -> Result<Shared<Step>, AllocError>
+        requires placed { IsPlace place (world_of course.now) }
+        requires consistent { IsConsistent (program_of self.job.style.now) self.job.earlier.now course.now reuse.old }
+        ensures command { IfOk result (λ s. s.command ≡ self.entry.site.now.command) }
+        ensures input { IfOk result (λ s. s.input ≡ input_at target place (world_of course.now)) }
+        ensures next { IfOk result
+            (λ s. IsNext (program_of self.entry.job.style.now) self.entry.job.earlier.now s reuse.old reuse.new) }
+    {
+        let Caller { alloc, job, site } = self;
+        // Its length fits 64 bits, so that the count of the steps that were carried out can't overflow.
+        let _steps = course.trace.len();
+        let input = cut_out(alloc, course, target, place)?;
+        let key = key_of(&input)?;
+        let Done { outcome, cost } = take_or_reuse(
+            alloc,
+            job.style,
+            site.command,
+            &input,
+            job.earlier,
+            reuse,
+        )?;
+        let step = Shared::new(
+            alloc,
+            Step {
+                command: site.command,
+                key,
+                input,
+                outcome,
+                cost,
+            },
+        )?;
+        Ok(step)
+    }
+
+    /// The step that a run comes to. Where the earlier step to try next was given the same, it is shared whole.
+    fn next_step(
+        self,
+        target: Target,
+        place: Option<usize>,
+        course: &Course,
+        reuse: &mut Reuse,
+    ) -> Result<Shared<Step>, AllocError>
+        requires placed { IsPlace place (world_of course.now) }
+        requires consistent { IsConsistent (program_of self.job.style.now) self.job.earlier.now course.now reuse.old }
+        ensures command { IfOk result (λ s. s.command ≡ self.entry.site.now.command) }
+        ensures input { IfOk result (λ s. s.input ≡ input_at target place (world_of course.now)) }
+        ensures next { IfOk result
+            (λ s. IsNext (program_of self.entry.job.style.now) self.entry.job.earlier.now s reuse.old reuse.new) }
+    {
+        match self.given_again(target, place, course, reuse.next) {
+            Some(step) => {
+                reuse.next += 1;
+                let same = step.share()?;
+                Ok(same)
+            }
+            None => {
+                let made = self.make_step(target, place, course, reuse)?;
+                Ok(made)
+            }
+        }
+    }
+
     /// Takes a step for the entry at a place, or for none, with its cost on the meter.
     pub fn take_step(
         self,
@@ -41,30 +136,12 @@ impl Caller<'_> {
             (IsConsistent (program_of self.entry.job.style.now) self.entry.job.earlier.now course.new reuse.new) }
         ensures entries { OnOk result (length course.new.entries ≡ length course.old.entries) }
     {
-        let Caller { alloc, job, site } = self;
         step_depends_on_its_input();
-        // Its length fits 64 bits, so that the count of the steps that were carried out can't overflow.
-        let _steps = course.trace.len();
-        let input = cut_out(alloc, course, target, place)?;
-        let key = key_of(&input)?;
-        let Done { outcome, cost } = take_or_reuse(
-            alloc,
-            job.style,
-            site.command,
-            &input,
-            job.earlier,
-            reuse,
-        )?;
-        put_back(alloc, course, place, &outcome)?;
-        let messages = all_told(alloc, outcome.messages.as_slice(), site)?;
+        let step = self.next_step(target, place, course, reuse)?;
+        put_back(self.alloc, course, place, &step.outcome)?;
+        let messages = all_told(self.alloc, step.outcome.messages.as_slice(), self.site)?;
         course.log.append(messages)?;
-        course.trace.push(Step {
-            command: site.command,
-            key,
-            input,
-            outcome,
-            cost,
-        })?;
+        course.trace.push(step)?;
         Ok(())
     }
 

@@ -4,7 +4,7 @@ ghost use Rattle.std.specs.Prelude.{◌≡◌, OnOk, IfOk};
 ghost use Rattle.bt_style.specs.Program.{program_of};
 ghost use Rattle.bt_run.specs.Work.{IsConsistent};
 ghost use Rattle.bt_run.specs.Reading.{read};
-ghost use Rattle.bt_run.specs.Commands.{sorted_run, site_of, carried_out, command as command_done, commands_from};
+ghost use Rattle.bt_run.specs.Commands.{sorted_run, site_of, command as command_done, commands_from};
 ghost use Rattle.bt_run.specs.JobView.{job_of};
 
 use crate::caller::Caller;
@@ -36,9 +36,9 @@ fn site_of(alloc: Global, job: Job<'_>, number: usize, line: usize) -> Result<Si
     })
 }
 
-/// Does what a command says.
+/// Carries out a command, unless a step has stopped the run.
 #[tactic(auto, using(crate::proofs::CommandLemmas::sorted_consistent))]
-fn act_on(
+fn carry_out(
     alloc: Global,
     job: Job<'_>,
     number: usize,
@@ -47,11 +47,13 @@ fn act_on(
     reuse: &mut Reuse,
 ) -> Result<(), AllocError>
     requires { IsConsistent (program_of job.style.now) job.earlier.now course.old reuse.old }
-    ensures run { OnOk result
-        (course.new ≡ carried_out (job_of job.entry) number command.line command.action course.old) }
+    ensures run { OnOk result (course.new ≡ command_done (job_of job.entry) number command course.old) }
     ensures consistent { OnOk result
         (IsConsistent (program_of job.entry.style.now) job.entry.earlier.now course.new reuse.new) }
 {
+    if course.stopped {
+        return Ok(());
+    }
     match command.action {
         Action::Entry
         | Action::Function(_)
@@ -71,7 +73,7 @@ fn act_on(
             Caller { alloc, job, site }.reverse(target, course, reuse)
         }
         Action::Read => {
-            read(alloc, job, number, course, &mut reuse.databases)?;
+            read(alloc, job, number, course, &mut reuse.readings.databases)?;
             Ok(())
         }
         Action::Sort => {
@@ -79,26 +81,6 @@ fn act_on(
             Ok(())
         }
     }
-}
-
-/// Carries out a command, unless a step has stopped the run.
-fn carry_out(
-    alloc: Global,
-    job: Job<'_>,
-    number: usize,
-    command: Command,
-    course: &mut Course,
-    reuse: &mut Reuse,
-) -> Result<(), AllocError>
-    requires { IsConsistent (program_of job.style.now) job.earlier.now course.old reuse.old }
-    ensures run { OnOk result (course.new ≡ command_done (job_of job.entry) number command course.old) }
-    ensures consistent { OnOk result
-        (IsConsistent (program_of job.entry.style.now) job.entry.earlier.now course.new reuse.new) }
-{
-    if course.stopped {
-        return Ok(());
-    }
-    act_on(alloc, job, number, command, course, reuse)
 }
 
 /// Carries out a style's commands in order, up to a step that stops the run.

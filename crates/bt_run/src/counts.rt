@@ -8,14 +8,14 @@ ghost use Rattle.bt_run.specs.Counts.{calls_at, all_calls, count_message, total_
 use crate::course::{Course, Step};
 use bt_log::{Message, Rank};
 use bt_style::{BUILTIN_COUNT, Builtin};
-use bt_text::Sequence;
+use bt_text::{Sequence, Shared};
 use itoa::Buffer;
 use std::alloc::{AllocError, Global};
 
 /// Some steps, with how often each built-in function was called in all of them together.
 #[derive(Clone, Copy)]
 struct Tally<'a> {
-    steps: &'a [Step],
+    steps: &'a [Shared<Step>],
     /// The calls of each function, by its place in the table.
     calls: [u128; BUILTIN_COUNT],
     ghost counted: { (place : ℕ) → place < 37 → slice_index_or calls place 0 ≡ calls_at steps.now place },
@@ -34,7 +34,7 @@ fn add_calls(sums: &mut [u128; BUILTIN_COUNT], calls: &[u32; BUILTIN_COUNT])
 }
 
 /// Counts the calls in some steps.
-fn count_calls(steps: &[Step]) -> Tally<'_>
+fn count_calls(steps: &[Shared<Step>]) -> Tally<'_>
     ensures { result.steps.now ≡ steps.now }
 {
     let mut calls = [0; BUILTIN_COUNT];

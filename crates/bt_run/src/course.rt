@@ -29,7 +29,8 @@ pub struct Course {
     pub held: Held,
     pub lines: Sequence<Shared<Bytes>>,
     pub log: Sequence<Message>,
-    pub trace: Sequence<Step>,
+    /// The steps so far; those that were taken over whole are shared with the run before.
+    pub trace: Sequence<Shared<Step>>,
     /// Whether a step stopped the run.
     pub stopped: bool,
 }

@@ -7,7 +7,7 @@ ghost use Rattle.bt_bib.specs.Splice.{IsSplice};
 ghost use Rattle.bt_run.specs.Reading.{text_in};
 
 use crate::job::shared_text;
-use bt_bib::{Items, KeptItems, ReadMeter, Splice};
+use bt_bib::{KeptItems, ReadMeter, Splice};
 use bt_job::File;
 use bt_text::{Bytes, Sequence, Shared};
 use std::alloc::{AllocError, Global};
@@ -104,14 +104,17 @@ pub fn databases_in(
     Ok(all)
 }
 
-/// The items of databases.
-pub fn all_items(alloc: Global, databases: &[Database]) -> Result<Vec<Items>, AllocError>
-    ensures { IfOk result (λ items. map items_of items.items
+/// The items of databases, as they are kept.
+pub fn all_items<'a>(
+    alloc: Global,
+    databases: &'a [Database],
+) -> Result<Vec<&'a KeptItems>, AllocError>
+    ensures { IfOk result (λ items. map (λ kept. items_of kept.now) items.items
         ≡ map (λ database. items_of (pieces_of database.text)) databases.now) }
 {
     let mut items = Vec::new(alloc);
     'databases: for database in databases {
-        items.push(database.items.items(alloc)?)?;
+        items.push(&*database.items)?;
     }
     Ok(items)
 }

@@ -6,7 +6,7 @@ ghost use Rattle.bt_run.specs.Index.{step_name, places_at, IsIndex};
 
 use crate::course::Step;
 use bt_machine::Input;
-use bt_text::{ByName, Bytes, Sequence};
+use bt_text::{ByName, Bytes, Sequence, Shared};
 use itoa::Buffer;
 use std::alloc::{AllocError, Global};
 
@@ -58,7 +58,7 @@ impl Index {
     }
 
     /// The places of these steps. The one error is out of memory.
-    pub fn of(alloc: Global, steps: &[Step]) -> Result<Index, AllocError>
+    pub fn of(alloc: Global, steps: &[Shared<Step>]) -> Result<Index, AllocError>
         ensures { IfOk result (λ index. IsIndex steps.now index) }
     {
         let mut index = Index {

@@ -26,7 +26,7 @@ pub struct Job<'a> {
     pub name: &'a [u8],
     pub style: &'a Style,
     /// The steps of an earlier run under this style; none where there was none.
-    pub earlier: &'a [Step],
+    pub earlier: &'a [Shared<Step>],
     ghost steps: { All (IsStep (program_of style.now)) earlier.now },
     ghost fields_apart: { IsTrue (are_apart style.now.fields) },
     ghost star_within: { ForSome cites.now.star (λ before. before ≤ length cites.now.keys) },

@@ -11,7 +11,7 @@ use std::alloc::Global;
 #[derive(Debug, Drop)]
 pub struct Kept {
     pub text: Option<Shared<Bytes>>,
-    pub steps: Sequence<Step>,
+    pub steps: Sequence<Shared<Step>>,
     ghost true_steps: { StepsAre text steps },
 }
 
@@ -29,7 +29,7 @@ impl Kept {
 }
 
 /// The steps of an earlier run that had a style of this text.
-pub fn steps_under<'a>(kept: &'a Kept, text: &[u8]) -> &'a [Step]
+pub fn steps_under<'a>(kept: &'a Kept, text: &[u8]) -> &'a [Shared<Step>]
     ensures { result.now ≡ steps_under kept.now.text kept.now.steps text.now }
 {
     if let Some(own) = &kept.text

@@ -15,16 +15,21 @@ mod index;
 mod job;
 mod kept;
 mod reading;
+mod readings;
 mod reuse;
 mod reusing;
+mod same_input;
 mod sorting;
 mod stepping;
+mod styles;
 
 pub use answers::{Answers, Report, Run, answers_after};
 pub use course::{Course, Site, Step};
 pub use database::{Database, database_of};
 pub use kept::Kept;
+pub use readings::Readings;
 pub use reuse::Reuse;
+pub use styles::ReadStyle;
 
 #[cfg(test)]
 mod tests;

@@ -11,22 +11,10 @@ use crate::databases::tell_databases;
 use crate::declaring::{blank, declared_before};
 use crate::job::Job;
 use bt_actions::{Entry, Variables};
-use bt_bib::Items;
 use bt_resolve::{Resolved, resolve};
 use bt_style::Style;
 use bt_text::{Sequence, Shared};
 use std::alloc::{AllocError, Global};
-
-/// References to all items.
-fn references(alloc: Global, items: &[Items]) -> Result<Vec<&Items>, AllocError>
-    ensures { IfOk result (λ references. map (λ i. i.now) references.items ≡ items.now) }
-{
-    let mut references = Vec::new(alloc);
-    'items: for one in items {
-        references.push(one)?;
-    }
-    Ok(references)
-}
 
 /// What the databases give for the citations, at the command of this number. Those that weren't read before are read.
 fn found(
@@ -40,8 +28,7 @@ fn found(
     let declared = declared_before(alloc, job.style, number)?;
     let read = databases_in(alloc, job.files, job.databases, databases)?;
     let items = all_items(alloc, read.as_slice())?;
-    let references = references(alloc, items.as_slice())?;
-    let all = resolve(alloc, &declared, job.cites, references.as_slice(), job.min)?;
+    let all = resolve(alloc, &declared, job.cites, items.as_slice(), job.min)?;
     Ok(all)
 }
 

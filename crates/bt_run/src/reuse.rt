@@ -1,7 +1,7 @@
 //! How a run goes over the steps of an earlier one.
 
-use crate::database::Database;
 use crate::index::Index;
+use crate::readings::Readings;
 use bt_machine::Meter;
 use bt_style::{Reach, Target};
 use bt_text::{Sequence, Shared};
@@ -14,6 +14,15 @@ pub struct Known {
     pub reach: Shared<Reach>,
 }
 
+/// How earlier steps are found that aren't met at the place to try next.
+#[derive(Drop)]
+pub struct Lookup {
+    /// How often all of them were gone over.
+    pub scans: usize,
+    /// Where they stand, which is worked out once they were gone over often.
+    pub index: Option<Index>,
+}
+
 /// How many steps were carried out, and their ticks; steps that were taken over from the earlier run do not count. And
 /// what makes the next step quick.
 #[derive(Drop)]
@@ -22,10 +31,9 @@ pub struct Reuse {
     pub ran: u128,
     /// The place after that of the earlier step that was met last.
     pub next: usize,
-    /// Where the earlier steps stand, from the first step on that isn't met there.
-    pub index: Option<Index>,
+    pub lookup: Lookup,
     /// What was worked out of the style so far, each once.
     pub known: Sequence<Known>,
-    /// The databases that were read, by earlier runs and this one.
-    pub databases: Sequence<Database>,
+    /// What was read, by earlier runs and this one.
+    pub readings: Readings,
 }

@@ -11,11 +11,14 @@ ghost use Rattle.bt_run.specs.Work.{IsStep, IsLike, IsNoneAt, IsNone, IsMet, IsK
 
 use crate::course::Step;
 use crate::index::Index;
-use crate::reuse::{Known, Reuse};
+use crate::reuse::{Known, Lookup, Reuse};
 use bt_machine::{Input, Outcome, activate, agreeing_inputs_have_one_step, agrees, left_over};
 use bt_style::{Reach, Style, Target};
 use bt_text::{Sequence, Shared};
 use std::alloc::{AllocError, Global};
+
+/// How often all earlier steps are gone over before an index of them is made, which takes much longer than to do it once.
+const SCANS: usize = 16;
 
 /// What a step left, and its cost.
 #[derive(Debug, Drop)]
@@ -27,7 +30,7 @@ pub struct Done {
 // What is reached
 
 /// Whether two functions of types are the same.
-fn is_same_function(one: Option<usize>, other: Option<usize>) -> bool
+pub fn is_same_function(one: Option<usize>, other: Option<usize>) -> bool
     ensures { IsTrue result ↔ (one ≡ other) }
 {
     match (one, other) {
@@ -107,7 +110,7 @@ fn is_like(style: &Style, step: &Step, sought: Sought<'_>) -> bool
 /// The step at a place, if it is one of this command and its input agrees with this one in what is reached.
 fn like_at<'a>(
     style: &Style,
-    earlier: &'a [Step],
+    earlier: &'a [Shared<Step>],
     place: usize,
     sought: Sought<'_>,
 ) -> Option<Found<'a>>
@@ -125,7 +128,7 @@ fn like_at<'a>(
 /// The first step at these places that is one of this command, and whose input agrees with this one in what is reached.
 fn find_like<'a>(
     style: &Style,
-    earlier: &'a [Step],
+    earlier: &'a [Shared<Step>],
     places: &[usize],
     sought: Sought<'_>,
 ) -> Option<Found<'a>>
@@ -139,8 +142,28 @@ fn find_like<'a>(
     None
 }
 
+/// The first step that is one of this command, and whose input agrees with this one in what is reached.
+fn find_anywhere<'a>(
+    style: &Style,
+    earlier: &'a [Shared<Step>],
+    sought: Sought<'_>,
+) -> Option<Found<'a>>
+    ensures { MatchOption result (IsNone sought.entry earlier.now) (IsMet sought.entry earlier.now) }
+{
+    'places: for place in 0..earlier.len() {
+        if let Some(found) = like_at(style, earlier, place, sought) {
+            return Some(found);
+        }
+    }
+    None
+}
+
 /// The index of the earlier steps, which is made where there is none yet.
-fn index_of(alloc: Global, earlier: &[Step], index: Option<Index>) -> Result<Index, AllocError>
+fn index_of(
+    alloc: Global,
+    earlier: &[Shared<Step>],
+    index: Option<Index>,
+) -> Result<Index, AllocError>
     requires { ForSome index (IsIndex earlier.now) }
     ensures { IfOk result (λ made. IsIndex earlier.now made) }
 {
@@ -150,44 +173,33 @@ fn index_of(alloc: Global, earlier: &[Step], index: Option<Index>) -> Result<Ind
     }
 }
 
-/// The step that is met by the index.
-fn meet_by_index<'a>(
-    alloc: Global,
-    style: &Style,
-    earlier: &'a [Step],
-    sought: Sought<'_>,
-    index: &mut Option<Index>,
-) -> Result<Option<Found<'a>>, AllocError>
-    requires { ForSome index.old (IsIndex earlier.now) }
-    ensures met { IfOk result
-        (λ met. MatchOption met (IsNone sought.entry earlier.now) (IsMet sought.entry earlier.now)) }
-    ensures indexed { OnOk result (ForSome index.new (IsIndex earlier.now)) }
-{
-    let made = index_of(alloc, earlier, index.take())?;
-    let places = made.places(alloc, sought.command, sought.input)?;
-    let met = find_like(style, earlier, places, sought);
-    *index = Some(made);
-    Ok(met)
-}
-
-/// The step that is met: mostly the one at the place to try next.
+/// The step that is met: mostly the one at the place to try next. To find another, all are gone over, and after a few times
+/// looked up.
 fn meet<'a>(
     alloc: Global,
     style: &Style,
-    earlier: &'a [Step],
+    earlier: &'a [Shared<Step>],
     next: usize,
     sought: Sought<'_>,
-    index: &mut Option<Index>,
+    lookup: &mut Lookup,
 ) -> Result<Option<Found<'a>>, AllocError>
-    requires { ForSome index.old (IsIndex earlier.now) }
+    requires { ForSome lookup.old.index (IsIndex earlier.now) }
     ensures met { IfOk result
         (λ met. MatchOption met (IsNone sought.entry earlier.now) (IsMet sought.entry earlier.now)) }
-    ensures indexed { OnOk result (ForSome index.new (IsIndex earlier.now)) }
+    ensures indexed { OnOk result (ForSome lookup.new.index (IsIndex earlier.now)) }
 {
-    match like_at(style, earlier, next, sought) {
-        Some(found) => Ok(Some(found)),
-        None => meet_by_index(alloc, style, earlier, sought, index),
+    if let Some(found) = like_at(style, earlier, next, sought) {
+        return Ok(Some(found));
     }
+    if lookup.scans < SCANS {
+        lookup.scans += 1;
+        return Ok(find_anywhere(style, earlier, sought));
+    }
+    let made = index_of(alloc, earlier, lookup.index.take())?;
+    let places = made.places(alloc, sought.command, sought.input)?;
+    let met = find_like(style, earlier, places, sought);
+    lookup.index = Some(made);
+    Ok(met)
 }
 
 /// Whether a step is for the same key.
@@ -200,7 +212,7 @@ fn is_same_key(step: &Step, input: &Input) -> bool {
 }
 
 /// The place to try after a step that isn't met: one further, where the step here is of the same command and key.
-fn place_after(earlier: &[Step], next: usize, sought: Sought<'_>) -> usize
+fn place_after(earlier: &[Shared<Step>], next: usize, sought: Sought<'_>) -> usize
     ensures { result ≤ next + 1 }
 {
     if next < earlier.len() {
@@ -244,7 +256,7 @@ fn carry_out(
     ensures ticks { OnOk result
         (reuse.new.meter ≡ reuse.old.meter + (step_in (program_of style.now) input.now).cost) }
     ensures known { OnOk result (reuse.new.known ≡ reuse.old.known) }
-    ensures index { OnOk result (reuse.new.index ≡ reuse.old.index) }
+    ensures lookup { OnOk result (reuse.new.lookup ≡ reuse.old.lookup) }
 {
     let before = reuse.meter.value();
     let outcome = activate(alloc, style, input, &mut reuse.meter)?;
@@ -259,18 +271,18 @@ pub fn take_or_reuse(
     style: &Style,
     command: usize,
     input: &Input,
-    earlier: &[Step],
+    earlier: &[Shared<Step>],
     reuse: &mut Reuse,
 ) -> Result<Done, AllocError>
     requires meter { reuse.old.meter + 1000000 < 2 ^ 128 }
     requires ran { reuse.old.ran + 1 < 2 ^ 128 }
     requires known { All (IsKnown (program_of style.now)) reuse.old.known }
-    requires indexed { ForSome reuse.old.index (IsIndex earlier.now) }
+    requires indexed { ForSome reuse.old.lookup.index (IsIndex earlier.now) }
     requires steps { All (IsStep (program_of style.now)) earlier.now }
     ensures outcome { IfOk result (λ d. d.outcome ≡ outcome_of (step_in (program_of style.now) input.now)) }
     ensures cost { IfOk result (λ d. d.cost ≡ (step_in (program_of style.now) input.now).cost) }
     ensures known { OnOk result (All (IsKnown (program_of style.now)) reuse.new.known) }
-    ensures indexed { OnOk result (ForSome reuse.new.index (IsIndex earlier.now)) }
+    ensures indexed { OnOk result (ForSome reuse.new.lookup.index (IsIndex earlier.now)) }
     ensures within { OnOk result (reuse.new.meter ≤ reuse.old.meter + 1000000) }
     ensures counted { IfOk result (λ d. IsCounted (program_of style.now) earlier.now
         (step_now command input.now d.outcome d.cost) reuse.old reuse.new) }
@@ -283,7 +295,7 @@ pub fn take_or_reuse(
         input,
         reach,
     };
-    let met = meet(alloc, style, earlier, reuse.next, sought, &mut reuse.index)?;
+    let met = meet(alloc, style, earlier, reuse.next, sought, &mut reuse.lookup)?;
     match met {
         Some(found) => {
             reuse.next = found.place + 1;

@@ -1,6 +1,6 @@
 //! A step of a run: its input is cut out of the run, and its outcome put back.
 
-ghost use Rattle.std.specs.Prelude.{◌≡◌, ◌<◌, Some, length, IfOk, OnOk};
+ghost use Rattle.std.specs.Prelude.{◌≡◌, ◌<◌, ◌++◌, Some, length, IfOk, OnOk};
 ghost use Rattle.std.specs.Option.{option_map, ForSome};
 ghost use Rattle.bt_actions.specs.declared.entry.Entry.{Entry as EntrySeen};
 ghost use Rattle.bt_actions.specs.World.{entry_in};
@@ -14,8 +14,9 @@ use bt_actions::{Entry, Variables};
 use bt_log::{Message, Place};
 use bt_machine::{Input, Outcome};
 use bt_style::Target;
-use bt_text::{Bytes, Sequence, Shared};
+use bt_text::{Bytes, Held, Sequence, Shared};
 use std::alloc::{AllocError, Global};
+use std::mem;
 
 /// The entry at a place, shared with the run, or none.
 fn entry_at(course: &Course, place: Option<usize>) -> Result<Option<Entry>, AllocError>
@@ -75,21 +76,22 @@ pub fn all_told(
 
 /// Gives the entry at a place these variables.
 fn set_variables(
+    alloc: Global,
     entries: &mut Sequence<Entry>,
     place: usize,
     variables: Shared<Variables>,
-) -> Result<(), AllocError>
+)
     requires { place < length entries.old }
-    ensures { OnOk result (entries.new ≡ variables_back (Some place) (Some variables) entries.old) }
+    ensures { entries.new ≡ variables_back (Some place) (Some variables) entries.old }
 {
-    let mut entry = entries.as_slice()[place].share()?;
-    entry.variables = variables;
-    entries.set(place, entry);
-    Ok(())
+    let mut all = mem::replace(entries, Sequence::new(alloc)).into_vec();
+    all[place].variables = variables;
+    *entries = Sequence::from_vec(all);
 }
 
 /// Puts the variables that a step left back into its entry, if it has one.
 fn put_variables_back(
+    alloc: Global,
     entries: &mut Sequence<Entry>,
     place: Option<usize>,
     variables: &Option<Shared<Variables>>,
@@ -100,23 +102,29 @@ fn put_variables_back(
     if let Some(place) = place
         && let Some(variables) = variables
     {
-        set_variables(entries, place, variables.share()?)?;
+        set_variables(alloc, entries, place, variables.share()?);
     }
     Ok(())
 }
 
-/// The same lines, shared with those who have them.
-fn shared_lines(
-    alloc: Global,
-    lines: &[Shared<Bytes>],
-) -> Result<Sequence<Shared<Bytes>>, AllocError>
-    ensures { IfOk result (λ shared. shared ≡ lines.now) }
+/// Puts a held line in the place of another. An equal one stays, so that none is copied.
+fn put_held(alloc: Global, held: &mut Held, left: &Held) -> Result<(), AllocError>
+    ensures { OnOk result (held.new ≡ left.now) }
 {
-    let mut shared = Sequence::new(alloc);
-    'lines: for line in lines {
-        shared.push(line.share()?)?;
+    if held.bytes() != left.bytes() {
+        *held = left.copy(alloc)?;
     }
-    Ok(shared)
+    Ok(())
+}
+
+/// Puts lines behind others, shared with those who have them.
+fn push_lines(lines: &mut Sequence<Shared<Bytes>>, more: &[Shared<Bytes>]) -> Result<(), AllocError>
+    ensures { OnOk result (lines.new ≡ lines.old ++ more.now) }
+{
+    'more: for line in more {
+        lines.push(line.share()?)?;
+    }
+    Ok(())
 }
 
 /// Puts what a step left back into the run.
@@ -129,11 +137,10 @@ pub fn put_back(
     requires { IsPlace place (world_of course.old) }
     ensures { OnOk result (course.new ≡ put_back place outcome.now course.old) }
 {
-    put_variables_back(&mut course.entries, place, &outcome.variables)?;
+    put_variables_back(alloc, &mut course.entries, place, &outcome.variables)?;
     course.globals = outcome.globals.share()?;
-    course.held = outcome.held.copy(alloc)?;
-    let lines = shared_lines(alloc, outcome.lines.as_slice())?;
-    course.lines.append(lines)?;
+    put_held(alloc, &mut course.held, &outcome.held)?;
+    push_lines(&mut course.lines, outcome.lines.as_slice())?;
     course.stopped = outcome.stop;
     Ok(())
 }

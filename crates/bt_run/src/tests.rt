@@ -4,7 +4,7 @@ use crate::databases::tell_databases;
 use crate::sorting::sorted_places;
 use bt_actions::{Entry, Variables};
 use bt_log::{Message, Place, Rank, log_bytes};
-use bt_text::{Bytes, Sequence, Shared};
+use bt_text::{Bytes, Sequence, Shared, SparseTexts};
 use std::alloc::{AllocError, Global};
 use std::test::Fail;
 
@@ -18,7 +18,7 @@ fn entry(alloc: Global, key: &[u8]) -> Result<Entry, AllocError> {
         key: nothing.share()?,
         kind: nothing,
         function: None,
-        fields: Shared::new(alloc, Sequence::new(alloc))?,
+        fields: Shared::new(alloc, SparseTexts::new(alloc, 0))?,
         variables: Shared::new(alloc, Variables { numbers, texts })?,
     })
 }

@@ -4,5 +4,5 @@ use Rattle.bt_run.proofs.reading.found.Goals as goal
 
 pub returns : goal.returns
 returns c =
-    found_by (λ r. r.now) c.in_ok-references.references.items c.as_slice-3.result.now c.in_ok-items.items.items c.as_slice-2.result.now c.in_ok-read.read c.as_slice.result.now (job_of c.args.job) c.args.number c.in_ok-declared.declared c.in_ok-all.all
-    c.in_ok-declared.ensures c.in_ok-read.ensures c.as_slice.ensures c.in_ok-items.ensures c.as_slice-2.ensures.value c.in_ok-references.ensures c.as_slice-3.ensures.value c.in_ok-all.ensures
+    found_by (λ i. i.now) c.in_ok-items.items.items c.as_slice-2.result.now c.in_ok-read.read c.as_slice.result.now (job_of c.args.job) c.args.number c.in_ok-declared.declared c.in_ok-all.all
+    c.in_ok-declared.ensures c.in_ok-read.ensures c.as_slice.ensures c.in_ok-items.ensures c.as_slice-2.ensures.value c.in_ok-all.ensures

@@ -38,7 +38,7 @@ pub returns-in-Some-clause-counted : goal.returns-in-Some-clause-counted
 returns-in-Some-clause-counted c =
     let met = met_some _ _ c.in_ok-met.met c.in-Some.found c.in-Some.is c.in_ok-met.ensures.met in
     let d = c.in_ok-taken-in-Some.taken in
-    taken_counted (program_of c.args.style.now) c.args.earlier.now c.args.command c.deref-reach.result.now.targets c.args.input.now c.in-Some.found.step.now d.outcome d.cost c.args.reuse.now (record c.args.reuse.now { next = c.in-Some.found.place + 1; index = c.meet.new.index; known = c.reach_of.new.known })
+    taken_counted (program_of c.args.style.now) c.args.earlier.now c.args.command c.deref-reach.result.now.targets c.args.input.now c.in-Some.found.step.now d.outcome d.cost c.args.reuse.now (record c.args.reuse.now { next = c.in-Some.found.place + 1; lookup = c.meet.new.lookup; known = c.reach_of.new.known })
     (subst (λ (r : Reach). IsFootprint (program_of c.args.style.now) c.args.input.now r.targets) (sym c.deref-reach.ensures) c.in_ok-known.ensures.reach) c.requires.steps met.1 met.2 refl refl
 
 pub returns-clause-counted : goal.returns-clause-counted

@@ -1,5 +1,5 @@
 use Rattle.bt_run.proofs.IndexLemmas.{met_by_index}
-use Rattle.bt_run.proofs.reusing.meet_by_index.Goals as goal
+use Rattle.bt_run.proofs.reusing.meet.Goals as goal
 
 pub returns-clause-met : goal.returns-clause-met
 returns-clause-met c =

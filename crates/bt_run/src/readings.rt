@@ -1,0 +1,70 @@
+//! What was read of texts, which outlasts the runs that read them.
+
+ghost use Rattle.std.specs.Prelude.{◌≡◌};
+ghost use Rattle.bt_style.specs.Fault.{Gives};
+ghost use Rattle.bt_style.specs.Program.{program_of};
+ghost use Rattle.bt_style.specs.Reader.{style_of};
+
+use crate::database::{Database, present as present_databases};
+use crate::styles::{ReadStyle, present as present_styles, taken_or_read};
+use bt_job::{AuxTexts, File};
+use bt_style::{Style, StyleRefusal};
+use bt_text::{Bytes, Sequence, Shared};
+use std::alloc::{AllocError, Global};
+
+/// What runs have read. Each reading is that of its own text.
+#[derive(Debug, Drop)]
+pub struct Readings {
+    pub aux_texts: AuxTexts,
+    pub styles: Sequence<ReadStyle>,
+    pub databases: Sequence<Database>,
+}
+
+impl Readings {
+    /// Nothing. It takes no memory.
+    pub fn nothing(alloc: Global) -> Readings {
+        Readings {
+            aux_texts: AuxTexts::new(alloc),
+            styles: Sequence::new(alloc),
+            databases: Sequence::new(alloc),
+        }
+    }
+
+    /// The same for one more owner; no text or reading is copied. The one error is out of memory.
+    pub fn share(&self, alloc: Global) -> Result<Readings, AllocError> {
+        let mut styles = Sequence::new(alloc);
+        'styles: for style in self.styles.as_slice() {
+            styles.push(style.share()?)?;
+        }
+        let mut databases = Sequence::new(alloc);
+        'databases: for database in self.databases.as_slice() {
+            databases.push(database.share()?)?;
+        }
+        Ok(Readings {
+            aux_texts: self.aux_texts.share(alloc)?,
+            styles,
+            databases,
+        })
+    }
+
+    /// The style that a text spells, or its first fault. It is read where it wasn't before.
+    pub fn style(
+        &mut self,
+        alloc: Global,
+        text: &Shared<Bytes>,
+    ) -> Result<Shared<Style>, StyleRefusal>
+        ensures { Gives program_of result (style_of text.now) }
+    {
+        let known = taken_or_read(alloc, &mut self.styles, text.share()?)?;
+        known.style()
+    }
+
+    /// Those readings whose text is still one of these files'. The one error is out of memory.
+    pub fn present(&self, alloc: Global, files: &[File]) -> Result<Readings, AllocError> {
+        Ok(Readings {
+            aux_texts: self.aux_texts.present(alloc, files)?,
+            styles: present_styles(alloc, files, self.styles.as_slice())?,
+            databases: present_databases(alloc, files, self.databases.as_slice())?,
+        })
+    }
+}

@@ -1,0 +1,65 @@
+//! Whether an earlier step was given just what a step is given now.
+
+ghost use Rattle.std.specs.Prelude.{◌≡◌, ◌<◌, length, IsTrue};
+ghost use Rattle.std.specs.Option.{ForSome};
+ghost use Rattle.bt_actions.specs.World.{entry_in};
+ghost use Rattle.bt_machine.specs.Place.{IsPlace};
+ghost use Rattle.bt_run.specs.Course.{world_of, input_at};
+
+use crate::course::Course;
+use crate::reusing::is_same_function;
+use bt_actions::Entry;
+use bt_machine::{Input, equal_variables};
+use bt_style::Target;
+
+/// The longest preamble that is compared at each step.
+const PREAMBLE_BYTES: usize = 4096;
+
+/// Whether two texts are equal.
+fn equal_bytes(old: &[u8], new: &[u8]) -> bool
+    ensures { IsTrue result → old.now ≡ new.now }
+{
+    old == new
+}
+
+/// Whether two entries are equal. What mostly differs is compared first.
+fn equal_entries(old: &Entry, new: &Entry) -> bool
+    ensures { IsTrue result → old.now ≡ new.now }
+{
+    equal_bytes(old.key.as_slice(), new.key.as_slice())
+        && is_same_function(old.function, new.function)
+        && equal_variables(&old.variables, &new.variables)
+        && equal_bytes(old.kind.as_slice(), new.kind.as_slice())
+        && old.fields.is_same(&new.fields)
+}
+
+/// Whether an entry is the one at a place, or there is none at none.
+fn is_entry_at(entry: &Option<Entry>, entries: &[Entry], place: Option<usize>) -> bool
+    requires { ForSome place (λ n. n < length entries.now) }
+    ensures { IsTrue result → entry.now ≡ entry_in entries.now place }
+{
+    match (entry, place) {
+        (None, None) => true,
+        (Some(entry), Some(place)) => equal_entries(entry, &entries[place]),
+        _ => false,
+    }
+}
+
+/// Whether two preambles are equal, and not so long that it would take time to tell.
+fn equal_preambles(old: &[u8], new: &[u8]) -> bool
+    ensures { IsTrue result → old.now ≡ new.now }
+{
+    new.len() <= PREAMBLE_BYTES && equal_bytes(old, new)
+}
+
+/// Whether an input is what a step is given now, for the entry at a place or for none.
+pub fn is_input(input: &Input, course: &Course, target: Target, place: Option<usize>) -> bool
+    requires { IsPlace place (world_of course.now) }
+    ensures { IsTrue result → input.now ≡ input_at target place (world_of course.now) }
+{
+    input.target == target
+        && is_entry_at(&input.entry, course.entries.as_slice(), place)
+        && equal_variables(&input.globals, &course.globals)
+        && equal_bytes(input.held.bytes(), course.held.bytes())
+        && equal_preambles(input.preamble.as_slice(), course.preamble.as_slice())
+}

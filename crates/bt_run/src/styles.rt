@@ -1,0 +1,98 @@
+//! Styles as they were read, which outlast the run that read them.
+
+ghost use Rattle.std.specs.Prelude.{◌≡◌, IfOk, IfSome};
+ghost use Rattle.std.proofs.Props.{props};
+ghost use Rattle.bt_style.specs.Fault.{Gives};
+ghost use Rattle.bt_style.specs.Program.{program_of};
+ghost use Rattle.bt_style.specs.Reader.{style_of};
+ghost use Rattle.bt_run.specs.Styles.{read_as};
+ghost use Rattle.bt_run.specs.BodySet.{bodies_set};
+
+use bt_job::File;
+use bt_style::{Fault, Style, StyleRefusal, read_style};
+use bt_text::{Bytes, Sequence, Shared};
+use std::alloc::{AllocError, Global};
+
+/// A style as it was read: its text, and the style or its first fault.
+#[derive(Debug, Drop)]
+pub struct ReadStyle {
+    pub text: Shared<Bytes>,
+    pub style: Result<Shared<Style>, Fault>,
+    ghost read: { style_of text ≡ read_as style } by { Prim.hlevel (props, bodies_set) },
+}
+
+impl ReadStyle {
+    /// Reads a text. The one error is out of memory.
+    fn read(alloc: Global, text: Shared<Bytes>) -> Result<ReadStyle, AllocError>
+        ensures { IfOk result (λ known. known.text ≡ text) }
+    {
+        let style = match read_style(alloc, text.as_slice()) {
+            Ok(style) => Ok(Shared::new(alloc, style)?),
+            Err(StyleRefusal::Fault(fault)) => Err(fault),
+            Err(StyleRefusal::OutOfMemory) => return Err(AllocError),
+        };
+        Ok(ReadStyle { text, style })
+    }
+
+    /// The same for one more owner; no part of it is copied. The one error is that a part has no room for another owner.
+    pub fn share(&self) -> Result<ReadStyle, AllocError>
+        ensures { IfOk result (λ same. same.text ≡ self.now.text) }
+    {
+        let style = match &self.style {
+            Ok(style) => Ok(style.share()?),
+            Err(fault) => Err(*fault),
+        };
+        Ok(ReadStyle {
+            text: self.text.share()?,
+            style,
+        })
+    }
+
+    /// The style, shared, or its first fault.
+    pub fn style(&self) -> Result<Shared<Style>, StyleRefusal>
+        ensures { Gives program_of result (style_of self.now.text) }
+    {
+        match &self.style {
+            Ok(style) => Ok(style.share()?),
+            Err(fault) => Err(StyleRefusal::Fault(*fault)),
+        }
+    }
+}
+
+/// The style of a text among some, if it was read.
+fn style_among<'a>(styles: &'a [ReadStyle], text: &[u8]) -> Option<&'a ReadStyle>
+    ensures { IfSome result (λ known. known.now.text ≡ text.now) }
+{
+    styles.iter().find(|known| known.text.as_slice() == text)
+}
+
+/// The style of a text: the one that was read, else it is read and put after those that were.
+pub fn taken_or_read(
+    alloc: Global,
+    styles: &mut Sequence<ReadStyle>,
+    text: Shared<Bytes>,
+) -> Result<ReadStyle, AllocError>
+    ensures { IfOk result (λ known. known.text ≡ text) }
+{
+    if let Some(known) = style_among(styles.as_slice(), text.as_slice()) {
+        return known.share();
+    }
+    let known = ReadStyle::read(alloc, text)?;
+    styles.push(known.share()?)?;
+    Ok(known)
+}
+
+/// Those styles whose text is still one of these files'.
+pub fn present(
+    alloc: Global,
+    files: &[File],
+    styles: &[ReadStyle],
+) -> Result<Sequence<ReadStyle>, AllocError> {
+    let mut present = Sequence::new(alloc);
+    'files: for file in files {
+        if let Some(known) = style_among(styles, file.text.as_slice()) {
+            present.push(known.share()?)?;
+        }
+    }
+    Ok(present)
+}
