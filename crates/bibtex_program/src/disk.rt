@@ -1,6 +1,6 @@
 //! The folder that the program was started in.
 
-ghost use Rattle.std.specs.Prelude.{None};
+ghost use Rattle.std.specs.Prelude.{◌≡◌, None};
 
 use bibtex::{Bytes, FILE_BYTES};
 use bt_one_shot::{Folder, Found};
@@ -17,19 +17,26 @@ const MOST_READ: u64 = FILE_BYTES as u64 + 1;
 pub struct Disk<'a, R> {
     alloc: Global,
     rt: &'a R,
+    failures: u64,
 }
 
 impl<'a, R: Files> Disk<'a, R> {
     /// The folder, as this runtime reaches it.
-    pub fn new(alloc: Global, rt: &'a R) -> Self {
-        Disk { alloc, rt }
+    pub fn new(alloc: Global, rt: &'a R) -> Self
+        ensures { result.failures ≡ 0 }
+    {
+        Disk {
+            alloc,
+            rt,
+            failures: 0,
+        }
     }
 }
 
 impl<R: Files> Folder for Disk<'_, R> {
-    ghost held = { λ _. None };
+    ghost use Rattle.bt_one_shot.specs.Folders.{Seen};
 
-    ghost written = { λ _. None };
+    ghost seen = { λ d. record { held = None; looked_up = None; written = None; failures = d.failures } };
 
     fn read(&mut self, name: &[u8]) -> Found {
         let Ok(path) = str::from_utf8(name) else {
@@ -40,16 +47,26 @@ impl<R: Files> Folder for Disk<'_, R> {
         };
         let mut bytes = Vec::new(self.alloc);
         match file.take(MOST_READ).read_to_end(&mut bytes) {
-            Ok(_) => Found::Bytes(Bytes::from_vec(bytes)),
+            Ok(_) => {
+                bytes.truncate(FILE_BYTES + 1);
+                Found::Bytes(Bytes::from_vec(bytes))
+            }
             Err(fault) if fault.kind() == ErrorKind::OutOfMemory => Found::NoRoom,
             Err(_) => Found::Missing,
         }
     }
 
     fn write(&mut self, name: &[u8], bytes: &[u8]) -> bool {
-        match str::from_utf8(name) {
-            Ok(path) => fs::write(self.rt, path, bytes).is_ok(),
-            Err(_) => false,
+        if let Ok(path) = str::from_utf8(name)
+            && fs::write(self.rt, path, bytes).is_ok()
+        {
+            return true;
         }
+        self.failures += 1;
+        false
+    }
+
+    fn failures(&self) -> u64 {
+        self.failures
     }
 }

@@ -1,2 +1,6 @@
-pub mod FolderLemmas
-pub mod PrintLemmas
+mod MetLemmas
+mod TellLemmas
+mod LoadLemmas
+mod WantLemmas
+mod ShotLemmas
+mod OptionLemmas

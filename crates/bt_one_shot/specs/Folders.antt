@@ -1,41 +1,100 @@
--- What a folder holds, and what is written to it, where it tells.
-use Rattle.std.specs.Prelude.{◌≡◌, ℕ, Bool, true, false, List, [], ◌∷◌, ◌++◌, All, Option, None, Some}
-use Rattle.bt_job.specs.declared.files.File.{File}
+-- What is seen of a folder: what it holds, and what is read of it and written to it, where it tells.
+use Rattle.std.specs.Prelude.{◌≡◌, ◌≤◌, ◌+◌, ℕ, Bool, true, false, List, [], ◌∷◌, ◌++◌, length, take, fold, Option, None, Some, if◌then◌else◌, bytes_eq}
+use Rattle.std.specs.Option.{option_map}
 use Rattle.bt_one_shot.specs.declared.folder.Found.{Found}
 use Rattle.bt_one_shot.specs.declared.folder.Found.TheVariants as found
 
--- the bytes of each name, at most the first 1,048,577 of them
+-- the bytes of each name that a folder has a file of
 abbrev pub Contents : Type 0
 Contents = List ℕ → Option (List ℕ)
-
--- what is found under a name is what is held there
-abbrev pub Finds : Option Contents → List ℕ → Found → Type 0
-Finds None name found = Unit {0}
-Finds (Some held) name (found.Bytes bytes) = held name ≡ Some bytes
-Finds (Some held) name found.Missing = held name ≡ None
-Finds (Some held) name found.NoRoom = Unit {0}
-
--- each of some files is held under its name
-abbrev pub AreHeld : Option Contents → List File → Type 0
-AreHeld None files = Unit {0}
-AreHeld (Some held) files = All (λ file. held file.name ≡ Some file.text) files
 
 -- a file that was written
 pub record Written : Type 0 where
   pub name : List ℕ
   pub bytes : List ℕ
 
--- these files were written, in this order
-abbrev pub Gains : Option (List Written) → Option (List Written) → List Written → Type 0
-Gains None new files = Unit {0}
-Gains (Some old) None files = ⊥
-Gains (Some old) (Some new) files = new ≡ old ++ files
+-- what is seen of a folder
+pub record Seen : Type 0 where
+  -- what it holds, where it tells
+  pub held : Option Contents
+  -- the names that were looked up, the first first, where it tells
+  pub looked_up : Option (List (List ℕ))
+  -- the files that were written, the first first, where it tells
+  pub written : Option (List Written)
+  -- how many writes failed
+  pub failures : ℕ
 
--- nothing was written
-abbrev pub Stays : Option (List Written) → Option (List Written) → Type 0
-Stays old new = Gains old new []
+-- a list that is told has these elements more
+abbrev pub Gains : {A : Type 0} → Option (List A) → Option (List A) → List A → Type 0
+Gains None new more = Unit {0}
+Gains (Some old) None more = ⊥
+Gains (Some old) (Some new) more = new ≡ old ++ more
 
--- a file was written, or nothing
-abbrev pub WritesFile : Option (List Written) → Option (List Written) → Written → Bool → Type 0
-WritesFile old new file true = Gains old new (file ∷ [])
-WritesFile old new file false = Stays old new
+-- Reading
+
+-- how many bytes of a file are read at most: one more than a text may have
+abbrev pub most_read : ℕ
+most_read = 1048577
+
+-- what is found under a name is the beginning of what is held there
+abbrev pub Finds : Option Contents → List ℕ → Found → Type 0
+Finds None name found = Unit {0}
+Finds (Some held) name (found.Bytes bytes) = option_map (take most_read) (held name) ≡ Some bytes
+Finds (Some held) name found.Missing = held name ≡ None
+Finds (Some held) name found.NoRoom = Unit {0}
+
+-- at most so many bytes are found
+abbrev pub IsWithin : Found → Type 0
+IsWithin (found.Bytes bytes) = length bytes ≤ most_read
+IsWithin found.Missing = Unit {0}
+IsWithin found.NoRoom = Unit {0}
+
+-- a name was looked up, unless there was no room for what is there
+abbrev pub looked_up : List ℕ → Found → List (List ℕ)
+looked_up name (found.Bytes bytes) = name ∷ []
+looked_up name found.Missing = name ∷ []
+looked_up name found.NoRoom = []
+
+-- names were looked up, and nothing else was done
+pub record LooksUp (old new : Seen) (names : List (List ℕ)) : Type 0 where
+  pub held : new.held ≡ old.held
+  pub gained : Gains old.looked_up new.looked_up names
+  pub written : new.written ≡ old.written
+  pub failures : new.failures ≡ old.failures
+
+-- Writing
+
+-- what is held with a file in the place of that of its name, or beside the others
+abbrev pub with_file : Contents → Written → Contents
+with_file held file = λ name. if bytes_eq file.name name then Some file.bytes else held name
+
+-- the same is held but for these files, which were put in their places
+abbrev pub Holds : Option Contents → Option Contents → List Written → Type 0
+Holds None new files = Unit {0}
+Holds (Some old) None files = ⊥
+Holds (Some old) (Some new) files = (name : List ℕ) → new name ≡ fold with_file old files name
+
+-- the same, but that this one name may have been left with anything
+abbrev pub HoldsBut : List ℕ → Option Contents → Option Contents → List Written → Type 0
+HoldsBut spoiled None new files = Unit {0}
+HoldsBut spoiled (Some old) None files = ⊥
+HoldsBut spoiled (Some old) (Some new) files = (name : List ℕ) → bytes_eq spoiled name ≡ false → new name ≡ fold with_file old files name
+
+-- files were written, and nothing else was done
+pub record Writes (old new : Seen) (files : List Written) : Type 0 where
+  pub held : Holds old.held new.held files
+  pub looked_up : new.looked_up ≡ old.looked_up
+  pub written : Gains old.written new.written files
+  pub failures : new.failures ≡ old.failures
+
+-- files were written, then the write of one failed, and nothing else was done
+pub record Fails (old new : Seen) (files : List Written) (name : List ℕ) : Type 0 where
+  pub held : HoldsBut name old.held new.held files
+  pub looked_up : new.looked_up ≡ old.looked_up
+  pub written : Gains old.written new.written files
+  pub failures : new.failures ≡ old.failures + 1
+
+-- a file was written, or its write failed
+abbrev pub WritesOne : Seen → Seen → Written → Bool → Type 0
+WritesOne old new file true = Writes old new (file ∷ [])
+WritesOne old new file false = Fails old new [] file.name

@@ -1,2 +1,7 @@
+pub mod Words
+pub mod Options
 pub mod Folders
+pub mod Sinks
+pub mod Loading
 pub mod Shots
+pub mod Progress

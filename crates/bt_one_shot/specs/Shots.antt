@@ -1,9 +1,28 @@
--- What the one-shot form leaves in a folder, and its exit status.
-use Rattle.std.specs.Prelude.{◌≡◌, ◌⊎◌, ℕ, Bool, true, false, nat_le, List, [], ◌∷◌, ◌++◌, Option, codes, if◌then◌else◌}
+-- What the one-shot form does: what it looks up, what it leaves in the folder, what it tells, and its exit status.
+use Rattle.std.specs.Prelude.{◌≡◌, ◌⊎◌, ℕ, Bool, true, false, nat_le, List, [], ◌∷◌, ◌++◌, map, None, codes, if◌then◌else◌}
 use Rattle.bibtex.specs.declared.state.State.{State}
-use Rattle.bibtex.specs.Present.{shown}
-use Rattle.bt_serve.specs.Writes.{AppendsPart}
-use Rattle.bt_one_shot.specs.Folders.{Contents, AreHeld, Written, Gains, Stays}
+use Rattle.bibtex.specs.Present.{no_texts, shown}
+use Rattle.bt_one_shot.specs.Folders.{Written, Seen, LooksUp, Writes, Fails}
+use Rattle.bt_one_shot.specs.Sinks.{Sunk, Tells}
+use Rattle.bt_one_shot.specs.Loading.{Reading, name_of, next, behind_all, refusal_lines, InOrder, all_looked_up}
+
+-- What is looked up
+
+-- Files of a job were looked up, one after another from a session without files on: each the first that was then wanted
+-- and not looked up yet.
+pub record Loads (root : List ℕ) (min : ℕ) (old new : Seen) (files : List Reading) : Type 0 where
+  pub in_order : InOrder old.held (no_texts root min) [] files
+  pub looked_up : LooksUp old new (all_looked_up files)
+
+-- the state behind them
+abbrev pub loaded : List ℕ → ℕ → List Reading → State
+loaded root min files = behind_all (no_texts root min) files
+
+-- the lines that tell which of them are refused
+abbrev pub told : List ℕ → ℕ → List Reading → List ℕ
+told root min files = refusal_lines (no_texts root min) files
+
+-- What is left
 
 -- 0 where there were warnings at most, else the status
 abbrev pub exit_of : ℕ → ℕ
@@ -17,23 +36,47 @@ bbl_file s = record { name = s.root ++ codes ".bbl"; bytes = (shown s).bbl }
 abbrev pub blg_file : State → Written
 blg_file s = record { name = s.root ++ codes ".blg"; bytes = (shown s).blg }
 
--- Both files are written, or one of them can't be, and nothing is written after it.
-abbrev pub Leaves : State → Option (List Written) → Option (List Written) → ℕ → Type 0
-Leaves s old new exit =
-    (Gains old new (bbl_file s ∷ blg_file s ∷ []) × (exit ≡ exit_of (shown s).status))
-    ⊎ ((Gains old new (bbl_file s ∷ []) ⊎ Stays old new) × (exit ≡ 3))
-
 -- the log that is printed: the terse one where it is asked for
 abbrev pub printed_log : Bool → State → List ℕ
 printed_log true s = (shown s).terse
 printed_log false s = (shown s).blg
 
--- A state of this root and min-crossrefs, whose files the folder holds, is run: this is what it leaves, and a beginning of its log is printed.
-pub record Runs (root : List ℕ) (min : ℕ) (terse : Bool) (held : Option Contents) (old new : Option (List Written))
-    (out out' : Option (List ℕ)) (exit : ℕ) : Type 0 where
-  pub state : State
-  pub is_root : state.root ≡ root
-  pub is_min : state.min ≡ min
-  pub are_held : AreHeld held state.texts
-  pub leaves : Leaves state old new exit
-  pub prints : AppendsPart out out' (printed_log terse state)
+-- the line that tells that a file can't be written
+abbrev pub unwritten_line : List ℕ → List ℕ
+unwritten_line name = codes "bibtex: can't write " ++ (name ++ codes "\n")
+
+-- Both files are written, the bibliography first, then this log is printed, and nothing more is told.
+pub record Finishes (s : State) (log : List ℕ) (old new : Seen) (out out' : Sunk) (IsTold : List ℕ → Type 0) (exit : ℕ) : Type 0 where
+  pub writes : Writes old new (bbl_file s ∷ blg_file s ∷ [])
+  pub prints : Tells out out' log
+  pub quiet : IsTold []
+  pub is_exit : exit ≡ exit_of (shown s).status
+
+-- Files are written, but then this one can't be. That is told, and nothing more is written or printed.
+pub record GivesUp (files : List Written) (name : List ℕ) (old new : Seen) (out out' : Sunk) (IsTold : List ℕ → Type 0) (exit : ℕ) : Type 0 where
+  pub fails : Fails old new files name
+  pub unprinted : out' ≡ out
+  pub tells : IsTold (unwritten_line name)
+  pub is_exit : exit ≡ 3
+
+-- the end of a run that came to this state and prints this log
+abbrev pub Ends : State → List ℕ → Seen → Seen → Sunk → Sunk → (List ℕ → Type 0) → ℕ → Type 0
+Ends s log old new out out' IsTold exit =
+    Finishes s log old new out out' IsTold exit
+    ⊎ GivesUp [] (bbl_file s).name old new out out' IsTold exit
+    ⊎ GivesUp (bbl_file s ∷ []) (blg_file s).name old new out out' IsTold exit
+
+-- A job is run: its files are looked up until it wants no new one, and the run ends with the state behind them.
+pub record Runs (root : List ℕ) (min : ℕ) (terse : Bool) (old new : Seen) (out out' err err' : Sunk) (exit : ℕ) : Type 0 where
+  pub files : List Reading
+  pub between : Seen
+  pub loads : Loads root min old between files
+  pub are_all : next (loaded root min files) (map name_of files) ≡ None
+  pub ends : Ends (loaded root min files) (printed_log terse (loaded root min files)) between new out out' (λ text. Tells err err' (told root min files ++ text)) exit
+
+-- There is no room to go on. Some of its files were looked up, and nothing is written or printed.
+pub record Stops (root : List ℕ) (min : ℕ) (old new : Seen) (out out' err err' : Sunk) : Type 0 where
+  pub files : List Reading
+  pub loads : Loads root min old new files
+  pub unprinted : out' ≡ out
+  pub tells : Tells err err' (told root min files)

@@ -15,22 +15,24 @@ pub enum Found {
 
 /// A folder of files.
 pub trait Folder {
-    ghost use Rattle.std.specs.Prelude.{◌≡◌, List, Option};
-    ghost use Rattle.bt_one_shot.specs.Folders.{Contents, Finds, Written, Stays, WritesFile};
+    ghost use Rattle.std.specs.Prelude.{◌≡◌, ◌<◌, ◌-◌, ◌^◌};
+    ghost use Rattle.bt_one_shot.specs.Folders.{Seen, Finds, IsWithin, LooksUp, WritesOne, looked_up};
 
-    /// What it holds, where it tells.
-    ghost held: { Self → Option Contents };
-
-    /// What was written to it, the first first, where it tells.
-    ghost written: { Self → Option (List Written) };
+    /// What it holds, and what was done with it so far, as far as it tells.
+    ghost seen: { Self → Seen };
 
     /// The file of a name.
     fn read(&mut self, name: &[u8]) -> Found
-        ensures found { Finds (held self.old) name.now result }
-        ensures held { held self.new ≡ held self.old }
-        ensures written { Stays (written self.old) (written self.new) };
+        ensures found { Finds (seen self.old).held name.now result }
+        ensures within { IsWithin result }
+        ensures looks_up { LooksUp (seen self.old) (seen self.new) (looked_up name.now result) };
 
-    /// Writes a file, and says whether it succeeded.
+    /// Writes a file, and says whether it succeeded. Each write that fails raises the count of failures by one.
     fn write(&mut self, name: &[u8], bytes: &[u8]) -> bool
-        ensures { WritesFile (written self.old) (written self.new) (record { name = name.now; bytes = bytes.now }) result };
+        requires { (seen self.old).failures < 2 ^ 64 - 1 }
+        ensures { WritesOne (seen self.old) (seen self.new) (record { name = name.now; bytes = bytes.now }) result };
+
+    /// How many writes failed so far.
+    fn failures(&self) -> u64
+        ensures { result ≡ (seen self.now).failures };
 }

@@ -1,16 +1,16 @@
 //! The one-shot form: reads the files of a job, writes its `.bbl` and its `.blg`, and prints the log.
 
-ghost use Rattle.std.specs.Prelude.{◌≡◌, ◌^◌, ◌-◌, ◌<◌, ◌++◌, true, codes, IfOk, OnErr};
-ghost use Rattle.bibtex.specs.Present.{is_root_name, shown};
-ghost use Rattle.bt_serve.specs.Writes.{AppendsPart};
-ghost use Rattle.bt_one_shot.specs.Folders.{Stays};
-ghost use Rattle.bt_one_shot.specs.Shots.{exit_of, printed_log, Leaves, Runs};
+ghost use Rattle.std.specs.Prelude.{◌≡◌, ◌^◌, ◌-◌, ◌<◌, ◌++◌, ℕ, List, true, codes, IfOk, OnErr};
+ghost use Rattle.bibtex.specs.Present.{is_root_name};
+ghost use Rattle.bt_one_shot.specs.Sinks.{Sunk, sunk, Tells};
+ghost use Rattle.bt_one_shot.specs.Shots.{exit_of, printed_log, Ends, Runs, Stops};
 
 use crate::folder::Folder;
 use crate::loading::{load_all, tell};
+use crate::met::Met;
 use crate::options::Options;
-use bibtex::Session;
-use bt_serve::{Sink, write_all};
+use bibtex::{Draft, Session};
+use bt_serve::{Sink, say};
 use bt_text::Bytes;
 use std::alloc::{AllocError, Global};
 
@@ -36,17 +36,13 @@ fn printed_log(session: &Session, terse: bool) -> &[u8]
 }
 
 /// Prints a log, as far as that succeeds.
-#[tactic(auto, using(crate::proofs::PrintLemmas::printed_all))]
+#[tactic(auto, using(crate::proofs::TellLemmas::printed))]
 fn print_log<O: Sink>(out: &mut O, log: &[u8])
     requires { O.failure_count out.old < 2 ^ 64 - 1 }
-    ensures { AppendsPart (O.contents out.old) (O.contents out.new) log.now }
+    ensures { Tells (sunk (O.contents out.old) (O.failure_count out.old) (O.is_flushed out.old))
+        (sunk (O.contents out.new) (O.failure_count out.new) (O.is_flushed out.new)) log.now }
 {
-    match write_all(out, log) {
-        Ok(()) => {
-            let _ = out.flush();
-        }
-        Err(_) => {}
-    }
+    let _ = say(out, &[log]);
 }
 
 /// What a run writes: the two files of its session by their names, and the log that is printed.
@@ -59,7 +55,6 @@ struct Outputs<'a> {
 }
 
 /// Writes the two files, and the log to `out`.
-#[tactic(auto, using(crate::proofs::PrintLemmas::printed_nothing))]
 fn write_out<F: Folder, O: Sink, E: Sink>(
     outputs: &Outputs<'_>,
     folder: &mut F,
@@ -69,10 +64,16 @@ fn write_out<F: Folder, O: Sink, E: Sink>(
 ) -> u8
     requires bbl { outputs.now.bbl.now ≡ outputs.now.session.now.root ++ codes ".bbl" }
     requires blg { outputs.now.blg.now ≡ outputs.now.session.now.root ++ codes ".blg" }
-    requires err { known < 2 ^ 64 - 1 }
+    requires folder { (F.seen folder.old).failures < 2 ^ 64 - 1 }
     requires out { O.failure_count out.old < 2 ^ 64 - 1 }
-    ensures files { Leaves outputs.now.session.now (F.written folder.old) (F.written folder.new) result }
-    ensures prints { AppendsPart (O.contents out.old) (O.contents out.new) outputs.now.log.now }
+    requires err { known < 2 ^ 64 - 1 }
+    ensures { (first : Sunk) (text : List ℕ) → first.failures ≡ known → Tells first
+        (sunk (E.contents err.old) (E.failure_count err.old) (E.is_flushed err.old)) text →
+        Ends outputs.now.session.now outputs.now.log.now (F.seen folder.old) (F.seen folder.new)
+        (sunk (O.contents out.old) (O.failure_count out.old) (O.is_flushed out.old))
+        (sunk (O.contents out.new) (O.failure_count out.new) (O.is_flushed out.new))
+        (λ more. Tells first
+        (sunk (E.contents err.new) (E.failure_count err.new) (E.is_flushed err.new)) (text ++ more)) result }
 {
     let Outputs {
         session,
@@ -92,7 +93,7 @@ fn write_out<F: Folder, O: Sink, E: Sink>(
     exit_status(session.status())
 }
 
-/// Runs a job once: reads each file that it wants, once each and in the order that makes the steps run once, then
+/// Runs a job once: looks up each file that it wants, once each and in the order in which its run looks for them, then
 /// writes its `.bbl` and its `.blg`, and writes the log to `out`. It answers the exit status.
 ///
 /// A file that is refused is told on `err`, and counts as missing. A file that can't be written is told on `err`, the
@@ -106,19 +107,28 @@ pub fn one_shot<F: Folder, O: Sink, E: Sink>(
     err: &mut E,
 ) -> Result<u8, AllocError>
     requires root { is_root_name options.now.root ≡ true }
+    requires folder { (F.seen folder.old).failures < 2 ^ 64 - 1 }
     requires out { O.failure_count out.old < 2 ^ 64 - 1 }
     requires err { E.failure_count err.old < 2 ^ 64 - 1 }
-    ensures ok { IfOk result (Runs options.now.root options.now.min options.now.terse (F.held folder.old)
-        (F.written folder.old) (F.written folder.new) (O.contents out.old) (O.contents out.new)) }
-    ensures err { OnErr result (Stays (F.written folder.old) (F.written folder.new)) }
-    ensures unprinted { OnErr result (O.contents out.new ≡ O.contents out.old) }
+    ensures ok { IfOk result (Runs options.now.root options.now.min options.now.terse (F.seen folder.old) (F.seen folder.new)
+        (sunk (O.contents out.old) (O.failure_count out.old) (O.is_flushed out.old))
+        (sunk (O.contents out.new) (O.failure_count out.new) (O.is_flushed out.new))
+        (sunk (E.contents err.old) (E.failure_count err.old) (E.is_flushed err.old))
+        (sunk (E.contents err.new) (E.failure_count err.new) (E.is_flushed err.new))) }
+    ensures err { OnErr result (Stops options.now.root options.now.min (F.seen folder.old) (F.seen folder.new)
+        (sunk (O.contents out.old) (O.failure_count out.old) (O.is_flushed out.old))
+        (sunk (O.contents out.new) (O.failure_count out.new) (O.is_flushed out.new))
+        (sunk (E.contents err.old) (E.failure_count err.old) (E.is_flushed err.old))
+        (sunk (E.contents err.new) (E.failure_count err.new) (E.is_flushed err.new))) }
 {
     let root = options.root.as_slice();
-    let Ok(mut session) = Session::new(alloc, root, options.min) else {
+    let Ok(mut draft) = Draft::new(alloc, root, options.min) else {
         return Err(AllocError);
     };
     let known = err.failures();
-    load_all(alloc, &mut session, folder, err, known)?;
+    let mut met = Met::new(alloc);
+    load_all(alloc, &mut draft, &mut met, folder, err, known)?;
+    let session = Session::of(draft)?;
     let bbl = Bytes::of(alloc, &[root, b".bbl"])?;
     let blg = Bytes::of(alloc, &[root, b".blg"])?;
     let outputs = Outputs {

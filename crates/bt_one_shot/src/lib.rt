@@ -4,6 +4,7 @@
 mod folder;
 mod job;
 mod loading;
+mod met;
 mod options;
 mod words;
 

@@ -1,5 +1,9 @@
 //! The words of the command line.
 
+ghost use Rattle.std.specs.Prelude.{◌≡◌, false, IfOk};
+ghost use Rattle.clap.specs.Words.{app_of, rule_of};
+ghost use Rattle.bt_one_shot.specs.Words.{command_line, job_rule, min_rule, resident_rule, terse_rule};
+
 use clap::{Arg, ArgAction, Command, value_parser};
 use std::alloc::{AllocError, Global};
 
@@ -17,14 +21,20 @@ write, splice, remove, root, min, bbl, blg, status, quit.
 Exit status: 0 if there were warnings at most, 2 if there were errors, 3 after a fatal
 error or if a file can't be written, 1 if the command line is wrong.";
 
-fn job(alloc: Global) -> Arg<'static> {
+fn job(alloc: Global) -> Arg<'static>
+    ensures rule { rule_of result ≡ job_rule }
+    ensures own { result.global ≡ false }
+{
     Arg::new(alloc, "JOB")
         .required(true)
         .action(ArgAction::Set)
         .help("The document, with or without .aux: 1 to 60 letters, digits or . - _ + /")
 }
 
-fn min_crossrefs(alloc: Global) -> Arg<'static> {
+fn min_crossrefs(alloc: Global) -> Arg<'static>
+    ensures rule { rule_of result ≡ min_rule }
+    ensures own { result.global ≡ false }
+{
     Arg::new(alloc, "min-crossrefs")
         .long("min-crossrefs")
         .value_name("N")
@@ -33,14 +43,20 @@ fn min_crossrefs(alloc: Global) -> Arg<'static> {
         .help("List an uncited entry that so many entries refer to, 0 to 65535")
 }
 
-fn terse(alloc: Global) -> Arg<'static> {
+fn terse(alloc: Global) -> Arg<'static>
+    ensures rule { rule_of result ≡ terse_rule }
+    ensures own { result.global ≡ false }
+{
     Arg::new(alloc, "terse")
         .long("terse")
         .action(ArgAction::SetTrue)
         .help("Print the log without the names of the files and the counts of calls")
 }
 
-fn resident(alloc: Global) -> Arg<'static> {
+fn resident(alloc: Global) -> Arg<'static>
+    ensures rule { rule_of result ≡ resident_rule }
+    ensures own { result.global ≡ false }
+{
     Arg::new(alloc, "resident")
         .long("resident")
         .action(ArgAction::SetTrue)
@@ -48,7 +64,9 @@ fn resident(alloc: Global) -> Arg<'static> {
 }
 
 /// The command line: what it takes, and what `--help` tells.
-pub fn command<'a>(alloc: Global) -> Result<Command<'a>, AllocError> {
+pub fn command<'a>(alloc: Global) -> Result<Command<'a>, AllocError>
+    ensures { IfOk result (λ c. app_of c ≡ command_line) }
+{
     Command::new(alloc, "bibtex")
         .about(ABOUT)
         .after_help(EXAMPLE)

@@ -6,3 +6,5 @@ pub mod TurnLemmas
 pub mod WholeLemmas
 pub mod ServedLemmas
 pub mod FaultLemmas
+pub mod EditLemmas
+pub mod EditedLemmas

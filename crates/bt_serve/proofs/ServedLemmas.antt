@@ -1,21 +1,20 @@
 -- From the turns of the loop to the commands of the whole input.
-use Rattle.std.proofs.Common.{◌≡◌, ◌≢◌, inl, inr, ℕ, zero, suc, ◌≤◌, List, [], ◌∷◌, ◌++◌, length, refl, ap, sym, ◌∙◌, subst, arith, append_assoc, append-nil, length-append, None, Bool, true, false, Ok, Err}
+use Rattle.std.proofs.Common.{◌≡◌, inl, inr, ℕ, zero, suc, ◌≤◌, List, [], ◌∷◌, ◌++◌, length, refl, ap, sym, ◌∙◌, subst, arith, append_assoc, append-nil, length-append, None, Bool, true, false, Ok, Err}
 use Rattle.std.specs.List.{AllByRecursion, flat_map}
-use Rattle.bt_serve.specs.Reads.{HasNoFeed}
 use Rattle.bibtex.specs.declared.state.State.{State}
-use Rattle.bt_serve.specs.Commands.{Command, request_of, bytes_behind, spelled, ends, answer, after, answers_to, Wants}
+use Rattle.bt_serve.specs.Commands.{Command, request_of, spelled, ends, answer, after, answers_to, Wants}
 use Rattle.bt_serve.specs.Serves.{IsCommand, Answered, Ends}
 use Rattle.bt_serve.specs.declared.fault.ServeFault.TheVariants.{WriteFailed, Truncated}
-use Rattle.bt_serve.specs.Whole.{Cut, Line, command_at, commands_within, commands_of, up_to_quit, AnswersAll, AnswersBefore, AnswersPart}
+use Rattle.bt_serve.specs.Whole.{Cut, commands_within, commands_of, up_to_quit, AnswersAll, AnswersBefore, AnswersPart}
 use Rattle.bt_serve.proofs.TurnLemmas.{answers_more, state_more, wants_behind}
-use Rattle.bt_serve.proofs.WholeLemmas.{cut_first, cut_whole, cut_short, none_left, first_line_end, command_whole}
+use Rattle.bt_serve.proofs.WholeLemmas.{cut_first, cut_whole, cut_short, last_left}
 
-up_to_front : (cs xs : List Command) → AllByRecursion (λ c. false ≡ ends (request_of c.line)) cs → up_to_quit (cs ++ xs) ≡ cs ++ up_to_quit xs
+pub up_to_front : (cs xs : List Command) → AllByRecursion (λ c. false ≡ ends (request_of c.line)) cs → up_to_quit (cs ++ xs) ≡ cs ++ up_to_quit xs
 up_to_front [] xs a = refl
 up_to_front (c ∷ cs) xs a = rw (← a.0) (ap (λ t. c ∷ t) (up_to_front cs xs a.1))
 
 -- the commands in front, and then those of the rest
-front_cut : (cs : List Command) (rest : List ℕ) (n : ℕ) → AllByRecursion IsCommand cs → length (flat_map spelled cs ++ rest) ≤ n →
+pub front_cut : (cs : List Command) (rest : List ℕ) (n : ℕ) → AllByRecursion IsCommand cs → length (flat_map spelled cs ++ rest) ≤ n →
     (k : ℕ) × (length rest ≤ k) × ((commands_within n (flat_map spelled cs ++ rest)).commands ≡ cs ++ (commands_within k rest).commands)
 front_cut [] rest n a h = (n, h, refl)
 front_cut (c ∷ cs) rest zero a h = absurd (omega (arith, length-append (spelled c ++ flat_map spelled cs) rest, length-append (spelled c) (flat_map spelled cs), length-append c.line (10 ∷ c.bytes)))
@@ -30,14 +29,6 @@ front_cut (c ∷ cs) rest (suc n) a h =
 head_fed : (c : Command) (rest : List ℕ) (k : ℕ) → IsCommand c → length (spelled c ++ rest) ≤ k → (xs : List Command) × ((commands_within k (spelled c ++ rest)).commands ≡ c ∷ xs)
 head_fed c rest zero i h = absurd (omega (arith, length-append (spelled c) rest, length-append c.line (10 ∷ c.bytes)))
 head_fed c rest (suc k) i h = ((commands_within k rest).commands, ap (λ (x : Cut). x.commands) (cut_first c rest k i h))
-
-head_last : (line : List ℕ) (k : ℕ) → HasNoFeed line → line ≢ [] → bytes_behind (request_of line) ≡ 0 → length line ≤ k → (commands_within k line).commands ≡ record { line = line; bytes = [] } ∷ []
-head_last [] k f n z h = absurd (n refl)
-head_last (b ∷ t) zero f n z h = absurd (omega arith)
-head_last (b ∷ t) (suc k) f n z h =
-    ap (λ (x : Line). (command_at x (b ∷ t) (commands_within k)).commands) (first_line_end (b ∷ t) f) ∙
-    ap (λ (x : Cut). x.commands) (command_whole (record { line = b ∷ t; behind = None }) (b ∷ t) [] [] (commands_within k) refl (sym z)) ∙
-    ap (λ (x : Cut). record { line = b ∷ t; bytes = [] } ∷ x.commands) (none_left k (omega arith))
 
 up_to_one : (c : Command) (xs : List Command) → true ≡ ends (request_of c.line) → up_to_quit (c ∷ xs) ≡ c ∷ []
 up_to_one c xs e = rw (← e) refl
@@ -74,9 +65,7 @@ ends_answers_all input rest said said' state state' (cs, ms, mid, told, between,
     all_answered input mid said told said' state between state' cs ms c m a u w f z
 ends_answers_all input rest said said' state state' (cs, ms, mid, told, between, a, inr (c, m, i, inr l, w, f, y)) =
     let k = front_cut cs mid (length (flat_map spelled cs ++ mid)) a.each (omega arith) in
-    let z : bytes_behind (request_of c.line) ≡ 0 = sym i.1 ∙ ap length l.1 in
-    let same : record { line = c.line; bytes = [] } ≡ c = ap (λ t. let y : Command = record { line = c.line; bytes = t } in y) (sym l.1) in
-    let h = ap (λ t. (commands_within k.0 t).commands) l.2 ∙ head_last c.line k.0 i.0 l.0 z (omega (arith, k.1, ap length l.2)) ∙ ap (λ t. t ∷ []) same in
+    let h = ap (λ t. (commands_within k.0 t).commands) l.2 ∙ ap (λ (x : Cut). x.commands) (last_left c i l.0 l.1 k.0 (omega (arith, k.1, ap length l.2))) in
     let u : up_to_quit (commands_of input).commands ≡ cs ++ c ∷ [] =
     ap (λ t. up_to_quit (commands_of t).commands) a.read ∙ ap up_to_quit (k.2 ∙ ap (λ t. cs ++ t) h) ∙ up_to_front cs (c ∷ []) a.goes_on ∙ ap (λ t. cs ++ t) (up_to_alone c (ends (request_of c.line)) refl) in
     all_answered input mid said told said' state between state' cs ms c m a u w f y
@@ -113,8 +102,6 @@ ends_answers_part input rest said said' state state' (cs, ms, mid, told, between
     part_answered input mid said told said' state between state' cs ms c m x.0 a u part more q w f y
 ends_answers_part input rest said said' state state' (cs, ms, mid, told, between, a, (c, m, i, inr l, (part, more, q, w), f, y)) =
     let k = front_cut cs mid (length (flat_map spelled cs ++ mid)) a.each (omega arith) in
-    let z : bytes_behind (request_of c.line) ≡ 0 = sym i.1 ∙ ap length l.1 in
-    let same : record { line = c.line; bytes = [] } ≡ c = ap (λ t. let y : Command = record { line = c.line; bytes = t } in y) (sym l.1) in
-    let h = ap (λ t. (commands_within k.0 t).commands) l.2 ∙ head_last c.line k.0 i.0 l.0 z (omega (arith, k.1, ap length l.2)) ∙ ap (λ t. t ∷ []) same in
+    let h = ap (λ t. (commands_within k.0 t).commands) l.2 ∙ ap (λ (x : Cut). x.commands) (last_left c i l.0 l.1 k.0 (omega (arith, k.1, ap length l.2))) in
     let u : (commands_of input).commands ≡ cs ++ c ∷ [] = ap (λ t. (commands_of t).commands) a.read ∙ k.2 ∙ ap (λ t. cs ++ t) h in
     part_answered input mid said told said' state between state' cs ms c m [] a u part more q w f y

@@ -1,5 +1,5 @@
 -- An input is cut into the commands that it is the join of.
-use Rattle.std.proofs.Common.{◌≡◌, inl, inr, ℕ, zero, suc, ◌<◌, ◌≤◌, List, [], ◌∷◌, ◌++◌, length, refl, ap, sym, ◌∙◌, arith, append_assoc, append-nil, length-append, None, Some, true, false, ◌==◌, nat_le}
+use Rattle.std.proofs.Common.{◌≡◌, ◌≢◌, inl, inr, ℕ, zero, suc, ◌<◌, ◌≤◌, List, [], ◌∷◌, ◌++◌, length, refl, ap, sym, ◌∙◌, arith, append_assoc, append-nil, length-append, None, Some, true, false, ◌==◌, nat_le}
 use Rattle.std.specs.List.{AllByRecursion, flat_map}
 use Rattle.std.proofs.Math.Seq.{take-append_seam, drop-append_seam}
 use Rattle.std.proofs.lemmas.Bool.Decides.{nat_tests}
@@ -44,16 +44,24 @@ cut_first c t n k h =
     ap (λ (x : Line). command_at x (spelled c ++ t) (commands_within n)) l ∙
     command_whole (record { line = c.line; behind = Some (c.bytes ++ t) }) (spelled c ++ t) c.bytes t (commands_within n) refl k.1
 
-cut_all : (cs : List Command) (rest : List ℕ) (n : ℕ) → AllByRecursion IsCommand cs → length (flat_map spelled cs ++ rest) ≤ n →
-    ((k : ℕ) → length rest ≤ k → commands_within k rest ≡ record { commands = []; rest = rest }) →
-    commands_within n (flat_map spelled cs ++ rest) ≡ record { commands = cs; rest = rest }
-cut_all [] rest n a h base = base n h
-cut_all (c ∷ cs) rest zero a h base = absurd (omega (arith, length-append (spelled c ++ flat_map spelled cs) rest, length-append (spelled c) (flat_map spelled cs), length-append c.line (10 ∷ c.bytes)))
-cut_all (c ∷ cs) rest (suc n) a h base =
+-- whole commands, and then what is cut off of the rest
+cut_onto : (cs : List Command) (rest : List ℕ) (cut : Cut) (n : ℕ) → AllByRecursion IsCommand cs → length (flat_map spelled cs ++ rest) ≤ n →
+    ((k : ℕ) → length rest ≤ k → commands_within k rest ≡ cut) →
+    commands_within n (flat_map spelled cs ++ rest) ≡ record { commands = cs ++ cut.commands; rest = cut.rest }
+cut_onto [] rest cut n a h base = base n h
+cut_onto (c ∷ cs) rest cut zero a h base = absurd (omega (arith, length-append (spelled c ++ flat_map spelled cs) rest, length-append (spelled c) (flat_map spelled cs), length-append c.line (10 ∷ c.bytes)))
+cut_onto (c ∷ cs) rest cut (suc n) a h base =
     let e = append_assoc (spelled c) (flat_map spelled cs) rest in
     let size : length (spelled c ++ (flat_map spelled cs ++ rest)) ≤ suc n = omega (arith, h, ap length e) in
     let less : length (flat_map spelled cs ++ rest) ≤ n = omega (arith, size, length-append (spelled c) (flat_map spelled cs ++ rest), length-append c.line (10 ∷ c.bytes)) in
-    ap (commands_within (suc n)) e ∙ cut_first c (flat_map spelled cs ++ rest) n a.0 size ∙ ap (with_first c) (cut_all cs rest n a.1 less base)
+    ap (commands_within (suc n)) e ∙ cut_first c (flat_map spelled cs ++ rest) n a.0 size ∙ ap (with_first c) (cut_onto cs rest cut n a.1 less base)
+
+-- the same, where nothing is cut off of the rest
+cut_all : (cs : List Command) (rest : List ℕ) (n : ℕ) → AllByRecursion IsCommand cs → length (flat_map spelled cs ++ rest) ≤ n →
+    ((k : ℕ) → length rest ≤ k → commands_within k rest ≡ record { commands = []; rest = rest }) →
+    commands_within n (flat_map spelled cs ++ rest) ≡ record { commands = cs; rest = rest }
+cut_all cs rest n a h base =
+    cut_onto cs rest (record { commands = []; rest = rest }) n a h base ∙ ap (λ xs. let x : Cut = record { commands = xs; rest = rest } in x) (append-nil cs)
 
 pub none_left : (k : ℕ) → length {A = ℕ} [] ≤ k → commands_within k [] ≡ record { commands = []; rest = [] }
 none_left zero h = refl
@@ -76,3 +84,23 @@ cut_whole cs a =
 
 pub cut_short : (cs : List Command) (rest : List ℕ) → AllByRecursion IsCommand cs → IsCut rest → commands_of (flat_map spelled cs ++ rest) ≡ record { commands = cs; rest = rest }
 cut_short cs rest a r = cut_all cs rest (length (flat_map spelled cs ++ rest)) a (omega arith) (short_left rest r)
+
+-- a last command, whose line ends with the input
+pub last_left : (c : Command) → IsCommand c → c.line ≢ [] → c.bytes ≡ [] → (k : ℕ) → length c.line ≤ k → commands_within k c.line ≡ record { commands = c ∷ []; rest = [] }
+last_left c i some none k h =
+    whole c.line k i.0 some (sym i.1 ∙ ap length none) h
+    ∙ ap (λ (t : List ℕ). let x : Cut = record { commands = record { line = c.line; bytes = t } ∷ []; rest = [] } in x) (sym none)
+  where
+    whole : (line : List ℕ) (k : ℕ) → HasNoFeed line → line ≢ [] → bytes_behind (request_of line) ≡ 0 → length line ≤ k →
+        commands_within k line ≡ record { commands = record { line = line; bytes = [] } ∷ []; rest = [] }
+    whole [] k f n z h = absurd (n refl)
+    whole (b ∷ t) zero f n z h = absurd (omega arith)
+    whole (b ∷ t) (suc k) f n z h =
+        ap (λ (x : Line). command_at x (b ∷ t) (commands_within k)) (first_line_end (b ∷ t) f)
+        ∙ command_whole (record { line = b ∷ t; behind = None }) (b ∷ t) [] [] (commands_within k) refl (sym z)
+        ∙ ap (with_first (record { line = b ∷ t; bytes = [] })) (none_left k (omega arith))
+
+pub cut_last : (cs : List Command) (c : Command) → AllByRecursion IsCommand cs → IsCommand c → c.line ≢ [] → c.bytes ≡ [] →
+    commands_of (flat_map spelled cs ++ c.line) ≡ record { commands = cs ++ c ∷ []; rest = [] }
+cut_last cs c a i some none =
+    cut_onto cs c.line (record { commands = c ∷ []; rest = [] }) (length (flat_map spelled cs ++ c.line)) a (omega arith) (last_left c i some none)

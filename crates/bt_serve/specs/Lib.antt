@@ -5,3 +5,4 @@ pub mod Commands
 pub mod Asked
 pub mod Serves
 pub mod Whole
+pub mod Edits

@@ -4,6 +4,7 @@ ghost use Rattle.std.specs.Prelude.{◌≡◌, ℕ, ◌+◌, ◌-◌, ◌^◌, �
 ghost use Rattle.bt_serve.specs.Serves.{ended, Turns, Ends};
 ghost use Rattle.bt_serve.specs.Faults.{HandsOn};
 ghost use Rattle.bt_serve.specs.Whole.{AnswersAll, AnswersBefore, AnswersPart};
+ghost use Rattle.bt_serve.specs.Edits.{IsEdited};
 
 use crate::answering::answer_request;
 use crate::command::{Request, parse};
@@ -54,7 +55,8 @@ fn serve_one<S: Source, K: Sink>(
 }
 
 /// Reads commands from a source, carries them out on a session, and writes the answers to a sink, each handed on before
-/// the next read, up to `quit`, the end of the input, or a fault.
+/// the next read, up to `quit`, the end of the input, or a fault. The session is then one that `edit_all` leaves of the
+/// edits that the commands ask for.
 ///
 /// The faults: `ReadFailed` where a read failed; the whole commands that were read are carried out and answered.
 /// `WriteFailed` where a write failed; the commands in front of one are carried out and answered, that one is carried
@@ -77,6 +79,8 @@ pub fn serve<S: Source, K: Sink>(
         (said' : List ℕ) × (S.remaining source.new ≡ Some []) × (K.contents sink.new ≡ Some said') × AnswersBefore input said said' session.old session.new }
     ensures part { (input said : List ℕ) → S.remaining source.old ≡ Some input → K.contents sink.old ≡ Some said → result ≡ Err ServeFault.WriteFailed →
         (said' : List ℕ) × (K.contents sink.new ≡ Some said') × AnswersPart input said said' session.old session.new }
+    ensures edited { (input said : List ℕ) → S.remaining source.old ≡ Some input → K.contents sink.old ≡ Some said →
+        IsEdited result input session.old session.new }
     ensures read_failed { result ≡ Err ServeFault.ReadFailed → S.failure_count source.new ≡ S.failure_count source.old + 1 }
     ensures write_failed { result ≡ Err ServeFault.WriteFailed → K.failure_count sink.new ≡ K.failure_count sink.old + 1 }
     ensures flushed { HandsOn (K.is_flushed sink.old) (K.is_flushed sink.new) result }

@@ -1,6 +1,6 @@
 //! Readers and writers of the standard library as sources and sinks.
 
-ghost use Rattle.std.specs.Prelude.{◌≡◌, length, true, false};
+ghost use Rattle.std.specs.Prelude.{◌≡◌, ◌-◌, ◌^◌, length, true, false};
 
 use crate::streams::{Failed, Sink, Source};
 use std::io::{Read, Write};
@@ -18,6 +18,7 @@ impl<R: Read + Drop> ReaderSource<R> {
     pub fn new(reader: R) -> Self
         ensures reader { result.reader ≡ reader }
         ensures failures { result.failures ≡ 0 }
+        ensures left { result.left ≡ 2 ^ 64 - 1 }
     {
         ReaderSource {
             reader,

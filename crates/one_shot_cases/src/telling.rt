@@ -1,12 +1,12 @@
 //! What is told of a case.
 
-ghost use Rattle.std.specs.Prelude.{◌≡◌, true};
+ghost use Rattle.std.specs.Prelude.{◌≡◌, ◌<◌, ◌^◌, ◌-◌, true};
 ghost use Rattle.bibtex.specs.Present.{is_root_name};
 
 use crate::capped::Capped;
 use crate::memory::Memory;
 use anyhow::Result;
-use bt_one_shot::{Options, OptionsFault, one_shot, parse_options};
+use bt_one_shot::{Folder, Options, OptionsFault, one_shot, parse_options};
 
 /// Tells bytes behind a title, and how many there are.
 fn tell_bytes(rt: &impl Print, title: &str, bytes: &[u8]) -> Result<()> {
@@ -51,7 +51,8 @@ fn run(
     folder: &mut Memory<'_>,
     room: (usize, usize),
 ) -> Result<()>
-    requires { is_root_name options.now.root ≡ true }
+    requires root { is_root_name options.now.root ≡ true }
+    requires folder { folder.old.failures < 2 ^ 64 - 1 }
 {
     let alloc = rt.alloc();
     let (mut out, mut err) = (Capped::new(alloc, room.0), Capped::new(alloc, room.1));
@@ -74,7 +75,8 @@ pub fn tell_run(
     room: (usize, usize),
 ) -> Result<()> {
     match parse_options(rt.alloc(), words) {
-        Ok(options) => run(rt, &options, folder, room),
+        Ok(options) if folder.failures() < u64::MAX => run(rt, &options, folder, room),
+        Ok(_) => Ok(()),
         Err(fault) => tell_fault(rt, &fault),
     }
 }

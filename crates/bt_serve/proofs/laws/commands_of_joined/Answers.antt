@@ -1,4 +1,4 @@
-use Rattle.bt_serve.proofs.WholeLemmas.{cut_whole, cut_short}
+use Rattle.bt_serve.proofs.WholeLemmas.{cut_whole, cut_short, cut_last}
 use Rattle.bt_serve.proofs.laws.commands_of_joined.Goals as goal
 
 pub returns-clause-whole : goal.returns-clause-whole
@@ -6,3 +6,6 @@ returns-clause-whole c = cut_whole
 
 pub returns-clause-cut : goal.returns-clause-cut
 returns-clause-cut c = cut_short
+
+pub returns-clause-last : goal.returns-clause-last
+returns-clause-last c = cut_last

@@ -2,6 +2,7 @@ use Rattle.std.proofs.Common.{◌≡◌, ◌++◌, ◌∷◌, [], refl, sym, app
 use Rattle.std.proofs.Common.{ap, Some}
 use Rattle.bt_serve.specs.declared.fault.ServeFault.TheVariants.{WriteFailed, Truncated}
 use Rattle.bt_serve.proofs.ServedLemmas.{ends_answers_all, ends_answers_before, ends_answers_part}
+use Rattle.bt_serve.proofs.EditedLemmas.{ends_edited, fails_edited}
 use Rattle.bt_serve.proofs.TurnLemmas.{answered_more}
 use Rattle.bt_serve.proofs.FaultLemmas.{handed_on_at_a_fault}
 use Rattle.bt_serve.proofs.turns.serve.Goals as goal
@@ -74,3 +75,16 @@ returns-in-Err-clause-part g c = λ input said known held is.
     let turns = rw fault at c.in-Err.ensures.turns in
     let turn = turns before.2 before.3 before.4 before.5 in
     (turn.1, turn.3, ends_answers_part input turn.0 said turn.1 c.args.session.now c.serve_one.new.session (before.0, before.1, before.2, before.3, c.turns.session, before.6, turn.4))
+
+pub returns-in-Ok-true-clause-edited : goal.returns-in-Ok-true-clause-edited
+returns-in-Ok-true-clause-edited g c = λ input said known held.
+    let before = c.turns.invariant.answered input said known held in
+    let turns = rw c.in-Ok-true.field-0-test at c.in-Ok-true.ensures.turns in
+    let turn = turns before.2 before.3 before.4 before.5 in
+    ends_edited input turn.0 said turn.1 c.args.session.now c.serve_one.new.session (before.0, before.1, before.2, before.3, c.turns.session, before.6, turn.4)
+
+pub returns-in-Err-clause-edited : goal.returns-in-Err-clause-edited
+returns-in-Err-clause-edited g c = λ input said known held.
+    let before = c.turns.invariant.answered input said known held in
+    let turn = c.in-Err.ensures.turns before.2 before.3 before.4 before.5 in
+    fails_edited input turn.0 said turn.1 c.args.session.now c.serve_one.new.session c.in-Err.fault (before.0, before.1, before.2, before.3, c.turns.session, before.6, turn.4)

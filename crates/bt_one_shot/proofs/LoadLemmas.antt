@@ -1,0 +1,144 @@
+-- Files that are looked up one after another.
+use Rattle.std.proofs.Common.{◌≡◌, ◌∙◌, ap, sym, refl, subst, ◌<◌, ℕ, Bool, true, false, List, [], ◌∷◌, ◌++◌, length, take, get_or, map, append_assoc, append-nil, Option, None, Some}
+use Rattle.std.proofs.lemmas.Grind.{flat_map-append}
+use Rattle.std.proofs.lemmas.List.{map-append}
+use Rattle.std.specs.List.{list_all}
+use Rattle.bibtex.specs.declared.state.State.{State}
+use Rattle.bibtex.specs.declared.edit.Refusal.{Refusal}
+use Rattle.bibtex.specs.Present.{no_texts, shown}
+use Rattle.bibtex.specs.Changes.{write}
+use Rattle.bibtex.specs.Applied.{refusal_of, changed, unless_refused}
+use Rattle.bt_serve.specs.Commands.{state_or, unless_wanting}
+use Rattle.bt_one_shot.specs.declared.folder.Found.{Found}
+use Rattle.bt_one_shot.specs.declared.folder.Found.TheVariants as found
+use Rattle.bt_one_shot.specs.Folders.{Contents, Seen, Gains, Finds, LooksUp, looked_up}
+use Rattle.bt_one_shot.specs.Sinks.{Sunk, GoesOn}
+use Rattle.bt_one_shot.specs.Loading.{Reading, name_of, next, taken_found, behind, behind_all, refusal_line, refusal_lines, InOrder, all_looked_up}
+use Rattle.bt_one_shot.specs.Progress.{LooksUpName, Goes}
+use Rattle.bt_one_shot.proofs.TellLemmas.{goes_on_none, goes_on_more}
+use Rattle.bt_one_shot.proofs.WantLemmas.{is_met, new_here}
+
+-- Lists that are told
+
+pub gains_none : {A : Type 0} (a : Option (List A)) → Gains a a []
+gains_none {A} None = tt
+gains_none {A} (Some u) = sym (append-nil u)
+
+pub gains_more : {A : Type 0} (a b c : Option (List A)) (xs ys : List A) → Gains a b xs → Gains b c ys → Gains a c (xs ++ ys)
+gains_more {A} None b c xs ys p q = tt
+gains_more {A} (Some u) None c xs ys p q = absurd p
+gains_more {A} (Some u) (Some v) None xs ys p q = absurd q
+gains_more {A} (Some u) (Some v) (Some w) xs ys p q = q ∙ ap (λ t. t ++ ys) p ∙ append_assoc u xs ys
+
+-- Nothing was looked up.
+pub looks_none : (seen : Seen) → LooksUp seen seen []
+looks_none seen = record { held = refl; gained = gains_none seen.looked_up; written = refl; failures = refl }
+
+pub looks_more : (a b c : Seen) (xs ys : List (List ℕ)) → LooksUp a b xs → LooksUp b c ys → LooksUp a c (xs ++ ys)
+looks_more a b c xs ys p q =
+    record {
+      held = q.held ∙ p.held;
+      gained = gains_more a.looked_up b.looked_up c.looked_up xs ys p.gained q.gained;
+      written = q.written ∙ p.written;
+      failures = q.failures ∙ p.failures;
+    }
+
+-- Files, one after another
+
+behind_more : (s : State) (xs ys : List Reading) → behind_all s (xs ++ ys) ≡ behind_all (behind_all s xs) ys
+behind_more s [] ys = refl
+behind_more s (x ∷ xs) ys = behind_more (behind s x) xs ys
+
+lines_more : (s : State) (xs ys : List Reading) → refusal_lines s (xs ++ ys) ≡ refusal_lines s xs ++ refusal_lines (behind_all s xs) ys
+lines_more s [] ys = refl
+lines_more s (x ∷ xs) ys =
+    ap (λ t. refusal_line x.name (taken_found s x.name x.wants x.found) ++ t) (lines_more (behind s x) xs ys)
+    ∙ sym (append_assoc (refusal_line x.name (taken_found s x.name x.wants x.found)) _ _)
+
+order_more : (held : Option Contents) (s : State) (met : List (List ℕ)) (xs ys : List Reading) → InOrder held s met xs →
+    InOrder held (behind_all s xs) (met ++ map name_of xs) ys → InOrder held s met (xs ++ ys)
+order_more held s met [] ys p q = subst (λ m. InOrder held s m ys) (append-nil met) q
+order_more held s met (x ∷ xs) ys p q = (
+  p.0,
+  p.1,
+  order_more held (behind s x) (met ++ x.name ∷ []) xs ys p.2
+      (subst (λ m. InOrder held (behind_all (behind s x) xs) m ys) (sym (append_assoc met (x.name ∷ []) (map name_of xs))) q),
+)
+
+-- Nothing was looked up.
+pub goes_none : (known : ℕ) (s : State) (met : List (List ℕ)) (seen : Seen) (err : Sunk) → Goes known s s met met seen seen err err
+goes_none known s met seen err =
+    record {
+      files = [];
+      in_order = tt;
+      is_behind = refl;
+      are_met = sym (append-nil met);
+      looked_up = looks_none seen;
+      tells = goes_on_none known err;
+    }
+
+-- Some files, and then others.
+pub goes_more : (known : ℕ) (s t u : State) (k l m : List (List ℕ)) (a b c : Seen) (x y z : Sunk) →
+    Goes known s t k l a b x y → Goes known t u l m b c y z → Goes known s u k m a c x z
+goes_more known s t u k l m a b c x y z p q =
+    record {
+      files = p.files ++ q.files;
+      in_order = order_more a.held s k p.files q.files p.in_order then_others;
+      is_behind = q.is_behind ∙ ap (λ v. behind_all v q.files) p.is_behind ∙ sym (behind_more s p.files q.files);
+      are_met = q.are_met ∙ ap (λ v. v ++ map name_of q.files) p.are_met ∙ append_assoc k (map name_of p.files) (map name_of q.files) ∙ ap (λ v. k ++ v) names;
+      looked_up = subst (LooksUp a c) (sym (flat_map-append (λ (r : Reading). looked_up r.name r.found) p.files q.files)) (looks_more a b c _ _ p.looked_up q.looked_up);
+      tells = subst (GoesOn known x z) lines (goes_on_more known x y z _ _ p.tells q.tells);
+    }
+  where
+    then_others : InOrder a.held (behind_all s p.files) (k ++ map name_of p.files) q.files
+    then_others = rw (← p.is_behind, ← p.are_met, ← p.looked_up.held) q.in_order
+
+    names : map name_of p.files ++ map name_of q.files ≡ map name_of (p.files ++ q.files)
+    names = sym (map-append name_of p.files q.files)
+
+    lines : refusal_lines s p.files ++ refusal_lines t q.files ≡ refusal_lines s (p.files ++ q.files)
+    lines = ap (λ v. refusal_lines s p.files ++ refusal_lines v q.files) p.is_behind ∙ sym (lines_more s p.files q.files)
+
+-- The next file.
+pub goes_one : (known : ℕ) (s t : State) (met : List (List ℕ)) (name : List ℕ) (a b : Seen) (x y : Sunk) →
+    next s met ≡ Some name → LooksUpName known s t name a b x y → Goes known s t met (met ++ name ∷ []) a b x y
+goes_one known s t met name a b x y is l =
+    record {
+      files = record { name = name; found = l.found; wants = l.wants } ∷ [];
+      in_order = (is, l.finds, tt);
+      is_behind = l.is_behind;
+      are_met = refl;
+      looked_up = subst (LooksUp a b) (sym (append-nil (looked_up name l.found))) l.looked_up;
+      tells = subst (GoesOn known x y) (sym (append-nil (refusal_line name (taken_found s name l.wants l.found)))) l.tells;
+    }
+
+-- The next file, behind others.
+pub goes_then : (known : ℕ) (s t u : State) (k l l' : List (List ℕ)) (name : List ℕ) (a b c : Seen) (x y z : Sunk) (w : List (List ℕ)) (i : ℕ) (d : List ℕ) →
+    Goes known s t k l a b x y → w ≡ (shown t).wanted → i < length w → get_or w i d ≡ name → list_all (is_met l) (take i w) ≡ true → is_met l name ≡ false →
+    l' ≡ l ++ name ∷ [] → LooksUpName known t u name b c y z → Goes known s u k l' a c x z
+goes_then known s t u k l l' name a b c x y z w i d before is lt here front fresh more looks =
+    goes_more known s t u k l l' a b c x y z before
+    (rw more (goes_one known t u l name b c y z (rw (← is) (new_here l name w i d lt here front fresh)) looks))
+
+-- The root stays
+
+made_root : (wants : Bool) (refusal : Option Refusal) (made s : State) → made.root ≡ s.root → (state_or s (unless_wanting wants (unless_refused refusal made))).root ≡ s.root
+made_root true None made s is = refl
+made_root true (Some refusal) made s is = refl
+made_root false None made s is = is
+made_root false (Some refusal) made s is = refl
+
+found_root : (s : State) (name : List ℕ) (wants : Bool) (found : Found) → (state_or s (taken_found s name wants found)).root ≡ s.root
+found_root s name wants (found.Bytes text) = made_root wants (refusal_of (write name) (length text) s) (changed (write name) text s) s refl
+found_root s name wants found.Missing = refl
+found_root s name wants found.NoRoom = refl
+
+root_behind : (s : State) (files : List Reading) → (behind_all s files).root ≡ s.root
+root_behind s [] = refl
+root_behind s (r ∷ rs) = root_behind (behind s r) rs ∙ found_root s r.name r.wants r.found
+
+-- behind all files that were looked up
+pub goes_root : (known : ℕ) (s t session : State) (met met' : List (List ℕ)) (a b : Seen) (x y : Sunk) (root : List ℕ) (min : ℕ) →
+    s ≡ no_texts root min → Goes known s t met met' a b x y → session ≡ t → session.root ≡ root
+goes_root known s t session met met' a b x y root min is goes same =
+    ap (λ (u : State). u.root) (same ∙ goes.is_behind) ∙ root_behind s goes.files ∙ ap (λ (u : State). u.root) is

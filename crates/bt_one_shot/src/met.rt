@@ -1,0 +1,52 @@
+//! The names that were looked up.
+
+ghost use Rattle.std.specs.Prelude.{◌≡◌, ◌++◌, ◌∷◌, ◌<◌, ◌^◌, [], false, length, bytes_eq, OnOk, OnErr};
+ghost use Rattle.std.specs.List.{list_any};
+
+use indexmap::IndexSet;
+use std::alloc::{AllocError, Global};
+use std::marker::Model;
+
+/// Names, each once, in the order in which they were noted. Contracts see the list of them.
+#[derive(Drop)]
+pub struct Met {
+    names: IndexSet<Vec<u8>>,
+}
+
+impl Model for Met {
+    ghost use Rattle.std.specs.Prelude.{List, ℕ, map};
+
+    ghost Value = { List (List ℕ) };
+
+    ghost view = { λ m. map (λ name. name.items) m.names.keys };
+}
+
+impl Met {
+    /// No names.
+    pub fn new(alloc: Global) -> Met
+        ensures { result ≡ [] }
+    {
+        Met {
+            names: IndexSet::new(alloc),
+        }
+    }
+
+    /// Whether a name is among them.
+    pub fn has(&self, name: &[u8]) -> bool
+        ensures value { result ≡ list_any (bytes_eq name.now) self.now }
+        ensures bound { length self.now < 2 ^ 63 }
+    {
+        self.names.len() > 0 && self.names.contains(name)
+    }
+
+    /// Puts a new name behind the others. The one error is out of memory.
+    pub fn put(&mut self, alloc: Global, name: &[u8]) -> Result<(), AllocError>
+        requires { list_any (bytes_eq name.now) self.old ≡ false }
+        ensures ok { OnOk result (self.new ≡ self.old ++ name.now ∷ []) }
+        ensures err { OnErr result (self.new ≡ self.old) }
+    {
+        let name = Vec::from_slice(alloc, name)?;
+        let _ = self.names.insert(name)?;
+        Ok(())
+    }
+}

@@ -1,0 +1,132 @@
+-- The edits of commands, made one after another.
+use Rattle.std.proofs.Common.{◌≡◌, refl, ap, sym, ◌∙◌, subst, arith, ℕ, Bool, true, false, List, [], ◌∷◌, ◌++◌, map, length, Result, Ok, Err, IfOk}
+use Rattle.bt_run.specs.declared.answers.Report.{Report}
+use Rattle.bibtex.specs.declared.edit.Edit.{Edit}
+use Rattle.bibtex.specs.declared.edit.Edit.TheVariants.{Write, Splice, Remove, Root, MinCrossrefs}
+use Rattle.bibtex.specs.declared.edit.Refusal.{Refusal}
+use Rattle.bibtex.specs.declared.edit.Refusal.TheVariants.{OutOfMemory}
+use Rattle.bibtex.specs.declared.state.State.{State}
+use Rattle.bibtex.specs.Present.{reported}
+use Rattle.bibtex.specs.Changes.{Change, write, splice, remove, root_name, min_crossrefs}
+use Rattle.bibtex.specs.Applied.{outcome, applied, IsAnswer}
+use Rattle.bibtex.specs.Headline.{behind, AnswersInTurn, behind_all}
+use Rattle.bt_serve.specs.Commands.{Request, Command, edit, bbl, blg, status, quit, unreadable, too_long, request_of, refused, edit_answer, state_or, unless_wanting, after, after_of, state_after, Wants, WantsInTurn}
+use Rattle.bt_serve.specs.Edits.{edit_with, edit_in, edits_of, brought, AreSame, Leads, LeadsBy}
+
+-- What becomes of a state by an edit is by its change and its bytes alone.
+applied_brought : (e : Edit) (s : State) → applied e s ≡ outcome (brought e).0 (brought e).1 s
+applied_brought (Write name text) s = refl
+applied_brought (Splice name start end bytes) s = refl
+applied_brought (Remove name) s = refl
+applied_brought (Root name) s = refl
+applied_brought (MinCrossrefs n) s = refl
+
+applied_with : (change : Change) (bytes : List ℕ) (s : State) → applied (edit_with change bytes) s ≡ outcome change bytes s
+applied_with (write name) bytes s = refl
+applied_with (splice name start end) bytes s = refl
+applied_with (remove name) bytes s = refl
+applied_with (root_name name) bytes s = refl
+applied_with (min_crossrefs n) bytes s = refl
+
+applied_same : (e : Edit) (change : Change) (bytes : List ℕ) (s : State) → brought e ≡ brought (edit_with change bytes) → applied e s ≡ outcome change bytes s
+applied_same e change bytes s is =
+    applied_brought e s ∙ ap (λ (b : Change × List ℕ). outcome b.0 b.1 s) is ∙ sym (applied_brought (edit_with change bytes) s) ∙ applied_with change bytes s
+
+-- An edit with this outcome is answered so, and then the others lead to a state.
+abbrev AnswersOne : List Edit → List (Result Report Refusal) → Result Report Refusal → State → State → Result State Refusal → Type 0
+AnswersOne es answers a s t made =
+    IsAnswer made a × IfOk a (λ report. report ≡ reported s (behind a made s)) × AnswersInTurn es answers (behind a made s) × (t ≡ behind_all es answers (behind a made s))
+
+-- From commands to edits
+
+one_answered : (e : Edit) (es : List Edit) (answers : List (Result Report Refusal)) (a : Result Report Refusal) (s t : State) (made : Result State Refusal) → applied e s ≡ made →
+    AnswersOne es answers a s t made → Leads (e ∷ es) s t
+one_answered e es answers a s t made is one =
+    let all = subst (AnswersOne es answers a s t) (sym is) one in
+    (a ∷ answers, (all.0, all.1, all.2), all.3)
+
+one_more : (e : Edit) (es : List Edit) (made : Result State Refusal) (m : Bool) (s t : State) → applied e s ≡ made →
+    Leads es (state_or s (unless_wanting m made)) t → Leads (e ∷ es) s t
+one_more e es (Ok u) false s t is later = one_answered e es later.0 (Ok (reported s u)) s t (Ok u) is (tt, refl, later.1, later.2)
+one_more e es (Ok u) true s t is later = one_answered e es later.0 (Err OutOfMemory) s t (Ok u) is (refl, tt, later.1, later.2)
+one_more e es (Err refusal) false s t is later = one_answered e es later.0 (Err refusal) s t (Err refusal) is (refl, tt, later.1, later.2)
+one_more e es (Err refusal) true s t is later = one_answered e es later.0 (Err refusal) s t (Err refusal) is (refl, tt, later.1, later.2)
+
+leads_one : (request : Request) (bytes : List ℕ) (m : Bool) (s t : State) (rest es : List Edit) → AreSame es (edit_in request bytes ++ rest) →
+    ((fs : List Edit) → AreSame fs rest → Leads fs (after_of m s request bytes) t) → Leads es s t
+leads_one (edit change n) bytes m s t rest [] is go = absurd cc
+leads_one (edit change n) bytes m s t rest (e ∷ es) is go =
+    let same : brought e ≡ brought (edit_with change bytes) = cc in
+    let others : map brought es ≡ map brought rest = cc in
+    one_more e es (outcome change bytes s) m s t (applied_same e change bytes s same) (go es others)
+leads_one bbl bytes m s t rest es is go = go es is
+leads_one blg bytes m s t rest es is go = go es is
+leads_one status bytes m s t rest es is go = go es is
+leads_one quit bytes m s t rest es is go = go es is
+leads_one unreadable bytes m s t rest es is go = go es is
+leads_one too_long bytes m s t rest es is go = go es is
+
+-- The state after commands is one that their edits lead to.
+pub leads_by : (cs : List Command) (ms : List Bool) (s : State) → length ms ≡ length cs → LeadsBy cs s (state_after ms cs s)
+leads_by [] [] s len [] is = ([], tt, refl)
+leads_by [] [] s len (e ∷ es) is = absurd cc
+leads_by [] (m ∷ ms) s len es is = absurd (omega arith)
+leads_by (c ∷ cs) [] s len es is = absurd (omega arith)
+leads_by (c ∷ cs) (m ∷ ms) s len es is =
+    leads_one (request_of c.line) c.bytes m s (state_after ms cs (after m s c)) (edits_of cs) es is (leads_by cs ms (after m s c) (omega arith))
+
+-- From edits to commands
+
+-- An edit with this outcome was answered, as one that is or isn't wanting of memory, and the others lead to a state.
+record OneMade (es : List Edit) (s t : State) (made : Result State Refusal) : Type 0 where
+  wants : Bool
+  only : wants ≡ true → edit_answer s (unless_wanting wants made) ≡ refused OutOfMemory
+  later : Leads es (state_or s (unless_wanting wants made)) t
+
+one_less : (es : List Edit) (answers : List (Result Report Refusal)) (a : Result Report Refusal) (made : Result State Refusal) (s t : State) →
+    AnswersOne es answers a s t made → OneMade es s t made
+one_less es answers (Ok report) (Ok u) s t (is, reports, turns, end) = record { wants = false; only = λ same. absurd cc; later = (answers, turns, end) }
+one_less es answers (Ok report) (Err refusal) s t (is, reports, turns, end) = absurd cc
+one_less es answers (Err refusal) (Ok u) s t (is, reports, turns, end) = record { wants = true; only = λ same. refl; later = (answers, turns, end) }
+one_less es answers (Err refusal) (Err other) s t (is, reports, turns, end) = record { wants = false; only = λ same. absurd cc; later = (answers, turns, end) }
+
+one_made : (e : Edit) (es : List Edit) (made : Result State Refusal) (s t : State) → applied e s ≡ made → Leads (e ∷ es) s t → OneMade es s t made
+one_made e es made s t is ([], turns, end) = absurd turns
+one_made e es made s t is (a ∷ answers, turns, end) = one_less es answers a made s t (subst (AnswersOne es answers a s t) is (turns.0, turns.1, turns.2, end))
+
+-- The same of any request.
+record OneDone (request : Request) (bytes : List ℕ) (rest : List Edit) (s t : State) : Type 0 where
+  wants : Bool
+  only : Wants wants s request bytes
+  others : List Edit
+  same : AreSame others rest
+  later : Leads others (after_of wants s request bytes) t
+
+done_none : (request : Request) (bytes : List ℕ) (rest es : List Edit) (s t : State) → after_of false s request bytes ≡ s → AreSame es rest → Leads es s t → OneDone request bytes rest s t
+done_none request bytes rest es s t stays is leads =
+    record { wants = false; only = λ same. absurd cc; others = es; same = is; later = subst (λ (u : State). Leads es u t) (sym stays) leads }
+
+done_one : (request : Request) (bytes : List ℕ) (s t : State) (rest es : List Edit) → AreSame es (edit_in request bytes ++ rest) → Leads es s t → OneDone request bytes rest s t
+done_one (edit change n) bytes s t rest [] is leads = absurd cc
+done_one (edit change n) bytes s t rest (e ∷ es) is leads =
+    let same : brought e ≡ brought (edit_with change bytes) = cc in
+    let others : map brought es ≡ map brought rest = cc in
+    let one = one_made e es (outcome change bytes s) s t (applied_same e change bytes s same) leads in
+    record { wants = one.wants; only = one.only; others = es; same = others; later = one.later }
+done_one bbl bytes s t rest es is leads = done_none bbl bytes rest es s t refl is leads
+done_one blg bytes s t rest es is leads = done_none blg bytes rest es s t refl is leads
+done_one status bytes s t rest es is leads = done_none status bytes rest es s t refl is leads
+done_one quit bytes s t rest es is leads = done_none quit bytes rest es s t refl is leads
+done_one unreadable bytes s t rest es is leads = done_none unreadable bytes rest es s t refl is leads
+done_one too_long bytes s t rest es is leads = done_none too_long bytes rest es s t refl is leads
+
+-- A state that the edits of commands lead to is one after these commands.
+pub led_by : (cs : List Command) (s t : State) (es : List Edit) → AreSame es (edits_of cs) → Leads es s t →
+    (ms : List Bool) × (length ms ≡ length cs) × WantsInTurn ms cs s × (t ≡ state_after ms cs s)
+led_by [] s t [] is ([], turns, end) = ([], refl, tt, end)
+led_by [] s t [] is (a ∷ answers, turns, end) = absurd turns
+led_by [] s t (e ∷ es) is leads = absurd cc
+led_by (c ∷ cs) s t es is leads =
+    let one = done_one (request_of c.line) c.bytes s t (edits_of cs) es is leads in
+    let rest = led_by cs (after one.wants s c) t one.others one.same one.later in
+    (one.wants ∷ rest.0, omega (arith, rest.1), (one.only, rest.2), rest.3)
