@@ -1,106 +1,10 @@
-//! Cases of databases: their items, each with its span, what was read of it, and its fault.
+//! Cases of databases: their items, each with its span, what was read of it, and its fault; and those of a text that was
+//! spliced, from the items that it had.
 
 use crate::spelling::{number, push_spelled, unspelled, word_at};
-use bt_bib::{Closing, Content, Fault, Field, Item, Part, Piece, What, read_bib};
+use bt_bib::{Closing, Content, Fault, Field, Item, KeptItems, Part, Piece, Spot, What, read_bib};
 use bt_text::{Bytes, Sequence, Shared};
 use std::alloc::{AllocError, Global};
-
-/// Puts a number behind `out`.
-fn push_number(alloc: Global, out: &mut Bytes, n: usize) -> Result<(), AllocError> {
-    out.append(number(alloc, n)?.as_slice())
-}
-
-/// Puts a text behind `out`, spelled to base 16, or a full stop where there is none.
-fn push_text(out: &mut Bytes, text: &Option<Shared<Bytes>>) -> Result<(), AllocError> {
-    match text {
-        Some(text) => push_spelled(out, text.as_slice()),
-        None => out.append(b"."),
-    }
-}
-
-fn push_part(alloc: Global, out: &mut Bytes, part: &Part) -> Result<(), AllocError> {
-    match part {
-        Part::Text(text) => {
-            out.append(b"text:")?;
-            push_spelled(out, text.as_slice())
-        }
-        Part::Macro(name, line) => {
-            out.append(b"macro:")?;
-            push_spelled(out, name.as_slice())?;
-            out.append(b":")?;
-            push_number(alloc, out, *line)
-        }
-    }
-}
-
-fn push_parts(alloc: Global, out: &mut Bytes, parts: &Sequence<Part>) -> Result<(), AllocError> {
-    out.append(b"(")?;
-    for (place, part) in parts.as_slice().iter().enumerate() {
-        if 0 < place {
-            out.append(b" ")?;
-        }
-        push_part(alloc, out, part)?;
-    }
-    out.append(b")")
-}
-
-fn push_value(
-    alloc: Global,
-    out: &mut Bytes,
-    value: &Option<Sequence<Part>>,
-) -> Result<(), AllocError> {
-    match value {
-        Some(parts) => push_parts(alloc, out, parts),
-        None => out.append(b"."),
-    }
-}
-
-fn push_fields(alloc: Global, out: &mut Bytes, fields: &Sequence<Field>) -> Result<(), AllocError> {
-    for (place, field) in fields.as_slice().iter().enumerate() {
-        if 0 < place {
-            out.append(b",")?;
-        }
-        push_spelled(out, field.name.as_slice())?;
-        out.append(b":")?;
-        push_number(alloc, out, field.line)?;
-        out.append(b":")?;
-        push_parts(alloc, out, &field.value)?;
-    }
-    Ok(())
-}
-
-/// Puts kind, type, key or name, closing sign, fields and value behind `out`.
-fn push_content(alloc: Global, out: &mut Bytes, item: &Item) -> Result<(), AllocError> {
-    let close: &[u8] = match item.close {
-        Some(Closing::Brace) => b" close=} fields=[",
-        Some(Closing::Parenthesis) => b" close=) fields=[",
-        None => b" close=. fields=[",
-    };
-    match &item.content {
-        Content::Entry(entry) => {
-            out.append(b"Entry type=")?;
-            push_text(out, &entry.kind)?;
-            out.append(b" key=")?;
-            push_text(out, &entry.key)?;
-            out.append(close)?;
-            push_fields(alloc, out, &entry.fields)?;
-            out.append(b"] value=.")
-        }
-        Content::Define(definition) => {
-            out.append(b"Define type=. key=")?;
-            push_text(out, &definition.name)?;
-            out.append(close)?;
-            out.append(b"] value=")?;
-            push_value(alloc, out, &definition.value)
-        }
-        Content::Preamble(value) => {
-            out.append(b"Preamble type=. key=.")?;
-            out.append(close)?;
-            out.append(b"] value=")?;
-            push_value(alloc, out, value)
-        }
-    }
-}
 
 fn what_word(what: What) -> &'static [u8] {
     match what {
@@ -124,56 +28,201 @@ fn fault_word(fault: Fault) -> &'static [u8] {
     }
 }
 
-/// Puts a fault behind `out`, with its line, its byte, and what is missing or followed.
-fn push_fault(alloc: Global, out: &mut Bytes, fault: Fault, line: usize) -> Result<(), AllocError> {
-    out.append(fault_word(fault))?;
-    out.append(b":")?;
-    push_number(alloc, out, line)?;
-    out.append(b":")?;
-    match fault {
-        Fault::BadNameEnd(what, byte) => {
-            push_spelled(out, &[byte])?;
-            out.append(b":")?;
-            out.append(what_word(what))
-        }
-        Fault::MissingName(what) => {
-            out.append(b".:")?;
-            out.append(what_word(what))
-        }
-        Fault::MissingPart => out.append(b".:field_part"),
-        _ => out.append(b".:."),
+fn closing_words(close: Option<Closing>) -> &'static [u8] {
+    match close {
+        Some(Closing::Brace) => b" close=} fields=[",
+        Some(Closing::Parenthesis) => b" close=) fields=[",
+        None => b" close=. fields=[",
     }
 }
 
-fn push_item(alloc: Global, out: &mut Bytes, item: &Item) -> Result<(), AllocError> {
-    push_number(alloc, out, item.start.place)?;
-    out.append(b"..")?;
-    push_number(alloc, out, item.end.place)?;
-    out.append(b" line=")?;
-    push_number(alloc, out, item.line)?;
-    out.append(b" ")?;
-    push_content(alloc, out, item)?;
-    out.append(b" fault=")?;
-    match item.fault {
-        Some(fault) => push_fault(alloc, out, fault, item.end.line),
-        None => out.append(b"."),
+/// Items as they are spelled. Their places and lines count from a spot.
+#[derive(Drop)]
+struct Spelled {
+    alloc: Global,
+    from: Spot,
+    out: Bytes,
+}
+
+impl Spelled {
+    /// Nothing, in a text from its beginning.
+    fn new(alloc: Global) -> Spelled {
+        Spelled {
+            alloc,
+            from: Spot { place: 0, line: 0 },
+            out: Bytes::new(alloc),
+        }
+    }
+
+    /// What was spelled, or a full stop where there is nothing.
+    fn end(self) -> Result<Bytes, AllocError> {
+        let mut out = self.out;
+        if out.len() == 0 {
+            out.append(b".")?;
+        }
+        Ok(out)
+    }
+
+    fn number(&mut self, n: usize) -> Result<(), AllocError> {
+        self.out.append(number(self.alloc, n)?.as_slice())
+    }
+
+    fn place(&mut self, place: usize) -> Result<(), AllocError> {
+        self.number(self.from.place.saturating_add(place))
+    }
+
+    fn line(&mut self, line: usize) -> Result<(), AllocError> {
+        self.number(self.from.line.saturating_add(line))
+    }
+
+    /// A text to base 16, or a full stop where there is none.
+    fn text(&mut self, text: &Option<Shared<Bytes>>) -> Result<(), AllocError> {
+        match text {
+            Some(text) => push_spelled(&mut self.out, text.as_slice()),
+            None => self.out.append(b"."),
+        }
+    }
+
+    fn part(&mut self, part: &Part) -> Result<(), AllocError> {
+        match part {
+            Part::Text(text) => {
+                self.out.append(b"text:")?;
+                push_spelled(&mut self.out, text.as_slice())
+            }
+            Part::Macro(name, line) => {
+                self.out.append(b"macro:")?;
+                push_spelled(&mut self.out, name.as_slice())?;
+                self.out.append(b":")?;
+                self.line(*line)
+            }
+        }
+    }
+
+    fn parts(&mut self, parts: &Sequence<Part>) -> Result<(), AllocError> {
+        self.out.append(b"(")?;
+        for (place, part) in parts.as_slice().iter().enumerate() {
+            if 0 < place {
+                self.out.append(b" ")?;
+            }
+            self.part(part)?;
+        }
+        self.out.append(b")")
+    }
+
+    fn value(&mut self, value: &Option<Sequence<Part>>) -> Result<(), AllocError> {
+        match value {
+            Some(parts) => self.parts(parts),
+            None => self.out.append(b"."),
+        }
+    }
+
+    fn fields(&mut self, fields: &Sequence<Field>) -> Result<(), AllocError> {
+        for (place, field) in fields.as_slice().iter().enumerate() {
+            if 0 < place {
+                self.out.append(b",")?;
+            }
+            push_spelled(&mut self.out, field.name.as_slice())?;
+            self.out.append(b":")?;
+            self.line(field.line)?;
+            self.out.append(b":")?;
+            self.parts(&field.value)?;
+        }
+        Ok(())
+    }
+
+    /// Kind, type, key or name, closing sign, fields and value.
+    fn content(&mut self, item: &Item) -> Result<(), AllocError> {
+        let close = closing_words(item.close);
+        match &item.content {
+            Content::Entry(entry) => {
+                self.out.append(b"Entry type=")?;
+                self.text(&entry.kind)?;
+                self.out.append(b" key=")?;
+                self.text(&entry.key)?;
+                self.out.append(close)?;
+                self.fields(&entry.fields)?;
+                self.out.append(b"] value=.")
+            }
+            Content::Define(definition) => {
+                self.out.append(b"Define type=. key=")?;
+                self.text(&definition.name)?;
+                self.out.append(close)?;
+                self.out.append(b"] value=")?;
+                self.value(&definition.value)
+            }
+            Content::Preamble(value) => {
+                self.out.append(b"Preamble type=. key=.")?;
+                self.out.append(close)?;
+                self.out.append(b"] value=")?;
+                self.value(value)
+            }
+        }
+    }
+
+    /// A fault, with its line, its byte, and what is missing or followed.
+    fn fault(&mut self, fault: Fault, line: usize) -> Result<(), AllocError> {
+        self.out.append(fault_word(fault))?;
+        self.out.append(b":")?;
+        self.line(line)?;
+        self.out.append(b":")?;
+        match fault {
+            Fault::BadNameEnd(what, byte) => {
+                push_spelled(&mut self.out, &[byte])?;
+                self.out.append(b":")?;
+                self.out.append(what_word(what))
+            }
+            Fault::MissingName(what) => {
+                self.out.append(b".:")?;
+                self.out.append(what_word(what))
+            }
+            Fault::MissingPart => self.out.append(b".:field_part"),
+            _ => self.out.append(b".:."),
+        }
+    }
+
+    fn item(&mut self, item: &Item) -> Result<(), AllocError> {
+        self.place(item.start.place)?;
+        self.out.append(b"..")?;
+        self.place(item.end.place)?;
+        self.out.append(b" line=")?;
+        self.line(item.line)?;
+        self.out.append(b" ")?;
+        self.content(item)?;
+        self.out.append(b" fault=")?;
+        match item.fault {
+            Some(fault) => self.fault(fault, item.end.line),
+            None => self.out.append(b"."),
+        }
+    }
+
+    /// An item after others, with ` ; ` before it; a comment word is left out.
+    fn piece(&mut self, piece: &Piece) -> Result<(), AllocError> {
+        if let Piece::Item(item) = piece {
+            if 0 < self.out.len() {
+                self.out.append(b" ; ")?;
+            }
+            self.item(item)?;
+        }
+        Ok(())
     }
 }
 
-/// The answer of a case: the items, with ` ; ` between them, or a full stop where there is none.
+/// Items with ` ; ` between them, or a full stop where there is none, as they stand in their text.
+pub fn spelled_kept(alloc: Global, items: &KeptItems) -> Result<Bytes, AllocError> {
+    let mut spelled = Spelled::new(alloc);
+    for placed in items.pieces() {
+        spelled.from = placed.start();
+        spelled.piece(placed.piece())?;
+    }
+    spelled.end()
+}
+
+/// The answer of a case `read_bib`: the items, with ` ; ` between them, or a full stop where there is none.
 pub fn answer(alloc: Global, case: &str) -> Result<Bytes, AllocError> {
     let text = unspelled(alloc, word_at(case, 1))?;
-    let mut out = Bytes::new(alloc);
+    let mut spelled = Spelled::new(alloc);
     for piece in read_bib(alloc, &text)?.pieces() {
-        if let Piece::Item(item) = piece {
-            if 0 < out.len() {
-                out.append(b" ; ")?;
-            }
-            push_item(alloc, &mut out, item)?;
-        }
+        spelled.piece(piece)?;
     }
-    if out.len() == 0 {
-        out.append(b".")?;
-    }
-    Ok(out)
+    spelled.end()
 }

@@ -7,6 +7,7 @@ mod aux_lines;
 mod databases;
 mod names;
 mod spelling;
+mod splices;
 mod styles;
 mod texts;
 
@@ -21,6 +22,7 @@ fn answer(alloc: Global, case: &str) -> Result<Bytes, AllocError> {
         "count" | "parts" | "format" => names::answer(alloc, case),
         "read_aux" => aux_lines::answer(alloc, case),
         "read_bib" => databases::answer(alloc, case),
+        "respliced" => splices::answer(alloc, case),
         "read_style" => styles::answer(alloc, case),
         _ => texts::answer(alloc, case),
     }

@@ -61,6 +61,11 @@ pub fn number_at(case: &str, place: usize) -> i32 {
     word_at(case, place).parse::<i32>().unwrap_or(0)
 }
 
+/// The place at a place of a case, or 0.
+pub fn place_at(case: &str, place: usize) -> usize {
+    word_at(case, place).parse::<usize>().unwrap_or(0)
+}
+
 /// Puts texts behind `out`: in brackets, parted by commas.
 pub fn push_list(out: &mut Bytes, texts: &[Bytes]) -> Result<(), AllocError> {
     out.append(b"[")?;
