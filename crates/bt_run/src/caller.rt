@@ -13,7 +13,7 @@ use crate::reuse::Reuse;
 use crate::reusing::{Done, take_or_reuse};
 use crate::same_input::is_input;
 use crate::stepping::{all_told, cut_out, key_of, put_back};
-use bt_machine::step_depends_on_its_input;
+use bt_machine::{Input, step_depends_on_its_input};
 use bt_style::Target;
 use bt_text::Shared;
 use std::alloc::{AllocError, Global};
@@ -51,25 +51,22 @@ impl<'a> Caller<'a> {
         None
     }
 
-    /// The step that a run comes to, taken over or carried out by what it is given.
+    /// The step of an input, taken over or carried out.
     fn make_step(
         self,
-        target: Target,
-        place: Option<usize>,
+        input: Input,
         course: &Course,
         reuse: &mut Reuse,
     ) -> Result<Shared<Step>, AllocError>
-        requires placed { IsPlace place (world_of course.now) }
-        requires consistent { IsConsistent (program_of self.job.style.now) self.job.earlier.now course.now reuse.old }
+        requires { IsConsistent (program_of self.job.style.now) self.job.earlier.now course.now reuse.old }
         ensures command { IfOk result (λ s. s.command ≡ self.entry.site.now.command) }
-        ensures input { IfOk result (λ s. s.input ≡ input_at target place (world_of course.now)) }
+        ensures input { IfOk result (λ s. s.input ≡ input) }
         ensures next { IfOk result
             (λ s. IsNext (program_of self.entry.job.style.now) self.entry.job.earlier.now s reuse.old reuse.new) }
     {
         let Caller { alloc, job, site } = self;
         // Its length fits 64 bits, so that the count of the steps that were carried out can't overflow.
         let _steps = course.trace.len();
-        let input = cut_out(alloc, course, target, place)?;
         let key = key_of(&input)?;
         let Done { outcome, cost } = take_or_reuse(
             alloc,
@@ -114,7 +111,8 @@ impl<'a> Caller<'a> {
                 Ok(same)
             }
             None => {
-                let made = self.make_step(target, place, course, reuse)?;
+                let input = cut_out(self.alloc, course, target, place)?;
+                let made = self.make_step(input, course, reuse)?;
                 Ok(made)
             }
         }

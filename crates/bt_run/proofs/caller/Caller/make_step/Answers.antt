@@ -7,7 +7,7 @@ use Rattle.bt_run.proofs.caller.Caller.make_step.Goals as goal
 pub returns-clause-next : goal.returns-clause-next
 returns-clause-next c =
     let p = program_of c.args.self.job.style.now in
-    let i = c.in_ok-input.input in
+    let i = c.args.input in
     let done = c.in_ok-outcome.field-0 in
     let command = c.args.self.site.now.command in
     let made : c.in_ok-step.step ≡ step_now command i done.outcome done.cost =
