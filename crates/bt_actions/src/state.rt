@@ -100,6 +100,7 @@ impl<'a> State<'a> {
     }
 
     /// Puts a value on the stack, unless that would pass its limit.
+    #[inline(always)]
     pub fn push(&mut self, value: Value<'a>) -> Result<Flow, AllocError>
         requires { text_len (item_of value) ≤ 65536 }
         ensures world { IfOk result (Acts (pushed (item_of value.entry)) self.old self.new) }
@@ -115,6 +116,7 @@ impl<'a> State<'a> {
     }
 
     /// Puts a text on the stack, unless that would pass a limit.
+    #[inline(always)]
     pub fn push_text(&mut self, text: Text<'a>) -> Result<Flow, AllocError>
         ensures world { IfOk result (Acts (pushed (Txt (bytes_of text.entry))) self.old self.new) }
         ensures tally { self.new.tally ≡ self.old.tally }

@@ -13,6 +13,7 @@ use bibtex::{Draft, Session};
 use bt_serve::{Sink, say};
 use bt_text::Bytes;
 use std::alloc::{AllocError, Global};
+use std::mem::forget;
 
 /// What a file that can't be written makes of the exit status.
 const UNWRITTEN: u8 = 3;
@@ -98,7 +99,8 @@ fn write_out<F: Folder, O: Sink, E: Sink>(
 ///
 /// A file that is refused is told on `err`, and counts as missing. A file that can't be written is told on `err`, the
 /// exit status is 3, and nothing is written after it. After its first failure neither `out` nor `err` is written to
-/// again. The one error is want of memory; then nothing was written to the folder.
+/// again. The one error is want of memory; then nothing was written to the folder. The memory of a job that was run is
+/// left to the end of the program.
 pub fn one_shot<F: Folder, O: Sink, E: Sink>(
     alloc: Global,
     options: &Options,
@@ -137,5 +139,8 @@ pub fn one_shot<F: Folder, O: Sink, E: Sink>(
         blg: blg.as_slice(),
         log: printed_log(&session, options.terse),
     };
-    Ok(write_out(&outputs, folder, out, err, known))
+    let status = write_out(&outputs, folder, out, err, known);
+    // A program that has run its job ends: what the session kept goes with it, at once.
+    forget(session);
+    Ok(status)
 }
