@@ -1,5 +1,5 @@
 -- What braces and quotes enclose, one byte after the other with a count of the braces that are open.
-use Rattle.std.specs.Prelude.{◌==◌, ◌&&◌, ◌||◌, count_by}
+use Rattle.std.specs.Prelude.{◌==◌, ◌&&◌, ◌||◌, not, count_by}
 use Rattle.std.proofs.Common.{◌≡◌, ℕ, zero, suc, ◌+◌, ◌-◌, ◌<◌, ◌≤◌, Bool, true, false, cond, List, [], ◌∷◌, ◌++◌, length, drop, take, get_or, Result, Ok, Err, refl, ap, sym, ◌∙◌, arith, append_assoc, inl, inr}
 use Rattle.std.proofs.lemmas.List.{drop_more, drop_all, drop_at, take_at}
 use Rattle.std.proofs.lemmas.List.Sums.{sum_by-append, sum_by-cons}
@@ -10,10 +10,10 @@ use Rattle.bt_bib.specs.declared.fault.Fault.TheVariants.{EndOfFile, UnbalancedB
 use Rattle.bt_bib.specs.declared.enclosed.Turn.{Turn}
 use Rattle.bt_bib.specs.declared.enclosed.Turn.TheVariants as turns
 use Rattle.bt_bib.specs.Spot.{Here, at, here, after, passed, beyond}
-use Rattle.bt_bib.specs.Scan.{first}
+use Rattle.bt_bib.specs.Scan.{first, past}
 use Rattle.bt_bib.specs.Stop.{Stop, ◌>>=◌}
-use Rattle.bt_bib.specs.Enclosed.{enclosed, enclosed_by, enclosed_text, enclosed_end, turn, ends_enclosed}
-use Rattle.bt_bib.proofs.RunLemmas.{passed-nil, passed-cons}
+use Rattle.bt_bib.specs.Enclosed.{enclosed, enclosed_by, enclosed_text, enclosed_end, turn, ends_enclosed, is_plain}
+use Rattle.bt_bib.proofs.RunLemmas.{passed-nil, passed-cons, past_run, past_is_run}
 
 abbrev pub between : Here → Here → List ℕ
 between h e = take (e.spot.place - h.spot.place) h.rest
@@ -181,3 +181,28 @@ pub enclosed_ends : (close d : ℕ) (text : List ℕ) (s : Spot) → length text
 enclosed_ends close d text s le =
     let e = drop_all s.place text le in
     ap (enclosed_run close d s) e ∙ enclosed_nil close d s ∙ ap (λ r. Err (EndOfFile, at s r)) (sym e)
+
+-- a jump over bytes that are no braces and don't close
+plain_turn : (c z l r : Bool) (d : ℕ) → not (c || l || r) ≡ true → cond (c && z) turns.Closes (cond l (turns.Goes (d + 1)) (cond r (cond z turns.Breaks (turns.Goes (d - 1))) (turns.Goes d))) ≡ turns.Goes d
+plain_turn true z l r d h = absurd (false≢true h)
+plain_turn false z true r d h = absurd (false≢true h)
+plain_turn false z false true d h = absurd (false≢true h)
+plain_turn false z false false d h = refl
+
+plain_goes : (close d : ℕ) (s : Spot) (b : ℕ) (rest : List ℕ) → is_plain close b ≡ true → enclosed_run close d s (b ∷ rest) ≡ enclosed_run close d (after b s) rest
+plain_goes close d s b rest h = enclosed_cons close d s b rest (turns.Goes d) (sym (plain_turn (b == close) (d == 0) (b == left_brace) (b == right_brace) d h))
+
+abbrev run_at : ℕ → ℕ → Here → Result Here Stop
+run_at close d h = enclosed_run close d h.spot h.rest
+
+plain_by : (v : Bool) (close d : ℕ) (s : Spot) (b : ℕ) (rest : List ℕ) (far : Here) → is_plain close b ≡ v → run_at close d far ≡ enclosed_run close d (after b s) rest → run_at close d (cond v far (at s (b ∷ rest))) ≡ enclosed_run close d s (b ∷ rest)
+plain_by true close d s b rest far h e = e ∙ sym (plain_goes close d s b rest h)
+plain_by false close d s b rest far h e = refl
+
+plain_run : (close d : ℕ) (s : Spot) (rest : List ℕ) → run_at close d (past_run (is_plain close) s rest) ≡ enclosed_run close d s rest
+unfolding past_run
+plain_run close d s [] = refl
+plain_run close d s (b ∷ rest) = plain_by (is_plain close b) close d s b rest (past_run (is_plain close) (after b s) rest) refl (plain_run close d (after b s) rest)
+
+pub enclosed_jumps : (close d : ℕ) (text : List ℕ) (s end : Spot) → here text end ≡ past (is_plain close) (here text s) → enclosed_run close d end (drop end.place text) ≡ enclosed_run close d s (drop s.place text)
+enclosed_jumps close d text s end is = ap (run_at close d) (is ∙ past_is_run (is_plain close) s (drop s.place text)) ∙ plain_run close d s (drop s.place text)

@@ -1,5 +1,5 @@
 -- What braces and quotes enclose.
-use Rattle.std.specs.Prelude.{ℕ, ◌+◌, ◌-◌, ◌≤◌, Bool, ◌&&◌, ◌||◌, ◌==◌, List, [], ◌∷◌, ◌++◌, count_by, Option, Some, None, Result, Ok, Err, if◌then◌else◌}
+use Rattle.std.specs.Prelude.{ℕ, ◌+◌, ◌-◌, ◌≤◌, Bool, ◌&&◌, ◌||◌, ◌==◌, not, List, [], ◌∷◌, ◌++◌, count_by, Option, Some, None, Result, Ok, Err, if◌then◌else◌}
 use Rattle.bt_text.specs.ByteTests.{left_brace, right_brace}
 use Rattle.bt_bib.specs.declared.fault.Fault.TheVariants.{EndOfFile, UnbalancedBraces}
 use Rattle.bt_bib.specs.declared.enclosed.Turn.{Turn}
@@ -40,6 +40,10 @@ turn close depth b =
     else if b == left_brace then turns.Goes (depth + 1)
     else if b == right_brace then (if depth == 0 then turns.Breaks else turns.Goes (depth - 1))
     else turns.Goes depth
+
+-- a byte that is no brace and doesn't close
+abbrev pub is_plain : ℕ → ℕ → Bool
+is_plain close b = not (b == close || b == left_brace || b == right_brace)
 
 -- It opens no more than so many.
 abbrev pub IsNear : ℕ → Turn → Type 0

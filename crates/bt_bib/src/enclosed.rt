@@ -1,8 +1,9 @@
 //! What braces and quotes enclose.
 
 ghost use Rattle.std.specs.Prelude.{◌≡◌, ◌<◌, ◌+◌, ◌^◌};
-ghost use Rattle.bt_bib.specs.Spot.{here, IsIn};
-ghost use Rattle.bt_bib.specs.Enclosed.{enclosed, enclosed_end, turn, IsNear};
+ghost use Rattle.bt_bib.specs.Spot.{here, IsAhead, IsIn};
+ghost use Rattle.bt_bib.specs.Scan.{past};
+ghost use Rattle.bt_bib.specs.Enclosed.{enclosed, enclosed_end, is_plain, turn, IsNear};
 ghost use Rattle.bt_bib.specs.Stop.{Finds, Gives};
 
 use crate::fault::Fault;
@@ -10,6 +11,7 @@ use crate::reader::Reader;
 use crate::spot::Spot;
 use crate::stop::Halt;
 use bt_text::{Bytes, Shared};
+use memchr::memchr3;
 
 /// What a byte does inside braces or quotes.
 #[derive(Clone, Copy, Debug, PartialEq, Eq)]
@@ -46,6 +48,17 @@ impl Turn {
 }
 
 impl Reader<'_> {
+    /// The next brace or closing sign, or the text's end.
+    fn past_plain(&self, from: Spot, close: u8) -> Spot
+        requires { IsIn self.now.text.now from }
+        ensures value { here self.now.text.now result ≡ past (is_plain close) (here self.now.text.now from) }
+        ensures inside { IsAhead self.now.text.now from result }
+    {
+        let rest = &self.text[from.place..];
+        let count = memchr3(close, b'{', b'}', rest).unwrap_or(rest.len());
+        self.ahead(from, count)
+    }
+
     /// The byte that closes what stands here.
     fn enclosed_end(&self, from: Spot, close: u8) -> Result<Spot, Halt>
         requires { IsIn self.now.text.now from }
@@ -60,7 +73,7 @@ impl Reader<'_> {
                 Turn::Breaks => return Err(Halt::Stopped(Fault::UnbalancedBraces, at)),
                 Turn::Goes(next) => depth = next,
             }
-            at = at.after(byte);
+            at = self.past_plain(at.after(byte), close);
         }
         Err(Halt::Stopped(Fault::EndOfFile, at))
     }

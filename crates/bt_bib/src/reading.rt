@@ -1,7 +1,7 @@
 //! The reader of whole databases.
 
-ghost use Rattle.std.specs.Prelude.{◌≡◌, ◌==◌, count_by, IfOk};
-ghost use Rattle.bt_bib.specs.Spot.{here, is_line_end, IsAhead, IsIn};
+ghost use Rattle.std.specs.Prelude.{◌≡◌, ◌==◌, IfOk};
+ghost use Rattle.bt_bib.specs.Spot.{here, IsAhead, IsIn};
 ghost use Rattle.bt_bib.specs.Stop.{Makes};
 ghost use Rattle.bt_bib.specs.Scan.{past};
 ghost use Rattle.bt_bib.specs.Pieces.{is_text, next_piece, piece};
@@ -17,13 +17,6 @@ use bt_text::Shared;
 use memchr::memchr;
 use std::alloc::{AllocError, Global};
 
-/// How many lines end in some bytes.
-fn line_ends(bytes: &[u8]) -> usize
-    ensures { result ≡ count_by is_line_end bytes.now }
-{
-    bytes.iter().filter(|byte| **byte == b'\n').count()
-}
-
 impl Reader<'_> {
     /// The next `@`, or the text's end.
     fn seek(&self, from: Spot) -> Spot
@@ -33,11 +26,7 @@ impl Reader<'_> {
     {
         let rest = &self.text[from.place..];
         let count = memchr(b'@', rest).unwrap_or(rest.len());
-        let lines = line_ends(&rest[..count]);
-        Spot {
-            place: from.place + count,
-            line: from.line + lines,
-        }
+        self.ahead(from, count)
     }
 
     /// The next `@` with what it begins, or none.

@@ -1,7 +1,7 @@
 //! Scans of a text: runs of bytes and signs.
 
-ghost use Rattle.std.specs.Prelude.{◌≡◌, ◌<◌, ◌≤◌, ◌+◌, ◌-◌, ◌^◌, drop, length, take, IfOk};
-ghost use Rattle.bt_bib.specs.Spot.{after, behind, here, IsAhead, IsIn};
+ghost use Rattle.std.specs.Prelude.{◌≡◌, ◌<◌, ◌≤◌, ◌+◌, ◌-◌, ◌^◌, count_by, drop, length, take, IfOk};
+ghost use Rattle.bt_bib.specs.Spot.{after, behind, here, is_line_end, passed, IsAhead, IsIn};
 ghost use Rattle.bt_bib.specs.Scan.{closing_sign, first, has, is_key_byte, past, run, sign, white};
 ghost use Rattle.bt_bib.specs.Stop.{Finds, Makes};
 
@@ -59,6 +59,13 @@ impl Class {
     }
 }
 
+/// How many lines end in some bytes.
+fn line_ends(bytes: &[u8]) -> usize
+    ensures { result ≡ count_by is_line_end bytes.now }
+{
+    bytes.iter().filter(|byte| **byte == b'\n').count()
+}
+
 impl Reader<'_> {
     /// The byte at a place, none at the end.
     pub fn peek(&self, at: Spot) -> Option<u8>
@@ -77,6 +84,21 @@ impl Reader<'_> {
             at.after(self.text[at.place])
         } else {
             at
+        }
+    }
+
+    /// The place so many bytes on.
+    pub fn ahead(&self, from: Spot, count: usize) -> Spot
+        requires at { IsIn self.now.text.now from }
+        requires within { from.place + count ≤ length self.now.text.now }
+        ensures value { result ≡ passed (take count (drop from.place self.now.text.now)) from }
+        ensures inside { IsAhead self.now.text.now from result }
+    {
+        let end = from.place + count;
+        let lines = line_ends(&self.text[from.place..end]);
+        Spot {
+            place: end,
+            line: from.line + lines,
         }
     }
 

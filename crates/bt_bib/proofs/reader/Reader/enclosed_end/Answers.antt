@@ -1,7 +1,7 @@
 use Rattle.std.proofs.Common.{sym, ◌∙◌, ap, arith, rules, drop}
 use Rattle.bt_bib.specs.declared.spot.Spot.{Spot}
 use Rattle.bt_bib.specs.Spot.{here}
-use Rattle.bt_bib.proofs.EnclosedLemmas.{enclosed_run, end_is_run, enclosed_closes, enclosed_breaks, enclosed_goes, enclosed_ends}
+use Rattle.bt_bib.proofs.EnclosedLemmas.{enclosed_run, end_is_run, enclosed_closes, enclosed_breaks, enclosed_goes, enclosed_ends, enclosed_jumps}
 use Rattle.bt_bib.proofs.reader.Reader.enclosed_end.Goals as goal
 
 pub bytes-init : goal.bytes-init
@@ -20,8 +20,8 @@ returns-in-Breaks c = (sym c.bytes.invariant.same ∙ enclosed_breaks c.args.clo
 pub bytes-preserved : goal.bytes-preserved
 bytes-preserved c = record {
   inside = search rules;
-  shallow = omega (arith, c.in-Goes.ensures.near, ap (λ (s : Spot). s.place) c.after-at.ensures);
-  same = ap (λ s. enclosed_run c.args.close c.in-Goes.next s (drop s.place c.args.self.now.text.now)) c.after-at.ensures ∙ enclosed_goes c.args.close c.bytes.depth c.in-Goes.next c.args.self.now.text.now c.bytes.at c.bytes-test.true c.in-Goes.ensures.value ∙ c.bytes.invariant.same;
+  shallow = omega (arith, c.in-Goes.ensures.near, ap (λ (s : Spot). s.place) c.after.ensures, c.past_plain-at.ensures.inside.order);
+  same = enclosed_jumps c.args.close c.in-Goes.next c.args.self.now.text.now c.after.result c.past_plain-at.result c.past_plain-at.ensures.value ∙ ap (λ s. enclosed_run c.args.close c.in-Goes.next s (drop s.place c.args.self.now.text.now)) c.after.ensures ∙ enclosed_goes c.args.close c.bytes.depth c.in-Goes.next c.args.self.now.text.now c.bytes.at c.bytes-test.true c.in-Goes.ensures.value ∙ c.bytes.invariant.same;
 }
 
 pub returns : goal.returns
