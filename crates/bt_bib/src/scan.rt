@@ -11,6 +11,7 @@ use crate::reader::Reader;
 use crate::spot::Spot;
 use crate::stop::Halt;
 use bt_text::{Bytes, Shared, is_digit, is_name_byte, is_white};
+use memchr::memchr_iter;
 use std::alloc::AllocError;
 
 /// Bytes that stand in one run.
@@ -63,7 +64,7 @@ impl Class {
 fn line_ends(bytes: &[u8]) -> usize
     ensures { result ≡ count_by is_line_end bytes.now }
 {
-    bytes.iter().filter(|byte| **byte == b'\n').count()
+    memchr_iter(b'\n', bytes).count()
 }
 
 impl Reader<'_> {
