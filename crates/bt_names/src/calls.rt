@@ -8,9 +8,10 @@ use crate::faults::{FormatFault, NameFault};
 use crate::groups::formatted;
 use crate::growth::Stop;
 use crate::listing::name_at;
+use crate::name::Name;
 use crate::patterns::pattern_fault;
 use crate::spelling::Spelled;
-use crate::splitting::parts_of;
+use crate::splitting::sections_of;
 use crate::tokens::Parts;
 use bt_text::Bytes;
 use std::alloc::Global;
@@ -39,7 +40,9 @@ pub fn parts(alloc: Global, names: &[u8], n: i32) -> Result<Parts, NameFault>
     if 2 < comma_count(name) {
         return Err(NameFault::TooManyCommas);
     }
-    let parts = parts_of(alloc, name)?;
+    let name = Name::new(alloc, name)?;
+    let sections = sections_of(alloc, &name)?;
+    let parts = sections.parts().copied(alloc)?;
     Ok(parts)
 }
 
@@ -67,7 +70,9 @@ pub fn format_within(
     if let Some(place) = pattern_fault(pattern) {
         return Err(FormatFault::PatternFault(place));
     }
-    let parts = Spelled::new(alloc, parts_of(alloc, name)?)?;
+    let name = Name::new(alloc, name)?;
+    let sections = sections_of(alloc, &name)?;
+    let parts = Spelled::new(alloc, sections.parts())?;
     match formatted(alloc, limit, &parts, pattern) {
         Ok(text) => Ok(Formatted::Text(Bytes::from_vec(text))),
         Err(Stop::Longer) => Ok(Formatted::Longer),

@@ -5,24 +5,9 @@ ghost use Rattle.std.specs.List.{prefix_len};
 ghost use Rattle.bt_text.specs.Blocks.{blocks};
 ghost use Rattle.bt_names.specs.Cutting.{begins_token, first_section, is_comma, is_parting, kept_blocks, other_sections, runs, sections_from, sign_of, tokens};
 
-use crate::tokens::Token;
-use bt_text::{Bytes, block_len, depth_behind, is_separator, is_white};
+use crate::lent::LentToken;
+use bt_text::{block_len, depth_behind, is_separator, is_white};
 use std::alloc::{AllocError, Global};
-
-/// A name without the right braces at depth 0.
-pub fn without_stray_braces(alloc: Global, name: &[u8]) -> Result<Vec<u8>, AllocError>
-    ensures { IfOk result (λ kept. blocks kept.items ≡ kept_blocks name.now) }
-{
-    let mut kept = Vec::new(alloc);
-    let mut depth = 0;
-    for byte in name {
-        if *byte != b'}' || 0 < depth {
-            kept.push(*byte)?;
-        }
-        depth = depth_behind(depth, *byte);
-    }
-    Ok(kept)
-}
 
 /// Whether a block is a comma.
 fn is_comma(block: &[u8]) -> bool
@@ -73,7 +58,7 @@ fn sign_of(gap: &[u8]) -> u8
 }
 
 /// What stands before a section's first token, or before another one.
-fn sign_or_lead(found: &[Token], lead: u8, gap: &[u8]) -> u8
+fn sign_or_lead(found: &[LentToken], lead: u8, gap: &[u8]) -> u8
     ensures { result ≡ (if length found.now == 0 then lead else sign_of gap.now) }
 {
     if found.is_empty() { lead } else { sign_of(gap) }
@@ -108,21 +93,23 @@ fn token_len(text: &[u8]) -> usize
 }
 
 /// Puts a token behind others.
-fn push_token(
-    alloc: Global,
-    found: &mut Vec<Token>,
-    text: &[u8],
+fn push_token<'a>(
+    found: &mut Vec<LentToken<'a>>,
+    text: &'a [u8],
     before: u8,
 ) -> Result<(), AllocError>
     ensures { OnOk result (found.new.items ≡ found.old.items ++ record { text = text.now; before = before } ∷ []) }
 {
-    let text = Bytes::copied(alloc, text)?;
-    found.push(Token { text, before })?;
+    found.push(LentToken::new(text, before))?;
     Ok(())
 }
 
 /// The tokens before the first comma, with `lead` before the first.
-pub fn tokens_before_comma(alloc: Global, text: &[u8], lead: u8) -> Result<Vec<Token>, AllocError>
+pub fn tokens_before_comma<'a>(
+    alloc: Global,
+    text: &'a [u8],
+    lead: u8,
+) -> Result<Vec<LentToken<'a>>, AllocError>
     ensures { IfOk result (λ found. found.items ≡ tokens lead (runs (first_section text.now))) }
 {
     let mut found = Vec::new(alloc);
@@ -134,7 +121,7 @@ pub fn tokens_before_comma(alloc: Global, text: &[u8], lead: u8) -> Result<Vec<T
         }
         let (token, after) = behind.split_at(token_len(behind));
         let before = sign_or_lead(&found, lead, gap);
-        push_token(alloc, &mut found, token, before)?;
+        push_token(&mut found, token, before)?;
         rest = after;
     }
 }

@@ -10,9 +10,9 @@ ghost use Rattle.bt_names.specs.Groups.{block_output, ends_in_tie, finished, for
 
 use crate::growth::{Stop, push_in_group, push_within};
 use crate::joining::{join_by_signs, join_by_text, push_linked};
+use crate::lent::LentToken;
 use crate::patterns::{begins_group, inside, is_doubled_at, letter_end, next_letter};
 use crate::spelling::{Form, Spelled, first_block};
-use crate::tokens::Token;
 use bt_text::{block_len, text_length};
 use std::alloc::Global;
 
@@ -47,7 +47,7 @@ fn finish(out: &mut Vec<u8>)
 }
 
 /// The first token of a part, with what stands in the group before it.
-fn begun(alloc: Global, limit: usize, before: &[u8], first: &Token) -> Result<Vec<u8>, Stop>
+fn begun(alloc: Global, limit: usize, before: &[u8], first: &LentToken) -> Result<Vec<u8>, Stop>
     ensures ok { IfOk result (λ t. t.items ≡ before.now ++ first.now.text) }
     ensures stop { IfErr result (StopsAt (limit + 1) (before.now ++ first.now.text)) }
 {
@@ -73,7 +73,7 @@ fn put_in_by_text(
     limit: usize,
     text: &[u8],
     before: &[u8],
-    tokens: &[Token],
+    tokens: &[LentToken],
     behind: &[u8],
 ) -> Result<Vec<u8>, Stop>
     ensures ok { IfOk result (λ t. t.items ≡ put_in (by_text text.now) before.now tokens.now behind.now) }
@@ -95,7 +95,7 @@ fn put_in_by_signs(
     limit: usize,
     form: Form,
     before: &[u8],
-    tokens: &[Token],
+    tokens: &[LentToken],
     behind: &[u8],
 ) -> Result<Vec<u8>, Stop>
     ensures ok { IfOk result (λ t. t.items ≡ put_in (by_signs form) before.now tokens.now behind.now) }
@@ -117,7 +117,7 @@ fn with_tokens(
     limit: usize,
     before: &[u8],
     form: Form,
-    tokens: &[Token],
+    tokens: &[LentToken],
     behind: &[u8],
 ) -> Result<Vec<u8>, Stop>
     ensures ok { IfOk result (λ t. t.items ≡ with_tokens before.now form tokens.now behind.now) }

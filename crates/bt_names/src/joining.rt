@@ -7,17 +7,22 @@ ghost use Rattle.bt_names.specs.Growth.{StopsAt};
 ghost use Rattle.bt_names.specs.Joining.{by_signs, by_text, dotted, is_short, joined};
 
 use crate::growth::{Stop, push_in_group};
+use crate::lent::LentToken;
 use crate::spelling::Form;
-use crate::tokens::Token;
 use bt_text::{is_separator, text_length};
 
 /// Puts a token behind a group's output, with what goes before it.
-pub fn push_linked(out: &mut Vec<u8>, limit: usize, link: &[u8], token: &Token) -> Result<(), Stop>
+pub fn push_linked(
+    out: &mut Vec<u8>,
+    limit: usize,
+    link: &[u8],
+    token: &LentToken,
+) -> Result<(), Stop>
     ensures ok { OnOk result (out.new.items ≡ out.old.items ++ link.now ++ token.now.text) }
     ensures stop { IfErr result (StopsAt (limit + 1) (out.old.items ++ link.now ++ token.now.text)) }
 {
     push_in_group(out, limit, link)?;
-    push_in_group(out, limit, token.text.as_slice())
+    push_in_group(out, limit, token.text())
 }
 
 /// Joins tokens to a group's output, with a text before each.
@@ -25,7 +30,7 @@ pub fn join_by_text(
     out: &mut Vec<u8>,
     limit: usize,
     text: &[u8],
-    tokens: &[Token],
+    tokens: &[LentToken],
 ) -> Result<(), Stop>
     ensures ok { OnOk result (out.new.items ≡ joined (by_text text.now) out.old.items tokens.now) }
     ensures stop { IfErr result (StopsAt (limit + 1) (joined (by_text text.now) out.old.items tokens.now)) }
@@ -74,7 +79,7 @@ pub fn join_by_signs(
     out: &mut Vec<u8>,
     limit: usize,
     form: Form,
-    tokens: &[Token],
+    tokens: &[LentToken],
 ) -> Result<(), Stop>
     ensures ok { OnOk result (out.new.items ≡ joined (by_signs form) out.old.items tokens.now) }
     ensures stop { IfErr result (StopsAt (limit + 1) (joined (by_signs form) out.old.items tokens.now)) }
@@ -83,7 +88,7 @@ pub fn join_by_signs(
     'walk: for (place, token) in tokens.iter().enumerate() {
         push_dot(out, limit, form)?;
         is_short = stays_short(is_short, out);
-        let link = sign(token.before, place + 1 == tokens.len(), is_short);
+        let link = sign(token.before(), place + 1 == tokens.len(), is_short);
         push_linked(out, limit, &[link], token)?;
     }
     Ok(())

@@ -2,10 +2,10 @@
 
 ghost use Rattle.std.specs.Prelude.{◌≡◌, ◌++◌, IfOk, OnOk, map};
 ghost use Rattle.bt_names.specs.Groups.{named_by};
-ghost use Rattle.bt_names.specs.Spelling.{by_initial, first_block, in_form, initial, spelled};
+ghost use Rattle.bt_names.specs.Spelling.{abbreviated, by_initial, first_block, initial, spelled};
 
-use crate::tokens::{Parts, Token};
-use bt_text::{Bytes, Sequence, begins_special, block_len, is_letter};
+use crate::lent::{LentParts, LentToken};
+use bt_text::{begins_special, block_len, is_letter};
 use std::alloc::{AllocError, Global};
 use std::marker::Model;
 
@@ -49,34 +49,37 @@ fn initial(text: &[u8]) -> &[u8]
 }
 
 /// A token by its initial.
-fn by_initial(alloc: Global, token: &Token) -> Result<Token, AllocError>
-    ensures { IfOk result (λ short. short ≡ by_initial token.now) }
+fn by_initial<'a>(token: &LentToken<'a>) -> LentToken<'a>
+    ensures { result ≡ by_initial token.now }
 {
-    Ok(Token {
-        text: Bytes::copied(alloc, initial(token.text.as_slice()))?,
-        before: token.before,
-    })
+    LentToken::new(initial(token.text()), token.before())
 }
 
 /// Tokens by their initials.
-fn by_initials(alloc: Global, tokens: &[Token]) -> Result<Sequence<Token>, AllocError>
-    ensures { IfOk result (λ short. short ≡ map by_initial tokens.now) }
+fn by_initials<'a>(
+    alloc: Global,
+    tokens: &[LentToken<'a>],
+) -> Result<Vec<LentToken<'a>>, AllocError>
+    ensures { IfOk result (λ short. short.items ≡ map by_initial tokens.now) }
 {
-    let mut short = Sequence::new(alloc);
+    let mut short = Vec::with_capacity(alloc, tokens.len())?;
     'walk: for token in tokens {
-        short.push(by_initial(alloc, token)?)?;
+        short.push(by_initial(token))?;
     }
     Ok(short)
 }
 
 /// The parts of a name in both forms, so that each initial is looked for once. Contracts see the whole parts.
-#[derive(Debug, Drop)]
-pub struct Spelled {
-    whole: Parts,
-    initials: Parts,
+#[derive(Drop)]
+pub struct Spelled<'t, 'a> {
+    whole: LentParts<'t, 'a>,
+    first: Vec<LentToken<'a>>,
+    von: Vec<LentToken<'a>>,
+    last: Vec<LentToken<'a>>,
+    jr: Vec<LentToken<'a>>,
 }
 
-impl Model for Spelled {
+impl<'t, 'a> Model for Spelled<'t, 'a> {
     ghost use Rattle.std.specs.Prelude.{◌≡◌};
     ghost use Rattle.bt_names.specs.declared.tokens.Parts.{Parts};
     ghost use Rattle.bt_names.specs.Spelling.{abbreviated};
@@ -85,46 +88,46 @@ impl Model for Spelled {
 
     ghost view = { λ s. s.whole };
 
-    ghost invariant = { λ s. s.initials ≡ abbreviated s.whole };
+    ghost invariant = { λ s. record { first = s.first.items; von = s.von.items; last = s.last.items; jr = s.jr.items } ≡ abbreviated s.whole };
 }
 
-impl Spelled {
+impl<'t, 'a> Spelled<'t, 'a> {
     /// Both forms of some parts.
-    pub fn new(alloc: Global, parts: Parts) -> Result<Self, AllocError>
-        ensures { IfOk result (λ spelled. spelled ≡ parts) }
+    pub fn new(alloc: Global, parts: LentParts<'t, 'a>) -> Result<Self, AllocError>
+        ensures { IfOk result (λ spelled. spelled ≡ parts.entry) }
     {
-        let initials = Parts {
-            first: by_initials(alloc, parts.first.as_slice())?,
-            von: by_initials(alloc, parts.von.as_slice())?,
-            last: by_initials(alloc, parts.last.as_slice())?,
-            jr: by_initials(alloc, parts.jr.as_slice())?,
-        };
+        let first = by_initials(alloc, parts.first)?;
+        let von = by_initials(alloc, parts.von)?;
+        let last = by_initials(alloc, parts.last)?;
+        let jr = by_initials(alloc, parts.jr)?;
         Ok(Spelled {
             whole: parts,
-            initials,
+            first,
+            von,
+            last,
+            jr,
         })
     }
 
-    /// The parts in this form.
-    fn parts(&self, form: Form) -> &Parts
-        ensures { result.now ≡ in_form form self.now }
+    /// The parts by their initials.
+    fn initials(&self) -> LentParts<'_, 'a>
+        ensures { result ≡ abbreviated self.now }
     {
-        match form {
-            Form::Whole => &self.whole,
-            Form::Initials => &self.initials,
+        LentParts {
+            first: self.first.as_slice(),
+            von: self.von.as_slice(),
+            last: self.last.as_slice(),
+            jr: self.jr.as_slice(),
         }
     }
 
     /// The tokens of the part that a letter names, in this form.
-    pub fn named_by(&self, letter: u8, form: Form) -> &[Token]
+    pub fn named_by(&self, letter: u8, form: Form) -> &[LentToken<'a>]
         ensures { result.now ≡ spelled form (named_by self.now letter) }
     {
-        let parts = self.parts(form);
-        match letter.to_ascii_lowercase() {
-            b'f' => parts.first.as_slice(),
-            b'v' => parts.von.as_slice(),
-            b'l' => parts.last.as_slice(),
-            _ => parts.jr.as_slice(),
+        match form {
+            Form::Whole => self.whole.named_by(letter),
+            Form::Initials => self.initials().named_by(letter),
         }
     }
 }

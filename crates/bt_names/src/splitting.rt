@@ -8,21 +8,22 @@ ghost use Rattle.bt_names.specs.Cutting.{is_comma, lead_behind};
 ghost use Rattle.bt_names.specs.Vons.{is_von};
 ghost use Rattle.bt_names.specs.Splitting.{all_but_last, last_start, parts_of, split_at_two, von_end, von_start, with_commas, without_comma};
 
-use crate::cutting::{behind_comma, tokens_before_comma, without_stray_braces};
-use crate::tokens::{Parts, Token};
+use crate::cutting::{behind_comma, tokens_before_comma};
+use crate::lent::{LentParts, LentToken};
+use crate::name::Name;
 use crate::vons::is_von;
-use bt_text::Sequence;
 use std::alloc::{AllocError, Global};
+use std::marker::Model;
 
 /// All tokens but the last.
-fn all_but_last(tokens: &[Token]) -> &[Token]
+fn all_but_last<'t, 'a>(tokens: &'t [LentToken<'a>]) -> &'t [LentToken<'a>]
     ensures { result.now ≡ all_but_last tokens.now }
 {
     &tokens[..tokens.len().saturating_sub(1)]
 }
 
 /// How many tokens stand before the first von token.
-fn tokens_before_von(tokens: &[Token]) -> usize
+fn tokens_before_von(tokens: &[LentToken]) -> usize
     ensures within { result ≤ length tokens.now }
     ensures len { result ≡ position_or_len is_von tokens.now }
 {
@@ -30,7 +31,7 @@ fn tokens_before_von(tokens: &[Token]) -> usize
 }
 
 /// How many tokens stand behind the last von token.
-fn tokens_behind_von(tokens: &[Token]) -> usize
+fn tokens_behind_von(tokens: &[LentToken]) -> usize
     ensures within { result ≤ length tokens.now }
     ensures len { result ≡ suffix_len (λ w. not (is_von w)) tokens.now }
 {
@@ -42,14 +43,14 @@ fn tokens_behind_von(tokens: &[Token]) -> usize
 }
 
 /// Whether a hyphen stands before a token.
-fn is_tied(token: &Token) -> bool
+fn is_tied(token: &LentToken) -> bool
     ensures { result ≡ (token.now.before == hyphen) }
 {
-    token.before == b'-'
+    token.before() == b'-'
 }
 
 /// How many tokens at the end have a hyphen before them.
-fn tied_tokens(tokens: &[Token]) -> usize
+fn tied_tokens(tokens: &[LentToken]) -> usize
     ensures within { result ≤ length tokens.now }
     ensures len { result ≡ suffix_len (λ w. w.before == hyphen) tokens.now }
 {
@@ -61,14 +62,14 @@ fn tied_tokens(tokens: &[Token]) -> usize
 }
 
 /// Where the von tokens begin.
-fn von_start(tokens: &[Token]) -> usize
+fn von_start(tokens: &[LentToken]) -> usize
     ensures { result ≡ von_start tokens.now }
 {
     tokens_before_von(all_but_last(tokens))
 }
 
 /// Where the von tokens end.
-fn von_end(tokens: &[Token]) -> usize
+fn von_end(tokens: &[LentToken]) -> usize
     ensures within { result ≤ length tokens.now }
     ensures place { result ≡ von_end tokens.now }
 {
@@ -77,7 +78,7 @@ fn von_end(tokens: &[Token]) -> usize
 }
 
 /// Where the last name begins if there are no von tokens.
-fn last_start(tokens: &[Token]) -> usize
+fn last_start(tokens: &[LentToken]) -> usize
     ensures within { result ≤ length tokens.now }
     ensures place { result ≡ last_start tokens.now }
 {
@@ -85,65 +86,122 @@ fn last_start(tokens: &[Token]) -> usize
 }
 
 /// Tokens cut at two places: First, von and Last.
-fn split_at_two(
-    alloc: Global,
-    tokens: Vec<Token>,
-    start: usize,
-    end: usize,
-) -> Result<Parts, AllocError>
+fn split_at_two<'t, 'a>(tokens: &'t [LentToken<'a>], start: usize, end: usize) -> LentParts<'t, 'a>
     requires first { start ≤ end }
-    requires second { end ≤ length tokens.items }
-    ensures { IfOk result (λ parts. parts ≡ split_at_two tokens.items start end) }
+    requires second { end ≤ length tokens.now }
+    ensures { result ≡ split_at_two tokens.now start end }
 {
-    let mut first = tokens;
-    let last = first.split_off(end)?;
-    let von = first.split_off(start)?;
-    Ok(Parts {
-        first: Sequence::from_vec(first),
-        von: Sequence::from_vec(von),
-        last: Sequence::from_vec(last),
-        jr: Sequence::new(alloc),
-    })
+    LentParts {
+        first: &tokens[..start],
+        von: &tokens[start..end],
+        last: &tokens[end..],
+        jr: &[],
+    }
 }
 
 /// The parts of a name without a comma.
-fn without_comma(alloc: Global, tokens: Vec<Token>) -> Result<Parts, AllocError>
-    ensures { IfOk result (λ parts. parts ≡ without_comma tokens.items) }
+fn without_comma<'t, 'a>(tokens: &'t [LentToken<'a>]) -> LentParts<'t, 'a>
+    ensures { result ≡ without_comma tokens.now }
 {
-    let start = von_start(&tokens);
-    let end = von_end(&tokens);
+    let start = von_start(tokens);
+    let end = von_end(tokens);
     if start < end {
-        split_at_two(alloc, tokens, start, end)
+        split_at_two(tokens, start, end)
     } else {
-        let start = last_start(&tokens);
-        split_at_two(alloc, tokens, start, start)
+        let start = last_start(tokens);
+        split_at_two(tokens, start, start)
     }
 }
 
 /// The parts of a name with commas.
-fn with_commas(tokens: Vec<Token>, jr: Vec<Token>, first: Vec<Token>) -> Result<Parts, AllocError>
-    ensures { IfOk result (λ parts. parts ≡ with_commas tokens.items jr.items first.items) }
+fn with_commas<'t, 'a>(
+    tokens: &'t [LentToken<'a>],
+    jr: &'t [LentToken<'a>],
+    first: &'t [LentToken<'a>],
+) -> LentParts<'t, 'a>
+    ensures { result ≡ with_commas tokens.now jr.now first.now }
 {
-    let end = von_end(&tokens);
-    let mut von = tokens;
-    let last = von.split_off(end)?;
-    Ok(Parts {
-        first: Sequence::from_vec(first),
-        von: Sequence::from_vec(von),
-        last: Sequence::from_vec(last),
-        jr: Sequence::from_vec(jr),
-    })
+    let end = von_end(tokens);
+    LentParts {
+        first,
+        von: &tokens[..end],
+        last: &tokens[end..],
+        jr,
+    }
+}
+
+/// The tokens of a name, cut at its commas. Contracts see the parts of the name.
+#[derive(Drop)]
+pub struct Sections<'a> {
+    has_comma: bool,
+    before: Vec<LentToken<'a>>,
+    jr: Vec<LentToken<'a>>,
+    first: Vec<LentToken<'a>>,
+}
+
+impl<'a> Model for Sections<'a> {
+    ghost use Rattle.std.specs.Prelude.{if◌then◌else◌};
+    ghost use Rattle.bt_names.specs.declared.tokens.Parts.{Parts};
+    ghost use Rattle.bt_names.specs.Splitting.{with_commas, without_comma};
+
+    ghost Value = { Parts };
+
+    ghost view = { λ s. if s.has_comma then with_commas s.before.items s.jr.items s.first.items else without_comma s.before.items };
+}
+
+impl<'a> Sections<'a> {
+    ghost use Rattle.std.specs.Prelude.{◌≡◌};
+    ghost use Rattle.bt_names.specs.Splitting.{with_commas, without_comma};
+
+    /// The tokens of a name without a comma.
+    fn whole(alloc: Global, tokens: Vec<LentToken<'a>>) -> Sections<'a>
+        ensures { result ≡ without_comma tokens.entry.items }
+    {
+        Sections {
+            has_comma: false,
+            before: tokens,
+            jr: Vec::new(alloc),
+            first: Vec::new(alloc),
+        }
+    }
+
+    /// The tokens of a name with commas.
+    fn cut(
+        before: Vec<LentToken<'a>>,
+        jr: Vec<LentToken<'a>>,
+        first: Vec<LentToken<'a>>,
+    ) -> Sections<'a>
+        ensures { result ≡ with_commas before.entry.items jr.entry.items first.entry.items }
+    {
+        Sections {
+            has_comma: true,
+            before,
+            jr,
+            first,
+        }
+    }
+
+    /// The four parts of the name.
+    pub fn parts(&self) -> LentParts<'_, 'a>
+        ensures { result ≡ self.now }
+    {
+        if self.has_comma {
+            with_commas(&self.before, &self.jr, &self.first)
+        } else {
+            without_comma(&self.before)
+        }
+    }
 }
 
 /// What stands before the first token behind others and a comma.
-fn lead_behind(tokens: &[Token]) -> u8
+fn lead_behind(tokens: &[LentToken]) -> u8
     ensures { result ≡ lead_behind tokens.now }
 {
     if tokens.is_empty() { 0 } else { b',' }
 }
 
 /// What stands before the first token behind two sections.
-fn lead_behind_two(front: &[Token], second: &[Token]) -> u8
+fn lead_behind_two(front: &[LentToken], second: &[LentToken]) -> u8
     ensures { result ≡ lead_behind (front.now ++ second.now) }
 {
     if front.is_empty() {
@@ -153,22 +211,22 @@ fn lead_behind_two(front: &[Token], second: &[Token]) -> u8
     }
 }
 
-/// The four parts of a name.
-pub fn parts_of(alloc: Global, name: &[u8]) -> Result<Parts, AllocError>
+/// The tokens of a name, cut at its commas.
+pub fn sections_of<'a>(alloc: Global, name: &'a Name) -> Result<Sections<'a>, AllocError>
     requires { count_by is_comma (blocks name.now) ≤ 2 }
     ensures { IfOk result (λ parts. parts_of name.now ≡ Some parts) }
 {
-    let kept = without_stray_braces(alloc, name)?;
-    let front = tokens_before_comma(alloc, &kept, 0)?;
-    match behind_comma(&kept) {
-        None => without_comma(alloc, front),
+    let kept = name.kept();
+    let front = tokens_before_comma(alloc, kept, 0)?;
+    match behind_comma(kept) {
+        None => Ok(Sections::whole(alloc, front)),
         Some(rest) => {
             let second = tokens_before_comma(alloc, rest, lead_behind(&front))?;
             match behind_comma(rest) {
-                None => with_commas(front, Vec::new(alloc), second),
+                None => Ok(Sections::cut(front, Vec::new(alloc), second)),
                 Some(rest) => {
                     let third = tokens_before_comma(alloc, rest, lead_behind_two(&front, &second))?;
-                    with_commas(front, second, third)
+                    Ok(Sections::cut(front, second, third))
                 }
             }
         }

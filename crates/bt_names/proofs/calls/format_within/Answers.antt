@@ -15,16 +15,16 @@ returns-in-Some-pattern_fault-clause-fault c =
     let some = simp to_z-of_z at c.in-Some.ensures.some in
     fault_of_pattern c.args.names.now c.args.n c.in-Some.name.now c.args.pattern.now c.in-Some-pattern_fault.place some (omega (arith, c.comma_count.ensures)) (sym c.in-Some-pattern_fault.ensures)
 
-pub returns-in_err-parts_of-clause-fault : goal.returns-in_err-parts_of-clause-fault
-returns-in_err-parts_of-clause-fault c =
+pub returns-in_err-name-clause-fault : goal.returns-in_err-name-clause-fault
+returns-in_err-name-clause-fault c =
     let fits = c.ranges.n in
     let some = simp to_z-of_z at c.in-Some.ensures.some in
     let ok = some_text c.args.names.now c.args.n c.in-Some.name.now c.args.pattern.now some (omega (arith, c.comma_count.ensures)) (sym c.in_default-pattern_fault.ensures) in
     memory_format_fault c.from_residual.result _ c.from_residual.ensures.1 ok
 
-pub returns-in_err-parts-clause-fault : goal.returns-in_err-parts-clause-fault
-returns-in_err-parts-clause-fault c =
+pub returns-in_err-sections-clause-fault : goal.returns-in_err-sections-clause-fault
+returns-in_err-sections-clause-fault c =
     let fits = c.ranges.n in
     let some = simp to_z-of_z at c.in-Some.ensures.some in
     let ok = some_text c.args.names.now c.args.n c.in-Some.name.now c.args.pattern.now some (omega (arith, c.comma_count.ensures)) (sym c.in_default-pattern_fault.ensures) in
-    memory_format_fault c.from_residual-in_err-parts.result _ c.from_residual-in_err-parts.ensures.1 ok
+    memory_format_fault c.from_residual-in_err-sections.result _ c.from_residual-in_err-sections.ensures.1 ok

@@ -9,9 +9,16 @@ returns-then-comma_count-gt2-clause-fault c =
     let some = simp to_z-of_z at c.in-Some.ensures.some in
     no_parts c.args.names.now c.args.n c.in-Some.name.now some (omega (arith, c.comma_count.ensures))
 
-pub returns-in_err-parts-clause-fault : goal.returns-in_err-parts-clause-fault
-returns-in_err-parts-clause-fault c =
+pub returns-in_err-name-clause-fault : goal.returns-in_err-name-clause-fault
+returns-in_err-name-clause-fault c =
     let fits = c.ranges.n in
     let some = simp to_z-of_z at c.in-Some.ensures.some in
     let ok = some_parts c.args.names.now c.args.n c.in-Some.name.now some (omega (arith, c.comma_count.ensures)) in
     memory_name_fault c.from_residual.result _ c.from_residual.ensures.1 ok
+
+pub returns-in_err-sections-clause-fault : goal.returns-in_err-sections-clause-fault
+returns-in_err-sections-clause-fault c =
+    let fits = c.ranges.n in
+    let some = simp to_z-of_z at c.in-Some.ensures.some in
+    let ok = some_parts c.args.names.now c.args.n c.in-Some.name.now some (omega (arith, c.comma_count.ensures)) in
+    memory_name_fault c.from_residual-in_err-sections.result _ c.from_residual-in_err-sections.ensures.1 ok

@@ -3,4 +3,4 @@ use Rattle.bt_names.specs.Spelling.{by_initial}
 use Rattle.bt_names.proofs.spelling.by_initials.Given as goal
 
 abbrev pub invariant-walk : goal.invariant-walk
-invariant-walk l = l.short ≡ map by_initial (take l.token-index l.tokens)
+invariant-walk l = l.short.items ≡ map by_initial (take l.token-index l.tokens)
