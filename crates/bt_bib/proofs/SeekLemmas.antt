@@ -1,9 +1,9 @@
 -- The next byte that passes a test, found by its place.
-use Rattle.std.specs.Prelude.{not}
+use Rattle.std.specs.Prelude.{count_by, not}
 use Rattle.std.specs.List.{take_while}
 use Rattle.std.specs.Option.{unwrap_or}
-use Rattle.std.proofs.lemmas.List.Sums.{take_while-cons}
-use Rattle.std.proofs.lemmas.List.{drop-drop}
+use Rattle.std.proofs.lemmas.List.Sums.{sum_by-cons, take_while-cons}
+use Rattle.std.proofs.lemmas.List.{drop-drop, drop_all, drop_more}
 use Rattle.memchr.specs.Find.{IsFirstByte}
 use Rattle.std.proofs.Common.{Option, Some, None, ◌≡◌, ℕ, zero, suc, ◌+◌, ◌<◌, ◌≤◌, Bool, true, false, cond, List, [], ◌∷◌, length, take, drop, get_or, refl, sym, ap, subst, ◌∙◌, arith, ◌⊎◌, inl, inr}
 use Rattle.bt_bib.specs.declared.spot.Spot.{Spot}
@@ -38,3 +38,27 @@ jumps hit text hay s end r n same found is ends =
     let front = take_while (λ b. not (hit b)) rest in
     let run : front ≡ take n rest = run_found hit rest r n (subst (λ (x : List ℕ). IsFirstByte hit x r) same found) (is ∙ ap (λ (x : List ℕ). unwrap_or r (length x)) same) in
     ap (here text) (ends ∙ ap (λ t. passed t s) (sym run)) ∙ ap (at (passed front s)) (sym (drop-drop (length front) s.place text))
+
+-- as many hits as behind a place before which there is none
+count_behind : (hit : ℕ → Bool) (k : ℕ) (bs : List ℕ) → ((j : ℕ) → j < k → hit (get_or bs j 0) ≡ true → ⊥) → k ≤ length bs → count_by hit bs ≡ count_by hit (drop k bs)
+count_behind hit zero bs n le = refl
+count_behind hit (suc k) [] n le = absurd (omega arith)
+count_behind hit (suc k) (b ∷ bs) n le =
+    let miss = ap (λ (v : Bool). cond {A = ℕ} v 1 0) (missing (hit b) (n 0 (omega arith))) in
+    omega (arith, sum_by-cons (λ x. cond {A = ℕ} (hit x) 1 0) b bs, miss, count_behind hit k bs (λ j lt. n (suc j) (omega arith)) (omega arith))
+  where
+    missing : (v : Bool) → (v ≡ true → ⊥) → v ≡ false
+    missing true n = absurd (n refl)
+    missing false n = refl
+
+count_here : (hit : ℕ → Bool) (k : ℕ) (bs : List ℕ) → k < length bs → hit (get_or bs k 0) ≡ true → count_by hit (drop k bs) ≡ 1 + count_by hit (drop (k + 1) bs)
+count_here hit k bs lt h = ap (count_by hit) (drop_more bs k 0 lt) ∙ omega (arith, sum_by-cons (λ x. cond {A = ℕ} (hit x) 1 0) (get_or bs k 0) (drop (k + 1) bs), ap (λ (v : Bool). cond {A = ℕ} v 1 0) h)
+
+-- a loop over the hits
+pub hits_more : (hit : ℕ → Bool) (k : ℕ) (bs : List ℕ) → IsFirstByte hit bs (Some k) → count_by hit bs ≡ 1 + count_by hit (drop (k + 1) bs)
+hits_more hit k bs found = count_behind hit k bs (λ j lt. found.0.before j (omega arith) (omega arith)) (omega (arith, found.0.high)) ∙ count_here hit k bs found.0.high found.1
+
+pub hits_none : (hit : ℕ → Bool) (bs : List ℕ) → IsFirstByte hit bs None → count_by hit bs ≡ 0
+hits_none hit bs found =
+    let none = ap (count_by hit) (drop_all (length bs) bs (omega arith)) in
+    count_behind hit (length bs) bs (λ j lt. found j (omega arith) (omega arith)) (omega arith) ∙ none

@@ -11,7 +11,7 @@ use crate::reader::Reader;
 use crate::spot::Spot;
 use crate::stop::Halt;
 use bt_text::{Bytes, Shared, is_digit, is_name_byte, is_white};
-use memchr::memchr_iter;
+use memchr::memchr;
 use std::alloc::AllocError;
 
 /// Bytes that stand in one run.
@@ -64,7 +64,13 @@ impl Class {
 fn line_ends(bytes: &[u8]) -> usize
     ensures { result ≡ count_by is_line_end bytes.now }
 {
-    memchr_iter(b'\n', bytes).count()
+    let mut count = 0;
+    let mut rest = bytes;
+    'lines: while let Some(place) = memchr(b'\n', rest) {
+        count += 1;
+        rest = &rest[place + 1..];
+    }
+    count
 }
 
 impl Reader<'_> {

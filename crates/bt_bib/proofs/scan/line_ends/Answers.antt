@@ -1,7 +1,21 @@
-use Rattle.std.proofs.Common.{length, ap, ◌∙◌}
-use Rattle.memchr.specs.Find.{is_byte}
-use Rattle.memchr.proofs.lemmas.CallerLemmas.{length-places}
+use Rattle.std.proofs.Common.{◌+◌, length-drop, arith}
+use Rattle.std.proofs.lemmas.List.{take_rest}
+use Rattle.bt_bib.specs.Spot.{is_line_end}
+use Rattle.bt_bib.proofs.SeekLemmas.{hits_more, hits_none}
 use Rattle.bt_bib.proofs.scan.line_ends.Goals as goal
 
+pub lines-preserved : goal.lines-preserved
+lines-preserved c =
+    let rest = c.lines.rest.now in
+    let k = c.in-Some.place in
+    let behind = take_rest rest (k + 1) in
+    let more = hits_more is_line_end k rest c.in-Some.ensures in
+    record {
+      few = rw behind (omega (arith, c.in-Some.ensures.0.high, length-drop (k + 1) rest, c.lines.invariant.few));
+      same = rw behind (omega (arith, more, c.lines.invariant.same));
+    }
+
 pub returns : goal.returns
-returns c = c.count.ensures ∙ ap length c.memchr_iter.ensures.value ∙ length-places (is_byte 10) c.args.bytes.now
+returns c =
+    let none = rw c.in_default.is at c.memchr.ensures in
+    omega (arith, c.lines.invariant.same, hits_none is_line_end c.lines.rest.now none)
