@@ -1,11 +1,15 @@
 -- Counting names.
-use Rattle.std.proofs.Common.{◌≡◌, ℕ, zero, suc, ◌+◌, ◌-◌, ◌<◌, ◌≤◌, Bool, true, false, cond, eqb, List, [], ◌∷◌, ◌++◌, ◌&&◌, length, take, drop, filter, slice_get, slice_range, Option, refl, sym, ap, ◌∙◌, add-zero, arith, length-append}
+use Rattle.std.proofs.Common.{◌≡◌, ℕ, zero, suc, ◌+◌, ◌-◌, ◌<◌, ◌≤◌, Bool, true, false, cond, eqb, List, [], ◌∷◌, ◌++◌, ◌&&◌, ◌||◌, get_or, length, take, drop, filter, slice_get, slice_range, Option, refl, sym, ap, ◌∙◌, add-zero, arith, length-append}
 use Rattle.std.specs.List.{range_with_len}
-use Rattle.std.proofs.lemmas.Bool.{cond-true, cond-false}
+use Rattle.std.proofs.lemmas.Bool.{cond-true, cond-false, and_left, and_right}
+use Rattle.std.specs.Char.{to_ascii_lowercase}
+use Rattle.std.proofs.lemmas.Bool.Decides.{nat_tests}
+use Rattle.std.proofs.lemmas.List.{drop_more}
 use Rattle.std.proofs.lemmas.List.Elements.{filter-append}
 use Rattle.bt_text.proofs.BlockLemmas.{depth_take}
+use Rattle.bt_text.specs.ByteTests.{is_white}
 use Rattle.bt_text.specs.Depth.{depth, depth_behind}
-use Rattle.bt_names.specs.Listing.{has_and_at, places_of_and, texts_between, names_of}
+use Rattle.bt_names.specs.Listing.{begins_with_and, has_and_at, is_behind_white, places_of_and, texts_between, names_of}
 
 abbrev pub and_places_below : List ℕ → ℕ → List ℕ
 and_places_below t n = filter (λ i. eqb (depth (take i t)) 0 && has_and_at t i) (range_with_len 0 n)
@@ -99,3 +103,17 @@ depth_behind_most d b = by_test (eqb b 123) (eqb b 125)
     by_test true y = omega arith
     by_test false true = omega arith
     by_test false false = omega arith
+
+-- No separator stands where its first letter doesn't.
+small_a : (b : ℕ) → (eqb b 97 || eqb b 65) ≡ false → eqb (to_ascii_lowercase b) 97 ≡ false
+small_a b h = grind (arith, nat_tests)
+
+no_and : (b : ℕ) (t : List ℕ) → (eqb b 97 || eqb b 65) ≡ false → begins_with_and (b ∷ t) ≡ false
+no_and b [] h = refl
+no_and b (n ∷ []) h = refl
+no_and b (n ∷ d ∷ []) h = refl
+no_and b (n ∷ d ∷ w ∷ t) h = and_left _ (is_white w) (and_left (eqb (to_ascii_lowercase b) 97) _ (small_a b h))
+
+pub no_and_at : (t : List ℕ) (i : ℕ) → i < length t → (eqb (get_or t i 0) 97 || eqb (get_or t i 0) 65) ≡ false → has_and_at t i ≡ false
+unfolding has_and_at
+no_and_at t i lt h = and_right (is_behind_white t i) (begins_with_and (drop i t)) (ap begins_with_and (drop_more t i 0 lt) ∙ no_and (get_or t i 0) (drop (i + 1) t) h)

@@ -16,6 +16,9 @@ use crate::spelling::{Form, Spelled, first_block};
 use bt_text::{block_len, text_length};
 use std::alloc::Global;
 
+/// How many bytes there is room for at first: most groups, and most names, have no more.
+const GROUP_BYTES: usize = 32;
+
 /// How many ties stand at a text's end.
 fn trailing_ties(text: &[u8]) -> usize
     ensures { result ≡ suffix_len (λ b. b == tie) text.now }
@@ -51,7 +54,7 @@ fn begun(alloc: Global, limit: usize, before: &[u8], first: &LentToken) -> Resul
     ensures ok { IfOk result (λ t. t.items ≡ before.now ++ first.now.text) }
     ensures stop { IfErr result (StopsAt (limit + 1) (before.now ++ first.now.text)) }
 {
-    let mut out = Vec::new(alloc);
+    let mut out = Vec::with_capacity(alloc, GROUP_BYTES)?;
     push_linked(&mut out, limit, before, first)?;
     Ok(out)
 }
@@ -193,7 +196,7 @@ pub fn formatted(
     ensures within { IfOk result (λ t. length t.items ≤ limit) }
     ensures stop { IfErr result (StopsAt limit (formatted parts.now pattern.now)) }
 {
-    let mut out = Vec::new(alloc);
+    let mut out = Vec::with_capacity(alloc, GROUP_BYTES)?;
     let mut rest = pattern;
     'walk: while !rest.is_empty() {
         let (block, behind) = rest.split_at(block_len(rest));

@@ -1,6 +1,6 @@
 //! The names that a text lists.
 
-ghost use Rattle.std.specs.Prelude.{◌≡◌, ◌<◌, ◌≤◌, ◌-◌, ◌==◌, ◌&&◌, length, drop, slice_index, slice_range, slice_get, IfSome, IfNone, Some, None};
+ghost use Rattle.std.specs.Prelude.{◌≡◌, ◌<◌, ◌≤◌, ◌-◌, ◌==◌, ◌&&◌, ◌||◌, length, drop, slice_index, slice_range, slice_get, IfSome, IfNone, Some, None};
 ghost use Rattle.bt_names.specs.Listing.{begins_with_and, has_and_at, is_behind_white, name_at, names_of};
 
 use bt_text::{depth_behind, eq_ignore_ascii_case, is_white};
@@ -33,12 +33,23 @@ fn has_and_at(text: &[u8], place: usize) -> bool
     is_behind_white(text, place) && begins_with_and(rest)
 }
 
+/// Whether a byte is the first letter of a separator.
+fn begins_separator(byte: u8) -> bool
+    ensures { result ≡ (byte == 97 || byte == 65) }
+{
+    matches!(byte, b'a' | b'A')
+}
+
 /// Whether a separator stands at a place of this depth.
 fn separates(names: &[u8], place: usize, depth: usize) -> bool
     requires { place < length names.now }
     ensures { result ≡ (depth == 0 && has_and_at names.now place) }
 {
-    depth == 0 && has_and_at(names, place)
+    if begins_separator(names[place]) {
+        depth == 0 && has_and_at(names, place)
+    } else {
+        false
+    }
 }
 
 /// How many names a text lists: one more than there are separators outside of braces, and none where it is empty.
