@@ -1,5 +1,5 @@
 -- The fields of a style differ by more than case.
-use Rattle.std.proofs.Common.{◌≡◌, ◌∙◌, ap, sym, refl, subst, ℕ, zero, suc, Bool, true, false, cond, List, [], ◌∷◌, ◌++◌, length, Option, Some, None, Result, Ok, Err}
+use Rattle.std.proofs.Common.{◌≡◌, ◌∙◌, sym, refl, subst, ℕ, Bool, true, false, cond, List, [], ◌∷◌, ◌++◌, Option, Some, None, Result, Ok, Err}
 use Rattle.std.specs.Prelude.{bytes_eq, ◌&&◌, ◌||◌, not, IsTrue}
 use Rattle.std.specs.Cmp.Lexicographic.{bytes_decides}
 use Rattle.std.specs.List.{list_any}
@@ -11,26 +11,16 @@ use Rattle.bt_style.specs.declared.fault.Fault.{Fault}
 use Rattle.bt_style.specs.declared.names.Names.{Names}
 use Rattle.bt_style.specs.declared.names.Names.TheVariants.{Fields, EntryNumbers, EntryTexts, GlobalNumbers, GlobalTexts}
 use Rattle.bt_style.specs.declared.style.Target.TheVariants as targets
-use Rattle.bt_style.specs.declared.verbs.Verb.{Verb}
-use Rattle.bt_style.specs.declared.verbs.Verb.TheVariants as verbs
-use Rattle.bt_style.specs.declared.verbs.Stage.{Stage}
-use Rattle.bt_style.specs.declared.style.Action.{Action}
-use Rattle.bt_style.specs.declared.style.Action.TheVariants as actions
-use Rattle.bt_style.specs.Verbs.{verb_named, verb_of, in_order, out_of_order, stage_after}
-use Rattle.bt_style.specs.declared.style.Target.{Target}
 use Rattle.bt_style.specs.Program.{Program}
-use Rattle.bt_style.specs.Fault.{◌>>=◌}
-use Rattle.bt_style.specs.Token.{Open, Close, Word, Literal, Unclosed, Joined, Tokens, AtEnd, Front, tokens_of}
-use Rattle.bt_style.specs.Names.{place_in, meaning, is_taken, is_macro, builtin_named}
+use Rattle.bt_style.specs.Token.{tokens_of}
+use Rattle.bt_style.specs.Names.{place_in, meaning, is_taken, builtin_named}
 use Rattle.bt_style.specs.Draft.{preset, with_name, with_macro, with_function, with_command}
-use Rattle.bt_style.specs.Declares.{new_name, names_at, braced_names}
-use Rattle.bt_style.specs.Arguments.{open_at, braced_word, literal_at, close_at}
-use Rattle.bt_style.specs.Bodies.{body_at}
-use Rattle.bt_style.specs.Commands.{run_target, run_at, variables_at, arguments_at, command_at}
-use Rattle.bt_style.specs.Reader.{command_word, commands_at, reading, style_of}
+use Rattle.bt_style.specs.Declares.{new_name}
+use Rattle.bt_style.specs.Reader.{reading, style_of}
 use Rattle.bt_text.specs.NameList.{has_name, are_apart}
 use Rattle.bt_style.proofs.NameLemmas.{none_behind, none_of, slot_none}
-use Rattle.bt_style.proofs.SpelledLemmas.{bind_ok, ok_same}
+use Rattle.bt_style.proofs.SpelledLemmas.{ok_same}
+use Rattle.bt_style.proofs.KeptLemmas.{IsKept, commands_keep}
 
 -- Names
 
@@ -132,94 +122,14 @@ new_name_is taken word line name h =
     let both = new_is _ (taken (folded word)) (folded word) name _ _ h in
     (subst (λ (n : List ℕ). folded n ≡ n) both.0 (folded-folded word), subst (λ (n : List ℕ). taken n ≡ false) both.0 both.1)
 
-names_good : (names : Names) (p : Program) (tokens : Tokens) (q : Program) (rest : Tokens) → Good p → names_at names p tokens ≡ Ok (q, rest) → Good q
-unfolding names_at
-names_good names p (AtEnd line) q rest g h = cc
-names_good names p (Front Open line behind) q rest g h = cc
-names_good names p (Front Close line behind) q rest g h = same_fields p q (ap (λ (x : Program × Tokens). x.0.fields) (ok_same (p, behind) (q, rest) h)) g
-names_good names p (Front (Word word) line behind) q rest g h =
-    let found = bind_ok (new_name (is_taken p) word line) (λ name. names_at names (with_name names name p) behind) (q, rest) h in
-    let new = new_name_is (is_taken p) word line found.0 found.1 in
-    names_good names (with_name names found.0 p) behind q rest (named_good names found.0 p g new.0 new.1) found.2
-names_good names p (Front (Literal bytes) line behind) q rest g h = cc
-names_good names p (Front Unclosed line behind) q rest g h = cc
-names_good names p (Front Joined line behind) q rest g h = cc
-
-braced_good : (names : Names) (p : Program) (tokens : Tokens) (x : Program × Tokens) → Good p → braced_names names p tokens ≡ Ok x → Good x.0
-braced_good names p tokens x g h =
-    let found = bind_ok (open_at tokens) (names_at names p) x h in
-    names_good names p found.0 x.0 x.1 g found.2
-
--- what a program becomes last
-last_good : (p made : Program) (behind : Tokens) (x : Program × Tokens) → Good p → p.fields ≡ made.fields → ◌≡◌ {A = Result (Program × Tokens) Fault} (Ok (made, behind)) (Ok x) → Good x.0
-last_good p made behind x g e h = same_fields p x.0 (e ∙ ap (λ (y : Program × Tokens). y.0.fields) (ok_same (made, behind) x h)) g
-
-run_good : (action : Target → Action) (line : ℕ) (p : Program) (tokens : Tokens) (x : Program × Tokens) → Good p → run_at action line p tokens ≡ Ok x → Good x.0
-run_good action line p tokens x g h =
-    let found = bind_ok (braced_word (run_target p) tokens) (λ target. Ok (with_command (action target.0) line p, target.1)) x h in
-    last_good p (with_command (action found.0.0) line p) found.0.1 x g refl found.2
-
-variables_good : (names : Names) (action : Action) (line : ℕ) (p : Program) (tokens : Tokens) (x : Program × Tokens) → Good p → variables_at names action line p tokens ≡ Ok x → Good x.0
-variables_good names action line p tokens x g h =
-    let found = bind_ok (braced_names names p tokens) (λ declared. Ok (with_command action line declared.0, declared.1)) x h in
-    last_good found.0.0 (with_command action line found.0.0) found.0.1 x (braced_good names p tokens found.0 g found.1) refl found.2
-
-arguments_good : (verb : Verb) (line : ℕ) (p : Program) (tokens : Tokens) (x : Program × Tokens) → Good p → arguments_at verb line p tokens ≡ Ok x → Good x.0
-unfolding arguments_at
-arguments_good verbs.Entry line p tokens x g h =
-    let fields = bind_ok (braced_names Fields p tokens) (λ fields. braced_names EntryNumbers fields.0 fields.1 >>= λ numbers. braced_names EntryTexts numbers.0 numbers.1 >>= λ texts. Ok (with_command actions.Entry line texts.0, texts.1)) x h in
-    let numbers = bind_ok (braced_names EntryNumbers fields.0.0 fields.0.1) (λ numbers. braced_names EntryTexts numbers.0 numbers.1 >>= λ texts. Ok (with_command actions.Entry line texts.0, texts.1)) x fields.2 in
-    let texts = bind_ok (braced_names EntryTexts numbers.0.0 numbers.0.1) (λ texts. Ok (with_command actions.Entry line texts.0, texts.1)) x numbers.2 in
-    let first = braced_good Fields p tokens fields.0 g fields.1 in
-    let second = braced_good EntryNumbers fields.0.0 fields.0.1 numbers.0 first numbers.1 in
-    let third = braced_good EntryTexts numbers.0.0 numbers.0.1 texts.0 second texts.1 in
-    last_good texts.0.0 (with_command actions.Entry line texts.0.0) texts.0.1 x third refl texts.2
-arguments_good verbs.Execute line p tokens x g h = run_good actions.Execute line p tokens x g h
-arguments_good verbs.Function line p tokens x g h =
-    let name = bind_ok (braced_word (new_name (is_taken p)) tokens) (λ name. open_at name.1 >>= λ inside. body_at p [] [] inside >>= λ body. Ok (with_command (actions.Function (length p.functions)) line (with_function name.0 body.0 p), body.1)) x h in
-    let inside = bind_ok (open_at name.0.1) (λ inside. body_at p [] [] inside >>= λ body. Ok (with_command (actions.Function (length p.functions)) line (with_function name.0.0 body.0 p), body.1)) x name.2 in
-    let body = bind_ok (body_at p [] [] inside.0) (λ body. Ok (with_command (actions.Function (length p.functions)) line (with_function name.0.0 body.0 p), body.1)) x inside.2 in
-    last_good p (with_command (actions.Function (length p.functions)) line (with_function name.0.0 body.0.0 p)) body.0.1 x g refl body.2
-arguments_good verbs.Integers line p tokens x g h = variables_good GlobalNumbers actions.Integers line p tokens x g h
-arguments_good verbs.Iterate line p tokens x g h = run_good actions.Iterate line p tokens x g h
-arguments_good verbs.Macro line p tokens x g h =
-    let name = bind_ok (braced_word (new_name (is_macro p)) tokens) (λ name. open_at name.1 >>= λ inside. literal_at inside >>= λ text. close_at text.1 >>= λ rest. Ok (with_command (actions.Macro (length p.macros)) line (with_macro name.0 text.0 p), rest)) x h in
-    let inside = bind_ok (open_at name.0.1) (λ inside. literal_at inside >>= λ text. close_at text.1 >>= λ rest. Ok (with_command (actions.Macro (length p.macros)) line (with_macro name.0.0 text.0 p), rest)) x name.2 in
-    let text = bind_ok (literal_at inside.0) (λ text. close_at text.1 >>= λ rest. Ok (with_command (actions.Macro (length p.macros)) line (with_macro name.0.0 text.0 p), rest)) x inside.2 in
-    let rest = bind_ok (close_at text.0.1) (λ rest. Ok (with_command (actions.Macro (length p.macros)) line (with_macro name.0.0 text.0.0 p), rest)) x text.2 in
-    last_good p (with_command (actions.Macro (length p.macros)) line (with_macro name.0.0 text.0.0 p)) rest.0 x g refl rest.2
-arguments_good verbs.Read line p tokens x g h = last_good p (with_command actions.Read line p) tokens x g refl h
-arguments_good verbs.Reverse line p tokens x g h = run_good actions.Reverse line p tokens x g h
-arguments_good verbs.Sort line p tokens x g h = last_good p (with_command actions.Sort line p) tokens x g refl h
-arguments_good verbs.Strings line p tokens x g h = variables_good GlobalTexts actions.Strings line p tokens x g h
-
-command_good : (stage : Stage) (p : Program) (word : List ℕ) (line : ℕ) (tokens : Tokens) (x : Stage × Program × Tokens) → Good p → command_at stage p word line tokens ≡ Ok x → Good x.1
-unfolding command_at
-command_good stage p word line tokens x g h =
-    let verb = bind_ok (verb_of (verb_named word) line) (λ verb. in_order (out_of_order verb stage) line >>= λ allowed. arguments_at verb line p tokens >>= λ next. Ok (stage_after verb stage, next.0, next.1)) x h in
-    let allowed = bind_ok (in_order (out_of_order verb.0 stage) line) (λ allowed. arguments_at verb.0 line p tokens >>= λ next. Ok (stage_after verb.0 stage, next.0, next.1)) x verb.2 in
-    let next = bind_ok (arguments_at verb.0 line p tokens) (λ next. Ok (stage_after verb.0 stage, next.0, next.1)) x allowed.2 in
-    same_fields next.0.0 x.1 (ap (λ (y : Stage × Program × Tokens). y.1.fields) (ok_same (stage_after verb.0 stage, next.0.0, next.0.1) x next.2)) (arguments_good verb.0 line p tokens next.0 g next.1)
-
--- what comes behind a command's word, or the end
-abbrev behind_word : (Stage → Program → Tokens → Result Program Fault) → Stage → Program → Option (List ℕ × ℕ × Tokens) → Result Program Fault
-behind_word later stage p None = Ok p
-behind_word later stage p (Some word) = command_at stage p word.0 word.1 word.2 >>= λ next. later next.0 next.1 next.2
-
-after_word : (later : Stage → Program → Tokens → Result Program Fault) → ((stage : Stage) (p : Program) (tokens : Tokens) (q : Program) → Good p → later stage p tokens ≡ Ok q → Good q)
-    → (stage : Stage) (p q : Program) → Good p → (found : Option (List ℕ × ℕ × Tokens)) → behind_word later stage p found ≡ Ok q → Good q
-after_word later keeps stage p q g None h = same_fields p q (ap (λ (y : Program). y.fields) (ok_same p q h)) g
-after_word later keeps stage p q g (Some word) h =
-    let next = bind_ok (command_at stage p word.0 word.1 word.2) (λ next. later next.0 next.1 next.2) q h in
-    keeps next.0.0 next.0.1 next.0.2 q (command_good stage p word.0 word.1 word.2 next.0 g next.1) next.2
-
-commands_good : (most : ℕ) (stage : Stage) (p : Program) (tokens : Tokens) (q : Program) → Good p → commands_at most stage p tokens ≡ Ok q → Good q
-unfolding commands_at
-commands_good zero stage p tokens q g h = same_fields p q (ap (λ (y : Program). y.fields) (ok_same p q h)) g
-commands_good (suc most) stage p tokens q g h =
-    let found = bind_ok (command_word tokens) (behind_word (commands_at most) stage p) q h in
-    after_word (commands_at most) (commands_good most) stage p q g found.0 found.2
+are_kept : IsKept Good
+are_kept = record {
+  named = λ names p word line name h g. (let new = new_name_is (is_taken p) word line name h in named_good names name p g new.0 new.1);
+  defined = λ p word line name body h g. same_fields p (with_function name body p) refl g;
+  macro = λ p name text g. same_fields p (with_macro name text p) refl g;
+  listed = λ p action line g. same_fields p (with_command action line p) refl g;
+}
 
 pub fields_apart : (text : List ℕ) (p : Program) → style_of text ≡ Ok p → IsTrue (are_apart p.fields)
 unfolding style_of reading
-fields_apart text p h = (commands_good _ _ preset (tokens_of text) p (record { apart = refl; small = (refl, tt) }) h).apart
+fields_apart text p h = (commands_keep Good are_kept _ _ preset (tokens_of text) p (record { apart = refl; small = (refl, tt) }) h).apart

@@ -1,9 +1,12 @@
 -- The table of the functions that need no definition.
-use Rattle.std.proofs.Common.{refl}
+use Rattle.std.specs.Prelude.{bytes_eq}
+use Rattle.std.specs.Option.{option_map}
+use Rattle.std.proofs.Common.{◌≡◌, ◌∙◌, ap, refl, ℕ, suc, ◌+◌, Bool, true, false, cond, List, [], ◌∷◌, map, Option, Some, None, arith}
+use Rattle.bt_style.specs.declared.builtin.Builtin.{Builtin}
 use Rattle.bt_style.specs.declared.builtin.Builtin.TheVariants as builtins
-use Rattle.bt_style.specs.Builtins.{table, StandInTheirPlaces}
-use Rattle.bt_style.specs.Names.{builtin_named}
-use Rattle.bt_style.specs.Laws.{FoundByTheirNames}
+use Rattle.bt_style.specs.Builtins.{Row, table, place_of, StandInTheirPlaces}
+use Rattle.bt_style.specs.Names.{builtin_among, builtin_named, place_in}
+use Rattle.bt_style.specs.Laws.{FoundByTheirNames, FoundAtTheirPlaces}
 
 pub stands_in_its_place : StandInTheirPlaces
 unfolding table
@@ -84,3 +87,37 @@ found_by_its_name builtins.Warning = refl
 found_by_its_name builtins.While = refl
 found_by_its_name builtins.Width = refl
 found_by_its_name builtins.Write = refl
+
+-- The places of names
+
+-- the rows stand at their places from one on
+abbrev StandFrom : ℕ → List Row → Type 0
+StandFrom k [] = Unit {0}
+StandFrom k (row ∷ rows) = (place_of row.builtin ≡ k) × StandFrom (suc k) rows
+
+moved : (k : ℕ) (o : Option ℕ) → option_map (λ n. suc k + n) o ≡ option_map (λ n. k + n) (option_map (λ n. suc n) o)
+moved k None = refl
+moved k (Some n) = ap Some (omega arith)
+
+place_by : (v : Bool) (k : ℕ) (row : Row) (found : Option Builtin) (place : Option ℕ) → place_of row.builtin ≡ k → option_map place_of found ≡ option_map (λ n. suc k + n) place →
+    option_map place_of (cond v (Some row.builtin) found) ≡ option_map (λ n. k + n) (cond v (Some 0) (option_map (λ n. suc n) place))
+place_by true k row found place is later = ap Some (omega (arith, is))
+place_by false k row found place is later = later ∙ moved k place
+
+places_from : (k : ℕ) (rows : List Row) → StandFrom k rows → (name : List ℕ) →
+    option_map place_of (builtin_among rows name) ≡ option_map (λ n. k + n) (place_in (map (λ (row : Row). row.name) rows) name)
+places_from k [] s name = refl
+places_from k (row ∷ rows) s name =
+    place_by (bytes_eq row.name name) k row (builtin_among rows name) (place_in (map (λ (row : Row). row.name) rows) name) s.0 (places_from (suc k) rows s.1 name)
+
+from_zero : (o : Option ℕ) → option_map (λ n. 0 + n) o ≡ o
+from_zero None = refl
+from_zero (Some n) = ap Some (omega arith)
+
+table_stands : StandFrom 0 table
+unfolding table
+table_stands = ((refl, (refl, (refl, (refl, (refl, (refl, (refl, (refl, (refl, (refl, (refl, (refl, (refl, (refl, (refl, (refl, (refl, (refl, (refl, (refl, (refl, (refl, (refl, (refl, (refl, (refl, (refl, (refl, (refl, (refl, (refl, (refl, (refl, (refl, (refl, (refl, (refl, tt))))))))))))))))))))))))))))))))))))))
+
+pub found_at_its_place : FoundAtTheirPlaces
+unfolding builtin_named
+found_at_its_place name = places_from 0 table table_stands name ∙ from_zero (place_in (map (λ (row : Row). row.name) table) name)

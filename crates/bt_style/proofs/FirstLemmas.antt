@@ -1,5 +1,6 @@
 -- The first fault of a style stands at its token. The reserve of `commands_at` is never used up.
-use Rattle.std.proofs.Common.{◌≡◌, ◌∙◌, ap, sym, refl, subst, ℕ, zero, suc, ◌<◌, ◌≤◌, List, [], ◌∷◌, ◌++◌, Result, Ok, Err, arith}
+use Rattle.std.specs.List.{list_all}
+use Rattle.std.proofs.Common.{true, ◌≡◌, ◌∙◌, ap, sym, refl, subst, ℕ, zero, suc, ◌<◌, ◌≤◌, List, [], ◌∷◌, ◌++◌, Result, Ok, Err, arith}
 use Rattle.bt_style.specs.declared.fault.Fault.{Fault}
 use Rattle.bt_style.specs.declared.verbs.Verb.{Verb}
 use Rattle.bt_style.specs.declared.verbs.Stage.{Stage}
@@ -11,8 +12,10 @@ use Rattle.bt_style.specs.Draft.{preset}
 use Rattle.bt_style.specs.Verbs.{verb_named, verb_of, in_order, out_of_order, stage_after}
 use Rattle.bt_style.specs.Commands.{arguments_at, command_at}
 use Rattle.bt_style.specs.Reader.{commands_at, reading, style_of}
-use Rattle.bt_style.specs.Laws.{in_front, first_line, BeginsAs, StandsAtItsToken, FaultIsFirst, AnyReserveServes}
-use Rattle.bt_style.proofs.ReaderLemmas.{in_front_append, count_behind, Takes, Stops, Reads, Took, Stopped, Reader, just, then}
+use Rattle.bt_style.specs.Laws.{is_byte, in_front, first_line, BeginsAs, StandsAtItsToken, FaultIsFirst, AnyReserveServes}
+use Rattle.bt_style.proofs.KeptLemmas.{command_keeps}
+use Rattle.bt_style.proofs.QuoteLemmas.{Quoteless, quoteless_kept}
+use Rattle.bt_style.proofs.ReaderLemmas.{ArePlain, plain_append, bytes_append, in_front_append, count_behind, Takes, Stops, Reads, Took, Stopped, Reader, just, then}
 use Rattle.bt_style.proofs.OnLineLemmas.{on_line, verb_on, order_on}
 use Rattle.bt_style.proofs.RuleLemmas.{with_rest, arguments_reader}
 
@@ -24,10 +27,10 @@ with_stage made t = (made.0, made.1, t)
 -- it is refused at the word, or a reader of what stands behind
 data Command (stage : Stage) (p : Program) (word : List ℕ) (line : ℕ) : Type 0 where
   Refused : (f : Fault) → f.line ≡ line → ((t : Tokens) → command_at stage p word line t ≡ Err f) → Command stage p word line
-  Allowed : Reader with_stage (command_at stage p word line) → Command stage p word line
+  Allowed : Reader (Quoteless p) with_stage (command_at stage p word line) → Command stage p word line
 
-same_reader : {A Y : Type 0} (pair : A → Tokens → Y) (r s : Tokens → Result Y Fault) → ((t : Tokens) → r t ≡ s t) → Reader pair s → Reader pair r
-same_reader {Y = Y} pair r s e reader = (let all : s ≡ r = λ j t. sym (e t) j in subst (λ (f : Tokens → Result Y Fault). Reader pair f) all reader)
+same_reader : {A Y Q : Type 0} (pair : A → Tokens → Y) (r s : Tokens → Result Y Fault) → ((t : Tokens) → r t ≡ s t) → Reader Q pair s → Reader Q pair r
+same_reader {Y = Y} {Q = Q} pair r s e reader = (let all : s ≡ r = λ j t. sym (e t) j in subst (λ (f : Tokens → Result Y Fault). Reader Q pair f) all reader)
 
 ordered : (stage : Stage) (p : Program) (word : List ℕ) (line : ℕ) (verb : Verb) → verb_of (verb_named word) line ≡ Ok verb → (x : Result (Unit {0}) Fault) →
     in_order (out_of_order verb stage) line ≡ x → Command stage p word line
@@ -64,7 +67,7 @@ data Ends (stage : Stage) (p : Program) (word : List ℕ) (line : ℕ) (rest : T
   Fails : (f : Fault) → command_at stage p word line rest ≡ Err f → Ends stage p word line rest
   Goes : (later : Stage) (q : Program) (left : Tokens) → command_at stage p word line rest ≡ Ok (later, q, left) → count left ≤ count rest → Ends stage p word line rest
 
-ends_read : (stage : Stage) (p : Program) (word : List ℕ) (line : ℕ) (rest : Tokens) → Reads with_stage (command_at stage p word line) rest → Ends stage p word line rest
+ends_read : (stage : Stage) (p : Program) (word : List ℕ) (line : ℕ) (rest : Tokens) → Reads (Quoteless p) with_stage (command_at stage p word line) rest → Ends stage p word line rest
 ends_read stage p word line rest (Took t) =
     Goes t.value.0 t.value.1 t.rest (ap (command_at stage p word line) t.whole ∙ t.reads t.rest) (subst (λ (u : Tokens). count t.rest ≤ count u) (sym t.whole) (count_behind t.used t.rest))
 ends_read stage p word line rest (Stopped s) = Fails s.fault (ap (command_at stage p word line) s.whole ∙ s.final s.here (begins_itself s.here))
@@ -100,8 +103,7 @@ enough (suc m) (suc n) stage p (Front Unclosed line rest) a b = refl
 enough (suc m) (suc n) stage p (Front Joined line rest) a b = refl
 
 pub any_reserve_serves : AnyReserveServes
-unfolding reading
-any_reserve_serves most tokens lt = enough most (suc (count tokens)) BeforeEntry preset tokens lt (omega arith)
+any_reserve_serves most stage p tokens lt = enough most (suc (count tokens)) stage p tokens lt (omega arith)
 
 -- the commands up to the end
 abbrev through : Stage → Program → Tokens → Result Program Fault
@@ -128,14 +130,15 @@ through_word stage p word line rest = through_by stage p word line rest (ends_by
 
 -- Commands up to the end, or to the first fault
 
-record Faulty (stage : Stage) (p : Program) (tokens : Tokens) : Type 0 where
+pub record Faulty (stage : Stage) (p : Program) (tokens : Tokens) : Type 0 where
   pub front : List (Token × ℕ)
   pub here : Tokens
   pub fault : Fault
   pub whole : tokens ≡ in_front front here
   pub line : fault.line ≡ first_line here
   pub final : (other : Tokens) → BeginsAs here other → through stage p (in_front front other) ≡ Err fault
-  pub first : (line : ℕ) → (bytes : List ℕ) × (q : Program) × (through stage p (in_front front (tokens_behind 0 line bytes)) ≡ Ok q)
+  pub first : (line : ℕ) → (bytes : List ℕ) × (list_all is_byte bytes ≡ true) × (q : Program) × (through stage p (in_front front (tokens_behind 0 line bytes)) ≡ Ok q)
+  pub plain : Quoteless p → ArePlain front
 
 data Outcome (stage : Stage) (p : Program) (tokens : Tokens) : Type 0 where
   Whole : (q : Program) → through stage p tokens ≡ Ok q → Outcome stage p tokens
@@ -154,11 +157,12 @@ refused_here stage p token line rest f at e = Faulted (record {
   whole = refl;
   line = at;
   final = λ o a. subst (λ (t : Tokens). through stage p t ≡ Err f) (sym a.1) (e a.0);
-  first = λ l. ([], p, at_end stage p l);
+  first = λ l. ([], refl, p, at_end stage p l);
+  plain = λ q. tt;
 })
 
 -- a command was read, and what stands behind it goes on like this
-behind_command : (stage : Stage) (p : Program) (word : List ℕ) (line : ℕ) (rest : Tokens) (t : Takes with_stage (command_at stage p word line) rest) →
+behind_command : (stage : Stage) (p : Program) (word : List ℕ) (line : ℕ) (rest : Tokens) (t : Takes (Quoteless p) with_stage (command_at stage p word line) rest) →
     Outcome t.value.0 t.value.1 t.rest → Outcome stage p (Front (Word word) line rest)
 behind_command stage p word line rest t (Whole q e) =
     Whole q (ap (λ u. through stage p (Front (Word word) line u)) t.whole ∙ through_word stage p word line (in_front t.used t.rest) ∙ ap (λ x. x >>= later_through) (t.reads t.rest) ∙ e)
@@ -173,10 +177,15 @@ behind_command stage p word line rest t (Faulted x) =
       whole = ap (Front (Word word) line) (t.whole ∙ ap (in_front t.used) x.whole ∙ sym (in_front_append t.used x.front x.here));
       line = x.line;
       final = λ o a. on o ∙ x.final o a;
-      first = λ l. (let y = x.first l in (y.0, y.1, on (tokens_behind 0 l y.0) ∙ y.2));
+      first = λ l. (let y = x.first l in (y.0, y.1, y.2, on (tokens_behind 0 l y.0) ∙ y.3));
+      plain = λ q. (
+        tt,
+        plain_append t.used x.front (t.plain q)
+            (x.plain (command_keeps Quoteless quoteless_kept stage p word line (in_front t.used t.rest) (with_stage t.value t.rest) q (t.reads t.rest))),
+      );
     })
 
-stopped_inside : (stage : Stage) (p : Program) (word : List ℕ) (line : ℕ) (rest : Tokens) → Stops with_stage (command_at stage p word line) rest → Outcome stage p (Front (Word word) line rest)
+stopped_inside : (stage : Stage) (p : Program) (word : List ℕ) (line : ℕ) (rest : Tokens) → Stops (Quoteless p) with_stage (command_at stage p word line) rest → Outcome stage p (Front (Word word) line rest)
 stopped_inside stage p word line rest s = Faulted (record {
   front = (Word word, line) ∷ s.front;
   here = s.here;
@@ -186,12 +195,14 @@ stopped_inside stage p word line rest s = Faulted (record {
   final = λ o a. through_word stage p word line (in_front s.front o) ∙ ap (λ x. x >>= later_through) (s.final o a);
   first = λ l. (let d = s.first l in (
     d.bytes ++ [],
+    bytes_append d.bytes [] d.are_bytes refl,
     d.value.1,
     through_word stage p word line (in_front s.front (tokens_behind 0 l (d.bytes ++ []))) ∙ ap (λ x. x >>= later_through) (d.reads []) ∙ at_end d.value.0 d.value.1 l,
   ));
+  plain = λ q. (tt, s.plain q);
 })
 
-read_command : (stage : Stage) (p : Program) (word : List ℕ) (line : ℕ) (rest : Tokens) → Reads with_stage (command_at stage p word line) rest →
+read_command : (stage : Stage) (p : Program) (word : List ℕ) (line : ℕ) (rest : Tokens) → Reads (Quoteless p) with_stage (command_at stage p word line) rest →
     ((later : Stage) (q : Program) (left : Tokens) → count left ≤ count rest → Outcome later q left) → Outcome stage p (Front (Word word) line rest)
 read_command stage p word line rest (Took t) later =
     behind_command stage p word line rest t (later t.value.0 t.value.1 t.rest (subst (λ (u : Tokens). count t.rest ≤ count u) (sym t.whole) (count_behind t.used t.rest)))
@@ -218,23 +229,29 @@ outcome (suc n) stage p (Front Joined line rest) lt = refused_here stage p Joine
 err_same : {A : Type 0} (e f : Fault) → ◌≡◌ {A = Result A Fault} (Err e) (Err f) → e ≡ f
 err_same e f h = cc
 
-stands : (tokens : Tokens) (f : Fault) → reading tokens ≡ Err f → Outcome BeforeEntry preset tokens → StandsAtItsToken tokens f
+begun : (tokens : Tokens) (f : Fault) → reading tokens ≡ Err f → Outcome BeforeEntry preset tokens → (x : Faulty BeforeEntry preset tokens) × (x.fault ≡ f)
 unfolding reading
-stands tokens f e (Whole q w) = (let no_way : ◌≡◌ {A = Result Program Fault} (Ok q) (Err f) = sym w ∙ e in absurd (cc no_way))
-stands tokens f e (Faulted x) =
-    let same : x.fault ≡ f = err_same {A = Program} x.fault f (sym (ap reading x.whole ∙ x.final x.here (begins_itself x.here)) ∙ e) in
+begun tokens f e (Whole q w) = (let no_way : ◌≡◌ {A = Result Program Fault} (Ok q) (Err f) = sym w ∙ e in absurd (cc no_way))
+begun tokens f e (Faulted x) = (x, err_same {A = Program} x.fault f (sym (ap reading x.whole ∙ x.final x.here (begins_itself x.here)) ∙ e))
+
+pub faulty_text : (text : List ℕ) (f : Fault) → style_of text ≡ Err f → (x : Faulty BeforeEntry preset (tokens_of text)) × (x.fault ≡ f)
+unfolding style_of
+faulty_text text f e = begun (tokens_of text) f e (outcome (suc (count (tokens_of text))) BeforeEntry preset (tokens_of text) (one_more (count (tokens_of text)) (count (tokens_of text)) (omega arith)))
+
+pub fault_is_first : FaultIsFirst
+unfolding reading
+fault_is_first text f e =
+    let found = faulty_text text f e in
+    let x = found.0 in
     let y = x.first x.fault.line in
-    subst (StandsAtItsToken tokens) same (record {
+    subst (StandsAtItsToken (tokens_of text)) found.1 (record {
       front = x.front;
       here = x.here;
       whole = x.whole;
       line = x.line;
       final = x.final;
       bytes = y.0;
-      style = y.1;
-      first = y.2;
+      are_bytes = y.1;
+      style = y.2;
+      first = y.3;
     })
-
-pub fault_is_first : FaultIsFirst
-unfolding style_of
-fault_is_first text f e = stands (tokens_of text) f e (outcome (suc (count (tokens_of text))) BeforeEntry preset (tokens_of text) (one_more (count (tokens_of text)) (count (tokens_of text)) (omega arith)))

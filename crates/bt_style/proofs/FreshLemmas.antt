@@ -10,6 +10,7 @@ use Rattle.bt_style.specs.Builtins.{Row, table}
 use Rattle.bt_style.specs.Program.{Program}
 use Rattle.bt_style.specs.Names.{builtin_among, builtin_named, place_in, function_names, macro_names, meaning, is_taken, macro_named, is_macro}
 use Rattle.bt_style.specs.Declares.{new_name}
+use Rattle.bt_style.specs.Laws.{is_byte}
 
 -- so many letters
 abbrev pub letters : ℕ → List ℕ
@@ -30,6 +31,10 @@ all_letters (suc n) = all_letters n
 
 pub letters_are_name : (n : ℕ) → is_name (letters (suc n)) ≡ true
 letters_are_name n = all_letters n
+
+pub letters_are_bytes : (n : ℕ) → list_all is_byte (letters n) ≡ true
+letters_are_bytes zero = refl
+letters_are_bytes (suc n) = letters_are_bytes n
 
 -- The tokens of such a word before a right brace
 

@@ -5,14 +5,19 @@ pub mod CommandLemmas
 pub mod NameLemmas
 mod BuiltinLemmas
 pub mod SpelledLemmas
+pub mod KeptLemmas
 pub mod ApartLemmas
 pub mod ReadBackLemmas
 pub mod PresetLemmas
+pub mod QuoteLemmas
 pub mod ReaderLemmas
 pub mod FreshLemmas
 pub mod OnLineLemmas
 pub mod RuleLemmas
 pub mod FirstLemmas
+pub mod PieceLemmas
+pub mod CutLemmas
+pub mod TextLemmas
 mod FaultRows
 mod StyleRows
 pub mod ReachLemmas

@@ -7,7 +7,7 @@ use Rattle.bt_style.specs.Token.{AtEnd, piece_at, with_token, is_line_feed, line
 use Rattle.bt_style.specs.Cursor.{front_piece, IsPiece, maybe_placed}
 use Rattle.bt_style.specs.declared.token.Token.{Token as Found}
 
-line_after_is : (b line : ℕ) → line_after b line ≡ line + cond (is_line_feed b) 1 0
+pub line_after_is : (b line : ℕ) → line_after b line ≡ line + cond (is_line_feed b) 1 0
 line_after_is b line =
     elim (is_line_feed b) as (λ v. cond v (line + 1) line ≡ line + cond v 1 0) [ true ↦ refl | false ↦ sym (add-zero line) ]
 
