@@ -2,7 +2,7 @@
 use Rattle.std.specs.List.{count_by}
 use Rattle.std.proofs.Common.{◌≡◌, ◌∙◌, ◌⊎◌, inl, inr, ap, sym, refl, subst, ℕ, zero, suc, ◌+◌, ◌-◌, ◌≤◌, false, cond, List, [], ◌∷◌, ◌++◌, length, Option, Some, None, arith, add-zero}
 use Rattle.std.proofs.lemmas.List.Sums.{sum_by-cons}
-use Rattle.bt_style.specs.Token.{Token, Open, Joined, Tokens, AtEnd, Front, Piece, is_line_feed, may_follow, piece_at, with_token, line_after, tokens_behind}
+use Rattle.bt_style.specs.Token.{Token, Open, Glued, Tokens, AtEnd, Front, Piece, is_line_feed, may_follow, piece_at, with_token, line_after, tokens_behind}
 use Rattle.bt_style.specs.Laws.{in_front}
 use Rattle.bt_style.proofs.ReaderLemmas.{IsPlain, ArePlain}
 use Rattle.bt_style.proofs.TokenLemmas.{line_after_is}
@@ -63,16 +63,16 @@ cut_behind covered later b line bytes front more here c within goes_on = record 
 }
 
 -- a text with a wrong byte behind it isn't plain
-not_joined : (o : Option Token) (token : Token) → o ≡ Some token → IsPlain token → o ≡ Some Joined → ⊥
-not_joined o token is plain joined =
-    let same : token ≡ Joined = (let both : Some token ≡ Some Joined = sym is ∙ joined in cc both) in
+not_glued : (o : Option Token) (token : Token) → o ≡ Some token → IsPlain token → o ≡ Some Glued → ⊥
+not_glued o token is plain glued =
+    let same : token ≡ Glued = (let both : Some token ≡ Some Glued = sym is ∙ glued in cc both) in
     subst IsPlain same plain
 
 -- the piece in front is the same with other bytes behind the cut
 same_piece : (b line later : ℕ) (bytes : List ℕ) (more : List (Token × ℕ)) (here : Tokens) (c : Cut later line bytes more here) → (piece_at b bytes).size ≤ suc later → (other : List ℕ) →
-    EndAlike c.rest other → ((piece_at b bytes).token ≡ Some Joined → may_follow c.rest ≡ false → may_follow other ≡ false) → piece_at b (c.before ++ other) ≡ piece_at b bytes
+    EndAlike c.rest other → ((piece_at b bytes).token ≡ Some Glued → may_follow c.rest ≡ false → may_follow other ≡ false) → piece_at b (c.before ++ other) ≡ piece_at b bytes
 same_piece b line later bytes more here c le other a apart =
-    let P : List ℕ → Type 0 = λ l. (piece_at b l).token ≡ Some Joined → may_follow c.rest ≡ false → may_follow other ≡ false in
+    let P : List ℕ → Type 0 = λ l. (piece_at b l).token ≡ Some Glued → may_follow c.rest ≡ false → may_follow other ≡ false in
     let size : (piece_at b (c.before ++ c.rest)).size ≤ suc (length c.before) = omega (arith, subst (λ (l : List ℕ). (piece_at b l).size ≤ suc later) c.whole le, c.within) in
     piece_same b c.before c.rest other a (subst P c.whole apart) size ∙ sym (ap (piece_at b) c.whole)
 
@@ -95,7 +95,7 @@ cut_gap : (b line : ℕ) (bytes : List ℕ) (front : List (Token × ℕ)) (here 
 cut_gap b line bytes front here none c =
     let size : ℕ = (piece_at b bytes).size in
     cut_behind 0 (size - 1) b line bytes front front here c (omega arith) (λ other a f.
-    let same = same_piece b (line_after b line) (size - 1) bytes front here c (size_back size) other a (λ joined. (let no_way : None ≡ Some Joined = sym none ∙ joined in cc no_way)) in
+    let same = same_piece b (line_after b line) (size - 1) bytes front here c (size_back size) other a (λ glued. (let no_way : None ≡ Some Glued = sym none ∙ glued in cc no_way)) in
     step b line (c.before ++ other) ∙ ap (λ (x : Piece). placed x b line (c.before ++ other)) same
     ∙ ap (λ (o : Option Token). with_token o line (tokens_behind (size - 1) (line_after b line) (c.before ++ other))) none ∙ c.goes_on other a f)
 
@@ -104,8 +104,8 @@ fits_behind : (token : Token) (line : ℕ) (front : List (Token × ℕ)) (rest o
 fits_behind token line front rest other f = elim f [ inl plain ↦ inl plain.1 | inr follows ↦ inr follows ]
 
 fits_apart : (o : Option Token) (token : Token) (line : ℕ) (front : List (Token × ℕ)) (rest other : List ℕ) → o ≡ Some token → Fits ((token, line) ∷ front) rest other →
-    o ≡ Some Joined → may_follow rest ≡ false → may_follow other ≡ false
-fits_apart o token line front rest other is f joined = elim f [ inl plain ↦ absurd (not_joined o token is plain.0 joined) | inr follows ↦ follows ]
+    o ≡ Some Glued → may_follow rest ≡ false → may_follow other ≡ false
+fits_apart o token line front rest other is f glued = elim f [ inl plain ↦ absurd (not_glued o token is plain.0 glued) | inr follows ↦ follows ]
 
 cut_token : (b line : ℕ) (bytes : List ℕ) (token : Token) (front : List (Token × ℕ)) (here : Tokens) → (piece_at b bytes).token ≡ Some token →
     Cut ((piece_at b bytes).size - 1) (line_after b line) bytes front here → Cut 0 line (b ∷ bytes) ((token, line) ∷ front) here

@@ -7,7 +7,7 @@ use Rattle.bt_style.specs.declared.verbs.Stage.{Stage}
 use Rattle.bt_style.specs.declared.verbs.Stage.TheVariants.{BeforeEntry}
 use Rattle.bt_style.specs.Program.{Program}
 use Rattle.bt_style.specs.Fault.{◌>>=◌}
-use Rattle.bt_style.specs.Token.{Token, Open, Close, Word, Literal, Unclosed, Joined, Tokens, AtEnd, Front, tokens_behind, tokens_of, count}
+use Rattle.bt_style.specs.Token.{Token, Open, Close, Word, Literal, Unclosed, Glued, Tokens, AtEnd, Front, tokens_behind, tokens_of, count}
 use Rattle.bt_style.specs.Draft.{preset}
 use Rattle.bt_style.specs.Verbs.{verb_named, verb_of, in_order, out_of_order, stage_after}
 use Rattle.bt_style.specs.Commands.{arguments_at, command_at}
@@ -100,7 +100,7 @@ enough (suc m) (suc n) stage p (Front (Word word) line rest) a b =
     (λ later q left le. enough m n later q left (below (count left) (count rest) m le a) (below (count left) (count rest) n le b))
 enough (suc m) (suc n) stage p (Front (Literal bytes) line rest) a b = refl
 enough (suc m) (suc n) stage p (Front Unclosed line rest) a b = refl
-enough (suc m) (suc n) stage p (Front Joined line rest) a b = refl
+enough (suc m) (suc n) stage p (Front Glued line rest) a b = refl
 
 pub any_reserve_serves : AnyReserveServes
 any_reserve_serves most stage p tokens lt = enough most (suc (count tokens)) stage p tokens lt (omega arith)
@@ -224,7 +224,7 @@ outcome (suc n) stage p (Front (Word word) line rest) lt =
     at_word stage p word line rest (command stage p word line) (λ later q left le. outcome n later q left (below (count left) (count rest) n le lt))
 outcome (suc n) stage p (Front (Literal bytes) line rest) lt = refused_here stage p (Literal bytes) line rest _ refl (λ t. refl)
 outcome (suc n) stage p (Front Unclosed line rest) lt = refused_here stage p Unclosed line rest _ refl (λ t. refl)
-outcome (suc n) stage p (Front Joined line rest) lt = refused_here stage p Joined line rest _ refl (λ t. refl)
+outcome (suc n) stage p (Front Glued line rest) lt = refused_here stage p Glued line rest _ refl (λ t. refl)
 
 err_same : {A : Type 0} (e f : Fault) → ◌≡◌ {A = Result A Fault} (Err e) (Err f) → e ≡ f
 err_same e f h = cc

@@ -12,7 +12,7 @@ use Rattle.bt_style.specs.declared.verbs.Stage.{Stage}
 use Rattle.bt_style.specs.Program.{Program}
 use Rattle.bt_style.specs.Tree.{Body}
 use Rattle.bt_style.specs.Fault.{◌>>=◌}
-use Rattle.bt_style.specs.Token.{Open, Close, Word, Literal, Unclosed, Joined, Tokens, AtEnd, Front}
+use Rattle.bt_style.specs.Token.{Open, Close, Word, Literal, Unclosed, Glued, Tokens, AtEnd, Front}
 use Rattle.bt_style.specs.Names.{is_taken, is_macro}
 use Rattle.bt_style.specs.Draft.{with_name, with_macro, with_function, with_command}
 use Rattle.bt_style.specs.Arguments.{open_at, close_at, word_at, braced_word, literal_at}
@@ -40,7 +40,7 @@ names_keep P k names p (Front (Word word) line behind) x g h =
     names_keep P k names (with_name names name.0 p) behind x (k.named names p word line name.0 name.1 g) name.2
 names_keep P k names p (Front (Literal bytes) line behind) x g h = cc
 names_keep P k names p (Front Unclosed line behind) x g h = cc
-names_keep P k names p (Front Joined line behind) x g h = cc
+names_keep P k names p (Front Glued line behind) x g h = cc
 
 braced_keep : (P : Program → Type 0) → IsKept P → (names : Names) (p : Program) (tokens : Tokens) (x : Program × Tokens) → P p → braced_names names p tokens ≡ Ok x → P x.0
 braced_keep P k names p tokens x g h =
@@ -124,14 +124,19 @@ arguments_keep P k verbs.Reverse line p tokens x g h = run_keep P k actions.Reve
 arguments_keep P k verbs.Sort line p tokens x g h = last_keep P (with_command actions.Sort line p) tokens x (k.listed p actions.Sort line g) h
 arguments_keep P k verbs.Strings line p tokens x g h = variables_keep P k GlobalTexts actions.Strings line p tokens x g h
 
+behind_arguments : (P : Program → Type 0) (later : Stage) (r : Result (Program × Tokens) Fault) (x : Stage × Program × Tokens) → ((y : Program × Tokens) → r ≡ Ok y → P y.0) →
+    (r >>= λ next. Ok (later, next.0, next.1)) ≡ Ok x → P x.1
+behind_arguments P later r x keeps h =
+    let next = bind_ok r (λ next. Ok (later, next.0, next.1)) x h in
+    subst (λ (y : Stage × Program × Tokens). P y.1) (ok_same (later, next.0.0, next.0.1) x next.2) (keeps next.0 next.1)
+
 pub command_keeps : (P : Program → Type 0) → IsKept P → (stage : Stage) (p : Program) (word : List ℕ) (line : ℕ) (tokens : Tokens) (x : Stage × Program × Tokens) → P p →
     command_at stage p word line tokens ≡ Ok x → P x.1
 unfolding command_at
 command_keeps P k stage p word line tokens x g h =
     let verb = bind_ok (verb_of (verb_named word) line) (λ verb. in_order (out_of_order verb stage) line >>= λ allowed. arguments_at verb line p tokens >>= λ next. Ok (stage_after verb stage, next.0, next.1)) x h in
     let allowed = bind_ok (in_order (out_of_order verb.0 stage) line) (λ allowed. arguments_at verb.0 line p tokens >>= λ next. Ok (stage_after verb.0 stage, next.0, next.1)) x verb.2 in
-    let next = bind_ok (arguments_at verb.0 line p tokens) (λ next. Ok (stage_after verb.0 stage, next.0, next.1)) x allowed.2 in
-    subst (λ (y : Stage × Program × Tokens). P y.1) (ok_same (stage_after verb.0 stage, next.0.0, next.0.1) x next.2) (arguments_keep P k verb.0 line p tokens next.0 g next.1)
+    behind_arguments P (stage_after verb.0 stage) (arguments_at verb.0 line p tokens) x (λ y e. arguments_keep P k verb.0 line p tokens y g e) allowed.2
 
 -- what comes behind a command's word, or the end
 abbrev behind_word : (Stage → Program → Tokens → Result Program Fault) → Stage → Program → Option (List ℕ × ℕ × Tokens) → Result Program Fault

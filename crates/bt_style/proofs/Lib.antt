@@ -20,6 +20,7 @@ pub mod CutLemmas
 pub mod TextLemmas
 mod FaultRows
 mod StyleRows
+mod TextRows
 pub mod ReachLemmas
 pub mod FoundLemmas
 pub mod SearchLemmas

@@ -6,7 +6,7 @@ use Rattle.std.proofs.Math.Seq.{drop-append_seam}
 use Rattle.std.proofs.lemmas.Bool.{cond-true, cond-false}
 use Rattle.std.proofs.lemmas.List.{length-append, length-drop, append-nil}
 use Rattle.bt_text.specs.ByteTests.{is_white}
-use Rattle.bt_style.specs.Token.{Open, Close, Word, Literal, Unclosed, Joined, Piece, ends_word, is_line_feed, ends_literal, may_follow, literal_end, literal_piece, piece_at}
+use Rattle.bt_style.specs.Token.{Open, Close, Word, Literal, Unclosed, Glued, Piece, ends_word, is_line_feed, ends_literal, may_follow, literal_end, literal_piece, piece_at}
 
 -- What stands before the first of some bytes
 
@@ -115,7 +115,7 @@ abbrev unclosed : List ℕ → Piece
 unclosed inside = record { token = Some Unclosed; size = 1 + length inside }
 
 abbrev closed : List ℕ → Bool → Piece
-closed inside follows = record { token = Some (cond follows (Literal inside) Joined); size = 2 + length inside }
+closed inside follows = record { token = Some (cond follows (Literal inside) Glued); size = 2 + length inside }
 
 end_unclosed : (inside behind : List ℕ) → begins_with_quote behind ≡ false → literal_end inside behind ≡ unclosed inside
 end_unclosed inside [] h = refl
@@ -135,13 +135,13 @@ end_some inside (b ∷ behind) n le = elim (b == 34) as (λ v. (cond v (closed i
   | false ↦ λ le. omega (arith, le)
 ] le
 
-closed_same : (inside ys zs : List ℕ) → EndAlike ys zs → (v : Bool) → may_follow ys ≡ v → ((closed inside v).token ≡ Some Joined → may_follow ys ≡ false → may_follow zs ≡ false) →
+closed_same : (inside ys zs : List ℕ) → EndAlike ys zs → (v : Bool) → may_follow ys ≡ v → ((closed inside v).token ≡ Some Glued → may_follow ys ≡ false → may_follow zs ≡ false) →
     closed inside (may_follow zs) ≡ closed inside v
 closed_same inside ys zs a true is apart = ap (closed inside) (a.follows is)
 closed_same inside ys zs a false is apart = ap (closed inside) (apart refl is)
 
 end_same : (inside : List ℕ) (c : ℕ) (more ys zs : List ℕ) → EndAlike ys zs → (v : Bool) →
-    ((cond v (closed inside (may_follow (more ++ ys))) (unclosed inside)).token ≡ Some Joined → may_follow ys ≡ false → may_follow zs ≡ false) →
+    ((cond v (closed inside (may_follow (more ++ ys))) (unclosed inside)).token ≡ Some Glued → may_follow ys ≡ false → may_follow zs ≡ false) →
     cond v (closed inside (may_follow (more ++ zs))) (unclosed inside) ≡ cond v (closed inside (may_follow (more ++ ys))) (unclosed inside)
 end_same inside c [] ys zs a true apart = closed_same inside ys zs a (may_follow ys) refl apart
 end_same inside c (m ∷ more) ys zs a true apart = refl
@@ -162,12 +162,12 @@ literal_size xs ys o le =
     let some : suc (length inside) ≤ suc (length xs) = end_some inside (drop (length inside) (xs ++ ys)) (suc (length xs)) (subst (λ (x : Piece). x.size ≤ suc (length xs)) e le) in
     none_left xs (before_first ends_literal ys) (omega (arith, some))
 
-literal_same : (xs ys zs : List ℕ) → EndAlike ys zs → ((literal_piece (xs ++ ys)).token ≡ Some Joined → may_follow ys ≡ false → may_follow zs ≡ false) →
+literal_same : (xs ys zs : List ℕ) → EndAlike ys zs → ((literal_piece (xs ++ ys)).token ≡ Some Glued → may_follow ys ≡ false → may_follow zs ≡ false) →
     (literal_piece (xs ++ ys)).size ≤ suc (length xs) → literal_piece (xs ++ zs) ≡ literal_piece (xs ++ ys)
 literal_same xs ys zs a apart le = elim (split ends_literal xs) [
   | Here i ↦
       (let on : (ws : List ℕ) → literal_piece (xs ++ ws) ≡ literal_end i.first (i.stop ∷ (i.more ++ ws)) = λ ws. literal_by (xs ++ ws) i.first (i.stop ∷ (i.more ++ ws)) (i.before ws) (i.from ws) in
-      let here = subst (λ (x : Piece). x.token ≡ Some Joined → may_follow ys ≡ false → may_follow zs ≡ false) (on ys) apart in
+      let here = subst (λ (x : Piece). x.token ≡ Some Glued → may_follow ys ≡ false → may_follow zs ≡ false) (on ys) apart in
       on zs ∙ end_same i.first i.stop i.more ys zs a (i.stop == 34) here ∙ sym (on ys))
   | Behind o ↦
       (let none = literal_size xs ys o le in
@@ -189,7 +189,7 @@ piece_by white percent opens closes quote b bytes =
     (cond quote (literal_piece bytes) (word_piece b bytes)))))
 
 same_by : (white percent opens closes quote : Bool) (b : ℕ) (xs ys zs : List ℕ) → EndAlike ys zs →
-    ((piece_by white percent opens closes quote b (xs ++ ys)).token ≡ Some Joined → may_follow ys ≡ false → may_follow zs ≡ false) →
+    ((piece_by white percent opens closes quote b (xs ++ ys)).token ≡ Some Glued → may_follow ys ≡ false → may_follow zs ≡ false) →
     (piece_by white percent opens closes quote b (xs ++ ys)).size ≤ suc (length xs) →
     piece_by white percent opens closes quote b (xs ++ zs) ≡ piece_by white percent opens closes quote b (xs ++ ys)
 same_by true percent opens closes quote b xs ys zs a apart le = refl
@@ -201,7 +201,7 @@ same_by false false false false true b xs ys zs a apart le = literal_same xs ys 
 same_by false false false false false b xs ys zs a apart le =
     ap (λ (l : List ℕ). record { token = Some (Word (b ∷ l)); size = 1 + length l }) (before_same ends_word refl xs ys zs a (omega (arith, le)))
 
-pub piece_same : (b : ℕ) (xs ys zs : List ℕ) → EndAlike ys zs → ((piece_at b (xs ++ ys)).token ≡ Some Joined → may_follow ys ≡ false → may_follow zs ≡ false) →
+pub piece_same : (b : ℕ) (xs ys zs : List ℕ) → EndAlike ys zs → ((piece_at b (xs ++ ys)).token ≡ Some Glued → may_follow ys ≡ false → may_follow zs ≡ false) →
     (piece_at b (xs ++ ys)).size ≤ suc (length xs) → piece_at b (xs ++ zs) ≡ piece_at b (xs ++ ys)
 unfolding piece_at
 piece_same b xs ys zs a apart le = same_by (is_white b) (b == 37) (b == 123) (b == 125) (b == 34) b xs ys zs a apart le

@@ -5,7 +5,7 @@ use Rattle.std.specs.List.{list_all}
 use Rattle.std.specs.Char.{to_ascii_lowercase}
 use Rattle.std.specs.Cmp.Lexicographic.{bytes_decides}
 use Rattle.std.proofs.lemmas.Bool.{cond-false, false≢true}
-use Rattle.std.proofs.Common.{◌≡◌, ◌∙◌, ap, refl, subst, ℕ, ◌+◌, Bool, true, false, cond, List, [], ◌∷◌, length, codes, Some, None, Result, Ok, Err, arith}
+use Rattle.std.proofs.Common.{◌≡◌, ◌∙◌, ap, refl, subst, ℕ, suc, ◌+◌, Bool, true, false, cond, List, [], ◌∷◌, length, codes, Some, None, Result, Ok, Err, arith}
 use Rattle.bt_text.specs.ByteTests.{is_digit}
 use Rattle.bt_text.specs.Folding.{folded}
 use Rattle.bt_text.specs.NameBytes.{is_name, is_name_byte}
@@ -15,13 +15,18 @@ use Rattle.bt_style.specs.declared.style.Target.TheVariants as targets
 use Rattle.bt_style.specs.Program.{Program}
 use Rattle.bt_style.specs.Tree.{Body}
 use Rattle.bt_style.specs.Fault.{◌>>=◌}
-use Rattle.bt_style.specs.Names.{meaning, is_taken}
-use Rattle.bt_style.specs.Draft.{with_name, next_target, with_function}
+use Rattle.bt_style.specs.Names.{builtin_named, meaning, is_taken}
+use Rattle.bt_style.specs.Builtins.{table}
+use Rattle.bt_style.specs.Token.{tokens_of, count}
+use Rattle.bt_style.specs.Reader.{reading, style_of}
+use Rattle.bt_style.specs.declared.verbs.Stage.TheVariants.{BeforeEntry}
+use Rattle.bt_style.specs.Laws.{QuoteNamesNothing}
+use Rattle.bt_style.specs.Draft.{preset, with_name, next_target, with_function}
 use Rattle.bt_style.specs.Declares.{new_name, known, runnable}
 use Rattle.bt_style.specs.Commands.{run_target}
 use Rattle.bt_style.proofs.NameLemmas.{meaning_declared, meaning_defined}
 use Rattle.bt_style.proofs.SpelledLemmas.{ok_same}
-use Rattle.bt_style.proofs.KeptLemmas.{IsKept}
+use Rattle.bt_style.proofs.KeptLemmas.{IsKept, commands_keep}
 
 abbrev quote : List ℕ
 quote = codes "\""
@@ -87,6 +92,14 @@ quoteless_kept = record {
   macro = λ p name text q. q;
   listed = λ p action line q. q;
 }
+
+pub preset_quoteless : Quoteless preset
+unfolding meaning builtin_named table
+preset_quoteless = refl
+
+pub quote_names_nothing : QuoteNamesNothing
+unfolding style_of reading
+quote_names_nothing text p h = commands_keep Quoteless quoteless_kept (suc (count (tokens_of text))) BeforeEntry preset (tokens_of text) p preset_quoteless h
 
 -- what a quote is refused with
 pub run_refuses : (p : Program) → Quoteless p → (line : ℕ) → (f : Fault) × (run_target p quote line ≡ Err f)

@@ -6,7 +6,7 @@ use Rattle.std.proofs.lemmas.List.Folds.{list_all-append}
 use Rattle.std.proofs.Common.{◌≡◌, ℕ, ◌≤◌, List, [], ◌∷◌, ◌++◌, Result, Ok, Err, refl, sym, ◌∙◌, ap, subst, append_assoc, arith}
 use Rattle.bt_style.specs.declared.fault.Fault.{Fault}
 use Rattle.bt_style.specs.Fault.{◌>>=◌}
-use Rattle.bt_style.specs.Token.{Token, Open, Close, Word, Literal, Unclosed, Joined, Tokens, AtEnd, Front, tokens_behind, count}
+use Rattle.bt_style.specs.Token.{Token, Open, Close, Word, Literal, Unclosed, Glued, Tokens, AtEnd, Front, tokens_behind, count}
 use Rattle.bt_style.specs.Laws.{is_byte, in_front, first_line, BeginsAs}
 
 pub in_front_append : (front more : List (Token × ℕ)) (rest : Tokens) → in_front (front ++ more) rest ≡ in_front front (in_front more rest)
@@ -24,7 +24,7 @@ IsPlain Close = Unit {0}
 IsPlain (Word word) = Unit {0}
 IsPlain (Literal bytes) = Unit {0}
 IsPlain Unclosed = Unit {0}
-IsPlain Joined = ⊥
+IsPlain Glued = ⊥
 
 abbrev pub ArePlain : List (Token × ℕ) → Type 0
 ArePlain [] = Unit {0}

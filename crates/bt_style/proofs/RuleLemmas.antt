@@ -19,7 +19,7 @@ use Rattle.bt_style.specs.Builtins.{table}
 use Rattle.bt_style.specs.Tree.{Element, Words, Braced, Body, body_of}
 use Rattle.bt_style.specs.Program.{Program}
 use Rattle.bt_style.specs.Fault.{◌>>=◌}
-use Rattle.bt_style.specs.Token.{Token, Open, Close, Word, Literal, Unclosed, Joined, Tokens, AtEnd, Front, tokens_behind, piece_at, literal_piece}
+use Rattle.bt_style.specs.Token.{Token, Open, Close, Word, Literal, Unclosed, Glued, Tokens, AtEnd, Front, tokens_behind, piece_at, literal_piece}
 use Rattle.bt_style.specs.Names.{meaning, builtin_named, is_taken, is_macro}
 use Rattle.bt_style.specs.Draft.{with_name, with_macro, with_function, with_command}
 use Rattle.bt_style.specs.Arguments.{open_at, close_at, word_at, braced_word, literal_at}
@@ -51,7 +51,7 @@ open_reads (Front Close line rest) = refuses rest_alone open_at Close line rest 
 open_reads (Front (Word word) line rest) = refuses rest_alone open_at (Word word) line rest _ refl (λ t. refl) open_done
 open_reads (Front (Literal bytes) line rest) = refuses rest_alone open_at (Literal bytes) line rest _ refl (λ t. refl) open_done
 open_reads (Front Unclosed line rest) = refuses rest_alone open_at Unclosed line rest _ refl (λ t. refl) open_done
-open_reads (Front Joined line rest) = refuses rest_alone open_at Joined line rest _ refl (λ t. refl) open_done
+open_reads (Front Glued line rest) = refuses rest_alone open_at Glued line rest _ refl (λ t. refl) open_done
 
 open_reader : {Q : Type 0} → Reader Q rest_alone open_at
 open_reader = record { reads = open_reads; done = open_done }
@@ -68,7 +68,7 @@ close_reads (Front Close line rest) = takes_one rest_alone close_at Close line r
 close_reads (Front (Word word) line rest) = refuses rest_alone close_at (Word word) line rest _ refl (λ t. refl) close_done
 close_reads (Front (Literal bytes) line rest) = refuses rest_alone close_at (Literal bytes) line rest _ refl (λ t. refl) close_done
 close_reads (Front Unclosed line rest) = refuses rest_alone close_at Unclosed line rest _ refl (λ t. refl) close_done
-close_reads (Front Joined line rest) = refuses rest_alone close_at Joined line rest _ refl (λ t. refl) close_done
+close_reads (Front Glued line rest) = refuses rest_alone close_at Glued line rest _ refl (λ t. refl) close_done
 
 close_reader : {Q : Type 0} → Reader Q rest_alone close_at
 close_reader = record { reads = close_reads; done = close_done }
@@ -124,8 +124,8 @@ inside_reads take k (Front Close line rest) = refuses with_rest (inside take) Cl
 inside_reads take k (Front (Word word) line rest) = inside_word take k (Word word) word line rest (take word line) refl (λ q v h. tt) (λ t. refl)
 inside_reads take k (Front (Literal bytes) line rest) = inside_word take k (Literal bytes) (codes "\"") line rest (take (codes "\"") line) refl (λ q v h. tt) (λ t. refl)
 inside_reads take k (Front Unclosed line rest) = inside_word take k Unclosed (codes "\"") line rest (take (codes "\"") line) refl (λ q v h. tt) (λ t. refl)
-inside_reads take k (Front Joined line rest) =
-    inside_word take k Joined (codes "\"") line rest (take (codes "\"") line) refl (λ q v h. not_taken (take (codes "\"") line) v (k.refuses q line) h) (λ t. refl)
+inside_reads take k (Front Glued line rest) =
+    inside_word take k Glued (codes "\"") line rest (take (codes "\"") line) refl (λ q v h. not_taken (take (codes "\"") line) v (k.refuses q line) h) (λ t. refl)
 
 braced_reader : {A Q : Type 0} (take : List ℕ → ℕ → Result A Fault) → Takable Q take → Reader Q with_rest (braced_word take)
 braced_reader take k = then rest_alone with_rest open_at (inside take) open_reader (λ u. record { reads = inside_reads take k; done = inside_done take k })
@@ -195,7 +195,7 @@ names_reads names p (Front Close line rest) = takes_one with_rest (names_at name
 names_reads names p (Front (Word word) line rest) = names_word names p word line rest (new_name (is_taken p) word line) refl (λ name. names_reads names (with_name names name p) rest)
 names_reads names p (Front (Literal bytes) line rest) = refuses with_rest (names_at names p) (Literal bytes) line rest _ refl (λ t. refl) (names_done names p)
 names_reads names p (Front Unclosed line rest) = refuses with_rest (names_at names p) Unclosed line rest _ refl (λ t. refl) (names_done names p)
-names_reads names p (Front Joined line rest) = refuses with_rest (names_at names p) Joined line rest _ refl (λ t. refl) (names_done names p)
+names_reads names p (Front Glued line rest) = refuses with_rest (names_at names p) Glued line rest _ refl (λ t. refl) (names_done names p)
 
 braced_names_reader : {Q : Type 0} (names : Names) (p : Program) → Reader Q with_rest (braced_names names p)
 braced_names_reader names p = then rest_alone with_rest open_at (names_at names p) open_reader (λ u. record { reads = names_reads names p; done = names_done names p })
@@ -213,7 +213,7 @@ literal_reads (Front Close line rest) = refuses with_rest literal_at Close line 
 literal_reads (Front (Word word) line rest) = refuses with_rest literal_at (Word word) line rest _ refl (λ t. refl) literal_done
 literal_reads (Front (Literal bytes) line rest) = takes_one with_rest literal_at (Literal bytes) line rest bytes (λ q. tt) (λ t. refl)
 literal_reads (Front Unclosed line rest) = refuses with_rest literal_at Unclosed line rest _ refl (λ t. refl) literal_done
-literal_reads (Front Joined line rest) = refuses with_rest literal_at Joined line rest _ refl (λ t. refl) literal_done
+literal_reads (Front Glued line rest) = refuses with_rest literal_at Glued line rest _ refl (λ t. refl) literal_done
 
 literal_reader : {Q : Type 0} → Reader Q with_rest literal_at
 literal_reader = record { reads = literal_reads; done = literal_done }
@@ -262,7 +262,7 @@ body_reads p outer now (Front (Word word) line rest) = body_word p outer now wor
 body_reads p outer now (Front (Literal bytes) line rest) =
     goes_on with_rest (body_at p outer now) (body_at p outer (now ++ Words bytes ∷ [])) (Literal bytes) line rest (λ q. tt) (λ t. refl) (body_reads p outer (now ++ Words bytes ∷ []) rest)
 body_reads p outer now (Front Unclosed line rest) = refuses with_rest (body_at p outer now) Unclosed line rest _ refl (λ t. refl) (body_done p outer now)
-body_reads p outer now (Front Joined line rest) = refuses with_rest (body_at p outer now) Joined line rest _ refl (λ t. refl) (body_done p outer now)
+body_reads p outer now (Front Glued line rest) = refuses with_rest (body_at p outer now) Glued line rest _ refl (λ t. refl) (body_done p outer now)
 
 body_reader : {Q : Type 0} (p : Program) → Reader Q with_rest (body_at p [] [])
 body_reader p = record { reads = body_reads p [] []; done = body_done p [] [] }

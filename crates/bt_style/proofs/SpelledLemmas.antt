@@ -2,7 +2,7 @@
 use Rattle.std.proofs.Common.{◌≡◌, Bool, true, false, cond, List, [], ◌∷◌, ◌++◌, length, refl, sym, ◌∙◌, ap, subst, Result, Ok, Err}
 use Rattle.std.specs.Prelude.{nat_lt}
 use Rattle.bt_style.specs.declared.fault.Fault.{Fault}
-use Rattle.bt_style.specs.Token.{Open, Close, Word, Literal, Unclosed, Joined, Tokens, AtEnd, Front}
+use Rattle.bt_style.specs.Token.{Open, Close, Word, Literal, Unclosed, Glued, Tokens, AtEnd, Front}
 use Rattle.bt_style.specs.Tree.{Element, Words, Braced, Body, End, Then, body_of}
 use Rattle.bt_style.specs.Program.{Program}
 use Rattle.bt_style.specs.Fault.{◌>>=◌}
@@ -71,7 +71,7 @@ fills p outer now (Front (Word word) line after) b rest h =
 fills p outer now (Front (Literal bytes) line after) b rest h =
     fills_push p outer now (Words bytes) (Front (Literal bytes) line after) after b rest ByLiteral (fills p outer (now ++ Words bytes ∷ []) after b rest h)
 fills p outer now (Front Unclosed line after) b rest h = cc
-fills p outer now (Front Joined line after) b rest h = cc
+fills p outer now (Front Glued line after) b rest h = cc
 
 -- the tree that is read is spelled by the tokens that were passed
 pub spelled : (p : Program) (tokens : Tokens) (b : Body) (rest : Tokens) → body_at p [] [] tokens ≡ Ok (b, rest) → SpellsBody p b tokens rest

@@ -3,12 +3,9 @@ use Rattle.std.specs.Prelude.{Option}
 use Rattle.std.proofs.Common.{◌≡◌, ◌∙◌, inl, inr, ap, sym, refl, subst, ℕ, suc, ◌+◌, ◌-◌, ◌<◌, ◌≤◌, List, [], ◌∷◌, ◌++◌, length, take, drop, Some, append_assoc, arith}
 use Rattle.std.proofs.lemmas.List.{length-take-le, take-append-drop}
 use Rattle.bt_style.specs.Token.{Tokens, AtEnd, Front, Token, Piece, piece_at, with_token, line_after, tokens_behind}
-use Rattle.bt_style.specs.Builtins.{table}
-use Rattle.bt_style.specs.Names.{meaning, builtin_named}
-use Rattle.bt_style.specs.Draft.{preset}
 use Rattle.bt_style.specs.Reader.{reading, style_of}
 use Rattle.bt_style.specs.Laws.{in_front, first_line, BeginsAs, StandsInFront, StandsInItsText, FaultIsFirstInItsText}
-use Rattle.bt_style.proofs.QuoteLemmas.{Quoteless}
+use Rattle.bt_style.proofs.QuoteLemmas.{preset_quoteless}
 use Rattle.bt_style.proofs.FirstLemmas.{faulty_text}
 use Rattle.bt_style.proofs.PieceLemmas.{alike_by_first, follow_by_first, alike_by_feed, piece_same, piece_within}
 use Rattle.bt_style.proofs.CutLemmas.{lines_in, BeginsToken, placed, step, cut}
@@ -61,7 +58,7 @@ begins_same line [] behind other none e =
 begins_same line (b ∷ more) behind other one e =
     let piece : Piece = record { token = Some one.0; size = suc (length more) } in
     let small : (piece_at b (more ++ behind)).size ≤ suc (length more) = omega (arith, ap (λ (x : Piece). x.size) one.1) in
-    let same : piece_at b (more ++ other) ≡ piece = piece_same b more behind other (alike_by_first behind other e) (λ joined. follow_by_first behind other e) small ∙ one.1 in
+    let same : piece_at b (more ++ other) ≡ piece = piece_same b more behind other (alike_by_first behind other e) (λ glued. follow_by_first behind other e) small ∙ one.1 in
     let behind_it : List ℕ → Tokens = λ l. tokens_behind (suc (length more) - 1) (line_after b line) (more ++ l) in
     let here : tokens_behind 0 line (b ∷ (more ++ behind)) ≡ Front one.0 line (behind_it behind) = step b line (more ++ behind) ∙ ap (λ (x : Piece). placed x b line (more ++ behind)) one.1 in
     let there : tokens_behind 0 line (b ∷ (more ++ other)) ≡ Front one.0 line (behind_it other) = step b line (more ++ other) ∙ ap (λ (x : Piece). placed x b line (more ++ other)) same in
@@ -75,10 +72,6 @@ line_there line (b ∷ bytes) begins =
 next_line : (line : ℕ) (bytes : List ℕ) → tokens_behind 0 line (10 ∷ bytes) ≡ tokens_behind 0 (line + 1) bytes
 unfolding tokens_behind piece_at
 next_line line bytes = refl
-
-preset_quoteless : Quoteless preset
-unfolding meaning builtin_named table
-preset_quoteless = refl
 
 pub fault_is_first_in_its_text : FaultIsFirstInItsText
 unfolding style_of reading

@@ -3,7 +3,7 @@ use Rattle.std.specs.Prelude.{ℕ, List, Result, Ok, codes}
 use Rattle.bt_style.specs.declared.fault.FaultKind.TheVariants.{UnclosedText, UnclosedBrace, StrayByte, MissingArgument}
 use Rattle.bt_style.specs.declared.fault.Fault.{Fault}
 use Rattle.bt_style.specs.Fault.{fault, ◌>>=◌}
-use Rattle.bt_style.specs.Token.{Open, Close, Word, Literal, Unclosed, Joined, Tokens, AtEnd, Front}
+use Rattle.bt_style.specs.Token.{Open, Close, Word, Literal, Unclosed, Glued, Tokens, AtEnd, Front}
 
 -- the brace that opens an argument
 abbrev pub open_at : Tokens → Result Tokens Fault
@@ -17,7 +17,8 @@ close_at (AtEnd line) = fault UnclosedBrace line
 close_at (Front Close line rest) = Ok rest
 close_at (Front _ line rest) = fault UnclosedBrace line
 
--- a word with its line
+-- A word with its line. A literal stands for the word `"`, which is no name, and by which nothing is named: each use of
+-- it is a fault at that token, on its line.
 abbrev pub word_at : Tokens → Result ((List ℕ × ℕ) × Tokens) Fault
 word_at (AtEnd line) = fault MissingArgument line
 word_at (Front Open line rest) = fault MissingArgument line
@@ -27,10 +28,10 @@ word_at (Front _ line rest) = Ok ((codes "\"", line), rest)
 
 -- one word in braces, taken as the test says
 abbrev pub braced_word : {A : Type 0} → (List ℕ → ℕ → Result A Fault) → Tokens → Result (A × Tokens) Fault
-braced_word take tokens = do
+braced_word test tokens = do
   inside ← open_at tokens
   word ← word_at inside
-  value ← take word.0.0 word.0.1
+  value ← test word.0.0 word.0.1
   rest ← close_at word.1
   Ok (value, rest)
 
@@ -38,6 +39,6 @@ braced_word take tokens = do
 abbrev pub literal_at : Tokens → Result (List ℕ × Tokens) Fault
 literal_at (Front (Literal bytes) line rest) = Ok (bytes, rest)
 literal_at (Front Unclosed line rest) = fault UnclosedText line
-literal_at (Front Joined line rest) = fault StrayByte line
+literal_at (Front Glued line rest) = fault StrayByte line
 literal_at (Front _ line rest) = fault MissingArgument line
 literal_at (AtEnd line) = fault MissingArgument line

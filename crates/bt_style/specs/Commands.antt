@@ -31,8 +31,8 @@ run_at action line p tokens = do
 
 -- a command that declares global variables
 abbrev pub variables_at : Names → Action → ℕ → Program → Tokens → Result (Program × Tokens) Fault
-variables_at names action line p tokens = do
-  declared ← braced_names names p tokens
+variables_at list action line p tokens = do
+  declared ← braced_names list p tokens
   Ok (with_command action line declared.0, declared.1)
 
 -- what a command with its arguments makes of a program

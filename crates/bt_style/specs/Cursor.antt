@@ -1,4 +1,4 @@
--- What a cursor has left to give.
+-- What a cursor of the code has left to give; no part of the meaning.
 use Rattle.std.specs.Prelude.{◌≡◌, ℕ, ◌<◌, ◌≤◌, List, Option, Some, None, slice_index, drop}
 use Rattle.bt_style.specs.Token.{Tokens, AtEnd, Front, Piece, piece_at, with_token}
 use Rattle.bt_style.specs.Token as tokens
@@ -13,7 +13,7 @@ placed (code.Close line) rest = Front tokens.Close line rest
 placed (code.Word bytes line) rest = Front (tokens.Word bytes.now) line rest
 placed (code.Literal bytes line) rest = Front (tokens.Literal bytes.now) line rest
 placed (code.Unclosed line) rest = Front tokens.Unclosed line rest
-placed (code.Joined line) rest = Front tokens.Joined line rest
+placed (code.Glued line) rest = Front tokens.Glued line rest
 
 abbrev pub maybe_placed : Option Token → Tokens → Tokens
 maybe_placed None rest = rest

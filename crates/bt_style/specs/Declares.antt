@@ -37,13 +37,13 @@ runnable _ line = fault NotAFunction line
 
 -- the names up to the closing brace, each declared before the next is read
 unfoldable pub names_at : Names → Program → Tokens → Result (Program × Tokens) Fault
-names_at names p (AtEnd line) = fault UnclosedBrace line
-names_at names p (Front Open line rest) = fault UnclosedBrace line
-names_at names p (Front Close line rest) = Ok (p, rest)
-names_at names p (Front (Word word) line rest) = do
+names_at list p (AtEnd line) = fault UnclosedBrace line
+names_at list p (Front Open line rest) = fault UnclosedBrace line
+names_at list p (Front Close line rest) = Ok (p, rest)
+names_at list p (Front (Word word) line rest) = do
   name ← new_name (is_taken p) word line
-  names_at names (with_name names name p) rest
-names_at names p (Front _ line rest) = fault BadName line
+  names_at list (with_name list name p) rest
+names_at list p (Front _ line rest) = fault BadName line
 
 abbrev pub braced_names : Names → Program → Tokens → Result (Program × Tokens) Fault
-braced_names names p tokens = open_at tokens >>= names_at names p
+braced_names list p tokens = open_at tokens >>= names_at list p

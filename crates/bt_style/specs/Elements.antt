@@ -2,12 +2,19 @@
 use Rattle.std.specs.Prelude.{ℕ, ◌-◌, ◌+◌, ◌*◌, ◌^◌, Bool, ◌==◌, nat_lt, if◌then◌else◌, List, [], ◌∷◌, length, drop, slice_index, ℤ, pos, neg_ℤ, Result, Ok}
 use Rattle.std.specs.List.{take_while}
 use Rattle.std.specs.Char.{is_ascii_digit}
+use Rattle.bt_text.specs.ByteTests.{hyphen}
 use Rattle.bt_style.specs.declared.fault.FaultKind.TheVariants.{NumberTooLarge, BadName, StrayByte}
 use Rattle.bt_style.specs.declared.fault.Fault.{Fault}
 use Rattle.bt_style.specs.Tree.{Element, Amount, Quoted, Called}
 use Rattle.bt_style.specs.Program.{Program}
 use Rattle.bt_style.specs.Fault.{fault, ◌>>=◌}
 use Rattle.bt_style.specs.Declares.{target_of}
+
+abbrev pub number_sign : ℕ
+number_sign = 35
+
+abbrev pub apostrophe : ℕ
+apostrophe = 39
 
 -- the number that digits spell, behind digits that spelled n
 abbrev pub decimal : ℕ → List ℕ → ℕ
@@ -27,7 +34,7 @@ size_at greatest bytes line =
     size_of greatest digits (drop (length digits) bytes) line
 
 abbrev pub is_minus : List ℕ → Bool
-is_minus bytes = slice_index bytes 0 == 45
+is_minus bytes = slice_index bytes 0 == hyphen
 
 -- behind the number sign
 unfoldable pub number_at : List ℕ → ℕ → Result ℤ Fault
@@ -45,6 +52,6 @@ quoted_at p bytes line =
 unfoldable pub word_element : Program → List ℕ → ℕ → Result Element Fault
 word_element p word line =
     let first = slice_index word 0 in
-    if first == 35 then (number_at (drop 1 word) line >>= λ n. Ok (Amount n))
-    else if first == 39 then quoted_at p (drop 1 word) line
+    if first == number_sign then (number_at (drop 1 word) line >>= λ n. Ok (Amount n))
+    else if first == apostrophe then quoted_at p (drop 1 word) line
     else target_of p word line >>= λ target. Ok (Called target)

@@ -1,5 +1,5 @@
 -- Laws of styles: where a first fault stands, how many commands are read at most, and the names of built-in functions.
-use Rattle.std.specs.Prelude.{◌≡◌, ℕ, suc, ◌+◌, ◌<◌, nat_lt, Bool, true, List, [], ◌∷◌, ◌++◌, length, take, map, Some, Ok, Err}
+use Rattle.std.specs.Prelude.{◌≡◌, ℕ, suc, ◌+◌, ◌<◌, nat_lt, Bool, true, List, [], ◌∷◌, ◌++◌, length, take, map, codes, Some, None, Ok, Err}
 use Rattle.std.specs.List.{list_all, count_by}
 use Rattle.std.specs.Option.{option_map}
 use Rattle.bt_style.specs.declared.fault.Fault.{Fault}
@@ -8,7 +8,7 @@ use Rattle.bt_style.specs.declared.verbs.Stage.{Stage}
 use Rattle.bt_style.specs.Builtins.{table, place_of, name_of}
 use Rattle.bt_style.specs.Token.{Token, Tokens, AtEnd, Front, is_line_feed, piece_at, tokens_behind, tokens_of, count}
 use Rattle.bt_style.specs.Program.{Program}
-use Rattle.bt_style.specs.Names.{builtin_named, place_in}
+use Rattle.bt_style.specs.Names.{builtin_named, place_in, meaning}
 use Rattle.bt_style.specs.Reader.{commands_at, reading, style_of}
 
 -- tokens with their lines, in front of others
@@ -53,7 +53,8 @@ FaultIsFirst = (text : List ℕ) (f : Fault) → style_of text ≡ Err f → Sta
 -- A token of just these bytes stands in front of those behind it, or the text ends there.
 abbrev pub StandsInFront : List ℕ → List ℕ → Type 0
 StandsInFront [] behind = behind ≡ []
-StandsInFront (b ∷ more) behind = (token : Token) × (piece_at b (more ++ behind) ≡ record { token = Some token; size = suc (length more) })
+StandsInFront (b ∷ more) behind =
+    (token : Token) × (piece_at b (more ++ behind) ≡ record { token = Some token; size = suc (length more) })
 
 -- The same of the text's bytes: a fault stands at one token, or at the text's end, on its line. No style begins with the
 -- bytes up to the token's end, and some style begins with those before the token.
@@ -64,7 +65,7 @@ pub record StandsInItsText (text : List ℕ) (f : Fault) : Type 0 where
   pub whole : text ≡ before ++ token ++ behind
   pub one : StandsInFront token behind
   pub line : f.line ≡ 1 + count_by is_line_feed before
-  -- Whatever stands behind the token, the fault is the same, if the first byte is the same there, which tells that the token ends.
+  -- Whatever stands behind the token, the fault is the same, if the byte right behind it is, which tells that the token ends.
   pub final : (other : List ℕ) → take 1 other ≡ take 1 behind → style_of (before ++ token ++ other) ≡ Err f
   -- some bytes in place of the token and of all behind it make a style
   pub bytes : List ℕ
@@ -78,7 +79,14 @@ FaultIsFirstInItsText = (text : List ℕ) (f : Fault) → style_of text ≡ Err 
 -- The greatest number of commands is never reached: where `reading` begins, and wherever commands go on, each number above
 -- that of the tokens that are left gives the same. No other definition of styles has such a reserve.
 abbrev pub AnyReserveServes : Type 0
-AnyReserveServes = (most : ℕ) (stage : Stage) (p : Program) (tokens : Tokens) → count tokens < most → commands_at most stage p tokens ≡ commands_at (suc (count tokens)) stage p tokens
+AnyReserveServes =
+    (most : ℕ) (stage : Stage) (p : Program) (tokens : Tokens) → count tokens < most →
+    commands_at most stage p tokens ≡ commands_at (suc (count tokens)) stage p tokens
+
+-- A quote is the name of nothing in a style that a text spells: that a literal stands for this word where a name is asked
+-- for (`word_at`) lets nothing pass.
+abbrev pub QuoteNamesNothing : Type 0
+QuoteNamesNothing = (text : List ℕ) (p : Program) → style_of text ≡ Ok p → meaning p (codes "\"") ≡ None
 
 -- Each function that needs no definition is the one that its name stands for; so no two have one name.
 abbrev pub FoundByTheirNames : Type 0

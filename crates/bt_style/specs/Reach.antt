@@ -44,7 +44,8 @@ is_call_type _ = false
 abbrev pub default_type : Program → Option ℕ
 default_type p = place_in (function_names p) (codes "default.type")
 
--- The names that are reached at once from a name: those in its body, and from `call.type$` the function of the entry's type, if it has one, and `default.type`.
+-- The names that are reached at once from a name: those in its body, and from `call.type$` the function of the entry's
+-- type, if it has one, and `default.type`.
 abbrev pub leads_to : Program → Option ℕ → Target → List Target
 leads_to p type_function (targets.Function n) = function_body_names p n
 leads_to p type_function (targets.Builtin b) = if is_call_type b then maybe_function type_function ++ maybe_function (default_type p) else []
@@ -53,7 +54,8 @@ leads_to p type_function _ = []
 -- the least set that has the start and, with a name, each name that is reached from it at once
 pub data Reaches (p : Program) (type_function : Option ℕ) (start : Target) : Target → Type 0 where
   Start : Reaches p type_function start start
-  Next : {here next : Target} → Reaches p type_function start here → Contains (leads_to p type_function here) next → Reaches p type_function start next
+  Next : {here next : Target} → Reaches p type_function start here → Contains (leads_to p type_function here) next →
+      Reaches p type_function start next
 
 -- whether two targets are equal
 abbrev pub target_eq : Target → Target → Bool
@@ -82,6 +84,17 @@ abbrev pub noted_all : List Target → List Target → List Target
 noted_all found [] = found
 noted_all found (t ∷ ts) = noted_all (noted found t) ts
 
+-- the names of all bodies
+abbrev pub all_body_names : List Definition → List Target
+all_body_names [] = []
+all_body_names (f ∷ fs) = body_names f.body ++ all_body_names fs
+
+-- the names that may be reached at all
+abbrev pub reachable : Program → Option ℕ → Target → List Target
+reachable p type_function start = start ∷ (maybe_function type_function ++ maybe_function (default_type p)) ++ all_body_names p.functions
+
+-- What the code keeps while it looks for them: no part of the meaning, from here on.
+
 -- a hashed set has the targets that are found
 abbrev pub Knows : {S : Type 0} → HashSet Target S → List Target → Type 0
 Knows seen found = (t : Target) → contains target_eq seen t ≡ is_among found t
@@ -108,12 +121,3 @@ abbrev mutual
 abbrev pub waiting_size : List (Bor (List Op)) → ℕ
 waiting_size [] = 0
 waiting_size (ops ∷ above) = waiting_size above + body_size (ops_body ops.now)
-
--- the names of all bodies
-abbrev pub all_body_names : List Definition → List Target
-all_body_names [] = []
-all_body_names (f ∷ fs) = body_names f.body ++ all_body_names fs
-
--- the names that may be reached at all
-abbrev pub reachable : Program → Option ℕ → Target → List Target
-reachable p type_function start = start ∷ (maybe_function type_function ++ maybe_function (default_type p)) ++ all_body_names p.functions

@@ -1,18 +1,27 @@
 -- The tokens of a style's text, each with its line.
 use Rattle.std.specs.Prelude.{ℕ, zero, suc, ◌+◌, ◌-◌, Bool, true, ◌||◌, ◌==◌, if◌then◌else◌, List, [], ◌∷◌, length, drop, Option, Some, None}
 use Rattle.std.specs.List.{before_first}
-use Rattle.bt_text.specs.ByteTests.{is_white}
+use Rattle.bt_text.specs.ByteTests.{left_brace, right_brace, is_white}
+
+abbrev pub line_feed : ℕ
+line_feed = 10
+
+abbrev pub quote : ℕ
+quote = 34
+
+abbrev pub percent_sign : ℕ
+percent_sign = 37
 
 -- white space, a percent sign, a brace
 abbrev pub ends_word : ℕ → Bool
-ends_word b = is_white b || b == 37 || b == 123 || b == 125
+ends_word b = is_white b || b == percent_sign || b == left_brace || b == right_brace
 
 abbrev pub is_line_feed : ℕ → Bool
-is_line_feed b = b == 10
+is_line_feed b = b == line_feed
 
 -- a quote, or the line's end
 abbrev pub ends_literal : ℕ → Bool
-ends_literal b = b == 34 || b == 10
+ends_literal b = b == quote || b == line_feed
 
 pub data Token : Type 0 where
   Open : Token
@@ -23,7 +32,7 @@ pub data Token : Type 0 where
   -- a quote with no other on its line
   Unclosed : Token
   -- two quotes of one line, and behind them a byte that doesn't end a word
-  Joined : Token
+  Glued : Token
 
 -- tokens with their lines, up to the text's end with its line
 pub data Tokens : Type 0 where
@@ -44,7 +53,7 @@ may_follow (b ∷ _) = ends_word b
 abbrev pub literal_end : List ℕ → List ℕ → Piece
 literal_end inside [] = record { token = Some Unclosed; size = 1 + length inside }
 literal_end inside (b ∷ behind) =
-    if b == 34 then record { token = Some (if may_follow behind then Literal inside else Joined); size = 2 + length inside }
+    if b == quote then record { token = Some (if may_follow behind then Literal inside else Glued); size = 2 + length inside }
     else record { token = Some Unclosed; size = 1 + length inside }
 
 unfoldable pub literal_piece : List ℕ → Piece
@@ -56,20 +65,21 @@ piece_at b bytes =
     let comment = before_first is_line_feed bytes in
     let more = before_first ends_word bytes in
     if is_white b then record { token = None; size = 1 }
-    else if b == 37 then record { token = None; size = 1 + length comment }
-    else if b == 123 then record { token = Some Open; size = 1 }
-    else if b == 125 then record { token = Some Close; size = 1 }
-    else if b == 34 then literal_piece bytes
+    else if b == percent_sign then record { token = None; size = 1 + length comment }
+    else if b == left_brace then record { token = Some Open; size = 1 }
+    else if b == right_brace then record { token = Some Close; size = 1 }
+    else if b == quote then literal_piece bytes
     else record { token = Some (Word (b ∷ more)); size = 1 + length more }
 
 abbrev pub line_after : ℕ → ℕ → ℕ
-line_after b line = if b == 10 then line + 1 else line
+line_after b line = if b == line_feed then line + 1 else line
 
 abbrev pub with_token : Option Token → ℕ → Tokens → Tokens
 with_token None line rest = rest
 with_token (Some token) line rest = Front token line rest
 
--- the tokens of the rest of a text from a line on; the first so many bytes belong to a piece that began before
+-- The tokens of the rest of a text from a line on. The first so many bytes belong to a piece that began before: they are
+-- passed one by one, so that each byte is one step of the recursion.
 unfoldable pub tokens_behind : ℕ → ℕ → List ℕ → Tokens
 tokens_behind covered line [] = AtEnd line
 tokens_behind (suc covered) line (b ∷ bytes) = tokens_behind covered (line_after b line) bytes

@@ -1,8 +1,8 @@
--- How tokens are told apart: each is stored as a number and bytes.
+-- Tokens are a set, which a ghost field of them wants: each is stored as a number and bytes. No part of the meaning.
 use Rattle.std.specs.Prelude.{◌≡◌, ℕ, zero, suc, List, [], ◌∷◌}
 use Rattle.std.proofs.Common.{refl, ap}
 use Rattle.std.specs.Coded.{Coded, code_by, coded×, coded_ℕ, coded_list}
-use Rattle.bt_style.specs.Token.{Token, Open, Close, Word, Literal, Unclosed, Joined, Tokens, AtEnd, Front}
+use Rattle.bt_style.specs.Token.{Token, Open, Close, Word, Literal, Unclosed, Glued, Tokens, AtEnd, Front}
 
 abbrev pub stored : Token → ℕ × List ℕ
 stored Open = (0, [])
@@ -10,7 +10,7 @@ stored Close = (1, [])
 stored (Word bytes) = (2, bytes)
 stored (Literal bytes) = (3, bytes)
 stored Unclosed = (4, [])
-stored Joined = (5, [])
+stored Glued = (5, [])
 
 abbrev pub token_at : ℕ → List ℕ → Token
 token_at zero bytes = Open
@@ -18,7 +18,7 @@ token_at (suc zero) bytes = Close
 token_at (suc (suc zero)) bytes = Word bytes
 token_at (suc (suc (suc zero))) bytes = Literal bytes
 token_at (suc (suc (suc (suc zero)))) bytes = Unclosed
-token_at (suc (suc (suc (suc (suc n))))) bytes = Joined
+token_at (suc (suc (suc (suc (suc n))))) bytes = Glued
 
 pub token_at-stored : (token : Token) → token_at (stored token).0 (stored token).1 ≡ token
 token_at-stored Open = refl
@@ -26,7 +26,7 @@ token_at-stored Close = refl
 token_at-stored (Word bytes) = refl
 token_at-stored (Literal bytes) = refl
 token_at-stored Unclosed = refl
-token_at-stored Joined = refl
+token_at-stored Glued = refl
 
 abbrev pub token_code : Coded Token
 token_code = code_by (ℕ × List ℕ) (coded× coded_ℕ (coded_list coded_ℕ)) stored (λ p. token_at p.0 p.1) token_at-stored

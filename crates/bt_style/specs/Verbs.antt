@@ -26,7 +26,8 @@ word_of verbs.Strings = codes "STRINGS"
 -- all commands
 unfoldable pub all_verbs : List Verb
 all_verbs =
-    verbs.Entry ∷ verbs.Execute ∷ verbs.Function ∷ verbs.Integers ∷ verbs.Iterate ∷ verbs.Macro ∷ verbs.Read ∷ verbs.Reverse ∷ verbs.Sort ∷ verbs.Strings ∷ []
+    verbs.Entry ∷ verbs.Execute ∷ verbs.Function ∷ verbs.Integers ∷ verbs.Iterate ∷
+    verbs.Macro ∷ verbs.Read ∷ verbs.Reverse ∷ verbs.Sort ∷ verbs.Strings ∷ []
 
 -- the command of a word in either case, among some
 abbrev pub verb_among : List Verb → List ℕ → Option Verb

@@ -28,7 +28,7 @@ pub fn open(cursor: &mut Cursor) -> Result<(), StyleRefusal>
         | Token::Word(_, line)
         | Token::Literal(_, line)
         | Token::Unclosed(line)
-        | Token::Joined(line) => Err(fault(FaultKind::MissingArgument, line)),
+        | Token::Glued(line) => Err(fault(FaultKind::MissingArgument, line)),
     }
 }
 
@@ -44,7 +44,7 @@ pub fn close(cursor: &mut Cursor) -> Result<(), StyleRefusal>
         | Token::Word(_, line)
         | Token::Literal(_, line)
         | Token::Unclosed(line)
-        | Token::Joined(line) => Err(fault(FaultKind::UnclosedBrace, line)),
+        | Token::Glued(line) => Err(fault(FaultKind::UnclosedBrace, line)),
     }
 }
 
@@ -55,7 +55,7 @@ pub fn word<'a>(cursor: &mut Cursor<'a>) -> Result<(&'a [u8], usize), StyleRefus
 {
     match cursor.next() {
         Token::Word(word, line) => Ok((word, line)),
-        Token::Literal(_, line) | Token::Unclosed(line) | Token::Joined(line) => Ok((b"\"", line)),
+        Token::Literal(_, line) | Token::Unclosed(line) | Token::Glued(line) => Ok((b"\"", line)),
         Token::End(line) | Token::Open(line) | Token::Close(line) => {
             Err(fault(FaultKind::MissingArgument, line))
         }
@@ -70,7 +70,7 @@ pub fn literal<'a>(cursor: &mut Cursor<'a>) -> Result<&'a [u8], StyleRefusal>
     match cursor.next() {
         Token::Literal(bytes, _) => Ok(bytes),
         Token::Unclosed(line) => Err(fault(FaultKind::UnclosedText, line)),
-        Token::Joined(line) => Err(fault(FaultKind::StrayByte, line)),
+        Token::Glued(line) => Err(fault(FaultKind::StrayByte, line)),
         Token::End(line) | Token::Open(line) | Token::Close(line) | Token::Word(_, line) => {
             Err(fault(FaultKind::MissingArgument, line))
         }

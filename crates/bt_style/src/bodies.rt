@@ -100,7 +100,7 @@ pub fn body(alloc: Global, cursor: &mut Cursor, draft: &Draft) -> Result<Vec<Op>
             Token::Literal(bytes, _) => push_text(alloc, &mut now, bytes)?,
             Token::End(line) => return Err(fault(FaultKind::UnclosedBrace, line)),
             Token::Unclosed(line) => return Err(fault(FaultKind::UnclosedText, line)),
-            Token::Joined(line) => return Err(fault(FaultKind::StrayByte, line)),
+            Token::Glued(line) => return Err(fault(FaultKind::StrayByte, line)),
         }
     }
 }

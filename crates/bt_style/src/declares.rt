@@ -75,7 +75,7 @@ pub fn names(
                 FaultKind::UnclosedBrace,
                 line,
             )),
-            Token::Literal(_, line) | Token::Unclosed(line) | Token::Joined(line) => {
+            Token::Literal(_, line) | Token::Unclosed(line) | Token::Glued(line) => {
                 return Err(fault(FaultKind::BadName, line));
             }
         }

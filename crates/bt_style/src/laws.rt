@@ -7,7 +7,7 @@ ghost use Rattle.bt_style.specs.Token.{Tokens};
 ghost use Rattle.bt_style.specs.Bodies.{body_at};
 ghost use Rattle.bt_style.specs.Apart.{FieldsAreApart};
 ghost use Rattle.bt_style.specs.Builtins.{StandInTheirPlaces};
-ghost use Rattle.bt_style.specs.Laws.{AnyReserveServes, FaultIsFirst, FaultIsFirstInItsText, FoundAtTheirPlaces, FoundByTheirNames};
+ghost use Rattle.bt_style.specs.Laws.{AnyReserveServes, FaultIsFirst, FaultIsFirstInItsText, FoundAtTheirPlaces, FoundByTheirNames, QuoteNamesNothing};
 ghost use Rattle.bt_style.specs.Spelled.{SpellsBody, depth_of};
 
 /// The body that is read from tokens is one that they spell, by the grammar of bodies.
@@ -36,15 +36,21 @@ pub fn fault_is_first()
     ensures { FaultIsFirst }
 {}
 
-/// The same of the text's bytes: no style begins with those up to the end of the token at the fault and the byte behind it, and
-/// some style begins with those before that token.
+/// The same of the text's bytes: no style begins with those up to the end of the token at the fault and the byte behind
+/// it, and some style begins with those before that token.
 pub fn fault_is_first_in_its_text()
     ensures { FaultIsFirstInItsText }
 {}
 
-/// Any number of commands above that of the tokens serves as the greatest one, wherever commands go on: it is never reached.
+/// Any number of commands above that of the tokens serves as the greatest one, wherever commands go on: it is never
+/// reached.
 pub fn any_reserve_serves()
     ensures { AnyReserveServes }
+{}
+
+/// A quote names nothing in a style that a text spells.
+pub fn quote_names_nothing()
+    ensures { QuoteNamesNothing }
 {}
 
 /// Each function that needs no definition is found by its name, so no two have one name.
@@ -52,7 +58,8 @@ pub fn builtins_are_found_by_name()
     ensures { FoundByTheirNames }
 {}
 
-/// The function of a name has the place at which the name stands in the table; a name that doesn't stand there has none.
+/// The function of a name has the place at which the name stands in the table; a name that doesn't stand there is that of
+/// no function.
 pub fn builtins_are_found_at_their_places()
     ensures { FoundAtTheirPlaces }
 {}

@@ -56,7 +56,7 @@ fn command_word<'a>(cursor: &mut Cursor<'a>) -> Result<Option<(&'a [u8], usize)>
         Token::End(_) => Ok(None),
         Token::Open(line) | Token::Close(line) => Err(fault(FaultKind::StrayByte, line)),
         Token::Word(word, line) => Ok(Some((word, line))),
-        Token::Literal(_, line) | Token::Unclosed(line) | Token::Joined(line) => {
+        Token::Literal(_, line) | Token::Unclosed(line) | Token::Glued(line) => {
             Err(fault(FaultKind::UnknownCommand, line))
         }
     }

@@ -16,7 +16,7 @@ pub enum Token<'a> {
     Word(&'a [u8], usize),
     Literal(&'a [u8], usize),
     Unclosed(usize),
-    Joined(usize),
+    Glued(usize),
 }
 
 /// White space, a percent sign or a brace.
@@ -71,7 +71,7 @@ fn literal(behind: &[u8], line: usize) -> (Token<'_>, usize)
             if may_follow(rest) {
                 (Token::Literal(&behind[..length], line), length + 2)
             } else {
-                (Token::Joined(line), length + 2)
+                (Token::Glued(line), length + 2)
             }
         }
         _ => (Token::Unclosed(line), length + 1),
