@@ -125,9 +125,9 @@ new_name_is taken word line name h =
 are_kept : IsKept Good
 are_kept = record {
   named = λ names p word line name h g. (let new = new_name_is (is_taken p) word line name h in named_good names name p g new.0 new.1);
-  defined = λ p word line name body h g. same_fields p (with_function name body p) refl g;
-  macro = λ p name text g. same_fields p (with_macro name text p) refl g;
-  listed = λ p action line g. same_fields p (with_command action line p) refl g;
+  defined = λ p word line name tokens body rest h b g. same_fields p (with_function name body p) refl g;
+  macro = λ p word line name text h g. same_fields p (with_macro name text p) refl g;
+  listed = λ p action line acts g. same_fields p (with_command action line p) refl g;
 }
 
 pub fields_apart : (text : List ℕ) (p : Program) → style_of text ≡ Ok p → IsTrue (are_apart p.fields)

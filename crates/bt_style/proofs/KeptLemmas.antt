@@ -1,5 +1,6 @@
 -- What holds of a style before its first command, and is kept by each declaration, holds of it to the end.
-use Rattle.std.proofs.Common.{◌≡◌, ◌∙◌, ap, subst, ℕ, zero, suc, List, [], length, Option, Some, None, Result, Ok}
+use Rattle.std.proofs.Common.{◌≡◌, ◌∙◌, ap, subst, ℕ, zero, suc, List, [], ◌∷◌, length, Option, Some, None, Result, Ok, ◌<◌, ◌++◌, arith}
+use Rattle.std.proofs.lemmas.List.{length-append}
 use Rattle.bt_style.specs.declared.fault.Fault.{Fault}
 use Rattle.bt_style.specs.declared.names.Names.{Names}
 use Rattle.bt_style.specs.declared.names.Names.TheVariants.{Fields, EntryNumbers, EntryTexts, GlobalNumbers, GlobalTexts}
@@ -21,14 +22,21 @@ use Rattle.bt_style.specs.Bodies.{body_at}
 use Rattle.bt_style.specs.Verbs.{verb_named, verb_of, in_order, out_of_order, stage_after}
 use Rattle.bt_style.specs.Commands.{run_target, run_at, variables_at, arguments_at, command_at}
 use Rattle.bt_style.specs.Reader.{command_word, commands_at}
+use Rattle.bt_style.specs.Uses.{IsDeclared, NamesDeclared}
 use Rattle.bt_style.proofs.SpelledLemmas.{bind_ok, ok_same}
+use Rattle.bt_style.proofs.DeclaredLemmas.{run_within}
 
 -- what each declaration keeps
 pub record IsKept (P : Program → Type 0) : Type 0 where
   pub named : (names : Names) (p : Program) (word : List ℕ) (line : ℕ) (name : List ℕ) → new_name (is_taken p) word line ≡ Ok name → P p → P (with_name names name p)
-  pub defined : (p : Program) (word : List ℕ) (line : ℕ) (name : List ℕ) (body : Body) → new_name (is_taken p) word line ≡ Ok name → P p → P (with_function name body p)
-  pub macro : (p : Program) (name text : List ℕ) → P p → P (with_macro name text p)
-  pub listed : (p : Program) (action : Action) (line : ℕ) → P p → P (with_command action line p)
+  pub defined : (p : Program) (word : List ℕ) (line : ℕ) (name : List ℕ) (tokens : Tokens) (body : Body) (rest : Tokens) → new_name (is_taken p) word line ≡ Ok name →
+      body_at p [] [] tokens ≡ Ok (body, rest) → P p → P (with_function name body p)
+  pub macro : (p : Program) (word : List ℕ) (line : ℕ) (name text : List ℕ) → new_name (is_macro p) word line ≡ Ok name → P p → P (with_macro name text p)
+  pub listed : (p : Program) (action : Action) (line : ℕ) → NamesDeclared p action → P p → P (with_command action line p)
+
+-- the place behind a list is one of a longer list
+longer : {A : Type 0} (xs : List A) (x : A) → length xs < length (xs ++ x ∷ [])
+longer xs x = omega (arith, length-append xs (x ∷ []))
 
 names_keep : (P : Program → Type 0) → IsKept P → (names : Names) (p : Program) (tokens : Tokens) (x : Program × Tokens) → P p → names_at names p tokens ≡ Ok x → P x.0
 unfolding names_at
@@ -69,16 +77,18 @@ word_taken take tokens x h =
     let word = bind_ok (word_at inside.0) (λ word. take word.0.0 word.0.1 >>= λ value. close_at word.1 >>= λ rest. Ok (value, rest)) x inside.2 in
     record { word = word.0.0.0; line = word.0.0.1; is = taken_by (take word.0.0.0 word.0.0.1) word.0.1 x word.2 }
 
-run_keep : (P : Program → Type 0) → IsKept P → (action : Target → Action) (line : ℕ) (p : Program) (tokens : Tokens) (x : Program × Tokens) → P p → run_at action line p tokens ≡ Ok x → P x.0
-run_keep P k action line p tokens x g h =
+run_keep : (P : Program → Type 0) → IsKept P → (action : Target → Action) (line : ℕ) (p : Program) (tokens : Tokens) (x : Program × Tokens) →
+    ((t : Target) → IsDeclared p (length p.functions) t → NamesDeclared p (action t)) → P p → run_at action line p tokens ≡ Ok x → P x.0
+run_keep P k action line p tokens x acts g h =
     let target = bind_ok (braced_word (run_target p) tokens) (λ target. Ok (with_command (action target.0) line p, target.1)) x h in
-    last_keep P (with_command (action target.0.0) line p) target.0.1 x (k.listed p (action target.0.0) line g) target.2
+    let word = word_taken (run_target p) tokens target.0 target.1 in
+    last_keep P (with_command (action target.0.0) line p) target.0.1 x (k.listed p (action target.0.0) line (acts target.0.0 (run_within p word.word word.line target.0.0 word.is)) g) target.2
 
-variables_keep : (P : Program → Type 0) → IsKept P → (names : Names) (action : Action) (line : ℕ) (p : Program) (tokens : Tokens) (x : Program × Tokens) → P p →
-    variables_at names action line p tokens ≡ Ok x → P x.0
-variables_keep P k names action line p tokens x g h =
+variables_keep : (P : Program → Type 0) → IsKept P → (names : Names) (action : Action) (line : ℕ) (p : Program) (tokens : Tokens) (x : Program × Tokens) →
+    ((q : Program) → NamesDeclared q action) → P p → variables_at names action line p tokens ≡ Ok x → P x.0
+variables_keep P k names action line p tokens x acts g h =
     let declared = bind_ok (braced_names names p tokens) (λ declared. Ok (with_command action line declared.0, declared.1)) x h in
-    last_keep P (with_command action line declared.0.0) declared.0.1 x (k.listed declared.0.0 action line (braced_keep P k names p tokens declared.0 g declared.1)) declared.2
+    last_keep P (with_command action line declared.0.0) declared.0.1 x (k.listed declared.0.0 action line (acts declared.0.0) (braced_keep P k names p tokens declared.0 g declared.1)) declared.2
 
 entry_keeps : (P : Program → Type 0) → IsKept P → (line : ℕ) (p : Program) (tokens : Tokens) (x : Program × Tokens) → P p → arguments_at verbs.Entry line p tokens ≡ Ok x → P x.0
 unfolding arguments_at
@@ -87,7 +97,7 @@ entry_keeps P k line p tokens x g h =
     let numbers = bind_ok (braced_names EntryNumbers fields.0.0 fields.0.1) (λ numbers. variables_at EntryTexts actions.Entry line numbers.0 numbers.1) x fields.2 in
     let first = braced_keep P k Fields p tokens fields.0 g fields.1 in
     let second = braced_keep P k EntryNumbers fields.0.0 fields.0.1 numbers.0 first numbers.1 in
-    variables_keep P k EntryTexts actions.Entry line numbers.0.0 numbers.0.1 x second numbers.2
+    variables_keep P k EntryTexts actions.Entry line numbers.0.0 numbers.0.1 x (λ q. tt) second numbers.2
 
 function_keeps : (P : Program → Type 0) → IsKept P → (line : ℕ) (p : Program) (tokens : Tokens) (x : Program × Tokens) → P p → arguments_at verbs.Function line p tokens ≡ Ok x → P x.0
 unfolding arguments_at
@@ -98,7 +108,9 @@ function_keeps P k line p tokens x g h =
     let inside = bind_ok (open_at name.0.1) (λ inside. body_at p [] [] inside >>= λ body. Ok (made name.0.0 body.0, body.1)) x name.2 in
     let body = bind_ok (body_at p [] [] inside.0) (λ body. Ok (made name.0.0 body.0, body.1)) x inside.2 in
     let new = word_taken (new_name (is_taken p)) tokens name.0 name.1 in
-    last_keep P (made name.0.0 body.0.0) body.0.1 x (k.listed (with_function name.0.0 body.0.0 p) action line (k.defined p new.word new.line name.0.0 body.0.0 new.is g)) body.2
+    let acts = longer p.functions (record { name = name.0.0; body = body.0.0 }) in
+    last_keep P (made name.0.0 body.0.0) body.0.1 x
+    (k.listed (with_function name.0.0 body.0.0 p) action line acts (k.defined p new.word new.line name.0.0 inside.0 body.0.0 body.0.1 new.is body.1 g)) body.2
 
 macro_keeps : (P : Program → Type 0) → IsKept P → (line : ℕ) (p : Program) (tokens : Tokens) (x : Program × Tokens) → P p → arguments_at verbs.Macro line p tokens ≡ Ok x → P x.0
 unfolding arguments_at
@@ -109,20 +121,22 @@ macro_keeps P k line p tokens x g h =
     let inside = bind_ok (open_at name.0.1) (λ inside. literal_at inside >>= λ text. close_at text.1 >>= λ rest. Ok (made name.0.0 text.0, rest)) x name.2 in
     let text = bind_ok (literal_at inside.0) (λ text. close_at text.1 >>= λ rest. Ok (made name.0.0 text.0, rest)) x inside.2 in
     let rest = bind_ok (close_at text.0.1) (λ rest. Ok (made name.0.0 text.0.0, rest)) x text.2 in
-    last_keep P (made name.0.0 text.0.0) rest.0 x (k.listed (with_macro name.0.0 text.0.0 p) action line (k.macro p name.0.0 text.0.0 g)) rest.2
+    let new = word_taken (new_name (is_macro p)) tokens name.0 name.1 in
+    let acts = longer p.macros (record { name = name.0.0; text = text.0.0 }) in
+    last_keep P (made name.0.0 text.0.0) rest.0 x (k.listed (with_macro name.0.0 text.0.0 p) action line acts (k.macro p new.word new.line name.0.0 text.0.0 new.is g)) rest.2
 
 arguments_keep : (P : Program → Type 0) → IsKept P → (verb : Verb) (line : ℕ) (p : Program) (tokens : Tokens) (x : Program × Tokens) → P p → arguments_at verb line p tokens ≡ Ok x → P x.0
 unfolding arguments_at
 arguments_keep P k verbs.Entry line p tokens x g h = entry_keeps P k line p tokens x g h
-arguments_keep P k verbs.Execute line p tokens x g h = run_keep P k actions.Execute line p tokens x g h
+arguments_keep P k verbs.Execute line p tokens x g h = run_keep P k actions.Execute line p tokens x (λ t d. d) g h
 arguments_keep P k verbs.Function line p tokens x g h = function_keeps P k line p tokens x g h
-arguments_keep P k verbs.Integers line p tokens x g h = variables_keep P k GlobalNumbers actions.Integers line p tokens x g h
-arguments_keep P k verbs.Iterate line p tokens x g h = run_keep P k actions.Iterate line p tokens x g h
+arguments_keep P k verbs.Integers line p tokens x g h = variables_keep P k GlobalNumbers actions.Integers line p tokens x (λ q. tt) g h
+arguments_keep P k verbs.Iterate line p tokens x g h = run_keep P k actions.Iterate line p tokens x (λ t d. d) g h
 arguments_keep P k verbs.Macro line p tokens x g h = macro_keeps P k line p tokens x g h
-arguments_keep P k verbs.Read line p tokens x g h = last_keep P (with_command actions.Read line p) tokens x (k.listed p actions.Read line g) h
-arguments_keep P k verbs.Reverse line p tokens x g h = run_keep P k actions.Reverse line p tokens x g h
-arguments_keep P k verbs.Sort line p tokens x g h = last_keep P (with_command actions.Sort line p) tokens x (k.listed p actions.Sort line g) h
-arguments_keep P k verbs.Strings line p tokens x g h = variables_keep P k GlobalTexts actions.Strings line p tokens x g h
+arguments_keep P k verbs.Read line p tokens x g h = last_keep P (with_command actions.Read line p) tokens x (k.listed p actions.Read line tt g) h
+arguments_keep P k verbs.Reverse line p tokens x g h = run_keep P k actions.Reverse line p tokens x (λ t d. d) g h
+arguments_keep P k verbs.Sort line p tokens x g h = last_keep P (with_command actions.Sort line p) tokens x (k.listed p actions.Sort line tt g) h
+arguments_keep P k verbs.Strings line p tokens x g h = variables_keep P k GlobalTexts actions.Strings line p tokens x (λ q. tt) g h
 
 behind_arguments : (P : Program → Type 0) (later : Stage) (r : Result (Program × Tokens) Fault) (x : Stage × Program × Tokens) → ((y : Program × Tokens) → r ≡ Ok y → P y.0) →
     (r >>= λ next. Ok (later, next.0, next.1)) ≡ Ok x → P x.1

@@ -5,7 +5,10 @@ pub mod CommandLemmas
 pub mod NameLemmas
 mod BuiltinLemmas
 pub mod SpelledLemmas
+pub mod DeclaredLemmas
 pub mod KeptLemmas
+pub mod UsesLemmas
+pub mod MeaningLemmas
 pub mod ApartLemmas
 pub mod ReadBackLemmas
 pub mod PresetLemmas
@@ -20,7 +23,7 @@ pub mod CutLemmas
 pub mod TextLemmas
 mod FaultRows
 mod StyleRows
-mod TextRows
+mod LawRows
 pub mod ReachLemmas
 pub mod FoundLemmas
 pub mod SearchLemmas

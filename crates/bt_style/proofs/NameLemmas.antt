@@ -112,7 +112,7 @@ meaning_declared GlobalTexts name q p h =
     (option_map targets.Function (place_in (function_names p) q) ∷ [])
     targets.GlobalText p.global_texts name q (free_alike p name q h)
 
-length_names : (fs : List Definition) → length (map (λ f. f.name) fs) ≡ length fs
+pub length_names : (fs : List Definition) → length (map (λ f. f.name) fs) ≡ length fs
 length_names [] = refl
 length_names (f ∷ fs) = ap (λ n. suc n) (length_names fs)
 
@@ -129,7 +129,7 @@ meaning_defined name q body p h =
     ∙ slot us [] targets.Function (function_names p) name q (free_alike p name q h)
     ∙ ap (λ (n : ℕ). cond (bytes_eq name q) (Some (targets.Function n)) (first_some (us ++ option_map targets.Function (place_in (function_names p) q) ∷ []))) (length_names p.functions)
 
-length_macros : (ms : List Macro) → length (map (λ m. m.name) ms) ≡ length ms
+pub length_macros : (ms : List Macro) → length (map (λ m. m.name) ms) ≡ length ms
 length_macros [] = refl
 length_macros (m ∷ ms) = ap (λ n. suc n) (length_macros ms)
 

@@ -88,9 +88,9 @@ pub quoteless_kept : IsKept Quoteless
 unfolding meaning
 quoteless_kept = record {
   named = λ names p word line name h q. named names p name (new (is_taken p) word line name h) q;
-  defined = λ p word line name body h q. defined p name body (new (is_taken p) word line name h) q;
-  macro = λ p name text q. q;
-  listed = λ p action line q. q;
+  defined = λ p word line name tokens body rest h b q. defined p name body (new (is_taken p) word line name h) q;
+  macro = λ p word line name text h q. q;
+  listed = λ p action line acts q. q;
 }
 
 pub preset_quoteless : Quoteless preset

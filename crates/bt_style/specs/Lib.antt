@@ -18,4 +18,5 @@ pub mod Reader
 pub mod Apart
 pub mod Numbers
 pub mod Reach
+pub mod Uses
 pub mod Laws

@@ -5,9 +5,10 @@ ghost use Rattle.bt_style.specs.Program.{Program};
 ghost use Rattle.bt_style.specs.Tree.{Body};
 ghost use Rattle.bt_style.specs.Token.{Tokens};
 ghost use Rattle.bt_style.specs.Bodies.{body_at};
-ghost use Rattle.bt_style.specs.Apart.{FieldsAreApart};
+ghost use Rattle.bt_style.specs.Apart.{EachNameIsFound, FieldsAreApart};
 ghost use Rattle.bt_style.specs.Builtins.{StandInTheirPlaces};
 ghost use Rattle.bt_style.specs.Laws.{AnyReserveServes, FaultIsFirst, FaultIsFirstInItsText, FoundAtTheirPlaces, FoundByTheirNames, QuoteNamesNothing};
+ghost use Rattle.bt_style.specs.Uses.{NamesComeFirst};
 ghost use Rattle.bt_style.specs.Spelled.{SpellsBody, depth_of};
 
 /// The body that is read from tokens is one that they spell, by the grammar of bodies.
@@ -23,6 +24,18 @@ pub fn spelled_bodies_are_read()
 /// No two fields of a style that a text spells match, without regard to case.
 pub fn fields_are_apart()
     ensures { FieldsAreApart }
+{}
+
+/// Each name of a style that a text spells stands for what was declared by it. So no two fields, variables and functions
+/// have one name, none has that of a built-in function, and no two macros have one name.
+pub fn each_name_is_found()
+    ensures { EachNameIsFound }
+{}
+
+/// Each name in the body of a function of a style that a text spells is declared, and stands for no function from this one
+/// on; each name of a command is declared. So no function comes to itself, but through `call.type$`.
+pub fn names_come_first()
+    ensures { NamesComeFirst }
 {}
 
 /// Each function that needs no definition stands in the table at its place, with its name.

@@ -1,10 +1,16 @@
--- Worked examples of where a first fault stands in its text, computed; of places in the table, and of reserves.
-use Rattle.std.proofs.Common.{◌≡◌, ℕ, List, [], ◌∷◌, ◌++◌, map, Some, None, Err, refl, codes, true, is_ok}
+-- Worked examples of the laws of styles, computed: where a first fault stands in its text, what names stand for, places in the table.
+use Rattle.std.proofs.Common.{◌≡◌, ℕ, List, [], ◌∷◌, ◌++◌, map, Some, None, Err, refl, codes, true, is_ok, Result, Option, Ok}
 use Rattle.std.specs.Option.{option_map}
 use Rattle.bt_style.specs.declared.fault.FaultKind.TheVariants.{UnknownName, UnclosedBrace, StrayByte}
 use Rattle.bt_style.specs.Builtins.{table, place_of}
-use Rattle.bt_style.specs.Names.{builtin_named, place_in}
+use Rattle.bt_style.specs.Names.{builtin_named, place_in, meaning}
 use Rattle.bt_style.specs.Token.{Word, Glued, piece_at, literal_piece}
+use Rattle.bt_style.specs.declared.fault.Fault.{Fault}
+use Rattle.bt_style.specs.declared.builtin.Builtin.TheVariants.{Skip}
+use Rattle.bt_style.specs.declared.style.Target.{Target}
+use Rattle.bt_style.specs.declared.style.Target.TheVariants as targets
+use Rattle.bt_style.specs.Program.{Program}
+use Rattle.bt_style.specs.Reach.{body_names}
 use Rattle.bt_style.specs.Laws.{StandsInFront}
 use Rattle.bt_style.proofs.FaultRows.{spelled}
 
@@ -68,3 +74,26 @@ last_place = refl
 no_place : place_in (map (λ row. row.name) table) (codes "entry.max$") ≡ None
 unfolding table
 no_place = refl
+
+-- the names in the bodies of a style's functions
+abbrev names_in : Result Program Fault → List (List Target)
+names_in (Ok p) = map (λ f. body_names f.body) p.functions
+names_in (Err f) = []
+
+earlier_functions : names_in (spelled (codes "FUNCTION {g} {}\nFUNCTION {f} {g {'g skip$}}"))
+    ≡ [] ∷ (targets.Function 0 ∷ targets.Function 0 ∷ targets.Builtin Skip ∷ []) ∷ []
+unfolding spelled
+earlier_functions = refl
+
+-- what a name stands for in a style
+abbrev found_in : Result Program Fault → List ℕ → Option Target
+found_in (Ok p) name = meaning p name
+found_in (Err f) name = None
+
+a_field : found_in (spelled (codes "ENTRY {title}{n}{}")) (codes "title") ≡ Some (targets.Field 1)
+unfolding spelled meaning builtin_named table
+a_field = refl
+
+an_entry_number : found_in (spelled (codes "ENTRY {title}{n}{}")) (codes "n") ≡ Some (targets.EntryNumber 0)
+unfolding spelled meaning builtin_named table
+an_entry_number = refl

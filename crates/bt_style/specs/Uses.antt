@@ -1,0 +1,38 @@
+-- What the functions and commands of a style may name: what is declared before them.
+use Rattle.std.specs.Prelude.{◌≡◌, ℕ, ◌<◌, List, length, Some, All, Ok, slice_get}
+use Rattle.bt_style.specs.declared.style.Target.{Target}
+use Rattle.bt_style.specs.declared.style.Target.TheVariants as targets
+use Rattle.bt_style.specs.declared.style.Action.{Action}
+use Rattle.bt_style.specs.declared.style.Action.TheVariants as actions
+use Rattle.bt_style.specs.Program.{Program, Definition}
+use Rattle.bt_style.specs.Reach.{body_names}
+use Rattle.bt_style.specs.Reader.{style_of}
+
+-- what a name stands for is declared, where so many functions are defined
+abbrev pub IsDeclared : Program → ℕ → Target → Type 0
+IsDeclared p functions (targets.Builtin b) = Unit {0}
+IsDeclared p functions (targets.Field n) = n < length p.fields
+IsDeclared p functions (targets.EntryNumber n) = n < length p.entry_numbers
+IsDeclared p functions (targets.EntryText n) = n < length p.entry_texts
+IsDeclared p functions (targets.GlobalNumber n) = n < length p.global_numbers
+IsDeclared p functions (targets.GlobalText n) = n < length p.global_texts
+IsDeclared p functions (targets.Function n) = n < functions
+
+-- what a command names is declared
+abbrev pub NamesDeclared : Program → Action → Type 0
+NamesDeclared p (actions.Execute t) = IsDeclared p (length p.functions) t
+NamesDeclared p (actions.Iterate t) = IsDeclared p (length p.functions) t
+NamesDeclared p (actions.Reverse t) = IsDeclared p (length p.functions) t
+NamesDeclared p (actions.Function n) = n < length p.functions
+NamesDeclared p (actions.Macro n) = n < length p.macros
+NamesDeclared p _ = Unit {0}
+
+-- Each name in the body of a function, called or quoted, inner braces too, is declared, and none stands for this function or
+-- one behind it.
+pub record UsesDeclared (p : Program) : Type 0 where
+  pub bodies : (n : ℕ) (f : Definition) → slice_get p.functions n ≡ Some f → All (IsDeclared p n) (body_names f.body)
+  pub commands : All (λ c. NamesDeclared p c.action) p.commands
+
+-- So no function of a style that a text spells comes to itself, by names in bodies alone: without `call.type$` none recurs.
+abbrev pub NamesComeFirst : Type 0
+NamesComeFirst = (text : List ℕ) (p : Program) → style_of text ≡ Ok p → UsesDeclared p
