@@ -1,18 +1,23 @@
 -- The laws of the items of a text.
 use Rattle.std.specs.Prelude.{nat_lt, ◌==◌, ◌||◌}
-use Rattle.std.proofs.Common.{◌≡◌, ℕ, ◌+◌, ◌-◌, ◌<◌, ◌≤◌, Bool, true, false, cond, List, [], ◌∷◌, ◌++◌, length, take, drop, map, refl, sym, ap, subst, ◌∙◌, arith}
+use Rattle.std.proofs.Common.{◌≡◌, ℕ, suc, ◌+◌, ◌-◌, ◌<◌, ◌≤◌, Bool, true, false, cond, List, [], ◌∷◌, ◌++◌, length, take, drop, map, refl, sym, ap, subst, ◌∙◌, arith}
 use Rattle.std.proofs.lemmas.List.{map-append}
 use Rattle.std.proofs.lemmas.Bool.{lt-ltb, ne_eqb, ltb-false, false≢true}
 use Rattle.bt_bib.specs.declared.spot.Spot.{Spot}
 use Rattle.bt_bib.specs.declared.item.Piece.{Piece}
 use Rattle.bt_bib.specs.declared.item.Piece.TheVariants as pieces
 use Rattle.bt_bib.specs.Spot.{at, here, start}
-use Rattle.bt_bib.specs.Reading.{pieces_from, pieces_of}
+use Rattle.bt_bib.specs.Values.{joined}
+use Rattle.bt_bib.specs.Fields.{next_field}
+use Rattle.bt_bib.specs.Reading.{next_one, pieces_from, pieces_of}
 use Rattle.bt_bib.specs.Moved.{moved}
 use Rattle.bt_bib.specs.Boundaries.{end_place, last_end, below, Rises}
-use Rattle.bt_bib.specs.Laws.{offset, RestIsMoved, BoundaryStays, FaultIsFinal}
+use Rattle.bt_bib.specs.Laws.{offset, RestIsMoved, BoundaryStays, FaultIsFinal, AnyReserveServes}
 use Rattle.bt_bib.proofs.RunLemmas.{same_spot}
 use Rattle.bt_bib.proofs.ReachLemmas.{Reaches}
+use Rattle.bt_bib.proofs.ManyLemmas.{many_same}
+use Rattle.bt_bib.proofs.FieldLemmas.{joined_less, next_field_less}
+use Rattle.bt_bib.proofs.PieceLemmas.{next_piece_less}
 use Rattle.bt_bib.proofs.BoundaryLemmas.{rest_law, rest_reached, moved_law}
 use Rattle.bt_bib.proofs.KeptLemmas.{kept_law}
 use Rattle.bt_bib.proofs.RiseLemmas.{spans_rise, one_of, none_there}
@@ -93,3 +98,8 @@ fault_is_final text other front back i f is fault same =
     let law : pieces_of other ≡ kept ++ rest = kept_law text other start limit agree in
     let kept_is : kept ≡ front ++ p ∷ below limit back = ap (below limit) is ∙ below_front (length text) 0 front p back (subst (Rises (length text) 0) is (spans_rise text)) in
     (below limit back ++ rest, law ∙ ap (λ l. l ++ rest) kept_is ∙ append_cons front p (below limit back) rest)
+
+pub any_reserve_serves : AnyReserveServes
+any_reserve_serves close reserve h lt =
+    let enough : length h.rest < suc (length h.rest) = omega arith in
+    (many_same (joined close) (joined_less close) reserve (suc (length h.rest)) h lt enough, many_same (next_field close) (next_field_less close) reserve (suc (length h.rest)) h lt enough, many_same next_one next_piece_less reserve (suc (length h.rest)) h lt enough)

@@ -31,3 +31,10 @@ pub mod FitValueLemmas
 pub mod FitFieldLemmas
 pub mod FitItemLemmas
 pub mod FirstLemmas
+pub mod SpellingLemmas
+pub mod SpelledTextLemmas
+pub mod SpelledValueLemmas
+pub mod SpelledFieldLemmas
+pub mod SpelledItemLemmas
+pub mod SpelledDatabaseLemmas
+mod SpelledRows

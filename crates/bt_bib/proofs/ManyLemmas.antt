@@ -26,7 +26,7 @@ by_same {A = A} f g h (Ok (Some a, e)) lt k = ap (λ (x : List A × Result Here 
 by_same {A = A} f g h (Ok (None, e)) lt k = refl
 by_same {A = A} f g h (Err stop) lt k = refl
 
-many_same : {A : Type 0} (next : Here → Result (Option A × Here) Stop) → ((h : Here) → IsLess h (next h)) → (m n : ℕ) (h : Here) → length h.rest < m → length h.rest < n → many next m h ≡ many next n h
+pub many_same : {A : Type 0} (next : Here → Result (Option A × Here) Stop) → ((h : Here) → IsLess h (next h)) → (m n : ℕ) (h : Here) → length h.rest < m → length h.rest < n → many next m h ≡ many next n h
 unfolding many
 many_same next less zero n h a b = absurd (omega arith)
 many_same next less (suc m) zero h a b = absurd (omega arith)

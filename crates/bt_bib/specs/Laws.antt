@@ -3,6 +3,7 @@ use Rattle.std.specs.Prelude.{◌≡◌, ℕ, ◌+◌, ◌-◌, ◌<◌, ◌≤�
 use Rattle.std.specs.List.{list_all}
 use Rattle.bt_bib.specs.declared.spot.Spot.{Spot}
 use Rattle.bt_bib.specs.declared.fault.Fault.{Fault}
+use Rattle.bt_bib.specs.declared.item.Closing.{Closing}
 use Rattle.bt_bib.specs.declared.item.Part.{Part}
 use Rattle.bt_bib.specs.declared.item.Part.TheVariants.{Text, Macro}
 use Rattle.bt_bib.specs.declared.item.Field.{Field}
@@ -11,8 +12,11 @@ use Rattle.bt_bib.specs.declared.item.Content.TheVariants as contents
 use Rattle.bt_bib.specs.declared.item.Item.{Item}
 use Rattle.bt_bib.specs.declared.item.Piece.{Piece}
 use Rattle.bt_bib.specs.declared.item.Piece.TheVariants as pieces
-use Rattle.bt_bib.specs.Spot.{start}
-use Rattle.bt_bib.specs.Reading.{pieces_of, bib_items}
+use Rattle.bt_bib.specs.Spot.{Here, start}
+use Rattle.bt_bib.specs.Many.{many, all}
+use Rattle.bt_bib.specs.Values.{joined}
+use Rattle.bt_bib.specs.Fields.{next_field}
+use Rattle.bt_bib.specs.Reading.{next_one, pieces_of, bib_items}
 use Rattle.bt_bib.specs.Moved.{moved_piece}
 use Rattle.bt_bib.specs.Boundaries.{last_end, Rises}
 use Rattle.bt_bib.specs.Splice.{is_boundary, IsSplice}
@@ -80,3 +84,7 @@ SpansRise = (text : List ℕ) → Rises (length text) 0 (pieces_of text)
 
 abbrev pub LinesLieInside : Type 0
 LinesLieInside = (text : List ℕ) → All LinesLieIn (bib_items text)
+
+-- Any number of readings above that of the bytes serves as well as the one that the definitions take: it is never reached.
+abbrev pub AnyReserveServes : Type 0
+AnyReserveServes = (close : Closing) (reserve : ℕ) (h : Here) → length h.rest < reserve → (many (joined close) reserve h ≡ all (joined close) h) × (many (next_field close) reserve h ≡ all (next_field close) h) × (many next_one reserve h ≡ all next_one h)

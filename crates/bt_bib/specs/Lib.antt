@@ -19,3 +19,6 @@ pub mod Rereading
 pub mod Moving
 pub mod Placed
 pub mod Laws
+pub mod Spelling
+pub mod Spelled
+pub mod SpelledLaws

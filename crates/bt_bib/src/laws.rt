@@ -1,6 +1,7 @@
 //! Laws of the items of a text. The functions do nothing: what they promise is about the definitions alone.
 
-ghost use Rattle.bt_bib.specs.Laws.{BoundaryStays, FaultIsFinal, FaultIsFirst, LinesLieInside, RestIsMoved, SpansRise};
+ghost use Rattle.bt_bib.specs.Laws.{AnyReserveServes, BoundaryStays, FaultIsFinal, FaultIsFirst, LinesLieInside, RestIsMoved, SpansRise};
+ghost use Rattle.bt_bib.specs.SpelledLaws.{EnclosedTextsAreRead, SpelledDatabasesAreRead, SpelledFieldsAreRead, SpelledItemsAreRead, SpelledPartsAreRead, SpelledValuesAreRead};
 
 /// From a boundary on, the items of a text are those of its rest, moved.
 pub fn rest_is_moved()
@@ -30,4 +31,39 @@ pub fn spans_rise()
 /// The lines of an item's key or name, fields and macros lie from that of its beginning to that of its end.
 pub fn lines_lie_inside()
     ensures { LinesLieInside }
+{}
+
+/// What may stand between braces or quotes is read as its bytes, up to the sign that closes it.
+pub fn enclosed_texts_are_read()
+    ensures { EnclosedTextsAreRead }
+{}
+
+/// A part of a value that a text spells is read as that part.
+pub fn spelled_parts_are_read()
+    ensures { SpelledPartsAreRead }
+{}
+
+/// A value that a text spells is read as its parts.
+pub fn spelled_values_are_read()
+    ensures { SpelledValuesAreRead }
+{}
+
+/// A field that a text spells is read as that field.
+pub fn spelled_fields_are_read()
+    ensures { SpelledFieldsAreRead }
+{}
+
+/// An item that a text spells is read as that item, without a fault.
+pub fn spelled_items_are_read()
+    ensures { SpelledItemsAreRead }
+{}
+
+/// A text that spells items and comments is read as these, one after the other, and no fault is found.
+pub fn spelled_databases_are_read()
+    ensures { SpelledDatabasesAreRead }
+{}
+
+/// Any number of readings above that of the bytes left serves the definitions as well: it is never reached.
+pub fn any_reserve_serves()
+    ensures { AnyReserveServes }
 {}

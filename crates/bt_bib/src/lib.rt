@@ -33,7 +33,10 @@ pub use item::{Closing, Content, Definition, Entry, Field, Item, Part, Piece};
 pub use items::Items;
 pub use kept_items::KeptItems;
 pub use laws::{
-    boundary_stays, fault_is_final, fault_is_first, lines_lie_inside, rest_is_moved, spans_rise,
+    any_reserve_serves, boundary_stays, enclosed_texts_are_read, fault_is_final, fault_is_first,
+    lines_lie_inside, rest_is_moved, spans_rise, spelled_databases_are_read,
+    spelled_fields_are_read, spelled_items_are_read, spelled_parts_are_read,
+    spelled_values_are_read,
 };
 pub use meter::ReadMeter;
 pub use placed::PlacedPiece;
