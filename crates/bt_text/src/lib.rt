@@ -39,7 +39,7 @@ pub use cutting::{substring, text_prefix};
 pub use depth::{balanced, depth_behind, depth_of};
 pub use folding::{eq_ignore_ascii_case, to_ascii_lowercase};
 pub use held::{Held, HeldFault, TEXT_BYTES};
-pub use laws::pieces_make_up_the_text;
+pub use laws::{any_reserve_serves, pieces_make_up_the_text};
 pub use length::text_length;
 pub use modes::Mode;
 pub use name_bytes::{is_name, is_name_byte, name_len};
