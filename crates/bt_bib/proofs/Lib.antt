@@ -38,3 +38,7 @@ pub mod SpelledFieldLemmas
 pub mod SpelledItemLemmas
 pub mod SpelledDatabaseLemmas
 mod SpelledRows
+pub mod FaultlessTextLemmas
+pub mod FaultlessFieldLemmas
+pub mod FaultlessItemLemmas
+pub mod FaultlessDatabaseLemmas

@@ -58,7 +58,7 @@ equated what n V h k starts x =
     }
 
 -- a field, and the white space behind it
-abbrev with_value : ℕ → List ℕ → List Part × Here → Result (Field × Here) Stop
+abbrev pub with_value : ℕ → List ℕ → List Part × Here → Result (Field × Here) Stop
 with_value line n v = Ok (record { name = n; line = line; value = v.0 }, v.1)
 
 abbrev equal_value : Closing → ℕ → List ℕ → Here → Result (Field × Here) Stop
@@ -112,7 +112,7 @@ fields_start close [] = starts_or (IsOne (value_ends close)) (Sign (closing_sign
 fields_start close (f ∷ fs) = comma_starts close (White ▸ FieldOf f ⋯ FieldsOf close fs)
 
 -- the closing sign ends the fields
-abbrev one_field : Closing → Here → Result (Option Field × Here) Stop
+abbrev pub one_field : Closing → Here → Result (Option Field × Here) Stop
 one_field close w = field close w >>= λ x. Ok (Some x.0, x.1)
 
 close_read : (close : Closing) (w : Here) → field_or_close close w (Some (closing_sign close)) ≡ Ok (None, behind w)

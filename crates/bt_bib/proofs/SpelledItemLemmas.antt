@@ -178,7 +178,7 @@ headed keyword text close A h k starts x =
 
 -- Items
 
-abbrev ended_at : Spot → Spot → ℕ → Content → Closing → Item
+abbrev pub ended_at : Spot → Spot → ℕ → Content → Closing → Item
 ended_at start end line content close = record { start = start; end = end; line = line; content = content; close = Some close; fault = None }
 
 ends_white : (close : Closing) (b : ℕ) → IsOne (value_ends close) b → is_white b ≡ false
@@ -228,7 +228,7 @@ closed_starts close ps = starts_both (Fails is_white) (ValueOf ps) (White ▸ Si
 abbrev string_by : Closing → Result (List ℕ × Here) Stop → Result (List Part × Here) Stop → Definition × Result Here Stop
 string_by close named valued = (record { name = given named; value = given valued }, valued >>= λ v. closed close v.1)
 
-abbrev valued_by : Closing → Result (List ℕ × Here) Stop → Result (List Part × Here) Stop
+abbrev pub valued_by : Closing → Result (List ℕ × Here) Stop → Result (List Part × Here) Stop
 valued_by close named = named >>= λ n. sign 61 ExpectedEquals (white n.1) >>= λ equals. value close (white equals)
 
 string_to : (text n : List ℕ) (ps : List Part) (close : Closing) (line : ℕ) (h k : Here) → Stands (Head keywords.String text close (OnLine line (NameOf n ⋯ Sign 61 ⋯ ValueOf ps ⋯ Sign (closing_sign close)))) h k →

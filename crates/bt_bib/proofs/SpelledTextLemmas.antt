@@ -18,11 +18,11 @@ or_neither : (a b : Bool) → (a || b) ≡ false → (a ≡ false) × (b ≡ fal
 or_neither true b h = absurd (false≢true (sym h))
 or_neither false b h = (refl, h)
 
-and_none : (v : Bool) → (v && false) ≡ false
+pub and_none : (v : Bool) → (v && false) ≡ false
 and_none true = refl
 and_none false = refl
 
-not_none : (d : ℕ) → (suc d == 0) ≡ false
+pub not_none : (d : ℕ) → (suc d == 0) ≡ false
 not_none d = ne_eqb (suc d) 0 (λ e. omega arith)
 
 -- what a byte that is no brace does, and what braces do, between braces and at the top

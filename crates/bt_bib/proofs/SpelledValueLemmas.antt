@@ -53,7 +53,7 @@ enclosed_at closing text other s t rest (Written is) tail e =
     ap (λ r. enclosed closing (at s (text ++ r))) e ∙ enclosed_texts_are_read closing s text tail other is ∙ ap (λ r. Ok (text, at (passed text s) r)) (sym e)
 
 -- a part whose text was read, behind its closing sign
-abbrev text_part : List ℕ × Here → Result (Part × Here) Stop
+abbrev pub text_part : List ℕ × Here → Result (Part × Here) Stop
 text_part x = Ok (Text x.0, behind x.1)
 
 -- a text with its signs
@@ -167,10 +167,10 @@ value_starts [] = λ s text x. absurd x
 value_starts (p ∷ ps) = parts_start p ps
 
 -- the parts from here on behind some others
-abbrev parts_from : Closing → List Part → Here → Result (List Part × Here) Stop
+abbrev pub parts_from : Closing → List Part → Here → Result (List Part × Here) Stop
 parts_from close front h = collected front (all (joined close) h)
 
-one_more : (close : Closing) (front : List Part) (h : Here) (r : Result (Part × Here) Stop) → joined close h ≡ (r >>= λ x. Ok (Some x.0, x.1)) → parts_from close front h ≡ (r >>= λ x. parts_from close (front ++ x.0 ∷ []) x.1)
+pub one_more : (close : Closing) (front : List Part) (h : Here) (r : Result (Part × Here) Stop) → joined close h ≡ (r >>= λ x. Ok (Some x.0, x.1)) → parts_from close front h ≡ (r >>= λ x. parts_from close (front ++ x.0 ∷ []) x.1)
 one_more close front h (Ok (p, k)) is = ap read_out (sym (gathers_more (joined close) (joined_less close) front p h k is))
 one_more close front h (Err stop) is = ap read_out (gathers_err (joined close) (joined_less close) front h stop is)
 
@@ -178,7 +178,7 @@ joined_at : (close : Closing) (h : Here) → first h.rest ≡ Some 35 → joined
 unfolding joined
 joined_at close h is = ap (joined_from close h) is
 
-abbrev another : Closing → Here → Result (Option Part × Here) Stop
+abbrev pub another : Closing → Here → Result (Option Part × Here) Stop
 another close w = part close w >>= λ x. Ok (Some x.0, x.1)
 
 unsharp : (close : Closing) → FailsAll (λ b. b == 35) (value_ends close)

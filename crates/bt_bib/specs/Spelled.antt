@@ -71,7 +71,8 @@ is_number (b ∷ rest) = is_digit b && list_all is_digit rest
 
 -- a part of a value
 abbrev pub PartOf : Part → Spelling
-PartOf (Text text) = Enclosed left_brace right_brace text or Enclosed quote quote text or Bytes text (is_number text ≡ true)
+PartOf (Text text) =
+    Enclosed left_brace right_brace text or Enclosed quote quote text or Bytes text (is_number text ≡ true)
 PartOf (Macro name line) = OnLine line (NameOf name)
 
 -- a part, and others behind it
@@ -105,7 +106,8 @@ EndsKey close (b ∷ rest) = is_key_byte close b ≡ false
 -- A key and what stands behind it. An empty key has no white space behind it: what there is stands before it.
 abbrev pub Keyed : Closing → List ℕ → Spelling → Spelling
 Keyed close [] A = Provided (EndsKey close) A
-Keyed close (b ∷ key) A = Bytes (b ∷ key) (list_all (is_key_byte close) (b ∷ key) ≡ true) ▸ Provided (EndsKey close) (White ▸ A)
+Keyed close (b ∷ key) A =
+    Bytes (b ∷ key) (list_all (is_key_byte close) (b ∷ key) ≡ true) ▸ Provided (EndsKey close) (White ▸ A)
 
 -- a word behind `@` that begins such a piece
 abbrev pub IsWord : Keyword → List ℕ → Type 0
@@ -120,7 +122,8 @@ Head keyword word close A = Sign at_sign ⋯ Bytes word (IsWord keyword word) �
 
 -- an item without a fault that this text is, where it stands here
 abbrev pub whole : Spot → List ℕ → ℕ → Content → Closing → Item
-whole s text line content close = record { start = s; end = passed text s; line = line; content = content; close = Some close; fault = None }
+whole s text line content close =
+    record { start = s; end = passed text s; line = line; content = content; close = Some close; fault = None }
 
 -- an item: its line is that of the key, of the name that a string defines, or of the `@` of a preamble
 pub data ItemOf : Item → Spot → List ℕ → Type 0 where
@@ -128,7 +131,8 @@ pub data ItemOf : Item → Spot → List ℕ → Type 0 where
       Head keywords.Entry kind close (OnLine line (Keyed close key (FieldsOf close fields))) s text →
       ItemOf (whole s text line (contents.Entry (record { kind = Some kind; key = Some key; fields = fields })) close) s text
   AString : {s : Spot} {text : List ℕ} {line : ℕ} {word name : List ℕ} {value : List Part} {close : Closing} →
-      Head keywords.String word close (OnLine line (NameOf name ⋯ Sign equals_sign ⋯ ValueOf value ⋯ Sign (closing_sign close))) s text →
+      Head keywords.String word close
+      (OnLine line (NameOf name ⋯ Sign equals_sign ⋯ ValueOf value ⋯ Sign (closing_sign close))) s text →
       ItemOf (whole s text line (contents.Define (record { name = Some name; value = Some value })) close) s text
   APreamble : {s : Spot} {text : List ℕ} {word : List ℕ} {value : List Part} {close : Closing} →
       Head keywords.Preamble word close (ValueOf value ⋯ Sign (closing_sign close)) s text →
@@ -140,7 +144,8 @@ Skipped s text = list_all is_text text ≡ true
 
 -- `@comment` from one spot to another, and what stands behind it
 abbrev pub Commented : Spot → Spot → Spelling → Spelling
-Commented start end A = From start (Sign at_sign ⋯ WordOf keywords.Comment ▸ From end (Provided (MayEndName (codes "{(")) A))
+Commented start end A =
+    From start (Sign at_sign ⋯ WordOf keywords.Comment ▸ From end (Provided (MayEndName (codes "{(")) A))
 
 -- a whole text
 abbrev pub DatabaseOf : List Piece → Spelling

@@ -1,5 +1,5 @@
 -- What is read of a text that spells something is what it spells, and no fault is found in it.
-use Rattle.std.specs.Prelude.{◌≡◌, ℕ, false, ◌==◌, List, [], ◌∷◌, ◌++◌, Ok}
+use Rattle.std.specs.Prelude.{◌≡◌, ℕ, false, ◌==◌, List, [], ◌∷◌, ◌++◌, Ok, None, All}
 use Rattle.bt_text.specs.ByteTests.{left_brace}
 use Rattle.bt_bib.specs.declared.spot.Spot.{Spot}
 use Rattle.bt_bib.specs.declared.item.Closing.{Closing}
@@ -20,26 +20,43 @@ use Rattle.bt_bib.specs.Spelled.{PartOf, ValueOf, FieldOf, ItemOf, DatabaseOf}
 
 -- What may stand before a closing sign is read up to it.
 abbrev pub EnclosedTextsAreRead : Type 0
-EnclosedTextsAreRead = (close : ℕ) (s : Spot) (text rest : List ℕ) → (close == left_brace) ≡ false → IsEnclosed close text → enclosed close (at s (text ++ close ∷ rest)) ≡ Ok (text, at (passed text s) (close ∷ rest))
+EnclosedTextsAreRead = (close : ℕ) (s : Spot) (text rest : List ℕ) →
+    (close == left_brace) ≡ false → IsEnclosed close text →
+    enclosed close (at s (text ++ close ∷ rest)) ≡ Ok (text, at (passed text s) (close ∷ rest))
 
 -- A part and the white space behind it, in front of a `#`, a comma or the closing sign, are read as that part.
 abbrev pub SpelledPartsAreRead : Type 0
-SpelledPartsAreRead = (close : Closing) (p : Part) (s : Spot) (text rest : List ℕ) → (PartOf p ▸ White) s text → BeginsBy (part_ends close) rest → part close (at s (text ++ rest)) ≡ Ok (p, at (passed text s) rest)
+SpelledPartsAreRead = (close : Closing) (p : Part) (s : Spot) (text rest : List ℕ) →
+    (PartOf p ▸ White) s text → BeginsBy (part_ends close) rest →
+    part close (at s (text ++ rest)) ≡ Ok (p, at (passed text s) rest)
 
 -- In front of a comma or the closing sign stands a value, or a field.
 abbrev pub value_ends : Closing → List ℕ
 value_ends close = 44 ∷ closing_sign close ∷ []
 
 abbrev pub SpelledValuesAreRead : Type 0
-SpelledValuesAreRead = (close : Closing) (ps : List Part) (s : Spot) (text rest : List ℕ) → (ValueOf ps ▸ White) s text → BeginsBy (value_ends close) rest → value close (at s (text ++ rest)) ≡ Ok (ps, at (passed text s) rest)
+SpelledValuesAreRead = (close : Closing) (ps : List Part) (s : Spot) (text rest : List ℕ) →
+    (ValueOf ps ▸ White) s text → BeginsBy (value_ends close) rest →
+    value close (at s (text ++ rest)) ≡ Ok (ps, at (passed text s) rest)
 
 abbrev pub SpelledFieldsAreRead : Type 0
-SpelledFieldsAreRead = (close : Closing) (f : Field) (s : Spot) (text rest : List ℕ) → (FieldOf f ▸ White) s text → BeginsBy (value_ends close) rest → field close (at s (text ++ rest)) ≡ Ok (f, at (passed text s) rest)
+SpelledFieldsAreRead = (close : Closing) (f : Field) (s : Spot) (text rest : List ℕ) →
+    (FieldOf f ▸ White) s text → BeginsBy (value_ends close) rest →
+    field close (at s (text ++ rest)) ≡ Ok (f, at (passed text s) rest)
 
 -- An item is read as it is spelled, whatever stands behind it.
 abbrev pub SpelledItemsAreRead : Type 0
-SpelledItemsAreRead = (i : Item) (s : Spot) (text rest : List ℕ) → ItemOf i s text → piece (at s (text ++ rest)) ≡ (pieces.Item i, at (passed text s) rest)
+SpelledItemsAreRead = (i : Item) (s : Spot) (text rest : List ℕ) → ItemOf i s text →
+    piece (at s (text ++ rest)) ≡ (pieces.Item i, at (passed text s) rest)
 
 -- So is a whole database.
 abbrev pub SpelledDatabasesAreRead : Type 0
 SpelledDatabasesAreRead = (ps : List Piece) (text : List ℕ) → DatabaseOf ps start text → pieces_of text ≡ ps
+
+-- The other way round, a text in which no fault is found spells what is read of it.
+abbrev pub IsFaultless : Piece → Type 0
+IsFaultless (pieces.Comment _ _) = Unit {0}
+IsFaultless (pieces.Item item) = item.fault ≡ None
+
+abbrev pub FaultlessDatabasesAreSpelled : Type 0
+FaultlessDatabasesAreSpelled = (text : List ℕ) → All IsFaultless (pieces_of text) → DatabaseOf (pieces_of text) start text

@@ -52,8 +52,10 @@ Provided IsRight A s text = IsRight text × A s text
 -- What may stand before a closing sign: no brace but in pairs, and no closing sign but between two of a pair.
 pub data IsEnclosed : ℕ → List ℕ → Type 0 where
   Nothing : {close : ℕ} → IsEnclosed close []
-  Byte : {close b : ℕ} {rest : List ℕ} → is_brace b ≡ false → (b == close) ≡ false → IsEnclosed close rest → IsEnclosed close (b ∷ rest)
-  Group : {close : ℕ} {inner rest : List ℕ} → IsEnclosed right_brace inner → IsEnclosed close rest → IsEnclosed close (left_brace ∷ inner ++ right_brace ∷ rest)
+  Byte : {close b : ℕ} {rest : List ℕ} → is_brace b ≡ false → (b == close) ≡ false →
+      IsEnclosed close rest → IsEnclosed close (b ∷ rest)
+  Group : {close : ℕ} {inner rest : List ℕ} → IsEnclosed right_brace inner → IsEnclosed close rest →
+      IsEnclosed close (left_brace ∷ inner ++ right_brace ∷ rest)
 
 -- A text begins with one of some signs.
 abbrev pub BeginsBy : List ℕ → List ℕ → Type 0

@@ -1,7 +1,10 @@
 //! Laws of the items of a text. The functions do nothing: what they promise is about the definitions alone.
 
-ghost use Rattle.bt_bib.specs.Laws.{AnyReserveServes, BoundaryStays, FaultIsFinal, FaultIsFirst, LinesLieInside, RestIsMoved, SpansRise};
-ghost use Rattle.bt_bib.specs.SpelledLaws.{EnclosedTextsAreRead, SpelledDatabasesAreRead, SpelledFieldsAreRead, SpelledItemsAreRead, SpelledPartsAreRead, SpelledValuesAreRead};
+ghost use Rattle.bt_bib.specs.Laws.{AnyReserveServes, BoundaryStays, FaultIsFinal, FaultIsFirst};
+ghost use Rattle.bt_bib.specs.Laws.{LinesLieInside, RestIsMoved, SpansRise};
+ghost use Rattle.bt_bib.specs.SpelledLaws.{EnclosedTextsAreRead, SpelledPartsAreRead, SpelledValuesAreRead};
+ghost use Rattle.bt_bib.specs.SpelledLaws.{SpelledFieldsAreRead, SpelledItemsAreRead, SpelledDatabasesAreRead};
+ghost use Rattle.bt_bib.specs.SpelledLaws.{FaultlessDatabasesAreSpelled};
 
 /// From a boundary on, the items of a text are those of its rest, moved.
 pub fn rest_is_moved()
@@ -61,6 +64,11 @@ pub fn spelled_items_are_read()
 /// A text that spells items and comments is read as these, one after the other, and no fault is found.
 pub fn spelled_databases_are_read()
     ensures { SpelledDatabasesAreRead }
+{}
+
+/// A text in which no fault is found spells the items and comments that are read of it.
+pub fn faultless_databases_are_spelled()
+    ensures { FaultlessDatabasesAreSpelled }
 {}
 
 /// Any number of readings above that of the bytes left serves the definitions as well: it is never reached.

@@ -1,0 +1,94 @@
+-- A text in which no fault is found spells what is read of it.
+use Rattle.std.specs.Prelude.{◌==◌, not, All}
+use Rattle.std.proofs.Common.{◌≡◌, ℕ, zero, suc, ◌<◌, ◌≤◌, Bool, true, false, List, [], ◌∷◌, ◌++◌, length, Some, None, refl, sym, ap, subst, ◌∙◌, arith}
+use Rattle.std.proofs.lemmas.List.{append-nil}
+use Rattle.std.proofs.lemmas.List.Elements.{All-head, All-tail}
+use Rattle.std.proofs.lemmas.Bool.{eqb-true, false≢true}
+use Rattle.bt_bib.specs.declared.spot.Spot.{Spot}
+use Rattle.bt_bib.specs.declared.item.Piece.{Piece}
+use Rattle.bt_bib.specs.declared.item.Piece.TheVariants as pieces
+use Rattle.bt_bib.specs.declared.keywords.Keyword.TheVariants as keywords
+use Rattle.bt_bib.specs.Spot.{Here, at, here, start, after}
+use Rattle.bt_bib.specs.Scan.{first, past}
+use Rattle.bt_bib.specs.Pieces.{piece, is_text, next_piece, next_piece_from}
+use Rattle.bt_bib.specs.Reading.{pieces_from, pieces_of}
+use Rattle.bt_bib.specs.Spelling.{◌▸◌, White, Sign, From, Provided, MayEndName}
+use Rattle.bt_bib.specs.Spelled.{WordOf, ItemOf, Skipped, Commented, DatabaseOf}
+use Rattle.bt_bib.specs.SpelledLaws.{IsFaultless, FaultlessDatabasesAreSpelled}
+use Rattle.bt_bib.proofs.ReachLemmas.{reaches_rest, past_reaches}
+use Rattle.bt_bib.proofs.PieceLemmas.{piece_reaches}
+use Rattle.bt_bib.proofs.BoundaryLemmas.{pieces_by, pieces_step}
+use Rattle.bt_bib.proofs.SpellingLemmas.{Stands, split, Stops}
+use Rattle.bt_bib.proofs.SpelledItemLemmas.{type_signs}
+use Rattle.bt_bib.proofs.FaultlessTextLemmas.{stands_both, stands_run, run_all}
+use Rattle.bt_bib.proofs.FaultlessItemLemmas.{PieceStands, past_stops, read_piece}
+
+-- From here to the text's end stand these pieces.
+record Spells (ps : List Piece) (h : Here) : Type 0 where
+  end : Here
+  last : end.rest ≡ []
+  stands : Stands (DatabaseOf ps) h end
+
+stands_skipped : (h : Here) → Stands Skipped h (past is_text h)
+stands_skipped h = stands_run is_text Skipped h (run_all is_text h.rest)
+
+none_first : (r : List ℕ) → first r ≡ None → r ≡ []
+none_first [] is = refl
+none_first (b ∷ bs) is = absurd (cc is)
+
+-- what stands behind a piece
+behind_text : (a : Here) (x : Piece × Here) (ps : List Piece) → PieceStands a x → IsFaultless x.0 → Spells ps x.1 → (h : Here) → Stands Skipped h a → Spells (x.0 ∷ ps) h
+behind_text a (pieces.Item i, k) ps stands faultless rest h skipped = record {
+  end = rest.end;
+  last = rest.last;
+  stands = stands_both Skipped (ItemOf i ▸ DatabaseOf ps) h a rest.end skipped (stands_both (ItemOf i) (DatabaseOf ps) a k rest.end (stands faultless) rest.stands);
+}
+behind_text a (pieces.Comment start end, k) ps stands faultless rest h skipped =
+    let A = DatabaseOf ps in
+    let W = WordOf keywords.Comment in
+    let E = From end (Provided (MayEndName type_signs) A) in
+    let last = rest.end in
+    let x = rest.stands in
+    let one = split (Sign 64) (White ▸ W) a k stands.3 in
+    let two = split White W one.mid k one.back in
+    let text : k.rest ≡ x.text = x.rest ∙ ap (λ r. x.text ++ r) rest.last ∙ append-nil x.text in
+    let ending : Stands E k last = record { text = x.text; spelled = (stands.1, (subst (MayEndName type_signs) text stands.2, x.spelled)); rest = x.rest; spot = x.spot } in
+    let inner = stands_both (Sign 64) (White ▸ W ▸ E) a one.mid last one.front (stands_both White (W ▸ E) one.mid two.mid last two.front (stands_both W E two.mid k last two.back ending)) in
+    let whole : Stands (Commented start end A) a last = record { text = inner.text; spelled = (stands.0, inner.spelled); rest = inner.rest; spot = inner.spot } in
+    record { end = last; last = rest.last; stands = stands_both Skipped (Commented start end A) h a last skipped whole }
+
+at_sign : (b : ℕ) → is_text b ≡ false → b ≡ 64
+at_sign b is = eqb-true b 64 (is_true (b == 64) is)
+  where
+    is_true : (v : Bool) → not v ≡ false → v ≡ true
+    is_true true h = refl
+    is_true false h = absurd (false≢true (sym h))
+
+shorter : (s : Spot) (b : ℕ) (bs : List ℕ) → (let a = at s (b ∷ bs) in length (piece a).1.rest < length a.rest)
+shorter s b bs = (let a = at s (b ∷ bs) in omega (arith, reaches_rest (at (after b s) bs) (piece a).1 (piece_reaches a)))
+
+spells_by : (h : Here) (s : Spot) (r : List ℕ) → (let a = at s r in Stands Skipped h a → Stops is_text r → length r ≤ length h.rest → All IsFaultless (pieces_by (next_piece_from a (first r))) → ((k : Here) → length k.rest < length h.rest → All IsFaultless (pieces_from k) → Spells (pieces_from k) k) → Spells (pieces_by (next_piece_from a (first r))) h)
+spells_by h s [] skipped stop le all later = record { end = at s []; last = refl; stands = skipped }
+spells_by h s (b ∷ bs) skipped stop le all later =
+    let a = at s (b ∷ bs) in
+    let p = piece a in
+    let less = shorter s b bs in
+    behind_text a p (pieces_from p.1) (read_piece a (ap (λ b. Some b) (at_sign b stop))) (All-head IsFaultless p.0 (pieces_from p.1) all) (later p.1 (omega arith) (All-tail IsFaultless p.0 (pieces_from p.1) all)) h skipped
+
+spells : (n : ℕ) (h : Here) → length h.rest < n → All IsFaultless (pieces_from h) → Spells (pieces_from h) h
+unfolding next_piece
+spells zero h lt all = absurd (omega arith)
+spells (suc n) h lt all =
+    let a = past is_text h in
+    let step : pieces_from h ≡ pieces_by (next_piece_from a (first a.rest)) = pieces_step h in
+    subst (λ ps. Spells ps h) (sym step) (spells_by h a.spot a.rest (stands_skipped h) (past_stops is_text h) (reaches_rest h a (past_reaches is_text h)) (subst (All IsFaultless) step all) (λ k less all. spells n k (omega arith) all))
+
+whole_text : (ps : List Piece) (text : List ℕ) → Spells ps (at start text) → DatabaseOf ps start text
+whole_text ps text x =
+    let d = x.stands in
+    let all : text ≡ d.text = d.rest ∙ ap (λ r. d.text ++ r) x.last ∙ append-nil d.text in
+    subst (DatabaseOf ps start) (sym all) d.spelled
+
+pub faultless_databases_are_spelled : FaultlessDatabasesAreSpelled
+unfolding pieces_of
+faultless_databases_are_spelled text all = whole_text (pieces_of text) text (spells (suc (length text)) (here text start) (omega arith) all)
