@@ -1,27 +1,64 @@
 -- A text in which no fault is found spells what is read of it.
 use Rattle.std.specs.Prelude.{◌==◌, not, All}
-use Rattle.std.proofs.Common.{◌≡◌, ℕ, zero, suc, ◌<◌, ◌≤◌, Bool, true, false, List, [], ◌∷◌, ◌++◌, length, Some, None, refl, sym, ap, subst, ◌∙◌, arith}
+use Rattle.std.proofs.Common.{◌≡◌, ℕ, zero, suc, ◌<◌, ◌≤◌, Bool, true, false, List, [], ◌∷◌, ◌++◌, length, take, ◌-◌, Some, None, refl, sym, ap, subst, ◌∙◌, arith}
 use Rattle.std.proofs.lemmas.List.{append-nil}
 use Rattle.std.proofs.lemmas.List.Elements.{All-head, All-tail}
 use Rattle.std.proofs.lemmas.Bool.{eqb-true, false≢true}
 use Rattle.bt_bib.specs.declared.spot.Spot.{Spot}
+use Rattle.bt_bib.specs.declared.item.Item.{Item}
 use Rattle.bt_bib.specs.declared.item.Piece.{Piece}
 use Rattle.bt_bib.specs.declared.item.Piece.TheVariants as pieces
 use Rattle.bt_bib.specs.declared.keywords.Keyword.TheVariants as keywords
 use Rattle.bt_bib.specs.Spot.{Here, at, here, start, after}
 use Rattle.bt_bib.specs.Scan.{first, past}
 use Rattle.bt_bib.specs.Pieces.{piece, is_text, next_piece, next_piece_from}
+use Rattle.bt_bib.specs.Boundaries.{start_of, end_of, last_end}
 use Rattle.bt_bib.specs.Reading.{pieces_from, pieces_of}
 use Rattle.bt_bib.specs.Spelling.{◌▸◌, White, Sign, From, Provided, MayEndName}
 use Rattle.bt_bib.specs.Spelled.{WordOf, ItemOf, Skipped, Commented, DatabaseOf}
-use Rattle.bt_bib.specs.SpelledLaws.{IsFaultless, FaultlessDatabasesAreSpelled}
+use Rattle.bt_bib.specs.SpelledLaws.{bytes_between, IsFaultless, FaultlessItemsAreSpelled, FaultlessDatabasesAreSpelled}
 use Rattle.bt_bib.proofs.ReachLemmas.{reaches_rest, past_reaches}
 use Rattle.bt_bib.proofs.PieceLemmas.{piece_reaches}
-use Rattle.bt_bib.proofs.BoundaryLemmas.{pieces_by, pieces_step}
+use Rattle.bt_bib.proofs.BoundaryLemmas.{piece_ends, pieces_by, pieces_step, here_reached, rest_law}
+use Rattle.bt_bib.proofs.RiseLemmas.{piece_starts}
 use Rattle.bt_bib.proofs.SpellingLemmas.{Stands, split, Stops}
 use Rattle.bt_bib.proofs.SpelledItemLemmas.{type_signs}
-use Rattle.bt_bib.proofs.FaultlessTextLemmas.{stands_both, stands_run, run_all}
+use Rattle.bt_bib.proofs.FaultlessTextLemmas.{between_is, stands_both, stands_run, run_all}
 use Rattle.bt_bib.proofs.FaultlessItemLemmas.{PieceStands, past_stops, read_piece}
+
+-- An item of a text stands where it begins.
+item_stands : (h : Here) (x : Piece × Here) (i : Item) → x.0 ≡ pieces.Item i → i.fault ≡ None → PieceStands h x → Stands (ItemOf i) h x.1
+item_stands h (pieces.Comment start end, k) i is faultless stands = absurd (cc is)
+item_stands h (pieces.Item j, k) i is faultless stands =
+    let same : j ≡ i = cc is in
+    subst (λ i. Stands (ItemOf i) h k) same (stands (ap (λ (i : Item). i.fault) same ∙ faultless))
+
+at_sign : (b : ℕ) → is_text b ≡ false → b ≡ 64
+at_sign b is = eqb-true b 64 (is_true (b == 64) is)
+  where
+    is_true : (v : Bool) → not v ≡ false → v ≡ true
+    is_true true h = refl
+    is_true false h = absurd (false≢true (sym h))
+
+item_at : (text : List ℕ) (u : Spot) (r : List ℕ) (i : Item) (back : List Piece) → at u r ≡ here text u → Stops is_text r → pieces_by (next_piece_from (at u r) (first r)) ≡ pieces.Item i ∷ back → i.fault ≡ None → ItemOf i i.start (bytes_between i.start i.end text)
+item_at text u [] i back there stop is faultless = absurd (cc is)
+item_at text u (b ∷ bs) i back there stop is faultless =
+    let h = at u (b ∷ bs) in
+    let p = piece h in
+    let one : p.0 ≡ pieces.Item i = cc is in
+    let x = item_stands h p i one faultless (read_piece h (ap (λ b. Some b) (at_sign b stop))) in
+    let bytes : bytes_between u p.1.spot text ≡ x.text = ap (λ (k : Here). take (p.1.spot.place - u.place) k.rest) (sym there) ∙ between_is h p.1 x.text x.rest x.spot in
+    let begins : u ≡ i.start = sym (piece_starts h) ∙ ap start_of one in
+    let ends : p.1.spot ≡ i.end = sym (piece_ends h) ∙ ap end_of one in
+    subst (λ e. ItemOf i i.start (bytes_between i.start e text)) ends (subst (λ s. ItemOf i s (bytes_between s p.1.spot text)) begins (subst (ItemOf i u) (sym bytes) x.spelled))
+
+pub faultless_items_are_spelled : FaultlessItemsAreSpelled
+unfolding pieces_of next_piece
+faultless_items_are_spelled text front back i is faultless =
+    let s = last_end start front in
+    let g = here text s in
+    let a = past is_text g in
+    item_at text a.spot a.rest i back (here_reached text s a (past_reaches is_text g)) (past_stops is_text g) (sym (pieces_step g) ∙ sym (rest_law text start front (pieces.Item i ∷ back) is)) faultless
 
 -- From here to the text's end stand these pieces.
 record Spells (ps : List Piece) (h : Here) : Type 0 where
@@ -56,13 +93,6 @@ behind_text a (pieces.Comment start end, k) ps stands faultless rest h skipped =
     let inner = stands_both (Sign 64) (White ▸ W ▸ E) a one.mid last one.front (stands_both White (W ▸ E) one.mid two.mid last two.front (stands_both W E two.mid k last two.back ending)) in
     let whole : Stands (Commented start end A) a last = record { text = inner.text; spelled = (stands.0, inner.spelled); rest = inner.rest; spot = inner.spot } in
     record { end = last; last = rest.last; stands = stands_both Skipped (Commented start end A) h a last skipped whole }
-
-at_sign : (b : ℕ) → is_text b ≡ false → b ≡ 64
-at_sign b is = eqb-true b 64 (is_true (b == 64) is)
-  where
-    is_true : (v : Bool) → not v ≡ false → v ≡ true
-    is_true true h = refl
-    is_true false h = absurd (false≢true (sym h))
 
 shorter : (s : Spot) (b : ℕ) (bs : List ℕ) → (let a = at s (b ∷ bs) in length (piece a).1.rest < length a.rest)
 shorter s b bs = (let a = at s (b ∷ bs) in omega (arith, reaches_rest (at (after b s) bs) (piece a).1 (piece_reaches a)))

@@ -229,7 +229,7 @@ unfolding enclosed_run
 found close d s [] e is = absurd (cc is)
 found close d s (b ∷ bs) e is = found_by close d s b bs e (turn close d b) refl is (λ n. found close n (after b s) bs e)
 
-between_is : (h e : Here) (text : List ℕ) → h.rest ≡ text ++ e.rest → e.spot ≡ passed text h.spot → between h e ≡ text
+pub between_is : (h e : Here) (text : List ℕ) → h.rest ≡ text ++ e.rest → e.spot ≡ passed text h.spot → between h e ≡ text
 between_is h e text rest spot =
     let size : e.spot.place - h.spot.place ≡ length text = omega (arith, ap (λ (s : Spot). s.place) spot) in
     ap (λ n. take n h.rest) size ∙ ap (take (length text)) rest ∙ take_at text e.rest (length text) refl

@@ -231,6 +231,9 @@ string_by close named valued = (record { name = given named; value = given value
 abbrev pub valued_by : Closing → Result (List ℕ × Here) Stop → Result (List Part × Here) Stop
 valued_by close named = named >>= λ n. sign 61 ExpectedEquals (white n.1) >>= λ equals. value close (white equals)
 
+valued_to : (close : Closing) (n : List ℕ) (end equals inside last : Here) (ps : List Part) → sign 61 ExpectedEquals (white end) ≡ Ok equals → white equals ≡ inside → value close inside ≡ Ok (ps, last) → valued_by close (Ok (n, end)) ≡ Ok (ps, last)
+valued_to close n end equals inside last ps signed spaced valued = ap (λ (r : Result Here Stop). r >>= λ equals. value close (white equals)) signed ∙ ap (value close) spaced ∙ valued
+
 string_to : (text n : List ℕ) (ps : List Part) (close : Closing) (line : ℕ) (h k : Here) → Stands (Head keywords.String text close (OnLine line (NameOf n ⋯ Sign 61 ⋯ ValueOf ps ⋯ Sign (closing_sign close)))) h k →
     piece h ≡ (pieces.Item (ended_at h.spot k.spot line (contents.Define (record { name = Some n; value = Some ps })) close), k)
 string_to text n ps close line h k x =
@@ -242,7 +245,7 @@ string_to text n ps close line h k x =
     let e = equated StringName n V hd.inside k (closed_starts close ps) on.1 in
     let v = closed_value close ps e.inside k e.stands in
     let definition : Definition = record { name = Some n; value = Some ps } in
-    let valued : valued_by close (Ok (n, e.end)) ≡ Ok (ps, v.end) = ap (λ (r : Result Here Stop). r >>= λ equals. value close (white equals)) e.sign ∙ ap (value close) e.white ∙ v.value in
+    let valued : valued_by close (Ok (n, e.end)) ≡ Ok (ps, v.end) = valued_to close n e.end e.equals e.inside v.end ps e.sign e.white v.value in
     let read : string_read close hd.inside ≡ (definition, Ok k) = ap (λ r. string_by close r (valued_by close r)) e.named ∙ ap (string_by close (Ok (n, e.end))) valued ∙ ap (λ (r : Result Here Stop). (definition, r)) v.closes in
     hd.read
     ∙ ap (opened h.spot unread_string (string_item h.spot)) hd.opens

@@ -1,5 +1,5 @@
 -- What is read of a text that spells something is what it spells, and no fault is found in it.
-use Rattle.std.specs.Prelude.{◌≡◌, ℕ, false, ◌==◌, List, [], ◌∷◌, ◌++◌, Ok, None, All}
+use Rattle.std.specs.Prelude.{◌≡◌, ℕ, ◌-◌, false, ◌==◌, List, [], ◌∷◌, ◌++◌, take, drop, Ok, None, All}
 use Rattle.bt_text.specs.ByteTests.{left_brace}
 use Rattle.bt_bib.specs.declared.spot.Spot.{Spot}
 use Rattle.bt_bib.specs.declared.item.Closing.{Closing}
@@ -53,7 +53,15 @@ SpelledItemsAreRead = (i : Item) (s : Spot) (text rest : List ℕ) → ItemOf i 
 abbrev pub SpelledDatabasesAreRead : Type 0
 SpelledDatabasesAreRead = (ps : List Piece) (text : List ℕ) → DatabaseOf ps start text → pieces_of text ≡ ps
 
--- The other way round, a text in which no fault is found spells what is read of it.
+-- The other way round, the bytes of a text from the beginning of a faultless item up to its end spell it.
+abbrev pub bytes_between : Spot → Spot → List ℕ → List ℕ
+bytes_between begin end text = take (end.place - begin.place) (drop begin.place text)
+
+abbrev pub FaultlessItemsAreSpelled : Type 0
+FaultlessItemsAreSpelled = (text : List ℕ) (front back : List Piece) (i : Item) →
+    pieces_of text ≡ front ++ pieces.Item i ∷ back → i.fault ≡ None → ItemOf i i.start (bytes_between i.start i.end text)
+
+-- A text in which no fault is found spells what is read of it.
 abbrev pub IsFaultless : Piece → Type 0
 IsFaultless (pieces.Comment _ _) = Unit {0}
 IsFaultless (pieces.Item item) = item.fault ≡ None

@@ -4,7 +4,7 @@ ghost use Rattle.bt_bib.specs.Laws.{AnyReserveServes, BoundaryStays, FaultIsFina
 ghost use Rattle.bt_bib.specs.Laws.{LinesLieInside, RestIsMoved, SpansRise};
 ghost use Rattle.bt_bib.specs.SpelledLaws.{EnclosedTextsAreRead, SpelledPartsAreRead, SpelledValuesAreRead};
 ghost use Rattle.bt_bib.specs.SpelledLaws.{SpelledFieldsAreRead, SpelledItemsAreRead, SpelledDatabasesAreRead};
-ghost use Rattle.bt_bib.specs.SpelledLaws.{FaultlessDatabasesAreSpelled};
+ghost use Rattle.bt_bib.specs.SpelledLaws.{FaultlessDatabasesAreSpelled, FaultlessItemsAreSpelled};
 
 /// From a boundary on, the items of a text are those of its rest, moved.
 pub fn rest_is_moved()
@@ -64,6 +64,11 @@ pub fn spelled_items_are_read()
 /// A text that spells items and comments is read as these, one after the other, and no fault is found.
 pub fn spelled_databases_are_read()
     ensures { SpelledDatabasesAreRead }
+{}
+
+/// The bytes of a text from the beginning of an item without a fault up to its end spell that item.
+pub fn faultless_items_are_spelled()
+    ensures { FaultlessItemsAreSpelled }
 {}
 
 /// A text in which no fault is found spells the items and comments that are read of it.

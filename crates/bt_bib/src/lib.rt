@@ -34,8 +34,8 @@ pub use items::Items;
 pub use kept_items::KeptItems;
 pub use laws::{
     any_reserve_serves, boundary_stays, enclosed_texts_are_read, fault_is_final, fault_is_first,
-    faultless_databases_are_spelled, lines_lie_inside, rest_is_moved, spans_rise,
-    spelled_databases_are_read, spelled_fields_are_read, spelled_items_are_read,
+    faultless_databases_are_spelled, faultless_items_are_spelled, lines_lie_inside, rest_is_moved,
+    spans_rise, spelled_databases_are_read, spelled_fields_are_read, spelled_items_are_read,
     spelled_parts_are_read, spelled_values_are_read,
 };
 pub use meter::ReadMeter;
