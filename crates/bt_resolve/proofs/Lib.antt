@@ -14,3 +14,4 @@ mod CrossrefRows
 mod KeyRows
 mod LimitRows
 pub mod SparseValueLemmas
+pub mod ValueLemmas

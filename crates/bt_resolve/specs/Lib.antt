@@ -2,6 +2,7 @@ pub mod Names
 pub mod Warnings
 pub mod Faults
 pub mod Values
+pub mod JoinedParts
 pub mod Macros
 pub mod Fields
 pub mod Slots

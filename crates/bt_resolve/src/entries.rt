@@ -12,6 +12,7 @@ ghost use Rattle.bt_resolve.specs.Warnings.{line_at};
 
 use crate::faults::repeated;
 use crate::fields::FieldReader;
+use crate::macro_text::MacroText;
 use crate::message::Message;
 use crate::reader::Reader;
 use crate::store::Store;
@@ -94,7 +95,7 @@ impl Reader<'_> {
         line: usize,
         entry: &Entry,
         key: &Shared<Bytes>,
-        macros: &ByName<Bytes>,
+        macros: &ByName<MacroText>,
         messages: &mut Sequence<Message>,
     ) -> Result<Stored, AllocError>
         requires apart { IsTrue (are_apart self.now.asked.now.fields) }
@@ -132,7 +133,7 @@ impl Reader<'_> {
         &self,
         line: usize,
         entry: &Entry,
-        macros: &ByName<Bytes>,
+        macros: &ByName<MacroText>,
         store: &mut Store,
         messages: &mut Sequence<Message>,
     ) -> Result<(), AllocError>

@@ -11,6 +11,7 @@ ghost use Rattle.bt_resolve.specs.Values.{field_value, value_warnings};
 ghost use Rattle.bt_resolve.specs.Warnings.{line_at};
 
 use crate::index::Index;
+use crate::macro_text::MacroText;
 use crate::message::{Message, Origin};
 use crate::stored::FieldValues;
 use crate::values::{ValueReader, trimmed};
@@ -46,7 +47,7 @@ pub struct FieldReader<'a> {
     /// The declared fields.
     pub declared: &'a Index<'a>,
     /// The macros before the entry.
-    pub macros: &'a ByName<Bytes>,
+    pub macros: &'a ByName<MacroText>,
     /// Where the entry stands.
     pub origin: Origin,
     /// The entry's key.
@@ -123,7 +124,7 @@ impl FieldReader<'_> {
         };
         let name = field.name.as_slice();
         let value = reader.value(name, field.line, field.value.as_slice(), messages)?;
-        trimmed(self.alloc, value.as_slice())
+        trimmed(self.alloc, value)
     }
 
     /// Puts a value in its slot, or tells that a field of its name stands before it.

@@ -9,6 +9,7 @@ ghost use Rattle.bt_resolve.specs.Messages.{preamble_messages, preamble_value, s
 ghost use Rattle.bt_resolve.specs.Warnings.{line_at};
 
 use crate::declared::Macro;
+use crate::macro_text::MacroText;
 use crate::message::Message;
 use crate::reader::Reader;
 use crate::values::ValueReader;
@@ -17,15 +18,15 @@ use bt_text::{ByName, Bytes, Sequence};
 use std::alloc::{AllocError, Global};
 
 /// The macros of the style.
-pub fn style_macros(alloc: Global, macros: &[Macro]) -> Result<ByName<Bytes>, AllocError>
+pub fn style_macros(alloc: Global, macros: &[Macro]) -> Result<ByName<MacroText>, AllocError>
     ensures { IfOk result (λ table. known table ≡ style_macro macros.now) }
 {
     let mut table = ByName::new(alloc);
     let count = macros.len();
     'macros: for behind in 0..count {
         let next = &macros[count - 1 - behind];
-        let value = Bytes::copied(alloc, next.value.as_slice())?;
-        table.insert(alloc, next.name.as_slice(), value)?;
+        let text = MacroText::new(alloc, next.value.as_slice())?;
+        table.insert(alloc, next.name.as_slice(), text)?;
     }
     Ok(table)
 }
@@ -46,7 +47,7 @@ impl Reader<'_> {
         &self,
         item: &Item,
         string: &Definition,
-        macros: &mut ByName<Bytes>,
+        macros: &mut ByName<MacroText>,
         messages: &mut Sequence<Message>,
     ) -> Result<(), AllocError>
         requires line { FitsLine nowhere self.now.origin.start item.now.line }
@@ -71,7 +72,7 @@ impl Reader<'_> {
             origin: self.origin,
         };
         let value = reader.value(name, item.line, parts.as_slice(), messages)?;
-        macros.insert(self.alloc, name, value)
+        macros.insert(self.alloc, name, MacroText::of_value(value)?)
     }
 
     /// Reads a preamble: its value is put after those before it, unless the item has a fault.
@@ -79,7 +80,7 @@ impl Reader<'_> {
         &self,
         item: &Item,
         parts: &Option<Sequence<Part>>,
-        macros: &ByName<Bytes>,
+        macros: &ByName<MacroText>,
         preamble: &mut Bytes,
         messages: &mut Sequence<Message>,
     ) -> Result<(), AllocError>

@@ -1,5 +1,6 @@
 //! What was read of the databases so far.
 
+use crate::macro_text::MacroText;
 use crate::message::Message;
 use crate::store::Store;
 use bt_text::{ByName, Bytes, Sequence};
@@ -8,7 +9,7 @@ use bt_text::{ByName, Bytes, Sequence};
 #[derive(Drop)]
 pub struct Reading {
     /// What macros stand for.
-    pub macros: ByName<Bytes>,
+    pub macros: ByName<MacroText>,
     /// The stored entries.
     pub store: Store,
     /// The values of the preambles, joined.

@@ -8,10 +8,12 @@ ghost use Rattle.bt_text.specs.ByName.{known};
 ghost use Rattle.bt_resolve.specs.Values.{finished, is_named, joined_parts, length_warnings, macro_warnings, others, part_text, part_warnings, value, value_warnings, with_part, within_limit, without_first_space, without_last_space};
 ghost use Rattle.bt_resolve.specs.Warnings.{line_at};
 
+use crate::joined_parts::JoinedParts;
+use crate::macro_text::MacroText;
 use crate::message::{Message, Origin};
 use crate::warnings::{own_macro, too_long, undefined_macro};
 use bt_bib::Part;
-use bt_text::{ByName, Bytes, Sequence, Shared, TEXT_BYTES, eq_ignore_ascii_case, join_white};
+use bt_text::{ByName, Bytes, Sequence, Shared, TEXT_BYTES, eq_ignore_ascii_case};
 use std::alloc::{AllocError, Global};
 
 /// What a value is read with.
@@ -19,7 +21,7 @@ use std::alloc::{AllocError, Global};
 pub struct ValueReader<'a> {
     pub alloc: Global,
     /// The macros before the value.
-    pub macros: &'a ByName<Bytes>,
+    pub macros: &'a ByName<MacroText>,
     /// The string whose value it is; none of a field or a preamble.
     pub own: Option<&'a [u8]>,
     /// Where its item stands.
@@ -37,12 +39,17 @@ fn is_named(text: Option<&[u8]>, name: &[u8]) -> bool
 }
 
 /// Puts a text after what was joined so far, or drops everything where both together are over the limit.
-fn join_part(joined: &mut Option<Bytes>, text: &[u8]) -> Result<(), AllocError>
-    ensures { OnOk result (joined.new ≡ option_and_then (with_part text.now) joined.old) }
+fn join_part(
+    alloc: Global,
+    joined: &mut Option<JoinedParts>,
+    text: JoinedParts,
+) -> Result<(), AllocError>
+    ensures { OnOk result (joined.new ≡ option_and_then (with_part text) joined.old) }
 {
     if let Some(front) = joined {
-        if text.len() <= TEXT_BYTES && front.len() <= TEXT_BYTES - text.len() {
-            front.append(text)?;
+        let len = text.as_slice().len();
+        if len <= TEXT_BYTES && front.as_slice().len() <= TEXT_BYTES - len {
+            front.append(alloc, text)?;
         } else {
             *joined = None;
         }
@@ -52,7 +59,7 @@ fn join_part(joined: &mut Option<Bytes>, text: &[u8]) -> Result<(), AllocError>
 
 impl<'a> ValueReader<'a> {
     /// What a macro stands for in the value.
-    fn macro_text(&self, name: &[u8]) -> Result<Option<&'a Bytes>, AllocError>
+    fn macro_text(&self, name: &[u8]) -> Result<Option<&'a MacroText>, AllocError>
         ensures { IfOk result (λ text. option_copied text
             ≡ others (option_copied self.now.own) (known self.now.macros.now) name.now) }
     {
@@ -82,7 +89,7 @@ impl<'a> ValueReader<'a> {
         &self,
         name: &[u8],
         line: usize,
-        joined: &mut Option<Bytes>,
+        joined: &mut Option<JoinedParts>,
         messages: &mut Sequence<Message>,
     ) -> Result<(), AllocError>
         requires { FitsLine nowhere self.now.origin.start line }
@@ -96,9 +103,9 @@ impl<'a> ValueReader<'a> {
         match self.macro_text(name)? {
             None => {
                 messages.push(self.empty_macro(name, line)?)?;
-                join_part(joined, &[])
+                join_part(self.alloc, joined, JoinedParts::new(self.alloc))
             }
-            Some(text) => join_part(joined, text.as_slice()),
+            Some(text) => join_part(self.alloc, joined, JoinedParts::of_macro(text)?),
         }
     }
 
@@ -106,7 +113,7 @@ impl<'a> ValueReader<'a> {
     fn part(
         &self,
         part: &Part,
-        joined: &mut Option<Bytes>,
+        joined: &mut Option<JoinedParts>,
         messages: &mut Sequence<Message>,
     ) -> Result<(), AllocError>
         requires { FitsPart nowhere self.now.origin.start part.now }
@@ -118,7 +125,7 @@ impl<'a> ValueReader<'a> {
             (moved_part self.now.origin.start part.now)) }
     {
         match part {
-            Part::Text(text) => join_part(joined, text.as_slice()),
+            Part::Text(text) => join_part(self.alloc, joined, JoinedParts::of_text(text)?),
             Part::Macro(name, line) => self.read_macro(name.as_slice(), *line, joined, messages),
         }
     }
@@ -128,7 +135,7 @@ impl<'a> ValueReader<'a> {
         &self,
         parts: &[Part],
         messages: &mut Sequence<Message>,
-    ) -> Result<Option<Bytes>, AllocError>
+    ) -> Result<Option<JoinedParts>, AllocError>
         requires { All (FitsPart nowhere self.now.origin.start) parts.now }
         ensures joined { IfOk result (λ joined. joined ≡ within_limit
             (joined_parts (others (option_copied self.now.own) (known self.now.macros.now))
@@ -137,7 +144,7 @@ impl<'a> ValueReader<'a> {
             (option_copied self.now.own) (known self.now.macros.now) self.now.origin.database)
             (map (moved_part self.now.origin.start) parts.now)) }
     {
-        let mut joined = Some(Bytes::new(self.alloc));
+        let mut joined = Some(JoinedParts::new(self.alloc));
         'parts: for part in parts {
             self.part(part, &mut joined, messages)?;
         }
@@ -147,11 +154,11 @@ impl<'a> ValueReader<'a> {
     /// A value from what its parts joined to, with the warning that it is over the limit, at the line of its name.
     fn finished(
         &self,
-        joined: Option<Bytes>,
+        joined: Option<JoinedParts>,
         name: &[u8],
         line: usize,
         messages: &mut Sequence<Message>,
-    ) -> Result<Bytes, AllocError>
+    ) -> Result<Shared<Bytes>, AllocError>
         requires { FitsLine nowhere self.now.origin.start line }
         ensures value { IfOk result (λ text. text ≡ finished joined) }
         ensures messages { OnOk result (messages.new ≡ messages.old
@@ -160,9 +167,9 @@ impl<'a> ValueReader<'a> {
         match joined {
             None => {
                 messages.push(too_long(self.alloc, self.origin.place(line), name)?)?;
-                Ok(Bytes::new(self.alloc))
+                Shared::new(self.alloc, Bytes::new(self.alloc))
             }
-            Some(text) => join_white(self.alloc, text.as_slice()),
+            Some(joined) => joined.into_value(self.alloc),
         }
     }
 
@@ -174,7 +181,7 @@ impl<'a> ValueReader<'a> {
         line: usize,
         parts: &[Part],
         messages: &mut Sequence<Message>,
-    ) -> Result<Bytes, AllocError>
+    ) -> Result<Shared<Bytes>, AllocError>
         requires line { FitsLine nowhere self.now.origin.start line }
         requires parts { All (FitsPart nowhere self.now.origin.start) parts.now }
         ensures value { IfOk result (λ text. text ≡ value
@@ -209,9 +216,14 @@ fn without_last_space(text: &[u8]) -> &[u8]
     }
 }
 
-/// A text without a space at its ends.
-pub fn trimmed(alloc: Global, text: &[u8]) -> Result<Shared<Bytes>, AllocError>
-    ensures { IfOk result (λ trimmed. trimmed ≡ without_last_space (without_first_space text.now)) }
+/// A text without a space at its ends. It is not copied where it has none.
+pub fn trimmed(alloc: Global, text: Shared<Bytes>) -> Result<Shared<Bytes>, AllocError>
+    ensures { IfOk result (λ trimmed. trimmed ≡ without_last_space (without_first_space text)) }
 {
-    Shared::<Bytes>::copied(alloc, without_last_space(without_first_space(text)))
+    let inside = without_last_space(without_first_space(text.as_slice()));
+    if inside.len() < text.len() {
+        Shared::<Bytes>::copied(alloc, inside)
+    } else {
+        Ok(text)
+    }
 }

@@ -14,3 +14,4 @@ pub mod JoinedLemmas
 pub mod NameLemmas
 pub mod FoldingLemmas
 pub mod SparseLemmas
+pub mod WhiteLemmas

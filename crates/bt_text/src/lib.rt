@@ -50,5 +50,5 @@ pub use sequence::Sequence;
 pub use shared::Shared;
 pub use sparse::SparseTexts;
 pub use special::{control_name_len, is_foreign};
-pub use white::{join_white, trim_end, white_run};
+pub use white::{is_white_joined, join_white, trim_end, white_run};
 pub use widths::width;

@@ -1,6 +1,6 @@
 //! Runs of white space.
 
-ghost use Rattle.std.specs.Prelude.{◌≡◌, ◌≤◌, ◌++◌, length, take_while, IfOk, OnOk};
+ghost use Rattle.std.specs.Prelude.{◌≡◌, ◌≤◌, ◌++◌, ◌∷◌, [], ◌↔◌, length, take_while, IfOk, IsTrue, OnOk};
 ghost use Rattle.std.specs.List.{list_any, position_or_len, prefix_len, suffix_len};
 ghost use Rattle.bt_text.specs.ByteTests.{is_white};
 ghost use Rattle.bt_text.specs.White.{begins_white, joined_byte, trimmed_end, white_joined};
@@ -73,11 +73,32 @@ fn push_joined(joined: &mut Vec<u8>, byte: u8, behind: &[u8]) -> Result<(), Allo
     Ok(())
 }
 
+/// Whether a byte stays as it is before what stands behind it.
+fn stays(byte: u8, behind: &[u8]) -> bool
+    ensures { IsTrue result ↔ joined_byte byte behind.now ≡ byte ∷ [] }
+{
+    !is_white(byte) || (byte == b' ' && !begins_white(behind))
+}
+
+/// Whether each run of white space in a text is one space already.
+pub fn is_white_joined(text: &[u8]) -> bool
+    ensures { IsTrue result ↔ white_joined text.now ≡ text.now }
+{
+    let mut rest = text;
+    while let [byte, behind @ ..] = rest {
+        if !stays(*byte, behind) {
+            return false;
+        }
+        rest = behind;
+    }
+    true
+}
+
 /// A text with each run of white space made one space. The one error is want of memory.
 pub fn join_white(alloc: Global, text: &[u8]) -> Result<Bytes, AllocError>
     ensures { IfOk result (λ joined. joined ≡ white_joined text.now) }
 {
-    let mut joined = Vec::new(alloc);
+    let mut joined = Vec::with_capacity(alloc, text.len())?;
     let mut rest = text;
     while let [byte, behind @ ..] = rest {
         push_joined(&mut joined, *byte, behind)?;

@@ -125,6 +125,8 @@ fn matches_without_case(rt: HostRuntime) -> Result<(), Fail> {
 fn joins_white_space(rt: HostRuntime) -> Result<(), Fail> {
     let joined = join_white(rt.alloc(), b"\n\ta \r b  ")?;
     assert_eq!(rt; joined.as_slice(), b" a b ".as_slice());
+    assert!(rt; is_white_joined(joined.as_slice()));
+    assert!(rt; !is_white_joined(b"a\tb"));
     assert_eq!(rt; trim_end(joined.as_slice()), b" a b".as_slice());
     assert_eq!(rt; white_run(b" \n a"), 3);
     Ok(())

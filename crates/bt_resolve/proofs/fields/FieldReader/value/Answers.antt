@@ -10,5 +10,5 @@ pub returns-clause-value : goal.returns-clause-value
 unfolding field_value
 returns-clause-value c =
     if_ok _ _ c.trimmed.result (λ (text : List ℕ) is.
-    is ∙ ap (λ (t : List ℕ). without_last_space (without_first_space t)) (c.as_slice-2.ensures ∙ c.in_ok-value.ensures.value)
+    is ∙ ap (λ (t : List ℕ). without_last_space (without_first_space t)) c.in_ok-value.ensures.value
     ∙ ap (λ (parts : List Part). field_value (known c.args.self.now.macros.now) (map (moved_part c.args.self.now.origin.start) parts)) c.as_slice.ensures) c.trimmed.ensures

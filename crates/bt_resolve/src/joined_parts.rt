@@ -1,0 +1,138 @@
+//! The texts of parts, joined.
+
+ghost use Rattle.std.specs.Prelude.{◌≡◌, [], ◌++◌, IfOk, OnOk};
+ghost use Rattle.bt_text.specs.White.{white_joined};
+
+use crate::macro_text::MacroText;
+use bt_text::{Bytes, Shared, is_white_joined, join_white};
+use std::alloc::{AllocError, Global};
+use std::marker::Model;
+
+/// Who has the bytes.
+#[derive(Drop)]
+enum Holder {
+    /// A part that is a text has them too.
+    Text(Shared<Bytes>),
+    /// A macro has them too.
+    Macro(MacroText),
+    /// They are joined of several parts.
+    Own(Bytes),
+}
+
+/// The texts of parts, joined. Where all but one are empty, that one is shared. Contracts see the bytes.
+#[derive(Drop)]
+pub struct JoinedParts {
+    holder: Holder,
+}
+
+impl Model for JoinedParts {
+    ghost use Rattle.std.specs.Prelude.{List, ℕ};
+
+    ghost Value = { List ℕ };
+
+    ghost use Rattle.bt_resolve.specs.JoinedParts.{bytes_of};
+
+    ghost view = { λ joined. bytes_of joined.holder };
+}
+
+/// Both pieces as one text.
+fn both(alloc: Global, front: &[u8], back: &[u8]) -> Result<Bytes, AllocError>
+    ensures { IfOk result (λ text. text ≡ front.now ++ back.now) }
+{
+    let mut bytes = Vec::with_capacity(alloc, front.len().saturating_add(back.len()))?;
+    bytes.extend_from_slice(front)?;
+    bytes.extend_from_slice(back)?;
+    Ok(Bytes::from_vec(bytes))
+}
+
+/// A text with each run of white space made one space. It is shared where each is one already.
+fn white_joined(alloc: Global, text: Shared<Bytes>) -> Result<Shared<Bytes>, AllocError>
+    ensures { IfOk result (λ joined. joined ≡ white_joined text) }
+{
+    if is_white_joined(text.as_slice()) {
+        return Ok(text);
+    }
+    let joined = join_white(alloc, text.as_slice())?;
+    Shared::new(alloc, joined)
+}
+
+impl JoinedParts {
+    /// Nothing. It takes no memory.
+    pub fn new(alloc: Global) -> Self
+        ensures { result ≡ [] }
+    {
+        JoinedParts {
+            holder: Holder::Own(Bytes::new(alloc)),
+        }
+    }
+
+    /// The text of one part. It is not copied. The one error is that it has no room for another owner.
+    pub fn of_text(text: &Shared<Bytes>) -> Result<Self, AllocError>
+        ensures { IfOk result (λ part. part ≡ text.now) }
+    {
+        Ok(JoinedParts {
+            holder: Holder::Text(text.share()?),
+        })
+    }
+
+    /// What a macro stands for. It is not copied. The one error is that it has no room for another owner.
+    pub fn of_macro(text: &MacroText) -> Result<Self, AllocError>
+        ensures { IfOk result (λ part. part ≡ text.now) }
+    {
+        Ok(JoinedParts {
+            holder: Holder::Macro(text.share()?),
+        })
+    }
+
+    /// The bytes.
+    pub fn as_slice(&self) -> &[u8]
+        ensures { result.now ≡ self.now }
+    {
+        match &self.holder {
+            Holder::Text(text) => text.as_slice(),
+            Holder::Macro(text) => text.as_slice(),
+            Holder::Own(text) => text.as_slice(),
+        }
+    }
+
+    /// Puts bytes after those that are there. They are copied, those that are there only if they are shared.
+    fn append_bytes(&mut self, alloc: Global, more: &[u8]) -> Result<(), AllocError>
+        ensures { OnOk result (self.new ≡ self.old ++ more.now) }
+    {
+        if let Holder::Own(text) = &mut self.holder {
+            return text.append(more);
+        }
+        let all = both(alloc, self.as_slice(), more)?;
+        self.holder = Holder::Own(all);
+        Ok(())
+    }
+
+    /// Puts the texts of more parts after those that are there. Nothing is copied where one of them is empty. The one
+    /// error is out of memory.
+    pub fn append(&mut self, alloc: Global, more: JoinedParts) -> Result<(), AllocError>
+        ensures { OnOk result (self.new ≡ self.old ++ more) }
+    {
+        if self.as_slice().is_empty() {
+            let JoinedParts { holder } = more;
+            self.holder = holder;
+            Ok(())
+        } else if more.as_slice().is_empty() {
+            Ok(())
+        } else {
+            self.append_bytes(alloc, more.as_slice())
+        }
+    }
+
+    /// The text with each run of white space made one space. A text of one part that has no longer run is not copied. The
+    /// one error is out of memory.
+    pub fn into_value(self, alloc: Global) -> Result<Shared<Bytes>, AllocError>
+        ensures { IfOk result (λ value. value ≡ white_joined self) }
+    {
+        let JoinedParts { holder } = self;
+        match holder {
+            Holder::Text(text) => white_joined(alloc, text),
+            Holder::Macro(text) => Ok(text.into_value()),
+            Holder::Own(text) => Shared::new(alloc, join_white(alloc, text.as_slice())?),
+        }
+    }
+}

@@ -1,0 +1,79 @@
+//! What a macro stands for.
+
+ghost use Rattle.std.specs.Prelude.{◌≡◌, IfOk};
+ghost use Rattle.bt_text.specs.White.{white_joined};
+
+use bt_text::{Bytes, Shared, is_white_joined, join_white};
+use std::alloc::{AllocError, Global};
+use std::marker::Model;
+
+/// The text of a macro, for many owners, with the value that this macro alone gives. Contracts see the text.
+#[derive(Drop)]
+pub struct MacroText {
+    text: Shared<Bytes>,
+    /// The text with each run of white space made one space.
+    value: Shared<Bytes>,
+}
+
+impl Model for MacroText {
+    ghost use Rattle.std.specs.Prelude.{◌≡◌, List, ℕ};
+    ghost use Rattle.bt_text.specs.White.{white_joined};
+
+    ghost Value = { List ℕ };
+
+    ghost view = { λ m. m.text };
+
+    ghost invariant = { λ m. m.value ≡ white_joined m.text };
+}
+
+impl MacroText {
+    /// A text as a style gives it. The one error is out of memory.
+    pub fn new(alloc: Global, text: &[u8]) -> Result<Self, AllocError>
+        ensures { IfOk result (λ copy. copy ≡ text.now) }
+    {
+        let value = Shared::new(alloc, join_white(alloc, text)?)?;
+        let text = if is_white_joined(text) {
+            value.share()?
+        } else {
+            Shared::<Bytes>::copied(alloc, text)?
+        };
+        Ok(MacroText { text, value })
+    }
+
+    /// The text of a value, in which each run of white space is one space. It is not copied. The one error is that it has
+    /// no room for another owner.
+    pub fn of_value(value: Shared<Bytes>) -> Result<Self, AllocError>
+        requires { white_joined value ≡ value }
+        ensures { IfOk result (λ text. text ≡ value) }
+    {
+        Ok(MacroText {
+            text: value.share()?,
+            value,
+        })
+    }
+
+    /// The same text for one more owner. The one error is that it has no room for another owner.
+    pub fn share(&self) -> Result<Self, AllocError>
+        ensures { IfOk result (λ same. same ≡ self.now) }
+    {
+        Ok(MacroText {
+            text: self.text.share()?,
+            value: self.value.share()?,
+        })
+    }
+
+    /// The bytes of the text.
+    pub fn as_slice(&self) -> &[u8]
+        ensures { result.now ≡ self.now }
+    {
+        self.text.as_slice()
+    }
+
+    /// The text with each run of white space made one space.
+    pub fn into_value(self) -> Shared<Bytes>
+        ensures { result ≡ white_joined self }
+    {
+        let MacroText { text: _, value } = self;
+        value
+    }
+}
