@@ -33,6 +33,7 @@ pub record UsesDeclared (p : Program) : Type 0 where
   pub bodies : (n : ℕ) (f : Definition) → slice_get p.functions n ≡ Some f → All (IsDeclared p n) (body_names f.body)
   pub commands : All (λ c. NamesDeclared p c.action) p.commands
 
--- So no function of a style that a text spells comes to itself, by names in bodies alone: without `call.type$` none recurs.
+-- So by the names in bodies no function of a style that a text spells comes to itself. (When it runs it may, by
+-- `call.type$`, or where it runs what another one left on the literal stack.)
 abbrev pub NamesComeFirst : Type 0
 NamesComeFirst = (text : List ℕ) (p : Program) → style_of text ≡ Ok p → UsesDeclared p

@@ -33,7 +33,7 @@ pub fn each_name_is_found()
 {}
 
 /// Each name in the body of a function of a style that a text spells is declared, and stands for no function from this one
-/// on; each name of a command is declared. So no function comes to itself, but through `call.type$`.
+/// on; each name of a command is declared. So by the names in bodies no function comes to itself.
 pub fn names_come_first()
     ensures { NamesComeFirst }
 {}
