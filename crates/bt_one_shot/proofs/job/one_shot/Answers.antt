@@ -26,13 +26,13 @@ returns-in_err-blg-clause-err g c =
     on_err_any _ (stops_behind _ _ c.failures-known.result _ _ _ _ _ _ _ _ _ (c.in-Ok.ensures.ok ∙ ap (λ (r : List ℕ). no_texts r c.args.options.now.min) c.as_slice-root.ensures)
     c.new-met.ensures (sym c.failures-known.ensures) c.load_all.ensures.goes)
 
-pub write_out-requires-clause-bbl : goal.write_out-requires-clause-bbl
-write_out-requires-clause-bbl g c =
+pub write_out-status-requires-clause-bbl : goal.write_out-status-requires-clause-bbl
+write_out-status-requires-clause-bbl g c =
     let root : c.in_ok-session.session.root ≡ c.as_slice-root.result.now = goes_root _ _ _ _ _ _ _ _ _ _ _ _ c.in-Ok.ensures.ok c.load_all.ensures.goes c.in_ok-session.ensures in
     c.as_slice.ensures ∙ c.in_ok-bbl.ensures ∙ ap (λ (r : List ℕ). r ++ codes ".bbl") (sym root)
 
-pub write_out-requires-clause-blg : goal.write_out-requires-clause-blg
-write_out-requires-clause-blg g c =
+pub write_out-status-requires-clause-blg : goal.write_out-status-requires-clause-blg
+write_out-status-requires-clause-blg g c =
     let root : c.in_ok-session.session.root ≡ c.as_slice-root.result.now = goes_root _ _ _ _ _ _ _ _ _ _ _ _ c.in-Ok.ensures.ok c.load_all.ensures.goes c.in_ok-session.ensures in
     c.as_slice-2.ensures ∙ c.in_ok-blg.ensures ∙ ap (λ (r : List ℕ). r ++ codes ".blg") (sym root)
 
@@ -40,4 +40,4 @@ pub returns-clause-ok : goal.returns-clause-ok
 returns-clause-ok g c =
     runs_behind _ _ c.failures-known.result _ _ _ _ _ _ _ _ _ _ _ _ _ _ _ _
     (c.in-Ok.ensures.ok ∙ ap (λ (r : List ℕ). no_texts r c.args.options.now.min) c.as_slice-root.ensures) c.new-met.ensures (sym c.failures-known.ensures)
-    c.in_ok-session.ensures c.printed_log.ensures c.load_all.ensures.goes c.in_ok-load_all.ensures.end c.write_out.ensures
+    c.in_ok-session.ensures c.printed_log.ensures c.load_all.ensures.goes c.in_ok-load_all.ensures.end c.write_out-status.ensures
