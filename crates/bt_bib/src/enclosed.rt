@@ -47,6 +47,13 @@ impl Turn {
     }
 }
 
+/// Whether a byte is no brace and doesn't close.
+fn is_plain(close: u8, byte: u8) -> bool
+    ensures { result ≡ is_plain close byte }
+{
+    !(byte == close || byte == b'{' || byte == b'}')
+}
+
 impl Reader<'_> {
     /// The next brace or closing sign, or the text's end.
     fn past_plain(&self, from: Spot, close: u8) -> Spot
@@ -54,6 +61,9 @@ impl Reader<'_> {
         ensures value { here self.now.text.now result ≡ past (is_plain close) (here self.now.text.now from) }
         ensures inside { IsAhead self.now.text.now from result }
     {
+        if from.place < self.text.len() && !is_plain(close, self.text[from.place]) {
+            return from;
+        }
         let rest = &self.text[from.place..];
         let count = memchr3(close, b'{', b'}', rest).unwrap_or(rest.len());
         self.ahead(from, count)
