@@ -10,3 +10,5 @@ mod MeaningRows
 pub mod ReachedLemmas
 pub mod WorkLemmas
 pub mod IndexLemmas
+pub mod LookupLemmas
+pub mod ByNameLemmas

@@ -13,3 +13,4 @@ pub mod JobView
 pub mod Shown
 pub mod Kept
 pub mod Steps
+pub mod ByName

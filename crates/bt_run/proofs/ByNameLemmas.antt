@@ -1,0 +1,102 @@
+-- What texts mean, and the steps of their run, depend on the text of each name alone.
+use Rattle.std.proofs.Common.{◌≡◌, ◌∙◌, ap, refl, ℕ, suc, List, [], ◌∷◌, map, Option, Some, None, Result, Ok, Err}
+use Rattle.std.specs.Prelude.{unwrap_or}
+use Rattle.bt_style.specs.declared.fault.Fault.{Fault}
+use Rattle.bt_style.specs.declared.style.Command.{Command}
+use Rattle.bt_style.specs.declared.style.Action.{Action}
+use Rattle.bt_style.specs.declared.style.Action.TheVariants.{Entry, Execute, Function, Integers, Iterate, Macro, Read, Reverse, Sort, Strings}
+use Rattle.bt_style.specs.Program.{Program}
+use Rattle.bt_style.specs.Reader.{style_of}
+use Rattle.bt_bib.specs.Items.{items_of}
+use Rattle.bt_bib.specs.Reading.{pieces_of}
+use Rattle.bt_resolve.specs.Resolved.{resolved}
+use Rattle.bt_job.specs.declared.files.File.{File}
+use Rattle.bt_job.specs.declared.citations.Citations.{Citations}
+use Rattle.bt_job.specs.Naming.{text_of}
+use Rattle.bt_job.specs.Citations.{citations}
+use Rattle.bt_run.specs.declared.course.Course.{Course}
+use Rattle.bt_run.specs.Reading.{Job, declared_before, items_in, found, read_in}
+use Rattle.bt_run.specs.Commands.{unless_stopped, carried_out, commands_from, command}
+use Rattle.bt_run.specs.Counts.{counted}
+use Rattle.bt_run.specs.Meaning.{begun, first_globals, job_for, styled, run_with, run_of, shown, meaning, trace}
+use Rattle.bt_run.specs.Kept.{named_text, style_text}
+use Rattle.bt_run.specs.ByName.{HaveSameTexts}
+use Rattle.bt_run.proofs.LookupLemmas.{cited_alike}
+
+-- READ
+
+items_same : (files others : List File) → HaveSameTexts files others → (names : List (List ℕ)) → map (items_in files) names ≡ map (items_in others) names
+items_same files others same [] = refl
+items_same files others same (name ∷ names) =
+    ap (λ o. items_of (pieces_of (unwrap_or o [])) ∷ map (items_in files) names) (same name)
+    ∙ ap (λ rest. items_in others name ∷ rest) (items_same files others same names)
+
+-- a run's job with these files
+abbrev with_files : List File → Job → Job
+with_files files job = record job { files = files }
+
+found_same : (files others : List File) → HaveSameTexts files others → (job : Job) (number : ℕ) → found (with_files files job) number ≡ found (with_files others job) number
+found_same files others same job number =
+    ap (λ items. resolved (declared_before number job.program) job.cites items job.min) (items_same files others same job.databases)
+
+-- Commands
+
+carried_same : (files others : List File) → HaveSameTexts files others → (job : Job) (number line : ℕ) (a : Action) (r : Course) →
+    carried_out (with_files files job) number line a r ≡ carried_out (with_files others job) number line a r
+carried_same files others same job number line Entry r = refl
+carried_same files others same job number line (Execute t) r = refl
+carried_same files others same job number line (Function n) r = refl
+carried_same files others same job number line Integers r = refl
+carried_same files others same job number line (Iterate t) r = refl
+carried_same files others same job number line (Macro n) r = refl
+carried_same files others same job number line Read r = ap (λ f. read_in job.program job.databases f r) (found_same files others same job number)
+carried_same files others same job number line (Reverse t) r = refl
+carried_same files others same job number line Sort r = refl
+carried_same files others same job number line Strings r = refl
+
+commands_same : (files others : List File) → HaveSameTexts files others → (job : Job) (number : ℕ) (cs : List Command) (r : Course) →
+    commands_from (with_files files job) number cs r ≡ commands_from (with_files others job) number cs r
+commands_same files others same job number [] r = refl
+commands_same files others same job number (c ∷ cs) r =
+    ap (λ next. commands_from (with_files files job) (suc number) cs (unless_stopped r.stopped r next)) (carried_same files others same job number c.line c.action r)
+    ∙ commands_same files others same job (suc number) cs (command (with_files others job) number c r)
+
+-- Runs
+
+styled_same : (files others : List File) → HaveSameTexts files others → (c : Citations) (min : ℕ) (style : List ℕ) (read : Result Program Fault) →
+    styled files c min style read ≡ styled others c min style read
+styled_same files others same c min style (Err fault) = refl
+styled_same files others same c min style (Ok p) =
+    ap counted (commands_same files others same (job_for files c min style p) 0 p.commands (begun (first_globals p) c.log))
+
+run_same : (files others : List File) → HaveSameTexts files others → (c : Citations) (min : ℕ) (style : Option (List ℕ)) →
+    run_with files c min style ≡ run_with others c min style
+run_same files others same c min None = refl
+run_same files others same c min (Some style) =
+    styled_same files others same c min style (style_of (unwrap_or (text_of files style) []))
+    ∙ ap (λ o. styled others c min style (style_of (unwrap_or o []))) (same style)
+
+whole_run_same : (files others : List File) → HaveSameTexts files others → (root : List ℕ) (min : ℕ) → run_of files root min ≡ run_of others root min
+unfolding run_of
+whole_run_same files others same root min =
+    run_same files others same (citations files root) min (citations files root).style
+    ∙ ap (λ (c : Citations). run_with others c min c.style) (cited_alike files others root same)
+
+pub meaning_same : (files others : List File) → HaveSameTexts files others → (root : List ℕ) (min : ℕ) → meaning files root min ≡ meaning others root min
+unfolding meaning
+meaning_same files others same root min =
+    ap (λ (r : Course). shown r (citations files root).wanted) (whole_run_same files others same root min)
+    ∙ ap (λ (c : Citations). shown (run_of others root min) c.wanted) (cited_alike files others root same)
+
+pub trace_same : (files others : List File) → HaveSameTexts files others → (root : List ℕ) (min : ℕ) → trace files root min ≡ trace others root min
+unfolding trace
+trace_same files others same root min = ap (λ (r : Course). r.trace) (whole_run_same files others same root min)
+
+named_text_same : (files others : List File) → HaveSameTexts files others → (style : Option (List ℕ)) → named_text files style ≡ named_text others style
+named_text_same files others same None = refl
+named_text_same files others same (Some name) = ap (λ o. Some (unwrap_or o [])) (same name)
+
+pub style_text_same : (files others : List File) → HaveSameTexts files others → (root : List ℕ) → style_text files root ≡ style_text others root
+unfolding style_text
+style_text_same files others same root =
+    named_text_same files others same (citations files root).style ∙ ap (λ (c : Citations). named_text others c.style) (cited_alike files others root same)
