@@ -1,1 +1,3 @@
 pub mod SessionLemmas
+mod TextLemmas
+mod OrderLemmas

@@ -2,3 +2,4 @@ pub mod Present
 pub mod Changes
 pub mod Applied
 pub mod Headline
+pub mod Order

@@ -1,5 +1,6 @@
 -- What a session is about: the present texts by name, the root name, and min-crossrefs; and what that means.
-use Rattle.std.specs.Prelude.{◌≡◌, ℕ, Bool, not, ◌&&◌, nat_le, length, List, [], ◌∷◌, ◌++◌, take, drop, filter, Option, Some, None, position, slice_set}
+use Rattle.std.specs.Prelude.{◌≡◌, ℕ, Bool, not, ◌&&◌, nat_le, length, List, [], ◌∷◌, ◌++◌, map, take, drop, filter, Option, Some, None, position, slice_set}
+use Rattle.std.specs.List.{IsDistinct}
 use Rattle.std.specs.Str.{bytes_eq}
 use Rattle.bt_job.specs.declared.files.File.{File}
 use Rattle.bt_job.specs.Naming.{is_file_name}
@@ -12,6 +13,10 @@ use Rattle.bibtex.specs.declared.state.State.{State}
 -- the present texts, each under its name
 abbrev pub Texts : Type 0
 Texts = List File
+
+-- Each name stands once among the present texts.
+abbrev pub EachOnce : List File → Type 0
+EachOnce files = IsDistinct bytes_eq (map (λ (f : File). f.name) files)
 
 -- which of some files has a name
 abbrev pub place_of : List ℕ → List File → Option ℕ
@@ -57,8 +62,10 @@ work old new = run_work (style_text old.texts old.root) (trace old.texts old.roo
 abbrev pub reported : State → State → Report
 reported old new = report_after (style_text old.texts old.root) (trace old.texts old.root old.min) new.texts new.root new.min
 
--- What a session keeps beside its state: what the state means, the text of its style, and the steps of its run.
+-- What a session keeps to: each name stands once among its texts, and beside its state it keeps what the state means, the
+-- text of its style, and the steps of its run.
 pub record Keeps (s : State) (m : Meaning) (text : Option (List ℕ)) (steps : List Step) : Type 0 where
+  pub once : EachOnce s.texts
   pub is_meaning : m ≡ shown s
   pub is_text : text ≡ style_text s.texts s.root
   pub are_steps : steps ≡ trace s.texts s.root s.min

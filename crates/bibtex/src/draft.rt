@@ -22,10 +22,13 @@ pub struct Draft {
 
 impl Model for Draft {
     ghost use Rattle.bibtex.specs.declared.state.State.{State};
+    ghost use Rattle.bibtex.specs.Present.{EachOnce};
 
     ghost Value = { State };
 
     ghost view = { λ d. d.state };
+
+    ghost invariant = { λ d. EachOnce d.state.texts };
 }
 
 impl Draft {

@@ -6,6 +6,7 @@ mod changed;
 mod draft;
 mod edit;
 mod edits;
+mod laws;
 mod refusal;
 mod reread;
 mod session;
@@ -17,6 +18,7 @@ pub use bt_text::Bytes;
 pub use draft::Draft;
 pub use edit::{Change, Edit, Refusal};
 pub use edits::edit_all;
+pub use laws::{names_stand_once, order_is_never_seen};
 pub use refusal::{FILE_BYTES, FILE_LIMIT, is_root_name};
 pub use session::Session;
 

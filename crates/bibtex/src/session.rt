@@ -40,7 +40,7 @@ impl Model for Session {
 }
 
 impl Session {
-    ghost use Rattle.bibtex.specs.Present.{is_root_name, no_texts, shown, reported};
+    ghost use Rattle.bibtex.specs.Present.{is_root_name, no_texts, shown, reported, EachOnce};
     ghost use Rattle.bibtex.specs.Changes.{change_of};
     ghost use Rattle.bibtex.specs.Applied.{applied, refusal_of, IsAnswer, IsNew};
     ghost use Rattle.bt_job.specs.Naming.{text_of};
@@ -102,6 +102,7 @@ impl Session {
     /// Goes over to a state, over what was read before: all that it means is made beside what is kept, which is
     /// then replaced.
     fn go_to(&mut self, state: State, readings: Readings) -> Result<Report, Refusal>
+        requires { EachOnce state.texts }
         ensures ok { IfOk result (λ _. self.new ≡ state) }
         ensures report { IfOk result (λ report. report ≡ reported self.old self.new) }
         ensures refused { IfErr result (λ refusal. refusal ≡ Refusal.OutOfMemory) }
@@ -187,9 +188,10 @@ impl Session {
         self.answers.wanted.as_slice()
     }
 
-    /// The present text of a name, if there is one.
+    /// The present text of a name, if there is one. Each name stands once among the present texts.
     pub fn file(&self, name: &[u8]) -> Option<&[u8]>
-        ensures { option_map (λ text. text.now) result ≡ text_of self.now.texts name.now }
+        ensures once { EachOnce self.now.texts }
+        ensures text { option_map (λ text. text.now) result ≡ text_of self.now.texts name.now }
     {
         text_of(self.state.texts.as_slice(), name)
     }
