@@ -6,7 +6,7 @@ ghost use Rattle.bt_bib.specs.Placed.{BeginsBehind};
 ghost use Rattle.bt_bib.specs.Reading.{pieces_of};
 
 use crate::placed::PlacedPiece;
-use crate::reader::Reader;
+use crate::reader::{Reader, common_names};
 use crate::spot::Spot;
 use bt_text::Sequence;
 use std::alloc::{AllocError, AllocFailed, Global};
@@ -43,7 +43,13 @@ impl KeptItems {
     pub fn read(alloc: Global, text: &[u8]) -> Result<KeptItems, AllocError>
         ensures { IfOk result (λ items. items ≡ pieces_of text.now) }
     {
-        Reader { alloc, text }.kept_from(Spot::START)
+        let known = common_names(alloc)?;
+        let reader = Reader {
+            alloc,
+            text,
+            known: &known,
+        };
+        reader.kept_from(Spot::START)
     }
 
     /// The items and comment words, in the order of the text.

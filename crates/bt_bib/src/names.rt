@@ -31,7 +31,9 @@ impl Reader<'_> {
             return Err(Halt::Stopped(Fault::EndOfFile, from));
         };
         if is_name_byte(byte) && !is_digit(byte) {
-            Ok(self.run(from, Class::Name)?)
+            let end = self.past(from, Class::Name);
+            let name = self.name_of(&self.text[from.place..end.place])?;
+            Ok((name, end))
         } else {
             Err(Halt::Stopped(Fault::MissingName(what), from))
         }

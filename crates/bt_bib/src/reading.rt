@@ -11,7 +11,7 @@ use crate::item::Piece;
 use crate::items::Items;
 use crate::kept_items::KeptItems;
 use crate::placed::PlacedPiece;
-use crate::reader::Reader;
+use crate::reader::{Reader, common_names};
 use crate::spot::Spot;
 use bt_text::Shared;
 use memchr::memchr;
@@ -70,6 +70,7 @@ impl Reader<'_> {
         let own = Reader {
             alloc: self.alloc,
             text: &self.text[start.place..],
+            known: self.known,
         };
         let (piece, reached) = own.piece(Spot::NOWHERE)?;
         let end = Spot {
@@ -118,5 +119,11 @@ impl Reader<'_> {
 pub fn read_bib(alloc: Global, text: &[u8]) -> Result<Items, AllocError>
     ensures { IfOk result (λ items. items ≡ pieces_of text.now) }
 {
-    Reader { alloc, text }.pieces_from(Spot::START)
+    let known = common_names(alloc)?;
+    let reader = Reader {
+        alloc,
+        text,
+        known: &known,
+    };
+    reader.pieces_from(Spot::START)
 }

@@ -39,6 +39,7 @@ impl KeptItems {
         let reader = Reader {
             alloc,
             text: new_text,
+            known: &[],
         };
         let front = KeptItems::new(alloc);
         let items = front.with_rebased(&old[..kept], Spot::NOWHERE, Spot::NOWHERE)?;
