@@ -124,7 +124,7 @@ impl Reader<'_> {
             kind: Shared::new(self.alloc, to_ascii_lowercase(self.alloc, kind)?)?,
             function,
             crossref: given.crossref,
-            values: Shared::new(self.alloc, given.values)?,
+            values: given.values.into_shared(self.alloc)?,
         })
     }
 

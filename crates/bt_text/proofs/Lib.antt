@@ -15,3 +15,4 @@ pub mod NameLemmas
 pub mod FoldingLemmas
 pub mod SparseLemmas
 pub mod WhiteLemmas
+pub mod LayerLemmas

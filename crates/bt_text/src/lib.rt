@@ -20,6 +20,7 @@ mod name_bytes;
 mod name_list;
 mod output;
 mod period;
+mod placed;
 mod purifying;
 mod sequence;
 mod shared;

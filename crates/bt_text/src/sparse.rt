@@ -1,109 +1,184 @@
 //! Texts by their places, of which many may be missing.
 
-ghost use Rattle.std.specs.Prelude.{◌≡◌, ◌<◌, ◌++◌, ◌↔◌, ℕ, IsTrue, length, replicate, is_none, slice_index_or, slice_set, Some, None, option_copied, IfOk, IfErr, OnOk, OnErr};
+ghost use Rattle.std.specs.Prelude.{◌≡◌, ◌↔◌, IsTrue, length, replicate, take, is_none, slice_index_or, slice_set, None, option_copied, IfOk, OnOk, OnErr};
 ghost use Rattle.std.specs.List.{list_all};
 ghost use Rattle.bt_text.specs.Sparse.{filled_from};
-ghost use Rattle.bt_text.specs.Merging.{below, behind, merged, same_present, same_text, IsGap, IsAt, IsInOrder};
 
 use crate::bytes::Bytes;
+use crate::placed::PlacedTexts;
 use crate::shared::Shared;
 use std::alloc::{AllocError, Global};
 use std::marker::Model;
 
+/// How many texts are many: these are shared by the texts that are filled from them.
+const MANY: usize = 64;
+
 /// A list of texts of which many may be missing. Contracts see the list, with those that are missing. These take no
-/// memory.
+/// memory. Texts that are filled from many others share those.
 #[derive(Debug, Drop)]
 pub struct SparseTexts {
-    /// How long the list is.
-    count: usize,
-    /// The texts that are there with their places, which rise.
-    present: Vec<(usize, Shared<Bytes>)>,
+    /// The texts that these alone have.
+    own: PlacedTexts,
+    /// Texts that others have too, each for a place that has none of its own.
+    base: Option<Shared<PlacedTexts>>,
 }
 
 impl Model for SparseTexts {
-    ghost use Rattle.std.specs.Prelude.{ℕ, List, Option};
-    ghost use Rattle.bt_text.specs.Sparse.{all_texts, IsRising};
+    ghost use Rattle.std.specs.Prelude.{◌≤◌, ℕ, length, unwrap_or, List, [], Option};
+    ghost use Rattle.bt_text.specs.Sparse.{filled_from};
 
     ghost Value = { List (Option (List ℕ)) };
 
-    ghost view = { λ texts. all_texts texts.count texts.present.items };
+    ghost view = { λ texts. filled_from texts.own (unwrap_or texts.base []) };
 
-    ghost invariant = { λ texts. IsRising 0 texts.count texts.present.items };
+    ghost invariant = { λ texts. length (unwrap_or texts.base []) ≤ length texts.own };
+}
+
+/// Texts that are theirs alone where they are few, and to be shared where they are many.
+#[tactic(auto, using(crate::proofs::LayerLemmas::filled_none, crate::proofs::LayerLemmas::filled_gaps))]
+fn settled(alloc: Global, texts: PlacedTexts) -> Result<SparseTexts, AllocError>
+    ensures { IfOk result (λ same. same ≡ texts) }
+{
+    if texts.count_present() < MANY {
+        return Ok(SparseTexts {
+            own: texts,
+            base: None,
+        });
+    }
+    Ok(SparseTexts {
+        own: PlacedTexts::new(alloc, texts.len()),
+        base: Some(Shared::new(alloc, texts)?),
+    })
+}
+
+/// The texts, each that is missing taken from those of a base. That is shared where the texts are few beside it.
+fn over(
+    alloc: Global,
+    own: PlacedTexts,
+    base: &Shared<PlacedTexts>,
+) -> Result<SparseTexts, AllocError>
+    ensures { IfOk result (λ all. all ≡ filled_from own base.now) }
+{
+    if own.len() != base.len() || own.count_present() > base.count_present() / 8 {
+        return settled(alloc, own.filled_from(alloc, base)?);
+    }
+    Ok(SparseTexts {
+        own,
+        base: Some(base.share()?),
+    })
+}
+
+/// Texts, each that is missing taken from others.
+#[tactic(auto, using(crate::proofs::LayerLemmas::filled_twice, crate::proofs::LayerLemmas::filled_none))]
+fn filled(
+    alloc: Global,
+    texts: &PlacedTexts,
+    others: &SparseTexts,
+) -> Result<SparseTexts, AllocError>
+    ensures { IfOk result (λ all. all ≡ filled_from texts.now others.now) }
+{
+    let own = texts.filled_from(alloc, &others.own)?;
+    match &others.base {
+        None => settled(alloc, own),
+        Some(base) => over(alloc, own, base),
+    }
+}
+
+/// Whether two texts that may be missing are the same.
+fn same_text(text: Option<&Shared<Bytes>>, other: Option<&Shared<Bytes>>) -> bool
+    ensures { IsTrue result ↔ option_copied text.entry ≡ option_copied other.entry }
+{
+    match (text, other) {
+        (None, None) => true,
+        (Some(text), Some(other)) => text.as_slice() == other.as_slice(),
+        _ => false,
+    }
 }
 
 impl SparseTexts {
     /// So many places without a text. They take no memory.
+    #[tactic(auto, using(crate::proofs::LayerLemmas::filled_none))]
     pub fn new(alloc: Global, count: usize) -> Self
         ensures { result ≡ replicate count None }
     {
         SparseTexts {
-            count,
-            present: Vec::new(alloc),
+            own: PlacedTexts::new(alloc, count),
+            base: None,
         }
     }
 
     /// How long the list is.
+    #[tactic(auto, using(crate::proofs::LayerLemmas::filled_length))]
     pub fn len(&self) -> usize
         ensures { result ≡ length self.now }
     {
-        self.count
+        self.own.len()
     }
 
     /// Whether all texts are missing.
+    #[tactic(auto, using(crate::proofs::LayerLemmas::filled_none, crate::proofs::LayerLemmas::filled_has_none))]
     pub fn has_none(&self) -> bool
         ensures { result ≡ list_all is_none self.now }
     {
-        self.present.as_slice().is_empty()
+        match &self.base {
+            None => self.own.has_none(),
+            Some(base) => self.own.has_none() && base.has_none(),
+        }
     }
 
     /// The text of a place, if it is there.
+    #[tactic(auto, using(crate::proofs::LayerLemmas::filled_get, crate::proofs::LayerLemmas::filled_none))]
     pub fn get(&self, place: usize) -> Option<&Shared<Bytes>>
         ensures { option_copied result ≡ slice_index_or self.now place None }
     {
-        match search(self.present.as_slice(), place) {
-            Ok(at) => Some(&self.present[at].1),
-            Err(_) => None,
+        match (self.own.get(place), &self.base) {
+            (Some(text), _) => Some(text),
+            (None, None) => None,
+            (None, Some(base)) => base.get(place),
         }
     }
 
-    /// Puts a text in a place; one behind the end stays as it is.
-    fn put(&mut self, place: usize, text: Shared<Bytes>) -> Result<(), AllocError>
-        ensures ok { OnOk result (self.new ≡ slice_set self.old place (Some text)) }
-        ensures err { OnErr result (self.new ≡ self.old) }
+    /// The same texts, none of which others have too.
+    #[tactic(auto, using(crate::proofs::LayerLemmas::filled_none))]
+    fn all(&self) -> Result<PlacedTexts, AllocError>
+        ensures { IfOk result (λ all. all ≡ self.now) }
     {
-        if place >= self.count {
-            return Ok(());
-        }
-        match search(self.present.as_slice(), place) {
-            Ok(at) => {
-                self.present[at] = (place, text);
-                Ok(())
-            }
-            Err(at) => Ok(self.present.insert(at, (place, text))?),
+        let alloc = self.own.allocator();
+        match &self.base {
+            None => self.own.copied(alloc),
+            Some(base) => self.own.filled_from(alloc, base),
         }
     }
 
     /// Takes away the text of a place, if there is one.
-    fn clear(&mut self, place: usize)
-        ensures { self.new ≡ slice_set self.old place None }
+    #[tactic(auto, using(crate::proofs::LayerLemmas::filled_clear, crate::proofs::LayerLemmas::filled_none))]
+    fn clear(&mut self, place: usize) -> Result<(), AllocError>
+        ensures ok { OnOk result (self.new ≡ slice_set self.old place None) }
+        ensures err { OnErr result (self.new ≡ self.old) }
     {
-        if let Ok(at) = search(self.present.as_slice(), place) {
-            self.present.remove(at);
+        let Some(base) = &self.base else {
+            return self.own.set(place, None);
+        };
+        if base.get(place).is_none() {
+            return self.own.set(place, None);
         }
+        let mut all = self.all()?;
+        all.set(place, None)?;
+        self.own = all;
+        self.base = None;
+        Ok(())
     }
 
     /// Puts a text in a place, or takes away the one that is there; a place behind the end stays as it is. The one error is
     /// out of memory; all texts are then as before.
+    #[tactic(auto, using(crate::proofs::LayerLemmas::filled_put))]
     pub fn set(&mut self, place: usize, text: Option<Shared<Bytes>>) -> Result<(), AllocError>
         ensures ok { OnOk result (self.new ≡ slice_set self.old place text) }
         ensures err { OnErr result (self.new ≡ self.old) }
     {
         match text {
-            Some(text) => self.put(place, text),
-            None => {
-                self.clear(place);
-                Ok(())
-            }
+            Some(text) => self.own.set(place, Some(text)),
+            None => self.clear(place),
         }
     }
 
@@ -111,116 +186,76 @@ impl SparseTexts {
     pub fn copied(&self, alloc: Global) -> Result<Self, AllocError>
         ensures { IfOk result (λ same. same ≡ self.now) }
     {
-        let present = copied(alloc, self.present.as_slice())?;
+        let base = match &self.base {
+            None => None,
+            Some(base) => Some(base.share()?),
+        };
         Ok(SparseTexts {
-            count: self.count,
-            present,
+            own: self.own.copied(alloc)?,
+            base,
         })
     }
 
-    /// The texts, each that is missing taken from others, for one more owner. The one error is out of memory.
+    /// The texts for many owners. Where they are many, those that are filled from them share them. The one error is out of
+    /// memory.
+    #[tactic(auto, using(crate::proofs::LayerLemmas::filled_none))]
+    pub fn into_shared(self, alloc: Global) -> Result<Shared<SparseTexts>, AllocError>
+        ensures { IfOk result (λ texts. texts ≡ self) }
+    {
+        let SparseTexts { own, base } = self;
+        match base {
+            None => Shared::new(alloc, settled(alloc, own)?),
+            Some(base) => Shared::new(
+                alloc,
+                SparseTexts {
+                    own,
+                    base: Some(base),
+                },
+            ),
+        }
+    }
+
+    /// The texts, each that is missing taken from others, for one more owner. Where the others are many and these are few,
+    /// the others are shared. The one error is out of memory.
+    #[tactic(auto, using(crate::proofs::LayerLemmas::filled_none))]
     pub fn filled_from(&self, alloc: Global, others: &SparseTexts) -> Result<Self, AllocError>
         ensures { IfOk result (λ all. all ≡ filled_from self.now others.now) }
     {
-        let texts = self.present.as_slice();
-        let present = merged(alloc, self.count, texts, others.present.as_slice())?;
-        Ok(SparseTexts {
-            count: self.count,
-            present,
-        })
+        match &self.base {
+            None => filled(alloc, &self.own, others),
+            Some(base) => filled(alloc, &self.own.filled_from(alloc, base)?, others),
+        }
     }
 
-    /// Whether others are the same, and as many. It goes over the texts that are there once.
+    /// Whether others are the same, and as many, by each place.
+    fn is_same_everywhere(&self, others: &SparseTexts) -> bool
+        ensures { IsTrue result ↔ self.now ≡ others.now }
+    {
+        if self.len() != others.len() {
+            return false;
+        }
+        'places: for place in 0..self.len() {
+            if !same_text(self.get(place), others.get(place)) {
+                return false;
+            }
+        }
+        true
+    }
+
+    /// Whether others are the same, and as many. It goes over the texts that are there once or twice.
+    #[tactic(auto, using(crate::proofs::LayerLemmas::filled_none))]
     pub fn is_same(&self, others: &SparseTexts) -> bool
         ensures { IsTrue result ↔ self.now ≡ others.now }
     {
-        self.count == others.count
-            && same_present(self.present.as_slice(), others.present.as_slice())
-    }
-}
-
-/// Where the text of a place is, or where it would go.
-fn search(present: &[(usize, Shared<Bytes>)], place: usize) -> Result<usize, usize>
-    requires { IsInOrder present.now }
-    ensures found { IfOk result (IsAt present.now place) }
-    ensures absent { IfErr result (IsGap present.now place) }
-{
-    present.binary_search_by_key(&place, |there| there.0)
-}
-
-/// The same texts with their places, each for one more owner.
-fn copied(
-    alloc: Global,
-    present: &[(usize, Shared<Bytes>)],
-) -> Result<Vec<(usize, Shared<Bytes>)>, AllocError>
-    ensures { IfOk result (λ same. same.items ≡ present.now) }
-{
-    let mut same = Vec::new(alloc);
-    'texts: for (place, text) in present {
-        same.push((*place, text.share()?))?;
-    }
-    Ok(same)
-}
-
-/// Puts those whose places are below one after the others, and gives those that stand after it.
-fn put_below<'a>(
-    others: &'a [(usize, Shared<Bytes>)],
-    place: usize,
-    all: &mut Vec<(usize, Shared<Bytes>)>,
-) -> Result<&'a [(usize, Shared<Bytes>)], AllocError>
-    ensures all { OnOk result (all.new.items ≡ all.old.items ++ below place others.now) }
-    ensures behind { IfOk result (λ rest. rest.now ≡ behind place others.now) }
-{
-    'others: for i in 0..others.len() {
-        let (at, text) = &others[i];
-        if *at == place {
-            return Ok(&others[i + 1..]);
-        }
-        if *at > place {
-            return Ok(&others[i..]);
-        }
-        all.push((*at, text.share()?))?;
-    }
-    Ok(&[])
-}
-
-/// Texts with those of others whose places have none, below a count.
-fn merged(
-    alloc: Global,
-    count: usize,
-    texts: &[(usize, Shared<Bytes>)],
-    others: &[(usize, Shared<Bytes>)],
-) -> Result<Vec<(usize, Shared<Bytes>)>, AllocError>
-    ensures { IfOk result (λ all. all.items ≡ merged count texts.now others.now) }
-{
-    let mut all = Vec::new(alloc);
-    let mut rest = others;
-    'texts: for (place, text) in texts {
-        rest = put_below(rest, *place, &mut all)?;
-        all.push((*place, text.share()?))?;
-    }
-    put_below(rest, count, &mut all)?;
-    Ok(all)
-}
-
-/// Whether two texts with their places are the same.
-fn same_text(text: &(usize, Shared<Bytes>), other: &(usize, Shared<Bytes>)) -> bool
-    ensures { result ≡ same_text text.now other.now }
-{
-    text.0 == other.0 && text.1.as_slice() == other.1.as_slice()
-}
-
-/// Whether the same texts have the same places.
-fn same_present(texts: &[(usize, Shared<Bytes>)], others: &[(usize, Shared<Bytes>)]) -> bool
-    ensures { result ≡ same_present texts.now others.now }
-{
-    if texts.len() != others.len() {
-        return false;
-    }
-    'texts: for i in 0..texts.len() {
-        if !same_text(&texts[i], &others[i]) {
-            return false;
+        match (&self.base, &others.base) {
+            (None, None) => self.own.is_same(&others.own),
+            (Some(base), Some(other)) if self.own.is_same(&others.own) && base.is_same(other) => {
+                true
+            }
+            _ => match (self.all(), others.all()) {
+                (Ok(texts), Ok(others)) => texts.is_same(&others),
+                _ => self.is_same_everywhere(others),
+            },
         }
     }
-    true
 }

@@ -66,3 +66,40 @@ fn copies_are_the_same_until_one_changes(rt: HostRuntime) -> Result<(), Fail> {
     assert!(rt; !SparseTexts::new(alloc, 4).is_same(&SparseTexts::new(alloc, 5)));
     Ok(())
 }
+
+/// A text at each of 100 places, for many owners.
+fn many(alloc: Global) -> Result<Shared<SparseTexts>, AllocError> {
+    let mut texts = SparseTexts::new(alloc, 100);
+    for place in 0..100 {
+        let text = Shared::<Bytes>::copied(alloc, &[b'a' + (place % 26) as u8])?;
+        texts.set(place, Some(text))?;
+    }
+    texts.into_shared(alloc)
+}
+
+#[test]
+fn few_texts_over_many_are_seen_and_changed_as_others(rt: HostRuntime) -> Result<(), Fail> {
+    let alloc = rt.alloc();
+    let all = many(alloc)?;
+    let mut own = SparseTexts::new(alloc, 100);
+    own.set(1, Some(Shared::<Bytes>::copied(alloc, b"own")?))?;
+    let child = own.filled_from(alloc, &all)?;
+    let mut changed = child.copied(alloc)?;
+    assert!(rt; child.is_same(&changed) && !child.is_same(&all) && !child.has_none());
+    for (place, want) in [(0, "a"), (1, "own"), (2, "c"), (99, "v")] {
+        assert!(rt;
+            child
+                .get(place)
+                .is_some_and(|text| text.as_slice() == want.as_bytes())
+        );
+    }
+    changed.set(1, None)?;
+    assert!(rt; changed.get(1).is_none() && !changed.is_same(&child));
+    changed.set(1, Some(Shared::<Bytes>::copied(alloc, b"b")?))?;
+    assert!(rt; changed.is_same(&all) && all.is_same(&changed));
+    changed.set(2, None)?;
+    assert!(rt; changed.get(2).is_none() && changed.get(3).is_some());
+    let grandchild = SparseTexts::new(alloc, 100).filled_from(alloc, &child)?;
+    assert!(rt; grandchild.is_same(&child) && grandchild.get(100).is_none());
+    Ok(())
+}

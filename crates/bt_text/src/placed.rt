@@ -1,0 +1,236 @@
+//! Texts in a list with their places.
+
+ghost use Rattle.std.specs.Prelude.{◌≡◌, ◌<◌, ◌++◌, ◌↔◌, ℕ, IsTrue, length, replicate, is_none, slice_index_or, slice_set, Some, None, option_copied, IfOk, IfErr, OnOk, OnErr};
+ghost use Rattle.std.specs.List.{list_all};
+ghost use Rattle.bt_text.specs.Sparse.{filled_from};
+ghost use Rattle.bt_text.specs.Merging.{below, behind, merged, same_present, same_text, IsGap, IsAt, IsInOrder};
+
+use crate::bytes::Bytes;
+use crate::shared::Shared;
+use std::alloc::{AllocError, Global};
+use std::marker::Model;
+
+/// A list of texts of which many may be missing. Contracts see the list, with those that are missing. These take no
+/// memory.
+#[derive(Debug, Drop)]
+pub struct PlacedTexts {
+    /// How long the list is.
+    count: usize,
+    /// The texts that are there with their places, which rise.
+    present: Vec<(usize, Shared<Bytes>)>,
+}
+
+impl Model for PlacedTexts {
+    ghost use Rattle.std.specs.Prelude.{ℕ, List, Option};
+    ghost use Rattle.bt_text.specs.Sparse.{all_texts, IsRising};
+
+    ghost Value = { List (Option (List ℕ)) };
+
+    ghost view = { λ texts. all_texts texts.count texts.present.items };
+
+    ghost invariant = { λ texts. IsRising 0 texts.count texts.present.items };
+}
+
+impl PlacedTexts {
+    /// So many places without a text. They take no memory.
+    pub fn new(alloc: Global, count: usize) -> Self
+        ensures { result ≡ replicate count None }
+    {
+        PlacedTexts {
+            count,
+            present: Vec::new(alloc),
+        }
+    }
+
+    /// How long the list is.
+    pub fn len(&self) -> usize
+        ensures { result ≡ length self.now }
+    {
+        self.count
+    }
+
+    /// How many texts are there.
+    pub fn count_present(&self) -> usize {
+        self.present.len()
+    }
+
+    /// What gives these memory.
+    pub fn allocator(&self) -> Global {
+        *self.present.allocator()
+    }
+
+    /// Whether all texts are missing.
+    pub fn has_none(&self) -> bool
+        ensures { result ≡ list_all is_none self.now }
+    {
+        self.present.as_slice().is_empty()
+    }
+
+    /// The text of a place, if it is there.
+    pub fn get(&self, place: usize) -> Option<&Shared<Bytes>>
+        ensures { option_copied result ≡ slice_index_or self.now place None }
+    {
+        match search(self.present.as_slice(), place) {
+            Ok(at) => Some(&self.present[at].1),
+            Err(_) => None,
+        }
+    }
+
+    /// Puts a text in a place; one behind the end stays as it is.
+    fn put(&mut self, place: usize, text: Shared<Bytes>) -> Result<(), AllocError>
+        ensures ok { OnOk result (self.new ≡ slice_set self.old place (Some text)) }
+        ensures err { OnErr result (self.new ≡ self.old) }
+    {
+        if place >= self.count {
+            return Ok(());
+        }
+        match search(self.present.as_slice(), place) {
+            Ok(at) => {
+                self.present[at] = (place, text);
+                Ok(())
+            }
+            Err(at) => Ok(self.present.insert(at, (place, text))?),
+        }
+    }
+
+    /// Takes away the text of a place, if there is one.
+    fn clear(&mut self, place: usize)
+        ensures { self.new ≡ slice_set self.old place None }
+    {
+        if let Ok(at) = search(self.present.as_slice(), place) {
+            self.present.remove(at);
+        }
+    }
+
+    /// Puts a text in a place, or takes away the one that is there; a place behind the end stays as it is. The one error is
+    /// out of memory; all texts are then as before.
+    pub fn set(&mut self, place: usize, text: Option<Shared<Bytes>>) -> Result<(), AllocError>
+        ensures ok { OnOk result (self.new ≡ slice_set self.old place text) }
+        ensures err { OnErr result (self.new ≡ self.old) }
+    {
+        match text {
+            Some(text) => self.put(place, text),
+            None => {
+                self.clear(place);
+                Ok(())
+            }
+        }
+    }
+
+    /// The same texts, each for one more owner. The one error is out of memory.
+    pub fn copied(&self, alloc: Global) -> Result<Self, AllocError>
+        ensures { IfOk result (λ same. same ≡ self.now) }
+    {
+        let present = copied(alloc, self.present.as_slice())?;
+        Ok(PlacedTexts {
+            count: self.count,
+            present,
+        })
+    }
+
+    /// The texts, each that is missing taken from others, for one more owner. The one error is out of memory.
+    pub fn filled_from(&self, alloc: Global, others: &PlacedTexts) -> Result<Self, AllocError>
+        ensures { IfOk result (λ all. all ≡ filled_from self.now others.now) }
+    {
+        let texts = self.present.as_slice();
+        let present = merged(alloc, self.count, texts, others.present.as_slice())?;
+        Ok(PlacedTexts {
+            count: self.count,
+            present,
+        })
+    }
+
+    /// Whether others are the same, and as many. It goes over the texts that are there once.
+    pub fn is_same(&self, others: &PlacedTexts) -> bool
+        ensures { IsTrue result ↔ self.now ≡ others.now }
+    {
+        self.count == others.count
+            && same_present(self.present.as_slice(), others.present.as_slice())
+    }
+}
+
+/// Where the text of a place is, or where it would go.
+fn search(present: &[(usize, Shared<Bytes>)], place: usize) -> Result<usize, usize>
+    requires { IsInOrder present.now }
+    ensures found { IfOk result (IsAt present.now place) }
+    ensures absent { IfErr result (IsGap present.now place) }
+{
+    present.binary_search_by_key(&place, |there| there.0)
+}
+
+/// The same texts with their places, each for one more owner.
+fn copied(
+    alloc: Global,
+    present: &[(usize, Shared<Bytes>)],
+) -> Result<Vec<(usize, Shared<Bytes>)>, AllocError>
+    ensures { IfOk result (λ same. same.items ≡ present.now) }
+{
+    let mut same = Vec::new(alloc);
+    'texts: for (place, text) in present {
+        same.push((*place, text.share()?))?;
+    }
+    Ok(same)
+}
+
+/// Puts those whose places are below one after the others, and gives those that stand after it.
+fn put_below<'a>(
+    others: &'a [(usize, Shared<Bytes>)],
+    place: usize,
+    all: &mut Vec<(usize, Shared<Bytes>)>,
+) -> Result<&'a [(usize, Shared<Bytes>)], AllocError>
+    ensures all { OnOk result (all.new.items ≡ all.old.items ++ below place others.now) }
+    ensures behind { IfOk result (λ rest. rest.now ≡ behind place others.now) }
+{
+    'others: for i in 0..others.len() {
+        let (at, text) = &others[i];
+        if *at == place {
+            return Ok(&others[i + 1..]);
+        }
+        if *at > place {
+            return Ok(&others[i..]);
+        }
+        all.push((*at, text.share()?))?;
+    }
+    Ok(&[])
+}
+
+/// Texts with those of others whose places have none, below a count.
+fn merged(
+    alloc: Global,
+    count: usize,
+    texts: &[(usize, Shared<Bytes>)],
+    others: &[(usize, Shared<Bytes>)],
+) -> Result<Vec<(usize, Shared<Bytes>)>, AllocError>
+    ensures { IfOk result (λ all. all.items ≡ merged count texts.now others.now) }
+{
+    let mut all = Vec::new(alloc);
+    let mut rest = others;
+    'texts: for (place, text) in texts {
+        rest = put_below(rest, *place, &mut all)?;
+        all.push((*place, text.share()?))?;
+    }
+    put_below(rest, count, &mut all)?;
+    Ok(all)
+}
+
+/// Whether two texts with their places are the same.
+fn same_text(text: &(usize, Shared<Bytes>), other: &(usize, Shared<Bytes>)) -> bool
+    ensures { result ≡ same_text text.now other.now }
+{
+    text.0 == other.0 && text.1.as_slice() == other.1.as_slice()
+}
+
+/// Whether the same texts have the same places.
+fn same_present(texts: &[(usize, Shared<Bytes>)], others: &[(usize, Shared<Bytes>)]) -> bool
+    ensures { result ≡ same_present texts.now others.now }
+{
+    if texts.len() != others.len() {
+        return false;
+    }
+    'texts: for i in 0..texts.len() {
+        if !same_text(&texts[i], &others[i]) {
+            return false;
+        }
+    }
+    true
+}
