@@ -32,6 +32,3 @@ pub use laws::meaning_by_names;
 pub use readings::Readings;
 pub use reuse::Reuse;
 pub use styles::ReadStyle;
-
-#[cfg(test)]
-mod tests;

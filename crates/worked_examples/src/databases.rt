@@ -1,7 +1,7 @@
 //! What is read of some databases, and the faults.
 
-use bt_bib::{Closing, Content, Entry, Fault, Item, Items, Part, Piece, Spot, What, read_bib};
-use bt_text::{Bytes, Shared};
+use bt_bib::{Fault, Item, Items, Piece, Spot, What, read_bib};
+use bt_text::Bytes;
 use std::alloc::{AllocError, Global};
 use std::test::Fail;
 
@@ -39,29 +39,6 @@ fn item_count(alloc: Global, text: &[u8]) -> Result<usize, AllocError> {
             .filter(|piece| matches!(piece, Piece::Item(_)))
             .count(),
     )
-}
-
-fn entry(item: &Item) -> Option<&Entry> {
-    match &item.content {
-        Content::Entry(entry) => Some(entry),
-        _ => None,
-    }
-}
-
-/// The bytes of a text, none where there is no text.
-fn bytes_of(text: &Option<Shared<Bytes>>) -> &[u8] {
-    match text {
-        Some(text) => text.as_slice(),
-        None => &[],
-    }
-}
-
-/// The bytes of a part that is a text.
-fn text_of(part: &Part) -> Option<&[u8]> {
-    match part {
-        Part::Text(text) => Some(text.as_slice()),
-        Part::Macro(_, _) => None,
-    }
 }
 
 /// Some bytes, and behind them one byte so many times.
@@ -149,47 +126,6 @@ fn well_formed_texts_have_no_fault(rt: HostRuntime) -> Result<(), Fail> {
         assert_eq!(rt; item_count(alloc, text)?, *count);
         assert_eq!(rt; last_fault(alloc, text)?, None);
     }
-    Ok(())
-}
-
-/// An entry with one whole field, and a fault in its second one.
-const FAULTY: &[u8] = b"@Misc(\nKey, title = \"x {\"} y\" # nix\n, b = 1 # )";
-
-#[test]
-fn an_item_has_its_span_and_line(rt: HostRuntime) -> Result<(), Fail> {
-    let items = read_bib(rt.alloc(), FAULTY)?;
-    let item = last_item(&items).ok_or("no item")?;
-    assert_eq!(rt; item.start, Spot::START);
-    assert_eq!(rt; item.end, Spot { place: 46, line: 3 });
-    assert_eq!(rt; item.line, 2);
-    assert_eq!(rt; item.close, Some(Closing::Parenthesis));
-    assert_eq!(rt; item.fault, Some(Fault::MissingPart));
-    Ok(())
-}
-
-#[test]
-fn type_and_key_stay_as_written(rt: HostRuntime) -> Result<(), Fail> {
-    let items = read_bib(rt.alloc(), FAULTY)?;
-    let item = last_item(&items).ok_or("no item")?;
-    let entry = entry(item).ok_or("no entry")?;
-    assert_eq!(rt; bytes_of(&entry.kind), b"Misc".as_slice());
-    assert_eq!(rt; bytes_of(&entry.key), b"Key".as_slice());
-    assert_eq!(rt; entry.fields.len(), 1);
-    Ok(())
-}
-
-#[test]
-fn fields_that_were_read_whole_stay(rt: HostRuntime) -> Result<(), Fail> {
-    let items = read_bib(rt.alloc(), FAULTY)?;
-    let item = last_item(&items).ok_or("no item")?;
-    let entry = entry(item).ok_or("no entry")?;
-    let field = entry.fields.as_slice().first().ok_or("no field")?;
-    assert_eq!(rt; field.name.as_slice(), b"title".as_slice());
-    assert_eq!(rt; field.line, 2);
-    let first = field.value.as_slice().first().ok_or("no part")?;
-    assert_eq!(rt; text_of(first), Some(b"x {\"} y".as_slice()));
-    let last = field.value.as_slice().last().ok_or("no part")?;
-    assert!(rt; matches!(last, Part::Macro(_, 2)));
     Ok(())
 }
 

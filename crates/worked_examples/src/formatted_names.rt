@@ -7,42 +7,6 @@ use std::alloc::Global;
 use std::test::Fail;
 
 #[test]
-fn formats_names(rt: HostRuntime) -> Result<(), Fail> {
-    for (name, pattern, want) in [
-        (
-            "Charles Louis Xavier Joseph de la Vall{\\'e}e Poussin",
-            "{vv~}{ll}{, jj}{, f.}",
-            "de~la Vall{\\'e}e~Poussin, C. L. X.~J.",
-        ),
-        ("Donald E. Knuth", "{ff~}{vv~}{ll}{, jj}", "Donald~E. Knuth"),
-        ("Jean-Paul Sartre", "{f.~}{ll}", "J.-P. Sartre"),
-        (
-            "von Beethoven, Ludwig",
-            "{vv~}{ll}, {f.}",
-            "von Beethoven, L.",
-        ),
-        (
-            "King, Jr, Martin Luther",
-            "{ll}{, jj}{, f.}",
-            "King, Jr, M.~L.",
-        ),
-        ("Donald Ervin Knuth", "{ff{/}}", "Donald/Ervin"),
-        ("de Aa", "{vv~}{ll}", "de~Aa"),
-        ("della Aa", "{vv~}{ll}", "della Aa"),
-        ("Della Aa", "{ff~~}{ll}", "Della~Aa"),
-        ("A B", "{fF}", "A"),
-        ("A B", "x{1~}{2~~}{345~}", "x1~2~345 "),
-        ("A B", "", ""),
-        ("X, {\\'E}a 1d 12", "{f{ }}", "{\\'E} d "),
-        ("Aa Bb Cc Dd", "{f{}}", "ABC"),
-    ] {
-        let text = format(rt.alloc(), name.as_bytes(), 1, pattern.as_bytes())?;
-        assert_eq!(rt; text.as_slice(), want.as_bytes(), "of {name} in {pattern}");
-    }
-    Ok(())
-}
-
-#[test]
 fn tells_the_first_fault(rt: HostRuntime) -> Result<(), Fail> {
     for (names, n, pattern, want) in [
         ("", 1, "}", FormatFault::NoSuchName),

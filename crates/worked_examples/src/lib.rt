@@ -4,8 +4,6 @@
 #[cfg(test)]
 mod aux_files;
 #[cfg(test)]
-mod aux_lines;
-#[cfg(test)]
 mod databases;
 #[cfg(test)]
 mod formatted_names;

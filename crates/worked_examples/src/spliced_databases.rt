@@ -3,7 +3,7 @@
 ghost use Rattle.std.specs.Prelude.{◌≤◌, length, IfOk};
 ghost use Rattle.bt_bib.specs.Splice.{IsSplice};
 
-use bt_bib::{KeptItems, Piece, ReadMeter, Splice, Spot};
+use bt_bib::{KeptItems, ReadMeter, Splice};
 use bt_text::Bytes;
 use std::alloc::{AllocError, Global};
 use std::test::Fail;
@@ -116,31 +116,6 @@ fn each_splice_gives_the_items_of_the_new_text(rt: HostRuntime) -> Result<(), Fa
                 let told = both_ways(alloc, MANY, start, end, bytes)?.ok_or("outside")?;
                 assert_eq!(rt; told.again.as_str(), told.whole.as_str());
             }
-        }
-    }
-    Ok(())
-}
-
-#[test]
-fn nothing_is_read_where_the_last_item_goes_whole(rt: HostRuntime) -> Result<(), Fail> {
-    let alloc = rt.alloc();
-    let told = both_ways(alloc, TWO, 0, 21, b"")?.ok_or("outside")?;
-    assert_eq!(rt; told.read, 0);
-    assert_eq!(rt; told.again.as_str(), told.whole.as_str());
-    Ok(())
-}
-
-#[test]
-fn items_that_are_taken_over_stand_where_they_moved(rt: HostRuntime) -> Result<(), Fail> {
-    let alloc = rt.alloc();
-    let (items, _, _) = respliced(alloc, TWO, 0, 0, b"\n\n")?.ok_or("outside")?;
-    let stand: [(usize, usize, usize); 2] = [(2, 3, 23), (24, 4, 45)];
-    assert_eq!(rt; items.pieces().len(), stand.len());
-    for (piece, (place, line, end)) in items.pieces().iter().zip(stand) {
-        assert_eq!(rt; piece.start(), Spot { place, line });
-        assert_eq!(rt; piece.end(), Spot { place: end, line });
-        if let Piece::Item(item) = piece.piece() {
-            assert_eq!(rt; item.end, Spot { place: 21, line: 0 });
         }
     }
     Ok(())

@@ -1,6 +1,6 @@
 //! Styles that are read, and texts with faults.
 
-use bt_style::{Action, Builtin, Fault, FaultKind, Op, Style, StyleRefusal, Target, read_style};
+use bt_style::{Fault, FaultKind, Style, StyleRefusal, read_style};
 use std::alloc::{AllocError, Global};
 use std::test::Fail;
 
@@ -27,56 +27,6 @@ static KINDS: [Case; 14] = [
         1,
     ),
     (b"FUNCTION\n{f}\nskip$", FaultKind::MissingArgument, 3),
-];
-
-/// Names before they are defined, the order of tests at one token, and where an argument must stand.
-static CORNERS: [Case; 22] = [
-    (
-        b"ENTRY {}{}{}\nFUNCTION {f} {g}\nFUNCTION {g} {skip$}\n",
-        FaultKind::UnknownName,
-        2,
-    ),
-    (b"FUNCTION {f} {f}", FaultKind::UnknownName, 1),
-    (
-        b"FUNCTION {f} {title}\nENTRY {title}{}{}",
-        FaultKind::UnknownName,
-        1,
-    ),
-    (b"INTEGERS {=}", FaultKind::BadName, 1),
-    (b"FUNCTION {:=} {}", FaultKind::BadName, 1),
-    (
-        b"FUNCTION {f} {#99999999999x}",
-        FaultKind::NumberTooLarge,
-        1,
-    ),
-    (b"FUNCTION {f} {#-}", FaultKind::StrayByte, 1),
-    (b"FUNCTION {a b} {}", FaultKind::UnclosedBrace, 1),
-    (b"MACRO {a}{\"t\" x}", FaultKind::UnclosedBrace, 1),
-    (b"MACRO {a}{", FaultKind::MissingArgument, 1),
-    (b"MACRO {a}{\"t\"x}", FaultKind::StrayByte, 1),
-    (b"FUNCTION }", FaultKind::MissingArgument, 1),
-    (b"ENTRY {a {b}}{}{}", FaultKind::UnclosedBrace, 1),
-    (b"STRINGS {\n", FaultKind::UnclosedBrace, 2),
-    (b"FUNCTION {f} {'}", FaultKind::BadName, 1),
-    (b"FUNCTION {skip$} {g}", FaultKind::NameTaken, 1),
-    (
-        b"MACRO {a}{\"b\"} MACRO\n{A}{\"c\"}",
-        FaultKind::NameTaken,
-        2,
-    ),
-    (
-        b"ENTRY {}{}{} READ\nMACRO {a}{\"b\"}",
-        FaultKind::CommandOrder,
-        2,
-    ),
-    (
-        b"ENTRY {}{}{} READ EXECUTE {skip$\nskip$}",
-        FaultKind::UnclosedBrace,
-        2,
-    ),
-    (b"read {", FaultKind::NoEntry, 1),
-    (b"% a comment\r} hides this\n}", FaultKind::StrayByte, 2),
-    (b"\"FOO\"", FaultKind::UnknownCommand, 1),
 ];
 
 /// A style with fields, variables, a macro, nested functions and all kinds of commands.
@@ -145,22 +95,6 @@ fn each_kind_of_fault_is_told_with_its_line(rt: HostRuntime) -> Result<(), Fail>
 }
 
 #[test]
-fn the_first_fault_is_told_in_each_corner(rt: HostRuntime) -> Result<(), Fail> {
-    assert_eq!(rt; right_ones(rt.alloc(), &CORNERS)?, 22);
-    Ok(())
-}
-
-#[test]
-fn functions_stand_before_their_use(rt: HostRuntime) -> Result<(), Fail> {
-    let style = read(
-        rt.alloc(),
-        b"ENTRY {}{}{}\nFUNCTION {g} {skip$}\nFUNCTION {f} {g}\n",
-    )?;
-    assert_eq!(rt; style.functions.len(), 2);
-    Ok(())
-}
-
-#[test]
 fn braces_nest_100_deep(rt: HostRuntime) -> Result<(), Fail> {
     let alloc = rt.alloc();
     let deep = Some(Fault {
@@ -187,54 +121,6 @@ fn many_functions_are_read(rt: HostRuntime) -> Result<(), Fail> {
     let alloc = rt.alloc();
     let style = read(alloc, &chain(alloc, 40_000)?)?;
     assert_eq!(rt; style.functions.len(), 40_001);
-    Ok(())
-}
-
-#[test]
-fn a_style_shows_what_it_declares(rt: HostRuntime) -> Result<(), Fail> {
-    let style = read(rt.alloc(), STYLE)?;
-    assert_eq!(rt; style.fields.len(), 3);
-    assert_eq!(rt; style.entry_numbers.len(), 1);
-    assert_eq!(rt; style.entry_texts.len(), 2);
-    assert_eq!(rt; style.global_numbers.len(), 3);
-    assert_eq!(rt; style.global_texts.len(), 2);
-    assert_eq!(rt; style.macros.len(), 1);
-    assert_eq!(rt; style.commands.len(), 10);
-    if let [_, title, ..] = style.fields.as_slice() {
-        assert_eq!(rt; title.as_slice(), b"title".as_slice());
-    }
-    if let [.., reverse, sort] = style.commands.as_slice() {
-        assert!(rt; reverse.action == Action::Reverse(Target::Function(0)));
-        assert!(rt; sort.action == Action::Sort);
-        assert_eq!(rt; sort.line, 10);
-    }
-    Ok(())
-}
-
-#[test]
-fn a_body_is_a_tree(rt: HostRuntime) -> Result<(), Fail> {
-    let style = read(rt.alloc(), STYLE)?;
-    assert_eq!(rt; style.functions.len(), 1);
-    let [function] = style.functions.as_slice() else {
-        return Ok(());
-    };
-    assert_eq!(rt; function.body.len(), 6);
-    if let [
-        Op::Text(text),
-        Op::Number(n),
-        Op::Quote(variable),
-        Op::Call(assign),
-        Op::Block(inner),
-        Op::Call(last),
-    ] = function.body.as_slice()
-    {
-        assert_eq!(rt; text.as_slice(), b"a%b".as_slice());
-        assert_eq!(rt; *n, -3);
-        assert!(rt; *variable == Target::GlobalNumber(2));
-        assert!(rt; *assign == Target::Builtin(Builtin::Assign));
-        assert!(rt; *last == Target::Builtin(Builtin::CallType));
-        assert_eq!(rt; inner.len(), 3);
-    }
     Ok(())
 }
 
