@@ -28,7 +28,3 @@ spelled Initials ws = map by_initial ws
 -- the parts by their initials
 abbrev pub abbreviated : Parts → Parts
 abbreviated p = record { first = map by_initial p.first; von = map by_initial p.von; last = map by_initial p.last; jr = map by_initial p.jr }
-
-abbrev pub in_form : Form → Parts → Parts
-in_form Whole p = p
-in_form Initials p = abbreviated p
