@@ -1,51 +1,29 @@
--- What is asked for is always fit: it is fit at first, and each rule keeps it so.
-use Rattle.std.specs.Prelude.{codes, ◌&&◌}
+-- What is asked for is always fit for those who read it.
+use Rattle.std.specs.Prelude.{codes, not, fold, filter, slice_get}
+use Rattle.std.specs.List.{before_first, position_or_len}
+use Rattle.std.specs.Option.{is_some}
 use Rattle.std.specs.Str.{bytes_eq}
 use Rattle.std.specs.Char.{to_ascii_lowercase}
-use Rattle.std.specs.Option.{is_some, is_none}
 use Rattle.std.proofs.lemmas.Slice.Eq.{bytes_eq-Decides}
-use Rattle.std.proofs.Common.{◌≡◌, ℕ, zero, suc, ◌+◌, Bool, true, false, cond, List, [], ◌∷◌, ◌++◌, length, length-append, map, Option, Some, None, refl, sym, ap, arith}
-use Rattle.bt_bib.specs.declared.aux_line.Command.{Command}
-use Rattle.bt_bib.specs.declared.aux_line.Command.TheVariants.{Citation, Database, Style, Nested}
-use Rattle.bt_bib.specs.declared.aux_argument.AuxFault.{AuxFault}
-use Rattle.bt_bib.specs.declared.aux_line.AuxItem.{AuxItem}
+use Rattle.std.proofs.lemmas.List.Elements.{filter-append}
+use Rattle.std.proofs.lemmas.List.Sums.{fold-append}
+use Rattle.std.proofs.Common.{◌≡◌, ℕ, ◌≤◌, Bool, true, false, cond, List, [], ◌∷◌, ◌++◌, length, length-append, map, take, drop, take-append-drop, append_assoc, append-nil, Option, Some, None, refl, sym, ap, subst, ◌∙◌, arith}
+use Rattle.bt_text.specs.Folding.{is_same_folded}
+use Rattle.bt_text.specs.NameList.{same_name}
+use Rattle.bt_bib.specs.declared.aux_line.Command.TheVariants.{Citation, Database, Style}
 use Rattle.bt_job.specs.declared.files.File.{File}
-use Rattle.bt_log.specs.declared.message.Rank.TheVariants.{FileLine}
-use Rattle.bt_log.specs.declared.message.Message.{Message}
-use Rattle.bt_log.specs.Message.{plain}
 use Rattle.bt_job.specs.declared.citations.Citations.{Citations}
-use Rattle.bt_job.specs.declared.citations.Outcome.{Outcome}
-use Rattle.bt_job.specs.declared.citations.Outcome.TheVariants.{Taken, Wrong, Opens}
-use Rattle.bt_bib.specs.AuxLine.{aux_lines}
-use Rattle.bt_job.specs.Naming.{text_of, name_fault}
-use Rattle.bt_job.specs.Taking.{told, is_same_key, same_key, cited_all, cited_key, cited, meeting, found, looked_for, named_well, named, part_taken, going_on, parts_taken, is_second, entered, item_taken}
-use Rattle.bt_job.specs.Citations.{file_line, in_place, lines_taken, opened, file_taken, missing_one, ended, rooted, citations, is_empty}
-use Rattle.bt_job.specs.Fit.{AreDistinct, AreThere, IsWithin, IsFit, AlwaysFit}
+use Rattle.bt_job.specs.Naming.{is_file_name, is_among, text_of, with_name}
+use Rattle.bt_job.specs.Faults.{LineFault, NoFileName, DatabaseTwice, NotThere, SecondStar, OtherSpelling, PartFault, key_fault, spelling_fault, is_there, database_fault, style_fault, right_parts}
+use Rattle.bt_job.specs.Lines.{JobLine, has_command, first_with, line_parts, cited, database_names, style_names, job_lines}
+use Rattle.bt_job.specs.Citations.{is_star, keys_of, star_of, styles, asked_from, citations}
+use Rattle.bt_job.specs.Fit.{AreDistinct, AreThere, IsWithin, IsThere, IsFit, AlwaysFit}
+use Rattle.bt_job.proofs.NameLemmas.{same_bytes}
+use Rattle.bt_job.proofs.PartLemmas.{right_wrong, right_more}
+use Rattle.bt_job.proofs.CitedLemmas.{found_among_keys, found_there, keys_key, keys_star}
 
--- A property that each line and each message keeps holds behind a file, where it held in front of it.
-place_holds : (P : Citations → Type 0) (nested : List ℕ → Citations → Citations) (file : List ℕ) (line : ℕ) (x : Citations × Outcome) → ((m : Message) (r : Citations) → P r → P (told m r)) → ((name : List ℕ) (r : Citations) → P r → P (nested name r)) → P x.0 → P (in_place nested file line x)
-place_holds P nested file line (r, Taken) t n p = p
-place_holds P nested file line (r, Wrong words) t n p = t _ r p
-place_holds P nested file line (r, Opens name) t n p = n name r p
+-- Keys
 
--- the same behind the lines of a file
-lines_hold : (P : Citations → Type 0) (files : List File) (nested : List ℕ → Citations → Citations) (file : List ℕ) (items : List AuxItem) (r : Citations) → ((m : Message) (r1 : Citations) → P r1 → P (told m r1)) → ((item : AuxItem) (r1 : Citations) → P r1 → P (item_taken files item r1).0) → ((name : List ℕ) (r1 : Citations) → P r1 → P (nested name r1)) → P r → P (lines_taken nested files file items r)
-unfolding lines_taken
-lines_hold P files nested file [] r t i n p = p
-lines_hold P files nested file (item ∷ items) r t i n p = lines_hold P files nested file items _ t i n (place_holds P nested file item.line (item_taken files item r) t n (i item r p))
-
--- the same behind a file that has this text
-opened_holds : (P : Citations → Type 0) (files : List File) (nested : List ℕ → Citations → Citations) (level : ℕ) (file : List ℕ) (o : Option (List ℕ)) (r : Citations) → ((m : Message) (r1 : Citations) → P r1 → P (told m r1)) → ((item : AuxItem) (r1 : Citations) → P r1 → P (item_taken files item r1).0) → ((name : List ℕ) (r1 : Citations) → P r1 → P (nested name r1)) → P r → P (opened nested files level file o r)
-opened_holds P files nested level file None r t i n p = p
-opened_holds P files nested level file (Some text) r t i n p = lines_hold P files nested file (aux_lines text) _ t i n (t (plain FileLine (file_line level file)) r p)
-
--- the same behind a file
-pub file_holds : (P : Citations → Type 0) (files : List File) → ((m : Message) (r : Citations) → P r → P (told m r)) → ((item : AuxItem) (r : Citations) → P r → P (item_taken files item r).0) → (bound level : ℕ) (file : List ℕ) (r : Citations) → P r → P (file_taken bound files level file r)
-unfolding file_taken
-file_holds P files t i zero level file r p = p
-file_holds P files t i (suc bound) level file r p = opened_holds P files (file_taken bound files (level + 1)) level file (text_of files file) r t i (file_holds P files t i bound (level + 1)) p
-
--- keys
 lower_same : (a b : List ℕ) → bytes_eq a b ≡ false → bytes_eq b a ≡ true → ⊥
 lower_same a b differ is = let e : bytes_eq a b ≡ true = (bytes_eq-Decides a b).1 (sym ((bytes_eq-Decides b a).0 is)) in cc
 
@@ -55,8 +33,8 @@ false_from true h = absurd (h refl)
 false_from false h = refl
 
 -- two keys that differ, the other way round
-other_way : (a b : List ℕ) → is_same_key a b ≡ false → is_same_key b a ≡ false
-other_way a b h = false_from (is_same_key b a) (lower_same (map to_ascii_lowercase a) (map to_ascii_lowercase b) h)
+other_way : (a b : List ℕ) → is_same_folded a b ≡ false → is_same_folded b a ≡ false
+other_way a b h = false_from (is_same_folded b a) (lower_same (map to_ascii_lowercase a) (map to_ascii_lowercase b) h)
 
 -- neither this one nor a later one
 none_first : (b : Bool) (k : List ℕ) (o : Option (List ℕ)) → cond b (Some k) o ≡ None → (b ≡ false) × (o ≡ None)
@@ -64,136 +42,132 @@ none_first true k o h = cc
 none_first false k o h = (refl, h)
 
 -- a key that is none of some and not another
-not_same-append : (k key : List ℕ) (ks : List (List ℕ)) → same_key k ks ≡ None → is_same_key key k ≡ false → same_key k (ks ++ key ∷ []) ≡ None
+not_same-append : (k key : List ℕ) (ks : List (List ℕ)) → same_name k ks ≡ None → is_same_folded key k ≡ false → same_name k (ks ++ key ∷ []) ≡ None
 not_same-append k key [] h differ = rw differ refl
 not_same-append k key (j ∷ ks) h differ =
-    let both = none_first (is_same_key j k) j (same_key k ks) h in
+    let both = none_first (is_same_folded j k) j (same_name k ks) h in
     rw both.0 (not_same-append k key ks both.1 differ)
 
 -- a new key behind distinct ones
-distinct-append : (key : List ℕ) (ks : List (List ℕ)) → AreDistinct ks → same_key key ks ≡ None → AreDistinct (ks ++ key ∷ [])
+distinct-append : (key : List ℕ) (ks : List (List ℕ)) → AreDistinct ks → same_name key ks ≡ None → AreDistinct (ks ++ key ∷ [])
 distinct-append key [] d h = (refl, tt)
 distinct-append key (k ∷ ks) d h =
-    let both = none_first (is_same_key k key) k (same_key key ks) h in
+    let both = none_first (is_same_folded k key) k (same_name key ks) h in
     (not_same-append k key ks d.0 (other_way k key both.0), distinct-append key ks d.1 both.1)
 
--- a place is within more keys too
-within_more : (o : Option ℕ) (ks : List (List ℕ)) (key : List ℕ) → IsWithin o (length ks) → IsWithin o (length (ks ++ key ∷ []))
-within_more None ks key h = tt
-within_more (Some n) ks key h = omega (arith, length-append ks (key ∷ []))
+-- a key that isn't there yet, or is
+distinct_with : (a : Bool) (key : List ℕ) (ks : List (List ℕ)) → AreDistinct ks → (a ≡ false → same_name key ks ≡ None) → AreDistinct (cond a ks (ks ++ key ∷ []))
+distinct_with true key ks d h = d
+distinct_with false key ks d h = distinct-append key ks d (h refl)
 
--- one more file that is there
-there-append : (files : List File) (ns : List (List ℕ)) (name : List ℕ) → AreThere files ns → is_some (text_of files name) ≡ true → AreThere files (ns ++ name ∷ [])
-there-append files [] name a h = (h, tt)
-there-append files (n ∷ ns) name a h = (a.0, there-append files ns name a.1 h)
+-- a key that isn't wrong is new or was spelled so
+spelled_so : (o : Option (List ℕ)) (key : List ℕ) (ks : List (List ℕ)) → same_name key ks ≡ o → spelling_fault key o ≡ None → is_among ks key ≡ false → same_name key ks ≡ None
+spelled_so None key ks is right new = is
+spelled_so (Some old) key ks is right new = go (bytes_eq old key) refl right
+  where
+    go : (b : Bool) → bytes_eq old key ≡ b → cond b None (Some (OtherSpelling key old)) ≡ None → same_name key ks ≡ None
+    go true e none = let there : is_among ks key ≡ true = found_there key key ks (is ∙ ap Some (same_bytes old key e)) in cc
+    go false e none = let wrong : true ≡ false = ap is_some none in cc
 
--- rules
-told_fit : (files : List File) (m : Message) (r : Citations) → IsFit files r → IsFit files (told m r)
-told_fit files m r f = record { keys = f.keys; star = f.star; databases = f.databases; style = f.style }
+distinct_key : (parts : List (List ℕ)) (part : List ℕ) → AreDistinct (keys_of parts) → key_fault parts part ≡ None → AreDistinct (keys_of (parts ++ part ∷ []))
+distinct_key parts part d right = go (is_star part) refl
+  where
+    go : (b : Bool) → is_star part ≡ b → AreDistinct (keys_of (parts ++ part ∷ []))
+    go true e = subst AreDistinct (sym (keys_star parts part e)) d
+    go false e =
+        let named : spelling_fault part (same_name part parts) ≡ None = sym (ap (λ b. cond b (cond (is_among parts part) (Some SecondStar) None) (spelling_fault part (same_name part parts))) e) ∙ right in
+        subst AreDistinct (sym (keys_key parts part e))
+        (distinct_with (is_among (keys_of parts) part) part (keys_of parts) d (spelled_so (same_name part parts) part (keys_of parts) (found_among_keys part parts e) named))
 
--- either of two
-if_fit : (files : List File) (b : Bool) (x y : Citations × Outcome) → IsFit files x.0 → IsFit files y.0 → IsFit files (cond b x y).0
-if_fit files true x y p q = p
-if_fit files false x y p q = q
+distinct_parts : (later parts : List (List ℕ)) → AreDistinct (keys_of parts) → AreDistinct (keys_of (parts ++ right_parts key_fault parts later))
+distinct_parts [] parts d = subst (λ ps. AreDistinct (keys_of ps)) (sym (append-nil parts)) d
+distinct_parts (part ∷ later) parts d = go (key_fault parts part) refl (λ e. distinct_parts later (parts ++ part ∷ []) (distinct_key parts part d e))
+  where
+    go : (o : Option LineFault) → key_fault parts part ≡ o → (key_fault parts part ≡ None → AreDistinct (keys_of (parts ++ part ∷ [] ++ right_parts key_fault (parts ++ part ∷ []) later)))
+        → AreDistinct (keys_of (parts ++ right_parts key_fault parts (part ∷ later)))
+    go None e more =
+        subst (λ ps. AreDistinct (keys_of ps))
+        (append_assoc parts (part ∷ []) (right_parts key_fault (parts ++ part ∷ []) later) ∙ ap (λ ps. parts ++ ps) (sym (right_more key_fault parts part later e)))
+        (more e)
+    go (Some f) e more = subst (λ ps. AreDistinct (keys_of ps)) (sym (append-nil parts) ∙ ap (λ ps. parts ++ ps) (sym (right_wrong key_fault parts part later f e))) d
 
--- the part `*`
-cited_all_fit : (files : List File) (o : Option ℕ) (r : Citations) → IsFit files r → IsFit files (cited_all o r).0
-cited_all_fit files None r f = record { keys = f.keys; star = omega arith; databases = f.databases; style = f.style }
-cited_all_fit files (Some n) r f = f
+distinct_lines : (lines : List JobLine) (parts : List (List ℕ)) → AreDistinct (keys_of parts) → AreDistinct (keys_of (fold (λ before line. before ++ right_parts key_fault before line.item.parts) parts lines))
+distinct_lines [] parts d = d
+distinct_lines (l ∷ ls) parts d = distinct_lines ls (parts ++ right_parts key_fault parts l.item.parts) (distinct_parts l.item.parts parts d)
 
--- a key
-cited_key_fit : (files : List File) (key : List ℕ) (o : Option (List ℕ)) (r : Citations) → o ≡ same_key key r.keys → IsFit files r → IsFit files (cited_key key o r).0
-cited_key_fit files key None r is f = record { keys = distinct-append key r.keys f.keys (sym is); star = within_more r.star r.keys key f.star; databases = f.databases; style = f.style }
-cited_key_fit files key (Some old) r is f = if_fit files (bytes_eq old key) _ _ f f
-
--- a part of \citation
-cited_fit : (files : List File) (part : List ℕ) (r : Citations) → IsFit files r → IsFit files (cited part r).0
+distinct_cited : (lines : List JobLine) → AreDistinct (keys_of (cited lines))
 unfolding cited
-cited_fit files part r f = if_fit files (bytes_eq part (codes "*")) _ _ (cited_all_fit files r.star r f) (cited_key_fit files part (same_key part r.keys) r refl f)
+distinct_cited lines = distinct_lines (filter (has_command Citation) lines) [] tt
 
--- meeting a file
-meeting_fit : (files : List File) (c : Command) (name : List ℕ) (r : Citations) → IsFit files r → IsFit files (meeting c name r)
-meeting_fit files Citation name r f = f
-meeting_fit files Database name r f = record { keys = f.keys; star = f.star; databases = f.databases; style = f.style }
-meeting_fit files Style name r f = f
-meeting_fit files Nested name r f = record { keys = f.keys; star = f.star; databases = f.databases; style = f.style }
+-- The place of `*`
 
--- a file that is there
-found_fit : (files : List File) (c : Command) (name : List ℕ) (r : Citations) → is_some (text_of files name) ≡ true → IsFit files r → IsFit files (found c name r).0
-found_fit files Citation name r h f = f
-found_fit files Database name r h f = record { keys = f.keys; star = f.star; databases = there-append files r.databases name f.databases h; style = f.style }
-found_fit files Style name r h f = record { keys = f.keys; star = f.star; databases = f.databases; style = h }
-found_fit files Nested name r h f = f
+with_longer : (b : Bool) (names : List (List ℕ)) (name : List ℕ) → length names ≤ length (cond b names (names ++ name ∷ []))
+with_longer true names name = omega arith
+with_longer false names name = omega (arith, length-append names (name ∷ []))
 
--- a name that has this text
-looked_for_fit : (files : List File) (c : Command) (name : List ℕ) (o : Option (List ℕ)) (r : Citations) → o ≡ text_of files name → IsFit files r → IsFit files (looked_for c name o r).0
-looked_for_fit files c name (Some text) r is f = found_fit files c name r (ap is_some (sym is)) f
-looked_for_fit files c name None r is f = record { keys = f.keys; star = f.star; databases = f.databases; style = f.style }
+names_longer : (seen names : List (List ℕ)) → length seen ≤ length (fold with_name seen names)
+names_longer seen [] = omega arith
+names_longer seen (n ∷ ns) = omega (arith, with_longer (is_among seen n) seen n, names_longer (with_name seen n) ns)
 
--- a name with which this is wrong
-named_well_fit : (files : List File) (c : Command) (name : List ℕ) (o : Option (List ℕ)) (r : Citations) → IsFit files r → IsFit files (named_well files c name o r).0
-named_well_fit files c name (Some words) r f = f
-named_well_fit files c name None r f = looked_for_fit files c name (text_of files name) (meeting c name r) refl (meeting_fit files c name r f)
+-- no more keys stand in front of a place than at all
+keys_before : (k : ℕ) (parts : List (List ℕ)) → length (keys_of (take k parts)) ≤ length (keys_of parts)
+keys_before k parts =
+    let is_key : List ℕ → Bool = λ part. not (is_star part) in
+    let all : keys_of parts ≡ fold with_name (keys_of (take k parts)) (filter is_key (drop k parts)) =
+    ap keys_of (sym (take-append-drop k parts)) ∙ ap (fold with_name []) (filter-append is_key (take k parts) (drop k parts)) ∙ fold-append with_name [] (filter is_key (take k parts)) (filter is_key (drop k parts)) in
+    omega (arith, ap (λ (ks : List (List ℕ)). length ks) all, names_longer (keys_of (take k parts)) (filter is_key (drop k parts)))
 
--- a name of a file
-named_fit : (files : List File) (c : Command) (name : List ℕ) (r : Citations) → IsFit files r → IsFit files (named files c name r).0
-unfolding named
-named_fit files c name r f = named_well_fit files c name (name_fault c r.met name) r f
+star_within : (parts : List (List ℕ)) → IsWithin (star_of parts) (length (keys_of parts))
+star_within parts = go (is_among parts (codes "*"))
+  where
+    go : (b : Bool) → IsWithin (cond b (Some (length (keys_of (before_first is_star parts)))) None) (length (keys_of parts))
+    go true = keys_before (position_or_len is_star parts) parts
+    go false = tt
 
--- one part of a command
-part_fit : (files : List File) (c : Command) (part : List ℕ) (r : Citations) → IsFit files r → IsFit files (part_taken files c part r).0
-part_fit files Citation part r f = cited_fit files part r f
-part_fit files Database part r f = named_fit files Database _ r f
-part_fit files Style part r f = named_fit files Style _ r f
-part_fit files Nested part r f = named_fit files Nested _ r f
+-- Files
 
--- what comes later
-going_fit : (files : List File) (later : Citations → Citations × Outcome) (x : Citations × Outcome) → ((r : Citations) → IsFit files r → IsFit files (later r).0) → IsFit files x.0 → IsFit files (going_on later x).0
-going_fit files later (r, Taken) l f = l r f
-going_fit files later (r, Wrong words) l f = f
-going_fit files later (r, Opens name) l f = f
+there_by : (files : List File) (fault : PartFault) (before : List (List ℕ)) (name : List ℕ) (later : List (List ℕ)) (o : Option LineFault) → fault before name ≡ o → (o ≡ None → is_there files name ≡ true)
+    → AreThere files (right_parts fault (before ++ name ∷ []) later) → AreThere files (right_parts fault before (name ∷ later))
+there_by files fault before name later None e there more = subst (AreThere files) (sym (right_more fault before name later e)) (there refl, more)
+there_by files fault before name later (Some f) e there more = subst (AreThere files) (sym (right_wrong fault before name later f e)) tt
 
--- the parts in order
-parts_fit : (files : List File) (c : Command) (fault : Option AuxFault) (parts : List (List ℕ)) (r : Citations) → IsFit files r → IsFit files (parts_taken files c fault parts r).0
-parts_fit files c fault [] r f = f
-parts_fit files c fault (part ∷ parts) r f = going_fit files (parts_taken files c fault parts) (part_taken files c part r) (parts_fit files c fault parts) (part_fit files c part r f)
+right_there : (files : List File) (fault : PartFault) (names before : List (List ℕ)) → ((before : List (List ℕ)) (name : List ℕ) → fault before name ≡ None → is_there files name ≡ true) → AreThere files (right_parts fault before names)
+right_there files fault [] before h = tt
+right_there files fault (n ∷ ns) before h = there_by files fault before n ns (fault before n) refl (h before n) (right_there files fault ns (before ++ n ∷ []) h)
 
--- noting a command
-entered_fit : (files : List File) (c : Command) (r : Citations) → IsFit files r → IsFit files (entered c r)
-entered_fit files Citation r f = record { keys = f.keys; star = f.star; databases = f.databases; style = f.style }
-entered_fit files Database r f = record { keys = f.keys; star = f.star; databases = f.databases; style = f.style }
-entered_fit files Style r f = record { keys = f.keys; star = f.star; databases = f.databases; style = f.style }
-entered_fit files Nested r f = f
+base_there : (name : List ℕ) (f a t : Bool) → cond (not f) (Some (NoFileName name)) (cond a (Some (DatabaseTwice name)) (cond (not t) (Some (NotThere (codes "database") name)) None)) ≡ None → t ≡ true
+base_there name f a true h = refl
+base_there name false a false h = let wrong : true ≡ false = ap is_some h in cc
+base_there name true true false h = let wrong : true ≡ false = ap is_some h in cc
+base_there name true false false h = let wrong : true ≡ false = ap is_some h in cc
 
--- a counted line
-item_fit : (files : List File) (item : AuxItem) (r : Citations) → IsFit files r → IsFit files (item_taken files item r).0
-unfolding item_taken
-item_fit files item r f = if_fit files (is_second item.command r) _ _ f (parts_fit files item.command item.fault item.parts (entered item.command r) (entered_fit files item.command r f))
+style_there : (name : List ℕ) (f t : Bool) → cond (not f) (Some (NoFileName name)) (cond (not t) (Some (NotThere (codes "style") name)) None) ≡ None → t ≡ true
+style_there name f true h = refl
+style_there name false false h = let wrong : true ≡ false = ap is_some h in cc
+style_there name true false h = let wrong : true ≡ false = ap is_some h in cc
 
--- whole runs
-missing_fit : (files : List File) (met nothing : Bool) (command name root : List ℕ) (r : Citations) → IsFit files r → IsFit files (missing_one met nothing command name root r)
-missing_fit files true true command name root r f = told_fit files _ r f
-missing_fit files true false command name root r f = f
-missing_fit files false nothing command name root r f = told_fit files _ r f
+first_there : (files : List File) (names : List (List ℕ)) → AreThere files names → IsThere files (slice_get names 0)
+first_there files [] h = tt
+first_there files (n ∷ ns) h = h.0
 
--- the errors at the end of the root
-ended_fit : (files : List File) (root : List ℕ) (r : Citations) → IsFit files r → IsFit files (ended root r)
-unfolding ended
-ended_fit files root r f =
-    missing_fit files r.style_met (is_none r.style) (codes "\\bibstyle command") (codes "style file") root _
-    (missing_fit files r.database_met (is_empty r.databases) (codes "\\bibdata command") (codes "database files") root _
-    (missing_fit files r.citation_met (is_empty r.keys && is_none r.star) (codes "\\citation commands") (codes "cite keys") root r f))
+-- Jobs
 
--- a root file that has this text
-rooted_fit : (files : List File) (root : List ℕ) (o : Option (List ℕ)) → IsFit files (rooted files root o)
-rooted_fit files root None = record { keys = tt; star = tt; databases = tt; style = tt }
-rooted_fit files root (Some text) =
-    ended_fit files root _ (file_holds (IsFit files) files (told_fit files) (item_fit files) (length files + 1) 0 root _ (record { keys = tt; star = tt; databases = tt; style = tt }))
+fit_from : (files : List File) (root : List ℕ) (o : Option (List ℕ)) → IsFit files (asked_from files root o)
+fit_from files root None = record { keys = tt; star = tt; databases = tt; style = tt }
+fit_from files root (Some text) =
+    let lines = job_lines files root in
+    record {
+      keys = distinct_cited lines;
+      star = star_within (cited lines);
+      databases = right_there files (database_fault files) (database_names (line_parts (first_with Database lines))) [] (λ before name. base_there name (is_file_name name) (is_among before name) (is_there files name));
+      style = first_there files (styles files lines)
+          (right_there files (style_fault files) (style_names (line_parts (first_with Style lines))) [] (λ before name. style_there name (is_file_name name) (is_there files name)));
+    }
 
 -- what is asked for is fit
 pub always_fit : AlwaysFit
 unfolding citations
-always_fit files job = rooted_fit files (job ++ codes ".aux") (text_of files (job ++ codes ".aux"))
+always_fit files root = fit_from files (root ++ codes ".aux") (text_of files (root ++ codes ".aux"))
 
 -- what was read is fit
 pub reads_fit : (files : List File) (root : List ℕ) (x : Citations) → x ≡ citations files root → IsFit files x

@@ -1,5 +1,16 @@
 pub mod BoundLemmas
+pub mod CitationLemmas
+mod CitationsRows
+pub mod CitedLemmas
+pub mod EndingLemmas
+pub mod FileLemmas
+pub mod FileStepLemmas
 pub mod FitLemmas
+pub mod LineLemmas
+pub mod NameLemmas
 pub mod NameTableLemmas
 pub mod NestingLemmas
-mod CitationsRows
+pub mod PartLemmas
+pub mod ReadLemmas
+pub mod StepLemmas
+pub mod WholeLemmas

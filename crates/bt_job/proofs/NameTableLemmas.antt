@@ -6,7 +6,7 @@ use Rattle.std.specs.declared.alloc.Global.{Global}
 use Rattle.std.specs.Cmp.Lexicographic.{bytes_decides, nat_list_eq_equiv}
 use Rattle.indexmap.specs.IndexSet.{insert_key}
 use Rattle.bt_job.specs.Naming.{is_among}
-use Rattle.bt_job.proofs.BoundLemmas.{is_among-append}
+use Rattle.bt_job.proofs.NameLemmas.{is_among-append}
 
 abbrev pub Keys : Type 0
 Keys = List (Vec ℕ Global)

@@ -1,20 +1,61 @@
--- What the .aux files of a run ask for: the root file, with the lines of each nested file in its place.
-use Rattle.std.specs.Prelude.{◌≡◌, ◌<◌, ℕ, zero, suc, ◌+◌, Bool, false, not, ◌==◌, ◌&&◌, List, [], ◌∷◌, ◌++◌, length, codes, decimal, Option, Some, None, if◌then◌else◌}
-use Rattle.std.specs.Option.{is_none}
-use Rattle.bt_bib.specs.declared.aux_line.Command.TheVariants.{Nested}
-use Rattle.bt_bib.specs.declared.aux_line.AuxItem.{AuxItem}
-use Rattle.bt_job.specs.declared.files.File.{File}
+-- What the .aux files of a job ask for, said of the list of all their lines.
+use Rattle.std.specs.Prelude.{ℕ, ◌+◌, ◌==◌, Bool, not, List, [], ◌∷◌, ◌++◌, length, map, filter, codes, decimal, Option, Some, None, slice_get, if◌then◌else◌}
+use Rattle.std.specs.List.{before_first}
+use Rattle.std.specs.Str.{bytes_eq}
+use Rattle.bt_bib.specs.declared.aux_line.Command.{Command}
+use Rattle.bt_bib.specs.declared.aux_line.Command.TheVariants.{Citation, Database, Style, Nested}
+use Rattle.bt_log.specs.declared.message.Message.{Message}
 use Rattle.bt_log.specs.declared.message.Rank.TheVariants.{FileLine, Error, Fatal}
-use Rattle.bt_log.specs.declared.message.Place.TheVariants.{WholeFile}
-use Rattle.bt_log.specs.Message.{plain, at}
+use Rattle.bt_log.specs.declared.message.Place.TheVariants.{Line, WholeFile}
+use Rattle.bt_log.specs.Message.{plain, skipping, at}
+use Rattle.bt_job.specs.declared.files.File.{File}
 use Rattle.bt_job.specs.declared.citations.Citations.{Citations}
-use Rattle.bt_job.specs.declared.citations.Outcome.{Outcome}
-use Rattle.bt_job.specs.declared.citations.Outcome.TheVariants.{Taken, Wrong, Opens}
-use Rattle.bt_bib.specs.AuxLine.{aux_lines}
-use Rattle.bt_job.specs.Naming.{is_among, text_of}
-use Rattle.bt_job.specs.Taking.{told, told_at, meeting, wanting, item_taken}
+use Rattle.bt_job.specs.Naming.{is_among, text_of, each_once}
+use Rattle.bt_job.specs.Faults.{LineFault, NotThere, words, database_fault, style_fault, right_parts}
+use Rattle.bt_job.specs.Lines.{JobLine, first_with, line_parts, cited, database_names, style_names, line_fault, job_lines}
 
--- Files in their places
+-- Keys
+
+abbrev pub is_star : List ℕ → Bool
+is_star part = bytes_eq part (codes "*")
+
+-- the keys among what was cited, as each was spelled first
+abbrev pub keys_of : List (List ℕ) → List (List ℕ)
+keys_of parts = each_once (filter (λ part. not (is_star part)) parts)
+
+-- how many keys stand in front of the `*`, if it was cited
+abbrev pub star_of : List (List ℕ) → Option ℕ
+star_of parts =
+    if is_among parts (codes "*") then Some (length (keys_of (before_first is_star parts))) else None
+
+-- Files
+
+-- the databases: the names of the first \bibdata in front of the first that is wrong
+abbrev pub databases : List File → List JobLine → List (List ℕ)
+databases files lines = right_parts (database_fault files) [] (database_names (line_parts (first_with Database lines)))
+
+-- the style: the name of the first \bibstyle, unless it is wrong
+abbrev pub styles : List File → List JobLine → List (List ℕ)
+styles files lines = right_parts (style_fault files) [] (style_names (line_parts (first_with Style lines)))
+
+-- a name that was looked for and isn't there
+abbrev pub missed : Option LineFault → List (List ℕ)
+missed (Some (NotThere kind name)) = name ∷ []
+missed _ = []
+
+-- Lines one by one
+
+-- what each line gives behind those that stand before it, in order
+abbrev pub along : {A : Type 0} → (List JobLine → JobLine → List A) → List JobLine → List JobLine → List A
+along f before [] = []
+along f before (line ∷ lines) = f before line ++ along f (before ++ line ∷ []) lines
+
+-- all names that were looked for and aren't there, each once
+abbrev pub wanted : List File → List ℕ → List JobLine → List (List ℕ)
+wanted files root lines =
+    each_once (along (λ before line. missed (line_fault files root before line)) [] lines)
+
+-- Messages
 
 -- the line of the log where a file begins, which is so many levels below the root
 abbrev pub file_line : ℕ → List ℕ → List ℕ
@@ -22,96 +63,70 @@ file_line level file =
     if level == 0 then codes "The top-level auxiliary file: " ++ file
     else codes "A level-" ++ decimal level ++ codes " auxiliary file: " ++ file
 
--- What a line leaves behind it: its error is told, and the lines of a file that it opens stand in its place.
-abbrev pub in_place : (List ℕ → Citations → Citations) → List ℕ → ℕ → Citations × Outcome → Citations
-in_place nested file line (r, Taken) = r
-in_place nested file line (r, Wrong words) = told_at file line words r
-in_place nested file line (r, Opens name) = nested name r
+-- what the log says of a command without a fault, in a file of this level
+abbrev pub news : ℕ → Command → List (List ℕ) → List (List ℕ)
+news level Citation parts = []
+news level Database parts = []
+news level Style parts = map (λ name. codes "The style file: " ++ name) (style_names parts)
+news level Nested parts = map (file_line (level + 1)) parts
 
--- the counted lines of a file in order
-unfoldable pub lines_taken : (List ℕ → Citations → Citations) → List File → List ℕ → List AuxItem → Citations → Citations
-lines_taken nested files file [] r = r
-lines_taken nested files file (item ∷ items) r =
-    lines_taken nested files file items (in_place nested file item.line (item_taken files item r))
+-- the messages of a line that has this fault
+abbrev pub told_of : JobLine → Option LineFault → List Message
+told_of line (Some fault) =
+    skipping (words fault) (Line line.file line.item.line None) (codes "command") ∷ []
+told_of line None = map (plain FileLine) (news line.level line.item.command line.item.parts)
 
--- a file that has this text
-abbrev pub opened : (List ℕ → Citations → Citations) → List File → ℕ → List ℕ → Option (List ℕ) → Citations → Citations
-opened nested files level file None r = r
-opened nested files level file (Some text) r = lines_taken nested files file (aux_lines text) (told (plain FileLine (file_line level file)) r)
+-- the messages of all lines, under that of the root file
+abbrev pub messages : List File → List ℕ → List JobLine → List Message
+messages files root lines =
+    plain FileLine (file_line 0 root)
+    ∷ along (λ before line. told_of line (line_fault files root before line)) [] lines
 
--- A file so many levels below the root, and below it as many levels as the bound allows. Which bound it is doesn't matter,
--- where it is above the number of files that weren't met: a file is opened at most once.
-unfoldable pub file_taken : ℕ → List File → ℕ → List ℕ → Citations → Citations
-file_taken zero files level file r = r
-file_taken (suc bound) files level file r = opened (file_taken bound files (level + 1)) files level file (text_of files file) r
+-- what is missing of a command, where this is its first line and it named these
+abbrev pub lack : Option JobLine → List (List ℕ) → List ℕ → List ℕ → List (List ℕ)
+lack None names command nothing = command ∷ []
+lack (Some line) [] command nothing = nothing ∷ []
+lack (Some line) (name ∷ names) command nothing = []
 
--- Whole runs
+-- what is missing at the end
+abbrev pub lacks : List File → List JobLine → List (List ℕ)
+lacks files lines =
+    lack (first_with Citation lines) (cited lines) (codes "\\citation commands") (codes "cite keys")
+    ++ lack (first_with Database lines) (databases files lines) (codes "\\bibdata command") (codes "database files")
+    ++ lack (first_with Style lines) (styles files lines) (codes "\\bibstyle command") (codes "style file")
 
--- what is asked for before a file was read
-abbrev pub nothing_met : Citations
-nothing_met = record {
+abbrev pub told_missing : List ℕ → List ℕ → Message
+told_missing root what = at (WholeFile root) (plain Error (codes "I found no " ++ what))
+
+-- Jobs
+
+-- what these lines of a job ask for
+abbrev pub asked_by : List File → List ℕ → List JobLine → Citations
+asked_by files root lines = record {
+  keys = keys_of (cited lines);
+  star = star_of (cited lines);
+  databases = databases files lines;
+  style = slice_get (styles files lines) 0;
+  log = messages files root lines ++ map (told_missing root) (lacks files lines);
+  wanted = wanted files root lines;
+}
+
+-- a root file that isn't there
+abbrev pub without_root : List ℕ → Citations
+without_root root = record {
   keys = [];
   star = None;
   databases = [];
   style = None;
-  log = [];
-  wanted = [];
-  met = [];
-  citation_met = false;
-  database_met = false;
-  style_met = false;
+  log = plain Fatal (codes "I couldn't open auxiliary file " ++ root) ∷ [];
+  wanted = root ∷ [];
 }
 
--- with an error for what the root's files lack
-abbrev pub missing : List ℕ → List ℕ → Citations → Citations
-missing what file r = told (at (WholeFile file) (plain Error (codes "I found no " ++ what))) r
-
--- whether a list has no element
-abbrev pub is_empty : {A : Type 0} → List A → Bool
-is_empty xs = length xs == 0
-
--- the error for a command that wasn't met, else for one that named nothing
-abbrev pub missing_one : Bool → Bool → List ℕ → List ℕ → List ℕ → Citations → Citations
-missing_one met nothing command named file r =
-    if not met then missing command file r
-    else if nothing then missing named file r
-    else r
-
--- the errors at the end of the root
-unfoldable pub ended : List ℕ → Citations → Citations
-ended file r =
-    missing_one r.style_met (is_none r.style) (codes "\\bibstyle command") (codes "style file") file
-    (missing_one r.database_met (is_empty r.databases) (codes "\\bibdata command") (codes "database files") file
-    (missing_one r.citation_met (is_empty r.keys && is_none r.star) (codes "\\citation commands") (codes "cite keys") file r))
-
--- a root file that has this text
-abbrev pub rooted : List File → List ℕ → Option (List ℕ) → Citations
-rooted files file None = wanting file (told (plain Fatal (codes "I couldn't open auxiliary file " ++ file)) nothing_met)
-rooted files file (Some text) = ended file (file_taken (length files + 1) files 0 file (meeting Nested file nothing_met))
+-- a job whose root file has this text
+abbrev pub asked_from : List File → List ℕ → Option (List ℕ) → Citations
+asked_from files root None = without_root root
+asked_from files root (Some text) = asked_by files root (job_lines files root)
 
 -- what the files of a session with this root name ask for
 unfoldable pub citations : List File → List ℕ → Citations
-citations files root = (let file = root ++ codes ".aux" in rooted files file (text_of files file))
-
--- Laws
-
--- how many of the files weren't met
-abbrev pub unmet : List File → List (List ℕ) → ℕ
-unmet [] met = 0
-unmet (f ∷ fs) met = (if is_among met f.name then 0 else 1) + unmet fs met
-
--- Any two bounds above the number of files that weren't met come to the same.
-abbrev pub AnyBoundServes : Type 0
-AnyBoundServes =
-    (m n : ℕ) (files : List File) (level : ℕ) (file : List ℕ) (r : Citations)
-    → unmet files r.met < m → unmet files r.met < n → file_taken m files level file r ≡ file_taken n files level file r
-
--- a file with the lines of all files that it nests in their places
-abbrev pub whole_file_taken : List File → ℕ → List ℕ → Citations → Citations
-whole_file_taken files level file r = file_taken (length files + 1) files level file r
-
--- The same without a bound: a file's lines are taken in order, and those of a file that it opens in their place.
-abbrev pub NestedInPlace : Type 0
-NestedInPlace =
-    (files : List File) (level : ℕ) (file : List ℕ) (r : Citations)
-    → whole_file_taken files level file r ≡ opened (whole_file_taken files (level + 1)) files level file (text_of files file) r
+citations files root = (let file = root ++ codes ".aux" in asked_from files file (text_of files file))

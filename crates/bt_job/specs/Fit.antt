@@ -4,13 +4,13 @@ use Rattle.std.specs.Option.{is_some}
 use Rattle.bt_job.specs.declared.files.File.{File}
 use Rattle.bt_job.specs.declared.citations.Citations.{Citations}
 use Rattle.bt_job.specs.Naming.{text_of}
-use Rattle.bt_job.specs.Taking.{same_key}
+use Rattle.bt_text.specs.NameList.{same_name}
 use Rattle.bt_job.specs.Citations.{citations}
 
 -- no two keys are one without regard to case
 abbrev pub AreDistinct : List (List ℕ) → Type 0
 AreDistinct [] = Unit {0}
-AreDistinct (k ∷ ks) = (same_key k ks ≡ None) × AreDistinct ks
+AreDistinct (k ∷ ks) = (same_name k ks ≡ None) × AreDistinct ks
 
 -- files of these names are there
 abbrev pub AreThere : List File → List (List ℕ) → Type 0

@@ -1,5 +1,7 @@
 pub mod Naming
 pub mod NameTable
-pub mod Taking
+pub mod Faults
+pub mod Lines
 pub mod Citations
 pub mod Fit
+pub mod Inner

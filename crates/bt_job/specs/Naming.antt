@@ -1,9 +1,7 @@
--- Names of files: which are allowed, which text each has, and what is wrong with one.
-use Rattle.std.specs.Prelude.{ℕ, Bool, true, not, nat_le, ◌==◌, eqb, ◌&&◌, ◌||◌, List, [], ◌∷◌, ◌++◌, length, codes, Option, Some, None, if◌then◌else◌}
+-- Names of files: which are allowed, and which text each has.
+use Rattle.std.specs.Prelude.{ℕ, Bool, nat_le, ◌==◌, eqb, ◌&&◌, ◌||◌, List, [], ◌∷◌, ◌++◌, length, fold, Option, Some, None, if◌then◌else◌}
 use Rattle.std.specs.List.{ends_with, list_any, list_all}
 use Rattle.std.specs.Str.{bytes_eq}
-use Rattle.bt_bib.specs.declared.aux_line.Command.{Command}
-use Rattle.bt_bib.specs.declared.aux_line.Command.TheVariants.{Citation, Database, Style, Nested}
 use Rattle.bt_job.specs.declared.files.File.{File}
 
 -- a letter, a digit or one of . - _ + /
@@ -29,31 +27,10 @@ text_of (f ∷ fs) name = if bytes_eq f.name name then Some f.text else text_of 
 abbrev pub with_ending : List ℕ → List ℕ → List ℕ
 with_ending ending name = if ends_with eqb name ending then name else name ++ ending
 
--- the name that a part of a command stands for
-abbrev pub named_by : Command → List ℕ → List ℕ
-named_by Database part = with_ending (codes ".bib") part
-named_by Style part = with_ending (codes ".bst") part
-named_by Nested part = part
-named_by Citation part = part
+-- names with one more at the end, unless it is among them
+abbrev pub with_name : List (List ℕ) → List ℕ → List (List ℕ)
+with_name names name = if is_among names name then names else names ++ name ∷ []
 
--- whether a name has the ending that a command asks for
-abbrev pub has_ending : Command → List ℕ → Bool
-has_ending Nested name = ends_with eqb name (codes ".aux")
-has_ending Database name = true
-has_ending Style name = true
-has_ending Citation name = true
-
--- what is wrong with a name that was met before
-abbrev pub met_before : Command → List ℕ → Option (List ℕ)
-met_before Database name = Some (codes "This database file appears more than once: " ++ name)
-met_before Nested name = Some (codes "Already encountered file " ++ name)
-met_before Style name = None
-met_before Citation name = None
-
--- what is wrong with a name, where these files were met
-unfoldable pub name_fault : Command → List (List ℕ) → List ℕ → Option (List ℕ)
-name_fault c met name =
-    if not (has_ending c name) then Some (name ++ codes " has a wrong extension")
-    else if not (is_file_name name) then Some (name ++ codes " isn't a file name of this profile")
-    else if is_among met name then met_before c name
-    else None
+-- names in the order in which they first come, each once
+abbrev pub each_once : List (List ℕ) → List (List ℕ)
+each_once names = fold with_name [] names

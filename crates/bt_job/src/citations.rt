@@ -3,7 +3,7 @@
 use bt_log::Message;
 use bt_text::{Bytes, NameList, Sequence};
 
-/// What the .aux files have asked for so far.
+/// What the .aux files ask for.
 #[derive(Drop)]
 pub struct Citations {
     /// The cited keys, as they were spelled first.
@@ -14,24 +14,8 @@ pub struct Citations {
     pub databases: Sequence<Bytes>,
     /// The name of the style.
     pub style: Option<Bytes>,
-    /// The messages so far.
+    /// The messages.
     pub log: Sequence<Message>,
-    /// The names that were looked for and not found.
+    /// The names that were looked for and not found, each once.
     pub wanted: Sequence<Bytes>,
-    /// The names of the databases and `.aux` files that were met.
-    pub met: Sequence<Bytes>,
-    pub citation_met: bool,
-    pub database_met: bool,
-    pub style_met: bool,
-}
-
-/// What a part of a command comes to.
-#[derive(Debug, Drop)]
-pub enum Outcome {
-    /// It is taken, or nothing new.
-    Taken,
-    /// It is an error, told in these words.
-    Wrong(Bytes),
-    /// It opens the file of this name.
-    Opens(Bytes),
 }

@@ -7,6 +7,7 @@ mod files;
 mod name_table;
 mod naming;
 mod nesting;
+mod progress;
 mod reader;
 mod taking;
 

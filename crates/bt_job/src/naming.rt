@@ -3,7 +3,8 @@
 ghost use Rattle.std.specs.Prelude.{◌≡◌, IfOk};
 ghost use Rattle.std.specs.List.{list_all};
 ghost use Rattle.std.specs.Option.{option_map};
-ghost use Rattle.bt_job.specs.Naming.{is_name_byte, is_file_name, with_ending, text_of, named_by, has_ending, met_before, name_fault};
+ghost use Rattle.bt_job.specs.Naming.{is_name_byte, is_file_name, with_ending, text_of};
+ghost use Rattle.bt_job.specs.Inner.Naming.{named_by, has_ending, met_before, name_fault};
 
 use crate::files::File;
 use crate::reader::Reader;
@@ -106,9 +107,9 @@ fn met_before(alloc: Global, command: Command, name: &[u8]) -> Result<Option<Byt
 
 impl Reader {
     /// What is wrong with a name, where the files were met that were met so far. The one error is out of memory.
-    #[tactic(auto, unfolding(crate::specs::Naming::name_fault))]
+    #[tactic(auto, unfolding(crate::specs::Inner::Naming::name_fault))]
     pub fn name_fault(&self, command: Command, name: &[u8]) -> Result<Option<Bytes>, AllocError>
-        ensures { IfOk result (λ fault. fault ≡ name_fault command self.now.citations.met name.now) }
+        ensures { IfOk result (λ fault. fault ≡ name_fault command self.now.progress.met name.now) }
     {
         let alloc = self.alloc;
         if !has_ending(command, name) {

@@ -5,12 +5,15 @@ ghost use Rattle.bt_log.specs.declared.message.Rank.TheVariants.{FileLine};
 ghost use Rattle.bt_log.specs.Message.{plain};
 ghost use Rattle.bt_job.specs.Fit.{IsFit, AlwaysFit};
 ghost use Rattle.bt_job.specs.Naming.{text_of};
-ghost use Rattle.bt_job.specs.Citations.{file_line, file_taken, missing, missing_one, ended, nothing_met, rooted, citations, AnyBoundServes, NestedInPlace};
+ghost use Rattle.bt_job.specs.Citations.{file_line, citations};
+ghost use Rattle.bt_job.specs.Lines.{AnyBoundServes, NestedInPlace};
+ghost use Rattle.bt_job.specs.Inner.Nesting.{file_taken, missing, missing_one, ended, nothing_met, rooted};
 
 use crate::aux_texts::AuxTexts;
-use crate::citations::{Citations, Outcome};
+use crate::citations::Citations;
 use crate::files::File;
 use crate::naming::{owned_text_of, text_of};
+use crate::progress::Outcome;
 use crate::reader::Reader;
 use bt_bib::Command;
 use bt_log::{Message, Place, Rank};
@@ -50,7 +53,7 @@ impl Reader {
         file: &[u8],
     ) -> Result<(), AllocError>
         requires { level + bound < 2 ^ 64 }
-        ensures { OnOk result (self.new.citations ≡ file_taken bound files.now level file.now self.old.citations) }
+        ensures { OnOk result (self.new.progress ≡ file_taken bound files.now level file.now self.old.progress) }
     {
         if bound == 0 {
             return Ok(());
@@ -75,7 +78,7 @@ impl Reader {
 
     /// Says what is missing.
     fn miss(&mut self, what: &[u8], file: &Shared<Bytes>) -> Result<(), AllocError>
-        ensures { OnOk result (self.new.citations ≡ missing what.now file.now self.old.citations) }
+        ensures { OnOk result (self.new.progress ≡ missing what.now file.now self.old.progress) }
     {
         let message = Message::of(self.alloc, Rank::Error, &[b"I found no ", what])?;
         let place = Place::WholeFile {
@@ -93,7 +96,7 @@ impl Reader {
         named: &[u8],
         file: &Shared<Bytes>,
     ) -> Result<(), AllocError>
-        ensures { OnOk result (self.new.citations ≡ missing_one met nothing command.now named.now file.now self.old.citations) }
+        ensures { OnOk result (self.new.progress ≡ missing_one met nothing command.now named.now file.now self.old.progress) }
     {
         if !met {
             self.miss(command, file)
@@ -105,11 +108,11 @@ impl Reader {
     }
 
     /// The errors at the end of the root.
-    #[tactic(auto, unfolding(crate::specs::Citations::ended))]
+    #[tactic(auto, unfolding(crate::specs::Inner::Nesting::ended))]
     fn end(&mut self, file: &Shared<Bytes>) -> Result<(), AllocError>
-        ensures { OnOk result (self.new.citations ≡ ended file.now self.old.citations) }
+        ensures { OnOk result (self.new.progress ≡ ended file.now self.old.progress) }
     {
-        let asked = &self.citations;
+        let asked = &self.progress;
         let no_keys = asked.keys.as_slice().is_empty() && asked.star.is_none();
         let no_databases = asked.databases.as_slice().is_empty();
         let no_style = asked.style.is_none();
@@ -138,8 +141,8 @@ impl Reader {
         known: &mut AuxTexts,
         file: &Shared<Bytes>,
     ) -> Result<(), AllocError>
-        requires { self.old.citations ≡ nothing_met }
-        ensures { OnOk result (self.new.citations ≡ rooted files.now file.now (text_of files.now file.now)) }
+        requires { self.old.progress ≡ nothing_met }
+        ensures { OnOk result (self.new.progress ≡ rooted files.now file.now (text_of files.now file.now)) }
     {
         let name = file.as_slice();
         if text_of(files, name).is_none() {
@@ -155,7 +158,6 @@ impl Reader {
 
 /// What the files of a session ask for whose root name is this, which has no `.aux` at its end. Of their texts only those
 /// are read that aren't known. The one error is out of memory.
-#[tactic(auto, unfolding(crate::specs::Citations::citations))]
 pub fn read_citations(
     alloc: Global,
     files: &[File],
@@ -172,14 +174,14 @@ pub fn read_citations(
     Ok(asked)
 }
 
-/// A law: a file's lines are taken in order, and those of a file that it nests in their place, at any
-/// depth.
+/// A law: behind each line come the lines of the file that it opens, if it opens one, at any depth, then
+/// the others.
 pub fn nested_in_place()
     ensures { NestedInPlace }
 {}
 
-/// A law: how many levels may be nested doesn't matter, where it is above the number of files that
-/// weren't met.
+/// A law: how many lines may be read doesn't matter, where it is no smaller than the number of those that
+/// can still come.
 pub fn any_bound_serves()
     ensures { AnyBoundServes }
 {}

@@ -3,11 +3,12 @@
 ghost use Rattle.std.specs.Prelude.{◌≡◌, OnOk, OnErr};
 ghost use Rattle.bt_job.specs.Naming.{is_among};
 ghost use Rattle.bt_job.specs.NameTable.{Mirrors};
-ghost use Rattle.bt_job.specs.Taking.{told, told_at, meeting, wanting};
-ghost use Rattle.bt_job.specs.Citations.{nothing_met};
+ghost use Rattle.bt_job.specs.Inner.Taking.{told, told_at, meeting, wanting};
+ghost use Rattle.bt_job.specs.Inner.Nesting.{nothing_met, asked_for};
 
 use crate::citations::Citations;
 use crate::name_table::NameTable;
+use crate::progress::Progress;
 use bt_bib::Command;
 use bt_log::{Message, Place};
 use bt_text::{Bytes, NameList, Sequence, Shared};
@@ -18,21 +19,21 @@ use std::alloc::{AllocError, Global};
 pub struct Reader {
     pub alloc: Global,
     /// What they have asked for so far.
-    pub citations: Citations,
+    pub progress: Progress,
     met: NameTable,
     wanted: NameTable,
-    ghost met_mirrored: { Mirrors met citations.met },
-    ghost wanted_mirrored: { Mirrors wanted citations.wanted },
+    ghost met_mirrored: { Mirrors met progress.met },
+    ghost wanted_mirrored: { Mirrors wanted progress.wanted },
 }
 
 impl Reader {
     /// Before a file was read. It takes no memory.
     pub fn new(alloc: Global) -> Self
-        ensures { result.citations ≡ nothing_met }
+        ensures { result.progress ≡ nothing_met }
     {
         Reader {
             alloc,
-            citations: Citations {
+            progress: Progress {
                 keys: NameList::new(alloc),
                 star: None,
                 databases: Sequence::new(alloc),
@@ -51,17 +52,33 @@ impl Reader {
 
     /// What the files asked for.
     pub fn into_citations(self) -> Citations
-        ensures { result ≡ self.citations }
+        ensures { result ≡ asked_for self.progress }
     {
-        self.citations
+        let Progress {
+            keys,
+            star,
+            databases,
+            style,
+            log,
+            wanted,
+            ..
+        } = self.progress;
+        Citations {
+            keys,
+            star,
+            databases,
+            style,
+            log,
+            wanted,
+        }
     }
 
     /// Puts a message after the others. The one error is out of memory; nothing is logged then.
     pub fn tell(&mut self, message: Message) -> Result<(), AllocError>
-        ensures ok { OnOk result (self.new.citations ≡ told message self.old.citations) }
-        ensures err { OnErr result (self.new.citations ≡ self.old.citations) }
+        ensures ok { OnOk result (self.new.progress ≡ told message self.old.progress) }
+        ensures err { OnErr result (self.new.progress ≡ self.old.progress) }
     {
-        self.citations.log.push(message)?;
+        self.progress.log.push(message)?;
         Ok(())
     }
 
@@ -72,8 +89,8 @@ impl Reader {
         line: usize,
         words: Bytes,
     ) -> Result<(), AllocError>
-        ensures ok { OnOk result (self.new.citations ≡ told_at file.now line words self.old.citations) }
-        ensures err { OnErr result (self.new.citations ≡ self.old.citations) }
+        ensures ok { OnOk result (self.new.progress ≡ told_at file.now line words self.old.progress) }
+        ensures err { OnErr result (self.new.progress ≡ self.old.progress) }
     {
         let place = Place::Line {
             file: file.share()?,
@@ -87,19 +104,19 @@ impl Reader {
 
     /// Whether a database or an `.aux` file of this name was met.
     pub fn was_met(&self, name: &[u8]) -> bool
-        ensures { result ≡ is_among self.now.citations.met name.now }
+        ensures { result ≡ is_among self.now.progress.met name.now }
     {
         self.met.has(name)
     }
 
     /// Notes that a database or an `.aux` file was met. The one error is out of memory; nothing is noted then.
     pub fn meet(&mut self, command: Command, name: &[u8]) -> Result<(), AllocError>
-        ensures ok { OnOk result (self.new.citations ≡ meeting command name.now self.old.citations) }
-        ensures err { OnErr result (self.new.citations ≡ self.old.citations) }
+        ensures ok { OnOk result (self.new.progress ≡ meeting command name.now self.old.progress) }
+        ensures err { OnErr result (self.new.progress ≡ self.old.progress) }
     {
         match command {
             Command::Database | Command::Nested => {
-                self.met.note(self.alloc, &mut self.citations.met, name)
+                self.met.note(self.alloc, &mut self.progress.met, name)
             }
             Command::Style | Command::Citation => Ok(()),
         }
@@ -107,13 +124,13 @@ impl Reader {
 
     /// Notes that a name was looked for and not found. The one error is out of memory; nothing is noted then.
     pub fn want(&mut self, name: &[u8]) -> Result<(), AllocError>
-        ensures ok { OnOk result (self.new.citations ≡ wanting name.now self.old.citations) }
-        ensures err { OnErr result (self.new.citations ≡ self.old.citations) }
+        ensures ok { OnOk result (self.new.progress ≡ wanting name.now self.old.progress) }
+        ensures err { OnErr result (self.new.progress ≡ self.old.progress) }
     {
         if self.wanted.has(name) {
             return Ok(());
         }
         self.wanted
-            .note(self.alloc, &mut self.citations.wanted, name)
+            .note(self.alloc, &mut self.progress.wanted, name)
     }
 }

@@ -1,12 +1,12 @@
 //! What a counted line comes to.
 
 ghost use Rattle.std.specs.Prelude.{◌≡◌, ◌++◌, codes, IfOk};
-ghost use Rattle.bt_job.specs.Taking.{told, cited_all, cited_key, cited, kind, found, looked_for, named, part_taken, fault_words};
-ghost use Rattle.bt_job.specs.Taking.{fault_outcome, is_second, second_words, entered, item_taken};
+ghost use Rattle.bt_job.specs.Inner.Taking.{told, cited_all, cited_key, cited_part, kind, found, looked_for, named, part_taken, fault_words};
+ghost use Rattle.bt_job.specs.Inner.Taking.{fault_outcome, is_second, second_words, entered, item_taken};
 
-use crate::citations::Outcome;
 use crate::files::File;
 use crate::naming::{named_by, text_of};
+use crate::progress::Outcome;
 use crate::reader::Reader;
 use bt_bib::{AuxFault, AuxItem, Command};
 use bt_log::{Message, Rank};
@@ -78,27 +78,27 @@ fn second_words(command: Command) -> &'static [u8]
 impl Reader {
     /// Takes a part `*`.
     fn cite_all(&mut self) -> Result<Outcome, AllocError>
-        ensures { IfOk result (λ outcome. (self.new.citations, outcome) ≡ cited_all self.old.citations.star self.old.citations) }
+        ensures { IfOk result (λ outcome. (self.new.progress, outcome) ≡ cited_all self.old.progress.star self.old.progress) }
     {
-        if self.citations.star.is_some() {
+        if self.progress.star.is_some() {
             let words = Bytes::copied(self.alloc, b"Multiple inclusions of entire database")?;
             return Ok(Outcome::Wrong(words));
         }
-        self.citations.star = Some(self.citations.keys.as_slice().len());
+        self.progress.star = Some(self.progress.keys.as_slice().len());
         Ok(Outcome::Taken)
     }
 
     /// Takes a part of `\citation`.
-    #[tactic(auto, unfolding(crate::specs::Taking::cited))]
+    #[tactic(auto, unfolding(crate::specs::Inner::Taking::cited_part))]
     fn cite(&mut self, part: &[u8]) -> Result<Outcome, AllocError>
-        ensures { IfOk result (λ outcome. (self.new.citations, outcome) ≡ cited part.now self.old.citations) }
+        ensures { IfOk result (λ outcome. (self.new.progress, outcome) ≡ cited_part part.now self.old.progress) }
     {
         if part == b"*".as_slice() {
             return self.cite_all();
         }
         let alloc = self.alloc;
-        let Some(old) = self.citations.keys.find(alloc, part)? else {
-            self.citations.keys.push(alloc, part)?;
+        let Some(old) = self.progress.keys.find(alloc, part)? else {
+            self.progress.keys.push(alloc, part)?;
             return Ok(Outcome::Taken);
         };
         let old = old.as_slice();
@@ -111,16 +111,16 @@ impl Reader {
 
     /// Takes a file that is there.
     fn take_found(&mut self, command: Command, name: &[u8]) -> Result<Outcome, AllocError>
-        ensures { IfOk result (λ outcome. (self.new.citations, outcome) ≡ found command name.now self.old.citations) }
+        ensures { IfOk result (λ outcome. (self.new.progress, outcome) ≡ found command name.now self.old.progress) }
     {
         let text = Bytes::copied(self.alloc, name)?;
         match command {
             Command::Database => {
-                self.citations.databases.push(text)?;
+                self.progress.databases.push(text)?;
                 Ok(Outcome::Taken)
             }
             Command::Style => {
-                self.citations.style = Some(text);
+                self.progress.style = Some(text);
                 let line = Message::of(self.alloc, Rank::FileLine, &[b"The style file: ", name])?;
                 self.tell(line)?;
                 Ok(Outcome::Taken)
@@ -131,14 +131,14 @@ impl Reader {
     }
 
     /// Takes a name of a file.
-    #[tactic(auto, unfolding(crate::specs::Taking::named))]
+    #[tactic(auto, unfolding(crate::specs::Inner::Taking::named))]
     fn take_name(
         &mut self,
         files: &[File],
         command: Command,
         name: &[u8],
     ) -> Result<Outcome, AllocError>
-        ensures { IfOk result (λ outcome. (self.new.citations, outcome) ≡ named files.now command name.now self.old.citations) }
+        ensures { IfOk result (λ outcome. (self.new.progress, outcome) ≡ named files.now command name.now self.old.progress) }
     {
         if let Some(words) = self.name_fault(command, name)? {
             return Ok(Outcome::Wrong(words));
@@ -159,7 +159,7 @@ impl Reader {
         command: Command,
         part: &[u8],
     ) -> Result<Outcome, AllocError>
-        ensures { IfOk result (λ outcome. (self.new.citations, outcome) ≡ part_taken files.now command part.now self.old.citations) }
+        ensures { IfOk result (λ outcome. (self.new.progress, outcome) ≡ part_taken files.now command part.now self.old.progress) }
     {
         match command {
             Command::Citation => self.cite(part),
@@ -172,31 +172,31 @@ impl Reader {
 
     /// Whether a command that may stand once was met.
     fn is_second(&self, command: Command) -> bool
-        ensures { result ≡ is_second command self.now.citations }
+        ensures { result ≡ is_second command self.now.progress }
     {
         match command {
-            Command::Database => self.citations.database_met,
-            Command::Style => self.citations.style_met,
+            Command::Database => self.progress.database_met,
+            Command::Style => self.progress.style_met,
             Command::Citation | Command::Nested => false,
         }
     }
 
     /// Notes that a command was met.
     fn enter(&mut self, command: Command)
-        ensures { self.new.citations ≡ entered command self.old.citations }
+        ensures { self.new.progress ≡ entered command self.old.progress }
     {
         match command {
-            Command::Citation => self.citations.citation_met = true,
-            Command::Database => self.citations.database_met = true,
-            Command::Style => self.citations.style_met = true,
+            Command::Citation => self.progress.citation_met = true,
+            Command::Database => self.progress.database_met = true,
+            Command::Style => self.progress.style_met = true,
             Command::Nested => {}
         }
     }
 
     /// Takes a counted line. The one error is out of memory; what stood before it in the line may then be taken.
-    #[tactic(auto, unfolding(crate::specs::Taking::item_taken))]
+    #[tactic(auto, unfolding(crate::specs::Inner::Taking::item_taken))]
     pub fn take_item(&mut self, files: &[File], item: &AuxItem) -> Result<Outcome, AllocError>
-        ensures { IfOk result (λ outcome. (self.new.citations, outcome) ≡ item_taken files.now item.now self.old.citations) }
+        ensures { IfOk result (λ outcome. (self.new.progress, outcome) ≡ item_taken files.now item.now self.old.progress) }
     {
         if self.is_second(item.command) {
             let words = Bytes::copied(self.alloc, second_words(item.command))?;

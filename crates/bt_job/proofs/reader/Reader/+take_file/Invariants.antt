@@ -1,9 +1,9 @@
 use Rattle.std.proofs.Common.{◌≡◌, ◌+◌, ◌-◌, drop}
-use Rattle.bt_job.specs.Citations.{lines_taken, file_taken}
+use Rattle.bt_job.specs.Inner.Nesting.{lines_taken, file_taken}
 use Rattle.bt_job.proofs.reader.Reader.+take_file.Given as goal
 
 abbrev pub decreases-take_file : goal.decreases-take_file
 decreases-take_file l = l.bound
 
 abbrev pub invariant-items : goal.invariant-items
-invariant-items l = lines_taken (file_taken (l.bound - 1) l.files (l.level + 1)) l.files l.file (drop l.item-index l.item-items) l.self.citations ≡ file_taken l.bound l.files l.level l.file l.fn.self.citations
+invariant-items l = lines_taken (file_taken (l.bound - 1) l.files (l.level + 1)) l.files l.file (drop l.item-index l.item-items) l.self.progress ≡ file_taken l.bound l.files l.level l.file l.fn.self.progress

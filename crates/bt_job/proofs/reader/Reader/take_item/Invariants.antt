@@ -1,6 +1,6 @@
 use Rattle.std.proofs.Common.{◌≡◌, drop}
-use Rattle.bt_job.specs.Taking.{parts_taken}
+use Rattle.bt_job.specs.Inner.Taking.{parts_taken}
 use Rattle.bt_job.proofs.reader.Reader.take_item.Given as goal
 
 abbrev pub invariant-parts : goal.invariant-parts
-invariant-parts l = parts_taken l.files l.item.command l.item.fault (drop l.part-index l.item.parts) l.self.citations ≡ parts_taken l.files l.item.command l.item.fault l.item.parts l.initial.self.citations
+invariant-parts l = parts_taken l.files l.item.command l.item.fault (drop l.part-index l.item.parts) l.self.progress ≡ parts_taken l.files l.item.command l.item.fault l.item.parts l.initial.self.progress

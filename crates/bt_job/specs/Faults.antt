@@ -1,0 +1,99 @@
+-- What can be wrong with a counted line of an .aux file, and what the log says of it.
+use Rattle.std.specs.Prelude.{ℕ, Bool, not, eqb, List, [], ◌∷◌, ◌++◌, codes, Option, Some, None, if◌then◌else◌}
+use Rattle.std.specs.List.{ends_with}
+use Rattle.std.specs.Option.{is_some}
+use Rattle.std.specs.Str.{bytes_eq}
+use Rattle.bt_text.specs.NameList.{same_name}
+use Rattle.bt_bib.specs.declared.aux_argument.AuxFault.{AuxFault}
+use Rattle.bt_bib.specs.declared.aux_argument.AuxFault.TheVariants.{NoBrace, WhiteSpace, StuffAfter}
+use Rattle.bt_job.specs.declared.files.File.{File}
+use Rattle.bt_job.specs.Naming.{is_file_name, is_among, text_of}
+
+pub data LineFault : Type 0 where
+  -- a second command of this name
+  SecondCommand : List ℕ → LineFault
+  -- a second `*`
+  SecondStar : LineFault
+  -- a key, and how it was spelled first
+  OtherSpelling : List ℕ → List ℕ → LineFault
+  -- a name
+  WrongExtension NoFileName DatabaseTwice FileTwice : List ℕ → LineFault
+  -- a kind of file, and a name
+  NotThere : List ℕ → List ℕ → LineFault
+  -- the end of the argument
+  IllEnded : AuxFault → LineFault
+
+-- what the log says of it
+abbrev pub words : LineFault → List ℕ
+words (SecondCommand command) = codes "Illegal, another " ++ command ++ codes " command"
+words SecondStar = codes "Multiple inclusions of entire database"
+words (OtherSpelling key first) = codes "Case mismatch error between cite keys " ++ key ++ codes " and " ++ first
+words (WrongExtension name) = name ++ codes " has a wrong extension"
+words (NoFileName name) = name ++ codes " isn't a file name of this profile"
+words (DatabaseTwice name) = codes "This database file appears more than once: " ++ name
+words (FileTwice name) = codes "Already encountered file " ++ name
+words (NotThere kind name) = codes "I couldn't open " ++ kind ++ codes " file " ++ name
+words (IllEnded NoBrace) = codes "No \"}\""
+words (IllEnded WhiteSpace) = codes "White space in argument"
+words (IllEnded StuffAfter) = codes "Stuff after \"}\""
+
+-- Parts
+
+-- what is wrong with a part, if something is, where these stand before it
+abbrev pub PartFault : Type 0
+PartFault = List (List ℕ) → List ℕ → Option LineFault
+
+-- a key that was first spelled so
+abbrev pub spelling_fault : List ℕ → Option (List ℕ) → Option LineFault
+spelling_fault key None = None
+spelling_fault key (Some first) = if bytes_eq first key then None else Some (OtherSpelling key first)
+
+-- a part of \citation
+abbrev pub key_fault : PartFault
+key_fault before part =
+    if bytes_eq part (codes "*") then (if is_among before part then Some SecondStar else None)
+    else spelling_fault part (same_name part before)
+
+-- whether a file of this name is there
+abbrev pub is_there : List File → List ℕ → Bool
+is_there files name = is_some (text_of files name)
+
+-- a name of \bibdata
+abbrev pub database_fault : List File → PartFault
+database_fault files before name =
+    if not (is_file_name name) then Some (NoFileName name)
+    else if is_among before name then Some (DatabaseTwice name)
+    else if not (is_there files name) then Some (NotThere (codes "database") name)
+    else None
+
+-- the name of \bibstyle
+abbrev pub style_fault : List File → PartFault
+style_fault files before name =
+    if not (is_file_name name) then Some (NoFileName name)
+    else if not (is_there files name) then Some (NotThere (codes "style") name)
+    else None
+
+-- the name of \@input
+abbrev pub input_fault : List File → PartFault
+input_fault files before name =
+    if not (ends_with eqb name (codes ".aux")) then Some (WrongExtension name)
+    else if not (is_file_name name) then Some (NoFileName name)
+    else if is_among before name then Some (FileTwice name)
+    else if not (is_there files name) then Some (NotThere (codes "auxiliary") name)
+    else None
+
+-- The first fault ends a command.
+
+-- the parts in front of the first that is wrong
+abbrev pub right_parts : PartFault → List (List ℕ) → List (List ℕ) → List (List ℕ)
+right_parts fault before [] = []
+right_parts fault before (part ∷ parts) =
+    if is_some (fault before part) then []
+    else part ∷ right_parts fault (before ++ part ∷ []) parts
+
+-- what is wrong with that one
+abbrev pub first_fault : PartFault → List (List ℕ) → List (List ℕ) → Option LineFault
+first_fault fault before [] = None
+first_fault fault before (part ∷ parts) =
+    if is_some (fault before part) then fault before part
+    else first_fault fault (before ++ part ∷ []) parts

@@ -1,0 +1,150 @@
+-- The counted lines of a job: those of its root file, with the lines of each file that one of them opens behind it.
+use Rattle.std.specs.Prelude.{◌≡◌, ◌≤◌, ℕ, zero, suc, ◌+◌, Bool, true, false, List, [], ◌∷◌, ◌++◌, length, map, fold, filter, find, flat_map, sum_by, codes, Option, Some, None, if◌then◌else◌}
+use Rattle.std.specs.Option.{option_or, option_map}
+use Rattle.bt_bib.specs.declared.aux_line.Command.{Command}
+use Rattle.bt_bib.specs.declared.aux_line.Command.TheVariants.{Citation, Database, Style, Nested}
+use Rattle.bt_bib.specs.declared.aux_argument.AuxFault.{AuxFault}
+use Rattle.bt_bib.specs.declared.aux_line.AuxItem.{AuxItem}
+use Rattle.bt_bib.specs.AuxLine.{aux_lines}
+use Rattle.bt_job.specs.declared.files.File.{File}
+use Rattle.bt_job.specs.Naming.{is_among, text_of, with_ending}
+use Rattle.bt_job.specs.Faults.{LineFault, SecondCommand, IllEnded, PartFault, key_fault, database_fault, style_fault, input_fault, right_parts, first_fault}
+
+-- a counted line of a file that is so many levels below the root
+pub record JobLine : Type 0 where
+  pub level : ℕ
+  pub file : List ℕ
+  pub item : AuxItem
+
+-- the lines of a file that has this text
+abbrev pub lines_in : ℕ → List ℕ → Option (List ℕ) → List JobLine
+lines_in level file None = []
+lines_in level file (Some text) =
+    map (λ item. record { level = level; file = file; item = item }) (aux_lines text)
+
+-- the lines of a file
+abbrev pub lines_of : List File → ℕ → List ℕ → List JobLine
+lines_of files level file = lines_in level file (text_of files file)
+
+-- Lines of one command
+
+abbrev pub is_same_command : Command → Command → Bool
+is_same_command Citation Citation = true
+is_same_command Database Database = true
+is_same_command Style Style = true
+is_same_command Nested Nested = true
+is_same_command _ _ = false
+
+abbrev pub has_command : Command → JobLine → Bool
+has_command command line = is_same_command command line.item.command
+
+-- the first line of a command, if there is one
+abbrev pub first_with : Command → List JobLine → Option JobLine
+first_with command lines = find (has_command command) lines
+
+-- the parts of a line, if there is one
+abbrev pub line_parts : Option JobLine → List (List ℕ)
+line_parts None = []
+line_parts (Some line) = line.item.parts
+
+-- what was cited, with the parts of one more \citation in front of the first that is wrong
+abbrev pub with_cited : List (List ℕ) → JobLine → List (List ℕ)
+with_cited before line = before ++ right_parts key_fault before line.item.parts
+
+-- what was cited, in order
+unfoldable pub cited : List JobLine → List (List ℕ)
+cited lines = fold with_cited [] (filter (has_command Citation) lines)
+
+-- the names of a \bibdata
+abbrev pub database_names : List (List ℕ) → List (List ℕ)
+database_names parts = map (with_ending (codes ".bib")) parts
+
+-- the name of a \bibstyle
+abbrev pub style_names : List (List ℕ) → List (List ℕ)
+style_names parts = map (with_ending (codes ".bst")) parts
+
+-- the names of all \@input
+abbrev pub input_names : List JobLine → List (List ℕ)
+input_names lines = flat_map (λ line. line.item.parts) (filter (has_command Nested) lines)
+
+-- What is wrong with a line
+
+-- the first fault of its names behind others, else that of the argument's end
+abbrev pub argument_fault : PartFault → List (List ℕ) → List (List ℕ) → Option AuxFault → Option LineFault
+argument_fault fault before names end = option_or (first_fault fault before names) (option_map IllEnded end)
+
+-- a command of this name that may stand once, and where it stood before
+abbrev pub once : List ℕ → Option JobLine → Option LineFault → Option LineFault
+once command None fault = fault
+once command (Some line) fault = Some (SecondCommand command)
+
+-- What is wrong with a line of a command, if something is, where these lines stand before it.
+abbrev pub command_fault :
+    List File → List ℕ → List JobLine → Command → List (List ℕ) → Option AuxFault → Option LineFault
+command_fault files root before Citation parts end = argument_fault key_fault (cited before) parts end
+command_fault files root before Database parts end =
+    once (codes "\\bibdata") (first_with Database before)
+    (argument_fault (database_fault files) [] (database_names parts) end)
+command_fault files root before Style parts end =
+    once (codes "\\bibstyle") (first_with Style before)
+    (argument_fault (style_fault files) [] (style_names parts) end)
+command_fault files root before Nested parts end =
+    argument_fault (input_fault files) (root ∷ input_names before) parts end
+
+-- the same of a line
+unfoldable pub line_fault : List File → List ℕ → List JobLine → JobLine → Option LineFault
+line_fault files root before line = command_fault files root before line.item.command line.item.parts line.item.fault
+
+-- All lines
+
+-- the lines of the file that a line opens, which has this fault
+abbrev pub lines_opened : List File → JobLine → Option LineFault → List JobLine
+lines_opened files line (Some fault) = []
+lines_opened files line None =
+    if has_command Nested line then flat_map (lines_of files (line.level + 1)) line.item.parts else []
+
+-- the lines of the file that a line opens, if it opens one
+abbrev pub opened_by : List File → List ℕ → List JobLine → JobLine → List JobLine
+opened_by files root before line = lines_opened files line (line_fault files root before line)
+
+-- Some lines, and behind them the next ones, each with the lines of the file that it opens behind it; at most so many
+-- more. Which bound it is doesn't matter where it is large enough (AnyBoundServes).
+unfoldable pub read_on : ℕ → List File → List ℕ → List JobLine → List JobLine → List JobLine
+read_on zero files root before next = before
+read_on (suc bound) files root before [] = before
+read_on (suc bound) files root before (line ∷ later) =
+    read_on bound files root (before ++ line ∷ []) (opened_by files root before line ++ later)
+
+-- how many lines the files have
+abbrev pub line_count : List File → ℕ
+line_count files = sum_by (λ f. length (aux_lines f.text)) files
+
+-- The same with a bound that is large enough: no file is opened twice.
+abbrev pub read_all : List File → List ℕ → List JobLine → List JobLine → List JobLine
+read_all files root before next = read_on (length next + line_count files) files root before next
+
+-- all lines of a job with this root file
+unfoldable pub job_lines : List File → List ℕ → List JobLine
+job_lines files root = read_all files root [] (lines_of files 0 root)
+
+-- Laws
+
+-- how many lines the files have that no line has opened
+abbrev pub unopened : List File → List (List ℕ) → ℕ
+unopened [] names = 0
+unopened (f ∷ fs) names = (if is_among names f.name then 0 else length (aux_lines f.text)) + unopened fs names
+
+-- Any two bounds come to the same that are no smaller than the number of lines that can still come.
+abbrev pub AnyBoundServes : Type 0
+AnyBoundServes =
+    (m n : ℕ) (files : List File) (root : List ℕ) (before next : List JobLine)
+    → length next + unopened files (root ∷ input_names before) ≤ m
+    → length next + unopened files (root ∷ input_names before) ≤ n
+    → read_on m files root before next ≡ read_on n files root before next
+
+-- Behind a line come the lines of the file that it opens, then the others.
+abbrev pub NestedInPlace : Type 0
+NestedInPlace =
+    (files : List File) (root : List ℕ) (before : List JobLine) (line : JobLine) (later : List JobLine)
+    → read_all files root before (line ∷ later)
+    ≡ read_all files root (before ++ line ∷ []) (opened_by files root before line ++ later)
