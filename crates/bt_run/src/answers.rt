@@ -139,7 +139,6 @@ fn run_with(
         style,
         log,
         wanted,
-        ..
     } = citations;
     let Some(name) = style else {
         let course = begin(alloc, no_variables(alloc), log)?;
