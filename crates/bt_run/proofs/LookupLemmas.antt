@@ -1,114 +1,161 @@
 -- What the .aux files ask for depends on the text of each name alone.
-use Rattle.std.proofs.Common.{◌≡◌, ◌∙◌, ap, refl, ◌+◌, ◌≤◌, ℕ, zero, suc, Bool, true, false, cond, List, [], ◌∷◌, length, Option, Some, None, arith}
-use Rattle.std.specs.Prelude.{if◌then◌else◌, codes}
+use Rattle.std.proofs.Common.{◌≡◌, ◌∙◌, ap, refl, sym, ◌+◌, ◌≤◌, ℕ, zero, suc, List, [], ◌∷◌, ◌++◌, length, Option, Some, None, arith}
+use Rattle.std.specs.Prelude.{if◌then◌else◌, not, eqb, codes, map, flat_map, slice_get}
+use Rattle.std.specs.List.{ends_with}
+use Rattle.std.specs.Option.{is_some, option_or, option_map}
 use Rattle.bt_bib.specs.declared.aux_line.Command.{Command}
 use Rattle.bt_bib.specs.declared.aux_line.Command.TheVariants.{Citation, Database, Style, Nested}
 use Rattle.bt_bib.specs.declared.aux_argument.AuxFault.{AuxFault}
-use Rattle.bt_bib.specs.declared.aux_line.AuxItem.{AuxItem}
 use Rattle.bt_bib.specs.AuxLine.{aux_lines}
-use Rattle.bt_log.specs.declared.message.Rank.TheVariants.{FileLine}
-use Rattle.bt_log.specs.Message.{plain}
+use Rattle.bt_log.specs.declared.message.Message.{Message}
 use Rattle.bt_job.specs.declared.files.File.{File}
 use Rattle.bt_job.specs.declared.citations.Citations.{Citations}
-use Rattle.bt_job.specs.declared.citations.Outcome.{Outcome}
-use Rattle.bt_job.specs.declared.citations.Outcome.TheVariants.{Taken, Wrong, Opens}
-use Rattle.bt_job.specs.Naming.{is_among, text_of, named_by, name_fault}
-use Rattle.bt_job.specs.Taking.{told, cited, meeting, looked_for, named_well, named, part_taken, going_on, parts_taken, is_second, second_words, entered, item_taken}
-use Rattle.bt_job.specs.Citations.{file_line, in_place, lines_taken, opened, file_taken, nothing_met, ended, rooted, citations, unmet}
-use Rattle.bt_job.proofs.BoundLemmas.{any_bound_serves}
+use Rattle.bt_job.specs.Naming.{is_file_name, is_among, text_of, each_once}
+use Rattle.bt_job.specs.Faults.{LineFault, PartFault, WrongExtension, NoFileName, DatabaseTwice, FileTwice, NotThere, IllEnded, key_fault, database_fault, style_fault, input_fault, right_parts, first_fault}
+use Rattle.bt_job.specs.Lines.{JobLine, lines_in, lines_of, has_command, first_with, line_parts, cited, database_names, style_names, input_names, once, command_fault, line_fault, lines_opened, opened_by, read_on, line_count, job_lines}
+use Rattle.bt_job.specs.Citations.{keys_of, star_of, databases, styles, missed, along, told_of, file_line, lack, lacks, told_missing, asked_by, asked_from, citations}
+use Rattle.bt_job.proofs.BoundLemmas.{any_bound_serves, read_end, read_more, unopened_all}
+use Rattle.bt_log.specs.declared.message.Rank.TheVariants.{FileLine}
+use Rattle.bt_log.specs.Message.{plain}
 use Rattle.bt_run.specs.ByName.{HaveSameTexts}
 
--- What is asked for
+-- Parts
 
-well_same : (files others : List File) → HaveSameTexts files others → (c : Command) (name : List ℕ) (o : Option (List ℕ)) (r : Citations) →
-    named_well files c name o r ≡ named_well others c name o r
-well_same files others same c name (Some words) r = refl
-well_same files others same c name None r = ap (λ o. looked_for c name o (meeting c name r)) (same name)
+-- two tests of parts that find the same
+abbrev FindSame : PartFault → PartFault → Type 0
+FindSame f g = (before : List (List ℕ)) (part : List ℕ) → f before part ≡ g before part
 
-named_same : (files others : List File) → HaveSameTexts files others → (c : Command) (name : List ℕ) (r : Citations) → named files c name r ≡ named others c name r
-unfolding named
-named_same files others same c name r = well_same files others same c name (name_fault c r.met name) r
+database_same : (files others : List File) → HaveSameTexts files others → FindSame (database_fault files) (database_fault others)
+database_same files others same before name =
+    ap (λ (o : Option (List ℕ)). if not (is_file_name name) then Some (NoFileName name) else if is_among before name then Some (DatabaseTwice name) else if not (is_some o) then Some (NotThere (codes "database") name) else None) (same name)
 
-part_same : (files others : List File) → HaveSameTexts files others → (c : Command) (part : List ℕ) (r : Citations) → part_taken files c part r ≡ part_taken others c part r
-part_same files others same Citation part r = refl
-part_same files others same Database part r = named_same files others same Database (named_by Database part) r
-part_same files others same Style part r = named_same files others same Style (named_by Style part) r
-part_same files others same Nested part r = named_same files others same Nested (named_by Nested part) r
+style_same : (files others : List File) → HaveSameTexts files others → FindSame (style_fault files) (style_fault others)
+style_same files others same before name =
+    ap (λ (o : Option (List ℕ)). if not (is_file_name name) then Some (NoFileName name) else if not (is_some o) then Some (NotThere (codes "style") name) else None) (same name)
 
-going_same : (f g : Citations → Citations × Outcome) → ((r : Citations) → f r ≡ g r) → (x : Citations × Outcome) → going_on f x ≡ going_on g x
-going_same f g same (r, Taken) = same r
-going_same f g same (r, Wrong words) = refl
-going_same f g same (r, Opens name) = refl
+input_same : (files others : List File) → HaveSameTexts files others → FindSame (input_fault files) (input_fault others)
+input_same files others same before name =
+    ap (λ (o : Option (List ℕ)). if not (ends_with eqb name (codes ".aux")) then Some (WrongExtension name) else if not (is_file_name name) then Some (NoFileName name) else if is_among before name then Some (FileTwice name) else if not (is_some o) then Some (NotThere (codes "auxiliary") name) else None) (same name)
 
-parts_same : (files others : List File) → HaveSameTexts files others → (c : Command) (fault : Option AuxFault) (parts : List (List ℕ)) (r : Citations) →
-    parts_taken files c fault parts r ≡ parts_taken others c fault parts r
-parts_same files others same c fault [] r = refl
-parts_same files others same c fault (part ∷ parts) r =
-    ap (going_on (parts_taken files c fault parts)) (part_same files others same c part r)
-    ∙ going_same _ _ (parts_same files others same c fault parts) (part_taken others c part r)
+right_same : (f g : PartFault) → FindSame f g → (before parts : List (List ℕ)) → right_parts f before parts ≡ right_parts g before parts
+right_same f g same before [] = refl
+right_same f g same before (part ∷ parts) =
+    ap (λ (o : Option LineFault). if is_some o then [] else part ∷ right_parts f (before ++ part ∷ []) parts) (same before part)
+    ∙ ap (λ (rest : List (List ℕ)). if is_some (g before part) then [] else part ∷ rest) (right_same f g same (before ++ part ∷ []) parts)
 
-item_same : (files others : List File) → HaveSameTexts files others → (item : AuxItem) (r : Citations) → item_taken files item r ≡ item_taken others item r
-unfolding item_taken
-item_same files others same item r =
-    ap (λ x. if is_second item.command r then (r, Wrong (second_words item.command)) else x)
-    (parts_same files others same item.command item.fault item.parts (entered item.command r))
+first_same : (f g : PartFault) → FindSame f g → (before parts : List (List ℕ)) → first_fault f before parts ≡ first_fault g before parts
+first_same f g same before [] = refl
+first_same f g same before (part ∷ parts) =
+    ap (λ (o : Option LineFault). if is_some o then o else first_fault f (before ++ part ∷ []) parts) (same before part)
+    ∙ ap (λ (rest : Option LineFault). if is_some (g before part) then g before part else rest) (first_same f g same (before ++ part ∷ []) parts)
 
--- two ways to read nested files that come to the same
-abbrev Alike : (List ℕ → Citations → Citations) → (List ℕ → Citations → Citations) → Type 0
-Alike f g = (name : List ℕ) (r : Citations) → f name r ≡ g name r
+-- Lines
 
-place_same : (f g : List ℕ → Citations → Citations) → Alike f g → (file : List ℕ) (line : ℕ) (x : Citations × Outcome) → in_place f file line x ≡ in_place g file line x
-place_same f g alike file line (r, Taken) = refl
-place_same f g alike file line (r, Wrong words) = refl
-place_same f g alike file line (r, Opens name) = alike name r
+command_same : (files others : List File) → HaveSameTexts files others → (root : List ℕ) (before : List JobLine) (c : Command) (parts : List (List ℕ)) (end : Option AuxFault) →
+    command_fault files root before c parts end ≡ command_fault others root before c parts end
+command_same files others same root before Citation parts end = refl
+command_same files others same root before Database parts end =
+    ap (λ (o : Option LineFault). once (codes "\\bibdata") (first_with Database before) (option_or o (option_map IllEnded end)))
+    (first_same (database_fault files) (database_fault others) (database_same files others same) [] (database_names parts))
+command_same files others same root before Style parts end =
+    ap (λ (o : Option LineFault). once (codes "\\bibstyle") (first_with Style before) (option_or o (option_map IllEnded end)))
+    (first_same (style_fault files) (style_fault others) (style_same files others same) [] (style_names parts))
+command_same files others same root before Nested parts end =
+    ap (λ (o : Option LineFault). option_or o (option_map IllEnded end))
+    (first_same (input_fault files) (input_fault others) (input_same files others same) (root ∷ input_names before) parts)
 
-lines_same : (files others : List File) → HaveSameTexts files others → (f g : List ℕ → Citations → Citations) → Alike f g → (file : List ℕ) (items : List AuxItem) (r : Citations) →
-    lines_taken f files file items r ≡ lines_taken g others file items r
-unfolding lines_taken
-lines_same files others same f g alike file [] r = refl
-lines_same files others same f g alike file (item ∷ items) r =
-    lines_same files others same f g alike file items (in_place f file item.line (item_taken files item r))
-    ∙ ap (lines_taken g others file items)
-    (ap (in_place f file item.line) (item_same files others same item r) ∙ place_same f g alike file item.line (item_taken others item r))
+fault_same : (files others : List File) → HaveSameTexts files others → (root : List ℕ) (before : List JobLine) (line : JobLine) → line_fault files root before line ≡ line_fault others root before line
+unfolding line_fault
+fault_same files others same root before line = command_same files others same root before line.item.command line.item.parts line.item.fault
 
-opened_same : (files others : List File) → HaveSameTexts files others → (f g : List ℕ → Citations → Citations) → Alike f g → (level : ℕ) (file : List ℕ) (o : Option (List ℕ)) (r : Citations) →
-    opened f files level file o r ≡ opened g others level file o r
-opened_same files others same f g alike level file None r = refl
-opened_same files others same f g alike level file (Some text) r =
-    lines_same files others same f g alike file (aux_lines text) (told (plain FileLine (file_line level file)) r)
+lines_same : (files others : List File) → HaveSameTexts files others → (level : ℕ) (file : List ℕ) → lines_of files level file ≡ lines_of others level file
+lines_same files others same level file = ap (lines_in level file) (same file)
 
-file_same : (files others : List File) → HaveSameTexts files others → (bound level : ℕ) (file : List ℕ) (r : Citations) →
-    file_taken bound files level file r ≡ file_taken bound others level file r
-unfolding file_taken
-file_same files others same zero level file r = refl
-file_same files others same (suc bound) level file r =
-    opened_same files others same (file_taken bound files (level + 1)) (file_taken bound others (level + 1)) (file_same files others same bound (level + 1)) level file (text_of files file) r
-    ∙ ap (λ o. opened (file_taken bound others (level + 1)) others level file o r) (same file)
+all_lines_same : (files others : List File) → HaveSameTexts files others → (level : ℕ) (names : List (List ℕ)) → flat_map (lines_of files level) names ≡ flat_map (lines_of others level) names
+all_lines_same files others same level [] = refl
+all_lines_same files others same level (name ∷ names) =
+    ap (λ (ls : List JobLine). ls ++ flat_map (lines_of files level) names) (lines_same files others same level name)
+    ∙ ap (λ (rest : List JobLine). lines_of others level name ++ rest) (all_lines_same files others same level names)
 
-no_more : (b : Bool) → cond b 0 1 ≤ 1
-no_more true = omega arith
-no_more false = omega arith
+opens_same : (files others : List File) → HaveSameTexts files others → (line : JobLine) (o : Option LineFault) → lines_opened files line o ≡ lines_opened others line o
+opens_same files others same line (Some fault) = refl
+opens_same files others same line None =
+    ap (λ (ls : List JobLine). if has_command Nested line then ls else []) (all_lines_same files others same (line.level + 1) line.item.parts)
 
-unmet_all : (files : List File) (met : List (List ℕ)) → unmet files met ≤ length files
-unmet_all [] met = omega arith
-unmet_all (f ∷ fs) met = omega (arith, no_more (is_among met f.name), unmet_all fs met)
+opened_same : (files others : List File) → HaveSameTexts files others → (root : List ℕ) (before : List JobLine) (line : JobLine) → opened_by files root before line ≡ opened_by others root before line
+opened_same files others same root before line =
+    ap (lines_opened files line) (fault_same files others same root before line) ∙ opens_same files others same line (line_fault others root before line)
 
-root_same : (files others : List File) → HaveSameTexts files others → (file : List ℕ) (r : Citations) →
-    file_taken (length files + 1) files 0 file r ≡ file_taken (length others + 1) others 0 file r
-root_same files others same file r =
-    let both = length files + length others + 1 in
-    any_bound_serves (length files + 1) both files 0 file r (omega (arith, unmet_all files r.met)) (omega (arith, unmet_all files r.met))
-    ∙ file_same files others same both 0 file r
-    ∙ any_bound_serves both (length others + 1) others 0 file r (omega (arith, unmet_all others r.met)) (omega (arith, unmet_all others r.met))
+-- All lines
 
-rooted_same : (files others : List File) → HaveSameTexts files others → (file : List ℕ) (o : Option (List ℕ)) → rooted files file o ≡ rooted others file o
-rooted_same files others same file None = refl
-rooted_same files others same file (Some text) = ap (ended file) (root_same files others same file (meeting Nested file nothing_met))
+none_read : (files : List File) (root : List ℕ) (before next : List JobLine) → read_on zero files root before next ≡ before
+unfolding read_on
+none_read files root before next = refl
+
+read_same : (bound : ℕ) (files others : List File) → HaveSameTexts files others → (root : List ℕ) (before next : List JobLine) → read_on bound files root before next ≡ read_on bound others root before next
+read_same bound files others same root before [] = read_end bound files root before ∙ sym (read_end bound others root before)
+read_same zero files others same root before (line ∷ later) = none_read files root before (line ∷ later) ∙ sym (none_read others root before (line ∷ later))
+read_same (suc bound) files others same root before (line ∷ later) =
+    read_more bound files root before line later
+    ∙ ap (λ (ls : List JobLine). read_on bound files root (before ++ line ∷ []) (ls ++ later)) (opened_same files others same root before line)
+    ∙ read_same bound files others same root (before ++ line ∷ []) (opened_by others root before line ++ later)
+    ∙ sym (read_more bound others root before line later)
+
+job_lines_same : (files others : List File) → HaveSameTexts files others → (root : List ℕ) → job_lines files root ≡ job_lines others root
+unfolding job_lines
+job_lines_same files others same root =
+    let next = lines_of files 0 root in
+    let also = lines_of others 0 root in
+    let both = length next + length also + line_count files + line_count others in
+    any_bound_serves (length next + line_count files) both files root [] next (omega (arith, unopened_all files (root ∷ input_names []))) (omega (arith, unopened_all files (root ∷ input_names [])))
+    ∙ read_same both files others same root [] next
+    ∙ ap (read_on both others root []) (lines_same files others same 0 root)
+    ∙ any_bound_serves both (length also + line_count others) others root [] also (omega (arith, unopened_all others (root ∷ input_names []))) (omega (arith, unopened_all others (root ∷ input_names [])))
+
+-- What they ask for
+
+along_same : {A : Type 0} (f g : List JobLine → JobLine → List A) → ((before : List JobLine) (line : JobLine) → f before line ≡ g before line) → (before lines : List JobLine) → along f before lines ≡ along g before lines
+along_same f g same before [] = refl
+along_same f g same before (line ∷ lines) =
+    ap (λ x. x ++ along f (before ++ line ∷ []) lines) (same before line)
+    ∙ ap (λ rest. g before line ++ rest) (along_same f g same (before ++ line ∷ []) lines)
+
+-- what lines ask for, by what is found of them
+abbrev asked : List ℕ → List JobLine → List (List ℕ) → List (List ℕ) → List Message → List (List ℕ) → Citations
+asked root lines names style news missing = record {
+  keys = keys_of (cited lines);
+  star = star_of (cited lines);
+  databases = names;
+  style = slice_get style 0;
+  log = (plain FileLine (file_line 0 root) ∷ news) ++ map (told_missing root)
+      (lack (first_with Citation lines) (cited lines) (codes "\\citation commands") (codes "cite keys")
+      ++ lack (first_with Database lines) names (codes "\\bibdata command") (codes "database files")
+      ++ lack (first_with Style lines) style (codes "\\bibstyle command") (codes "style file"));
+  wanted = each_once missing;
+}
+
+asked_same : (files others : List File) → HaveSameTexts files others → (root : List ℕ) (lines : List JobLine) → asked_by files root lines ≡ asked_by others root lines
+asked_same files others same root lines =
+    let news = λ (fs : List File). along (λ before line. told_of line (line_fault fs root before line)) [] lines in
+    let missing = λ (fs : List File). along (λ before line. missed (line_fault fs root before line)) [] lines in
+    ap (λ names. asked root lines names (styles files lines) (news files) (missing files))
+    (right_same (database_fault files) (database_fault others) (database_same files others same) [] (database_names (line_parts (first_with Database lines))))
+    ∙ ap (λ style. asked root lines (databases others lines) style (news files) (missing files))
+    (right_same (style_fault files) (style_fault others) (style_same files others same) [] (style_names (line_parts (first_with Style lines))))
+    ∙ ap (λ ms. asked root lines (databases others lines) (styles others lines) ms (missing files))
+    (along_same _ _ (λ before line. ap (told_of line) (fault_same files others same root before line)) [] lines)
+    ∙ ap (λ ns. asked root lines (databases others lines) (styles others lines) (news others) ns)
+    (along_same _ _ (λ before line. ap missed (fault_same files others same root before line)) [] lines)
+
+asked_from_same : (files others : List File) → HaveSameTexts files others → (root : List ℕ) (o : Option (List ℕ)) → asked_from files root o ≡ asked_from others root o
+asked_from_same files others same root None = refl
+asked_from_same files others same root (Some text) =
+    ap (asked_by files root) (job_lines_same files others same root) ∙ asked_same files others same root (job_lines others root)
 
 pub cited_alike : (files others : List File) (root : List ℕ) → HaveSameTexts files others → citations files root ≡ citations others root
 unfolding citations
 cited_alike files others root same =
-    rooted_same files others same _ (text_of files _) ∙ ap (rooted others _) (same _)
+    ap (asked_from files _) (same _) ∙ asked_from_same files others same _ (text_of others _)
 
 -- An example: a root and a style, in either order.
 
@@ -119,9 +166,9 @@ style : File
 style = record { name = codes "s.bst"; text = [] }
 
 in_either_order : citations (root ∷ style ∷ []) (codes "job") ≡ citations (style ∷ root ∷ []) (codes "job")
-unfolding root style aux_lines lines_taken file_taken ended citations name_fault cited named item_taken
+unfolding root style aux_lines citations job_lines read_on line_fault cited
 in_either_order = refl
 
 its_style : (citations (style ∷ root ∷ []) (codes "job")).style ≡ Some (codes "s.bst")
-unfolding root style aux_lines lines_taken file_taken ended citations name_fault cited named item_taken
+unfolding root style aux_lines citations job_lines read_on line_fault cited
 its_style = refl
