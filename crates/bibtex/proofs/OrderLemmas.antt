@@ -12,9 +12,9 @@ use Rattle.bibtex.specs.declared.edit.Refusal.{Refusal}
 use Rattle.bibtex.specs.declared.edit.Refusal.TheVariants.{BadName, NoSuchFile, FileTooLarge, TooManyFiles}
 use Rattle.bibtex.specs.declared.state.State.{State}
 use Rattle.bibtex.specs.Changes.{Change, write, splice, remove, root_name, min_crossrefs}
-use Rattle.bibtex.specs.Present.{EachOnce, place_of, with_text, replaced, shown, reported}
-use Rattle.bibtex.specs.Applied.{text_limit, file_limit, found_refusal, refusal_of, changed, unless_refused, outcome, applied, IsAnswer}
-use Rattle.bibtex.specs.Headline.{behind, AnswersInTurn, behind_all}
+use Rattle.bibtex.specs.Present.{EachOnce, place_of_file, with_text, replaced, shown, reported}
+use Rattle.bibtex.specs.Applied.{file_size_limit, file_count_limit, found_refusal, refusal_of, changed, unless_refused, outcome, applied, IsAnswer}
+use Rattle.bibtex.specs.Headline.{after_answer, AnswersInTurn, after_answers}
 use Rattle.bibtex.specs.Order.{AreAlike, ComeToTheSame}
 use Rattle.bt_run.proofs.ByNameLemmas.{meaning_same, trace_same, style_text_same}
 use Rattle.bibtex.proofs.TextLemmas.{place_there, text_of_with, text_of_without, once_with, once_without, as_many}
@@ -64,15 +64,15 @@ once_applied (MinCrossrefs n) s t once is = once_outcome (min_crossrefs n) [] s 
 write_alike : (name : List ℕ) (size : ℕ) (none : Bool) (count : ℕ) → Option Refusal
 write_alike name size none count =
     if not (is_file_name name) then Some BadName
-    else if nat_lt text_limit size then Some FileTooLarge
-    else if none && nat_le file_limit count then Some TooManyFiles
+    else if nat_lt file_size_limit size then Some FileTooLarge
+    else if none && nat_le file_count_limit count then Some TooManyFiles
     else None
 
 refusal_alike : (change : Change) (size : ℕ) (s t : State) → EachOnce s.texts → EachOnce t.texts → AreAlike s t → refusal_of change size s ≡ refusal_of change size t
 unfolding write_alike
 refusal_alike (write name) size s t once also alike =
     ap (λ none. write_alike name size none (length s.texts)) (place_there name s.texts ∙ ap is_none (alike.texts name) ∙ sym (place_there name t.texts))
-    ∙ ap (write_alike name size (is_none (place_of name t.texts))) (as_many s.texts t.texts once also alike.texts)
+    ∙ ap (write_alike name size (is_none (place_of_file name t.texts))) (as_many s.texts t.texts once also alike.texts)
 refusal_alike (splice name start end) size s t once also alike =
     ap (λ o. if not (is_file_name name) then Some BadName else found_refusal o start end size) (alike.texts name)
 refusal_alike (remove name) size s t once also alike =
@@ -132,7 +132,7 @@ answer_alike (Ok s) (Err refusal) a same is = absurd same
 answer_alike (Err refusal) (Ok t) a same is = absurd same
 answer_alike (Err refusal) (Err other) a same is = is ∙ ap Err same
 
-behind_alike : (x y : Result State Refusal) (a : Result Report Refusal) (s t : State) → AreAlike s t → ComeToTheSame x y → AreAlike (behind a x s) (behind a y t)
+behind_alike : (x y : Result State Refusal) (a : Result Report Refusal) (s t : State) → AreAlike s t → ComeToTheSame x y → AreAlike (after_answer a x s) (after_answer a y t)
 behind_alike (Ok s') (Ok t') (Ok report) s t alike same = same
 behind_alike (Ok s') (Ok t') (Err why) s t alike same = alike
 behind_alike (Ok s') (Err refusal) a s t alike same = absurd same
@@ -140,7 +140,7 @@ behind_alike (Err refusal) (Ok t') a s t alike same = absurd same
 behind_alike (Err refusal) (Err other) (Ok report) s t alike same = alike
 behind_alike (Err refusal) (Err other) (Err why) s t alike same = alike
 
-once_behind : (x : Result State Refusal) (a : Result Report Refusal) (s : State) → EachOnce s.texts → ((t : State) → x ≡ Ok t → EachOnce t.texts) → EachOnce (behind a x s).texts
+once_behind : (x : Result State Refusal) (a : Result Report Refusal) (s : State) → EachOnce s.texts → ((t : State) → x ≡ Ok t → EachOnce t.texts) → EachOnce (after_answer a x s).texts
 once_behind (Ok t) (Ok report) s once made = made t refl
 once_behind (Ok t) (Err why) s once made = once
 once_behind (Err refusal) (Ok report) s once made = once
@@ -158,16 +158,16 @@ answered_alike (e ∷ es) (a ∷ rest) s t once also alike told =
     let same = applied_alike e s t once also alike in
     let next = behind_alike (applied e s) (applied e t) a s t alike same in (
       answer_alike (applied e s) (applied e t) a same told.0,
-      report_alike a _ _ (reported_alike s t (behind a (applied e s) s) (behind a (applied e t) t) alike next) told.1,
-      answered_alike es rest (behind a (applied e s) s) (behind a (applied e t) t)
+      report_alike a _ _ (reported_alike s t (after_answer a (applied e s) s) (after_answer a (applied e t) t) alike next) told.1,
+      answered_alike es rest (after_answer a (applied e s) s) (after_answer a (applied e t) t)
           (once_behind (applied e s) a s once (λ u is. once_applied e s u once is)) (once_behind (applied e t) a t also (λ u is. once_applied e t u also is)) next told.2,
     )
 
 pub all_alike : (es : List Edit) (answers : List (Result Report Refusal)) (s t : State) → EachOnce s.texts → EachOnce t.texts → AreAlike s t →
-    AreAlike (behind_all es answers s) (behind_all es answers t)
+    AreAlike (after_answers es answers s) (after_answers es answers t)
 all_alike [] answers s t once also alike = alike
 all_alike (e ∷ es) [] s t once also alike = alike
 all_alike (e ∷ es) (a ∷ rest) s t once also alike =
-    all_alike es rest (behind a (applied e s) s) (behind a (applied e t) t)
+    all_alike es rest (after_answer a (applied e s) s) (after_answer a (applied e t) t)
     (once_behind (applied e s) a s once (λ u is. once_applied e s u once is)) (once_behind (applied e t) a t also (λ u is. once_applied e t u also is))
     (behind_alike (applied e s) (applied e t) a s t alike (applied_alike e s t once also alike))

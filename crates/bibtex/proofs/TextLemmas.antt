@@ -1,4 +1,4 @@
--- Texts by their names: what is looked up behind a change, and that each name stands once.
+-- Texts by their names: what is looked up after a change, and that each name stands once.
 use Rattle.std.proofs.Common.{◌≡◌, ◌∙◌, ap, sym, refl, subst, ◌+◌, ℕ, suc, Bool, true, false, not, cond, ◌||◌, List, [], ◌∷◌, length, map, Option, Some, None, option_map, is_some, is_none, one-add, true≢false}
 use Rattle.std.specs.Prelude.{if◌then◌else◌, nat_lt, bytes_eq}
 use Rattle.std.specs.List.{IsDistinct, AllByRecursion, position_or_len}
@@ -10,7 +10,7 @@ use Rattle.std.proofs.lemmas.List.{length-map}
 use Rattle.std.proofs.lemmas.Map.Made.{length-from_same_keys}
 use Rattle.bt_job.specs.declared.files.File.{File}
 use Rattle.bt_job.specs.Naming.{text_of}
-use Rattle.bibtex.specs.Present.{EachOnce, place_of, put_at, with_text, without}
+use Rattle.bibtex.specs.Present.{EachOnce, place_of_file, put_at, with_text, without}
 use Rattle.bt_run.specs.ByName.{HaveSameTexts}
 
 -- Names
@@ -37,7 +37,7 @@ place_more false n l = rw (one-add n, leb-suc-suc (suc n) l) (go (nat_lt n l))
     go true = refl
     go false = refl
 
-place_step : (name : List ℕ) (f : File) (fs : List File) → place_of name (f ∷ fs) ≡ cond (bytes_eq f.name name) (Some 0) (option_map suc (place_of name fs))
+place_step : (name : List ℕ) (f : File) (fs : List File) → place_of_file name (f ∷ fs) ≡ cond (bytes_eq f.name name) (Some 0) (option_map suc (place_of_file name fs))
 place_step name f fs = place_more (bytes_eq f.name name) (position_or_len (λ (g : File). bytes_eq g.name name) fs) (length fs)
 
 none_later : (o : Option ℕ) → is_none (option_map suc o) ≡ is_none o
@@ -45,17 +45,17 @@ none_later None = refl
 none_later (Some n) = refl
 
 -- A name has a place exactly where it has a text.
-pub place_there : (name : List ℕ) (files : List File) → is_none (place_of name files) ≡ is_none (text_of files name)
+pub place_there : (name : List ℕ) (files : List File) → is_none (place_of_file name files) ≡ is_none (text_of files name)
 place_there name [] = refl
 place_there name (f ∷ fs) = rw (place_step name f fs) (go (bytes_eq f.name name) (place_there name fs))
   where
-    go : (b : Bool) → is_none (place_of name fs) ≡ is_none (text_of fs name) → is_none (cond b (Some 0) (option_map suc (place_of name fs))) ≡ is_none (cond b (Some f.text) (text_of fs name))
+    go : (b : Bool) → is_none (place_of_file name fs) ≡ is_none (text_of fs name) → is_none (cond b (Some 0) (option_map suc (place_of_file name fs))) ≡ is_none (cond b (Some f.text) (text_of fs name))
     go true later = refl
-    go false later = none_later (place_of name fs) ∙ later
+    go false later = none_later (place_of_file name fs) ∙ later
 
 -- A text that is put
 
--- a file in the place of that of its name, or behind the others, file by file
+-- a file in the place of that of its name, or after the others, file by file
 abbrev put : File → List File → List File
 put file [] = file ∷ []
 put file (f ∷ fs) = if bytes_eq f.name file.name then file ∷ fs else f ∷ put file fs
@@ -65,14 +65,14 @@ put_more true o file f fs = refl
 put_more false None file f fs = refl
 put_more false (Some n) file f fs = refl
 
-put_is : (file : File) (files : List File) → put_at (place_of file.name files) file files ≡ put file files
+put_is : (file : File) (files : List File) → put_at (place_of_file file.name files) file files ≡ put file files
 put_is file [] = refl
 put_is file (f ∷ fs) =
     ap (λ o. put_at o file (f ∷ fs)) (place_step file.name f fs)
-    ∙ put_more (bytes_eq f.name file.name) (place_of file.name fs) file f fs
+    ∙ put_more (bytes_eq f.name file.name) (place_of_file file.name fs) file f fs
     ∙ ap (λ (rest : List File). cond (bytes_eq f.name file.name) (file ∷ fs) (f ∷ rest)) (put_is file fs)
 
--- Look-ups behind a change
+-- Look-ups after a change
 
 twice : {A : Type 0} (c : Bool) (x y z : A) → cond c x y ≡ cond c x (cond c z y)
 twice true x y z = refl

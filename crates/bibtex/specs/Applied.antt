@@ -10,15 +10,15 @@ use Rattle.bt_job.specs.declared.files.File.{File}
 use Rattle.bt_job.specs.Naming.{is_file_name, text_of}
 use Rattle.bibtex.specs.Changes.{Change, write, splice, remove, root_name, min_crossrefs}
 use Rattle.bibtex.specs.declared.state.State.{State}
-use Rattle.bibtex.specs.Present.{place_of, with_text, without, replaced, is_root_name}
+use Rattle.bibtex.specs.Present.{place_of_file, with_text, without, replaced, is_root_name}
 
 -- how many bytes a text may have
-abbrev pub text_limit : ℕ
-text_limit = 1048576
+abbrev pub file_size_limit : ℕ
+file_size_limit = 1048576
 
 -- how many files there may be
-abbrev pub file_limit : ℕ
-file_limit = 64
+abbrev pub file_count_limit : ℕ
+file_count_limit = 64
 
 -- Refusals, each the first whose condition holds
 
@@ -26,15 +26,15 @@ file_limit = 64
 abbrev pub write_refusal : List File → List ℕ → ℕ → Option Refusal
 write_refusal files name size =
     if not (is_file_name name) then Some BadName
-    else if nat_lt text_limit size then Some FileTooLarge
-    else if is_none (place_of name files) && nat_le file_limit (length files) then Some TooManyFiles
+    else if nat_lt file_size_limit size then Some FileTooLarge
+    else if is_none (place_of_file name files) && nat_le file_count_limit (length files) then Some TooManyFiles
     else None
 
 -- against so many bytes in the place of the bytes of a text from one place up to another
 abbrev pub range_refusal : List ℕ → ℕ → ℕ → ℕ → Option Refusal
 range_refusal text start end size =
     if nat_lt end start || nat_lt (length text) end then Some RangeOutside
-    else if nat_lt text_limit (start + (length text - end) + size) then Some FileTooLarge
+    else if nat_lt file_size_limit (start + (length text - end) + size) then Some FileTooLarge
     else None
 
 -- the same, where this text was found
@@ -83,11 +83,11 @@ abbrev pub unless_refused : Option Refusal → State → Result State Refusal
 unless_refused None s = Ok s
 unless_refused (Some refusal) s = Err refusal
 
--- the state behind a change that brings these bytes, or the first refusal whose condition holds
+-- the state after a change that brings these bytes, or the first refusal whose condition holds
 abbrev pub outcome : Change → List ℕ → State → Result State Refusal
 outcome change bytes s = unless_refused (refusal_of change (length bytes) s) (changed change bytes s)
 
--- the state behind an edit, or the first refusal whose condition holds
+-- the state after an edit, or the first refusal whose condition holds
 abbrev pub applied : Edit → State → Result State Refusal
 applied (Write name text) s = outcome (write name.now) text.now s
 applied (Splice name start end bytes) s = outcome (splice name.now start end) bytes.now s
@@ -99,7 +99,7 @@ applied (MinCrossrefs n) s = outcome (min_crossrefs n) [] s
 abbrev pub IsEditOf : Change → List ℕ → Edit → Type 0
 IsEditOf change bytes e = (s : State) → applied e s ≡ outcome change bytes s
 
--- What answers an edit of which this is applied: each refusal where it is that refusal, and want of memory only where
+-- What answers an edit of which this is applied: each refusal where it is that refusal, and out of memory only where
 -- there is no other.
 abbrev pub IsAnswer : {A : Type 0} → Result State Refusal → Result A Refusal → Type 0
 IsAnswer (Ok s) result = IfErr result (λ refusal. refusal ≡ OutOfMemory)

@@ -3,3 +3,4 @@ pub mod Changes
 pub mod Applied
 pub mod Headline
 pub mod Order
+pub mod inner

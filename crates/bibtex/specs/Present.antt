@@ -10,26 +10,22 @@ use Rattle.bt_run.specs.Meaning.{Meaning, meaning, trace}
 use Rattle.bt_run.specs.Kept.{style_text, run_work, report_after}
 use Rattle.bibtex.specs.declared.state.State.{State}
 
--- the present texts, each under its name
-abbrev pub Texts : Type 0
-Texts = List File
-
 -- Each name stands once among the present texts.
 abbrev pub EachOnce : List File → Type 0
 EachOnce files = IsDistinct bytes_eq (map (λ (f : File). f.name) files)
 
 -- which of some files has a name
-abbrev pub place_of : List ℕ → List File → Option ℕ
-place_of name files = position (λ f. bytes_eq f.name name) files
+abbrev pub place_of_file : List ℕ → List File → Option ℕ
+place_of_file name files = position (λ f. bytes_eq f.name name) files
 
--- the texts with a file at a place, or behind the others
+-- the texts with a file at a place, or after the others
 abbrev pub put_at : Option ℕ → File → List File → List File
 put_at None file files = files ++ file ∷ []
 put_at (Some n) file files = slice_set files n file
 
--- the texts with one in the place of that of its name, or behind the others where none has it
+-- the texts with one in the place of that of its name, or after the others where none has it
 abbrev pub with_text : List ℕ → List ℕ → List File → List File
-with_text name text files = put_at (place_of name files) (record { name = name; text = text }) files
+with_text name text files = put_at (place_of_file name files) (record { name = name; text = text }) files
 
 -- the texts but that of a name
 abbrev pub without : List ℕ → List File → List File
@@ -39,7 +35,7 @@ without name files = filter (λ f. not (bytes_eq f.name name)) files
 abbrev pub replaced : ℕ → ℕ → List ℕ → List ℕ → List ℕ
 replaced start end bytes text = take start text ++ bytes ++ drop end text
 
--- a root name: with .aux behind it it is a file's name
+-- a root name: with .aux after it it is a file's name
 abbrev pub is_root_name : List ℕ → Bool
 is_root_name root = is_file_name root && nat_le (length root) 60
 
@@ -62,8 +58,8 @@ work old new = run_work (style_text old.texts old.root) (trace old.texts old.roo
 abbrev pub reported : State → State → Report
 reported old new = report_after (style_text old.texts old.root) (trace old.texts old.root old.min) new.texts new.root new.min
 
--- What a session keeps to: each name stands once among its texts, and beside its state it keeps what the state means, the
--- text of its style, and the steps of its run.
+-- What a session keeps to: each name stands once among its texts, and beside its state it keeps what the state means,
+-- the text of its style, and the steps of its run.
 pub record Keeps (s : State) (m : Meaning) (text : Option (List ℕ)) (steps : List Step) : Type 0 where
   pub once : EachOnce s.texts
   pub is_meaning : m ≡ shown s

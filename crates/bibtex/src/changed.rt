@@ -1,7 +1,7 @@
 //! Texts and files with a part of them changed, beside those that are there.
 
 ghost use Rattle.std.specs.Prelude.{◌≡◌, ◌<◌, ◌≤◌, ◌++◌, take, length, IfOk, IfSome};
-ghost use Rattle.bibtex.specs.Present.{place_of, with_text, without, replaced};
+ghost use Rattle.bibtex.specs.Present.{place_of_file, with_text, without, replaced};
 
 use bt_job::File;
 use bt_text::{Bytes, Sequence, Shared};
@@ -9,13 +9,13 @@ use std::alloc::{AllocError, Global};
 
 /// Which of some files has a name.
 pub fn place_of(files: &[File], name: &[u8]) -> Option<usize>
-    ensures place { result ≡ place_of name.now files.now }
+    ensures place { result ≡ place_of_file name.now files.now }
     ensures within { IfSome result (λ n. n < length files.now) }
 {
     files.iter().position(|file| file.name.as_slice() == name)
 }
 
-/// The same file, which shares its name and its text. The one error is want of memory.
+/// The same file, which shares its name and its text.
 fn shared(file: &File) -> Result<File, AllocError>
     ensures { IfOk result (λ again. again ≡ file.now) }
 {
@@ -25,7 +25,7 @@ fn shared(file: &File) -> Result<File, AllocError>
     })
 }
 
-/// The same files, which share their names and texts. The one error is want of memory.
+/// The same files, which share their names and texts. The one error is out of memory.
 pub fn all_shared(alloc: Global, files: &[File]) -> Result<Sequence<File>, AllocError>
     ensures { IfOk result (λ again. again ≡ files.now) }
 {
@@ -36,8 +36,8 @@ pub fn all_shared(alloc: Global, files: &[File]) -> Result<Sequence<File>, Alloc
     Ok(again)
 }
 
-/// The files with a text in the place of that of its name, or behind the others where none has it. The one error is
-/// want of memory.
+/// The files with a text in the place of that of its name, or after the others where none has it. The one error is
+/// out of memory.
 pub fn with_text(
     alloc: Global,
     files: &[File],
@@ -58,7 +58,7 @@ pub fn with_text(
     Ok(changed)
 }
 
-/// The files but those of a name. The one error is want of memory.
+/// The files but those of a name. The one error is out of memory.
 pub fn without(alloc: Global, files: &[File], name: &[u8]) -> Result<Sequence<File>, AllocError>
     ensures { IfOk result (λ left. left ≡ without name.now files.now) }
 {
@@ -71,7 +71,7 @@ pub fn without(alloc: Global, files: &[File], name: &[u8]) -> Result<Sequence<Fi
     Ok(left)
 }
 
-/// A text with other bytes in the place of its bytes `start..end`. The one error is want of memory.
+/// A text with other bytes in the place of its bytes `start..end`. The one error is out of memory.
 pub fn replaced(
     alloc: Global,
     text: &[u8],

@@ -62,7 +62,7 @@ pub enum Refusal {
     /// No file has the name.
     #[error("NoSuchFile")]
     NoSuchFile,
-    /// The bytes to be replaced end before they begin, or behind the end of the text.
+    /// The bytes to be replaced end before they begin, or after the end of the text.
     #[error("RangeOutside")]
     RangeOutside,
     /// The text would have more than 1,048,576 bytes.

@@ -21,6 +21,3 @@ pub use edits::edit_all;
 pub use laws::{names_stand_once, order_is_never_seen};
 pub use refusal::{FILE_BYTES, FILE_LIMIT, is_root_name};
 pub use session::Session;
-
-#[cfg(test)]
-mod tests;

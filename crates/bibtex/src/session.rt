@@ -85,7 +85,7 @@ impl Session {
         })
     }
 
-    /// The first reason against a change that brings so many bytes; want of memory is none. It takes no memory.
+    /// The first reason against a change that brings so many bytes; out of memory is none. It takes no memory.
     pub fn refusal(&self, change: Change<'_>, size: usize) -> Option<Refusal>
         ensures { result ≡ refusal_of (change_of change.entry) size self.now }
     {
@@ -164,8 +164,8 @@ impl Session {
         self.answers.terse.as_slice()
     }
 
-    /// The messages of the log in their parts, in order: what each counts as, what it says, the key of its entry, where it
-    /// belongs, its second line. The log is what they are in words, and the last line.
+    /// The messages of the log in their parts, in order: what each counts as, what it says, the key of its entry, where
+    /// it belongs, its second line. The log is what they are in words, and the last line.
     #[tactic(auto, using(crate::proofs::SessionLemmas::log_in_words))]
     pub fn messages(&self) -> &[Message]
         ensures meaning { result.now ≡ (shown self.now).messages }
@@ -174,7 +174,7 @@ impl Session {
         self.answers.messages.as_slice()
     }
 
-    /// 0 where the run was clean, 1 behind warnings, 2 behind errors, 3 behind a fatal error.
+    /// 0 where the run was clean, 1 after warnings, 2 after errors, 3 after a fatal error.
     pub fn status(&self) -> u8
         ensures { result ≡ (shown self.now).status }
     {

@@ -13,8 +13,8 @@ use bt_job::{File, text_of};
 use bt_text::{Bytes, Sequence, Shared};
 use std::alloc::{AllocError, Global};
 
-/// What a session is about: the present texts, each under its name, the root name, and how many entries have to refer to
-/// an uncited one for it to be listed.
+/// What a session is about: the present texts, each under its name, the root name, and how many entries have to refer
+/// to an uncited one for it to be listed.
 #[derive(Debug, Drop)]
 pub struct State {
     pub texts: Sequence<File>,
@@ -34,7 +34,7 @@ impl State {
         })
     }
 
-    /// The state with a text in the place of that of its name, or behind the others where none has it.
+    /// The state with a text in the place of that of its name, or after the others where none has it.
     fn written(&self, alloc: Global, name: &[u8], text: &[u8]) -> Result<State, Refusal>
         ensures ok { IfOk result (λ state. outcome (write name.now) text.now self.now ≡ Ok state) }
         ensures refused { IsAnswer (outcome (write name.now) text.now self.now) result }
@@ -47,8 +47,8 @@ impl State {
         Ok(self.with_texts(with_text(alloc, files, name, text)?)?)
     }
 
-    /// The state with bytes in the place of the bytes `start..end` of a text, which is read again where it is known as a
-    /// database.
+    /// The state with bytes in the place of the bytes `start..end` of a text, which is read again where it is known as
+    /// a database.
     #[tactic(auto, using(crate::proofs::SessionLemmas::replaced_is_splice))]
     fn spliced(
         &self,
@@ -116,8 +116,8 @@ impl State {
         })
     }
 
-    /// The state after an edit, made beside this one, with which it shares all that the edit leaves. Refusals are tested in
-    /// the order of their cases, out of memory last. A known database that is spliced is read again.
+    /// The state after an edit, made beside this one, with which it shares all that the edit leaves. Refusals are
+    /// tested in the order of their cases, out of memory last. A known database that is spliced is read again.
     pub fn after(&self, edit: Edit<'_>, reread: &mut Reread<'_>) -> Result<State, Refusal>
         requires meter { reread.old.meter ≡ 0 }
         ensures ok { IfOk result (λ state. applied edit.entry self.now ≡ Ok state) }

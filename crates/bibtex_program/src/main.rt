@@ -20,7 +20,7 @@ fn out_of_memory(rt: &impl Eprint) -> Result<ExitCode> {
     Ok(ExitCode::FAILURE)
 }
 
-/// Prints the help that was asked for, or tells why the command line asks for nothing that can be done.
+/// Prints the help that was asked for, or reports why the command line asks for nothing that can be done.
 fn refuse(rt: &(impl Print + Eprint), fault: OptionsFault) -> Result<ExitCode> {
     match fault {
         OptionsFault::Parser(fault) => {

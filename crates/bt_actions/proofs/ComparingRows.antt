@@ -3,7 +3,7 @@ use Rattle.std.specs.Prelude.{pos, [], ◌∷◌, codes, refl}
 use Rattle.bt_style.specs.declared.style.Target.TheVariants as target
 use Rattle.bt_style.specs.declared.builtin.Builtin.TheVariants as builtin
 use Rattle.bt_style.specs.Tree.{End}
-use Rattle.bt_actions.specs.Item.{Name, Block, Num, Txt, Fun, Gap}
+use Rattle.bt_actions.specs.Item.{Name, Block, Num, Txt, Fun, Missing}
 use Rattle.bt_actions.proofs.RowWorlds.{no_value, Leaves, LeavesWithErrors}
 
 -- 7 7 =
@@ -35,7 +35,7 @@ equal_one_row : LeavesWithErrors builtin.Equals (Fun (Block End) ∷ []) (Num (p
 equal_one_row = refl
 
 -- a missing field is empty
-empty_missing_row : Leaves builtin.Empty (Gap 0 ∷ []) (Num (pos 1) ∷ [])
+empty_missing_row : Leaves builtin.Empty (Missing 0 ∷ []) (Num (pos 1) ∷ [])
 empty_missing_row = refl
 
 -- white space is empty
@@ -51,7 +51,7 @@ empty_wrong_row : LeavesWithErrors builtin.Empty (Num (pos 1) ∷ []) (Num (pos 
 empty_wrong_row = refl
 
 -- a missing field
-missing_row : Leaves builtin.Missing (Gap 0 ∷ []) (Num (pos 1) ∷ [])
+missing_row : Leaves builtin.Missing (Missing 0 ∷ []) (Num (pos 1) ∷ [])
 missing_row = refl
 
 -- an empty text is not missing

@@ -6,8 +6,8 @@ use Rattle.bt_style.specs.declared.style.Function.{Function}
 use Rattle.bt_style.specs.Program.{Program, Definition, definition_of, definitions_of}
 use Rattle.bt_actions.specs.declared.complaint.Complaint.TheVariants.{Shown}
 use Rattle.bt_actions.specs.Item.{Item}
-use Rattle.bt_actions.specs.World.{World, told, with_stack}
-use Rattle.bt_actions.specs.Logging.{shown, log_value, log_stack}
+use Rattle.bt_actions.specs.World.{World, told_message, with_stack}
+use Rattle.bt_actions.specs.Logging.{shown_value, log_value, log_stack}
 
 -- the names of definitions are those of the functions
 pub function_names : (fs : List Function) → map (λ (d : Definition). d.name) (definitions_of fs) ≡ map (λ (f : Function). f.name) fs
@@ -15,7 +15,7 @@ function_names fs = map-map (λ (d : Definition). d.name) definition_of fs
 
 -- logging the topmost value and then the rest logs all
 log_top : (p : Program) (v : Item) (vs : List Item) (w : World) → log_stack p (log_value p v (with_stack vs w)) ≡ log_stack p (with_stack (v ∷ vs) w)
-log_top p v vs w = ap (λ ms. record w { messages = ms; stack = [] }) (append_assoc w.messages (told w (Shown (shown p v)) ∷ []) (map (λ u. told w (Shown (shown p u))) vs))
+log_top p v vs w = ap (λ ms. record w { messages = ms; stack = [] }) (append_assoc w.messages (told_message w (Shown (shown_value p v)) ∷ []) (map (λ u. told_message w (Shown (shown_value p u))) vs))
 
 -- the same of worlds that are known by equations: before, without the topmost value, and after
 pub log_stack_next : (p : Program) (v : Item) (before without after : World) → before.stack ≡ v ∷ without.stack → without ≡ with_stack without.stack before → after ≡ log_value p v without → log_stack p after ≡ log_stack p before

@@ -5,7 +5,7 @@ use Rattle.bt_style.specs.declared.style.Target.TheVariants as target
 use Rattle.std.specs.Fmt.{digits}
 use Rattle.bt_style.specs.Tree.{End}
 use Rattle.bt_log.specs.declared.message.Rank.TheVariants.{Note, Warning}
-use Rattle.bt_actions.specs.Item.{Name, Block, Num, Txt, Fun, Gap}
+use Rattle.bt_actions.specs.Item.{Name, Block, Num, Txt, Fun, Missing}
 use Rattle.bt_actions.specs.World.{Goes}
 use Rattle.bt_actions.specs.Actions.{basic}
 use Rattle.bt_actions.proofs.RowWorlds.{names, start, over, told_in, of_second, no_value, LeavesWithErrors}
@@ -32,7 +32,7 @@ top_variable_row : basic names builtin.Top (over start (Fun (Name (target.EntryT
 top_variable_row = refl
 
 -- top$ of a missing field
-top_missing_row : basic names builtin.Top (over start (Gap 1 ∷ [])) ≡ Goes (told_in start [] (of_second Note (codes "missing title") ∷ []))
+top_missing_row : basic names builtin.Top (over start (Missing 1 ∷ [])) ≡ Goes (told_in start [] (of_second Note (codes "missing title") ∷ []))
 top_missing_row = refl
 
 -- top$ on the empty stack

@@ -10,7 +10,8 @@ use Rattle.bt_actions.specs.Item.{Txt}
 use Rattle.bt_actions.specs.World.{World, Act, Goes}
 use Rattle.bt_actions.specs.State.{pushed}
 use Rattle.bt_actions.specs.Given.{answered}
-use Rattle.bt_actions.specs.Names.{format_given, name_formatted, pushed_within}
+use Rattle.bt_actions.specs.Names.{format_given, name_formatted}
+use Rattle.bt_actions.specs.inner.Names.{pushed_within}
 
 abbrev is_there : Result Formatted FormatFault → Bool
 is_there (Ok formatted) = true

@@ -57,7 +57,7 @@ plus_one_row = refl
 plus_empty_row : LeavesWithErrors builtin.Plus [] (Num (pos 0) ∷ []) (no_value ∷ no_value ∷ [])
 plus_empty_row = refl
 
--- two texts are told of once
+-- two texts are reported once
 plus_two_wrong_row : LeavesWithErrors builtin.Plus (Txt (codes "u") ∷ Txt (codes "t") ∷ []) (Num (pos 0) ∷ []) (codes "+ got a value of the wrong kind" ∷ [])
 plus_two_wrong_row = refl
 

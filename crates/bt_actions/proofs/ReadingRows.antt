@@ -1,7 +1,7 @@
 -- Fields and variables, the key, the type and the preamble at worked values.
 use Rattle.std.specs.Prelude.{◌≡◌, pos, [], ◌∷◌, codes, refl}
 use Rattle.bt_style.specs.declared.builtin.Builtin.TheVariants as builtin
-use Rattle.bt_actions.specs.Item.{Num, Txt, Gap}
+use Rattle.bt_actions.specs.Item.{Num, Txt, Missing}
 use Rattle.bt_actions.specs.World.{Goes}
 use Rattle.bt_actions.specs.Reading.{of_entry, field_at, number_at, text_at, global_number, global_text}
 use Rattle.bt_actions.specs.Actions.{basic}
@@ -32,7 +32,7 @@ type_without_function_row : basic names builtin.Type (over second []) ≡ Goes (
 type_without_function_row = refl
 
 -- a missing field, a title, and a field without an entry
-field_missing_row : of_entry (field_at 0) (Txt []) start ≡ Goes (over start (Gap 0 ∷ []))
+field_missing_row : of_entry (field_at 0) (Txt []) start ≡ Goes (over start (Missing 0 ∷ []))
 field_missing_row = refl
 
 field_row : of_entry (field_at 1) (Txt []) start ≡ Goes (over start (Txt (codes "B title") ∷ []))

@@ -2,14 +2,14 @@
 use Rattle.std.specs.Prelude.{◌≡◌, pos, [], ◌∷◌, codes, refl, replicate}
 use Rattle.bt_style.specs.declared.builtin.Builtin.TheVariants as builtin
 use Rattle.bt_actions.specs.declared.complaint.Complaint.TheVariants.{StackPassed}
-use Rattle.bt_actions.specs.Item.{Num, Txt, Gap}
+use Rattle.bt_actions.specs.Item.{Num, Txt, Missing}
 use Rattle.bt_actions.specs.World.{World, Stops, say}
 use Rattle.bt_actions.specs.State.{pushed}
 use Rattle.bt_actions.specs.Actions.{basic}
 use Rattle.bt_actions.proofs.RowWorlds.{names, alone, over, no_value, Leaves, LeavesWithErrors}
 
 -- a value twice
-duplicate_row : Leaves builtin.Duplicate (Gap 0 ∷ Num (pos 1) ∷ []) (Gap 0 ∷ Gap 0 ∷ Num (pos 1) ∷ [])
+duplicate_row : Leaves builtin.Duplicate (Missing 0 ∷ Num (pos 1) ∷ []) (Missing 0 ∷ Missing 0 ∷ Num (pos 1) ∷ [])
 duplicate_row = refl
 
 -- duplicate$ on the empty stack

@@ -2,7 +2,7 @@
 use Rattle.std.specs.Prelude.{pos, negsuc, [], ◌∷◌, codes, refl}
 use Rattle.bt_style.specs.declared.builtin.Builtin.TheVariants as builtin
 use Rattle.bt_text.specs.Widths.{widths}
-use Rattle.bt_actions.specs.Item.{Num, Txt, Gap}
+use Rattle.bt_actions.specs.Item.{Num, Txt, Missing}
 use Rattle.bt_actions.proofs.RowWorlds.{no_value, Leaves, LeavesWithErrors}
 
 -- "a" "b" *
@@ -10,7 +10,7 @@ join_row : Leaves builtin.Join (Txt (codes "b") ∷ Txt (codes "a") ∷ []) (Txt
 join_row = refl
 
 -- a missing field under *
-join_wrong_row : LeavesWithErrors builtin.Join (Gap 0 ∷ Txt (codes "a") ∷ []) (Txt [] ∷ []) (codes "* got a value of the wrong kind" ∷ [])
+join_wrong_row : LeavesWithErrors builtin.Join (Missing 0 ∷ Txt (codes "a") ∷ []) (Txt [] ∷ []) (codes "* got a value of the wrong kind" ∷ [])
 join_wrong_row = refl
 
 -- "a" add.period$
@@ -54,7 +54,7 @@ purify_row : Leaves builtin.Purify (Txt (codes "d'Arc~x-1") ∷ []) (Txt (codes 
 purify_row = refl
 
 -- purify$ of a missing field
-purify_wrong_row : LeavesWithErrors builtin.Purify (Gap 0 ∷ []) (Txt [] ∷ []) (codes "purify$ got a value of the wrong kind" ∷ [])
+purify_wrong_row : LeavesWithErrors builtin.Purify (Missing 0 ∷ []) (Txt [] ∷ []) (codes "purify$ got a value of the wrong kind" ∷ [])
 purify_wrong_row = refl
 
 -- quote$

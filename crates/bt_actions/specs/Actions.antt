@@ -5,8 +5,8 @@ use Rattle.bt_style.specs.declared.builtin.Builtin.TheVariants as builtin
 use Rattle.bt_style.specs.Program.{Program}
 use Rattle.bt_actions.specs.Item.{Txt}
 use Rattle.bt_actions.specs.World.{World, Act, Goes}
-use Rattle.bt_actions.specs.State.{pushed, popped, appended, ended}
-use Rattle.bt_actions.specs.Arguments.{number_of, text_of, field_text_of, target_of, any_of, taken, taken_two, taken_three}
+use Rattle.bt_actions.specs.State.{pushed, popped, appended, held_line_ended}
+use Rattle.bt_actions.specs.Arguments.{as_number, as_text, as_field_text, as_target, as_any, taken, taken_two, taken_three}
 use Rattle.bt_actions.specs.Given.{valued, zero_item, empty_item}
 use Rattle.bt_actions.specs.Numbers.{greater_of, less_of, sum_of, difference_of, byte_number, ascii_text, digits_text}
 use Rattle.bt_actions.specs.Comparing.{equality_of, emptiness_of, missing_of}
@@ -18,51 +18,51 @@ use Rattle.bt_actions.specs.Logging.{log_value, log_stack, log_warning}
 use Rattle.bt_actions.specs.Stacking.{duplicated, swapped}
 
 -- an action on an argument, or nothing without one
-abbrev pub done_with : {A : Type 0} → (A → World → Act) → Option A × World → Act
-done_with f (None, w) = Goes w
-done_with f (Some a, w) = f a w
+abbrev pub act_with : {A : Type 0} → (A → World → Act) → Option A × World → Act
+act_with f (None, w) = Goes w
+act_with f (Some a, w) = f a w
 
 -- the same, where the run goes on
-abbrev pub goes_with : {A : Type 0} → (A → World → World) → Option A × World → Act
-goes_with f (None, w) = Goes w
-goes_with f (Some a, w) = Goes (f a w)
+abbrev pub change_with : {A : Type 0} → (A → World → World) → Option A × World → Act
+change_with f (None, w) = Goes w
+change_with f (Some a, w) = Goes (f a w)
 
 -- The table of the built-in functions. Those that run others are not in it: for them nothing is done.
 abbrev pub basic : Program → Primitive → World → Act
-basic p builtin.Greater w = valued greater_of zero_item (taken_two builtin.Greater number_of number_of w)
-basic p builtin.Less w = valued less_of zero_item (taken_two builtin.Less number_of number_of w)
-basic p builtin.Equals w = valued equality_of zero_item (taken_two builtin.Equals any_of any_of w)
-basic p builtin.Plus w = valued sum_of zero_item (taken_two builtin.Plus number_of number_of w)
-basic p builtin.Minus w = valued difference_of zero_item (taken_two builtin.Minus number_of number_of w)
-basic p builtin.Join w = valued join_of empty_item (taken_two builtin.Join text_of text_of w)
-basic p builtin.Assign w = goes_with assigned (taken_two builtin.Assign any_of target_of w)
-basic p builtin.AddPeriod w = valued period_of empty_item (taken builtin.AddPeriod text_of w)
+basic p builtin.Greater w = valued greater_of zero_item (taken_two builtin.Greater as_number as_number w)
+basic p builtin.Less w = valued less_of zero_item (taken_two builtin.Less as_number as_number w)
+basic p builtin.Equals w = valued equality_of zero_item (taken_two builtin.Equals as_any as_any w)
+basic p builtin.Plus w = valued sum_of zero_item (taken_two builtin.Plus as_number as_number w)
+basic p builtin.Minus w = valued difference_of zero_item (taken_two builtin.Minus as_number as_number w)
+basic p builtin.Join w = valued join_of empty_item (taken_two builtin.Join as_text as_text w)
+basic p builtin.Assign w = change_with assigned (taken_two builtin.Assign as_any as_target w)
+basic p builtin.AddPeriod w = valued period_of empty_item (taken builtin.AddPeriod as_text w)
 basic p builtin.CallType w = Goes w
-basic p builtin.ChangeCase w = valued case_of empty_item (taken_two builtin.ChangeCase text_of text_of w)
-basic p builtin.ChrToInt w = valued byte_number zero_item (taken builtin.ChrToInt text_of w)
+basic p builtin.ChangeCase w = valued case_of empty_item (taken_two builtin.ChangeCase as_text as_text w)
+basic p builtin.ChrToInt w = valued byte_number zero_item (taken builtin.ChrToInt as_text w)
 basic p builtin.Cite w = of_entry key_item empty_item w
 basic p builtin.Duplicate w = duplicated w.stack w
-basic p builtin.Empty w = valued emptiness_of zero_item (taken builtin.Empty field_text_of w)
-basic p builtin.FormatName w = valued name_formatted empty_item (taken_three builtin.FormatName text_of number_of text_of w)
+basic p builtin.Empty w = valued emptiness_of zero_item (taken builtin.Empty as_field_text w)
+basic p builtin.FormatName w = valued name_formatted empty_item (taken_three builtin.FormatName as_text as_number as_text w)
 basic p builtin.If w = Goes w
-basic p builtin.IntToChr w = valued ascii_text empty_item (taken builtin.IntToChr number_of w)
-basic p builtin.IntToStr w = valued digits_text empty_item (taken builtin.IntToStr number_of w)
-basic p builtin.Missing w = valued missing_of zero_item (taken builtin.Missing field_text_of w)
-basic p builtin.Newline w = Goes (ended w)
-basic p builtin.NumNames w = valued names_counted zero_item (taken builtin.NumNames text_of w)
+basic p builtin.IntToChr w = valued ascii_text empty_item (taken builtin.IntToChr as_number w)
+basic p builtin.IntToStr w = valued digits_text empty_item (taken builtin.IntToStr as_number w)
+basic p builtin.Missing w = valued missing_of zero_item (taken builtin.Missing as_field_text w)
+basic p builtin.Newline w = Goes (held_line_ended w)
+basic p builtin.NumNames w = valued names_counted zero_item (taken builtin.NumNames as_text w)
 basic p builtin.Pop w = Goes (popped w).1
 basic p builtin.Preamble w = pushed (Txt w.preamble) w
-basic p builtin.Purify w = valued purified_of empty_item (taken builtin.Purify text_of w)
+basic p builtin.Purify w = valued purified_of empty_item (taken builtin.Purify as_text w)
 basic p builtin.Quote w = pushed (Txt quote) w
 basic p builtin.Skip w = Goes w
 basic p builtin.Stack w = Goes (log_stack p w)
-basic p builtin.Substring w = valued substring_given empty_item (taken_three builtin.Substring text_of number_of number_of w)
+basic p builtin.Substring w = valued substring_given empty_item (taken_three builtin.Substring as_text as_number as_number w)
 basic p builtin.Swap w = Goes (swapped w.stack w)
-basic p builtin.TextLength w = valued length_of zero_item (taken builtin.TextLength text_of w)
-basic p builtin.TextPrefix w = valued prefix_of empty_item (taken_two builtin.TextPrefix text_of number_of w)
-basic p builtin.Top w = goes_with (log_value p) (taken builtin.Top any_of w)
+basic p builtin.TextLength w = valued length_of zero_item (taken builtin.TextLength as_text w)
+basic p builtin.TextPrefix w = valued prefix_of empty_item (taken_two builtin.TextPrefix as_text as_number w)
+basic p builtin.Top w = change_with (log_value p) (taken builtin.Top as_any w)
 basic p builtin.Type w = of_entry kind_item empty_item w
-basic p builtin.Warning w = goes_with log_warning (taken builtin.Warning text_of w)
+basic p builtin.Warning w = change_with log_warning (taken builtin.Warning as_text w)
 basic p builtin.While w = Goes w
-basic p builtin.Width w = valued width_given zero_item (taken builtin.Width text_of w)
-basic p builtin.Write w = done_with appended (taken builtin.Write text_of w)
+basic p builtin.Width w = valued width_given zero_item (taken builtin.Width as_text w)
+basic p builtin.Write w = act_with appended (taken builtin.Write as_text w)

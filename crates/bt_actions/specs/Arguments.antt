@@ -4,49 +4,49 @@ use Rattle.std.specs.Prelude.{ℕ, ℤ, Bool, false, ◌||◌, List, Option, Som
 use Rattle.bt_style.specs.declared.builtin.Builtin.{Builtin as Primitive}
 use Rattle.bt_style.specs.declared.style.Target.{Target}
 use Rattle.bt_actions.specs.declared.complaint.Complaint.TheVariants.{WrongKind}
-use Rattle.bt_actions.specs.Item.{Code, Name, Block, Item, Num, Txt, Fun, Gap}
+use Rattle.bt_actions.specs.Item.{Code, Name, Block, Item, Num, Txt, Fun, Missing}
 use Rattle.bt_actions.specs.World.{World, say}
 use Rattle.bt_actions.specs.State.{popped}
 
 -- what a value is, as an argument that must be a number
-abbrev pub number_of : Item → Option ℤ
-number_of (Num n) = Some n
-number_of (Txt t) = None
-number_of (Fun c) = None
-number_of (Gap n) = None
+abbrev pub as_number : Item → Option ℤ
+as_number (Num n) = Some n
+as_number (Txt t) = None
+as_number (Fun c) = None
+as_number (Missing n) = None
 
 -- a text
-abbrev pub text_of : Item → Option (List ℕ)
-text_of (Num n) = None
-text_of (Txt t) = Some t
-text_of (Fun c) = None
-text_of (Gap n) = None
+abbrev pub as_text : Item → Option (List ℕ)
+as_text (Num n) = None
+as_text (Txt t) = Some t
+as_text (Fun c) = None
+as_text (Missing n) = None
 
 -- a text, or a field that is missing
-abbrev pub field_text_of : Item → Option (Option (List ℕ))
-field_text_of (Num n) = None
-field_text_of (Txt t) = Some (Some t)
-field_text_of (Fun c) = None
-field_text_of (Gap n) = Some None
+abbrev pub as_field_text : Item → Option (Option (List ℕ))
+as_field_text (Num n) = None
+as_field_text (Txt t) = Some (Some t)
+as_field_text (Fun c) = None
+as_field_text (Missing n) = Some None
 
 -- a function
-abbrev pub code_of : Item → Option Code
-code_of (Num n) = None
-code_of (Txt t) = None
-code_of (Fun c) = Some c
-code_of (Gap n) = None
+abbrev pub as_code : Item → Option Code
+as_code (Num n) = None
+as_code (Txt t) = None
+as_code (Fun c) = Some c
+as_code (Missing n) = None
 
 -- a quoted name
 abbrev pub quoted_name : Code → Option Target
 quoted_name (Name t) = Some t
 quoted_name (Block b) = None
 
-abbrev pub target_of : Item → Option Target
-target_of v = option_and_then quoted_name (code_of v)
+abbrev pub as_target : Item → Option Target
+as_target v = option_and_then quoted_name (as_code v)
 
 -- a value of any kind
-abbrev pub any_of : Item → Option Item
-any_of v = Some v
+abbrev pub as_any : Item → Option Item
+as_any v = Some v
 
 -- a value was there, and is of the wrong kind
 abbrev pub is_wrong : {A : Type 0} → (Item → Option A) → Option Item → Bool

@@ -13,4 +13,4 @@ pub data Item : Type 0 where
   Num : (n : ℤ) → Item
   Txt : (t : List ℕ) → Item
   Fun : (code : Code) → Item
-  Gap : (field : ℕ) → Item
+  Missing : (field : ℕ) → Item

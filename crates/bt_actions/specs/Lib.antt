@@ -17,3 +17,4 @@ pub mod Logging
 pub mod Stacking
 pub mod Actions
 pub mod View
+pub mod inner

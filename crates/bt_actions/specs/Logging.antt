@@ -6,22 +6,22 @@ use Rattle.bt_style.specs.declared.style.Target.TheVariants.{Builtin, Field, Ent
 use Rattle.bt_style.specs.Builtins.{name_of}
 use Rattle.bt_style.specs.Program.{Program}
 use Rattle.bt_actions.specs.declared.complaint.Complaint.TheVariants.{Shown, Warned}
-use Rattle.bt_actions.specs.Item.{Code, Name, Block, Item, Num, Txt, Fun, Gap}
-use Rattle.bt_actions.specs.World.{World, say, told}
+use Rattle.bt_actions.specs.Item.{Code, Name, Block, Item, Num, Txt, Fun, Missing}
+use Rattle.bt_actions.specs.World.{World, say, told_message}
 
 -- the name of a number, or nothing where there is none
-abbrev pub name_at : List (List ℕ) → ℕ → List ℕ
-name_at names n = slice_index_or names n []
+abbrev pub name_or_empty : List (List ℕ) → ℕ → List ℕ
+name_or_empty names n = slice_index_or names n []
 
 -- how a style spells a name
 abbrev pub target_name : Program → Target → List ℕ
 target_name p (Builtin b) = name_of b
-target_name p (Field n) = name_at p.fields n
-target_name p (EntryNumber n) = name_at p.entry_numbers n
-target_name p (EntryText n) = name_at p.entry_texts n
-target_name p (GlobalNumber n) = name_at p.global_numbers n
-target_name p (GlobalText n) = name_at p.global_texts n
-target_name p (Function n) = name_at (map (λ f. f.name) p.functions) n
+target_name p (Field n) = name_or_empty p.fields n
+target_name p (EntryNumber n) = name_or_empty p.entry_numbers n
+target_name p (EntryText n) = name_or_empty p.entry_texts n
+target_name p (GlobalNumber n) = name_or_empty p.global_numbers n
+target_name p (GlobalText n) = name_or_empty p.global_texts n
+target_name p (Function n) = name_or_empty (map (λ f. f.name) p.functions) n
 
 -- a quoted name, or a function in braces
 abbrev pub shown_code : Program → Code → List ℕ
@@ -29,19 +29,19 @@ shown_code p (Name t) = codes "`" ++ target_name p t ++ codes "'"
 shown_code p (Block b) = codes "`{}'"
 
 -- a value as the log shows it
-abbrev pub shown : Program → Item → List ℕ
-shown p (Num n) = signed_decimal n
-shown p (Txt t) = t
-shown p (Fun c) = shown_code p c
-shown p (Gap n) = codes "missing " ++ name_at p.fields n
+abbrev pub shown_value : Program → Item → List ℕ
+shown_value p (Num n) = signed_decimal n
+shown_value p (Txt t) = t
+shown_value p (Fun c) = shown_code p c
+shown_value p (Missing n) = codes "missing " ++ name_or_empty p.fields n
 
 -- a value is logged
 abbrev pub log_value : Program → Item → World → World
-log_value p v w = say (Shown (shown p v)) w
+log_value p v w = say (Shown (shown_value p v)) w
 
 -- all values are logged, from the top, and the stack is left empty
 abbrev pub log_stack : Program → World → World
-log_stack p w = record w { messages = w.messages ++ map (λ v. told w (Shown (shown p v))) w.stack; stack = [] }
+log_stack p w = record w { messages = w.messages ++ map (λ v. told_message w (Shown (shown_value p v))) w.stack; stack = [] }
 
 -- a warning of the style
 abbrev pub log_warning : List ℕ → World → World

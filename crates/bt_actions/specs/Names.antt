@@ -3,21 +3,18 @@ use Rattle.std.specs.Prelude.{ℕ, ℤ, pos, List, length, Result, Ok, Err}
 use Rattle.bt_style.specs.declared.builtin.Builtin.TheVariants.{NumNames}
 use Rattle.bt_names.specs.declared.faults.FormatFault.{FormatFault}
 use Rattle.bt_names.specs.declared.faults.FormatFault.TheVariants as fault
-use Rattle.bt_names.specs.declared.calls.Formatted.{Formatted}
-use Rattle.bt_names.specs.declared.calls.Formatted.TheVariants.{Text, Longer}
 use Rattle.bt_names.specs.Listing.{names_of}
 use Rattle.bt_names.specs.Calls.{formatted_name}
 use Rattle.bt_actions.specs.declared.complaint.Complaint.TheVariants.{NoSuchName, TooManyCommas, PatternFault}
 use Rattle.bt_actions.specs.Item.{Txt}
-use Rattle.bt_actions.specs.World.{World, Act}
-use Rattle.bt_actions.specs.State.{pushed, limit_passed}
 use Rattle.bt_actions.specs.Given.{Given, Gives, Errs, number_given, empty_item}
 
 -- how many names there are
 abbrev pub names_counted : List ℕ → Given
 names_counted t = number_given NumNames (pos (length (names_of t)))
 
--- A formatted name, or what is wrong with the names or the pattern. Want of memory is no fault of theirs: no definition gives it.
+-- A formatted name, or what is wrong with the names or the pattern. Out of memory is no fault of theirs: no definition
+-- gives it.
 abbrev pub format_given : List ℕ → ℤ → List ℕ → Result (List ℕ) FormatFault → Given
 format_given names n pattern (Ok t) = Gives (Txt t)
 format_given names n pattern (Err fault.NoSuchName) = Errs (NoSuchName n names) empty_item
@@ -28,8 +25,3 @@ format_given names n pattern (Err fault.OutOfMemory) = Gives empty_item
 -- a name in the form of a pattern
 abbrev pub name_formatted : List ℕ × ℤ × List ℕ → Given
 name_formatted (names, n, pattern) = format_given names n pattern (formatted_name names n pattern)
-
--- a formatted name, of which only is known that it is too long where it is
-abbrev pub pushed_within : Formatted → World → Act
-pushed_within (Text t) w = pushed (Txt t) w
-pushed_within Longer w = limit_passed w

@@ -2,22 +2,22 @@
 use Rattle.std.specs.Prelude.{ℕ, List, [], Option, Some, None, slice_index_or, pos}
 use Rattle.bt_actions.specs.declared.entry.Entry.{Entry}
 use Rattle.bt_actions.specs.declared.complaint.Complaint.TheVariants.{NoEntry}
-use Rattle.bt_actions.specs.Item.{Item, Num, Txt, Gap}
+use Rattle.bt_actions.specs.Item.{Item, Num, Txt, Missing}
 use Rattle.bt_actions.specs.World.{World, Act, entry_of}
 use Rattle.bt_actions.specs.State.{pushed, pushed_in_error}
 
 -- what the current entry gives, or without one an error and a default
-abbrev pub given : (Entry → Item) → Item → Option Entry → World → Act
-given value default None w = pushed_in_error NoEntry default w
-given value default (Some e) w = pushed (value e) w
+abbrev pub entry_or_error : (Entry → Item) → Item → Option Entry → World → Act
+entry_or_error value default None w = pushed_in_error NoEntry default w
+entry_or_error value default (Some e) w = pushed (value e) w
 
 -- the same of the step's entry
 abbrev pub of_entry : (Entry → Item) → Item → World → Act
-of_entry value default w = given value default (entry_of w) w
+of_entry value default w = entry_or_error value default (entry_of w) w
 
 -- a field's value
 abbrev pub field_item : ℕ → Option (List ℕ) → Item
-field_item n None = Gap n
+field_item n None = Missing n
 field_item n (Some t) = Txt t
 
 -- a field of an entry

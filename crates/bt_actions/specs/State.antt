@@ -3,7 +3,7 @@ use Rattle.std.specs.Prelude.{ℕ, ◌+◌, List, [], ◌∷◌, length, Option,
 use Rattle.bt_text.specs.Held.{written, line_ended}
 use Rattle.bt_actions.specs.declared.complaint.Complaint.{Complaint}
 use Rattle.bt_actions.specs.declared.complaint.Complaint.TheVariants.{EmptyStack, StackPassed, TextPassed}
-use Rattle.bt_actions.specs.Item.{Item, Num, Txt, Fun, Gap}
+use Rattle.bt_actions.specs.Item.{Item, Num, Txt, Fun, Missing}
 use Rattle.bt_actions.specs.World.{World, Act, Goes, Stops, say, with_stack, with_output}
 
 -- the bytes of a text; any other value has none
@@ -11,26 +11,30 @@ abbrev pub text_len : Item → ℕ
 text_len (Num n) = 0
 text_len (Txt t) = length t
 text_len (Fun c) = 0
-text_len (Gap n) = 0
+text_len (Missing n) = 0
+
+-- how many values the stack may hold
+abbrev pub stack_limit : ℕ
+stack_limit = 1000
+
+-- how many bytes a text on the stack, or the held line, may have
+abbrev pub text_size_limit : ℕ
+text_size_limit = 65536
 
 -- a value goes on the stack, unless it is full or the text is too long
 abbrev pub pushed : Item → World → Act
 pushed v w =
-    if nat_lt (length w.stack) 1000
-    then (if nat_le (text_len v) 65536 then Goes (with_stack (v ∷ w.stack) w) else Stops (say TextPassed w))
+    if nat_lt (length w.stack) stack_limit
+    then (if nat_le (text_len v) text_size_limit then Goes (with_stack (v ∷ w.stack) w) else Stops (say TextPassed w))
     else Stops (say StackPassed w)
 
--- a text that is too long is told of, or that the stack is full
+-- a text that is too long is reported, or that the stack is full
 abbrev pub limit_passed : World → Act
-limit_passed w = if nat_lt (length w.stack) 1000 then Stops (say TextPassed w) else Stops (say StackPassed w)
+limit_passed w = if nat_lt (length w.stack) stack_limit then Stops (say TextPassed w) else Stops (say StackPassed w)
 
--- an error is told where the stack isn't full
-abbrev pub told_with_room : Complaint → World → World
-told_with_room m w = if nat_lt (length w.stack) 1000 then say m w else w
-
--- an error, and a value in place of the right one; on a full stack the limit alone is told
+-- an error, and a value in place of the right one; on a full stack the limit alone is reported
 abbrev pub pushed_in_error : Complaint → Item → World → Act
-pushed_in_error m v w = if nat_lt (length w.stack) 1000 then pushed v (say m w) else Stops (say StackPassed w)
+pushed_in_error m v w = if nat_lt (length w.stack) stack_limit then pushed v (say m w) else Stops (say StackPassed w)
 
 -- the topmost value and what is left, or none with the error of an empty stack
 abbrev pub popped_from : List Item → World → Option Item × World
@@ -41,11 +45,11 @@ popped_from (v ∷ vs) w = (Some v, with_stack vs w)
 abbrev pub popped : World → Option Item × World
 popped w = popped_from w.stack w
 
--- a text goes behind what is held, unless the held line would be too long
+-- a text goes after what is held, unless the held line would be too long
 abbrev pub appended : List ℕ → World → Act
 appended t w =
-    if nat_le (length w.held + length t) 65536 then Goes (with_output (written w.held t) w) else Stops (say TextPassed w)
+    if nat_le (length w.held + length t) text_size_limit then Goes (with_output (written w.held t) w) else Stops (say TextPassed w)
 
 -- the held line ends
-abbrev pub ended : World → World
-ended w = with_output (line_ended w.held) w
+abbrev pub held_line_ended : World → World
+held_line_ended w = with_output (line_ended w.held) w

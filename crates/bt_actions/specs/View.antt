@@ -10,7 +10,7 @@ use Rattle.bt_actions.specs.declared.state.Flow.{Flow}
 use Rattle.bt_actions.specs.declared.state.Flow.TheVariants.{Go, Stop}
 use Rattle.bt_actions.specs.declared.state.Current.{Current}
 use Rattle.bt_actions.specs.declared.state.State.{State}
-use Rattle.bt_actions.specs.Item.{Code, Name, Block, Item, Num, Txt, Fun, Gap}
+use Rattle.bt_actions.specs.Item.{Code, Name, Block, Item, Num, Txt, Fun, Missing}
 use Rattle.bt_actions.specs.Words.{message_of}
 use Rattle.bt_actions.specs.World.{World, Act, Goes, Stops, key_in}
 
@@ -23,7 +23,7 @@ abbrev pub item_of : Value → Item
 item_of (value.Number n) = Num n
 item_of (value.Text t) = Txt t
 item_of (value.Code c) = Fun (code_seen c)
-item_of (value.Missing n) = Gap n
+item_of (value.Missing n) = Missing n
 
 -- the step's entry, with its variables as they are now
 abbrev pub entry_seen : Current → Entry

@@ -29,25 +29,25 @@ rank_of StackPassed = Fatal
 rank_of TextPassed = Fatal
 
 -- what a complaint says of itself
-abbrev pub words_of : Complaint → List ℕ
-words_of EmptyStack = codes "You can't pop an empty literal stack"
-words_of (WrongKind b) = name_of b ++ codes " got a value of the wrong kind"
-words_of NoEntry = codes "You can't mess with entries here"
-words_of (OutOfRange b) = codes "The result of " ++ name_of b ++ codes " is out of range"
-words_of (BadCase t) = codes "\"" ++ t ++ codes "\" is an illegal case-conversion string"
-words_of (NotOneCharacter t) = codes "\"" ++ t ++ codes "\" isn't a single character"
-words_of (NotAscii n) = signed_decimal n ++ codes " isn't valid ASCII"
-words_of (NoSuchName n t) = codes "There is no name " ++ signed_decimal n ++ codes " in \"" ++ t ++ codes "\""
-words_of (TooManyCommas n t) = codes "Too many commas in name " ++ signed_decimal n ++ codes " of \"" ++ t ++ codes "\""
-words_of (PatternFault t n) = codes "The format string \"" ++ t ++ codes "\" has a fault at byte " ++ decimal n
-words_of NotVariable = codes ":= needs a variable"
-words_of LeftOver = codes "The literal stack isn't empty"
-words_of (Warned t) = codes "Warning--" ++ t
-words_of (Shown t) = t
-words_of TicksPassed = codes "The limit of 1000000 ticks was passed"
-words_of StackPassed = codes "The limit of 1000 stack values was passed"
-words_of TextPassed = codes "The limit of 65536 bytes was passed"
+abbrev pub complaint_words : Complaint → List ℕ
+complaint_words EmptyStack = codes "You can't pop an empty literal stack"
+complaint_words (WrongKind b) = name_of b ++ codes " got a value of the wrong kind"
+complaint_words NoEntry = codes "You can't mess with entries here"
+complaint_words (OutOfRange b) = codes "The result of " ++ name_of b ++ codes " is out of range"
+complaint_words (BadCase t) = codes "\"" ++ t ++ codes "\" is an illegal case-conversion string"
+complaint_words (NotOneCharacter t) = codes "\"" ++ t ++ codes "\" isn't a single character"
+complaint_words (NotAscii n) = signed_decimal n ++ codes " isn't valid ASCII"
+complaint_words (NoSuchName n t) = codes "There is no name " ++ signed_decimal n ++ codes " in \"" ++ t ++ codes "\""
+complaint_words (TooManyCommas n t) = codes "Too many commas in name " ++ signed_decimal n ++ codes " of \"" ++ t ++ codes "\""
+complaint_words (PatternFault t n) = codes "The format string \"" ++ t ++ codes "\" has a fault at byte " ++ decimal n
+complaint_words NotVariable = codes ":= needs a variable"
+complaint_words LeftOver = codes "The literal stack isn't empty"
+complaint_words (Warned t) = codes "Warning--" ++ t
+complaint_words (Shown t) = t
+complaint_words TicksPassed = codes "The limit of 1000000 ticks was passed"
+complaint_words StackPassed = codes "The limit of 1000 stack values was passed"
+complaint_words TextPassed = codes "The limit of 65536 bytes was passed"
 
 -- a complaint in a step for the entry with this key, or for none; the run knows the place of the step
 abbrev pub message_of : Option (List ℕ) → Complaint → Message
-message_of key m = record { rank = rank_of m; words = words_of m; entry = key; place = None; second = None }
+message_of key m = record { rank = rank_of m; words = complaint_words m; entry = key; place = None; second = None }

@@ -51,12 +51,12 @@ abbrev pub key_in : List Entry → Option ℕ → Option (List ℕ)
 key_in es x = option_map (λ e. e.key) (entry_in es x)
 
 -- a complaint's rank and words
-abbrev pub told : World → Complaint → Message
-told w m = message_of (key_in w.entries w.current) m
+abbrev pub told_message : World → Complaint → Message
+told_message w m = message_of (key_in w.entries w.current) m
 
--- a complaint is told
+-- a complaint is reported
 abbrev pub say : Complaint → World → World
-say m w = record w { messages = w.messages ++ told w m ∷ [] }
+say m w = record w { messages = w.messages ++ told_message w m ∷ [] }
 
 -- a world with another stack
 abbrev pub with_stack : List Item → World → World

@@ -4,7 +4,7 @@
 ghost use Rattle.std.specs.Prelude.{◌≡◌, ℤ, ℕ, List, Option, IfOk, OnOk, option_map, option_and_then};
 ghost use Rattle.bt_style.specs.declared.style.Target.{Target as Aim};
 ghost use Rattle.bt_actions.specs.Item.{Item, Code as Run};
-ghost use Rattle.bt_actions.specs.Arguments.{number_of, text_of, field_text_of, code_of, target_of, any_of, is_wrong, taken, taken_two, taken_three};
+ghost use Rattle.bt_actions.specs.Arguments.{as_number, as_text, as_field_text, as_code, as_target, as_any, is_wrong, taken, taken_two, taken_three};
 ghost use Rattle.bt_actions.specs.View.{world_of, item_of, code_seen};
 
 use crate::short_text::ShortText;
@@ -29,7 +29,7 @@ pub trait Argument<'a>: Drop {
 impl<'a> Argument<'a> for i32 {
     ghost Seen = { ℤ };
 
-    ghost kind = { number_of };
+    ghost kind = { as_number };
 
     ghost seen = { λ number. number };
 
@@ -44,7 +44,7 @@ impl<'a> Argument<'a> for i32 {
 impl<'a> Argument<'a> for ShortText<'a> {
     ghost Seen = { List ℕ };
 
-    ghost kind = { text_of };
+    ghost kind = { as_text };
 
     ghost seen = { λ text. text };
 
@@ -60,7 +60,7 @@ impl<'a> Argument<'a> for ShortText<'a> {
 impl<'a> Argument<'a> for Option<ShortText<'a>> {
     ghost Seen = { Option (List ℕ) };
 
-    ghost kind = { field_text_of };
+    ghost kind = { as_field_text };
 
     ghost seen = { λ text. text };
 
@@ -76,7 +76,7 @@ impl<'a> Argument<'a> for Option<ShortText<'a>> {
 impl<'a> Argument<'a> for Code<'a> {
     ghost Seen = { Run };
 
-    ghost kind = { code_of };
+    ghost kind = { as_code };
 
     ghost seen = { code_seen };
 
@@ -92,7 +92,7 @@ impl<'a> Argument<'a> for Code<'a> {
 impl<'a> Argument<'a> for Target {
     ghost Seen = { Aim };
 
-    ghost kind = { target_of };
+    ghost kind = { as_target };
 
     ghost seen = { λ target. target };
 
@@ -108,7 +108,7 @@ impl<'a> Argument<'a> for Target {
 impl<'a> Argument<'a> for Value<'a> {
     ghost Seen = { Item };
 
-    ghost kind = { any_of };
+    ghost kind = { as_any };
 
     ghost seen = { item_of };
 
@@ -187,8 +187,8 @@ pub fn take_three<'a, A: Argument<'a>, B: Argument<'a>, C: Argument<'a>>(
 
 /// Takes a number.
 pub fn take_number(state: &mut State, builtin: Builtin) -> Result<Option<i32>, AllocError>
-    ensures value { IfOk result (λ number. number ≡ (taken builtin number_of (world_of state.old)).0) }
-    ensures world { OnOk result (world_of state.new ≡ (taken builtin number_of (world_of state.old)).1) }
+    ensures value { IfOk result (λ number. number ≡ (taken builtin as_number (world_of state.old)).0) }
+    ensures world { OnOk result (world_of state.new ≡ (taken builtin as_number (world_of state.old)).1) }
     ensures tally { state.new.tally ≡ state.old.tally }
 {
     take(state, builtin)
@@ -200,9 +200,9 @@ pub fn take_two_codes<'a>(
     builtin: Builtin,
 ) -> Result<Option<(Code<'a>, Code<'a>)>, AllocError>
     ensures value { IfOk result (λ pair. option_map (λ codes. (code_seen codes.0, code_seen codes.1)) pair
-        ≡ (taken_two builtin code_of code_of (world_of state.old)).0) }
+        ≡ (taken_two builtin as_code as_code (world_of state.old)).0) }
     ensures world { OnOk result (world_of state.new
-        ≡ (taken_two builtin code_of code_of (world_of state.old)).1) }
+        ≡ (taken_two builtin as_code as_code (world_of state.old)).1) }
     ensures tally { state.new.tally ≡ state.old.tally }
 {
     take_two(state, builtin)
@@ -214,9 +214,9 @@ pub fn take_choice<'a>(
     builtin: Builtin,
 ) -> Result<Option<(i32, Code<'a>, Code<'a>)>, AllocError>
     ensures value { IfOk result (λ all. option_map (λ all. (all.0, code_seen all.1, code_seen all.2)) all
-        ≡ (taken_three builtin number_of code_of code_of (world_of state.old)).0) }
+        ≡ (taken_three builtin as_number as_code as_code (world_of state.old)).0) }
     ensures world { OnOk result (world_of state.new
-        ≡ (taken_three builtin number_of code_of code_of (world_of state.old)).1) }
+        ≡ (taken_three builtin as_number as_code as_code (world_of state.old)).1) }
     ensures tally { state.new.tally ≡ state.old.tally }
 {
     take_three(state, builtin)

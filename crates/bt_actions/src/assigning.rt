@@ -2,8 +2,8 @@
 
 ghost use Rattle.std.specs.Prelude.{◌≡◌, IfOk, OnOk};
 ghost use Rattle.bt_actions.specs.World.{say};
-ghost use Rattle.bt_actions.specs.Actions.{goes_with};
-ghost use Rattle.bt_actions.specs.Arguments.{any_of, target_of, taken_two};
+ghost use Rattle.bt_actions.specs.Actions.{change_with};
+ghost use Rattle.bt_actions.specs.Arguments.{as_any, as_target, taken_two};
 ghost use Rattle.bt_actions.specs.Assigning.{assigned};
 ghost use Rattle.bt_actions.specs.View.{world_of, item_of, Acts};
 ghost use Rattle.bt_style.specs.declared.builtin.Builtin.TheVariants as builtin;
@@ -16,7 +16,7 @@ use crate::value::Value;
 use bt_style::{Builtin, Target};
 use std::alloc::{AllocError, Global};
 
-/// What a value of another kind than its variable's is told as.
+/// What a value of another kind than its variable's is reported as.
 fn tell_wrong_kind(state: &mut State) -> Result<(), AllocError>
     ensures world { OnOk result (world_of state.new
         ≡ say (Complaint.WrongKind builtin.Assign) (world_of state.old)) }
@@ -137,7 +137,7 @@ fn assign_to(
 /// `:=`.
 pub fn assign(state: &mut State, alloc: Global) -> Result<Flow, AllocError>
     ensures world { IfOk result (Acts (λ world.
-        goes_with assigned (taken_two builtin.Assign any_of target_of world)) state.old state.new) }
+        change_with assigned (taken_two builtin.Assign as_any as_target world)) state.old state.new) }
     ensures tally { state.new.tally ≡ state.old.tally }
 {
     if let Some((value, target)) = take_two::<Value, Target>(state, Builtin::Assign)? {

@@ -3,7 +3,7 @@
 ghost use Rattle.std.specs.Prelude.{◌≡◌, IfOk, option_map};
 ghost use Rattle.std.specs.List.{list_all};
 ghost use Rattle.bt_text.specs.ByteTests.{is_white};
-ghost use Rattle.bt_actions.specs.Arguments.{any_of, field_text_of, taken, taken_two};
+ghost use Rattle.bt_actions.specs.Arguments.{as_any, as_field_text, taken, taken_two};
 ghost use Rattle.bt_actions.specs.Given.{valued, answered, zero_item};
 ghost use Rattle.bt_actions.specs.Comparing.{equality_of, emptiness_of, missing_of, is_blank, is_missing};
 ghost use Rattle.bt_actions.specs.View.{world_of, item_of, Acts};
@@ -34,7 +34,7 @@ fn compare(state: &mut State, lower: Value, upper: Value) -> Result<Flow, AllocE
 /// `=`.
 pub fn equals(state: &mut State) -> Result<Flow, AllocError>
     ensures world { IfOk result (Acts (λ world.
-        valued equality_of zero_item (taken_two builtin.Equals any_of any_of world)) state.old state.new) }
+        valued equality_of zero_item (taken_two builtin.Equals as_any as_any world)) state.old state.new) }
     ensures tally { state.new.tally ≡ state.old.tally }
 {
     match take_two::<Value, Value>(state, Builtin::Equals)? {
@@ -63,7 +63,7 @@ fn is_blank(text: &Option<ShortText>) -> bool
 /// `empty$`.
 pub fn empty(state: &mut State) -> Result<Flow, AllocError>
     ensures world { IfOk result (Acts (λ world.
-        valued emptiness_of zero_item (taken builtin.Empty field_text_of world)) state.old state.new) }
+        valued emptiness_of zero_item (taken builtin.Empty as_field_text world)) state.old state.new) }
     ensures tally { state.new.tally ≡ state.old.tally }
 {
     match take::<Option<ShortText>>(state, Builtin::Empty)? {
@@ -82,7 +82,7 @@ fn is_missing(text: &Option<ShortText>) -> bool
 /// `missing$`.
 pub fn missing(state: &mut State) -> Result<Flow, AllocError>
     ensures world { IfOk result (Acts (λ world.
-        valued missing_of zero_item (taken builtin.Missing field_text_of world)) state.old state.new) }
+        valued missing_of zero_item (taken builtin.Missing as_field_text world)) state.old state.new) }
     ensures tally { state.new.tally ≡ state.old.tally }
 {
     match take::<Option<ShortText>>(state, Builtin::Missing)? {

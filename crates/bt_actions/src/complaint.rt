@@ -1,8 +1,8 @@
-//! What a step tells of, and in what words.
+//! What a step reports, and in what words.
 
 ghost use Rattle.std.specs.Prelude.{◌≡◌, ◌++◌, codes, option_map, IfOk, map};
 ghost use Rattle.std.specs.Fmt.{signed_decimal};
-ghost use Rattle.bt_actions.specs.Words.{words_of, message_of};
+ghost use Rattle.bt_actions.specs.Words.{complaint_words, message_of};
 
 use bt_log::{Message, Rank};
 use bt_style::Builtin;
@@ -10,7 +10,7 @@ use bt_text::{Bytes, Sequence, Shared};
 use itoa::Buffer;
 use std::alloc::{AllocError, Global};
 
-/// What a step tells of: errors, what the style logs, and the limits that stop a run.
+/// What a step reports: errors, what the style logs, and the limits that stop a run.
 #[derive(Debug, Drop)]
 pub enum Complaint {
     /// An argument was taken from an empty stack.
@@ -70,7 +70,7 @@ fn out_of_range(alloc: Global, name: &[u8]) -> Result<Bytes, AllocError>
 
 /// A text names no change of case.
 fn bad_case(alloc: Global, text: &[u8]) -> Result<Bytes, AllocError>
-    ensures { IfOk result (λ words. words ≡ words_of (Complaint.BadCase text.now)) }
+    ensures { IfOk result (λ words. words ≡ complaint_words (Complaint.BadCase text.now)) }
 {
     Bytes::of(
         alloc,
@@ -80,14 +80,14 @@ fn bad_case(alloc: Global, text: &[u8]) -> Result<Bytes, AllocError>
 
 /// A text isn't one byte.
 fn not_one_character(alloc: Global, text: &[u8]) -> Result<Bytes, AllocError>
-    ensures { IfOk result (λ words. words ≡ words_of (Complaint.NotOneCharacter text.now)) }
+    ensures { IfOk result (λ words. words ≡ complaint_words (Complaint.NotOneCharacter text.now)) }
 {
     Bytes::of(alloc, &[b"\"", text, b"\" isn't a single character"])
 }
 
 /// A number isn't one from 0 to 127.
 fn not_ascii(alloc: Global, number: i32) -> Result<Bytes, AllocError>
-    ensures { IfOk result (λ words. words ≡ words_of (Complaint.NotAscii number)) }
+    ensures { IfOk result (λ words. words ≡ complaint_words (Complaint.NotAscii number)) }
 {
     let mut buffer = Buffer::new();
     let number = buffer.format(number).as_bytes();
@@ -96,7 +96,7 @@ fn not_ascii(alloc: Global, number: i32) -> Result<Bytes, AllocError>
 
 /// There is no name of this number in a list of names.
 fn no_such_name(alloc: Global, number: i32, names: &[u8]) -> Result<Bytes, AllocError>
-    ensures { IfOk result (λ words. words ≡ words_of (Complaint.NoSuchName number names.now)) }
+    ensures { IfOk result (λ words. words ≡ complaint_words (Complaint.NoSuchName number names.now)) }
 {
     let mut buffer = Buffer::new();
     let number = buffer.format(number).as_bytes();
@@ -108,7 +108,7 @@ fn no_such_name(alloc: Global, number: i32, names: &[u8]) -> Result<Bytes, Alloc
 
 /// The name of this number in a list of names has more than two commas.
 fn too_many_commas(alloc: Global, number: i32, names: &[u8]) -> Result<Bytes, AllocError>
-    ensures { IfOk result (λ words. words ≡ words_of (Complaint.TooManyCommas number names.now)) }
+    ensures { IfOk result (λ words. words ≡ complaint_words (Complaint.TooManyCommas number names.now)) }
 {
     let mut buffer = Buffer::new();
     let number = buffer.format(number).as_bytes();
@@ -120,7 +120,7 @@ fn too_many_commas(alloc: Global, number: i32, names: &[u8]) -> Result<Bytes, Al
 
 /// A pattern has a fault at a place.
 fn pattern_fault(alloc: Global, pattern: &[u8], place: usize) -> Result<Bytes, AllocError>
-    ensures { IfOk result (λ words. words ≡ words_of (Complaint.PatternFault pattern.now place)) }
+    ensures { IfOk result (λ words. words ≡ complaint_words (Complaint.PatternFault pattern.now place)) }
 {
     let mut buffer = Buffer::new();
     let place = buffer.format(place).as_bytes();
@@ -137,7 +137,7 @@ fn pattern_fault(alloc: Global, pattern: &[u8], place: usize) -> Result<Bytes, A
 
 /// A warning of the style.
 fn warned(alloc: Global, text: &[u8]) -> Result<Bytes, AllocError>
-    ensures { IfOk result (λ words. words ≡ words_of (Complaint.Warned text.now)) }
+    ensures { IfOk result (λ words. words ≡ complaint_words (Complaint.Warned text.now)) }
 {
     Bytes::of(alloc, &[b"Warning--", text])
 }
@@ -154,7 +154,7 @@ fn shared(key: Option<&Shared<Bytes>>) -> Result<Option<Shared<Bytes>>, AllocErr
 
 impl Complaint {
     ghost use Rattle.std.specs.Prelude.{◌≡◌, option_map, IfOk, map};
-    ghost use Rattle.bt_actions.specs.Words.{rank_of, words_of, message_of};
+    ghost use Rattle.bt_actions.specs.Words.{rank_of, complaint_words, message_of};
 
     fn rank(&self) -> Rank
         ensures { result ≡ rank_of self.now }
@@ -179,7 +179,7 @@ impl Complaint {
     }
 
     fn words(&self, alloc: Global) -> Result<Bytes, AllocError>
-        ensures { IfOk result (λ words. words ≡ words_of self.now) }
+        ensures { IfOk result (λ words. words ≡ complaint_words self.now) }
     {
         match self {
             Complaint::EmptyStack => Bytes::copied(alloc, b"You can't pop an empty literal stack"),

@@ -32,12 +32,3 @@ pub use state::{Current, Flow, STACK_LIMIT, State};
 pub use step_variables::StepVariables;
 pub use tally::{TICK_LIMIT, Tally};
 pub use value::{Code, Value};
-
-#[cfg(test)]
-mod function_tests;
-#[cfg(test)]
-mod limit_tests;
-#[cfg(test)]
-mod test_states;
-#[cfg(test)]
-mod variable_tests;

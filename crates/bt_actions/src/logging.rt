@@ -3,9 +3,9 @@
 ghost use Rattle.std.specs.Prelude.{◌≡◌, ◌++◌, IfOk, OnOk, codes, map};
 ghost use Rattle.bt_style.specs.Program.{program_of};
 ghost use Rattle.bt_actions.specs.World.{Goes};
-ghost use Rattle.bt_actions.specs.Arguments.{any_of, text_of, taken};
-ghost use Rattle.bt_actions.specs.Actions.{goes_with};
-ghost use Rattle.bt_actions.specs.Logging.{name_at, target_name, shown_code, shown, log_value, log_stack, log_warning};
+ghost use Rattle.bt_actions.specs.Arguments.{as_any, as_text, taken};
+ghost use Rattle.bt_actions.specs.Actions.{change_with};
+ghost use Rattle.bt_actions.specs.Logging.{name_or_empty, target_name, shown_code, shown_value, log_value, log_stack, log_warning};
 ghost use Rattle.bt_actions.specs.View.{world_of, code_seen, item_of, Acts};
 ghost use Rattle.bt_style.specs.declared.builtin.Builtin.TheVariants as builtin;
 
@@ -20,7 +20,7 @@ use std::alloc::{AllocError, Global};
 
 /// The name at a place, or nothing.
 fn name_at(names: &[Bytes], n: usize) -> &[u8]
-    ensures { result.now ≡ name_at names.now n }
+    ensures { result.now ≡ name_or_empty names.now n }
 {
     if n < names.len() {
         names[n].as_slice()
@@ -31,7 +31,7 @@ fn name_at(names: &[Bytes], n: usize) -> &[u8]
 
 /// The name of the function of a number, or nothing.
 fn function_name(functions: &[Function], n: usize) -> &[u8]
-    ensures { result.now ≡ name_at (map (λ function. function.name) functions.now) n }
+    ensures { result.now ≡ name_or_empty (map (λ function. function.name) functions.now) n }
 {
     if n < functions.len() {
         functions[n].name.as_slice()
@@ -76,7 +76,7 @@ fn shown_code(alloc: Global, style: &Style, code: Code) -> Result<Bytes, AllocEr
 /// The words for a missing field.
 fn shown_gap(alloc: Global, style: &Style, field: usize) -> Result<Bytes, AllocError>
     ensures { IfOk result (λ words.
-        words ≡ codes "missing " ++ name_at (program_of style.now).fields field) }
+        words ≡ codes "missing " ++ name_or_empty (program_of style.now).fields field) }
 {
     let name = name_at(style.fields.as_slice(), field);
     let words = Bytes::of(alloc, &[b"missing ", name])?;
@@ -85,7 +85,7 @@ fn shown_gap(alloc: Global, style: &Style, field: usize) -> Result<Bytes, AllocE
 
 /// A value as the log shows it.
 fn shown(alloc: Global, style: &Style, value: Value) -> Result<Bytes, AllocError>
-    ensures { IfOk result (λ words. words ≡ shown (program_of style.now) (item_of value.entry)) }
+    ensures { IfOk result (λ words. words ≡ shown_value (program_of style.now) (item_of value.entry)) }
 {
     match value {
         Value::Number(number) => decimal(alloc, number),
@@ -113,7 +113,7 @@ fn log_value(
 /// `top$`.
 pub fn top(state: &mut State, alloc: Global, style: &Style) -> Result<Flow, AllocError>
     ensures world { IfOk result (Acts (λ world.
-        goes_with (log_value (program_of style.now)) (taken builtin.Top any_of world)) state.old state.new) }
+        change_with (log_value (program_of style.now)) (taken builtin.Top as_any world)) state.old state.new) }
     ensures tally { state.new.tally ≡ state.old.tally }
 {
     if let Some(value) = state.pop()? {
@@ -147,7 +147,7 @@ fn log_warning(state: &mut State, alloc: Global, text: ShortText) -> Result<Flow
 /// `warning$`.
 pub fn warning(state: &mut State, alloc: Global) -> Result<Flow, AllocError>
     ensures world { IfOk result (Acts (λ world.
-        goes_with log_warning (taken builtin.Warning text_of world)) state.old state.new) }
+        change_with log_warning (taken builtin.Warning as_text world)) state.old state.new) }
     ensures tally { state.new.tally ≡ state.old.tally }
 {
     match take::<ShortText>(state, Builtin::Warning)? {

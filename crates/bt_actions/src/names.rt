@@ -1,9 +1,10 @@
 //! The functions on lists of names.
 
 ghost use Rattle.std.specs.Prelude.{◌≡◌, IfOk, pos, ℤ, List, ℕ};
-ghost use Rattle.bt_actions.specs.Arguments.{number_of, text_of, taken, taken_three};
+ghost use Rattle.bt_actions.specs.Arguments.{as_number, as_text, taken, taken_three};
 ghost use Rattle.bt_actions.specs.Given.{valued, answered, zero_item, empty_item};
-ghost use Rattle.bt_actions.specs.Names.{names_counted, name_formatted, pushed_within};
+ghost use Rattle.bt_actions.specs.Names.{names_counted, name_formatted};
+ghost use Rattle.bt_actions.specs.inner.Names.{pushed_within};
 ghost use Rattle.bt_actions.specs.View.{world_of, Acts};
 ghost use Rattle.bt_style.specs.declared.builtin.Builtin.TheVariants as builtin;
 
@@ -20,7 +21,7 @@ use std::alloc::{AllocError, Global};
 /// `num.names$`.
 pub fn num_names(state: &mut State) -> Result<Flow, AllocError>
     ensures world { IfOk result (Acts (λ world.
-        valued names_counted zero_item (taken builtin.NumNames text_of world)) state.old state.new) }
+        valued names_counted zero_item (taken builtin.NumNames as_text world)) state.old state.new) }
     ensures tally { state.new.tally ≡ state.old.tally }
 {
     match take::<ShortText>(state, Builtin::NumNames)? {
@@ -40,7 +41,7 @@ fn push_within(state: &mut State, formatted: Formatted) -> Result<Flow, AllocErr
     }
 }
 
-/// Puts a name in the form of a pattern on the stack, or tells what is wrong with the list of names or the pattern.
+/// Puts a name in the form of a pattern on the stack, or reports what is wrong with the list of names or the pattern.
 fn push_formatted(
     state: &mut State,
     alloc: Global,
@@ -78,7 +79,7 @@ fn push_formatted(
 /// `format.name$`.
 pub fn format_name(state: &mut State, alloc: Global) -> Result<Flow, AllocError>
     ensures world { IfOk result (Acts (λ world.
-        valued name_formatted empty_item (taken_three builtin.FormatName text_of number_of text_of world))
+        valued name_formatted empty_item (taken_three builtin.FormatName as_text as_number as_text world))
         state.old state.new) }
     ensures tally { state.new.tally ≡ state.old.tally }
 {

@@ -1,7 +1,7 @@
 //! The functions on numbers.
 
 ghost use Rattle.std.specs.Prelude.{◌≡◌, IfOk};
-ghost use Rattle.bt_actions.specs.Arguments.{number_of, text_of, taken, taken_two};
+ghost use Rattle.bt_actions.specs.Arguments.{as_number, as_text, taken, taken_two};
 ghost use Rattle.bt_actions.specs.Given.{valued, answered, zero_item, empty_item, truth, number_given};
 ghost use Rattle.bt_actions.specs.Numbers.{greater_of, less_of, sum_of, difference_of, byte_number, ascii_text, digits_text};
 ghost use Rattle.bt_actions.specs.State.{pushed};
@@ -19,7 +19,7 @@ use std::alloc::{AllocError, Global};
 /// `>`.
 pub fn greater(state: &mut State) -> Result<Flow, AllocError>
     ensures world { IfOk result (Acts (λ world.
-        valued greater_of zero_item (taken_two builtin.Greater number_of number_of world)) state.old state.new) }
+        valued greater_of zero_item (taken_two builtin.Greater as_number as_number world)) state.old state.new) }
     ensures tally { state.new.tally ≡ state.old.tally }
 {
     match take_two::<i32, i32>(state, Builtin::Greater)? {
@@ -31,7 +31,7 @@ pub fn greater(state: &mut State) -> Result<Flow, AllocError>
 /// `<`.
 pub fn less(state: &mut State) -> Result<Flow, AllocError>
     ensures world { IfOk result (Acts (λ world.
-        valued less_of zero_item (taken_two builtin.Less number_of number_of world)) state.old state.new) }
+        valued less_of zero_item (taken_two builtin.Less as_number as_number world)) state.old state.new) }
     ensures tally { state.new.tally ≡ state.old.tally }
 {
     match take_two::<i32, i32>(state, Builtin::Less)? {
@@ -40,7 +40,7 @@ pub fn less(state: &mut State) -> Result<Flow, AllocError>
     }
 }
 
-/// Puts a number on the stack, or tells that it doesn't fit.
+/// Puts a number on the stack, or reports that it doesn't fit.
 fn push_fitting(state: &mut State, builtin: Builtin, number: i64) -> Result<Flow, AllocError>
     ensures world { IfOk result (Acts (answered (number_given builtin number)) state.old state.new) }
     ensures tally { state.new.tally ≡ state.old.tally }
@@ -54,7 +54,7 @@ fn push_fitting(state: &mut State, builtin: Builtin, number: i64) -> Result<Flow
 /// `+`.
 pub fn plus(state: &mut State) -> Result<Flow, AllocError>
     ensures world { IfOk result (Acts (λ world.
-        valued sum_of zero_item (taken_two builtin.Plus number_of number_of world)) state.old state.new) }
+        valued sum_of zero_item (taken_two builtin.Plus as_number as_number world)) state.old state.new) }
     ensures tally { state.new.tally ≡ state.old.tally }
 {
     match take_two::<i32, i32>(state, Builtin::Plus)? {
@@ -68,7 +68,7 @@ pub fn plus(state: &mut State) -> Result<Flow, AllocError>
 /// `-`.
 pub fn minus(state: &mut State) -> Result<Flow, AllocError>
     ensures world { IfOk result (Acts (λ world.
-        valued difference_of zero_item (taken_two builtin.Minus number_of number_of world)) state.old state.new) }
+        valued difference_of zero_item (taken_two builtin.Minus as_number as_number world)) state.old state.new) }
     ensures tally { state.new.tally ≡ state.old.tally }
 {
     match take_two::<i32, i32>(state, Builtin::Minus)? {
@@ -82,7 +82,7 @@ pub fn minus(state: &mut State) -> Result<Flow, AllocError>
 /// `chr.to.int$`.
 pub fn chr_to_int(state: &mut State, alloc: Global) -> Result<Flow, AllocError>
     ensures world { IfOk result (Acts (λ world.
-        valued byte_number zero_item (taken builtin.ChrToInt text_of world)) state.old state.new) }
+        valued byte_number zero_item (taken builtin.ChrToInt as_text world)) state.old state.new) }
     ensures tally { state.new.tally ≡ state.old.tally }
 {
     match take::<ShortText>(state, Builtin::ChrToInt)? {
@@ -113,7 +113,7 @@ fn push_ascii(state: &mut State, alloc: Global, number: i32) -> Result<Flow, All
 /// `int.to.chr$`.
 pub fn int_to_chr(state: &mut State, alloc: Global) -> Result<Flow, AllocError>
     ensures world { IfOk result (Acts (λ world.
-        valued ascii_text empty_item (taken builtin.IntToChr number_of world)) state.old state.new) }
+        valued ascii_text empty_item (taken builtin.IntToChr as_number world)) state.old state.new) }
     ensures tally { state.new.tally ≡ state.old.tally }
 {
     match take::<i32>(state, Builtin::IntToChr)? {
@@ -125,7 +125,7 @@ pub fn int_to_chr(state: &mut State, alloc: Global) -> Result<Flow, AllocError>
 /// `int.to.str$`.
 pub fn int_to_str(state: &mut State, alloc: Global) -> Result<Flow, AllocError>
     ensures world { IfOk result (Acts (λ world.
-        valued digits_text empty_item (taken builtin.IntToStr number_of world)) state.old state.new) }
+        valued digits_text empty_item (taken builtin.IntToStr as_number world)) state.old state.new) }
     ensures tally { state.new.tally ≡ state.old.tally }
 {
     match take::<i32>(state, Builtin::IntToStr)? {

@@ -36,7 +36,7 @@ impl<'a> Text<'a> {
         }
     }
 
-    /// The text twice, both with the same bytes. The one error is out of memory.
+    /// The text twice, both with the same bytes.
     fn twice(self, alloc: Global) -> Result<(Text<'a>, Text<'a>), AllocError>
         ensures first { IfOk result (λ both. bytes_of both.0 ≡ bytes_of self.entry) }
         ensures second { IfOk result (λ both. bytes_of both.1 ≡ bytes_of self.entry) }
@@ -115,8 +115,8 @@ impl<'a> ShortText<'a> {
         Ok((ShortText { text: first }, ShortText { text: second }))
     }
 
-    /// The text with another one after it, which may be too long. Bytes that this text alone has are not copied, nor those
-    /// of either where the other one is empty. The one error is out of memory.
+    /// The text with another one after it, which may be too long. Bytes that this text alone has are not copied, nor
+    /// those of either where the other one is empty. The one error is out of memory.
     pub fn joined(self, alloc: Global, upper: ShortText<'a>) -> Result<Text<'a>, AllocError>
         ensures { IfOk result (λ text. bytes_of text ≡ self.entry ++ upper.entry) }
     {

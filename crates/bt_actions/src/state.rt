@@ -46,7 +46,8 @@ impl<'a> State<'a> {
     ghost use Rattle.std.specs.Prelude.{◌≡◌, ◌≤◌, ◌<◌, [], ◌∷◌, length, IfOk, OnOk, IfNone, IfSome, OnSome, option_map, vec_len};
     ghost use Rattle.bt_actions.specs.Item.{Num, Txt};
     ghost use Rattle.bt_actions.specs.World.{say, with_stack};
-    ghost use Rattle.bt_actions.specs.State.{popped, pushed, pushed_in_error, told_with_room, limit_passed, appended, ended, text_len};
+    ghost use Rattle.bt_actions.specs.State.{popped, pushed, pushed_in_error, limit_passed, appended, held_line_ended, text_len};
+    ghost use Rattle.bt_actions.specs.inner.State.{told_with_room};
     ghost use Rattle.bt_actions.specs.Arguments.{judged};
     ghost use Rattle.bt_actions.specs.Given.{zero_item, truth};
     ghost use Rattle.bt_actions.specs.ShortText.{bytes_of};
@@ -61,7 +62,7 @@ impl<'a> State<'a> {
         Ok(())
     }
 
-    /// Takes the topmost value, or tells that there is none.
+    /// Takes the topmost value, or reports that there is none.
     pub fn pop(&mut self) -> Result<Option<Value<'a>>, AllocError>
         ensures value { IfOk result (λ top. option_map item_of top ≡ (popped (world_of self.old)).0) }
         ensures world { OnOk result (world_of self.new ≡ (popped (world_of self.old)).1) }
@@ -88,7 +89,7 @@ impl<'a> State<'a> {
         self.stack.pop()
     }
 
-    /// Tells of an argument of the wrong kind, where there was one.
+    /// Reports an argument of the wrong kind, where there was one.
     pub fn judge(&mut self, builtin: Builtin, wrong: bool) -> Result<(), AllocError>
         ensures world { OnOk result (world_of self.new ≡ judged builtin wrong (world_of self.old)) }
         ensures tally { self.new.tally ≡ self.old.tally }
@@ -127,7 +128,7 @@ impl<'a> State<'a> {
         }
     }
 
-    /// Tells that a text has more bytes than the stack takes, unless the stack is full.
+    /// Reports that a text has more bytes than the stack takes, unless the stack is full.
     pub fn pass_text_limit(&mut self) -> Result<Flow, AllocError>
         ensures world { IfOk result (Acts limit_passed self.old self.new) }
         ensures tally { self.new.tally ≡ self.old.tally }
@@ -156,7 +157,7 @@ impl<'a> State<'a> {
         self.push_number(if holds { 1 } else { 0 })
     }
 
-    /// Tells of an error, unless the stack is full, so that a value in place of the right one will pass its limit.
+    /// Reports an error, unless the stack is full, so that a value in place of the right one will pass its limit.
     fn tell_unless_full(&mut self, complaint: Complaint) -> Result<(), AllocError>
         ensures world { OnOk result (world_of self.new ≡ told_with_room complaint (world_of self.old)) }
         ensures tally { self.new.tally ≡ self.old.tally }
@@ -167,7 +168,7 @@ impl<'a> State<'a> {
         Ok(())
     }
 
-    /// Tells of an error, and puts 0 on the stack. Where it is full only the limit is told of.
+    /// Reports an error, and puts 0 on the stack. Where it is full only the limit is reported.
     pub fn push_zero_in_error(&mut self, complaint: Complaint) -> Result<Flow, AllocError>
         ensures world { IfOk result (Acts (pushed_in_error complaint zero_item) self.old self.new) }
         ensures tally { self.new.tally ≡ self.old.tally }
@@ -176,7 +177,7 @@ impl<'a> State<'a> {
         self.push_number(0)
     }
 
-    /// Tells of an error, and puts a text on the stack. Where it is full only the limit is told of.
+    /// Reports an error, and puts a text on the stack. Where it is full only the limit is reported.
     pub fn push_text_in_error(
         &mut self,
         complaint: Complaint,
@@ -190,7 +191,7 @@ impl<'a> State<'a> {
         self.push_text(text)
     }
 
-    /// Writes a text behind the held line, unless that would pass the limit.
+    /// Writes a text after the held line, unless that would pass the limit.
     pub fn write(&mut self, alloc: Global, text: &[u8]) -> Result<Flow, AllocError>
         ensures world { IfOk result (Acts (appended text.now) self.old self.new) }
         ensures tally { self.new.tally ≡ self.old.tally }
@@ -207,7 +208,7 @@ impl<'a> State<'a> {
 
     /// Ends the held line.
     pub fn end_line(&mut self, alloc: Global) -> Result<(), AllocError>
-        ensures world { OnOk result (world_of self.new ≡ ended (world_of self.old)) }
+        ensures world { OnOk result (world_of self.new ≡ held_line_ended (world_of self.old)) }
         ensures tally { self.new.tally ≡ self.old.tally }
     {
         match self.held.newline(alloc, &mut self.lines) {

@@ -2,10 +2,10 @@
 
 ghost use Rattle.std.specs.Prelude.{◌≡◌, IfOk, pos};
 ghost use Rattle.bt_actions.specs.Item.{Txt};
-ghost use Rattle.bt_actions.specs.Arguments.{number_of, text_of, taken, taken_two, taken_three};
+ghost use Rattle.bt_actions.specs.Arguments.{as_number, as_text, taken, taken_two, taken_three};
 ghost use Rattle.bt_actions.specs.Given.{valued, answered, zero_item, empty_item, number_given};
 ghost use Rattle.bt_actions.specs.Texts.{join_of, period_of, mode_of, case_of, purified_of, substring_given, prefix_of, length_of, width_given, quote};
-ghost use Rattle.bt_actions.specs.State.{pushed, appended, ended};
+ghost use Rattle.bt_actions.specs.State.{pushed, appended, held_line_ended};
 ghost use Rattle.bt_actions.specs.View.{world_of, Acts};
 ghost use Rattle.bt_style.specs.declared.builtin.Builtin.TheVariants as builtin;
 
@@ -20,7 +20,7 @@ use std::alloc::{AllocError, Global};
 /// `*`.
 pub fn join(state: &mut State, alloc: Global) -> Result<Flow, AllocError>
     ensures world { IfOk result (Acts (λ world.
-        valued join_of empty_item (taken_two builtin.Join text_of text_of world)) state.old state.new) }
+        valued join_of empty_item (taken_two builtin.Join as_text as_text world)) state.old state.new) }
     ensures tally { state.new.tally ≡ state.old.tally }
 {
     match take_two::<ShortText, ShortText>(state, Builtin::Join)? {
@@ -35,7 +35,7 @@ pub fn join(state: &mut State, alloc: Global) -> Result<Flow, AllocError>
 /// `add.period$`.
 pub fn end_with_period(state: &mut State, alloc: Global) -> Result<Flow, AllocError>
     ensures world { IfOk result (Acts (λ world.
-        valued period_of empty_item (taken builtin.AddPeriod text_of world)) state.old state.new) }
+        valued period_of empty_item (taken builtin.AddPeriod as_text world)) state.old state.new) }
     ensures tally { state.new.tally ≡ state.old.tally }
 {
     match take::<ShortText>(state, Builtin::AddPeriod)? {
@@ -84,7 +84,7 @@ fn push_case<'a>(
 /// `change.case$`.
 pub fn convert_case(state: &mut State, alloc: Global) -> Result<Flow, AllocError>
     ensures world { IfOk result (Acts (λ world.
-        valued case_of empty_item (taken_two builtin.ChangeCase text_of text_of world)) state.old state.new) }
+        valued case_of empty_item (taken_two builtin.ChangeCase as_text as_text world)) state.old state.new) }
     ensures tally { state.new.tally ≡ state.old.tally }
 {
     match take_two::<ShortText, ShortText>(state, Builtin::ChangeCase)? {
@@ -96,7 +96,7 @@ pub fn convert_case(state: &mut State, alloc: Global) -> Result<Flow, AllocError
 /// `purify$`.
 pub fn purified(state: &mut State, alloc: Global) -> Result<Flow, AllocError>
     ensures world { IfOk result (Acts (λ world.
-        valued purified_of empty_item (taken builtin.Purify text_of world)) state.old state.new) }
+        valued purified_of empty_item (taken builtin.Purify as_text world)) state.old state.new) }
     ensures tally { state.new.tally ≡ state.old.tally }
 {
     match take::<ShortText>(state, Builtin::Purify)? {
@@ -111,7 +111,7 @@ pub fn purified(state: &mut State, alloc: Global) -> Result<Flow, AllocError>
 /// `substring$`.
 pub fn cut(state: &mut State, alloc: Global) -> Result<Flow, AllocError>
     ensures world { IfOk result (Acts (λ world.
-        valued substring_given empty_item (taken_three builtin.Substring text_of number_of number_of world))
+        valued substring_given empty_item (taken_three builtin.Substring as_text as_number as_number world))
         state.old state.new) }
     ensures tally { state.new.tally ≡ state.old.tally }
 {
@@ -127,7 +127,7 @@ pub fn cut(state: &mut State, alloc: Global) -> Result<Flow, AllocError>
 /// `text.prefix$`.
 pub fn prefix(state: &mut State, alloc: Global) -> Result<Flow, AllocError>
     ensures world { IfOk result (Acts (λ world.
-        valued prefix_of empty_item (taken_two builtin.TextPrefix text_of number_of world)) state.old state.new) }
+        valued prefix_of empty_item (taken_two builtin.TextPrefix as_text as_number world)) state.old state.new) }
     ensures tally { state.new.tally ≡ state.old.tally }
 {
     match take_two::<ShortText, i32>(state, Builtin::TextPrefix)? {
@@ -139,7 +139,7 @@ pub fn prefix(state: &mut State, alloc: Global) -> Result<Flow, AllocError>
     }
 }
 
-/// Puts a count on the stack, or tells that it doesn't fit.
+/// Puts a count on the stack, or reports that it doesn't fit.
 pub fn push_count(state: &mut State, builtin: Builtin, count: usize) -> Result<Flow, AllocError>
     ensures world { IfOk result (Acts (answered (number_given builtin (pos count))) state.old state.new) }
     ensures tally { state.new.tally ≡ state.old.tally }
@@ -153,7 +153,7 @@ pub fn push_count(state: &mut State, builtin: Builtin, count: usize) -> Result<F
 /// `text.length$`.
 pub fn length(state: &mut State) -> Result<Flow, AllocError>
     ensures world { IfOk result (Acts (λ world.
-        valued length_of zero_item (taken builtin.TextLength text_of world)) state.old state.new) }
+        valued length_of zero_item (taken builtin.TextLength as_text world)) state.old state.new) }
     ensures tally { state.new.tally ≡ state.old.tally }
 {
     match take::<ShortText>(state, Builtin::TextLength)? {
@@ -165,7 +165,7 @@ pub fn length(state: &mut State) -> Result<Flow, AllocError>
 /// `width$`.
 pub fn printed_width(state: &mut State) -> Result<Flow, AllocError>
     ensures world { IfOk result (Acts (λ world.
-        valued width_given zero_item (taken builtin.Width text_of world)) state.old state.new) }
+        valued width_given zero_item (taken builtin.Width as_text world)) state.old state.new) }
     ensures tally { state.new.tally ≡ state.old.tally }
 {
     match take::<ShortText>(state, Builtin::Width)? {

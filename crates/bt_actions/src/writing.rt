@@ -2,9 +2,9 @@
 
 ghost use Rattle.std.specs.Prelude.{◌≡◌, IfOk};
 ghost use Rattle.bt_actions.specs.World.{Goes};
-ghost use Rattle.bt_actions.specs.State.{appended, ended};
-ghost use Rattle.bt_actions.specs.Arguments.{text_of, taken};
-ghost use Rattle.bt_actions.specs.Actions.{done_with};
+ghost use Rattle.bt_actions.specs.State.{appended, held_line_ended};
+ghost use Rattle.bt_actions.specs.Arguments.{as_text, taken};
+ghost use Rattle.bt_actions.specs.Actions.{act_with};
 ghost use Rattle.bt_actions.specs.View.{world_of, Acts};
 ghost use Rattle.bt_style.specs.declared.builtin.Builtin.TheVariants as builtin;
 
@@ -16,7 +16,7 @@ use std::alloc::{AllocError, Global};
 
 /// `newline$`.
 pub fn newline(state: &mut State, alloc: Global) -> Result<Flow, AllocError>
-    ensures world { IfOk result (Acts (λ world. Goes (ended world)) state.old state.new) }
+    ensures world { IfOk result (Acts (λ world. Goes (held_line_ended world)) state.old state.new) }
     ensures tally { state.new.tally ≡ state.old.tally }
 {
     state.end_line(alloc)?;
@@ -25,7 +25,7 @@ pub fn newline(state: &mut State, alloc: Global) -> Result<Flow, AllocError>
 
 /// `write$`.
 pub fn write(state: &mut State, alloc: Global) -> Result<Flow, AllocError>
-    ensures world { IfOk result (Acts (λ world. done_with appended (taken builtin.Write text_of world)) state.old state.new) }
+    ensures world { IfOk result (Acts (λ world. act_with appended (taken builtin.Write as_text world)) state.old state.new) }
     ensures tally { state.new.tally ≡ state.old.tally }
 {
     match take::<ShortText>(state, Builtin::Write)? {

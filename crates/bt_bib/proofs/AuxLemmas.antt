@@ -11,7 +11,7 @@ use Rattle.std.proofs.lemmas.List.Elements.{All-from_get_or}
 use Rattle.bt_bib.specs.declared.aux_line.AuxItem.{AuxItem}
 use Rattle.bt_bib.specs.declared.aux_line.Command.{Command}
 use Rattle.bt_text.specs.White.{trimmed_end}
-use Rattle.bt_bib.specs.AuxLine.{is_line_end, command_of, counted, items_from}
+use Rattle.bt_bib.specs.AuxLine.{is_line_end, command_of, if_counted, items_from}
 
 -- a test that doesn't hold
 not_true : (v : Bool) → (v ≡ true → ⊥) → v ≡ false
@@ -33,43 +33,43 @@ pub line_is_first : (text : List ℕ) (r : Option ℕ) → IsFirstByte (is_byte 
 line_is_first text None found = sym (first_at (length text) text (λ j lt. found j (omega arith) lt) (inl refl) (omega arith))
 line_is_first text (Some k) found = sym (first_at k text (λ j lt. found.0.before j (omega arith) (omega arith)) (inr found.1) (omega (arith, found.0.high)))
 
--- what stands behind a byte
+-- what stands after a byte
 abbrev pub behind : List ℕ → ℕ → List ℕ
 behind rest k = take (length rest - (k + 1)) (drop (k + 1) rest)
 
--- what stands behind a byte is shorter
+-- what stands after a byte is shorter
 pub behind_shorter : (rest : List ℕ) (k : ℕ) → k < length rest → length (behind rest k) < length rest
 behind_shorter rest k lt = omega (arith, ap length (take_rest rest (k + 1)), length-drop (k + 1) rest)
 
--- later lines stand behind a counted one
-pub counted_onto : (n : ℕ) (line : List ℕ) (c : Option Command) (later : List AuxItem) → counted n line c [] ++ later ≡ counted n line c later
+-- later lines stand after a counted one
+pub counted_onto : (n : ℕ) (line : List ℕ) (c : Option Command) (later : List AuxItem) → if_counted n line c [] ++ later ≡ if_counted n line c later
 counted_onto n line None later = refl
 counted_onto n line (Some c) later = refl
 
--- the last line, and a line with others behind it
+-- the last line, and a line with others after it
 last_line : (text : List ℕ) (k : ℕ) → k ≡ position_or_len is_line_end text → k ≡ length text → slice_split is_line_end text ≡ take k text ∷ []
 last_line text k is all =
     let none : All (λ b. is_line_end b ≡ false) text = All-from_get_or (λ b. is_line_end b ≡ false) text 0 (λ i lt. fails_before_first is_line_end text i 0 (omega arith)) in
     slice_split_none is_line_end text none ∙ ap (λ l. l ∷ []) (sym (take_all k text (omega arith)))
 
--- a line with others behind it
+-- a line with others after it
 first_line : (text : List ℕ) (k : ℕ) → k ≡ position_or_len is_line_end text → k < length text → slice_split is_line_end text ≡ take k text ∷ slice_split is_line_end (drop (k + 1) text)
 first_line text k is lt =
     slice_split_first is_line_end text 0 (omega arith) ∙ ap (λ n. take n text ∷ slice_split is_line_end (drop (n + 1) text)) (sym is)
 
 -- the lines are at their end
 pub lines_end : (n k : ℕ) (text line : List ℕ) (front all x : List AuxItem) → k ≡ position_or_len is_line_end text → k ≡ length text
-    → line ≡ trimmed_end (take k text) → all ≡ front ++ counted n line (command_of line) [] → front ++ items_from n (slice_split is_line_end text) ≡ x → all ≡ x
+    → line ≡ trimmed_end (take k text) → all ≡ front ++ if_counted n line (command_of line) [] → front ++ items_from n (slice_split is_line_end text) ≡ x → all ≡ x
 lines_end n k text line front all x is end line_is all_is same =
-    all_is ∙ ap (λ l. front ++ counted n l (command_of l) []) line_is ∙ sym (ap (λ ls. front ++ items_from n ls) (last_line text k is end)) ∙ same
+    all_is ∙ ap (λ l. front ++ if_counted n l (command_of l) []) line_is ∙ sym (ap (λ ls. front ++ items_from n ls) (last_line text k is end)) ∙ same
 
 -- one line more
 pub line_added : (n k : ℕ) (text line : List ℕ) (front all x : List AuxItem) → k ≡ position_or_len is_line_end text → k < length text
-    → line ≡ trimmed_end (take k text) → all ≡ front ++ counted n line (command_of line) [] → front ++ items_from n (slice_split is_line_end text) ≡ x
+    → line ≡ trimmed_end (take k text) → all ≡ front ++ if_counted n line (command_of line) [] → front ++ items_from n (slice_split is_line_end text) ≡ x
     → all ++ items_from (n + 1) (slice_split is_line_end (behind text k)) ≡ x
 line_added n k text line front all x is lt line_is all_is same =
     let t = trimmed_end (take k text) in
     let later = items_from (n + 1) (slice_split is_line_end (drop (k + 1) text)) in
     rw (all_is, line_is, take_rest text (k + 1))
-    (append_assoc front (counted n t (command_of t) []) later ∙ ap (λ l. front ++ l) (counted_onto n t (command_of t) later)
+    (append_assoc front (if_counted n t (command_of t) []) later ∙ ap (λ l. front ++ l) (counted_onto n t (command_of t) later)
     ∙ sym (ap (λ ls. front ++ items_from n ls) (first_line text k is lt)) ∙ same)

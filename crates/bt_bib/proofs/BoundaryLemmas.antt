@@ -13,10 +13,10 @@ use Rattle.bt_bib.specs.declared.keywords.Keyword.TheVariants as keywords
 use Rattle.bt_bib.specs.Spot.{Here, at, here, behind}
 use Rattle.bt_bib.specs.Stop.{Stop}
 use Rattle.bt_bib.specs.Scan.{first, past, white}
-use Rattle.bt_bib.specs.Names.{word, ended}
+use Rattle.bt_bib.specs.Names.{word, name_ended}
 use Rattle.bt_bib.specs.Many.{all, many_by}
 use Rattle.bt_bib.specs.Keywords.{keyword_of}
-use Rattle.bt_bib.specs.Pieces.{item, opening, entry_item, entry_read, string_item, string_read, preamble_item, preamble_read, unread_entry, unread_string, opened, typed, type_ended, type_read, piece, is_text, next_piece, next_piece_from}
+use Rattle.bt_bib.specs.Pieces.{item, opening, entry_item, entry_read, string_item, string_read, preamble_item, preamble_read, unread_entry, unread_string, item_opened, item_of_type, type_ended, type_read, piece, is_text, next_piece, next_piece_from}
 use Rattle.bt_bib.specs.Reading.{next_one, pieces_from}
 use Rattle.bt_bib.specs.Moved.{moved, moved_piece}
 use Rattle.bt_bib.specs.Boundaries.{end_of, last_end}
@@ -32,11 +32,11 @@ item_end : (s : Spot) (line : ℕ) (content : Content) (close : Option Closing) 
 item_end s line content close (Ok e) = refl
 item_end s line content close (Err stop) = refl
 
-opened_end : (s : Spot) (unread : Content) (read : Closing → Here → Piece × Here) (r : Result (Closing × Here) Stop) → ((close : Closing) (e : Here) → end_of (read close e).0 ≡ (read close e).1.spot) → end_of (opened s unread read r).0 ≡ (opened s unread read r).1.spot
+opened_end : (s : Spot) (unread : Content) (read : Closing → Here → Piece × Here) (r : Result (Closing × Here) Stop) → ((close : Closing) (e : Here) → end_of (read close e).0 ≡ (read close e).1.spot) → end_of (item_opened s unread read r).0 ≡ (item_opened s unread read r).1.spot
 opened_end s unread read (Err stop) k = refl
 opened_end s unread read (Ok o) k = k o.0 (white o.1)
 
-typed_end : (keyword : Keyword) (s : Spot) (kind : List ℕ) (h : Here) → end_of (typed keyword s kind h).0 ≡ (typed keyword s kind h).1.spot
+typed_end : (keyword : Keyword) (s : Spot) (kind : List ℕ) (h : Here) → end_of (item_of_type keyword s kind h).0 ≡ (item_of_type keyword s kind h).1.spot
 typed_end keywords.Comment s kind h = refl
 typed_end keywords.String s kind h = opened_end s unread_string (string_item s) (opening (white h)) (λ close e. item_end s _ _ (Some close) (string_read close e).1)
 typed_end keywords.Preamble s kind h = opened_end s (contents.Preamble None) (preamble_item s) (opening (white h)) (λ close e. item_end s _ _ (Some close) (preamble_read close e).1)
@@ -48,7 +48,7 @@ type_ended_end s kind (Ok h) = typed_end (keyword_of kind) s kind h
 
 type_read_end : (s : Spot) (r : Result (List ℕ × Here) Stop) → end_of (type_read s r).0 ≡ (type_read s r).1.spot
 type_read_end s (Err stop) = refl
-type_read_end s (Ok w) = type_ended_end s w.0 (ended EntryType (codes "{(") w.1)
+type_read_end s (Ok w) = type_ended_end s w.0 (name_ended EntryType (codes "{(") w.1)
 
 pub piece_ends : (h : Here) → end_of (piece h).0 ≡ (piece h).1.spot
 unfolding piece
@@ -66,7 +66,7 @@ pub next_ends : (h : Here) → EndsAt (next_piece h)
 unfolding next_piece
 next_ends h = next_ends_from (past is_text h) (first (past is_text h).rest)
 
--- the pieces are the next one and those behind it
+-- the pieces are the next one and those after it
 abbrev pub pieces_by : Option Piece × Here → List Piece
 pieces_by (None, e) = []
 pieces_by (Some p, e) = p ∷ pieces_from e

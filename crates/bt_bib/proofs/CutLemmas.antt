@@ -88,7 +88,7 @@ past_cut test h e more way next =
     let walked = past_is_run test h.spot h.rest in
     past_is_run test h.spot (cut h e more).rest ∙ past_cut_run test h.spot h.rest e more (subst (λ k. Reaches k e) walked way) (subst (λ k. Next (Fails test) k e more) walked next) ∙ ap (λ k. cut k e more) (sym walked)
 
--- a run that goes on behind the cut
+-- a run that goes on after the cut
 past_longer_by : (v : Bool) (test : ℕ → Bool) (s : Spot) (b : ℕ) (bs more : List ℕ) → test b ≡ v → (let g = past_run test (after b s) bs in past_run test (after b s) (cut (at (after b s) bs) g more).rest ≡ past_run test g.spot more → (let k = cond v g (at s (b ∷ bs)) in past_run test s (cut (at s (b ∷ bs)) k more).rest ≡ past_run test k.spot more))
 past_longer_by true test s b bs more is step =
     let g = past_run test (after b s) bs in

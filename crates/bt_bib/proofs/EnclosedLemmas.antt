@@ -12,7 +12,8 @@ use Rattle.bt_bib.specs.declared.enclosed.Turn.TheVariants as turns
 use Rattle.bt_bib.specs.Spot.{Here, at, here, after, passed, beyond}
 use Rattle.bt_bib.specs.Scan.{first, past}
 use Rattle.bt_bib.specs.Stop.{Stop, ◌>>=◌}
-use Rattle.bt_bib.specs.Enclosed.{enclosed, enclosed_by, enclosed_text, enclosed_end, turn, ends_enclosed, is_plain}
+use Rattle.bt_bib.specs.Enclosed.{enclosed, enclosed_by, enclosed_text, ends_enclosed}
+use Rattle.bt_bib.specs.inner.Enclosed.{enclosed_end, turn, is_plain}
 use Rattle.bt_bib.proofs.RunLemmas.{passed-nil, passed-cons, past_run, past_is_run}
 
 abbrev pub between : Here → Here → List ℕ

@@ -73,7 +73,7 @@ none_first : (r : List ℕ) → first r ≡ None → r ≡ []
 none_first [] is = refl
 none_first (b ∷ bs) is = absurd (cc is)
 
--- what stands behind a piece
+-- what stands after a piece
 behind_text : (a : Here) (x : Piece × Here) (ps : List Piece) → PieceStands a x → IsFaultless x.0 → Spells ps x.1 → (h : Here) → Stands Skipped h a → Spells (x.0 ∷ ps) h
 behind_text a (pieces.Item i, k) ps stands faultless rest h skipped = record {
   end = rest.end;

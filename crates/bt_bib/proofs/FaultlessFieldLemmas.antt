@@ -31,7 +31,7 @@ use Rattle.bt_bib.proofs.SpelledValueLemmas.{text_part, parts_from, one_more, an
 use Rattle.bt_bib.proofs.SpelledFieldLemmas.{with_value}
 use Rattle.bt_bib.proofs.FaultlessTextLemmas.{bind_ok, ok_same, stands_both, stands_spaced, stands_on, stands_run, stands_white, stands_sign, and_both, run_all, read_sign, read_name, read_enclosed}
 
--- the same of a value with the place behind it that is equal
+-- the same of a value with the place after it that is equal
 pub as_pair : {A : Type 0} (S : A → Spelling) (h : Here) (x y : A × Here) → x ≡ y → Stands (S x.0) h x.1 → Stands (S y.0) h y.1
 as_pair {A = A} S h x y same stands = (let P : A × Here → Type 0 = λ x. Stands (S x.0) h x.1 in subst P same stands)
 
@@ -119,7 +119,7 @@ no_others close front p g h qs k none stands is =
     let same = ok_same found wanted (sym (ap read_out (gathers_none (joined close) (joined_less close) front h h none)) ∙ is) in
     record { parts = []; is = sym (ap (λ (x : List Part × Here). x.0) same) ∙ sym (append-nil front); stands = subst (Stands (PartOf p ▸ White) g) (ap (λ (x : List Part × Here). x.1) same) stands }
 
--- the part behind a `#`, and those behind it
+-- the part after a `#`, and those after it
 more_others : (close : Closing) (front : List Part) (p : Part) (g h : Here) (qs : List Part) (k : Here) → first h.rest ≡ Some 35 → joined close h ≡ another close (white (behind h)) → Stands (PartOf p ▸ White) g h → parts_from close front h ≡ Ok (qs, k)
     → ((q : Part) (e : Here) → length e.rest < length h.rest → Stands (PartOf q ▸ White) (white (behind h)) e → parts_from close (front ++ q ∷ []) e ≡ Ok (qs, k) → Others q (front ++ q ∷ []) qs (white (behind h)) k) → Others p front qs g k
 more_others close front p g h qs k sharp next stands is later =
@@ -164,7 +164,7 @@ read_value close h ps k is =
 
 -- Fields
 
--- `name =`, and what stands behind it
+-- `name =`, and what stands after it
 pub equals_stand : (n : List ℕ) (V : Spelling) (h a q k : Here) → Stands (NameOf n) h a → sign 61 ExpectedEquals (white a) ≡ Ok q → Stands V (white q) k → Stands (NameOf n ⋯ Sign 61 ⋯ V) h k
 equals_stand n V h a q k named is stands =
     stands_spaced (NameOf n) (Sign 61 ⋯ V) h a (white a) k named (stands_white a) (stands_spaced (Sign 61) V (white a) q (white q) k (read_sign 61 ExpectedEquals (white a) q is) (stands_white q) stands)

@@ -19,13 +19,13 @@ use Rattle.bt_bib.specs.declared.keywords.Keyword.{Keyword}
 use Rattle.bt_bib.specs.declared.keywords.Keyword.TheVariants as keywords
 use Rattle.bt_bib.specs.Spot.{Here, at, after, passed, behind, beyond}
 use Rattle.bt_bib.specs.Scan.{first, run, past, white, sign, closing_sign, is_key_byte}
-use Rattle.bt_bib.specs.Stop.{Stop, ◌>>=◌, given}
-use Rattle.bt_bib.specs.Names.{word, ended, name}
+use Rattle.bt_bib.specs.Stop.{Stop, ◌>>=◌, value_read}
+use Rattle.bt_bib.specs.Names.{word, name_ended, name}
 use Rattle.bt_bib.specs.Many.{many_by, all}
 use Rattle.bt_bib.specs.Values.{value}
 use Rattle.bt_bib.specs.Fields.{field, field_or_close, next_field, name_ends}
 use Rattle.bt_bib.specs.Keywords.{keyword_of}
-use Rattle.bt_bib.specs.Pieces.{item, opening, closed, entry_item, string_item, preamble_item, name_line, opened, typed, type_ended, type_read, piece, unread_entry, unread_string}
+use Rattle.bt_bib.specs.Pieces.{item, opening, closed, entry_item, string_item, preamble_item, name_line, item_opened, item_of_type, type_ended, type_read, piece, unread_entry, unread_string}
 use Rattle.bt_bib.specs.Spelling.{Spelling, ◌▸◌, ◌⋯◌, Bytes, Written, White, Sign, OnLine, Provided, MayEndName}
 use Rattle.bt_bib.specs.Spelled.{NameOf, ValueOf, FieldOf, FieldsOf, EndsKey, Keyed, opening_sign, IsWord, WordOf, Head, ItemOf, AnEntry, AString, APreamble}
 use Rattle.bt_bib.proofs.RunLemmas.{passed-nil, past_run, past_is_run}
@@ -157,7 +157,7 @@ unfolding opening
 read_opening_at s [] x read = absurd (cc read)
 read_opening_at s (b ∷ bs) x read = opening_by s b bs x (b == left_brace) (b == 40) refl refl read
 
--- `@`, and behind white space a word of such a kind, up to a place
+-- `@`, and after white space a word of such a kind, up to a place
 record Worded (keyword : Keyword) (n : List ℕ) (h e : Here) : Type 0 where
   sign : first h.rest ≡ Some 64
   word : Stands (Bytes n (IsWord keyword n)) (white (behind h)) e
@@ -202,7 +202,7 @@ closed_stands close h v k is closes =
     stands_spaced (ValueOf v.0) (Sign (closing_sign close)) h one.mid v.1 k one.front one.back (read_sign (closing_sign close) ExpectedCommaOrClose v.1 k closes)
 
 abbrev string_made : Closing → Spot → ℕ → Result (List ℕ × Here) Stop → Result (List Part × Here) Stop → Piece × Here
-string_made close start line named valued = item start (name_line (given named) line start.line) (contents.Define (record { name = given named; value = given valued })) (Some close) (valued >>= λ v. closed close v.1)
+string_made close start line named valued = item start (name_line (value_read named) line start.line) (contents.Define (record { name = value_read named; value = value_read valued })) (Some close) (valued >>= λ v. closed close v.1)
 
 string_by : (text : List ℕ) (close : Closing) (h e o : Here) (named : Result (List ℕ × Here) Stop) (valued : Result (List Part × Here) Stop) → Worded keywords.String text h e → opening (white e) ≡ Ok (close, o) → name StringName name_ends (white o) ≡ named → valued_by close named ≡ valued → PieceStands h (string_made close h.spot (white o).spot.line named valued)
 string_by text close h e o named (Err stop) w opens is reads = λ faultless. absurd (cc faultless)
@@ -219,7 +219,7 @@ string_by text close h e o (Ok n) (Ok v) w opens is reads =
     (stands_on N q k (equals_stand n.0 V q n.1 equals.0 k (read_name StringName name_ends q n.0 n.1 is) equals.1 (closed_stands close (white equals.0) v k equals.2 closes)))))
 
 abbrev preamble_made : Closing → Spot → Result (List Part × Here) Stop → Piece × Here
-preamble_made close start valued = item start start.line (contents.Preamble (given valued)) (Some close) (valued >>= λ v. closed close v.1)
+preamble_made close start valued = item start start.line (contents.Preamble (value_read valued)) (Some close) (valued >>= λ v. closed close v.1)
 
 preamble_by : (text : List ℕ) (close : Closing) (h e o : Here) (valued : Result (List Part × Here) Stop) → Worded keywords.Preamble text h e → opening (white e) ≡ Ok (close, o) → value close (white o) ≡ valued → PieceStands h (preamble_made close h.spot valued)
 preamble_by text close h e o (Err stop) w opens is = λ faultless. absurd (cc faultless)
@@ -229,7 +229,7 @@ preamble_by text close h e o (Ok v) w opens is =
     item_stands h h.spot h.spot.line content close (closed close v.1) (λ k closes.
     as_item (Head keywords.Preamble text close V) h.spot.line content close h k (λ text x. APreamble x) (head_stands keywords.Preamble text close V h e o k w opens (closed_stands close (white o) v k is closes)))
 
-opened_by : (h : Here) (unread : Content) (made : Closing → Here → Piece × Here) (r : Result (Closing × Here) Stop) → ((close : Closing) (o : Here) → r ≡ Ok (close, o) → PieceStands h (made close (white o))) → PieceStands h (opened h.spot unread made r)
+opened_by : (h : Here) (unread : Content) (made : Closing → Here → Piece × Here) (r : Result (Closing × Here) Stop) → ((close : Closing) (o : Here) → r ≡ Ok (close, o) → PieceStands h (made close (white o))) → PieceStands h (item_opened h.spot unread made r)
 opened_by h unread made (Err stop) f = λ faultless. absurd (cc faultless)
 opened_by h unread made (Ok (close, o)) f = f close o refl
 
@@ -242,7 +242,7 @@ worded keyword n h e is sign x = record { sign = sign; word = record { text = x.
 any_word : (keyword : Keyword) (n : List ℕ) (s : Spot) (t : List ℕ) → Bytes n (IsWord keyword n) s t → WordOf keyword s t
 any_word keyword n s t (Written is) = is
 
-typed_stands : (keyword : Keyword) (n : List ℕ) (h e : Here) → keyword_of n ≡ keyword → first h.rest ≡ Some 64 → Stands (NameOf n) (white (behind h)) e → MayEndName type_signs e.rest → PieceStands h (typed keyword h.spot n e)
+typed_stands : (keyword : Keyword) (n : List ℕ) (h e : Here) → keyword_of n ≡ keyword → first h.rest ≡ Some 64 → Stands (NameOf n) (white (behind h)) e → MayEndName type_signs e.rest → PieceStands h (item_of_type keyword h.spot n e)
 typed_stands keywords.Comment n h e is sign x ends =
     let w = worded keywords.Comment n h e is sign x in
     let q = white (behind h) in
@@ -252,7 +252,7 @@ typed_stands keywords.String n h e is sign x ends = opened_by h unread_string (s
 typed_stands keywords.Preamble n h e is sign x ends = opened_by h (contents.Preamble None) (preamble_item h.spot) (opening (white e)) (λ close o opens. preamble_by n close h e o (value close (white o)) (worded keywords.Preamble n h e is sign x) opens refl)
 typed_stands keywords.Entry n h e is sign x ends = opened_by h (unread_entry (Some n)) (entry_item h.spot n) (opening (white e)) (λ close o opens. entry_stands n close h e o (worded keywords.Entry n h e is sign x) opens)
 
-type_ended_by : (n : List ℕ) (h c : Here) (r : Result Here Stop) → ended EntryType type_signs c ≡ r → first h.rest ≡ Some 64 → Stands (NameOf n) (white (behind h)) c → PieceStands h (type_ended h.spot n r)
+type_ended_by : (n : List ℕ) (h c : Here) (r : Result Here Stop) → name_ended EntryType type_signs c ≡ r → first h.rest ≡ Some 64 → Stands (NameOf n) (white (behind h)) c → PieceStands h (type_ended h.spot n r)
 type_ended_by n h c (Err stop) is sign x = λ faultless. absurd (cc faultless)
 type_ended_by n h c (Ok e) is sign x =
     let ends = read_ended EntryType type_signs c e is in
@@ -260,7 +260,7 @@ type_ended_by n h c (Ok e) is sign x =
 
 type_read_by : (h : Here) (r : Result (List ℕ × Here) Stop) → word EntryType (white (behind h)) ≡ r → first h.rest ≡ Some 64 → PieceStands h (type_read h.spot r)
 type_read_by h (Err stop) is sign = λ faultless. absurd (cc faultless)
-type_read_by h (Ok (n, c)) is sign = type_ended_by n h c (ended EntryType type_signs c) refl sign (read_word EntryType (white (behind h)) n c is)
+type_read_by h (Ok (n, c)) is sign = type_ended_by n h c (name_ended EntryType type_signs c) refl sign (read_word EntryType (white (behind h)) n c is)
 
 pub read_piece : (h : Here) → first h.rest ≡ Some 64 → PieceStands h (piece h)
 unfolding piece

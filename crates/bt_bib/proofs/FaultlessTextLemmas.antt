@@ -16,8 +16,9 @@ use Rattle.bt_bib.specs.declared.enclosed.Turn.TheVariants as turns
 use Rattle.bt_bib.specs.Spot.{Here, at, after, passed, behind}
 use Rattle.bt_bib.specs.Scan.{first, run, past, white, sign}
 use Rattle.bt_bib.specs.Stop.{Stop, ◌>>=◌}
-use Rattle.bt_bib.specs.Names.{word, ended, name}
-use Rattle.bt_bib.specs.Enclosed.{enclosed, turn}
+use Rattle.bt_bib.specs.Names.{word, name_ended, name}
+use Rattle.bt_bib.specs.Enclosed.{enclosed}
+use Rattle.bt_bib.specs.inner.Enclosed.{turn}
 use Rattle.bt_bib.specs.Spelling.{Spelling, ◌▸◌, Both, ◌⋯◌, Bytes, Written, White, Sign, OnLine, IsEnclosed, Nothing, Byte, Group, MayEndName}
 use Rattle.bt_bib.specs.Spelled.{NameOf}
 use Rattle.bt_bib.proofs.RunLemmas.{passed-nil, passed-cons, front_taken}
@@ -40,7 +41,7 @@ if_ok false x y stop h = absurd (cc h)
 pub ok_same : {A : Type 0} (x y : A) → ◌≡◌ {A = Result A Stop} (Ok x) (Ok y) → x ≡ y
 ok_same x y h = cc
 
--- What stands one behind the other
+-- What stands one after the other
 
 pub stands_both : (A B : Spelling) (h m k : Here) → Stands A h m → Stands B m k → Stands (A ▸ B) h k
 stands_both A B h m k a b = record {
@@ -122,30 +123,31 @@ read_word_at what s (b ∷ bs) n k is =
 pub read_word : (what : What) (h : Here) (n : List ℕ) (k : Here) → word what h ≡ Ok (n, k) → Stands (NameOf n) h k
 read_word what h n k is = read_word_at what h.spot h.rest n k is
 
-read_ended_at : (what : What) (signs : List ℕ) (s : Spot) (r : List ℕ) (k : Here) → ended what signs (at s r) ≡ Ok k → (at s r ≡ k) × MayEndName signs r
-unfolding ended
+read_ended_at : (what : What) (signs : List ℕ) (s : Spot) (r : List ℕ) (k : Here) → name_ended what signs (at s r) ≡ Ok k → (at s r ≡ k) × MayEndName signs r
+unfolding name_ended
 read_ended_at what signs s [] k is = (ok_same (at s []) k is, tt)
 read_ended_at what signs s (b ∷ bs) k is =
     let h = at s (b ∷ bs) in
     let t = if_ok (is_white b || list_any (λ sign. sign == b) signs) h k (BadNameEnd what b, h) is in
     (t.1, t.0)
 
-pub read_ended : (what : What) (signs : List ℕ) (h k : Here) → ended what signs h ≡ Ok k → (h ≡ k) × MayEndName signs h.rest
+pub read_ended : (what : What) (signs : List ℕ) (h k : Here) → name_ended what signs h ≡ Ok k → (h ≡ k) × MayEndName signs h.rest
 read_ended what signs h k is = read_ended_at what signs h.spot h.rest k is
 
 pub read_name : (what : What) (signs : List ℕ) (h : Here) (n : List ℕ) (k : Here) → name what signs h ≡ Ok (n, k) → Stands (NameOf n) h k
 unfolding name
 read_name what signs h n k is =
     let wanted : List ℕ × Here = (n, k) in
-    let w = bind_ok (word what h) (λ w. ended what signs w.1 >>= λ end. Ok (w.0, end)) wanted is in
-    let e = bind_ok (ended what signs w.0.1) (λ end. Ok (w.0.0, end)) wanted w.2 in
+    let w = bind_ok (word what h) (λ w. name_ended what signs w.1 >>= λ end. Ok (w.0, end)) wanted is in
+    let e = bind_ok (name_ended what signs w.0.1) (λ end. Ok (w.0.0, end)) wanted w.2 in
     let found : List ℕ × Here = (w.0.0, e.0) in
     let Named : List ℕ × Here → Type 0 = λ x. Stands (NameOf x.0) h x.1 in
     subst Named (ok_same found wanted e.2) (subst (Stands (NameOf w.0.0) h) (read_ended what signs w.0.1 e.0 e.1).0 (read_word what h w.0.0 w.0.1 w.1))
 
 -- Enclosed texts
 
--- What is left of a text between so many open braces and its end: what each of them encloses, with the brace that closes it.
+-- What is left of a text between so many open braces and its end: what each of them encloses, with the brace that
+-- closes it.
 abbrev Unwinds : ℕ → ℕ → List ℕ → Type 0
 Unwinds close zero text = IsEnclosed close text
 Unwinds close (suc depth) text = (inner : List ℕ) × (rest : List ℕ) × (text ≡ inner ++ right_brace ∷ rest) × IsEnclosed right_brace inner × Unwinds close depth rest

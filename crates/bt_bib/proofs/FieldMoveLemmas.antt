@@ -59,7 +59,7 @@ collected_alike : {A : Type 0} (m : Spot) (limit : ℕ) (f : A → A) (front : L
 collected_alike m limit f front (xs, Ok e) y s = record { alike = λ lt. (let t = s.alike lt in (t.0, ap (collected (map f front)) t.1 ∙ ap (λ l. Ok (l, t.0)) (sym (map-append f front xs)), t.2)) }
 collected_alike m limit f front (xs, Err e) y s = record { alike = λ lt. (let t = s.alike lt in (t.0, ap (collected (map f front)) t.1, t.2)) }
 
--- behind one byte, white space and one after the other
+-- after one byte, white space and one after the other
 white_alike : {A : Type 0} (m : Spot) (limit : ℕ) (f : A → A) (h k : Here) (r : Here → Result (A × Here) Stop) → Alike m limit h k → ((e : Here) → Advances e (r e)) → ((e g : Here) → Alike m limit e g → Same m limit f (r e) (r g)) → Same m limit f (r (white h)) (r (white k))
 white_alike m limit f h k r a adv same = same_when m limit f (white h) (r (white h)) (r (white k)) (adv (white h)) (λ lt. same (white h) (white k) (alike_past m limit _ h k a lt))
 

@@ -20,11 +20,12 @@ use Rattle.bt_bib.specs.declared.keywords.Keyword.TheVariants as keywords
 use Rattle.bt_bib.specs.Spot.{Here, at, here, start, after}
 use Rattle.bt_bib.specs.Stop.{Stop}
 use Rattle.bt_bib.specs.Scan.{first, run, past, white}
-use Rattle.bt_bib.specs.Names.{word, word_from, ended}
+use Rattle.bt_bib.specs.Names.{word, word_from, name_ended}
 use Rattle.bt_bib.specs.Keywords.{keyword_of}
-use Rattle.bt_bib.specs.Pieces.{opening, typed, type_ended, type_read, piece, is_text, next_piece, next_piece_from, entry_item, opened, unread_entry}
+use Rattle.bt_bib.specs.Pieces.{opening, item_of_type, type_ended, type_read, piece, is_text, next_piece, next_piece_from, entry_item, item_opened, unread_entry}
 use Rattle.bt_bib.specs.Reading.{pieces_from, pieces_of}
-use Rattle.bt_bib.specs.Boundaries.{start_of, end_of, end_place, below, last_end, Rises}
+use Rattle.bt_bib.specs.Boundaries.{start_of, end_of, last_end, Rises}
+use Rattle.bt_bib.specs.inner.Boundaries.{end_place, below}
 use Rattle.bt_bib.specs.Laws.{FaultIsFirst}
 use Rattle.bt_bib.proofs.RunLemmas.{past_run}
 use Rattle.bt_bib.proofs.ReachLemmas.{Reaches, reaches_then, reaches_place, reaches_sum, past_reaches, white_reaches, word_advances}
@@ -54,17 +55,17 @@ long_type kind le =
     let eight : length (codes "preamble") ≡ 8 = refl in
     rw (unlike kind (codes "comment") (omega arith), unlike kind (codes "string") (omega arith), unlike kind (codes "preamble") (omega arith)) refl
 
--- `{}` behind a type
+-- `{}` after a type
 abbrev empty_braces : List ℕ
 empty_braces = 123 ∷ 125 ∷ []
 
-entry_typed : (s : Spot) (kind : List ℕ) (t : Spot) → IsWhole (typed keywords.Entry s kind (at t empty_braces))
+entry_typed : (s : Spot) (kind : List ℕ) (t : Spot) → IsWhole (item_of_type keywords.Entry s kind (at t empty_braces))
 unfolding opening
-entry_typed s kind t = subst (λ k. IsWhole (opened s (unread_entry (Some kind)) (entry_item s kind) (opening k))) (sym (past_none is_white t empty_braces (unwhite 123 (125 ∷ []) refl))) (entry_ends s kind (after 123 t))
+entry_typed s kind t = subst (λ k. IsWhole (item_opened s (unread_entry (Some kind)) (entry_item s kind) (opening k))) (sym (past_none is_white t empty_braces (unwhite 123 (125 ∷ []) refl))) (entry_ends s kind (after 123 t))
 
-type_closed : (s : Spot) (kind : List ℕ) (t : Spot) → keyword_of kind ≡ keywords.Entry → IsWhole (type_ended s kind (ended EntryType (codes "{(") (at t empty_braces)))
-unfolding ended
-type_closed s kind t is = subst (λ w. IsWhole (typed w s kind (at t empty_braces))) (sym is) (entry_typed s kind t)
+type_closed : (s : Spot) (kind : List ℕ) (t : Spot) → keyword_of kind ≡ keywords.Entry → IsWhole (type_ended s kind (name_ended EntryType (codes "{(") (at t empty_braces)))
+unfolding name_ended
+type_closed s kind t is = subst (λ w. IsWhole (item_of_type w s kind (at t empty_braces))) (sym is) (entry_typed s kind t)
 
 type_missing : (s : Spot) (h : Here) → Mends NotWhite h h (λ more. type_read s (word EntryType (cut h h more)))
 unfolding word
@@ -116,16 +117,16 @@ brace_bare b is = ap is_name_byte is
 brace_ends : (b : ℕ) → Is 123 b → EndsName type_signs b
 brace_ends b is = subst (EndsName type_signs) (sym is) (record { bare = refl; ends = refl })
 
-goes_on : (s : Spot) (h k : Here) (kind : List ℕ) → h.spot.place < k.spot.place → word EntryType h ≡ Ok (kind, k) → ((e : Here) (more : List ℕ) → Reaches k e → Next (EndsName type_signs) k e more → ended EntryType type_signs (cut k e more) ≡ Ok (cut k e more)) → Mended NotWhite h (typed (keyword_of kind) s kind k) (λ e more. type_read s (word EntryType (cut h e more)))
-goes_on s h k kind lt is stays = mended_on NotWhite (Is 123) h k (typed (keyword_of kind) s kind k) (λ e more. type_read s (word EntryType (cut h e more))) (λ e more. typed (keyword_of kind) s kind (cut k e more)) lt (typed_reaches (keyword_of kind) s kind k) (λ e more way next.
+goes_on : (s : Spot) (h k : Here) (kind : List ℕ) → h.spot.place < k.spot.place → word EntryType h ≡ Ok (kind, k) → ((e : Here) (more : List ℕ) → Reaches k e → Next (EndsName type_signs) k e more → name_ended EntryType type_signs (cut k e more) ≡ Ok (cut k e more)) → Mended NotWhite h (item_of_type (keyword_of kind) s kind k) (λ e more. type_read s (word EntryType (cut h e more)))
+goes_on s h k kind lt is stays = mended_on NotWhite (Is 123) h k (item_of_type (keyword_of kind) s kind k) (λ e more. type_read s (word EntryType (cut h e more))) (λ e more. item_of_type (keyword_of kind) s kind (cut k e more)) lt (typed_reaches (keyword_of kind) s kind k) (λ e more way next.
     ap (type_read s) (fits_at (Is 97) Bare h (word EntryType h) (λ e more. word EntryType (cut h e more)) kind k is (word_fits EntryType h) e more way (λ le. begins_as brace_bare (next le))) ∙ ap (type_ended s kind) (stays e more way (λ le. begins_as brace_ends (next le)))) (typed_mended (keyword_of kind) s kind k)
 
 ended_mended_by : (s : Spot) (h : Here) (kind : List ℕ) (t : Spot) (c : ℕ) (cs : List ℕ) (v : Bool) → (is_white c || list_any (λ sign. sign == c) type_signs) ≡ v → (let k = at t (c ∷ cs) in h.spot.place < t.place → word EntryType h ≡ Ok (kind, k) → IsWhole (type_read s (word EntryType (cut h k letters))) → Mended NotWhite h (type_ended s kind (cond v (Ok k) (Err (BadNameEnd EntryType c, k)))) (λ e more. type_read s (word EntryType (cut h e more))))
 ended_mended_by s h kind t c cs true ends lt is whole = goes_on s h (at t (c ∷ cs)) kind lt is (λ e more way next. ended_cut EntryType type_signs t c cs e more ends way next)
 ended_mended_by s h kind t c cs false ends lt is whole = record { by = λ f fault. record { more = letters; bytes = refl; begins = λ le. absurd (omega arith); whole = whole } }
 
-ended_mended : (s : Spot) (h : Here) (kind : List ℕ) (t : Spot) (r : List ℕ) → (let k = at t r in h.spot.place < t.place → word EntryType h ≡ Ok (kind, k) → IsWhole (type_read s (word EntryType (cut h k letters))) → Mended NotWhite h (type_ended s kind (ended EntryType type_signs k)) (λ e more. type_read s (word EntryType (cut h e more))))
-unfolding ended
+ended_mended : (s : Spot) (h : Here) (kind : List ℕ) (t : Spot) (r : List ℕ) → (let k = at t r in h.spot.place < t.place → word EntryType h ≡ Ok (kind, k) → IsWhole (type_read s (word EntryType (cut h k letters))) → Mended NotWhite h (type_ended s kind (name_ended EntryType type_signs k)) (λ e more. type_read s (word EntryType (cut h e more))))
+unfolding name_ended
 ended_mended s h kind t [] lt is whole = goes_on s h (at t []) kind lt is (λ e more way next. (let le : e.spot.place ≤ t.place = omega (arith, reaches_sum (at t []) e way) in ended_here EntryType type_signs (at t []) e more le (next le)))
 ended_mended s h kind t (c ∷ cs) lt is whole = ended_mended_by s h kind t c cs (is_white c || list_any (λ sign. sign == c) type_signs) refl lt is whole
 
@@ -155,7 +156,7 @@ piece_mended u b bs =
     let way = type_read_reaches w u (word EntryType w) (word_advances EntryType w) in
     mended_as Never NotWhite h g g (piece h) (λ e more. piece (cut h e more)) (λ e more. read (white (cut g e more))) (omega arith) (reaches_then g w (read w).1 (white_reaches g) way) (λ e more way. ap (λ k. read (white k)) (behind_cut u b bs e more (omega (arith, reaches_place g e way)))) (mended_past NotWhite is_white g (read w) read (λ b is. is) way (type_mended u w.spot w.rest))
 
--- From a boundary on a faulty item is read; behind a cut at its fault's place some bytes make it whole.
+-- From a boundary on a faulty item is read; after a cut at its fault's place some bytes make it whole.
 record Mending (g : Here) (i : Item) : Type 0 where
   end : Here
   way : Reaches g end
@@ -227,7 +228,7 @@ mending : (g : Here) (i : Item) (f : Fault) (back : List Piece) → pieces_from 
 unfolding next_piece
 mending g i f back is fault = (let h = past is_text g in mending_at g h.spot h.rest i f back refl (sym (pieces_step g) ∙ is) fault)
 
--- the pieces in front of one are those that end before the place behind its beginning
+-- the pieces before one are those that end before the place after its beginning
 before : (n place : ℕ) (front : List Piece) (p : Piece) (back : List Piece) → Rises n place (front ++ p ∷ back) → place ≤ (start_of p).place
 before n place [] p back r = r.0
 before n place (q ∷ front) p back r = omega (arith, r.0, r.1, before n (end_place q) front p back r.2)

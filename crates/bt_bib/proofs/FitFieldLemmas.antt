@@ -36,7 +36,7 @@ end_more close f h k is = ap (λ (x : List Field × Result Here Stop). x.1) (sym
 end_err : (close : Closing) (h : Here) (stop : Stop) → next_field close h ≡ Err stop → fields_end close h ≡ Err stop
 end_err close h stop is = ap (λ (x : List Field × Result Here Stop). x.1) (gathers_err (next_field close) (next_field_less close) [] h stop is)
 
--- Behind a cut at e some bytes complete the fields and close the entry.
+-- After a cut at e some bytes complete the fields and close the entry.
 pub record Closes (close : Closing) (h e : Here) : Type 0 where
   pub more : List ℕ
   pub bytes : AreBytes more
@@ -76,7 +76,7 @@ closes_here close h =
       is = end_none close (cut h h more) end (ap (next_field close) (cut_here h h more (omega arith)) ∙ closes_comma close h.spot);
     }
 
--- behind a comma and white space
+-- after a comma and white space
 enter : (close : Closing) (s : Spot) (b : ℕ) (bs : List ℕ) (e : Here) (more : List ℕ) → (b == closing_sign close) ≡ false → (b == 44) ≡ true → (let w = white (at (after b s) bs) in Reaches w e → Next (Fails is_white) w e more → next_field close (cut (at s (b ∷ bs)) e more) ≡ field_or_close close (cut w e more) (first (cut w e more).rest))
 unfolding next_field
 enter close s b bs e more other comma way next =
@@ -96,7 +96,7 @@ StepBy close h (Ok (None, k)) = Unit {0}
 StepBy close h (Ok (Some f, k)) = (e : Here) (more : List ℕ) → Reaches k e → Next (Quiet close) k e more → next_field close (cut h e more) ≡ Ok (Some f, cut k e more)
 StepBy close h (Err x) = Closes close h x.1
 
--- the next field is read before a cut, and the entry closed behind one
+-- the next field is read before a cut, and the entry closed after one
 record Step (close : Closing) (h : Here) (x : Result (Option Field × Here) Stop) : Type 0 where
   pub by : StepBy close h x
 

@@ -18,11 +18,11 @@ use Rattle.bt_bib.specs.Spot.{Here, at, after, behind}
 use Rattle.bt_bib.specs.Stop.{Stop, ◌>>=◌}
 use Rattle.bt_bib.specs.Scan.{past, white, sign, closing_sign, is_key_byte}
 use Rattle.bt_bib.specs.Enclosed.{enclosed}
-use Rattle.bt_bib.specs.Names.{word, ended, name}
+use Rattle.bt_bib.specs.Names.{word, name_ended, name}
 use Rattle.bt_bib.specs.Many.{many}
 use Rattle.bt_bib.specs.Values.{part, joined, value}
 use Rattle.bt_bib.specs.Fields.{field, next_field}
-use Rattle.bt_bib.specs.Pieces.{item, opening, opening_from, closed, entry_item, entry_read, string_item, string_read, name_line, preamble_item, preamble_read, unread_entry, unread_string, opened, typed}
+use Rattle.bt_bib.specs.Pieces.{item, opening, opening_from, closed, entry_item, entry_read, string_item, string_read, name_line, preamble_item, preamble_read, unread_entry, unread_string, item_opened, item_of_type}
 use Rattle.bt_bib.proofs.ReachLemmas.{Reaches, reaches_self, reaches_then, reaches_place, past_reaches, white_reaches}
 use Rattle.bt_bib.proofs.PieceLemmas.{valued, opening_advances, opened_reaches, entry_reaches, string_reaches, preamble_reaches}
 use Rattle.bt_bib.proofs.CutLemmas.{cut, cut_here, first_cut, behind_cut, Begins, begins_as, Next, past_cut}
@@ -40,7 +40,7 @@ abbrev pub IsWhole : Piece × Here → Type 0
 IsWhole (pieces.Comment s t, e) = ⊥
 IsWhole (pieces.Item i, e) = (i.fault ≡ None) × (e.rest ≡ [])
 
--- Behind a cut at e some bytes complete an item that is read from h on; where nothing was read of it they begin with S.
+-- After a cut at e some bytes complete an item that is read from h on; where nothing was read of it they begin with S.
 pub record Mends (S : ℕ → Type 0) (h e : Here) (y : List ℕ → Piece × Here) : Type 0 where
   pub more : List ℕ
   pub bytes : AreBytes more
@@ -185,7 +185,7 @@ preamble_mended start close h =
     let read = preamble_read close h in
     item_mended start start.line (contents.Preamble read.0) (Some close) h read.1 (λ e more. start.line) (λ e more. contents.Preamble (preamble_read close (cut h e more)).0) (λ e more. (preamble_read close (cut h e more)).1) (finishes_closed (Is 49) close h (value close h) (λ e more. value close (cut h e more)) (one_not_white 49 refl) (value_fits close h))
 
--- some bytes that are an item's rest behind the left brace that opens it
+-- some bytes that are an item's rest after the left brace that opens it
 record Rest (read : Closing → Here → Piece × Here) : Type 0 where
   word : List ℕ
   bytes : AreBytes word
@@ -195,39 +195,39 @@ pub unwhite : (c : ℕ) (tail : List ℕ) → is_white c ≡ false → Begins No
 unwhite c tail is = record { byte = c; rest = tail; is = refl; fits = is }
 
 pub entry_ends : (start : Spot) (kind : List ℕ) (s : Spot) → IsWhole (entry_item start kind Brace (white (at s (125 ∷ []))))
-unfolding sign enclosed word ended name many part joined value field next_field
+unfolding sign enclosed word name_ended name many part joined value field next_field
 entry_ends start kind s = subst (λ k. IsWhole (entry_item start kind Brace k)) (sym (past_none is_white s (125 ∷ []) (unwhite 125 [] refl))) (refl, refl)
 
 entry_rest : (start : Spot) (kind : List ℕ) → Rest (entry_item start kind)
 entry_rest start kind = record { word = 125 ∷ []; bytes = refl; whole = entry_ends start kind }
 
 string_rest : (start : Spot) → Rest (string_item start)
-unfolding sign enclosed word ended name many part joined value field next_field
+unfolding sign enclosed word name_ended name many part joined value field next_field
 string_rest start = record { word = 97 ∷ 61 ∷ 49 ∷ 125 ∷ []; bytes = refl; whole = λ s. subst (λ k. IsWhole (string_item start Brace k)) (sym (past_none is_white s (97 ∷ 61 ∷ 49 ∷ 125 ∷ []) (unwhite 97 (61 ∷ 49 ∷ 125 ∷ []) refl))) (refl, refl) }
 
 preamble_rest : (start : Spot) → Rest (preamble_item start)
-unfolding sign enclosed word ended name many part joined value field next_field
+unfolding sign enclosed word name_ended name many part joined value field next_field
 preamble_rest start = record { word = 49 ∷ 125 ∷ []; bytes = refl; whole = λ s. subst (λ k. IsWhole (preamble_item start Brace k)) (sym (past_none is_white s (49 ∷ 125 ∷ []) (unwhite 49 (125 ∷ []) refl))) (refl, refl) }
 
 -- what an opening sign begins
-unopened_mends : (start : Spot) (unread : Content) (read : Closing → Here → Piece × Here) (h : Here) → Rest read → Mends (Is 123) h h (λ more. opened start unread read (opening (cut h h more)))
+unopened_mends : (start : Spot) (unread : Content) (read : Closing → Here → Piece × Here) (h : Here) → Rest read → Mends (Is 123) h h (λ more. item_opened start unread read (opening (cut h h more)))
 unfolding opening
 unopened_mends start unread read h rest = record {
   more = 123 ∷ rest.word;
   bytes = rest.bytes;
   begins = λ le. record { byte = 123; rest = rest.word; is = refl; fits = refl };
-  whole = subst (λ k. IsWhole (opened start unread read (opening k))) (sym (cut_here h h (123 ∷ rest.word) (omega arith))) (rest.whole (after 123 h.spot));
+  whole = subst (λ k. IsWhole (item_opened start unread read (opening k))) (sym (cut_here h h (123 ∷ rest.word) (omega arith))) (rest.whole (after 123 h.spot));
 }
 
 opened_by : (start : Spot) (unread : Content) (read : Closing → Here → Piece × Here) (s : Spot) (b : ℕ) (bs : List ℕ) (close : Closing) → (let h = at s (b ∷ bs) in let g = at (after b s) bs in
-    ((e : Here) (more : List ℕ) → Reaches g e → opening (cut h e more) ≡ Ok (close, cut g e more)) → ((e : Here) → Reaches e (read close e).1) → Mended NotWhite (white g) (read close (white g)) (λ e more. read close (cut (white g) e more)) → Mended (Is 123) h (read close (white g)) (λ e more. opened start unread read (opening (cut h e more))))
+    ((e : Here) (more : List ℕ) → Reaches g e → opening (cut h e more) ≡ Ok (close, cut g e more)) → ((e : Here) → Reaches e (read close e).1) → Mended NotWhite (white g) (read close (white g)) (λ e more. read close (cut (white g) e more)) → Mended (Is 123) h (read close (white g)) (λ e more. item_opened start unread read (opening (cut h e more))))
 opened_by start unread read s b bs close same ahead m =
     let h = at s (b ∷ bs) in
     let g = at (after b s) bs in
-    mended_as (Is 123) NotWhite h g g (read close (white g)) (λ e more. opened start unread read (opening (cut h e more))) (λ e more. read close (white (cut g e more))) (omega arith) (reaches_then g (white g) (read close (white g)).1 (white_reaches g) (ahead (white g))) (λ e more way. ap (opened start unread read) (same e more way)) (mended_past NotWhite is_white g (read close (white g)) (read close) (λ b is. is) (ahead (white g)) m)
+    mended_as (Is 123) NotWhite h g g (read close (white g)) (λ e more. item_opened start unread read (opening (cut h e more))) (λ e more. read close (white (cut g e more))) (omega arith) (reaches_then g (white g) (read close (white g)).1 (white_reaches g) (ahead (white g))) (λ e more way. ap (item_opened start unread read) (same e more way)) (mended_past NotWhite is_white g (read close (white g)) (read close) (λ b is. is) (ahead (white g)) m)
 
 opening_by : (start : Spot) (unread : Content) (read : Closing → Here → Piece × Here) (s : Spot) (b : ℕ) (bs : List ℕ) (v u : Bool) → (b == left_brace) ≡ v → (b == 40) ≡ u → ((close : Closing) (e : Here) → Reaches e (read close e).1) → ((close : Closing) (k : Here) → Mended NotWhite k (read close k) (λ e more. read close (cut k e more))) → Rest read → (let h = at s (b ∷ bs) in let g = at (after b s) bs in
-    Mended (Is 123) h (opened start unread read (cond v (Ok (Brace, g)) (cond u (Ok (Parenthesis, g)) (Err (ExpectedOpen, h))))) (λ e more. opened start unread read (opening (cut h e more))))
+    Mended (Is 123) h (item_opened start unread read (cond v (Ok (Brace, g)) (cond u (Ok (Parenthesis, g)) (Err (ExpectedOpen, h))))) (λ e more. item_opened start unread read (opening (cut h e more))))
 unfolding opening
 opening_by start unread read s b bs true u left round ahead m rest =
     let h = at s (b ∷ bs) in
@@ -245,19 +245,19 @@ opening_by start unread read s b bs false true left round ahead m rest =
     ap (opening_from (cut h e more)) (first_cut h e more lt (reaches_then h g e (one_on s b bs) way)) ∙ ap (λ v. cond v (Ok (Brace, behind (cut h e more))) (two (cut h e more))) left ∙ ap (λ v. cond v (Ok (Parenthesis, behind (cut h e more))) (Err (ExpectedOpen, cut h e more))) round ∙ ap (λ k. Ok (Parenthesis, k)) (behind_cut s b bs e more lt)) (ahead Parenthesis) (m Parenthesis (white g))
 opening_by start unread read s b bs false false left round ahead m rest = record { by = λ f is. unopened_mends start unread read (at s (b ∷ bs)) rest }
 
-opened_mended : (start : Spot) (unread : Content) (read : Closing → Here → Piece × Here) (s : Spot) (r : List ℕ) → ((close : Closing) (e : Here) → Reaches e (read close e).1) → ((close : Closing) (k : Here) → Mended NotWhite k (read close k) (λ e more. read close (cut k e more))) → Rest read → Mended (Is 123) (at s r) (opened start unread read (opening (at s r))) (λ e more. opened start unread read (opening (cut (at s r) e more)))
+opened_mended : (start : Spot) (unread : Content) (read : Closing → Here → Piece × Here) (s : Spot) (r : List ℕ) → ((close : Closing) (e : Here) → Reaches e (read close e).1) → ((close : Closing) (k : Here) → Mended NotWhite k (read close k) (λ e more. read close (cut k e more))) → Rest read → Mended (Is 123) (at s r) (item_opened start unread read (opening (at s r))) (λ e more. item_opened start unread read (opening (cut (at s r) e more)))
 unfolding opening
 opened_mended start unread read s [] ahead m rest = record { by = λ f is. unopened_mends start unread read (at s []) rest }
 opened_mended start unread read s (b ∷ bs) ahead m rest = opening_by start unread read s b bs (b == left_brace) (b == 40) refl refl ahead m rest
 
 -- what a type begins
-opened_reach : (start : Spot) (unread : Content) (read : Closing → Here → Piece × Here) (w : Here) → ((close : Closing) (e : Here) → Reaches e (read close e).1) → Reaches w (opened start unread read (opening w)).1
+opened_reach : (start : Spot) (unread : Content) (read : Closing → Here → Piece × Here) (w : Here) → ((close : Closing) (e : Here) → Reaches e (read close e).1) → Reaches w (item_opened start unread read (opening w)).1
 opened_reach start unread read w ahead = opened_reaches w start unread read (opening w) (opening_advances w) ahead
 
-behind_type : (start : Spot) (unread : Content) (read : Closing → Here → Piece × Here) (h : Here) → ((close : Closing) (e : Here) → Reaches e (read close e).1) → ((close : Closing) (k : Here) → Mended NotWhite k (read close k) (λ e more. read close (cut k e more))) → Rest read → Mended (Is 123) h (opened start unread read (opening (white h))) (λ e more. opened start unread read (opening (white (cut h e more))))
-behind_type start unread read h ahead m rest = (let w = white h in mended_past (Is 123) is_white h (opened start unread read (opening w)) (λ k. opened start unread read (opening k)) (one_not_white 123 refl) (opened_reach start unread read w ahead) (opened_mended start unread read w.spot w.rest ahead m rest))
+behind_type : (start : Spot) (unread : Content) (read : Closing → Here → Piece × Here) (h : Here) → ((close : Closing) (e : Here) → Reaches e (read close e).1) → ((close : Closing) (k : Here) → Mended NotWhite k (read close k) (λ e more. read close (cut k e more))) → Rest read → Mended (Is 123) h (item_opened start unread read (opening (white h))) (λ e more. item_opened start unread read (opening (white (cut h e more))))
+behind_type start unread read h ahead m rest = (let w = white h in mended_past (Is 123) is_white h (item_opened start unread read (opening w)) (λ k. item_opened start unread read (opening k)) (one_not_white 123 refl) (opened_reach start unread read w ahead) (opened_mended start unread read w.spot w.rest ahead m rest))
 
-pub typed_mended : (keyword : Keyword) (start : Spot) (kind : List ℕ) (h : Here) → Mended (Is 123) h (typed keyword start kind h) (λ e more. typed keyword start kind (cut h e more))
+pub typed_mended : (keyword : Keyword) (start : Spot) (kind : List ℕ) (h : Here) → Mended (Is 123) h (item_of_type keyword start kind h) (λ e more. item_of_type keyword start kind (cut h e more))
 typed_mended keywords.Comment start kind h = record { by = tt }
 typed_mended keywords.String start kind h = behind_type start unread_string (string_item start) h (string_reaches start) (string_mended start) (string_rest start)
 typed_mended keywords.Preamble start kind h = behind_type start (contents.Preamble None) (preamble_item start) h (preamble_reaches start) (preamble_mended start) (preamble_rest start)

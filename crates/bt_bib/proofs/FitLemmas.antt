@@ -39,7 +39,7 @@ pub record Reads {A : Type 0} (tail : List ℕ) (r : Result (A × Here) Stop) : 
   pub spot : Spot
   pub is : r ≡ Ok (value, at spot tail)
 
--- Behind a cut at e some bytes complete what is read from h on, where others follow that begin with P; where nothing was
+-- After a cut at e some bytes complete what is read from h on, where others follow that begin with P; where nothing was
 -- read of it they begin with S.
 pub record Completes {A : Type 0} (S P : ℕ → Type 0) (h e : Here) (y : List ℕ → Result (A × Here) Stop) : Type 0 where
   pub more : List ℕ
@@ -62,7 +62,7 @@ pub fits_if : {A : Type 0} (S P : ℕ → Type 0) (h : Here) (v : Bool) (x z : R
 fits_if S P h true x z y a b = a refl
 fits_if S P h false x z y a b = b refl
 
--- what ends behind g, and is read on from a place that the cut leaves
+-- what ends after g, and is read on from a place that the cut leaves
 pub fits_as : {A : Type 0} (S T P : ℕ → Type 0) (h g k : Here) (x : Result (A × Here) Stop) (y z : Here → List ℕ → Result (A × Here) Stop) → h.spot.place < g.spot.place → Advances g x → ((e : Here) (more : List ℕ) → Reaches g e → y e more ≡ z e more) → Fits T P k x z → Fits S P h x y
 fits_as S T P h g k (Ok x) y z lt a same f = record { by = λ e more way next. same e more (reaches_then g x.1 e a.ahead way) ∙ f.by e more way next }
 fits_as S T P h g k (Err x) y z lt a same f =
@@ -78,7 +78,7 @@ fits_as S T P h g k (Err x) y z lt a same f =
       };
     }
 
--- behind a run of bytes
+-- after a run of bytes
 pub fits_past : {A : Type 0} (S P : ℕ → Type 0) (test : ℕ → Bool) (h : Here) (x : Result (A × Here) Stop) (f : Here → Result (A × Here) Stop) → ((b : ℕ) → S b → test b ≡ false) → ((b : ℕ) → P b → test b ≡ false) → Advances (past test h) x → Fits S P (past test h) x (λ e more. f (cut (past test h) e more)) → Fits S P h x (λ e more. f (past test (cut h e more)))
 fits_past S P test h (Ok x) f s p a fits = record {
   by = λ e more way next.
@@ -120,7 +120,7 @@ pub record Starts {A B : Type 0} (P Q : ℕ → Type 0) (f : A × Here → Resul
   pub begins : (tail : List ℕ) → Begins Q tail → Begins P (word ++ tail)
   pub reads : (a : A) (s : Spot) (tail : List ℕ) → Begins Q tail → Reads tail (f (a, at s (word ++ tail)))
 
--- one reader behind the other
+-- one reader after the other
 fits_then : {A B : Type 0} (S P T Q : ℕ → Type 0) (h k : Here) (a : A) (z : Result (B × Here) Stop) (y : Here → List ℕ → Result (A × Here) Stop) (f : A × Here → Result (B × Here) Stop) → Reaches h k → Advances k z → ((e : Here) (more : List ℕ) → Reaches k e → Next P k e more → y e more ≡ Ok (a, cut k e more)) → (k.spot.place ≤ h.spot.place → (b : ℕ) → T b → S b) → ((b : ℕ) → T b → P b) → ((b : B) (g : Here) → z ≡ Ok (b, g) → g.spot.place ≤ k.spot.place → (c : ℕ) → Q c → P c) → Fits T Q k z (λ e more. f (a, cut k e more)) → Fits S Q h z (λ e more. y e more >>= f)
 fits_then S P T Q h k a (Ok x) y f way adv on late next last fits = record {
   by = λ e more go after.

@@ -11,7 +11,7 @@ use Rattle.bt_bib.specs.declared.fault.Fault.TheVariants.{MissingName, BadNameEn
 use Rattle.bt_bib.specs.Spot.{Here, at, after}
 use Rattle.bt_bib.specs.Stop.{Stop, ◌>>=◌}
 use Rattle.bt_bib.specs.Scan.{run, past}
-use Rattle.bt_bib.specs.Names.{word, word_from, ended, ended_from, name}
+use Rattle.bt_bib.specs.Names.{word, word_from, name_ended, ended_from, name}
 use Rattle.bt_bib.proofs.RunLemmas.{past_is_run, run_more}
 use Rattle.bt_bib.proofs.ReachLemmas.{Reaches, reaches_self, reaches_then, reaches_place, behind_reaches, past_reaches, Advances, advances_ok, advances_bind, moves_bind, word_advances, ended_moves}
 use Rattle.bt_bib.proofs.CutLemmas.{cut, cut_here, first_cut, no_further, Begins, begins_as, Next, Fails, stops, past_cut, run_cut}
@@ -93,22 +93,22 @@ unfolding word
 word_later what s [] = tt
 word_later what s (b ∷ bs) = word_later_by what s b bs (is_name_byte b && not (is_digit b)) refl
 
--- a byte that may stand behind a name
+-- a byte that may stand after a name
 pub record EndsName (signs : List ℕ) (b : ℕ) : Type 0 where
   pub bare : is_name_byte b ≡ false
   pub ends : (is_white b || list_any (λ sign. sign == b) signs) ≡ true
 
-pub ended_begins : (what : What) (signs : List ℕ) (s : Spot) (more : List ℕ) → Begins (EndsName signs) more → ended what signs (at s more) ≡ Ok (at s more)
-unfolding ended
-ended_begins what signs s more b = subst (λ m. ended what signs (at s m) ≡ Ok (at s m)) (sym b.is) (ap (λ v. cond v (Ok (at s (b.byte ∷ b.rest))) (Err (BadNameEnd what b.byte, at s (b.byte ∷ b.rest)))) b.fits.ends)
+pub ended_begins : (what : What) (signs : List ℕ) (s : Spot) (more : List ℕ) → Begins (EndsName signs) more → name_ended what signs (at s more) ≡ Ok (at s more)
+unfolding name_ended
+ended_begins what signs s more b = subst (λ m. name_ended what signs (at s m) ≡ Ok (at s m)) (sym b.is) (ap (λ v. cond v (Ok (at s (b.byte ∷ b.rest))) (Err (BadNameEnd what b.byte, at s (b.byte ∷ b.rest)))) b.fits.ends)
 
-pub ended_here : (what : What) (signs : List ℕ) (h e : Here) (more : List ℕ) → e.spot.place ≤ h.spot.place → Begins (EndsName signs) more → ended what signs (cut h e more) ≡ Ok (cut h e more)
+pub ended_here : (what : What) (signs : List ℕ) (h e : Here) (more : List ℕ) → e.spot.place ≤ h.spot.place → Begins (EndsName signs) more → name_ended what signs (cut h e more) ≡ Ok (cut h e more)
 ended_here what signs h e more le b =
     let one = cut_here h e more le in
-    ap (ended what signs) one ∙ ended_begins what signs h.spot more b ∙ ap (λ k. Ok k) (sym one)
+    ap (name_ended what signs) one ∙ ended_begins what signs h.spot more b ∙ ap (λ k. Ok k) (sym one)
 
-pub ended_cut : (what : What) (signs : List ℕ) (s : Spot) (b : ℕ) (bs : List ℕ) (e : Here) (more : List ℕ) → (is_white b || list_any (λ sign. sign == b) signs) ≡ true → Reaches (at s (b ∷ bs)) e → Next (EndsName signs) (at s (b ∷ bs)) e more → ended what signs (cut (at s (b ∷ bs)) e more) ≡ Ok (cut (at s (b ∷ bs)) e more)
-unfolding ended
+pub ended_cut : (what : What) (signs : List ℕ) (s : Spot) (b : ℕ) (bs : List ℕ) (e : Here) (more : List ℕ) → (is_white b || list_any (λ sign. sign == b) signs) ≡ true → Reaches (at s (b ∷ bs)) e → Next (EndsName signs) (at s (b ∷ bs)) e more → name_ended what signs (cut (at s (b ∷ bs)) e more) ≡ Ok (cut (at s (b ∷ bs)) e more)
+unfolding name_ended
 ended_cut what signs s b bs e more is way next =
     let h = at s (b ∷ bs) in
     elim (cases_lt s.place e.spot.place) [
@@ -116,7 +116,7 @@ ended_cut what signs s b bs e more is way next =
       | inr le ↦ ended_here what signs h e more le (next le)
     ]
 
-ended_by : (what : What) (signs a : List ℕ) (s : Spot) (b : ℕ) (bs : List ℕ) (v : Bool) → (is_white b || list_any (λ sign. sign == b) signs) ≡ v → (let h = at s (b ∷ bs) in Fits (EndsName signs) (EndsName signs) h (cond v (Ok h) (Err (BadNameEnd what b, h)) >>= λ end. Ok (a, end)) (λ e more. ended what signs (cut h e more) >>= λ end. Ok (a, end)))
+ended_by : (what : What) (signs a : List ℕ) (s : Spot) (b : ℕ) (bs : List ℕ) (v : Bool) → (is_white b || list_any (λ sign. sign == b) signs) ≡ v → (let h = at s (b ∷ bs) in Fits (EndsName signs) (EndsName signs) h (cond v (Ok h) (Err (BadNameEnd what b, h)) >>= λ end. Ok (a, end)) (λ e more. name_ended what signs (cut h e more) >>= λ end. Ok (a, end)))
 ended_by what signs a s b bs true is = (let h = at s (b ∷ bs) in fits_ok (EndsName signs) (EndsName signs) h h a _ (λ e more way next. ap (λ r. r >>= λ end. Ok (a, end)) (ended_cut what signs s b bs e more is way next)))
 ended_by what signs a s b bs false is =
     let h = at s (b ∷ bs) in
@@ -125,23 +125,23 @@ ended_by what signs a s b bs false is =
         more = [];
         bytes = refl;
         begins = λ tail b le. b;
-        reads = λ tail b. record { value = a; spot = s; is = ap (λ k. ended what signs k >>= λ end. Ok (a, end)) (cut_here h h tail (omega arith)) ∙ ap (λ r. r >>= λ end. Ok (a, end)) (ended_begins what signs s tail b) };
+        reads = λ tail b. record { value = a; spot = s; is = ap (λ k. name_ended what signs k >>= λ end. Ok (a, end)) (cut_here h h tail (omega arith)) ∙ ap (λ r. r >>= λ end. Ok (a, end)) (ended_begins what signs s tail b) };
       };
     }
 
-ended_fits : (what : What) (signs a : List ℕ) (s : Spot) (r : List ℕ) → Fits (EndsName signs) (EndsName signs) (at s r) (ended what signs (at s r) >>= λ end. Ok (a, end)) (λ e more. ended what signs (cut (at s r) e more) >>= λ end. Ok (a, end))
-unfolding ended
+ended_fits : (what : What) (signs a : List ℕ) (s : Spot) (r : List ℕ) → Fits (EndsName signs) (EndsName signs) (at s r) (name_ended what signs (at s r) >>= λ end. Ok (a, end)) (λ e more. name_ended what signs (cut (at s r) e more) >>= λ end. Ok (a, end))
+unfolding name_ended
 ended_fits what signs a s [] = fits_ok (EndsName signs) (EndsName signs) (at s []) (at s []) a _ (λ e more way next. (let le = no_further s e way in ap (λ r. r >>= λ end. Ok (a, end)) (ended_here what signs (at s []) e more le (next le))))
 ended_fits what signs a s (b ∷ bs) = ended_by what signs a s b bs (is_white b || list_any (λ sign. sign == b) signs) refl
 
-ended_moves_on : (what : What) (signs : List ℕ) (w : List ℕ × Here) → Advances w.1 (ended what signs w.1 >>= λ end. Ok (w.0, end))
-ended_moves_on what signs w = moves_bind w.1 (ended what signs w.1) (λ end. Ok (w.0, end)) (ended_moves what signs w.1) (λ e. advances_ok e e w.0 (reaches_self e))
+ended_moves_on : (what : What) (signs : List ℕ) (w : List ℕ × Here) → Advances w.1 (name_ended what signs w.1 >>= λ end. Ok (w.0, end))
+ended_moves_on what signs w = moves_bind w.1 (name_ended what signs w.1) (λ end. Ok (w.0, end)) (ended_moves what signs w.1) (λ e. advances_ok e e w.0 (reaches_self e))
 
 pub name_fits : (what : What) (signs : List ℕ) (h : Here) → Fits (Is 97) (EndsName signs) h (name what signs h) (λ e more. name what signs (cut h e more))
 unfolding name
 name_fits what signs h =
     let Q = EndsName signs in
-    let f : List ℕ × Here → Result (List ℕ × Here) Stop = λ w. ended what signs w.1 >>= λ end. Ok (w.0, end) in
+    let f : List ℕ × Here → Result (List ℕ × Here) Stop = λ w. name_ended what signs w.1 >>= λ end. Ok (w.0, end) in
     fits_bind (Is 97) Bare Q Q h (word what h) (λ e more. word what (cut h e more)) f (word_advances what h) (ended_moves_on what signs) (λ a k is le b t. absurd (omega (arith, later_is h (word what h) a k (word_later what h.spot h.rest) is))) (λ b q. q.bare) (λ a b g is le c q. q.bare)
     (record { word = []; bytes = refl; begins = λ tail b. begins_as (λ c q. q.bare) b; reads = λ a s tail b. record { value = a; spot = s; is = ap (λ r. r >>= λ end. Ok (a, end)) (ended_begins what signs s tail b) } }) (word_fits what h) (λ a k. ended_fits what signs a k.spot k.rest)
 
@@ -151,14 +151,14 @@ later_then h (Err x) f later ahead = tt
 
 pub name_later : (what : What) (signs : List ℕ) (h : Here) → Later h (name what signs h)
 unfolding name
-name_later what signs h = later_then h (word what h) (λ w. ended what signs w.1 >>= λ end. Ok (w.0, end)) (word_later what h.spot h.rest) (ended_moves_on what signs)
+name_later what signs h = later_then h (word what h) (λ w. name_ended what signs w.1 >>= λ end. Ok (w.0, end)) (word_later what h.spot h.rest) (ended_moves_on what signs)
 
 pub name_ahead : (what : What) (signs : List ℕ) (s : Spot) (b : ℕ) (bs : List ℕ) → is_name_byte b ≡ true → is_digit b ≡ false → Advances (at (after b s) bs) (name what signs (at s (b ∷ bs)))
 unfolding name word
 name_ahead what signs s b bs is starts =
     let h = at s (b ∷ bs) in
     let g = at (after b s) bs in
-    let f : List ℕ × Here → Result (List ℕ × Here) Stop = λ w. ended what signs w.1 >>= λ end. Ok (w.0, end) in
+    let f : List ℕ × Here → Result (List ℕ × Here) Stop = λ w. name_ended what signs w.1 >>= λ end. Ok (w.0, end) in
     let both : (is_name_byte b && not (is_digit b)) ≡ true = ap (λ v. v && not (is_digit b)) is ∙ ap (λ v. not v) starts in
     let read : Advances g (Ok (run is_name_byte h, past is_name_byte h) >>= f) = advances_bind g (Ok (run is_name_byte h, past is_name_byte h)) f (advances_ok g (past is_name_byte h) (run is_name_byte h) (past_behind is_name_byte s b bs is)) (ended_moves_on what signs) in
     subst (λ v. Advances g (cond v (Ok (run is_name_byte h, past is_name_byte h)) (Err (MissingName what, h)) >>= f)) (sym both) read

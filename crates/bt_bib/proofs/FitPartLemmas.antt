@@ -16,7 +16,8 @@ use Rattle.bt_bib.specs.declared.item.Part.TheVariants.{Text, Macro}
 use Rattle.bt_bib.specs.Spot.{Here, at, after, behind}
 use Rattle.bt_bib.specs.Stop.{Stop, ◌>>=◌}
 use Rattle.bt_bib.specs.Scan.{first, run, past, white, closing_sign}
-use Rattle.bt_bib.specs.Enclosed.{enclosed, turn}
+use Rattle.bt_bib.specs.Enclosed.{enclosed}
+use Rattle.bt_bib.specs.inner.Enclosed.{turn}
 use Rattle.bt_bib.specs.Names.{name}
 use Rattle.bt_bib.specs.Values.{raw_part, part_from, part, part_ends}
 use Rattle.bt_bib.proofs.EnclosedLemmas.{between, taken, enclosed_run, enclosed_is_run, enclosed_cons}
@@ -64,7 +65,7 @@ abbrev EnclosesBy : ℕ → Result Here Stop → (Here → List ℕ → Result H
 EnclosesBy c (Ok k) y = (e : Here) (more : List ℕ) → Reaches (behind k) e → (y e more ≡ Ok (cut k e more)) × (behind (cut k e more) ≡ cut (behind k) e more)
 EnclosesBy c (Err x) y = (more : List ℕ) × AreBytes (more ++ c ∷ []) × ((tail : List ℕ) → (t : Spot) × (y x.1 (more ++ c ∷ tail) ≡ Ok (at t (c ∷ tail))))
 
--- The closing sign is found where it was, or some bytes in front of it complete what is enclosed.
+-- The closing sign is found where it was, or some bytes before it complete what is enclosed.
 pub record Encloses (c : ℕ) (x : Result Here Stop) (y : Here → List ℕ → Result Here Stop) : Type 0 where
   pub by : EnclosesBy c x y
 
@@ -101,7 +102,7 @@ unfolding enclosed_run
 enclosed_fits c d s [] shut = record { by = encloses_none c d s [] shut }
 enclosed_fits c d s (b ∷ bs) shut = encloses_by c d s b bs (turn c d b) shut refl (λ n. enclosed_fits c n (after b s) bs shut)
 
--- behind a brace or quote, what it encloses and the closing sign
+-- after a brace or quote, what it encloses and the closing sign
 abbrev pub shut : ℕ → Here → Result (Part × Here) Stop
 shut c h = enclosed c h >>= λ x. Ok (Text x.0, behind x.1)
 

@@ -1,4 +1,4 @@
--- Values, and what has one behind its name, on a text that is cut.
+-- Values, and what has one after its name, on a text that is cut.
 use Rattle.std.specs.Prelude.{◌==◌}
 use Rattle.std.proofs.Common.{◌≡◌, ℕ, zero, suc, ◌<◌, ◌≤◌, Bool, true, false, cond, List, [], ◌∷◌, ◌++◌, length, Option, Some, None, Result, Ok, Err, refl, sym, ap, subst, ◌∙◌, arith, inl, inr}
 use Rattle.std.proofs.lemmas.Bool.{cases_lt}
@@ -133,7 +133,7 @@ value_one close s tail b =
       is = ap (λ (x : Result (Part × Here) Stop). clean x >>= λ x. last x.0 x.1) r.is ∙ ap (last r.value) clear ∙ parts_none close (r.value ∷ []) (at r.spot tail) (at r.spot tail) (joined_none close r.spot tail b);
     }
 
--- a value behind white space
+-- a value after white space
 abbrev behind_white : Closing → Here → Result (List Part × Here) Stop
 behind_white close q = value close (white q)
 
@@ -148,7 +148,7 @@ white_one close s tail b =
     let r = value_one close s tail b in
     record { value = r.value; spot = r.spot; is = ap (value close) (past_none is_white s (49 ∷ tail) (record { byte = 49; rest = tail; is = refl; fits = refl })) ∙ r.is }
 
--- What stands behind a `=`: it goes forward, reads a `1`, and fits.
+-- What stands after a `=`: it goes forward, reads a `1`, and fits.
 pub record IsRight {A : Type 0} (close : Closing) (f : Here → Result (A × Here) Stop) : Type 0 where
   pub ahead : (q : Here) → Advances q (f q)
   pub one : (s : Spot) (tail : List ℕ) → Begins (Quiet close) tail → Reads tail (f (at s (49 ∷ tail)))

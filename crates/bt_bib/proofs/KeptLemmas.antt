@@ -13,7 +13,8 @@ use Rattle.bt_bib.specs.Spot.{Here, here}
 use Rattle.bt_bib.specs.Pieces.{next_piece}
 use Rattle.bt_bib.specs.Reading.{next_one, pieces_from}
 use Rattle.bt_bib.specs.Moved.{nowhere, moved, moved_part, moved_value, moved_field, moved_content, moved_option, moved_piece}
-use Rattle.bt_bib.specs.Boundaries.{end_of, below, last_end}
+use Rattle.bt_bib.specs.Boundaries.{end_of, last_end}
+use Rattle.bt_bib.specs.inner.Boundaries.{below}
 use Rattle.bt_bib.proofs.RunLemmas.{same_spot}
 use Rattle.bt_bib.proofs.ReachLemmas.{Reaches, reaches_then, reaches_self}
 use Rattle.bt_bib.proofs.ManyLemmas.{IsLess}

@@ -11,7 +11,8 @@ use Rattle.bt_bib.specs.Values.{joined}
 use Rattle.bt_bib.specs.Fields.{next_field}
 use Rattle.bt_bib.specs.Reading.{next_one, pieces_from, pieces_of}
 use Rattle.bt_bib.specs.Moved.{moved}
-use Rattle.bt_bib.specs.Boundaries.{end_place, last_end, below, Rises}
+use Rattle.bt_bib.specs.Boundaries.{last_end, Rises}
+use Rattle.bt_bib.specs.inner.Boundaries.{end_place, below}
 use Rattle.bt_bib.specs.Laws.{offset, RestIsMoved, BoundaryStays, FaultIsFinal, AnyReserveServes}
 use Rattle.bt_bib.proofs.RunLemmas.{same_spot}
 use Rattle.bt_bib.proofs.ReachLemmas.{Reaches}
@@ -73,7 +74,7 @@ boundary_stays old new begin end inserted place is lt h =
     let new_ends : map end_place (pieces_of new) ≡ map end_place kept ++ map end_place rest = ap (map end_place) (kept_pieces old new begin end inserted is) ∙ map-append end_place kept rest in
     or_first (0 == place) (one_of place (map end_place ps)) (one_of place (map end_place (pieces_of new))) h (λ there. ap (one_of place) new_ends ∙ any_append place (map end_place kept) (map end_place rest) (stays_below place begin (length old) 0 ps lt (spans_rise old) there))
 
--- the pieces up to one are below the place behind its end
+-- the pieces up to one are below the place after its end
 front_rises : (limit place : ℕ) (front : List Piece) (p : Piece) (back : List Piece) → Rises limit place (front ++ p ∷ back) → place < end_place p
 front_rises limit place [] p back r = omega (arith, r.0, r.1)
 front_rises limit place (q ∷ front) p back r = omega (arith, r.0, r.1, front_rises limit (end_place q) front p back r.2)

@@ -19,15 +19,15 @@ use Rattle.bt_bib.specs.declared.item.Piece.TheVariants as pieces
 use Rattle.bt_bib.specs.declared.keywords.Keyword.{Keyword}
 use Rattle.bt_bib.specs.declared.keywords.Keyword.TheVariants as keywords
 use Rattle.bt_bib.specs.Spot.{Here, here, start, behind}
-use Rattle.bt_bib.specs.Stop.{Stop, ◌>>=◌, given}
+use Rattle.bt_bib.specs.Stop.{Stop, ◌>>=◌, value_read}
 use Rattle.bt_bib.specs.Scan.{first, run, past, white, sign, closing_sign, is_key_byte}
 use Rattle.bt_bib.specs.Enclosed.{enclosed}
-use Rattle.bt_bib.specs.Names.{word, ended, name}
+use Rattle.bt_bib.specs.Names.{word, name_ended, name}
 use Rattle.bt_bib.specs.Many.{many, many_by, all, collected}
 use Rattle.bt_bib.specs.Values.{raw_part, part_from, part, part_ends, joined, joined_from, value}
 use Rattle.bt_bib.specs.Fields.{field, field_or_close, next_field, next_field_from, name_ends}
 use Rattle.bt_bib.specs.Keywords.{keyword_of}
-use Rattle.bt_bib.specs.Pieces.{item, opening, closed, entry_item, entry_read, string_item, string_read, name_line, preamble_item, preamble_read, unread_entry, unread_string, opened, typed, type_ended, type_read, piece, is_text, next_piece, next_piece_from}
+use Rattle.bt_bib.specs.Pieces.{item, opening, closed, entry_item, entry_read, string_item, string_read, name_line, preamble_item, preamble_read, unread_entry, unread_string, item_opened, item_of_type, type_ended, type_read, piece, is_text, next_piece, next_piece_from}
 use Rattle.bt_bib.specs.Reading.{next_one, pieces_of, bib_items}
 use Rattle.bt_bib.specs.Items.{items_of}
 use Rattle.bt_bib.specs.Laws.{PartLiesIn, ValueLiesIn, FieldLiesIn, ContentLiesIn, LinesLieIn, LinesLieInside}
@@ -220,8 +220,8 @@ entry_lies s kind close h le =
     let low = line_le h w (reaches_then h e w (past_reaches (is_key_byte close) h) (white_reaches e)) in
     item_lies s h.spot.line (contents.Entry read.0) (Some close) read.1 le (moves_line h read.1 (entry_moves kind close h)) (all_fields h.spot.line end fields.0 (all_weaker (FieldIn w.spot.line end) (FieldIn h.spot.line end) (wider_field h.spot.line w.spot.line end end low (omega arith)) fields.0 lies))
 
--- a value that is closed behind it
-given_lies : (close : Closing) (low : ℕ) (h : Here) (r : Result (List Part × Here) Stop) → low ≤ h.spot.line → Lies (AllIn PartLiesIn) h r → SomeIn (AllIn PartLiesIn) low (end_line (r >>= λ v. closed close v.1)) (given r)
+-- a value that is closed after it
+given_lies : (close : Closing) (low : ℕ) (h : Here) (r : Result (List Part × Here) Stop) → low ≤ h.spot.line → Lies (AllIn PartLiesIn) h r → SomeIn (AllIn PartLiesIn) low (end_line (r >>= λ v. closed close v.1)) (value_read r)
 given_lies close low h (Err stop) le p = tt
 given_lies close low h (Ok v) le p = wider_parts low h.spot.line v.1.spot.line (end_line (closed close v.1)) le (moves_line v.1 (closed close v.1) (closed_moves close v.1)) v.0 p
 
@@ -234,7 +234,7 @@ valued_lies close h =
     lies_from (AllIn PartLiesIn) wider_parts h w (value close w) to_w (value_lies close w)))
 
 -- Without a name there is no value.
-no_name : (close : Closing) (low : ℕ) (x : Result (List ℕ × Here) Stop) (k : List ℕ × Here → Result (List Part × Here) Stop) (h : Here) → low ≤ h.spot.line → Lies (AllIn PartLiesIn) h (x >>= k) → SomeIn (AllIn PartLiesIn) (name_line (given x) h.spot.line low) (end_line (x >>= k >>= λ v. closed close v.1)) (given (x >>= k))
+no_name : (close : Closing) (low : ℕ) (x : Result (List ℕ × Here) Stop) (k : List ℕ × Here → Result (List Part × Here) Stop) (h : Here) → low ≤ h.spot.line → Lies (AllIn PartLiesIn) h (x >>= k) → SomeIn (AllIn PartLiesIn) (name_line (value_read x) h.spot.line low) (end_line (x >>= k >>= λ v. closed close v.1)) (value_read (x >>= k))
 no_name close low (Err stop) k h le p = tt
 no_name close low (Ok n) k h le p = given_lies close h.spot.line h (k n) (omega arith) p
 
@@ -267,11 +267,11 @@ no_fields low high = All-from_recursion (FieldLiesIn low high) [] tt
 unread_lies : (s : Spot) (content : Content) (stop : Stop) → s.line ≤ stop.1.spot.line → ContentLiesIn s.line stop.1.spot.line content → PieceLies (item s s.line content None (Err stop)).0
 unread_lies s content stop le h = item_lies s s.line content None (Err stop) (omega arith) le h
 
-opened_lies : (s : Spot) (unread : Content) (read : Closing → Here → Piece × Here) (h : Here) (r : Result (Closing × Here) Stop) → s.line ≤ h.spot.line → ((high : ℕ) → ContentLiesIn s.line high unread) → Advances h r → ((close : Closing) (e : Here) → s.line ≤ e.spot.line → PieceLies (read close e).0) → PieceLies (opened s unread read r).0
+opened_lies : (s : Spot) (unread : Content) (read : Closing → Here → Piece × Here) (h : Here) (r : Result (Closing × Here) Stop) → s.line ≤ h.spot.line → ((high : ℕ) → ContentLiesIn s.line high unread) → Advances h r → ((close : Closing) (e : Here) → s.line ≤ e.spot.line → PieceLies (read close e).0) → PieceLies (item_opened s unread read r).0
 opened_lies s unread read h (Err stop) le u a k = unread_lies s unread stop (omega (arith, line_le h stop.1 a.ahead)) (u stop.1.spot.line)
 opened_lies s unread read h (Ok o) le u a k = k o.0 (white o.1) (omega (arith, line_le h o.1 a.ahead, line_le o.1 (white o.1) (white_reaches o.1)))
 
-typed_lies : (keyword : Keyword) (s : Spot) (kind : List ℕ) (h : Here) → s.line ≤ h.spot.line → PieceLies (typed keyword s kind h).0
+typed_lies : (keyword : Keyword) (s : Spot) (kind : List ℕ) (h : Here) → s.line ≤ h.spot.line → PieceLies (item_of_type keyword s kind h).0
 typed_lies keywords.Comment s kind h le = tt
 typed_lies keywords.String s kind h le = opened_lies s unread_string (string_item s) (white h) (opening (white h)) (omega (arith, line_le h (white h) (white_reaches h))) (λ _. tt) (opening_advances (white h)) (string_lies s)
 typed_lies keywords.Preamble s kind h le = opened_lies s (contents.Preamble None) (preamble_item s) (white h) (opening (white h)) (omega (arith, line_le h (white h) (white_reaches h))) (λ _. tt) (opening_advances (white h)) (preamble_lies s)
@@ -283,7 +283,7 @@ type_ended_lies s kind h (Ok e) le m = typed_lies (keyword_of kind) s kind e (om
 
 type_read_lies : (s : Spot) (h : Here) (r : Result (List ℕ × Here) Stop) → s.line ≤ h.spot.line → Advances h r → PieceLies (type_read s r).0
 type_read_lies s h (Err stop) le a = unread_lies s (unread_entry None) stop (omega (arith, line_le h stop.1 a.ahead)) (no_fields s.line stop.1.spot.line)
-type_read_lies s h (Ok w) le a = type_ended_lies s w.0 w.1 (ended EntryType (codes "{(") w.1) (omega (arith, line_le h w.1 a.ahead)) (ended_moves EntryType (codes "{(") w.1)
+type_read_lies s h (Ok w) le a = type_ended_lies s w.0 w.1 (name_ended EntryType (codes "{(") w.1) (omega (arith, line_le h w.1 a.ahead)) (ended_moves EntryType (codes "{(") w.1)
 
 piece_lies : (h : Here) → PieceLies (piece h).0
 unfolding piece

@@ -3,9 +3,12 @@ use Rattle.std.proofs.Common.{◌≡◌, ℕ, ◌-◌, ◌<◌, List, [], length
 use Rattle.bt_bib.specs.declared.spot.Spot.{Spot}
 use Rattle.bt_bib.specs.declared.stop.Halt.{Halt}
 use Rattle.bt_bib.specs.declared.stop.Halt.TheVariants.{Memory, Stopped}
-use Rattle.bt_bib.specs.Spot.{Here, here, IsAhead}
-use Rattle.bt_bib.specs.Stop.{Stop, ◌>>=◌, Stops, FillsTo}
-use Rattle.bt_bib.specs.Many.{all, collected, gathered}
+use Rattle.bt_bib.specs.Spot.{Here, here}
+use Rattle.bt_bib.specs.inner.Spot.{IsAhead}
+use Rattle.bt_bib.specs.Stop.{Stop, ◌>>=◌}
+use Rattle.bt_bib.specs.inner.Stop.{Stops, FillsTo}
+use Rattle.bt_bib.specs.Many.{all, collected}
+use Rattle.bt_bib.specs.inner.Many.{gathered}
 use Rattle.bt_bib.proofs.ManyLemmas.{IsLess, gathers_none, gathers_err}
 
 pub ahead_then : (text : List ℕ) (a b c : Spot) → IsAhead text a b → IsAhead text b c → IsAhead text a c

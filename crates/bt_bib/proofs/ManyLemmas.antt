@@ -3,7 +3,8 @@ use Rattle.std.proofs.Common.{◌≡◌, ℕ, zero, suc, ◌<◌, Bool, true, fa
 use Rattle.std.proofs.lemmas.List.{append-nil}
 use Rattle.bt_bib.specs.Spot.{Here}
 use Rattle.bt_bib.specs.Stop.{Stop}
-use Rattle.bt_bib.specs.Many.{many, many_by, all, gathered}
+use Rattle.bt_bib.specs.Many.{many, many_by, all}
+use Rattle.bt_bib.specs.inner.Many.{gathered}
 use Rattle.bt_bib.proofs.ReachLemmas.{Advances, reaches_rest}
 
 -- what comes next leaves fewer bytes
@@ -32,7 +33,7 @@ many_same next less zero n h a b = absurd (omega arith)
 many_same next less (suc m) zero h a b = absurd (omega arith)
 many_same next less (suc m) (suc n) h a b = by_same (many next m) (many next n) h (next h) (less h) (λ e lt. many_same next less m n e (omega arith) (omega arith))
 
--- all that come are the next one and all that come behind it
+-- all that come are the next one and all that come after it
 pub all_is : {A : Type 0} (next : Here → Result (Option A × Here) Stop) → ((h : Here) → IsLess h (next h)) → (h : Here) → all next h ≡ many_by (all next) (next h)
 unfolding many
 all_is next less h = by_same (many next (length h.rest)) (all next) h (next h) (less h) (λ e lt. many_same next less (length h.rest) (suc (length e.rest)) e lt (omega arith))

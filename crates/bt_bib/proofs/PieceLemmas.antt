@@ -16,12 +16,12 @@ use Rattle.bt_bib.specs.declared.keywords.Keyword.TheVariants as keywords
 use Rattle.bt_bib.specs.Spot.{Here, at, after, behind}
 use Rattle.bt_bib.specs.Stop.{Stop, ◌>>=◌}
 use Rattle.bt_bib.specs.Scan.{first, past, white, sign, closing_sign, is_key_byte}
-use Rattle.bt_bib.specs.Names.{word, ended, name}
+use Rattle.bt_bib.specs.Names.{word, name_ended, name}
 use Rattle.bt_bib.specs.Many.{all}
 use Rattle.bt_bib.specs.Values.{value}
 use Rattle.bt_bib.specs.Fields.{next_field, name_ends}
 use Rattle.bt_bib.specs.Keywords.{keyword_of}
-use Rattle.bt_bib.specs.Pieces.{item, opening, opening_from, closed, entry_item, entry_read, string_item, string_read, preamble_item, preamble_read, unread_entry, unread_string, opened, typed, type_ended, type_read, piece, is_text, next_piece, next_piece_from}
+use Rattle.bt_bib.specs.Pieces.{item, opening, opening_from, closed, entry_item, entry_read, string_item, string_read, preamble_item, preamble_read, unread_entry, unread_string, item_opened, item_of_type, type_ended, type_read, piece, is_text, next_piece, next_piece_from}
 use Rattle.bt_bib.specs.Reading.{next_one}
 use Rattle.bt_bib.proofs.ReachLemmas.{Reaches, reaches_then, reaches_self, reaches_rest, behind_reaches, white_reaches, past_reaches, Advances, advances_ok, advances_err, advances_if, moves_bind, advances_bind, advances_white, Moves, moves_from, sign_moves, word_advances, ended_moves, name_advances, value_advances, next_field_advances, many_moves}
 use Rattle.bt_bib.proofs.ManyLemmas.{IsLess}
@@ -41,7 +41,7 @@ opening_advances h = opening_advances_from h (first h.rest)
 pub closed_moves : (close : Closing) (h : Here) → Moves h (closed close h)
 closed_moves close h = sign_moves (closing_sign close) ExpectedCommaOrClose h
 
--- one reader behind another, to a place
+-- one reader after another, to a place
 pub moves_behind : {A : Type 0} (h : Here) (r : Result (A × Here) Stop) (f : A × Here → Result Here Stop) → Advances h r → ((x : A × Here) → Moves x.1 (f x)) → Moves h (r >>= f)
 moves_behind h (Ok x) f a k = moves_from h x.1 (f x) a.ahead (k x)
 moves_behind h (Err stop) f a k = record { ahead = a.ahead }
@@ -82,12 +82,12 @@ string_reaches start close h = (let read = string_read close h in item_reaches h
 pub preamble_reaches : (start : Spot) (close : Closing) (h : Here) → Reaches h (preamble_item start close h).1
 preamble_reaches start close h = (let read = preamble_read close h in item_reaches h start start.line (contents.Preamble read.0) (Some close) read.1 (preamble_moves close h))
 
-pub opened_reaches : (h : Here) (start : Spot) (unread : Content) (read : Closing → Here → Piece × Here) (r : Result (Closing × Here) Stop) → Advances h r → ((close : Closing) (e : Here) → Reaches e (read close e).1) → Reaches h (opened start unread read r).1
+pub opened_reaches : (h : Here) (start : Spot) (unread : Content) (read : Closing → Here → Piece × Here) (r : Result (Closing × Here) Stop) → Advances h r → ((close : Closing) (e : Here) → Reaches e (read close e).1) → Reaches h (item_opened start unread read r).1
 opened_reaches h start unread read (Err stop) a k = a.ahead
 opened_reaches h start unread read (Ok o) a k = reaches_then h o.1 _ a.ahead (reaches_then o.1 (white o.1) _ (white_reaches o.1) (k o.0 (white o.1)))
 
--- behind the type
-pub typed_reaches : (keyword : Keyword) (start : Spot) (kind : List ℕ) (h : Here) → Reaches h (typed keyword start kind h).1
+-- after the type
+pub typed_reaches : (keyword : Keyword) (start : Spot) (kind : List ℕ) (h : Here) → Reaches h (item_of_type keyword start kind h).1
 typed_reaches keywords.Comment start kind h = reaches_self h
 typed_reaches keywords.String start kind h = reaches_then h (white h) _ (white_reaches h) (opened_reaches (white h) start unread_string (string_item start) (opening (white h)) (opening_advances (white h)) (string_reaches start))
 typed_reaches keywords.Preamble start kind h = reaches_then h (white h) _ (white_reaches h) (opened_reaches (white h) start (contents.Preamble None) (preamble_item start) (opening (white h)) (opening_advances (white h)) (preamble_reaches start))
@@ -99,7 +99,7 @@ type_ended_reaches h start kind (Ok e) m = reaches_then h e _ m.ahead (typed_rea
 
 pub type_read_reaches : (h : Here) (start : Spot) (r : Result (List ℕ × Here) Stop) → Advances h r → Reaches h (type_read start r).1
 type_read_reaches h start (Err stop) a = a.ahead
-type_read_reaches h start (Ok w) a = reaches_then h w.1 _ a.ahead (type_ended_reaches w.1 start w.0 (ended EntryType (codes "{(") w.1) (ended_moves EntryType (codes "{(") w.1))
+type_read_reaches h start (Ok w) a = reaches_then h w.1 _ a.ahead (type_ended_reaches w.1 start w.0 (name_ended EntryType (codes "{(") w.1) (ended_moves EntryType (codes "{(") w.1))
 
 pub piece_reaches : (h : Here) → Reaches (behind h) (piece h).1
 unfolding piece

@@ -18,14 +18,14 @@ use Rattle.bt_bib.specs.declared.item.Piece.TheVariants as pieces
 use Rattle.bt_bib.specs.declared.keywords.Keyword.{Keyword}
 use Rattle.bt_bib.specs.declared.keywords.Keyword.TheVariants as keywords
 use Rattle.bt_bib.specs.Spot.{Here, behind}
-use Rattle.bt_bib.specs.Stop.{Stop, ◌>>=◌, given}
+use Rattle.bt_bib.specs.Stop.{Stop, ◌>>=◌, value_read}
 use Rattle.bt_bib.specs.Scan.{first, run, past, white, sign, closing_sign, is_key_byte}
-use Rattle.bt_bib.specs.Names.{word, ended, name}
+use Rattle.bt_bib.specs.Names.{word, name_ended, name}
 use Rattle.bt_bib.specs.Many.{all}
 use Rattle.bt_bib.specs.Values.{value}
 use Rattle.bt_bib.specs.Fields.{next_field, name_ends}
 use Rattle.bt_bib.specs.Keywords.{keyword_of}
-use Rattle.bt_bib.specs.Pieces.{item, unopened, opening, opening_from, closed, entry_item, entry_read, string_item, string_read, name_line, preamble_item, preamble_read, unread_entry, unread_string, opened, typed, type_ended, type_read, piece, is_text, next_piece, next_piece_from}
+use Rattle.bt_bib.specs.Pieces.{item, unopened, opening, opening_from, closed, entry_item, entry_read, string_item, string_read, name_line, preamble_item, preamble_read, unread_entry, unread_string, item_opened, item_of_type, type_ended, type_read, piece, is_text, next_piece, next_piece_from}
 use Rattle.bt_bib.specs.Reading.{next_one}
 use Rattle.bt_bib.specs.Moved.{moved, moved_part, moved_value, moved_field, moved_entry, moved_definition, moved_content, moved_option, moved_piece}
 use Rattle.bt_bib.proofs.ReachLemmas.{Reaches, reaches_then, reaches_place, white_reaches, Advances, moves_from, advances_white, value_advances, next_field_advances, many_moves, word_advances, ended_moves}
@@ -101,7 +101,7 @@ entry_item_alike m limit start kind close h k a =
 
 -- strings
 abbrev defined : Closing → Result (List ℕ × Here) Stop → Result (List Part × Here) Stop → Definition × Result Here Stop
-defined close x u = (record { name = given x; value = given u }, u >>= λ v. closed close v.1)
+defined close x u = (record { name = value_read x; value = value_read u }, u >>= λ v. closed close v.1)
 
 value_alike : (m : Spot) (limit : ℕ) (close : Closing) (n : List ℕ) (e g : Here) (u w : Result (List Part × Here) Stop) → Same m limit (map (moved_part m)) u w → SameRead m limit (moved_definition m) (defined close (Ok (n, e)) u) (defined close (Ok (n, g)) w)
 value_alike m limit close n e g (Err stop) w s = record { alike = λ lt. (let t = s.alike lt in (t.0, ap (defined close (Ok (n, g))) t.1, t.2)) }
@@ -139,7 +139,7 @@ string_item_alike m limit start close h k a =
 
 -- preambles
 abbrev prefaced : Closing → Result (List Part × Here) Stop → Option (List Part) × Result Here Stop
-prefaced close u = (given u, u >>= λ v. closed close v.1)
+prefaced close u = (value_read u, u >>= λ v. closed close v.1)
 
 preamble_alike_by : (m : Spot) (limit : ℕ) (close : Closing) (u w : Result (List Part × Here) Stop) → Same m limit (map (moved_part m)) u w → SameRead m limit (moved_value m) (prefaced close u) (prefaced close w)
 preamble_alike_by m limit close (Err stop) w s = record { alike = λ lt. (let t = s.alike lt in (t.0, ap (prefaced close) t.1, t.2)) }
@@ -172,12 +172,12 @@ unopened_alike m limit start unread stop k still a lt = (
   a,
 )
 
--- what stands behind the opening sign
-opened_alike : (m : Spot) (limit : ℕ) (start : Spot) (unread : Content) (read also : Closing → Here → Piece × Here) (r q : Result (Closing × Here) Stop) → moved_content m unread ≡ unread → Same m limit same_value r q → ((close : Closing) (e : Here) → Reaches e (read close e).1) → ((close : Closing) (e g : Here) → Alike m limit e g → SamePiece m limit (read close e) (also close g)) → SamePiece m limit (opened start unread read r) (opened (moved m start) unread also q)
+-- what stands after the opening sign
+opened_alike : (m : Spot) (limit : ℕ) (start : Spot) (unread : Content) (read also : Closing → Here → Piece × Here) (r q : Result (Closing × Here) Stop) → moved_content m unread ≡ unread → Same m limit same_value r q → ((close : Closing) (e : Here) → Reaches e (read close e).1) → ((close : Closing) (e g : Here) → Alike m limit e g → SamePiece m limit (read close e) (also close g)) → SamePiece m limit (item_opened start unread read r) (item_opened (moved m start) unread also q)
 opened_alike m limit start unread read also (Err stop) q still s ahead step = record {
   alike = λ lt.
       (let t = s.alike lt in
-      let is : opened (moved m start) unread also q ≡ unopened (moved m start) unread (stop.0, t.0) = ap (opened (moved m start) unread also) t.1 in
+      let is : item_opened (moved m start) unread also q ≡ unopened (moved m start) unread (stop.0, t.0) = ap (item_opened (moved m start) unread also) t.1 in
       let u = unopened_alike m limit start unread stop t.0 still t.2 lt in (
         ap (λ (z : Piece × Here). z.0) is ∙ u.0,
         subst (λ z. Alike m limit stop.1 z) (sym (ap (λ (z : Piece × Here). z.1) is)) t.2,
@@ -185,19 +185,19 @@ opened_alike m limit start unread read also (Err stop) q still s ahead step = re
 }
 opened_alike m limit start unread read also (Ok o) q still s ahead step =
     let w = white o.1 in
-    piece_when m limit w (read o.0 w) (opened (moved m start) unread also q) (ahead o.0 w) (λ at_w.
-    piece_when m limit o.1 (read o.0 w) (opened (moved m start) unread also q) (reaches_then o.1 w _ (white_reaches o.1) (ahead o.0 w)) (λ at_o.
+    piece_when m limit w (read o.0 w) (item_opened (moved m start) unread also q) (ahead o.0 w) (λ at_w.
+    piece_when m limit o.1 (read o.0 w) (item_opened (moved m start) unread also q) (reaches_then o.1 w _ (white_reaches o.1) (ahead o.0 w)) (λ at_o.
     let t = s.alike at_o in
-    subst (λ z. SamePiece m limit (read o.0 w) z) (sym (ap (opened (moved m start) unread also) t.1)) (step o.0 w (white t.0) (alike_past m limit is_white o.1 t.0 t.2 at_w))))
+    subst (λ z. SamePiece m limit (read o.0 w) z) (sym (ap (item_opened (moved m start) unread also) t.1)) (step o.0 w (white t.0) (alike_past m limit is_white o.1 t.0 t.2 at_w))))
 
-opening_alike : (m : Spot) (limit : ℕ) (start : Spot) (unread : Content) (read also : Closing → Here → Piece × Here) (h k : Here) → Alike m limit h k → moved_content m unread ≡ unread → ((close : Closing) (e : Here) → Reaches e (read close e).1) → ((close : Closing) (e g : Here) → Alike m limit e g → SamePiece m limit (read close e) (also close g)) → SamePiece m limit (opened start unread read (opening (white h))) (opened (moved m start) unread also (opening (white k)))
+opening_alike : (m : Spot) (limit : ℕ) (start : Spot) (unread : Content) (read also : Closing → Here → Piece × Here) (h k : Here) → Alike m limit h k → moved_content m unread ≡ unread → ((close : Closing) (e : Here) → Reaches e (read close e).1) → ((close : Closing) (e g : Here) → Alike m limit e g → SamePiece m limit (read close e) (also close g)) → SamePiece m limit (item_opened start unread read (opening (white h))) (item_opened (moved m start) unread also (opening (white k)))
 opening_alike m limit start unread read also h k a still ahead step =
     let w = white h in
-    piece_when m limit w (opened start unread read (opening w)) (opened (moved m start) unread also (opening (white k))) (opened_reaches w start unread read (opening w) (opening_advances w) ahead) (λ lt.
+    piece_when m limit w (item_opened start unread read (opening w)) (item_opened (moved m start) unread also (opening (white k))) (opened_reaches w start unread read (opening w) (opening_advances w) ahead) (λ lt.
     opened_alike m limit start unread read also (opening w) (opening (white k)) still (opening_same m limit w (white k) (alike_past m limit is_white h k a lt)) ahead step)
 
--- what stands behind the type
-typed_alike : (m : Spot) (limit : ℕ) (keyword : Keyword) (start : Spot) (kind : List ℕ) (h k : Here) → Alike m limit h k → SamePiece m limit (typed keyword start kind h) (typed keyword (moved m start) kind k)
+-- what stands after the type
+typed_alike : (m : Spot) (limit : ℕ) (keyword : Keyword) (start : Spot) (kind : List ℕ) (h k : Here) → Alike m limit h k → SamePiece m limit (item_of_type keyword start kind h) (item_of_type keyword (moved m start) kind k)
 typed_alike m limit keywords.Comment start kind h k a = record { alike = λ _. (ap (λ (u : Spot). pieces.Comment (moved m start) u) a.spot, a) }
 typed_alike m limit keywords.String start kind h k a = opening_alike m limit start unread_string (string_item start) (string_item (moved m start)) h k a refl (string_reaches start) (string_item_alike m limit start)
 typed_alike m limit keywords.Preamble start kind h k a = opening_alike m limit start (contents.Preamble None) (preamble_item start) (preamble_item (moved m start)) h k a refl (preamble_reaches start) (preamble_item_alike m limit start)
@@ -214,9 +214,9 @@ type_ended_alike m limit start kind (Err stop) q s = record {
       ));
 }
 type_ended_alike m limit start kind (Ok e) q s =
-    piece_when m limit e (typed (keyword_of kind) start kind e) (type_ended (moved m start) kind q) (typed_reaches (keyword_of kind) start kind e) (λ lt.
+    piece_when m limit e (item_of_type (keyword_of kind) start kind e) (type_ended (moved m start) kind q) (typed_reaches (keyword_of kind) start kind e) (λ lt.
     let t = s.alike lt in
-    subst (λ z. SamePiece m limit (typed (keyword_of kind) start kind e) z) (sym (ap (type_ended (moved m start) kind) t.1)) (typed_alike m limit (keyword_of kind) start kind e t.0 t.2))
+    subst (λ z. SamePiece m limit (item_of_type (keyword_of kind) start kind e) z) (sym (ap (type_ended (moved m start) kind) t.1)) (typed_alike m limit (keyword_of kind) start kind e t.0 t.2))
 
 type_read_alike : (m : Spot) (limit : ℕ) (start : Spot) (r q : Result (List ℕ × Here) Stop) → Same m limit same_value r q → SamePiece m limit (type_read start r) (type_read (moved m start) q)
 type_read_alike m limit start (Err stop) q s = record {
@@ -230,10 +230,10 @@ type_read_alike m limit start (Err stop) q s = record {
 }
 type_read_alike m limit start (Ok n) q s =
     let signs = codes "{(" in
-    let ended_here = ended EntryType signs n.1 in
+    let ended_here = name_ended EntryType signs n.1 in
     piece_when m limit n.1 (type_ended start n.0 ended_here) (type_read (moved m start) q) (type_ended_reaches n.1 start n.0 ended_here (ended_moves EntryType signs n.1)) (λ lt.
     let t = s.alike lt in
-    subst (λ z. SamePiece m limit (type_ended start n.0 ended_here) z) (sym (ap (type_read (moved m start)) t.1)) (type_ended_alike m limit start n.0 ended_here (ended EntryType signs t.0) (ended_same m limit EntryType signs n.1 t.0 t.2)))
+    subst (λ z. SamePiece m limit (type_ended start n.0 ended_here) z) (sym (ap (type_read (moved m start)) t.1)) (type_ended_alike m limit start n.0 ended_here (name_ended EntryType signs t.0) (ended_same m limit EntryType signs n.1 t.0 t.2)))
 
 pub piece_same : (m : Spot) (limit : ℕ) (h k : Here) → h.spot.place < limit → Alike m limit h k → SamePiece m limit (piece h) (piece k)
 unfolding piece

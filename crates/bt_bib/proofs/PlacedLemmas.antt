@@ -12,13 +12,16 @@ use Rattle.bt_bib.specs.declared.item.Content.{Content}
 use Rattle.bt_bib.specs.declared.item.Content.TheVariants as contents
 use Rattle.bt_bib.specs.declared.item.Piece.{Piece}
 use Rattle.bt_bib.specs.declared.item.Piece.TheVariants as pieces
-use Rattle.bt_bib.specs.Spot.{Here, at, here, start, behind, IsIn, IsAhead}
+use Rattle.bt_bib.specs.Spot.{Here, at, here, start, behind}
+use Rattle.bt_bib.specs.inner.Spot.{IsIn, IsAhead}
 use Rattle.bt_bib.specs.Pieces.{piece}
 use Rattle.bt_bib.specs.Reading.{pieces_from, pieces_of}
 use Rattle.bt_bib.specs.Moved.{nowhere, moved, moved_part, moved_value, moved_field, moved_content, moved_piece}
 use Rattle.bt_bib.specs.Boundaries.{start_of, end_of, last_end}
-use Rattle.bt_bib.specs.Moving.{rebased, rebased_part, rebased_value, rebased_field, rebased_content, rebased_piece, FitsPart, FitsSpot, FitsValue, FitsField, FitsContent, FitsPiece}
-use Rattle.bt_bib.specs.Placed.{IsPlaced, BeginsBehind}
+use Rattle.bt_bib.specs.Moving.{FitsPart, FitsSpot, FitsValue, FitsField, FitsContent, FitsPiece}
+use Rattle.bt_bib.specs.inner.Moving.{rebased, rebased_part, rebased_value, rebased_field, rebased_content, rebased_piece}
+use Rattle.bt_bib.specs.Placed.{IsPlaced}
+use Rattle.bt_bib.specs.inner.Placed.{BeginsBehind}
 use Rattle.bt_bib.proofs.RunLemmas.{same_spot}
 use Rattle.bt_bib.proofs.ReachLemmas.{Reaches, reaches_then, behind_reaches}
 use Rattle.bt_bib.proofs.PieceLemmas.{piece_reaches}
@@ -192,7 +195,7 @@ read_apart text s e p lt i is =
       placed = record { begins = begins; ends = ap (moved s) ends; fits = fits_piece (length text + 1) nowhere s lt p small };
     }
 
--- what stands behind a boundary of a text begins behind it
+-- what stands after a boundary of a text begins after it
 every : {A : Type 0} (P : A → Type 0) → ((x : A) → P x) → (xs : List A) → AllByRecursion P xs
 every P k [] = tt
 every P k (x ∷ xs) = (k x, every P k xs)

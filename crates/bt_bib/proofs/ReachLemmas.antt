@@ -16,8 +16,9 @@ use Rattle.bt_bib.specs.declared.item.Part.TheVariants.{Text, Macro}
 use Rattle.bt_bib.specs.Spot.{Here, at, after, passed, behind, behind_first}
 use Rattle.bt_bib.specs.Stop.{Stop, ◌>>=◌}
 use Rattle.bt_bib.specs.Scan.{run, past, white, first, sign, sign_from, closing_sign}
-use Rattle.bt_bib.specs.Enclosed.{enclosed, turn}
-use Rattle.bt_bib.specs.Names.{word, word_from, ended, ended_from, name}
+use Rattle.bt_bib.specs.Enclosed.{enclosed}
+use Rattle.bt_bib.specs.inner.Enclosed.{turn}
+use Rattle.bt_bib.specs.Names.{word, word_from, name_ended, ended_from, name}
 use Rattle.bt_bib.specs.Many.{many, many_by, all, collected}
 use Rattle.bt_bib.specs.Values.{raw_part, part_from, part, part_ends, joined, joined_from, value}
 use Rattle.bt_bib.specs.Fields.{field, field_or_close, next_field, next_field_from, name_ends}
@@ -165,13 +166,13 @@ pub ended_moves_from : (what : What) (signs : List ℕ) (h : Here) (o : Option �
 ended_moves_from what signs h None = search (moves_ok, reaches_self)
 ended_moves_from what signs h (Some b) = search (moves_if, moves_ok, moves_err, reaches_self)
 
-pub ended_moves : (what : What) (signs : List ℕ) (h : Here) → Moves h (ended what signs h)
-unfolding ended
+pub ended_moves : (what : What) (signs : List ℕ) (h : Here) → Moves h (name_ended what signs h)
+unfolding name_ended
 ended_moves what signs h = ended_moves_from what signs h (first h.rest)
 
 pub name_advances : (what : What) (signs : List ℕ) (h : Here) → Advances h (name what signs h)
 unfolding name
-name_advances what signs h = advances_bind h (word what h) (λ w. ended what signs w.1 >>= λ end. Ok (w.0, end)) (word_advances what h) (λ w. moves_bind w.1 (ended what signs w.1) (λ end. Ok (w.0, end)) (ended_moves what signs w.1) (λ e. advances_ok e e w.0 (reaches_self e)))
+name_advances what signs h = advances_bind h (word what h) (λ w. name_ended what signs w.1 >>= λ end. Ok (w.0, end)) (word_advances what h) (λ w. moves_bind w.1 (name_ended what signs w.1) (λ end. Ok (w.0, end)) (ended_moves what signs w.1) (λ e. advances_ok e e w.0 (reaches_self e)))
 
 pub sign_moves_from : (c : ℕ) (fault : Fault) (h : Here) (o : Option ℕ) → Moves h (sign_from c fault h o)
 sign_moves_from c fault h None = search (moves_err, reaches_self)
@@ -187,7 +188,7 @@ advances_behind h r a = advances_from h (behind h) r (behind_reaches h) a
 pub advances_white : {A : Type 0} (h : Here) (r : Result (A × Here) Stop) → Advances (white h) r → Advances h r
 advances_white h r a = advances_from h (white h) r (white_reaches h) a
 
--- behind an opening sign, what it encloses and the closing one
+-- after an opening sign, what it encloses and the closing one
 pub shut_advances : (close : ℕ) (h : Here) → Advances (behind h) (enclosed close (behind h) >>= λ x. Ok (Text x.0, behind x.1))
 shut_advances close h = advances_bind (behind h) (enclosed close (behind h)) (λ x. Ok (Text x.0, behind x.1)) (enclosed_advances close (behind h)) (λ x. advances_ok x.1 (behind x.1) (Text x.0) (behind_reaches x.1))
 

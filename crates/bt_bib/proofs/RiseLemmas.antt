@@ -16,11 +16,12 @@ use Rattle.bt_bib.specs.declared.keywords.Keyword.TheVariants as keywords
 use Rattle.bt_bib.specs.Spot.{Here, at, here, start, behind}
 use Rattle.bt_bib.specs.Stop.{Stop}
 use Rattle.bt_bib.specs.Scan.{first, past, white}
-use Rattle.bt_bib.specs.Names.{word, ended}
+use Rattle.bt_bib.specs.Names.{word, name_ended}
 use Rattle.bt_bib.specs.Keywords.{keyword_of}
-use Rattle.bt_bib.specs.Pieces.{item, opening, entry_item, entry_read, string_item, string_read, preamble_item, preamble_read, unread_entry, unread_string, opened, typed, type_ended, type_read, piece, is_text, next_piece, next_piece_from}
+use Rattle.bt_bib.specs.Pieces.{item, opening, entry_item, entry_read, string_item, string_read, preamble_item, preamble_read, unread_entry, unread_string, item_opened, item_of_type, type_ended, type_read, piece, is_text, next_piece, next_piece_from}
 use Rattle.bt_bib.specs.Reading.{pieces_from, pieces_of}
-use Rattle.bt_bib.specs.Boundaries.{start_of, end_of, end_place, last_end, below, boundaries, Rises}
+use Rattle.bt_bib.specs.Boundaries.{start_of, end_of, last_end, boundaries, Rises}
+use Rattle.bt_bib.specs.inner.Boundaries.{end_place, below}
 use Rattle.bt_bib.specs.Splice.{greatest, least, is_boundary}
 use Rattle.bt_bib.proofs.ReachLemmas.{Reaches, reaches_place, reaches_sum, past_reaches}
 use Rattle.bt_bib.proofs.ManyLemmas.{IsLess}
@@ -32,11 +33,11 @@ item_start : (s : Spot) (line : ℕ) (content : Content) (close : Option Closing
 item_start s line content close (Ok e) = refl
 item_start s line content close (Err stop) = refl
 
-opened_start : (s : Spot) (unread : Content) (read : Closing → Here → Piece × Here) (r : Result (Closing × Here) Stop) → ((close : Closing) (e : Here) → start_of (read close e).0 ≡ s) → start_of (opened s unread read r).0 ≡ s
+opened_start : (s : Spot) (unread : Content) (read : Closing → Here → Piece × Here) (r : Result (Closing × Here) Stop) → ((close : Closing) (e : Here) → start_of (read close e).0 ≡ s) → start_of (item_opened s unread read r).0 ≡ s
 opened_start s unread read (Err stop) k = refl
 opened_start s unread read (Ok o) k = k o.0 (white o.1)
 
-typed_start : (keyword : Keyword) (s : Spot) (kind : List ℕ) (h : Here) → start_of (typed keyword s kind h).0 ≡ s
+typed_start : (keyword : Keyword) (s : Spot) (kind : List ℕ) (h : Here) → start_of (item_of_type keyword s kind h).0 ≡ s
 typed_start keywords.Comment s kind h = refl
 typed_start keywords.String s kind h = opened_start s unread_string (string_item s) (opening (white h)) (λ close e. item_start s _ _ (Some close) (string_read close e).1)
 typed_start keywords.Preamble s kind h = opened_start s (contents.Preamble None) (preamble_item s) (opening (white h)) (λ close e. item_start s _ _ (Some close) (preamble_read close e).1)
@@ -48,13 +49,13 @@ type_ended_start s kind (Ok h) = typed_start (keyword_of kind) s kind h
 
 type_read_start : (s : Spot) (r : Result (List ℕ × Here) Stop) → start_of (type_read s r).0 ≡ s
 type_read_start s (Err stop) = refl
-type_read_start s (Ok w) = type_ended_start s w.0 (ended EntryType (codes "{(") w.1)
+type_read_start s (Ok w) = type_ended_start s w.0 (name_ended EntryType (codes "{(") w.1)
 
 pub piece_starts : (h : Here) → start_of (piece h).0 ≡ h.spot
 unfolding piece
 piece_starts h = type_read_start h.spot (word EntryType (white (behind h)))
 
--- the next piece lies behind the place from which it was sought
+-- the next piece lies after the place from which it was sought
 abbrev SpanAhead : Here → Option Piece × Here → Type 0
 SpanAhead h (None, e) = Unit {0}
 SpanAhead h (Some p, e) = (h.spot.place ≤ (start_of p).place) × ((start_of p).place < e.spot.place)

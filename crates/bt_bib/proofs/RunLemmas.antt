@@ -8,7 +8,7 @@ use Rattle.bt_bib.specs.declared.spot.Spot.{Spot}
 use Rattle.bt_bib.specs.Spot.{Here, at, here, after, passed, beyond, is_line_end}
 use Rattle.bt_bib.specs.Scan.{past, run}
 
--- behind the longest run of bytes that pass a test, a byte at a time
+-- after the longest run of bytes that pass a test, a byte at a time
 unfoldable pub past_run : (ℕ → Bool) → Spot → List ℕ → Here
 past_run test s [] = at s []
 past_run test s (b ∷ rest) = cond (test b) (past_run test (after b s) rest) (at s (b ∷ rest))

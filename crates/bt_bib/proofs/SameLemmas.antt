@@ -15,8 +15,9 @@ use Rattle.bt_bib.specs.declared.item.Part.TheVariants.{Text, Macro}
 use Rattle.bt_bib.specs.Spot.{Here, at, after, behind}
 use Rattle.bt_bib.specs.Stop.{Stop, ◌>>=◌}
 use Rattle.bt_bib.specs.Scan.{first, run, past, white, sign, sign_from}
-use Rattle.bt_bib.specs.Enclosed.{enclosed, turn}
-use Rattle.bt_bib.specs.Names.{word, word_from, ended, ended_from, name}
+use Rattle.bt_bib.specs.Enclosed.{enclosed}
+use Rattle.bt_bib.specs.inner.Enclosed.{turn}
+use Rattle.bt_bib.specs.Names.{word, word_from, name_ended, ended_from, name}
 use Rattle.bt_bib.specs.Values.{raw_part, part_from, part, part_ends}
 use Rattle.bt_bib.specs.Moved.{moved_part}
 use Rattle.bt_bib.proofs.EnclosedLemmas.{between, enclosed_run, enclosed_is_run}
@@ -82,7 +83,7 @@ find_bind m limit g (Ok x) y r q s adv step =
     let t = s.alike lt in
     subst (λ z. Same m limit g (r x) z) (sym (ap (λ z. z >>= q) t.1)) (step x t.0 t.2 refl))
 
--- behind braces or quotes
+-- after braces or quotes
 enclosed_same_run : (m : Spot) (limit close d : ℕ) (s t : Spot) (r q : List ℕ) → s.place < limit → Alike m limit (at s r) (at t q) → SameFind m limit (enclosed_run close d s r) (enclosed_run close d t q)
 unfolding enclosed_run
 enclosed_same_run m limit close d s t [] [] lt a = find_err m limit EndOfFile (at s []) (at t []) (λ _. a)
@@ -140,15 +141,15 @@ ended_same_from : (m : Spot) (limit : ℕ) (what : What) (signs : List ℕ) (h k
 ended_same_from m limit what signs h k None a = find_ok m limit h k (λ _. a)
 ended_same_from m limit what signs h k (Some b) a = find_if m limit _ _ _ _ _ (find_ok m limit h k (λ _. a)) (find_err m limit (BadNameEnd what b) h k (λ _. a))
 
-pub ended_same : (m : Spot) (limit : ℕ) (what : What) (signs : List ℕ) (h k : Here) → Alike m limit h k → SameFind m limit (ended what signs h) (ended what signs k)
-unfolding ended
+pub ended_same : (m : Spot) (limit : ℕ) (what : What) (signs : List ℕ) (h k : Here) → Alike m limit h k → SameFind m limit (name_ended what signs h) (name_ended what signs k)
+unfolding name_ended
 ended_same m limit what signs h k a = find_when m limit h (ended_from what signs h (first h.rest)) (ended_from what signs k (first k.rest)) (ended_moves_from what signs h (first h.rest)) (λ lt.
     subst (λ o. SameFind m limit (ended_from what signs h (first h.rest)) (ended_from what signs k o)) (sym (alike_first m limit h k lt a)) (ended_same_from m limit what signs h k (first h.rest) a))
 
 pub name_same : (m : Spot) (limit : ℕ) (what : What) (signs : List ℕ) (h k : Here) → Alike m limit h k → Same m limit same_value (name what signs h) (name what signs k)
 unfolding name
-name_same m limit what signs h k a = same_bind m limit same_value same_value (word what h) (word what k) (λ w. ended what signs w.1 >>= λ end. Ok (w.0, end)) (λ w. ended what signs w.1 >>= λ end. Ok (w.0, end)) (word_same m limit what h k a) (λ w. moves_bind w.1 (ended what signs w.1) (λ end. Ok (w.0, end)) (ended_moves what signs w.1) (λ e. advances_ok e e w.0 (reaches_self e))) (λ w e g c is.
-    find_bind m limit same_value (ended what signs e) (ended what signs g) (λ end. Ok (w, end)) (λ end. Ok (w, end)) (ended_same m limit what signs e g c) (λ x. advances_ok x x w (reaches_self x)) (λ x y d found.
+name_same m limit what signs h k a = same_bind m limit same_value same_value (word what h) (word what k) (λ w. name_ended what signs w.1 >>= λ end. Ok (w.0, end)) (λ w. name_ended what signs w.1 >>= λ end. Ok (w.0, end)) (word_same m limit what h k a) (λ w. moves_bind w.1 (name_ended what signs w.1) (λ end. Ok (w.0, end)) (ended_moves what signs w.1) (λ e. advances_ok e e w.0 (reaches_self e))) (λ w e g c is.
+    find_bind m limit same_value (name_ended what signs e) (name_ended what signs g) (λ end. Ok (w, end)) (λ end. Ok (w, end)) (ended_same m limit what signs e g c) (λ x. advances_ok x x w (reaches_self x)) (λ x y d found.
     same_ok m limit same_value w w x y refl (λ _. d)))
 
 sign_same_from : (m : Spot) (limit c : ℕ) (fault : Fault) (h k : Here) (o : Option ℕ) → h.spot.place < limit → Alike m limit h k → SameFind m limit (sign_from c fault h o) (sign_from c fault k o)
@@ -160,7 +161,7 @@ unfolding sign
 sign_same m limit c fault h k a = find_when m limit h (sign_from c fault h (first h.rest)) (sign_from c fault k (first k.rest)) (sign_moves_from c fault h (first h.rest)) (λ lt.
     subst (λ o. SameFind m limit (sign_from c fault h (first h.rest)) (sign_from c fault k o)) (sym (alike_first m limit h k lt a)) (sign_same_from m limit c fault h k (first h.rest) lt a))
 
--- what stands in braces or quotes, behind the byte that opens it
+-- what stands in braces or quotes, after the byte that opens it
 shut_same : (m : Spot) (limit close : ℕ) (h k : Here) → Alike m limit h k → Same m limit (moved_part m) (enclosed close h >>= λ x. Ok (Text x.0, behind x.1)) (enclosed close k >>= λ x. Ok (Text x.0, behind x.1))
 shut_same m limit close h k a =
     same_bind m limit same_value (moved_part m) (enclosed close h) (enclosed close k) (λ x. Ok (Text x.0, behind x.1)) (λ x. Ok (Text x.0, behind x.1)) (enclosed_same m limit close h k a) (λ x. advances_ok x.1 (behind x.1) (Text x.0) (behind_reaches x.1)) (λ t e f b is.

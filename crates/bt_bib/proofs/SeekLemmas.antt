@@ -39,7 +39,7 @@ jumps hit text hay s end r n same found is ends =
     let run : front ≡ take n rest = run_found hit rest r n (subst (λ (x : List ℕ). IsFirstByte hit x r) same found) (is ∙ ap (λ (x : List ℕ). unwrap_or r (length x)) same) in
     ap (here text) (ends ∙ ap (λ t. passed t s) (sym run)) ∙ ap (at (passed front s)) (sym (drop-drop (length front) s.place text))
 
--- as many hits as behind a place before which there is none
+-- as many hits as after a place before which there is none
 count_behind : (hit : ℕ → Bool) (k : ℕ) (bs : List ℕ) → ((j : ℕ) → j < k → hit (get_or bs j 0) ≡ true → ⊥) → k ≤ length bs → count_by hit bs ≡ count_by hit (drop k bs)
 count_behind hit zero bs n le = refl
 count_behind hit (suc k) [] n le = absurd (omega arith)

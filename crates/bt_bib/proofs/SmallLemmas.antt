@@ -20,17 +20,18 @@ use Rattle.bt_bib.specs.declared.item.Piece.TheVariants as pieces
 use Rattle.bt_bib.specs.declared.keywords.Keyword.{Keyword}
 use Rattle.bt_bib.specs.declared.keywords.Keyword.TheVariants as keywords
 use Rattle.bt_bib.specs.Spot.{Here, here, start, is_line_end, behind}
-use Rattle.bt_bib.specs.Stop.{Stop, ◌>>=◌, given}
+use Rattle.bt_bib.specs.Stop.{Stop, ◌>>=◌, value_read}
 use Rattle.bt_bib.specs.Scan.{first, run, past, white, sign, closing_sign, is_key_byte}
 use Rattle.bt_bib.specs.Enclosed.{enclosed}
-use Rattle.bt_bib.specs.Names.{word, ended, name}
+use Rattle.bt_bib.specs.Names.{word, name_ended, name}
 use Rattle.bt_bib.specs.Many.{many, many_by, all, collected}
 use Rattle.bt_bib.specs.Values.{raw_part, part_from, part, part_ends, joined, joined_from, value}
 use Rattle.bt_bib.specs.Fields.{field, field_or_close, next_field, next_field_from, name_ends}
 use Rattle.bt_bib.specs.Keywords.{keyword_of}
-use Rattle.bt_bib.specs.Pieces.{item, opening, entry_item, entry_read, string_item, string_read, name_line, preamble_item, preamble_read, unread_entry, unread_string, opened, typed, type_ended, type_read, piece, is_text, next_piece, next_piece_from}
+use Rattle.bt_bib.specs.Pieces.{item, opening, entry_item, entry_read, string_item, string_read, name_line, preamble_item, preamble_read, unread_entry, unread_string, item_opened, item_of_type, type_ended, type_read, piece, is_text, next_piece, next_piece_from}
 use Rattle.bt_bib.specs.Reading.{next_one, pieces_of}
-use Rattle.bt_bib.specs.Moving.{rebased, rebased_value, rebased_content, rebased_part, rebased_field, rebased_piece, FitsPart, FitsSpot, FitsValue, FitsField, FitsContent, FitsPiece}
+use Rattle.bt_bib.specs.Moving.{FitsPart, FitsSpot, FitsValue, FitsField, FitsContent, FitsPiece}
+use Rattle.bt_bib.specs.inner.Moving.{rebased, rebased_value, rebased_content, rebased_part, rebased_field, rebased_piece}
 use Rattle.bt_bib.proofs.ReachLemmas.{Reaches, reaches_sum, behind_reaches, past_reaches, white_reaches, Advances, Moves, enclosed_advances, word_advances, ended_moves, name_advances, sign_moves, part_advances, joined_advances, value_advances, field_advances, next_field_advances, raw_part_advances_from}
 use Rattle.bt_bib.proofs.PieceLemmas.{opening_advances, entry_moves, string_moves, preamble_moves, equalled, valued, next_piece_reaches}
 
@@ -176,7 +177,7 @@ entry_small n s kind close h p b =
     let read = entry_read kind close h in
     item_small n s h.spot.line (contents.Entry read.0) (Some close) h read.1 p (small_spot n h b).1 (many_small n (SmallField n) (next_field close) (next_field_advances close) (next_field_small n close) (suc (length w.rest)) w bw) b (entry_moves kind close h)
 
-given_small : (n : ℕ) (r : Result (List Part × Here) Stop) → OkIs (AllByRecursion (SmallPart n)) r → SmallValue n (given r)
+given_small : (n : ℕ) (r : Result (List Part × Here) Stop) → OkIs (AllByRecursion (SmallPart n)) r → SmallValue n (value_read r)
 given_small n (Ok x) p = p
 given_small n (Err x) p = tt
 
@@ -200,11 +201,11 @@ preamble_small n s close h p b =
     let read = preamble_read close h in
     item_small n s s.line (contents.Preamble read.0) (Some close) h read.1 p p.1 (given_small n (value close h) (value_small n close h b)) b (preamble_moves close h)
 
-opened_small : (n : ℕ) (s : Spot) (unread : Content) (read : Closing → Here → Piece × Here) (h : Here) (r : Result (Closing × Here) Stop) → SmallSpot n s → SmallContent n unread → Bound n h → Advances h r → ((close : Closing) (e : Here) → Bound n e → SmallPiece n (read close e).0) → SmallPiece n (opened s unread read r).0
+opened_small : (n : ℕ) (s : Spot) (unread : Content) (read : Closing → Here → Piece × Here) (h : Here) (r : Result (Closing × Here) Stop) → SmallSpot n s → SmallContent n unread → Bound n h → Advances h r → ((close : Closing) (e : Here) → Bound n e → SmallPiece n (read close e).0) → SmallPiece n (item_opened s unread read r).0
 opened_small n s unread read h (Err x) p u b a k = (p, small_spot n x.1 (bound n h x.1 a.ahead b), p.1, u)
 opened_small n s unread read h (Ok o) p u b a k = k o.0 (white o.1) (bound n o.1 (white o.1) (white_reaches o.1) (bound n h o.1 a.ahead b))
 
-typed_small : (n : ℕ) (keyword : Keyword) (s : Spot) (kind : List ℕ) (h : Here) → SmallSpot n s → Bound n h → SmallPiece n (typed keyword s kind h).0
+typed_small : (n : ℕ) (keyword : Keyword) (s : Spot) (kind : List ℕ) (h : Here) → SmallSpot n s → Bound n h → SmallPiece n (item_of_type keyword s kind h).0
 typed_small n keywords.Comment s kind h p b = (p, small_spot n h b)
 typed_small n keywords.String s kind h p b = opened_small n s unread_string (string_item s) (white h) (opening (white h)) p tt (bound n h (white h) (white_reaches h) b) (opening_advances (white h)) (λ close e be. string_small n s close e p be)
 typed_small n keywords.Preamble s kind h p b = opened_small n s (contents.Preamble None) (preamble_item s) (white h) (opening (white h)) p tt (bound n h (white h) (white_reaches h) b) (opening_advances (white h)) (λ close e be. preamble_small n s close e p be)
@@ -216,7 +217,7 @@ type_ended_small n s kind h (Ok e) p b m = typed_small n (keyword_of kind) s kin
 
 type_read_small : (n : ℕ) (s : Spot) (h : Here) (r : Result (List ℕ × Here) Stop) → SmallSpot n s → Bound n h → Advances h r → SmallPiece n (type_read s r).0
 type_read_small n s h (Err x) p b a = (p, small_spot n x.1 (bound n h x.1 a.ahead b), p.1, tt)
-type_read_small n s h (Ok w) p b a = type_ended_small n s w.0 w.1 (ended EntryType (codes "{(") w.1) p (bound n h w.1 a.ahead b) (ended_moves EntryType (codes "{(") w.1)
+type_read_small n s h (Ok w) p b a = type_ended_small n s w.0 w.1 (name_ended EntryType (codes "{(") w.1) p (bound n h w.1 a.ahead b) (ended_moves EntryType (codes "{(") w.1)
 
 pub piece_small : (n : ℕ) (h : Here) → Bound n h → SmallPiece n (piece h).0
 unfolding piece

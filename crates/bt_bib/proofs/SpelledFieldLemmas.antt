@@ -17,7 +17,8 @@ use Rattle.bt_bib.specs.Spot.{Here, at, passed, behind}
 use Rattle.bt_bib.specs.Scan.{first, white, sign, closing_sign}
 use Rattle.bt_bib.specs.Stop.{Stop, ◌>>=◌}
 use Rattle.bt_bib.specs.Names.{name}
-use Rattle.bt_bib.specs.Many.{all, gathered}
+use Rattle.bt_bib.specs.Many.{all}
+use Rattle.bt_bib.specs.inner.Many.{gathered}
 use Rattle.bt_bib.specs.Values.{value}
 use Rattle.bt_bib.specs.Fields.{field, field_or_close, next_field, next_field_from, name_ends}
 use Rattle.bt_bib.specs.Spelling.{Spelling, ◌▸◌, ◌⋯◌, White, Sign}
@@ -29,7 +30,7 @@ use Rattle.bt_bib.proofs.CutLemmas.{Begins, begins_as, Fails}
 use Rattle.bt_bib.proofs.SpellingLemmas.{Stands, stands_at, split, either, on_line, sign_stands, sign_to, white_to, white_front, ends_from, one_begins, Starts, starts_both, starts_or, starts_bytes, begins_here, IsOne, MayEnd, may_white, may_one, FailsAll, one_fails, other, name_to}
 use Rattle.bt_bib.proofs.SpelledValueLemmas.{name_unwhite, name_starts, value_starts, value_to}
 
--- `name =`, and what stands behind it
+-- `name =`, and what stands after it
 pub record Equated (what : What) (n : List ℕ) (V : Spelling) (h k : Here) : Type 0 where
   pub end : Here
   pub equals : Here
@@ -57,7 +58,7 @@ equated what n V h k starts x =
       stands = four.back;
     }
 
--- a field, and the white space behind it
+-- a field, and the white space after it
 abbrev pub with_value : ℕ → List ℕ → List Part × Here → Result (Field × Here) Stop
 with_value line n v = Ok (record { name = n; line = line; value = v.0 }, v.1)
 
@@ -128,7 +129,7 @@ last_read close h k x =
     let one = sign_stands (closing_sign close) h k x in
     ap (next_field_from close h) one.first ∙ last_from close h ∙ ap (λ q. Ok (None, q)) one.behind
 
--- behind a comma and white space
+-- after a comma and white space
 comma_read : (close : Closing) (h a w : Here) → Stands (Sign 44) h a → Stands White a w → Begins (Fails is_white) w.rest → next_field close h ≡ field_or_close close w (first w.rest)
 unfolding next_field
 comma_read close h a w x space b =

@@ -22,12 +22,12 @@ use Rattle.bt_bib.specs.declared.keywords.Keyword.{Keyword}
 use Rattle.bt_bib.specs.declared.keywords.Keyword.TheVariants as keywords
 use Rattle.bt_bib.specs.Spot.{Here, at, start, passed, behind}
 use Rattle.bt_bib.specs.Scan.{run, past, white, sign, closing_sign, is_key_byte}
-use Rattle.bt_bib.specs.Stop.{Stop, ◌>>=◌, given}
+use Rattle.bt_bib.specs.Stop.{Stop, ◌>>=◌, value_read}
 use Rattle.bt_bib.specs.Names.{word, name}
 use Rattle.bt_bib.specs.Many.{all}
 use Rattle.bt_bib.specs.Values.{value}
 use Rattle.bt_bib.specs.Fields.{next_field}
-use Rattle.bt_bib.specs.Pieces.{item, opening, opening_from, closed, entry_read, entry_item, name_line, string_read, string_item, preamble_read, preamble_item, opened, typed, type_ended, type_read, piece, unread_entry, unread_string}
+use Rattle.bt_bib.specs.Pieces.{item, opening, opening_from, closed, entry_read, entry_item, name_line, string_read, string_item, preamble_read, preamble_item, item_opened, item_of_type, type_ended, type_read, piece, unread_entry, unread_string}
 use Rattle.bt_bib.specs.Spelling.{Spelling, ◌▸◌, ◌⋯◌, Bytes, Written, White, Sign, OnLine, Provided, MayEndName}
 use Rattle.bt_bib.specs.Spelled.{NameOf, ValueOf, FieldsOf, EndsKey, Keyed, opening_sign, IsWord, Head, AnEntry, AString, APreamble}
 use Rattle.bt_bib.specs.SpelledLaws.{SpelledItemsAreRead, value_ends}
@@ -55,7 +55,7 @@ provided IsRight A h k x = record { text = x.text; spelled = x.spelled.1; rest =
 key_ends : (close : Closing) (A : Spelling) (h k : Here) → Stands (Provided (EndsKey close) A) h k → Begins (Fails (is_key_byte close)) h.rest
 key_ends close A h k x = subst (Begins (Fails (is_key_byte close))) (sym x.rest) (begins_on x.text k.rest (ends_key close x.text x.spelled.0))
 
--- a key, and behind it and the white space what follows
+-- a key, and after it and the white space what follows
 record KeyRead (close : Closing) (key : List ℕ) (A : Spelling) (h k : Here) : Type 0 where
   inside : Here
   run : run (is_key_byte close) h ≡ key
@@ -125,14 +125,14 @@ right_at text IsRight s t (Written is) = is
 is_word : (keyword : Keyword) (text : List ℕ) (h k : Here) → Stands (Bytes text (IsWord keyword text)) h k → IsWord keyword text
 is_word keyword text h k x = right_at text (IsWord keyword text) h.spot x.text x.spelled
 
--- from `@` on, by what stands behind its word
-pub typed_by : (keyword : Keyword) (text : List ℕ) (s : Spot) (b k : Here) → Stands (Bytes text (IsWord keyword text)) b k → MayEndName type_signs k.rest → type_read s (word EntryType b) ≡ typed keyword s text k
+-- from `@` on, by what stands after its word
+pub typed_by : (keyword : Keyword) (text : List ℕ) (s : Spot) (b k : Here) → Stands (Bytes text (IsWord keyword text)) b k → MayEndName type_signs k.rest → type_read s (word EntryType b) ≡ item_of_type keyword s text k
 typed_by keyword text s b k x ends =
     ap (type_read s) (standing (Bytes text (IsWord keyword text)) (λ h k. MayEndName type_signs k.rest → word EntryType h ≡ Ok (text, k)) (word_at keyword text) b k x ends)
     ∙ ap (type_ended s text) (ended_to EntryType type_signs k.spot k.rest ends)
-    ∙ ap (λ w. typed w s text k) (is_word keyword text b k x).1
+    ∙ ap (λ w. item_of_type w s text k) (is_word keyword text b k x).1
 
--- `@`, and behind white space what stands there
+-- `@`, and after white space what stands there
 pub at_sign_to : (A : Spelling) (h k : Here) → Starts (Fails is_white) A → Stands (Sign 64 ⋯ A) h k → (mid : Here) × (white (behind h) ≡ mid) × Stands A mid k
 at_sign_to A h k starts x =
     let one = split (Sign 64) (White ▸ A) h k x in
@@ -144,12 +144,12 @@ pub word_starts : (keyword : Keyword) (text : List ℕ) → Starts (Fails is_whi
 word_starts keyword [] s t (Written is) = absurd (false≢true is.0)
 word_starts keyword (b ∷ bs) s t x = starts_bytes (Fails is_white) b bs (IsWord keyword (b ∷ bs)) (λ is. name_unwhite b (starts_name b bs is.0).1) s t x
 
--- an item up to what stands behind its opening sign
+-- an item up to what stands after its opening sign
 record Headed (keyword : Keyword) (text : List ℕ) (close : Closing) (A : Spelling) (h k : Here) : Type 0 where
   end : Here
   open_end : Here
   inside : Here
-  read : piece h ≡ typed keyword h.spot text end
+  read : piece h ≡ item_of_type keyword h.spot text end
   opens : opening (white end) ≡ Ok (close, open_end)
   past : white open_end ≡ inside
   stands : Stands A inside k
@@ -199,7 +199,7 @@ entry_to kind key fields close line h k x =
     let read : entry_read kind close hd.inside ≡ (entry key fields, Ok k) =
     ap (λ n. with_key n (fields_of (white (past (is_key_byte close) hd.inside)))) kr.run ∙ ap (λ q. with_key key (fields_of q)) kr.past ∙ ap (with_key key) (fields_to close fields [] kr.inside k kr.stands) in
     hd.read
-    ∙ ap (opened h.spot (unread_entry (Some kind)) (entry_item h.spot kind)) hd.opens
+    ∙ ap (item_opened h.spot (unread_entry (Some kind)) (entry_item h.spot kind)) hd.opens
     ∙ ap (entry_item h.spot kind close) hd.past
     ∙ ap (λ (r : Entry × Result Here Stop). item h.spot hd.inside.spot.line (contents.Entry r.0) (Some close) r.1) read
     ∙ ap (λ l. item h.spot l (contents.Entry (entry key fields)) (Some close) (Ok k)) (sym on.0)
@@ -226,7 +226,7 @@ closed_starts close ps = starts_both (Fails is_white) (ValueOf ps) (White ▸ Si
 
 -- what is read of a string, by its name and its value
 abbrev string_by : Closing → Result (List ℕ × Here) Stop → Result (List Part × Here) Stop → Definition × Result Here Stop
-string_by close named valued = (record { name = given named; value = given valued }, valued >>= λ v. closed close v.1)
+string_by close named valued = (record { name = value_read named; value = value_read valued }, valued >>= λ v. closed close v.1)
 
 abbrev pub valued_by : Closing → Result (List ℕ × Here) Stop → Result (List Part × Here) Stop
 valued_by close named = named >>= λ n. sign 61 ExpectedEquals (white n.1) >>= λ equals. value close (white equals)
@@ -248,7 +248,7 @@ string_to text n ps close line h k x =
     let valued : valued_by close (Ok (n, e.end)) ≡ Ok (ps, v.end) = valued_to close n e.end e.equals e.inside v.end ps e.sign e.white v.value in
     let read : string_read close hd.inside ≡ (definition, Ok k) = ap (λ r. string_by close r (valued_by close r)) e.named ∙ ap (string_by close (Ok (n, e.end))) valued ∙ ap (λ (r : Result Here Stop). (definition, r)) v.closes in
     hd.read
-    ∙ ap (opened h.spot unread_string (string_item h.spot)) hd.opens
+    ∙ ap (item_opened h.spot unread_string (string_item h.spot)) hd.opens
     ∙ ap (string_item h.spot close) hd.past
     ∙ ap (λ (r : Definition × Result Here Stop). item h.spot (name_line r.0.name hd.inside.spot.line h.spot.line) (contents.Define r.0) (Some close) r.1) read
     ∙ ap (λ l. item h.spot l (contents.Define definition) (Some close) (Ok k)) (sym on.0)
@@ -260,8 +260,8 @@ preamble_to text ps close h k x =
     let hd = headed keywords.Preamble text close V h k (closed_starts close ps) x in
     let v = closed_value close ps hd.inside k hd.stands in
     let make : Option (List Part) × Result Here Stop → Piece × Here = λ r. item h.spot h.spot.line (contents.Preamble r.0) (Some close) r.1 in
-    let read : preamble_read close hd.inside ≡ (Some ps, Ok k) = ap (λ (r : Result (List Part × Here) Stop). (given r, r >>= λ v. closed close v.1)) v.value ∙ ap (λ (r : Result Here Stop). (Some ps, r)) v.closes in
-    hd.read ∙ ap (opened h.spot (contents.Preamble None) (preamble_item h.spot)) hd.opens ∙ ap (preamble_item h.spot close) hd.past ∙ ap make read
+    let read : preamble_read close hd.inside ≡ (Some ps, Ok k) = ap (λ (r : Result (List Part × Here) Stop). (value_read r, r >>= λ v. closed close v.1)) v.value ∙ ap (λ (r : Result Here Stop). (Some ps, r)) v.closes in
+    hd.read ∙ ap (item_opened h.spot (contents.Preamble None) (preamble_item h.spot)) hd.opens ∙ ap (preamble_item h.spot close) hd.past ∙ ap make read
 
 pub spelled_items_are_read : SpelledItemsAreRead
 spelled_items_are_read i s text rest (AnEntry {line = line} {kind = kind} {key = key} {fields = fields} {close = close} x) = (let e = Head keywords.Entry kind close (OnLine line (Keyed close key (FieldsOf close fields))) in entry_to kind key fields close line (at s (text ++ rest)) (at (passed text s) rest) (stands_at e s text rest x))

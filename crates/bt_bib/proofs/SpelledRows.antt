@@ -14,7 +14,8 @@ use Rattle.bt_bib.specs.declared.item.Piece.TheVariants as pieces
 use Rattle.bt_bib.specs.Spot.{start}
 use Rattle.bt_bib.specs.Reading.{pieces_of}
 use Rattle.bt_bib.specs.Spelling.{Both, This, That, Written, IsEnclosed, Nothing, Byte, Group}
-use Rattle.bt_bib.specs.Spelled.{is_number, PartOf, ValueOf, FieldOf, FieldsOf, whole, ItemOf, AnEntry, AString, APreamble, DatabaseOf}
+use Rattle.bt_bib.specs.Spelled.{is_number, PartOf, ValueOf, FieldOf, FieldsOf, ItemOf, AnEntry, AString, APreamble, DatabaseOf}
+use Rattle.bt_bib.specs.inner.Spelled.{whole}
 use Rattle.bt_bib.proofs.SpelledDatabaseLemmas.{spelled_databases_are_read}
 
 -- a place of the first line
@@ -80,7 +81,7 @@ entry kind key fields = contents.Entry (record { kind = Some kind; key = Some ke
 an_entry : ItemOf (item 18 2 (entry (codes "misc") (codes "a") (year 2 ∷ [])) Brace) start (codes "@misc{\na,year = 1}")
 an_entry = AnEntry (Both (Written tt) (Both {front = []} refl (Both (Written (refl, refl)) (Both {front = []} refl (Both (Written tt) (Both {front = codes "\n"} refl (refl, Both (Written refl) (refl, Both {front = []} refl (Both (Written tt) (Both {front = []} refl (Both (refl, Both (Written refl) (Both {front = codes " "} refl (Both (Written tt) (Both {front = codes " "} refl (digits refl))))) (Both {front = []} refl (This (Written tt))))))))))))))
 
--- An empty key stands behind the white space, and one in parentheses may hold a right one.
+-- An empty key stands after the white space, and one in parentheses may hold a right one.
 an_empty_key : ItemOf (item 8 1 (entry (codes "Misc") [] []) Brace) start (codes "@Misc{ }")
 an_empty_key = AnEntry (Both (Written tt) (Both {front = []} refl (Both (Written (refl, refl)) (Both {front = []} refl (Both (Written tt) (Both {front = codes " "} refl (refl, (refl, This (Written tt)))))))))
 

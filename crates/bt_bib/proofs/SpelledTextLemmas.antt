@@ -7,7 +7,7 @@ use Rattle.bt_text.specs.ByteTests.{is_brace, left_brace, right_brace}
 use Rattle.bt_bib.specs.declared.spot.Spot.{Spot}
 use Rattle.bt_bib.specs.declared.enclosed.Turn.TheVariants as turns
 use Rattle.bt_bib.specs.Spot.{at, after, passed}
-use Rattle.bt_bib.specs.Enclosed.{turn}
+use Rattle.bt_bib.specs.inner.Enclosed.{turn}
 use Rattle.bt_bib.specs.Spelling.{IsEnclosed, Nothing, Byte, Group}
 use Rattle.bt_bib.specs.SpelledLaws.{EnclosedTextsAreRead}
 use Rattle.bt_bib.proofs.RunLemmas.{passed-nil, passed-cons}

@@ -29,7 +29,7 @@ use Rattle.bt_bib.proofs.FitNameLemmas.{and_first}
 use Rattle.bt_bib.proofs.SpellingLemmas.{Stands, stands_at, standing, split, either, on_line, sign_stands, white_to, white_front, ends_from, one_begins, and_second, Starts, starts_both, starts_or, starts_bytes, begins_here, IsOne, MayEnd, may_white, may_one, FailsAll, one_fails, white_fails, passes_one, other, or_cases, or_first, or_second, Stops, past_to, run_is, name_at}
 use Rattle.bt_bib.proofs.SpelledTextLemmas.{enclosed_texts_are_read}
 
--- What may stand behind a part is no byte of white space, of a name or of a number.
+-- What may stand after a part is no byte of white space, of a name or of a number.
 ends_unwhite : (close : Closing) → FailsAll is_white (part_ends close)
 ends_unwhite Brace = refl
 ends_unwhite Parenthesis = refl
@@ -52,7 +52,7 @@ enclosed_at : (closing : ℕ) (text : List ℕ) → (closing == left_brace) ≡ 
 enclosed_at closing text other s t rest (Written is) tail e =
     ap (λ r. enclosed closing (at s (text ++ r))) e ∙ enclosed_texts_are_read closing s text tail other is ∙ ap (λ r. Ok (text, at (passed text s) r)) (sym e)
 
--- a part whose text was read, behind its closing sign
+-- a part whose text was read, after its closing sign
 abbrev pub text_part : List ℕ × Here → Result (Part × Here) Stop
 text_part x = Ok (Text x.0, behind x.1)
 
@@ -118,7 +118,7 @@ raw_to close (Macro n line) h k x ends =
     let on = on_line line (NameOf n) h k x in
     standing (NameOf n) (λ h k. MayEndName (part_ends close) k.rest → raw_part close h ≡ Ok (Macro n h.spot.line, k)) (macro_at close n) h k on.1 ends ∙ ap (λ l. Ok (Macro n l, k)) (sym on.0)
 
--- a part, and the white space behind it
+-- a part, and the white space after it
 pub part_to : (close : Closing) (p : Part) (h m k : Here) → Stands (PartOf p) h m → Stands White m k → Begins (IsOne (part_ends close)) k.rest → part close h ≡ Ok (p, k)
 unfolding part
 part_to close p h m k x w b =
@@ -166,7 +166,7 @@ pub value_starts : (ps : List Part) → Starts (Fails is_white) (ValueOf ps)
 value_starts [] = λ s text x. absurd x
 value_starts (p ∷ ps) = parts_start p ps
 
--- the parts from here on behind some others
+-- the parts from here on after some others
 abbrev pub parts_from : Closing → List Part → Here → Result (List Part × Here) Stop
 parts_from close front h = collected front (all (joined close) h)
 
@@ -219,7 +219,7 @@ parts_to close p (q ∷ ps) front h m k x w b =
     ∙ parts_to close q ps longer four.mid m k four.back w b
     ∙ ap (λ l. Ok (l, k)) (append_assoc front (p ∷ []) (q ∷ ps))
 
--- a value, and the white space behind it
+-- a value, and the white space after it
 pub value_to : (close : Closing) (ps : List Part) (h m k : Here) → Stands (ValueOf ps) h m → Stands White m k → Begins (IsOne (value_ends close)) k.rest → value close h ≡ Ok (ps, k)
 unfolding value
 value_to close [] h m k x w b = absurd x.spelled

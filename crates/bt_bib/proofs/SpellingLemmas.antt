@@ -13,7 +13,7 @@ use Rattle.bt_bib.specs.declared.fault.Fault.TheVariants.{BadNameEnd, MissingNam
 use Rattle.bt_bib.specs.Spot.{Here, at, after, passed, behind}
 use Rattle.bt_bib.specs.Scan.{first, run, past, white, sign}
 use Rattle.bt_bib.specs.Stop.{Stop, ◌>>=◌}
-use Rattle.bt_bib.specs.Names.{word, ended, name}
+use Rattle.bt_bib.specs.Names.{word, name_ended, name}
 use Rattle.bt_bib.specs.Spelling.{Spelling, ◌▸◌, Both, ◌or◌, This, That, Bytes, Written, White, Sign, OnLine, BeginsBy, MayEndName}
 use Rattle.bt_bib.proofs.RunLemmas.{passed-nil, passed-cons, past_run, past_is_run, run_more, run_stop}
 use Rattle.bt_bib.proofs.ReachLemmas.{passed-append}
@@ -30,14 +30,14 @@ pub record Stands (A : Spelling) (h k : Here) : Type 0 where
 pub stands_at : (A : Spelling) (s : Spot) (text rest : List ℕ) → A s text → Stands A (at s (text ++ rest)) (at (passed text s) rest)
 stands_at A s text rest a = record { text = text; spelled = a; rest = refl; spot = refl }
 
--- what holds of each such text in front of any others
+-- what holds of each such text before any others
 pub standing : (A : Spelling) (P : Here → Here → Type 0) → ((s : Spot) (text rest : List ℕ) → A s text → P (at s (text ++ rest)) (at (passed text s) rest)) → (h k : Here) → Stands A h k → P h k
 standing A P f h k x =
     let on_text : List ℕ → Type 0 = λ r. P (at h.spot r) k in
     let on_spot : Spot → Type 0 = λ s. P (at h.spot (x.text ++ k.rest)) (at s k.rest) in
     subst on_text (sym x.rest) (subst on_spot (sym x.spot) (f h.spot x.text k.rest x.spelled))
 
--- the place between two that stand one behind the other
+-- the place between two that stand one after the other
 pub record Split (A B : Spelling) (h k : Here) : Type 0 where
   pub mid : Here
   pub front : Stands A h mid
@@ -90,7 +90,7 @@ front_by : (P : ℕ → Type 0) → ((b : ℕ) → is_white b ≡ true → P b) 
 front_by P of_white s [] rest w b = b
 front_by P of_white s (c ∷ cs) rest w b = record { byte = c; rest = cs ++ rest; is = refl; fits = of_white c (and_first (is_white c) (list_all is_white cs) w) }
 
--- in front of white space, by what stands behind it
+-- before white space, by what stands after it
 pub white_front : (P : ℕ → Type 0) → ((b : ℕ) → is_white b ≡ true → P b) → (h k : Here) → Stands White h k → Begins P k.rest → Begins P h.rest
 white_front P of_white h k x b = standing White (λ h k. Begins P k.rest → Begins P h.rest) (front_by P of_white) h k x b
 
@@ -106,7 +106,7 @@ either_at A B s rest k text (That b) r e f g = g (record { text = text; spelled 
 pub either : {X : Type 0} (A B : Spelling) (h k : Here) → Stands (A or B) h k → (Stands A h k → X) → (Stands B h k → X) → X
 either A B h k x f g = either_at A B h.spot h.rest k x.text x.spelled x.rest x.spot f g
 
--- a byte of some signs, and one that may stand behind a name
+-- a byte of some signs, and one that may stand after a name
 abbrev pub IsOne : List ℕ → ℕ → Type 0
 IsOne signs b = list_any (λ sign. sign == b) signs ≡ true
 
@@ -203,7 +203,7 @@ white_to h k x stop = standing White (λ h k. Begins (Fails is_white) k.rest →
 pub sign_passed : (b : ℕ) (s : Spot) → after b s ≡ passed (b ∷ []) s
 sign_passed b s = sym (passed-cons b [] s ∙ passed-nil (after b s))
 
--- the sign stands here, and behind it what follows
+-- the sign stands here, and after it what follows
 pub record OneStands (b : ℕ) (h k : Here) : Type 0 where
   pub is : h.rest ≡ b ∷ k.rest
   pub first : first h.rest ≡ Some b
@@ -240,12 +240,12 @@ word_to what s (b ∷ text) rest is stop =
     let all = and_second (not (is_digit b)) (list_all is_name_byte (b ∷ text)) is in
     ap (λ v. cond v (Ok (run is_name_byte h, past is_name_byte h)) (Err (MissingName what, h))) (first_of_name b text is) ∙ ap (λ t. Ok (t, past is_name_byte h)) (run_is is_name_byte (b ∷ text) rest all stop) ∙ ap (λ k. Ok (b ∷ text, k)) (past_to is_name_byte s (b ∷ text) rest all stop)
 
-pub ended_to : (what : What) (signs : List ℕ) (s : Spot) (rest : List ℕ) → MayEndName signs rest → ended what signs (at s rest) ≡ Ok (at s rest)
-unfolding ended
+pub ended_to : (what : What) (signs : List ℕ) (s : Spot) (rest : List ℕ) → MayEndName signs rest → name_ended what signs (at s rest) ≡ Ok (at s rest)
+unfolding name_ended
 ended_to what signs s [] h = refl
 ended_to what signs s (b ∷ rest) h = ap (λ v. cond v (Ok (at s (b ∷ rest))) (Err (BadNameEnd what b, at s (b ∷ rest)))) h
 
--- No sign that may stand behind a name is a byte of it.
+-- No sign that may stand after a name is a byte of it.
 abbrev pub AreBare : List ℕ → Type 0
 AreBare signs = FailsAll is_name_byte signs
 
@@ -259,7 +259,7 @@ NameAt text = Bytes text (is_name text ≡ true)
 pub name_at : (what : What) (signs text : List ℕ) → AreBare signs → (s : Spot) (t rest : List ℕ) → NameAt text s t → MayEndName signs rest → name what signs (at s (t ++ rest)) ≡ Ok (text, at (passed t s) rest)
 unfolding name
 name_at what signs text all s t rest (Written is) ends =
-    ap (λ (r : Result (List ℕ × Here) Stop). r >>= λ w. ended what signs w.1 >>= λ end. Ok (w.0, end)) (word_to what s text rest is (bare signs rest all ends)) ∙ ap (λ (r : Result Here Stop). r >>= λ end. Ok (text, end)) (ended_to what signs (passed text s) rest ends)
+    ap (λ (r : Result (List ℕ × Here) Stop). r >>= λ w. name_ended what signs w.1 >>= λ end. Ok (w.0, end)) (word_to what s text rest is (bare signs rest all ends)) ∙ ap (λ (r : Result Here Stop). r >>= λ end. Ok (text, end)) (ended_to what signs (passed text s) rest ends)
 
 pub name_to : (what : What) (signs text : List ℕ) (h k : Here) → AreBare signs → Stands (NameAt text) h k → MayEndName signs k.rest → name what signs h ≡ Ok (text, k)
 name_to what signs text h k all x ends = standing (NameAt text) (λ h k. MayEndName signs k.rest → name what signs h ≡ Ok (text, k)) (name_at what signs text all) h k x ends

@@ -12,14 +12,16 @@ use Rattle.bt_bib.specs.declared.item.Content.{Content}
 use Rattle.bt_bib.specs.declared.item.Content.TheVariants as contents
 use Rattle.bt_bib.specs.declared.item.Piece.{Piece}
 use Rattle.bt_bib.specs.declared.item.Piece.TheVariants as pieces
-use Rattle.bt_bib.specs.Spot.{Here, at, here, start, is_line_end, IsIn}
+use Rattle.bt_bib.specs.Spot.{Here, at, here, start, is_line_end}
+use Rattle.bt_bib.specs.inner.Spot.{IsIn}
 use Rattle.bt_bib.specs.Pieces.{next_piece}
 use Rattle.bt_bib.specs.Reading.{pieces_from, pieces_of}
 use Rattle.bt_bib.specs.Moved.{nowhere, moved, moved_part, moved_value, moved_field, moved_content, moved_piece}
-use Rattle.bt_bib.specs.Boundaries.{end_of, last_end, below, InOrder, Rises}
+use Rattle.bt_bib.specs.Boundaries.{end_of, last_end, Rises}
+use Rattle.bt_bib.specs.inner.Boundaries.{below, InOrder}
 use Rattle.bt_bib.specs.Splice.{IsSplice, is_common, is_boundary, reread_from, reread_upto}
-use Rattle.bt_bib.specs.Rereading.{until, IsJoint}
-use Rattle.bt_bib.specs.Moving.{rebased, rebased_part, rebased_value, rebased_field, rebased_content, rebased_piece}
+use Rattle.bt_bib.specs.inner.Rereading.{until, IsJoint}
+use Rattle.bt_bib.specs.inner.Moving.{rebased, rebased_part, rebased_value, rebased_field, rebased_content, rebased_piece}
 use Rattle.bt_bib.proofs.RunLemmas.{same_spot}
 use Rattle.bt_bib.proofs.ReachLemmas.{Reaches}
 use Rattle.bt_bib.proofs.AlikeLemmas.{Alike}
@@ -58,7 +60,7 @@ pub piece_rebased : (a b : Spot) (p : Piece) → rebased_piece a b (moved_piece 
 piece_rebased a b (pieces.Comment s e) = rw (spot_rebased a b s, spot_rebased a b e) refl
 piece_rebased a b (pieces.Item i) = rw (spot_rebased a b i.start, spot_rebased a b i.end, num_rebased i.line a.line b.line, content_rebased a b i.content) refl
 
--- behind a boundary that both texts have, the pieces are the old ones moved
+-- after a boundary that both texts have, the pieces are the old ones moved
 pub rebased_law : (a b : Spot) (r : List ℕ) → pieces_from (at b r) ≡ map (rebased_piece a b) (pieces_from (at a r))
 rebased_law a b r =
     let none : Spot = record { place = 0; line = 0 } in
@@ -130,7 +132,7 @@ kept_pieces old new begin end inserted is =
     let front : take (begin - 0) old ≡ take (begin - 0) new = ap (λ n. take n old) all ∙ sym (same_front old new begin end inserted is) ∙ ap (λ n. take n new) (sym all) in
     kept_law old new start begin front
 
--- what is kept, what is read from there on up to a boundary that passes a test, and what is behind it
+-- what is kept, what is read from there on up to a boundary that passes a test, and what is after it
 pub respliced_law : (old new : List ℕ) (begin end inserted : ℕ) → IsSplice old new begin end inserted → (test : ℕ → Bool) → (let kept = below begin (pieces_of old) in let from = last_end start kept in let again = until test from (pieces_from (here new from)) in
     pieces_of new ≡ kept ++ (again ++ pieces_from (here new (last_end from again))))
 unfolding pieces_of
@@ -143,7 +145,7 @@ respliced_law old new begin end inserted is test =
     kept_law old new start begin front
     ∙ ap (λ (l : List Piece). kept ++ l) (until_splits test from ps ∙ ap (λ (l : List Piece). until test from ps ++ l) (rest_law new from (until test from ps) (behind_until test from ps) (until_splits test from ps)))
 
--- behind a boundary that both texts have, the old pieces are moved
+-- after a boundary that both texts have, the old pieces are moved
 pub joined_law : (old new : List ℕ) (begin end inserted : ℕ) → IsSplice old new begin end inserted → (front back : List Piece) (b : Spot) → pieces_of old ≡ front ++ back → begin + inserted ≤ b.place → (last_end start front).place + (begin + inserted) ≡ b.place + end → pieces_from (here new b) ≡ map (rebased_piece (last_end start front) b) back
 unfolding pieces_of
 joined_law old new begin end inserted is front back b parts le place =
@@ -292,7 +294,7 @@ law_of old new begin end inserted ps is e = subst (Law old new begin end inserte
 pub final_end : (new : List ℕ) (kept again : List Piece) (stop : Spot) → pieces_of new ≡ kept ++ (again ++ pieces_from (here new stop)) → pieces_from (here new stop) ≡ [] → kept ++ again ≡ pieces_of new
 final_end new kept again stop law none = sym (law ∙ ap (λ l. kept ++ (again ++ l)) none ∙ ap (λ l. kept ++ l) (append-nil again))
 
--- behind a common boundary
+-- after a common boundary
 pub joined_back : (old new : List ℕ) (begin end inserted count : ℕ) (ps : List Piece) (stop back : Spot) → IsSplice old new begin end inserted → ps ≡ pieces_of old → IsJoint ps begin end inserted stop.place (Some count) → back ≡ last_end start (take count ps) → pieces_from (here new stop) ≡ map (rebased_piece back stop) (drop count ps)
 joined_back old new begin end inserted count ps stop back is e joint last =
     let le = common_le begin end inserted ps stop.place joint.0 in

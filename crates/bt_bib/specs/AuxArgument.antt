@@ -15,9 +15,9 @@ ends_argument b = b == 125 || is_white b
 abbrev pub inside : List ℕ → List ℕ
 inside rest = before_first ends_argument rest
 
--- that byte and what stands behind it
-abbrev pub behind : List ℕ → List ℕ
-behind rest = drop (length (inside rest)) rest
+-- that byte and what stands after it
+abbrev pub after_argument : List ℕ → List ℕ
+after_argument rest = drop (length (inside rest)) rest
 
 abbrev pub is_comma : ℕ → Bool
 is_comma b = b == 44
@@ -32,19 +32,19 @@ abbrev pub stuff_after : List ℕ → Option AuxFault
 stuff_after [] = None
 stuff_after (b ∷ bs) = Some StuffAfter
 
--- what is wrong, by what ends the argument and stands behind it
+-- what is wrong, by what ends the argument and stands after it
 abbrev pub fault_at : List ℕ → Option AuxFault
 fault_at [] = Some NoBrace
 fault_at (b ∷ bs) = if is_white b then Some WhiteSpace else stuff_after bs
 
 -- a fault drops the part at which it stands, the last one
-abbrev pub kept : Option AuxFault → List (List ℕ) → List (List ℕ)
-kept None parts = parts
-kept (Some fault) parts = take (length parts - 1) parts
+abbrev pub parts_kept : Option AuxFault → List (List ℕ) → List (List ℕ)
+parts_kept None parts = parts
+parts_kept (Some fault) parts = take (length parts - 1) parts
 
--- the parts in front of a fault, and the fault, of what stands behind a command's opening brace
+-- the parts before a fault, and the fault, of what stands after a command's opening brace
 abbrev pub fault_of : List ℕ → Option AuxFault
-fault_of rest = fault_at (behind rest)
+fault_of rest = fault_at (after_argument rest)
 
-abbrev pub parts_of : Parting → List ℕ → List (List ℕ)
-parts_of parting rest = kept (fault_of rest) (parts_in parting (inside rest))
+abbrev pub argument_parts : Parting → List ℕ → List (List ℕ)
+argument_parts parting rest = parts_kept (fault_of rest) (parts_in parting (inside rest))

@@ -8,7 +8,7 @@ use Rattle.bt_bib.specs.declared.aux_line.Command.TheVariants.{Citation, Databas
 use Rattle.bt_bib.specs.declared.aux_argument.Parting.{Parting}
 use Rattle.bt_bib.specs.declared.aux_argument.Parting.TheVariants.{Commas, Whole}
 use Rattle.bt_bib.specs.declared.aux_line.AuxItem.{AuxItem}
-use Rattle.bt_bib.specs.AuxArgument.{parts_of, fault_of}
+use Rattle.bt_bib.specs.AuxArgument.{argument_parts, fault_of}
 
 -- a line feed
 abbrev pub is_line_end : ℕ → Bool
@@ -45,17 +45,17 @@ parting Nested = Whole
 abbrev pub item : ℕ → List ℕ → Command → AuxItem
 item n line c =
     let rest = drop (length (word c)) line in
-    record { line = n; command = c; parts = parts_of (parting c) rest; fault = fault_of rest }
+    record { line = n; command = c; parts = argument_parts (parting c) rest; fault = fault_of rest }
 
--- a line in front of later ones, if it counts
-abbrev pub counted : ℕ → List ℕ → Option Command → List AuxItem → List AuxItem
-counted n line None later = later
-counted n line (Some c) later = item n line c ∷ later
+-- a line before later ones, if it counts
+abbrev pub if_counted : ℕ → List ℕ → Option Command → List AuxItem → List AuxItem
+if_counted n line None later = later
+if_counted n line (Some c) later = item n line c ∷ later
 
 -- the counted ones among lines that are numbered from n on
 abbrev pub items_from : ℕ → List (List ℕ) → List AuxItem
 items_from n [] = []
-items_from n (l ∷ ls) = counted n (trimmed_end l) (command_of (trimmed_end l)) (items_from (n + 1) ls)
+items_from n (l ∷ ls) = if_counted n (trimmed_end l) (command_of (trimmed_end l)) (items_from (n + 1) ls)
 
 -- the counted lines of a text
 unfoldable pub aux_lines : List ℕ → List AuxItem

@@ -1,5 +1,5 @@
 -- Boundaries: the places of a text at which its reading can begin again.
-use Rattle.std.specs.Prelude.{ℕ, ◌<◌, ◌≤◌, nat_lt, List, [], ◌∷◌, map, if◌then◌else◌}
+use Rattle.std.specs.Prelude.{ℕ, ◌<◌, ◌≤◌, List, [], ◌∷◌, map}
 use Rattle.bt_bib.specs.declared.spot.Spot.{Spot}
 use Rattle.bt_bib.specs.declared.item.Piece.{Piece}
 use Rattle.bt_bib.specs.declared.item.Piece.TheVariants as pieces
@@ -18,25 +18,13 @@ end_of (pieces.Item item) = item.end
 abbrev pub boundaries : List Piece → List ℕ
 boundaries ps = 0 ∷ map (λ p. (end_of p).place) ps
 
--- the last boundary of some pieces that stand behind a spot
+-- the last boundary of some pieces that stand after a spot
 abbrev pub last_end : Spot → List Piece → Spot
 last_end s [] = s
 last_end s (p ∷ ps) = last_end (end_of p) ps
 
--- the pieces in front that end below a place
-abbrev pub below : ℕ → List Piece → List Piece
-below limit [] = []
-below limit (p ∷ ps) = if nat_lt (end_of p).place limit then p ∷ below limit ps else []
-
--- Behind a place the spans of some pieces rise: each begins at or behind the end of the one before and ends behind its
+-- After a place the spans of some pieces rise: each begins at or after the end of the one before and ends after its
 -- beginning, and the last ends at or before a limit.
 abbrev pub Rises : ℕ → ℕ → List Piece → Type 0
 Rises limit place [] = place ≤ limit
 Rises limit place (p ∷ ps) = (place ≤ (start_of p).place) × ((start_of p).place < (end_of p).place) × Rises limit (end_of p).place ps
-
-abbrev pub end_place : Piece → ℕ
-end_place p = (end_of p).place
-
--- The spans of pieces that are those of a text rise.
-abbrev pub InOrder : List Piece → Type 0
-InOrder ps = (limit : ℕ) × Rises limit 0 ps

@@ -1,22 +1,20 @@
 -- What braces and quotes enclose.
-use Rattle.std.specs.Prelude.{ℕ, ◌+◌, ◌-◌, ◌≤◌, Bool, ◌&&◌, ◌||◌, ◌==◌, not, List, [], ◌∷◌, ◌++◌, count_by, Option, Some, None, Result, Ok, Err, if◌then◌else◌}
+use Rattle.std.specs.Prelude.{ℕ, Bool, ◌&&◌, ◌||◌, ◌==◌, List, [], ◌∷◌, ◌++◌, count_by, Option, Some, None, Result, Ok, Err, if◌then◌else◌}
 use Rattle.bt_text.specs.ByteTests.{left_brace, right_brace}
 use Rattle.bt_bib.specs.declared.fault.Fault.TheVariants.{EndOfFile, UnbalancedBraces}
-use Rattle.bt_bib.specs.declared.enclosed.Turn.{Turn}
-use Rattle.bt_bib.specs.declared.enclosed.Turn.TheVariants as turns
 use Rattle.bt_bib.specs.Spot.{Here, beyond}
 use Rattle.bt_bib.specs.Scan.{first}
-use Rattle.bt_bib.specs.Stop.{Stop, ◌>>=◌}
+use Rattle.bt_bib.specs.Stop.{Stop}
 
 -- as many left braces as right ones
-abbrev pub is_balanced : List ℕ → Bool
-is_balanced t = count_by (λ b. b == left_brace) t == count_by (λ b. b == right_brace) t
+abbrev pub has_as_many_right_braces : List ℕ → Bool
+has_as_many_right_braces t = count_by (λ b. b == left_brace) t == count_by (λ b. b == right_brace) t
 
 -- A byte ends what is enclosed where the bytes before it are balanced, and it is the closing sign or a right brace.
 abbrev pub ends_enclosed : ℕ → List ℕ → ℕ → Bool
-ends_enclosed close front b = (b == close || b == right_brace) && is_balanced front
+ends_enclosed close front b = (b == close || b == right_brace) && has_as_many_right_braces front
 
--- front, and what stands behind it before the first byte that ends what is enclosed
+-- front, and what stands after it before the first byte that ends what is enclosed
 abbrev pub enclosed_text : ℕ → List ℕ → List ℕ → List ℕ
 enclosed_text close front [] = front
 enclosed_text close front (b ∷ rest) = if ends_enclosed close front b then front else enclosed_text close (front ++ b ∷ []) rest
@@ -28,25 +26,3 @@ enclosed_by close text end (Some b) = if b == close then Ok (text, end) else Err
 -- what stands before the byte that closes it, and that byte; a right brace that has no left one is a fault
 unfoldable pub enclosed : ℕ → Here → Result (List ℕ × Here) Stop
 enclosed close h = (let text = enclosed_text close [] h.rest in enclosed_by close text (beyond text h) (first (beyond text h).rest))
-
--- that byte alone
-abbrev pub enclosed_end : ℕ → Here → Result Here Stop
-enclosed_end close h = enclosed close h >>= λ x. Ok x.1
-
--- what a byte does where so many braces are open
-abbrev pub turn : ℕ → ℕ → ℕ → Turn
-turn close depth b =
-    if b == close && depth == 0 then turns.Closes
-    else if b == left_brace then turns.Goes (depth + 1)
-    else if b == right_brace then (if depth == 0 then turns.Breaks else turns.Goes (depth - 1))
-    else turns.Goes depth
-
--- a byte that is no brace and doesn't close
-abbrev pub is_plain : ℕ → ℕ → Bool
-is_plain close b = not (b == close || b == left_brace || b == right_brace)
-
--- It opens no more than so many.
-abbrev pub IsNear : ℕ → Turn → Type 0
-IsNear most turns.Closes = Unit {0}
-IsNear most turns.Breaks = Unit {0}
-IsNear most (turns.Goes depth) = depth ≤ most

@@ -10,7 +10,7 @@ use Rattle.bt_bib.specs.Stop.{Stop, ◌>>=◌}
 use Rattle.bt_bib.specs.Names.{name}
 use Rattle.bt_bib.specs.Values.{value}
 
--- Behind the name of a field or string stands a `=`.
+-- After the name of a field or string stands a `=`.
 abbrev pub name_ends : List ℕ
 name_ends = 61 ∷ []
 
@@ -22,7 +22,7 @@ field close h =
     value close (white equals) >>= λ v.
     Ok (record { name = n.0; line = h.spot.line; value = v.0 }, v.1)
 
--- behind a comma: a field, or the end of the entry
+-- after a comma: a field, or the end of the entry
 abbrev pub field_or_close : Closing → Here → Option ℕ → Result (Option Field × Here) Stop
 field_or_close close h None = Err (EndOfFile, h)
 field_or_close close h (Some b) = if b == closing_sign close then Ok (None, behind h) else (field close h >>= λ x. Ok (Some x.0, x.1))
@@ -34,6 +34,6 @@ next_field_from close h (Some b) =
     else if b == 44 then (let w = white (behind h) in field_or_close close w (first w.rest))
     else Err (ExpectedCommaOrClose, h)
 
--- another field behind a comma, or the end of the entry
+-- another field after a comma, or the end of the entry
 unfoldable pub next_field : Closing → Here → Result (Option Field × Here) Stop
 next_field close h = next_field_from close h (first h.rest)

@@ -21,7 +21,7 @@ use Rattle.bt_bib.specs.Moved.{moved_piece}
 use Rattle.bt_bib.specs.Boundaries.{last_end, Rises}
 use Rattle.bt_bib.specs.Splice.{is_boundary, IsSplice}
 
--- how far a boundary lies behind the first place of a text
+-- how far a boundary lies after the first place of a text
 abbrev pub offset : Spot → Spot
 offset a = record { place = a.place; line = a.line - 1 }
 
@@ -42,7 +42,7 @@ FaultIsFinal = (text other : List ℕ) (front back : List Piece) (i : Item) (f :
 abbrev pub is_byte : ℕ → Bool
 is_byte b = nat_lt b 256
 
--- The bytes of a faulty item up to its fault's place begin a well-formed one: put some others behind them, and an item
+-- The bytes of a faulty item up to its fault's place begin a well-formed one: put some others after them, and an item
 -- without a fault begins where the faulty one does. What stands before it is read as before.
 pub record Completion (text : List ℕ) (front : List Piece) (i : Item) : Type 0 where
   pub rest : List ℕ
@@ -85,6 +85,7 @@ SpansRise = (text : List ℕ) → Rises (length text) 0 (pieces_of text)
 abbrev pub LinesLieInside : Type 0
 LinesLieInside = (text : List ℕ) → All LinesLieIn (bib_items text)
 
--- Any number of readings above that of the bytes serves as well as the one that the definitions take: it is never reached.
+-- Any number of readings above that of the bytes serves as well as the one that the definitions take: it is never
+-- reached.
 abbrev pub AnyReserveServes : Type 0
 AnyReserveServes = (close : Closing) (reserve : ℕ) (h : Here) → length h.rest < reserve → (many (joined close) reserve h ≡ all (joined close) h) × (many (next_field close) reserve h ≡ all (next_field close) h) × (many next_one reserve h ≡ all next_one h)

@@ -15,10 +15,10 @@ pub mod Reading
 pub mod Moved
 pub mod Boundaries
 pub mod Splice
-pub mod Rereading
 pub mod Moving
 pub mod Placed
 pub mod Laws
 pub mod Spelling
 pub mod Spelled
 pub mod SpelledLaws
+pub mod inner

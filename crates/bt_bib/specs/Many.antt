@@ -1,4 +1,4 @@
--- Any number of readings, one behind the other.
+-- Any number of readings, one after the other.
 use Rattle.std.specs.Prelude.{ℕ, zero, suc, List, [], ◌∷◌, ◌++◌, length, Option, Some, None, Result, Ok, Err}
 use Rattle.bt_bib.specs.declared.fault.Fault.TheVariants.{EndOfFile}
 use Rattle.bt_bib.specs.Spot.{Here}
@@ -14,7 +14,7 @@ unfoldable pub many : {A : Type 0} → (Here → Result (Option A × Here) Stop)
 many next zero h = ([], Err (EndOfFile, h))
 many next (suc n) h = many_by (many next n) (next h)
 
--- One reading behind the other, until there is none or a fault comes: what was read, and where that ends. Each reading
+-- One reading after the other, until there is none or a fault comes: what was read, and where that ends. Each reading
 -- takes a byte, so the number of bytes bounds theirs.
 abbrev pub all : {A : Type 0} → (Here → Result (Option A × Here) Stop) → Here → List A × Result Here Stop
 all next h = many next (suc (length h.rest)) h
@@ -22,7 +22,3 @@ all next h = many next (suc (length h.rest)) h
 -- some before all that were read, where no fault came
 abbrev pub collected : {A : Type 0} → List A → List A × Result Here Stop → Result (List A × Here) Stop
 collected front others = others.1 >>= λ end. Ok (front ++ others.0, end)
-
--- some, and all that were read behind them
-abbrev pub gathered : {A : Type 0} → List A → List A × Result Here Stop → List A × Result Here Stop
-gathered front others = (front ++ others.0, others.1)

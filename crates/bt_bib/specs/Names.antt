@@ -1,4 +1,4 @@
--- Names, and what may stand behind them.
+-- Names, and what may stand after them.
 use Rattle.std.specs.Prelude.{ℕ, ◌&&◌, ◌||◌, not, ◌==◌, List, Option, Some, None, Result, Ok, Err, if◌then◌else◌}
 use Rattle.std.specs.List.{list_any}
 use Rattle.bt_text.specs.ByteTests.{is_white, is_digit}
@@ -21,10 +21,10 @@ abbrev pub ended_from : What → List ℕ → Here → Option ℕ → Result Her
 ended_from what signs h None = Ok h
 ended_from what signs h (Some b) = if is_white b || list_any (λ sign. sign == b) signs then Ok h else Err (BadNameEnd what b, h)
 
--- Behind a name stands white space, the text's end or one of some signs.
-unfoldable pub ended : What → List ℕ → Here → Result Here Stop
-ended what signs h = ended_from what signs h (first h.rest)
+-- After a name stands white space, the text's end or one of some signs.
+unfoldable pub name_ended : What → List ℕ → Here → Result Here Stop
+name_ended what signs h = ended_from what signs h (first h.rest)
 
 -- a name that ends as it must
 unfoldable pub name : What → List ℕ → Here → Result (List ℕ × Here) Stop
-name what signs h = word what h >>= λ w. ended what signs w.1 >>= λ end. Ok (w.0, end)
+name what signs h = word what h >>= λ w. name_ended what signs w.1 >>= λ end. Ok (w.0, end)

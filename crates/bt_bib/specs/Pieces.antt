@@ -8,7 +8,7 @@
 -- | entry    | `@type{ key , field = value , .. }` |
 --
 -- Of a faulty item stays what was read whole, and it ends where its fault stands.
-use Rattle.std.specs.Prelude.{◌≡◌, ℕ, ◌==◌, Bool, not, List, [], codes, Option, Some, None, Result, Ok, Err, if◌then◌else◌}
+use Rattle.std.specs.Prelude.{ℕ, ◌==◌, Bool, not, List, [], codes, Option, Some, None, Result, Ok, Err, if◌then◌else◌}
 use Rattle.bt_text.specs.ByteTests.{left_brace}
 use Rattle.bt_bib.specs.declared.spot.Spot.{Spot}
 use Rattle.bt_bib.specs.declared.fault.Fault.TheVariants.{EndOfFile, ExpectedOpen, ExpectedEquals, ExpectedCommaOrClose}
@@ -23,13 +23,11 @@ use Rattle.bt_bib.specs.declared.item.Definition.{Definition}
 use Rattle.bt_bib.specs.declared.item.Piece.{Piece}
 use Rattle.bt_bib.specs.declared.item.Piece.TheVariants as pieces
 use Rattle.bt_bib.specs.declared.keywords.Keyword.{Keyword}
-use Rattle.bt_bib.specs.declared.stop.Halt.{Halt}
-use Rattle.bt_bib.specs.declared.stop.Halt.TheVariants.{Memory, Stopped}
 use Rattle.bt_bib.specs.declared.keywords.Keyword.TheVariants as keywords
 use Rattle.bt_bib.specs.Spot.{Here, behind}
 use Rattle.bt_bib.specs.Scan.{first, run, past, white, sign, closing_sign, is_key_byte}
-use Rattle.bt_bib.specs.Stop.{Stop, ◌>>=◌, given}
-use Rattle.bt_bib.specs.Names.{word, ended, name}
+use Rattle.bt_bib.specs.Stop.{Stop, ◌>>=◌, value_read}
+use Rattle.bt_bib.specs.Names.{word, name_ended, name}
 use Rattle.bt_bib.specs.Many.{all}
 use Rattle.bt_bib.specs.Values.{value}
 use Rattle.bt_bib.specs.Fields.{next_field, name_ends}
@@ -55,7 +53,7 @@ opening_from h (Some b) =
 unfoldable pub opening : Here → Result (Closing × Here) Stop
 opening h = opening_from h (first h.rest)
 
--- behind the closing sign
+-- after the closing sign
 abbrev pub closed : Closing → Here → Result Here Stop
 closed close h = sign (closing_sign close) ExpectedCommaOrClose h
 
@@ -73,7 +71,7 @@ abbrev pub string_read : Closing → Here → Definition × Result Here Stop
 string_read close h =
     let named = name StringName name_ends h in
     let valued = named >>= λ n. sign 61 ExpectedEquals (white n.1) >>= λ equals. value close (white equals) in
-    (record { name = given named; value = given valued }, valued >>= λ v. closed close v.1)
+    (record { name = value_read named; value = value_read valued }, valued >>= λ v. closed close v.1)
 
 -- the line of a name that was read, else another
 abbrev pub name_line : Option (List ℕ) → ℕ → ℕ → ℕ
@@ -85,7 +83,7 @@ string_item start close h = (let read = string_read close h in item start (name_
 
 -- `value }`, from the value on
 abbrev pub preamble_read : Closing → Here → Option (List Part) × Result Here Stop
-preamble_read close h = (let valued = value close h in (given valued, valued >>= λ v. closed close v.1))
+preamble_read close h = (let valued = value close h in (value_read valued, valued >>= λ v. closed close v.1))
 
 abbrev pub preamble_item : Spot → Closing → Here → Piece × Here
 preamble_item start close h = (let read = preamble_read close h in item start start.line (contents.Preamble read.0) (Some close) read.1)
@@ -97,25 +95,25 @@ unread_entry kind = contents.Entry (record { kind = kind; key = None; fields = [
 abbrev pub unread_string : Content
 unread_string = contents.Define (record { name = None; value = None })
 
--- an item that is read on behind its opening sign and white space
-abbrev pub opened : Spot → Content → (Closing → Here → Piece × Here) → Result (Closing × Here) Stop → Piece × Here
-opened start unread read (Err stop) = unopened start unread stop
-opened start unread read (Ok o) = read o.0 (white o.1)
+-- an item that is read on after its opening sign and white space
+abbrev pub item_opened : Spot → Content → (Closing → Here → Piece × Here) → Result (Closing × Here) Stop → Piece × Here
+item_opened start unread read (Err stop) = unopened start unread stop
+item_opened start unread read (Ok o) = read o.0 (white o.1)
 
--- what a type begins, from the place behind it on
-abbrev pub typed : Keyword → Spot → List ℕ → Here → Piece × Here
-typed keywords.Comment start kind h = (pieces.Comment start h.spot, h)
-typed keywords.String start kind h = opened start unread_string (string_item start) (opening (white h))
-typed keywords.Preamble start kind h = opened start (contents.Preamble None) (preamble_item start) (opening (white h))
-typed keywords.Entry start kind h = opened start (unread_entry (Some kind)) (entry_item start kind) (opening (white h))
+-- what a type begins, from the place after it on
+abbrev pub item_of_type : Keyword → Spot → List ℕ → Here → Piece × Here
+item_of_type keywords.Comment start kind h = (pieces.Comment start h.spot, h)
+item_of_type keywords.String start kind h = item_opened start unread_string (string_item start) (opening (white h))
+item_of_type keywords.Preamble start kind h = item_opened start (contents.Preamble None) (preamble_item start) (opening (white h))
+item_of_type keywords.Entry start kind h = item_opened start (unread_entry (Some kind)) (entry_item start kind) (opening (white h))
 
 abbrev pub type_ended : Spot → List ℕ → Result Here Stop → Piece × Here
 type_ended start kind (Err stop) = unopened start (unread_entry (Some kind)) stop
-type_ended start kind (Ok h) = typed (keyword_of kind) start kind h
+type_ended start kind (Ok h) = item_of_type (keyword_of kind) start kind h
 
 abbrev pub type_read : Spot → Result (List ℕ × Here) Stop → Piece × Here
 type_read start (Err stop) = unopened start (unread_entry None) stop
-type_read start (Ok w) = type_ended start w.0 (ended EntryType (codes "{(") w.1)
+type_read start (Ok w) = type_ended start w.0 (name_ended EntryType (codes "{(") w.1)
 
 -- a comment word or an item, from its `@` on
 unfoldable pub piece : Here → Piece × Here
@@ -131,12 +129,3 @@ next_piece_from h (Some b) = (let p = piece h in (Some p.0, p.1))
 -- the next `@` with what it begins, or none
 unfoldable pub next_piece : Here → Option Piece × Here
 next_piece h = (let at_sign = past is_text h in next_piece_from at_sign (first at_sign.rest))
-
--- A piece of the code, with the place behind it, is an item with such an end; where memory ran out, none is.
-abbrev pub IsFaulty : Spot → ℕ → Content → Option Closing → Halt → Piece × Spot → Type 0
-IsFaulty start line content close Memory made = ⊥
-IsFaulty start line content close (Stopped fault s) made = made ≡ (pieces.Item (record { start = start; end = s; line = line; content = content; close = close; fault = Some fault }), s)
-
-abbrev pub IsItem : Spot → ℕ → Content → Option Closing → Result Spot Halt → Piece × Spot → Type 0
-IsItem start line content close (Ok s) made = made ≡ (pieces.Item (record { start = start; end = s; line = line; content = content; close = close; fault = None }), s)
-IsItem start line content close (Err halt) made = IsFaulty start line content close halt made

@@ -1,5 +1,5 @@
 -- Pieces that are kept apart from where they stand.
-use Rattle.std.specs.Prelude.{◌≡◌, ◌≤◌}
+use Rattle.std.specs.Prelude.{◌≡◌}
 use Rattle.bt_bib.specs.declared.spot.Spot.{Spot}
 use Rattle.bt_bib.specs.declared.item.Piece.{Piece}
 use Rattle.bt_bib.specs.Boundaries.{start_of, end_of}
@@ -11,7 +11,3 @@ pub record IsPlaced (start end : Spot) (piece : Piece) : Type 0 where
   pub begins : start_of piece ≡ nowhere
   pub ends : end ≡ moved start (end_of piece)
   pub fits : FitsPiece nowhere start piece
-
--- It begins at or behind a spot.
-abbrev pub BeginsBehind : Spot → Piece → Type 0
-BeginsBehind a p = (a.place ≤ (start_of p).place) × (a.line ≤ (start_of p).line)

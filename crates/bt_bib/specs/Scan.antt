@@ -1,14 +1,11 @@
 -- Runs of bytes, and signs.
 use Rattle.std.specs.Prelude.{ℕ, Bool, ◌||◌, not, ◌==◌, List, [], ◌∷◌, Option, Some, None, Result, Ok, Err, if◌then◌else◌}
 use Rattle.std.specs.List.{take_while}
-use Rattle.bt_text.specs.ByteTests.{is_white, is_digit, right_brace}
-use Rattle.bt_text.specs.NameBytes.{is_name_byte}
+use Rattle.bt_text.specs.ByteTests.{is_white, right_brace}
 use Rattle.bt_bib.specs.declared.fault.Fault.{Fault}
 use Rattle.bt_bib.specs.declared.fault.Fault.TheVariants.{EndOfFile}
 use Rattle.bt_bib.specs.declared.item.Closing.{Closing}
 use Rattle.bt_bib.specs.declared.item.Closing.TheVariants.{Brace, Parenthesis}
-use Rattle.bt_bib.specs.declared.scan.Class.{Class}
-use Rattle.bt_bib.specs.declared.scan.Class.TheVariants.{White, Digit, Name, Key}
 use Rattle.bt_bib.specs.Spot.{Here, beyond, behind}
 use Rattle.bt_bib.specs.Stop.{Stop}
 
@@ -22,12 +19,6 @@ abbrev pub is_key_byte : Closing → ℕ → Bool
 is_key_byte Brace b = not (is_white b || b == 44 || b == right_brace)
 is_key_byte Parenthesis b = not (is_white b || b == 44)
 
-abbrev pub has : Class → ℕ → Bool
-has White b = is_white b
-has Digit b = is_digit b
-has Name b = is_name_byte b
-has (Key close) b = is_key_byte close b
-
 -- the first byte, where there is one
 abbrev pub first : List ℕ → Option ℕ
 first [] = None
@@ -37,11 +28,11 @@ first (b ∷ rest) = Some b
 abbrev pub run : (ℕ → Bool) → Here → List ℕ
 run test h = take_while test h.rest
 
--- behind that run
+-- after that run
 abbrev pub past : (ℕ → Bool) → Here → Here
 past test h = beyond (run test h) h
 
--- behind the white space
+-- after the white space
 abbrev pub white : Here → Here
 white h = past is_white h
 
@@ -49,6 +40,6 @@ abbrev pub sign_from : ℕ → Fault → Here → Option ℕ → Result Here Sto
 sign_from wanted fault h None = Err (EndOfFile, h)
 sign_from wanted fault h (Some b) = if b == wanted then Ok (behind h) else Err (fault, h)
 
--- behind a byte that must stand here
+-- after a byte that must stand here
 unfoldable pub sign : ℕ → Fault → Here → Result Here Stop
 sign wanted fault h = sign_from wanted fault h (first h.rest)

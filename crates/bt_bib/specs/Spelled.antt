@@ -9,11 +9,11 @@
 -- | entry    | `@type{key fields`, where the type is no word of the format itself                            |
 -- | string   | `@string{name = value}`                                                                       |
 -- | preamble | `@preamble{value}`                                                                            |
--- | comment  | `@comment` alone: what stands behind it is spelled as if it weren't there                     |
--- | database | text without `@`, and then any number of items and comments, each with such text behind it    |
+-- | comment  | `@comment` alone: what stands after it is spelled as if it weren't there                     |
+-- | database | text without `@`, and then any number of items and comments, each with such text after it    |
 --
 -- White space may stand between all of these (`⋯`), and `( )` for the outer `{ }`.
-use Rattle.std.specs.Prelude.{◌≡◌, ℕ, Bool, true, false, ◌&&◌, List, [], ◌∷◌, codes, Some, None}
+use Rattle.std.specs.Prelude.{◌≡◌, ℕ, Bool, true, false, ◌&&◌, List, [], ◌∷◌, codes, Some}
 use Rattle.std.specs.List.{list_all}
 use Rattle.bt_text.specs.ByteTests.{is_digit, left_brace, right_brace}
 use Rattle.bt_text.specs.NameBytes.{is_name}
@@ -23,14 +23,12 @@ use Rattle.bt_bib.specs.declared.item.Closing.TheVariants.{Brace, Parenthesis}
 use Rattle.bt_bib.specs.declared.item.Part.{Part}
 use Rattle.bt_bib.specs.declared.item.Part.TheVariants.{Text, Macro}
 use Rattle.bt_bib.specs.declared.item.Field.{Field}
-use Rattle.bt_bib.specs.declared.item.Content.{Content}
 use Rattle.bt_bib.specs.declared.item.Content.TheVariants as contents
 use Rattle.bt_bib.specs.declared.item.Item.{Item}
 use Rattle.bt_bib.specs.declared.item.Piece.{Piece}
 use Rattle.bt_bib.specs.declared.item.Piece.TheVariants as pieces
 use Rattle.bt_bib.specs.declared.keywords.Keyword.{Keyword}
 use Rattle.bt_bib.specs.declared.keywords.Keyword.TheVariants as keywords
-use Rattle.bt_bib.specs.Spot.{passed}
 use Rattle.bt_bib.specs.Scan.{closing_sign, is_key_byte}
 use Rattle.bt_bib.specs.Keywords.{keyword_of}
 use Rattle.bt_bib.specs.Pieces.{is_text}
@@ -75,7 +73,7 @@ PartOf (Text text) =
     Enclosed left_brace right_brace text or Enclosed quote quote text or Bytes text (is_number text ≡ true)
 PartOf (Macro name line) = OnLine line (NameOf name)
 
--- a part, and others behind it
+-- a part, and others after it
 abbrev pub PartsOf : Part → List Part → Spelling
 PartsOf p [] = PartOf p
 PartsOf p (q ∷ ps) = PartOf p ⋯ Sign number_sign ⋯ PartsOf q ps
@@ -93,7 +91,7 @@ ValueOf (p ∷ ps) = PartsOf p ps
 abbrev pub FieldOf : Field → Spelling
 FieldOf f = OnLine f.line (NameOf f.name ⋯ Sign equals_sign ⋯ ValueOf f.value)
 
--- what stands behind a key, up to the sign that closes the entry
+-- what stands after a key, up to the sign that closes the entry
 abbrev pub FieldsOf : Closing → List Field → Spelling
 FieldsOf close [] = Sign (closing_sign close) or Sign comma ⋯ Sign (closing_sign close)
 FieldsOf close (f ∷ fs) = Sign comma ⋯ FieldOf f ⋯ FieldsOf close fs
@@ -103,27 +101,22 @@ abbrev pub EndsKey : Closing → List ℕ → Type 0
 EndsKey close [] = ⊥
 EndsKey close (b ∷ rest) = is_key_byte close b ≡ false
 
--- A key and what stands behind it. An empty key has no white space behind it: what there is stands before it.
+-- A key and what stands after it. An empty key has no white space after it: what there is stands before it.
 abbrev pub Keyed : Closing → List ℕ → Spelling → Spelling
 Keyed close [] A = Provided (EndsKey close) A
 Keyed close (b ∷ key) A =
     Bytes (b ∷ key) (list_all (is_key_byte close) (b ∷ key) ≡ true) ▸ Provided (EndsKey close) (White ▸ A)
 
--- a word behind `@` that begins such a piece
+-- a word after `@` that begins such a piece
 abbrev pub IsWord : Keyword → List ℕ → Type 0
 IsWord keyword word = (is_name word ≡ true) × (keyword_of word ≡ keyword)
 
 abbrev pub WordOf : Keyword → Spelling
 WordOf keyword s word = IsWord keyword word
 
--- `@word{`, and what stands behind it
+-- `@word{`, and what stands after it
 abbrev pub Head : Keyword → List ℕ → Closing → Spelling → Spelling
 Head keyword word close A = Sign at_sign ⋯ Bytes word (IsWord keyword word) ⋯ Sign (opening_sign close) ⋯ A
-
--- an item without a fault that this text is, where it stands here
-abbrev pub whole : Spot → List ℕ → ℕ → Content → Closing → Item
-whole s text line content close =
-    record { start = s; end = passed text s; line = line; content = content; close = Some close; fault = None }
 
 -- an item: its line is that of the key, of the name that a string defines, or of the `@` of a preamble
 pub data ItemOf : Item → Spot → List ℕ → Type 0 where
@@ -142,7 +135,7 @@ pub data ItemOf : Item → Spot → List ℕ → Type 0 where
 abbrev pub Skipped : Spelling
 Skipped s text = list_all is_text text ≡ true
 
--- `@comment` from one spot to another, and what stands behind it
+-- `@comment` from one spot to another, and what stands after it
 abbrev pub Commented : Spot → Spot → Spelling → Spelling
 Commented start end A =
     From start (Sign at_sign ⋯ WordOf keywords.Comment ▸ From end (Provided (MayEndName (codes "{(")) A))

@@ -24,7 +24,7 @@ EnclosedTextsAreRead = (close : ℕ) (s : Spot) (text rest : List ℕ) →
     (close == left_brace) ≡ false → IsEnclosed close text →
     enclosed close (at s (text ++ close ∷ rest)) ≡ Ok (text, at (passed text s) (close ∷ rest))
 
--- A part and the white space behind it, in front of a `#`, a comma or the closing sign, are read as that part.
+-- A part and the white space after it, before a `#`, a comma or the closing sign, are read as that part.
 abbrev pub SpelledPartsAreRead : Type 0
 SpelledPartsAreRead = (close : Closing) (p : Part) (s : Spot) (text rest : List ℕ) →
     (PartOf p ▸ White) s text → BeginsBy (part_ends close) rest →
@@ -44,7 +44,7 @@ SpelledFieldsAreRead = (close : Closing) (f : Field) (s : Spot) (text rest : Lis
     (FieldOf f ▸ White) s text → BeginsBy (value_ends close) rest →
     field close (at s (text ++ rest)) ≡ Ok (f, at (passed text s) rest)
 
--- An item is read as it is spelled, whatever stands behind it.
+-- An item is read as it is spelled, whatever stands after it.
 abbrev pub SpelledItemsAreRead : Type 0
 SpelledItemsAreRead = (i : Item) (s : Spot) (text rest : List ℕ) → ItemOf i s text →
     piece (at s (text ++ rest)) ≡ (pieces.Item i, at (passed text s) rest)

@@ -10,7 +10,7 @@ abbrev pub Spelling : Type 1
 Spelling = Spot → List ℕ → Type 0
 
 infixr 60 ◌▸◌
--- one, and right behind it the other
+-- one, and right after it the other
 pub data ◌▸◌ (A B : Spelling) : Spot → List ℕ → Type 0 where
   Both : {s : Spot} {front back : List ℕ} → A s front → B (passed front s) back → (A ▸ B) s (front ++ back)
 
@@ -29,7 +29,7 @@ abbrev pub White : Spelling
 White s text = list_all is_white text ≡ true
 
 infixr 60 ◌⋯◌
--- one behind the other, with white space between them or none
+-- one after the other, with white space between them or none
 abbrev pub ◌⋯◌ : Spelling → Spelling → Spelling
 A ⋯ B = A ▸ White ▸ B
 
@@ -62,7 +62,7 @@ abbrev pub BeginsBy : List ℕ → List ℕ → Type 0
 BeginsBy signs [] = ⊥
 BeginsBy signs (b ∷ rest) = list_any (λ sign. sign == b) signs ≡ true
 
--- What may stand behind a name: white space, one of some signs, or nothing.
+-- What may stand after a name: white space, one of some signs, or nothing.
 abbrev pub MayEndName : List ℕ → List ℕ → Type 0
 MayEndName signs [] = Unit {0}
 MayEndName signs (b ∷ rest) = (is_white b || list_any (λ sign. sign == b) signs) ≡ true

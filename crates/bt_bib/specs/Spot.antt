@@ -1,5 +1,5 @@
 -- Places of a text, with what stands from there on.
-use Rattle.std.specs.Prelude.{ℕ, ◌+◌, ◌≤◌, Bool, ◌==◌, List, [], ◌∷◌, length, drop, count_by, if◌then◌else◌}
+use Rattle.std.specs.Prelude.{ℕ, ◌+◌, Bool, ◌==◌, List, [], ◌∷◌, length, drop, count_by, if◌then◌else◌}
 use Rattle.bt_bib.specs.declared.spot.Spot.{Spot}
 
 abbrev pub start : Spot
@@ -8,11 +8,11 @@ start = record { place = 0; line = 1 }
 abbrev pub is_line_end : ℕ → Bool
 is_line_end b = b == 10
 
--- the spot behind a byte
+-- the spot after a byte
 abbrev pub after : ℕ → Spot → Spot
 after b s = record { place = s.place + 1; line = if is_line_end b then s.line + 1 else s.line }
 
--- the spot behind some bytes
+-- the spot after some bytes
 abbrev pub passed : List ℕ → Spot → Spot
 passed front s = record { place = s.place + length front; line = s.line + count_by is_line_end front }
 
@@ -27,7 +27,7 @@ at s rest = record { spot = s; rest = rest }
 abbrev pub here : List ℕ → Spot → Here
 here text s = at s (drop s.place text)
 
--- behind some bytes that stand here
+-- after some bytes that stand here
 abbrev pub beyond : List ℕ → Here → Here
 beyond front h = at (passed front h.spot) (drop (length front) h.rest)
 
@@ -35,17 +35,6 @@ abbrev pub behind_first : Spot → List ℕ → Here
 behind_first s [] = at s []
 behind_first s (b ∷ rest) = at (after b s) rest
 
--- behind one byte
+-- after one byte
 abbrev pub behind : Here → Here
 behind h = behind_first h.spot h.rest
-
--- the spot lies in the text
-pub record IsIn (text : List ℕ) (s : Spot) : Type 0 where
-  pub place : s.place ≤ length text
-  pub line : s.line ≤ s.place + 1
-
--- the spot lies in the text, at another one or behind it
-pub record IsAhead (text : List ℕ) (from s : Spot) : Type 0 where
-  pub order : from.place ≤ s.place
-  pub place : s.place ≤ length text
-  pub line : s.line ≤ s.place + 1

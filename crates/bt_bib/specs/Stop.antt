@@ -1,52 +1,19 @@
--- Readers of a text: each gives what it read with what stands behind it, or stops at a fault.
-use Rattle.std.specs.Prelude.{◌≡◌, List, Result, Ok, Err, Option, Some, None, IfOk}
-use Rattle.std.specs.declared.alloc.AllocError.{AllocError}
-use Rattle.bt_bib.specs.declared.spot.Spot.{Spot}
+-- Readers of a text: each gives what it read with what stands after it, or stops at a fault.
+use Rattle.std.specs.Prelude.{Result, Ok, Err, Option, Some, None}
 use Rattle.bt_bib.specs.declared.fault.Fault.{Fault}
-use Rattle.bt_bib.specs.declared.stop.Halt.{Halt}
-use Rattle.bt_bib.specs.declared.stop.Halt.TheVariants.{Memory, Stopped}
-use Rattle.std.specs.Prelude.{ℕ}
-use Rattle.bt_bib.specs.Spot.{Here, here, IsAhead}
+use Rattle.bt_bib.specs.Spot.{Here}
 
 -- a fault, and where it stands
 abbrev pub Stop : Type 0
 Stop = Fault × Here
 
 infixl 10 ◌>>=◌
--- one reader behind the other
+-- one reader after the other
 abbrev pub ◌>>=◌ : {A B : Type 0} → Result A Stop → (A → Result B Stop) → Result B Stop
 (Ok x) >>= f = f x
 (Err stop) >>= f = Err stop
 
 -- what was read, where nothing stopped it
-abbrev pub given : {A : Type 0} → Result (A × Here) Stop → Option A
-given (Ok x) = Some x.0
-given (Err stop) = None
-
--- A reader of the code stops where the definition does, unless memory ran out.
-abbrev pub Stops : {Y : Type 0} → List ℕ → Spot → Halt → Result Y Stop → Type 0
-Stops text from Memory read = Unit {0}
-Stops text from (Stopped fault s) read = (read ≡ Err (fault, here text s)) × IsAhead text from s
-
--- It gives what the definition reads, and the spot behind it.
-abbrev pub Gives : {X : Type 0} → List ℕ → Spot → Result (X × Spot) Halt → Result (X × Here) Stop → Type 0
-Gives text from (Ok x) read = (read ≡ Ok (x.0, here text x.1)) × IsAhead text from x.1
-Gives text from (Err halt) read = Stops text from halt read
-
--- It gives the spot behind what the definition reads.
-abbrev pub Finds : List ℕ → Spot → Result Spot Halt → Result Here Stop → Type 0
-Finds text from (Ok s) read = (read ≡ Ok (here text s)) × IsAhead text from s
-Finds text from (Err halt) read = Stops text from halt read
-
--- It leaves in x what the definition reads, up to where that ends.
-abbrev pub FillsTo : {X : Type 0} → List ℕ → Spot → Halt → X → X × Result Here Stop → Type 0
-FillsTo text from Memory x read = Unit {0}
-FillsTo text from (Stopped fault s) x read = (read ≡ (x, Err (fault, here text s))) × IsAhead text from s
-
-abbrev pub Fills : {X : Type 0} → List ℕ → Spot → Result Spot Halt → X → X × Result Here Stop → Type 0
-Fills text from (Ok s) x read = (read ≡ (x, Ok (here text s))) × IsAhead text from s
-Fills text from (Err halt) x read = FillsTo text from halt x read
-
--- what is always read, unless memory ran out
-abbrev pub Makes : {X : Type 0} → List ℕ → Spot → Result (X × Spot) AllocError → X × Here → Type 0
-Makes text from result read = IfOk result (λ x. (read ≡ (x.0, here text x.1)) × IsAhead text from x.1)
+abbrev pub value_read : {A : Type 0} → Result (A × Here) Stop → Option A
+value_read (Ok x) = Some x.0
+value_read (Err stop) = None

@@ -15,7 +15,7 @@ use Rattle.bt_bib.specs.Stop.{Stop, ◌>>=◌}
 use Rattle.bt_bib.specs.Names.{name}
 use Rattle.bt_bib.specs.Many.{all, collected}
 
--- Behind a macro's name stands a comma, a `#` or the closing sign of the item.
+-- After a macro's name stands a comma, a `#` or the closing sign of the item.
 abbrev pub part_ends : Closing → List ℕ
 part_ends close = 44 ∷ 35 ∷ closing_sign close ∷ []
 
@@ -32,7 +32,7 @@ part_from close h (Some b) =
 abbrev pub raw_part : Closing → Here → Result (Part × Here) Stop
 raw_part close h = part_from close h (first h.rest)
 
--- a part, and the white space behind it
+-- a part, and the white space after it
 unfoldable pub part : Closing → Here → Result (Part × Here) Stop
 part close h = raw_part close h >>= λ x. Ok (x.0, white x.1)
 
@@ -40,10 +40,10 @@ abbrev pub joined_from : Closing → Here → Option ℕ → Result (Option Part
 joined_from close h None = Ok (None, h)
 joined_from close h (Some b) = if b == 35 then (part close (white (behind h)) >>= λ x. Ok (Some x.0, x.1)) else Ok (None, h)
 
--- another part behind a `#`, or none
+-- another part after a `#`, or none
 unfoldable pub joined : Closing → Here → Result (Option Part × Here) Stop
 joined close h = joined_from close h (first h.rest)
 
--- a value, and the white space behind it
+-- a value, and the white space after it
 unfoldable pub value : Closing → Here → Result (List Part × Here) Stop
 value close h = part close h >>= λ x. collected (x.0 ∷ []) (all (joined close) x.1)

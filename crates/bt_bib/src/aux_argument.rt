@@ -2,7 +2,7 @@
 
 ghost use Rattle.std.specs.Prelude.{◌≡◌, ◌≤◌, length, map, IfOk};
 ghost use Rattle.std.specs.List.{slice_split};
-ghost use Rattle.bt_bib.specs.AuxArgument.{ends_argument, inside, is_comma, parts_in, fault_at, kept, fault_of, parts_of};
+ghost use Rattle.bt_bib.specs.AuxArgument.{ends_argument, inside, is_comma, parts_in, fault_at, parts_kept, fault_of, argument_parts};
 
 use bt_text::{Bytes, Sequence, is_white};
 use std::alloc::{AllocError, Global};
@@ -14,7 +14,7 @@ pub enum AuxFault {
     NoBrace,
     /// White space stands in it.
     WhiteSpace,
-    /// Something stands behind its brace.
+    /// Something stands after its brace.
     StuffAfter,
 }
 
@@ -66,7 +66,7 @@ fn parts_in<'a>(
 
 /// The parts that a fault leaves.
 fn kept<'p, 'a>(fault: Option<AuxFault>, parts: &'p [&'a [u8]]) -> &'p [&'a [u8]]
-    ensures { map (λ p. p.now) result.now ≡ kept fault (map (λ p. p.now) parts.now) }
+    ensures { map (λ p. p.now) result.now ≡ parts_kept fault (map (λ p. p.now) parts.now) }
 {
     match fault {
         None => parts,
@@ -85,7 +85,7 @@ fn copied(alloc: Global, parts: &[&[u8]]) -> Result<Sequence<Bytes>, AllocError>
     Ok(copies)
 }
 
-/// What is wrong, by what ends the argument and stands behind it.
+/// What is wrong, by what ends the argument and stands after it.
 fn fault_at(behind: &[u8]) -> Option<AuxFault>
     ensures { result ≡ fault_at behind.now }
 {
@@ -103,14 +103,14 @@ fn fault_at(behind: &[u8]) -> Option<AuxFault>
     }
 }
 
-/// The parts in front of a fault, and the fault, of what stands behind a command's opening brace.
-/// The one error is want of memory.
+/// The parts before a fault, and the fault, of what stands after a command's opening brace.
+/// The one error is out of memory.
 pub fn read_argument(
     alloc: Global,
     rest: &[u8],
     parting: Parting,
 ) -> Result<(Sequence<Bytes>, Option<AuxFault>), AllocError>
-    ensures { IfOk result (λ read. read ≡ (parts_of parting rest.now, fault_of rest.now)) }
+    ensures { IfOk result (λ read. read ≡ (argument_parts parting rest.now, fault_of rest.now)) }
 {
     let (argument, behind) = rest.split_at(inside_len(rest));
     let fault = fault_at(behind);

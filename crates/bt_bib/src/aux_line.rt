@@ -2,7 +2,7 @@
 
 ghost use Rattle.std.specs.Prelude.{◌≡◌, ◌≤◌, ◌<◌, ◌+◌, ◌^◌, [], ◌++◌, length, IfOk, OnOk, IfSome};
 ghost use Rattle.std.specs.List.{position_or_len, suffix_len};
-ghost use Rattle.bt_bib.specs.AuxLine.{is_line_end, command_of, word, parting, item, counted, aux_lines};
+ghost use Rattle.bt_bib.specs.AuxLine.{is_line_end, command_of, word, parting, item, if_counted, aux_lines};
 
 use crate::aux_argument::{AuxFault, Parting, read_argument};
 use bt_text::{Bytes, Sequence, trim_end};
@@ -46,7 +46,7 @@ impl Command {
     }
 }
 
-/// A counted line: the parts in front of its fault, if it has one.
+/// A counted line: the parts before its fault, if it has one.
 #[derive(Debug, Drop)]
 pub struct AuxItem {
     pub line: usize,
@@ -98,14 +98,14 @@ fn item(alloc: Global, number: usize, line: &[u8], command: Command) -> Result<A
     })
 }
 
-/// Puts a line behind others, if it counts.
+/// Puts a line after others, if it counts.
 fn add_line(
     alloc: Global,
     items: &mut Sequence<AuxItem>,
     number: usize,
     line: &[u8],
 ) -> Result<(), AllocError>
-    ensures { OnOk result (items.new ≡ items.old ++ counted number line.now (command_of line.now) []) }
+    ensures { OnOk result (items.new ≡ items.old ++ if_counted number line.now (command_of line.now) []) }
 {
     if let Some(command) = command_of(line) {
         items.push(item(alloc, number, line, command)?)?;
@@ -113,7 +113,7 @@ fn add_line(
     Ok(())
 }
 
-/// The counted lines of a text, in order. The one error is want of memory.
+/// The counted lines of a text, in order. The one error is out of memory.
 pub fn read_aux(alloc: Global, text: &[u8]) -> Result<Sequence<AuxItem>, AllocError>
     ensures { IfOk result (λ items. items ≡ aux_lines text.now) }
 {

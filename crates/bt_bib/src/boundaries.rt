@@ -2,7 +2,8 @@
 
 ghost use Rattle.std.specs.Prelude.{◌≡◌, ◌≤◌, length, take};
 ghost use Rattle.bt_bib.specs.Spot.{start};
-ghost use Rattle.bt_bib.specs.Boundaries.{below, last_end, InOrder};
+ghost use Rattle.bt_bib.specs.Boundaries.{last_end};
+ghost use Rattle.bt_bib.specs.inner.Boundaries.{below, InOrder};
 
 use crate::placed::PlacedPiece;
 use crate::spot::Spot;

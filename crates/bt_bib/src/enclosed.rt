@@ -1,10 +1,12 @@
 //! What braces and quotes enclose.
 
 ghost use Rattle.std.specs.Prelude.{◌≡◌, ◌<◌, ◌+◌, ◌^◌};
-ghost use Rattle.bt_bib.specs.Spot.{here, IsAhead, IsIn};
+ghost use Rattle.bt_bib.specs.Spot.{here};
+ghost use Rattle.bt_bib.specs.inner.Spot.{IsAhead, IsIn};
 ghost use Rattle.bt_bib.specs.Scan.{past};
-ghost use Rattle.bt_bib.specs.Enclosed.{enclosed, enclosed_end, is_plain, turn, IsNear};
-ghost use Rattle.bt_bib.specs.Stop.{Finds, Gives};
+ghost use Rattle.bt_bib.specs.Enclosed.{enclosed};
+ghost use Rattle.bt_bib.specs.inner.Enclosed.{enclosed_end, is_plain, turn, IsNear};
+ghost use Rattle.bt_bib.specs.inner.Stop.{Finds, Gives};
 
 use crate::fault::Fault;
 use crate::reader::Reader;

@@ -3,7 +3,7 @@
 /// What a name stands for.
 #[derive(Clone, Copy, Debug, PartialEq, Eq)]
 pub enum What {
-    /// The word behind `@`.
+    /// The word after `@`.
     EntryType,
     /// The name that `@string` gives a value.
     StringName,
@@ -20,13 +20,13 @@ pub enum Fault {
     EndOfFile,
     /// No name stands where one must. A field part that is missing is `MissingPart`.
     MissingName(What),
-    /// This byte stands right behind a name, and may not.
+    /// This byte stands right after a name, and may not.
     BadNameEnd(What, u8),
-    /// Neither `{` nor `(` stands behind the type.
+    /// Neither `{` nor `(` stands after the type.
     ExpectedOpen,
-    /// Neither a comma nor the closing sign stands behind a key or a value (in a string or preamble: no closing sign).
+    /// Neither a comma nor the closing sign stands after a key or a value (in a string or preamble: no closing sign).
     ExpectedCommaOrClose,
-    /// No `=` stands behind the name of a field or string.
+    /// No `=` stands after the name of a field or string.
     ExpectedEquals,
     /// A `}` stands between quotes without its `{`.
     UnbalancedBraces,

@@ -1,8 +1,10 @@
 //! The fields of an entry.
 
-ghost use Rattle.bt_bib.specs.Spot.{here, IsIn};
-ghost use Rattle.bt_bib.specs.Stop.{Fills, Gives};
-ghost use Rattle.bt_bib.specs.Many.{all, gathered};
+ghost use Rattle.bt_bib.specs.Spot.{here};
+ghost use Rattle.bt_bib.specs.inner.Spot.{IsIn};
+ghost use Rattle.bt_bib.specs.inner.Stop.{Fills, Gives};
+ghost use Rattle.bt_bib.specs.Many.{all};
+ghost use Rattle.bt_bib.specs.inner.Many.{gathered};
 ghost use Rattle.bt_bib.specs.Fields.{field, next_field};
 
 use crate::fault::{Fault, What};
@@ -13,7 +15,7 @@ use crate::stop::Halt;
 use bt_text::Sequence;
 
 impl Reader<'_> {
-    /// A field, and the white space behind it.
+    /// A field, and the white space after it.
     #[tactic(auto, unfolding(crate::specs::Fields::field))]
     fn field(&self, from: Spot, close: Closing) -> Result<(Field, Spot), Halt>
         requires { IsIn self.now.text.now from }
@@ -26,7 +28,7 @@ impl Reader<'_> {
         Ok((Field { name, line, value }, end))
     }
 
-    /// Another field behind a comma, or the end of the entry.
+    /// Another field after a comma, or the end of the entry.
     #[tactic(auto, unfolding(crate::specs::Fields::next_field))]
     fn next_field(&self, from: Spot, close: Closing) -> Result<(Option<Field>, Spot), Halt>
         requires { IsIn self.now.text.now from }
@@ -53,7 +55,7 @@ impl Reader<'_> {
         }
     }
 
-    /// Puts the fields of an entry behind `fields` as they are read, up to the entry's end or its fault.
+    /// Puts the fields of an entry after `fields` as they are read, up to the entry's end or its fault.
     pub fn fields(
         &self,
         from: Spot,

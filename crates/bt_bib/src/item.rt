@@ -4,7 +4,7 @@ use crate::fault::Fault;
 use crate::spot::Spot;
 use bt_text::{Bytes, Sequence, Shared};
 
-/// The sign that ends what stands behind an item's type.
+/// The sign that ends what stands after an item's type.
 #[derive(Clone, Copy, Debug, PartialEq, Eq)]
 pub enum Closing {
     /// `}`, where `{` opened.
@@ -36,7 +36,7 @@ pub struct Field {
 /// What was read of an entry.
 #[derive(Debug, Drop)]
 pub struct Entry {
-    /// Its type as written; none where no type begins behind the `@`.
+    /// Its type as written; none where no type begins after the `@`.
     pub kind: Option<Shared<Bytes>>,
     /// Its key as written, which may be empty; none where a fault stands before it.
     pub key: Option<Shared<Bytes>>,
@@ -69,7 +69,7 @@ pub enum Content {
 pub struct Item {
     /// The place of its `@`.
     pub start: Spot,
-    /// The place behind it; for a faulty item that of its fault, whose line this has.
+    /// The place after it; for a faulty item that of its fault, whose line this has.
     pub end: Spot,
     /// The line of an entry's key or a string's name, else of the `@`.
     pub line: usize,
@@ -84,7 +84,7 @@ pub struct Item {
 /// What begins with an `@`.
 #[derive(Debug, Drop)]
 pub enum Piece {
-    /// The word `@comment`, from its `@` to the place behind it. What follows is read as if the word weren't there.
+    /// The word `@comment`, from its `@` to the place after it. What follows is read as if the word weren't there.
     Comment(Spot, Spot),
     /// An item.
     Item(Item),

@@ -40,7 +40,7 @@ impl Items {
         self.pieces.as_slice()
     }
 
-    /// Puts a piece behind the others. After want of memory they are as before.
+    /// Puts a piece after the others. After out of memory they are as before.
     pub(crate) fn push(&mut self, piece: Piece) -> Result<(), AllocFailed<Piece>>
         ensures ok { OnOk result (self.new ≡ self.old ++ piece ∷ []) }
         ensures err { OnErr result (self.new ≡ self.old) }

@@ -1,8 +1,9 @@
 //! The items of a database as they are kept from edit to edit.
 
 ghost use Rattle.std.specs.Prelude.{◌≡◌, [], ◌++◌, ◌∷◌, map, All, IfOk, OnOk, OnErr};
-ghost use Rattle.bt_bib.specs.Moving.{rebased_piece, FitsPiece};
-ghost use Rattle.bt_bib.specs.Placed.{BeginsBehind};
+ghost use Rattle.bt_bib.specs.Moving.{FitsPiece};
+ghost use Rattle.bt_bib.specs.inner.Moving.{rebased_piece};
+ghost use Rattle.bt_bib.specs.inner.Placed.{BeginsBehind};
 ghost use Rattle.bt_bib.specs.Reading.{pieces_of};
 
 use crate::placed::PlacedPiece;
@@ -59,7 +60,7 @@ impl KeptItems {
         self.pieces.as_slice()
     }
 
-    /// Puts a piece behind the others. After want of memory they are as before.
+    /// Puts a piece after the others. After out of memory they are as before.
     pub(crate) fn push(&mut self, piece: PlacedPiece) -> Result<(), AllocFailed<PlacedPiece>>
         ensures ok { OnOk result (self.new ≡ self.old ++ piece ∷ []) }
         ensures err { OnErr result (self.new ≡ self.old) }
@@ -67,7 +68,7 @@ impl KeptItems {
         self.pieces.push(piece)
     }
 
-    /// Takes others over behind these, where the text from `a` on stands from `b` on. They are not copied.
+    /// Takes others over after these, where the text from `a` on stands from `b` on. They are not copied.
     pub(crate) fn with_rebased(
         self,
         others: &[PlacedPiece],

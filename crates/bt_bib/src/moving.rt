@@ -1,11 +1,12 @@
-//! Places and lines behind one place, as they are behind another.
+//! Places and lines after one place, as they are after another.
 
 ghost use Rattle.std.specs.Prelude.{◌≡◌, ◌<◌, ◌+◌, ◌-◌, ◌^◌};
-ghost use Rattle.bt_bib.specs.Moving.{rebased, rebased_line, FitsLine, FitsSpot};
+ghost use Rattle.bt_bib.specs.Moving.{rebased_line, FitsLine, FitsSpot};
+ghost use Rattle.bt_bib.specs.inner.Moving.{rebased};
 
 use crate::spot::Spot;
 
-/// A line behind `a`, where the text from `a` on stands from `b` on.
+/// A line after `a`, where the text from `a` on stands from `b` on.
 fn rebased_line(line: usize, a: Spot, b: Spot) -> usize
     requires { FitsLine a b line }
     ensures { result ≡ rebased_line a b line }

@@ -1,10 +1,11 @@
-//! Names, and what may stand behind them.
+//! Names, and what may stand after them.
 
 ghost use Rattle.std.specs.Prelude.{◌≡◌, ◌==◌};
 ghost use Rattle.std.specs.List.{list_any};
-ghost use Rattle.bt_bib.specs.Spot.{here, IsIn};
-ghost use Rattle.bt_bib.specs.Stop.{Finds, Gives};
-ghost use Rattle.bt_bib.specs.Names.{ended, name, word};
+ghost use Rattle.bt_bib.specs.Spot.{here};
+ghost use Rattle.bt_bib.specs.inner.Spot.{IsIn};
+ghost use Rattle.bt_bib.specs.inner.Stop.{Finds, Gives};
+ghost use Rattle.bt_bib.specs.Names.{name_ended, name, word};
 
 use crate::fault::{Fault, What};
 use crate::reader::Reader;
@@ -40,10 +41,10 @@ impl Reader<'_> {
     }
 
     /// This place, where white space, the text's end or one of some signs stands.
-    #[tactic(auto, unfolding(crate::specs::Names::ended))]
+    #[tactic(auto, unfolding(crate::specs::Names::name_ended))]
     pub fn ended(&self, from: Spot, what: What, signs: &[u8]) -> Result<Spot, Halt>
         requires { IsIn self.now.text.now from }
-        ensures { Finds self.now.text.now from result (ended what signs.now (here self.now.text.now from)) }
+        ensures { Finds self.now.text.now from result (name_ended what signs.now (here self.now.text.now from)) }
     {
         let Some(byte) = self.peek(from) else {
             return Ok(from);
@@ -55,7 +56,7 @@ impl Reader<'_> {
         }
     }
 
-    /// A name behind which white space, the text's end or one of some signs stands.
+    /// A name after which white space, the text's end or one of some signs stands.
     #[tactic(auto, unfolding(crate::specs::Names::name))]
     pub fn name(&self, from: Spot, what: What, signs: &[u8]) -> Result<(Shared<Bytes>, Spot), Halt>
         requires { IsIn self.now.text.now from }

@@ -1,10 +1,12 @@
 //! What begins with an `@`: comment words, strings, preambles and entries.
 
 ghost use Rattle.std.specs.Prelude.{◌≡◌, [], None, IfOk};
-ghost use Rattle.bt_bib.specs.Spot.{here, IsIn};
-ghost use Rattle.bt_bib.specs.Stop.{Fills, Finds, Gives, Makes};
+ghost use Rattle.bt_bib.specs.Spot.{here};
+ghost use Rattle.bt_bib.specs.inner.Spot.{IsIn};
+ghost use Rattle.bt_bib.specs.inner.Stop.{Fills, Finds, Gives, Makes};
 ghost use Rattle.bt_bib.specs.Keywords.{keyword_of};
-ghost use Rattle.bt_bib.specs.Pieces.{closed, entry_item, opening, piece, preamble_item, preamble_read, string_item, string_read, typed, unread_entry, unread_string, IsItem};
+ghost use Rattle.bt_bib.specs.Pieces.{closed, entry_item, opening, piece, preamble_item, preamble_read, string_item, string_read, item_of_type, unread_entry, unread_string};
+ghost use Rattle.bt_bib.specs.inner.Pieces.{IsItem};
 
 use crate::fault::{Fault, What};
 use crate::item::{Closing, Content, Definition, Entry, Item, Part, Piece};
@@ -81,7 +83,7 @@ impl Reader<'_> {
         }
     }
 
-    /// The place behind the closing sign.
+    /// The place after the closing sign.
     fn closed(&self, from: Spot, close: Closing) -> Result<Spot, Halt>
         requires { IsIn self.now.text.now from }
         ensures { Finds self.now.text.now from result (closed close (here self.now.text.now from)) }
@@ -184,10 +186,10 @@ impl Reader<'_> {
         )
     }
 
-    /// A string from the place behind its type on.
+    /// A string from the place after its type on.
     fn string(&self, start: Spot, from: Spot) -> Result<(Piece, Spot), AllocError>
         requires { IsIn self.now.text.now from }
-        ensures { Makes self.now.text.now from result (typed Keyword.String start [] (here self.now.text.now from)) }
+        ensures { Makes self.now.text.now from result (item_of_type Keyword.String start [] (here self.now.text.now from)) }
     {
         match self.opening(self.white(from)) {
             Err(halt) => {
@@ -201,10 +203,10 @@ impl Reader<'_> {
         }
     }
 
-    /// A preamble from the place behind its type on.
+    /// A preamble from the place after its type on.
     fn preamble(&self, start: Spot, from: Spot) -> Result<(Piece, Spot), AllocError>
         requires { IsIn self.now.text.now from }
-        ensures { Makes self.now.text.now from result (typed Keyword.Preamble start [] (here self.now.text.now from)) }
+        ensures { Makes self.now.text.now from result (item_of_type Keyword.Preamble start [] (here self.now.text.now from)) }
     {
         match self.opening(self.white(from)) {
             Err(halt) => unopened(start, Content::Preamble(None), halt),
@@ -212,7 +214,7 @@ impl Reader<'_> {
         }
     }
 
-    /// An entry from the place behind its type on.
+    /// An entry from the place after its type on.
     fn entry(
         &self,
         start: Spot,
@@ -220,7 +222,7 @@ impl Reader<'_> {
         from: Spot,
     ) -> Result<(Piece, Spot), AllocError>
         requires { IsIn self.now.text.now from }
-        ensures { Makes self.now.text.now from result (typed Keyword.Entry start kind (here self.now.text.now from)) }
+        ensures { Makes self.now.text.now from result (item_of_type Keyword.Entry start kind (here self.now.text.now from)) }
     {
         match self.opening(self.white(from)) {
             Err(halt) => unopened(start, unread_entry(self.alloc, Some(kind)), halt),
@@ -228,7 +230,7 @@ impl Reader<'_> {
         }
     }
 
-    /// What a type begins, from the place behind it on.
+    /// What a type begins, from the place after it on.
     fn typed(
         &self,
         start: Spot,
@@ -236,7 +238,7 @@ impl Reader<'_> {
         from: Spot,
     ) -> Result<(Piece, Spot), AllocError>
         requires { IsIn self.now.text.now from }
-        ensures { Makes self.now.text.now from result (typed (keyword_of kind) start kind (here self.now.text.now from)) }
+        ensures { Makes self.now.text.now from result (item_of_type (keyword_of kind) start kind (here self.now.text.now from)) }
     {
         match Keyword::of(kind.as_slice()) {
             Keyword::Comment => Ok((Piece::Comment(start, from), from)),

@@ -3,8 +3,10 @@
 ghost use Rattle.std.specs.Prelude.{◌≡◌, IfOk};
 ghost use Rattle.bt_bib.specs.Boundaries.{start_of, end_of};
 ghost use Rattle.bt_bib.specs.Moved.{moved_piece, nowhere};
-ghost use Rattle.bt_bib.specs.Moving.{rebased_piece, FitsPiece};
-ghost use Rattle.bt_bib.specs.Placed.{BeginsBehind, IsPlaced};
+ghost use Rattle.bt_bib.specs.Moving.{FitsPiece};
+ghost use Rattle.bt_bib.specs.inner.Moving.{rebased_piece};
+ghost use Rattle.bt_bib.specs.Placed.{IsPlaced};
+ghost use Rattle.bt_bib.specs.inner.Placed.{BeginsBehind};
 
 use crate::item::Piece;
 use crate::moving::rebased;
@@ -50,7 +52,7 @@ impl PlacedPiece {
         self.start
     }
 
-    /// The place behind it.
+    /// The place after it.
     pub fn end(&self) -> Spot
         ensures { result ≡ end_of self.now }
     {

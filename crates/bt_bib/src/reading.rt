@@ -1,8 +1,9 @@
 //! The reader of whole databases.
 
 ghost use Rattle.std.specs.Prelude.{◌≡◌, ◌==◌, IfOk};
-ghost use Rattle.bt_bib.specs.Spot.{here, IsAhead, IsIn};
-ghost use Rattle.bt_bib.specs.Stop.{Makes};
+ghost use Rattle.bt_bib.specs.Spot.{here};
+ghost use Rattle.bt_bib.specs.inner.Spot.{IsAhead, IsIn};
+ghost use Rattle.bt_bib.specs.inner.Stop.{Makes};
 ghost use Rattle.bt_bib.specs.Scan.{past};
 ghost use Rattle.bt_bib.specs.Pieces.{is_text, next_piece, piece};
 ghost use Rattle.bt_bib.specs.Reading.{pieces_from, pieces_of};
@@ -114,7 +115,7 @@ impl Reader<'_> {
 }
 
 /// The items of a database, in the order of its text. Any bytes are a database: what can't be read is an item with a
-/// fault, and reading goes on at the next `@` from the fault's place on. The one error is want of memory.
+/// fault, and reading goes on at the next `@` from the fault's place on. The one error is out of memory.
 #[tactic(auto, unfolding(crate::specs::Reading::pieces_of))]
 pub fn read_bib(alloc: Global, text: &[u8]) -> Result<Items, AllocError>
     ensures { IfOk result (λ items. items ≡ pieces_of text.now) }

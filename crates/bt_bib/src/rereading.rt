@@ -1,11 +1,13 @@
 //! Reading on up to a boundary that another text has too.
 
 ghost use Rattle.std.specs.Prelude.{◌≡◌, ◌≤◌, ◌+◌, ◌-◌, ◌<◌, ◌^◌, ◌++◌, [], None, length, IfOk};
-ghost use Rattle.bt_bib.specs.Spot.{here, IsAhead, IsIn};
+ghost use Rattle.bt_bib.specs.Spot.{here};
+ghost use Rattle.bt_bib.specs.inner.Spot.{IsAhead, IsIn};
 ghost use Rattle.bt_bib.specs.Reading.{pieces_from};
-ghost use Rattle.bt_bib.specs.Boundaries.{last_end, InOrder};
+ghost use Rattle.bt_bib.specs.Boundaries.{last_end};
+ghost use Rattle.bt_bib.specs.inner.Boundaries.{InOrder};
 ghost use Rattle.bt_bib.specs.Splice.{is_common};
-ghost use Rattle.bt_bib.specs.Rereading.{until, IsJoint};
+ghost use Rattle.bt_bib.specs.inner.Rereading.{until, IsJoint};
 
 use crate::boundaries::{count_below, last_boundary};
 use crate::kept_items::KeptItems;
@@ -43,7 +45,7 @@ fn joint(old: &[PlacedPiece], splice: Splice, place: usize) -> Option<usize>
 }
 
 impl Reader<'_> {
-    /// Reads on from a place, behind the pieces that are there, up to a boundary of both texts, or to the text's end.
+    /// Reads on from a place, after the pieces that are there, up to a boundary of both texts, or to the text's end.
     pub fn reread(
         &self,
         items: KeptItems,

@@ -1,9 +1,11 @@
 //! Scans of a text: runs of bytes and signs.
 
 ghost use Rattle.std.specs.Prelude.{◌≡◌, ◌<◌, ◌≤◌, ◌+◌, ◌-◌, ◌^◌, count_by, drop, length, take, IfOk};
-ghost use Rattle.bt_bib.specs.Spot.{after, behind, here, is_line_end, passed, IsAhead, IsIn};
-ghost use Rattle.bt_bib.specs.Scan.{closing_sign, first, has, is_key_byte, past, run, sign, white};
-ghost use Rattle.bt_bib.specs.Stop.{Finds, Makes};
+ghost use Rattle.bt_bib.specs.Spot.{after, behind, here, is_line_end, passed};
+ghost use Rattle.bt_bib.specs.inner.Spot.{IsAhead, IsIn};
+ghost use Rattle.bt_bib.specs.Scan.{closing_sign, first, is_key_byte, past, run, sign, white};
+ghost use Rattle.bt_bib.specs.inner.Scan.{has};
+ghost use Rattle.bt_bib.specs.inner.Stop.{Finds, Makes};
 
 use crate::fault::Fault;
 use crate::item::Closing;
@@ -81,7 +83,7 @@ impl Reader<'_> {
         self.text.get(at.place).copied()
     }
 
-    /// The place behind one byte, or this one at the end.
+    /// The place after one byte, or this one at the end.
     pub fn behind(&self, at: Spot) -> Spot
         requires { IsIn self.now.text.now at }
         ensures value { here self.now.text.now result ≡ behind (here self.now.text.now at) }
@@ -109,7 +111,7 @@ impl Reader<'_> {
         }
     }
 
-    /// The place behind the longest run of bytes of a class.
+    /// The place after the longest run of bytes of a class.
     pub fn past(&self, from: Spot, class: Class) -> Spot
         requires { IsIn self.now.text.now from }
         ensures value { here self.now.text.now result ≡ past (has class) (here self.now.text.now from) }
@@ -122,7 +124,7 @@ impl Reader<'_> {
         at
     }
 
-    /// The place behind the white space.
+    /// The place after the white space.
     pub fn white(&self, from: Spot) -> Spot
         requires { IsIn self.now.text.now from }
         ensures value { here self.now.text.now result ≡ white (here self.now.text.now from) }
@@ -144,7 +146,7 @@ impl Reader<'_> {
         ))
     }
 
-    /// The place behind a byte that must stand here. Another byte is this fault.
+    /// The place after a byte that must stand here. Another byte is this fault.
     #[tactic(auto, unfolding(crate::specs::Scan::sign))]
     pub fn sign(&self, from: Spot, wanted: u8, fault: Fault) -> Result<Spot, Halt>
         requires { IsIn self.now.text.now from }

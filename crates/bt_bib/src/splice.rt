@@ -15,7 +15,7 @@ impl KeptItems {
     ghost use Rattle.bt_bib.specs.Splice.{reread_from, reread_upto, IsSplice};
 
     /// The items of `new_text`, which is `old_text` with this splice. These are the items of `old_text`. Only a part of
-    /// the new text is read: from the greatest boundary below the splice up to the least one behind it that both texts
+    /// the new text is read: from the greatest boundary below the splice up to the least one after it that both texts
     /// have. The meter rises by the number of its bytes. The other items are taken over as they are; only where each
     /// stands is new. The one error is out of memory; the meter is then as before.
     pub fn respliced(

@@ -20,7 +20,7 @@ impl Spot {
     /// Place 0 of line 0, where the `@` of a piece stands that is kept apart from its text.
     pub(crate) const NOWHERE: Spot = Spot { place: 0, line: 0 };
 
-    /// The place behind a byte that stands here.
+    /// The place after a byte that stands here.
     pub(crate) fn after(self, byte: u8) -> Spot
         requires place { self.place + 1 < 2 ^ 64 }
         requires line { self.line + 1 < 2 ^ 64 }

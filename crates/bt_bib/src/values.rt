@@ -1,7 +1,8 @@
 //! Values and their parts.
 
-ghost use Rattle.bt_bib.specs.Spot.{here, IsIn};
-ghost use Rattle.bt_bib.specs.Stop.{Gives};
+ghost use Rattle.bt_bib.specs.Spot.{here};
+ghost use Rattle.bt_bib.specs.inner.Spot.{IsIn};
+ghost use Rattle.bt_bib.specs.inner.Stop.{Gives};
 ghost use Rattle.bt_bib.specs.Many.{all, collected};
 ghost use Rattle.bt_bib.specs.Values.{joined, part, raw_part, value};
 
@@ -40,7 +41,7 @@ impl Reader<'_> {
         }
     }
 
-    /// A part of a value, and the white space behind it.
+    /// A part of a value, and the white space after it.
     #[tactic(auto, unfolding(crate::specs::Values::part))]
     fn part(&self, from: Spot, close: Closing) -> Result<(Part, Spot), Halt>
         requires { IsIn self.now.text.now from }
@@ -50,7 +51,7 @@ impl Reader<'_> {
         Ok((part, self.white(end)))
     }
 
-    /// Another part behind a `#`, or none.
+    /// Another part after a `#`, or none.
     #[tactic(auto, unfolding(crate::specs::Values::joined))]
     fn joined(&self, from: Spot, close: Closing) -> Result<(Option<Part>, Spot), Halt>
         requires { IsIn self.now.text.now from }
@@ -89,7 +90,7 @@ impl Reader<'_> {
         }
     }
 
-    /// A value, and the white space behind it.
+    /// A value, and the white space after it.
     #[tactic(auto, unfolding(crate::specs::Values::value))]
     pub fn value(&self, from: Spot, close: Closing) -> Result<(Sequence<Part>, Spot), Halt>
         requires { IsIn self.now.text.now from }

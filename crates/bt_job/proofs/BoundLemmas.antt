@@ -172,7 +172,7 @@ pub read_more : (n : ℕ) (files : List File) (root : List ℕ) (before : List J
 unfolding read_on
 read_more n files root before line later = refl
 
--- the lines that can still come behind one more
+-- the lines that can still come after one more
 pub left_less : (files : List File) (root : List ℕ) (before : List JobLine) (line : JobLine) (later : List JobLine) (m : ℕ) → length (line ∷ later) + unopened files (root ∷ input_names before) ≤ suc m
     → length (opened_by files root before line ++ later) + unopened files (root ∷ input_names (before ++ line ∷ [])) ≤ m
 left_less files root before line later m le =

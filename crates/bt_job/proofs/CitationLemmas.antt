@@ -14,8 +14,8 @@ use Rattle.bt_job.specs.declared.progress.Progress.{Progress}
 use Rattle.bt_job.specs.Naming.{is_among, text_of, with_name}
 use Rattle.bt_job.specs.Lines.{JobLine, lines_in, lines_of, first_with, cited, read_on, line_count, read_all, job_lines}
 use Rattle.bt_job.specs.Citations.{is_star, keys_of, star_of, databases, styles, messages, file_line, lack, lacks, told_missing, asked_by, asked_from, citations}
-use Rattle.bt_job.specs.Inner.Taking.{told, meeting}
-use Rattle.bt_job.specs.Inner.Nesting.{file_taken, nothing_met, is_empty, missing_one, ended, rooted, asked_for}
+use Rattle.bt_job.specs.inner.Taking.{told, meeting}
+use Rattle.bt_job.specs.inner.Nesting.{file_taken, nothing_met, is_empty, missing_one, ended, rooted, asked_for}
 use Rattle.bt_job.proofs.NameLemmas.{bytes_differ}
 use Rattle.bt_job.proofs.EndingLemmas.{aux_ends, aux_not_base}
 use Rattle.bt_job.proofs.FileLemmas.{is_base, is_aux}
@@ -29,7 +29,7 @@ no_cited : cited [] ≡ []
 unfolding cited
 no_cited = refl
 
--- what holds in front of the root's lines
+-- what holds before the root's lines
 holds_first : (files : List File) (root : List ℕ) → is_aux root ≡ true → Holds files root [] (told (plain FileLine (file_line 0 root)) (meeting Nested root nothing_met))
 holds_first files root ends = record {
   are_keys = ap keys_of (sym no_cited);
@@ -80,7 +80,7 @@ lack_is None names command nothing = refl
 lack_is (Some line) [] command nothing = refl
 lack_is (Some line) (n ∷ ns) command nothing = ap (λ b. cond b (nothing ∷ []) []) (not_empty n ns)
 
--- a lack, by what it is told from
+-- a lack, by what it is reported from
 lack_by : (root command nothing : List ℕ) (met none : Bool) (o : Option JobLine) (names : List (List ℕ)) (r : Progress) → met ≡ is_some o → none ≡ is_empty names
     → missing_one met none command nothing root r ≡ logged r (map (told_missing root) (lack o names command nothing))
 lack_by root command nothing met none o names r is_met is_none =
@@ -117,7 +117,7 @@ no_name : (names : List (List ℕ)) → is_none (slice_get names 0) ≡ is_empty
 no_name [] = refl
 no_name (n ∷ ns) = sym (not_empty n ns)
 
--- what is missing is told behind the other messages
+-- what is missing is reported after the other messages
 end_told : (files : List File) (root : List ℕ) (lines : List JobLine) (r : Progress) → Holds files root lines r → ended root r ≡ record r { log = messages files root lines ++ map (told_missing root) (lacks files lines) }
 unfolding ended
 end_told files root lines r h =

@@ -19,7 +19,7 @@ use Rattle.bt_job.specs.Naming.{is_among, with_name}
 use Rattle.bt_job.specs.Faults.{LineFault, SecondStar, OtherSpelling, IllEnded, words, key_fault, spelling_fault, right_parts}
 use Rattle.bt_job.specs.Lines.{argument_fault}
 use Rattle.bt_job.specs.Citations.{is_star, keys_of, star_of}
-use Rattle.bt_job.specs.Inner.Taking.{cited_all, cited_key, cited_part, going_on, parts_taken}
+use Rattle.bt_job.specs.inner.Taking.{cited_all, cited_key, cited_part, going_on, parts_taken}
 use Rattle.bt_job.proofs.NameLemmas.{is_among-append, same_bytes, name_itself}
 use Rattle.bt_job.proofs.PartLemmas.{outcome_of, end_outcome, right_wrong, right_more, first_wrong, first_more}
 
@@ -68,7 +68,7 @@ found_past_stars key (c ∷ cs) apart =
     found_by (is_same_folded c key) (is_star c) key c (filter (λ part. not (is_star part)) cs) refl apart refl
     ∙ ap (cond (is_same_folded c key) (Some c)) (found_past_stars key cs apart)
 
--- either of two, and what comes behind
+-- either of two, and what comes after
 or_pick : (b : Bool) (k : List ℕ) (o p : Option (List ℕ)) → option_or (cond b (Some k) o) p ≡ cond b (Some k) (option_or o p)
 or_pick true k o p = refl
 or_pick false k o p = refl
@@ -141,7 +141,7 @@ keys_key parts part is = keys_by false parts part is
 pub keys_star : (parts : List (List ℕ)) (part : List ℕ) → is_star part ≡ true → keys_of (parts ++ part ∷ []) ≡ keys_of parts
 keys_star parts part is = keys_by true parts part is
 
--- what stands in front of the first `*`
+-- what stands before the first `*`
 before_cons : (part : List ℕ) (parts : List (List ℕ)) → before_first is_star (part ∷ parts) ≡ cond (is_star part) [] (part ∷ before_first is_star parts)
 before_cons part parts = take_while-cons (λ p. not (is_star p)) part parts ∙ go (is_star part)
   where
@@ -296,7 +296,7 @@ more_cited files parts part later end r (Some f) fault here after =
     (sym (ap (λ ps. parts ++ ps) (right_wrong key_fault parts part later f fault) ∙ append-nil parts))
     (sym (ap (λ o. option_or o (option_map IllEnded end)) (first_wrong key_fault parts part later f fault)))
 
--- the code's steps over the parts of a \citation, behind what was cited before
+-- the code's steps over the parts of a \citation, after what was cited before
 pub all_cited : (files : List File) (end : Option AuxFault) (later parts : List (List ℕ)) (r : Progress) → r.keys ≡ keys_of parts → r.star ≡ star_of parts
     → parts_taken files Citation end later r ≡ cited_to r (parts ++ right_parts key_fault parts later) (argument_fault key_fault parts later end)
 all_cited files end [] parts r keys star =

@@ -17,8 +17,8 @@ use Rattle.bt_job.specs.Naming.{is_file_name, is_among, text_of, with_ending, wi
 use Rattle.bt_job.specs.Faults.{LineFault, WrongExtension, NoFileName, DatabaseTwice, FileTwice, NotThere, IllEnded, words, database_fault, style_fault, input_fault, right_parts}
 use Rattle.bt_job.specs.Lines.{database_names, argument_fault}
 use Rattle.bt_job.specs.Citations.{missed}
-use Rattle.bt_job.specs.Inner.Naming.{has_ending, met_before, name_fault}
-use Rattle.bt_job.specs.Inner.Taking.{told, meeting, looked_for, named_well, named, going_on, parts_taken}
+use Rattle.bt_job.specs.inner.Naming.{has_ending, met_before, name_fault}
+use Rattle.bt_job.specs.inner.Taking.{told, meeting, looked_up, unless_misnamed, named, going_on, parts_taken}
 use Rattle.bt_job.proofs.NameLemmas.{or_false, is_among-append, same_bytes, bytes_differ}
 use Rattle.bt_job.proofs.PartLemmas.{outcome_of, end_outcome, right_wrong, right_more, first_wrong, first_more}
 
@@ -42,12 +42,12 @@ fault_is c met name e f a is_e is_f is_a =
     ∙ ap (λ x. fault_by c name e x (is_among met name)) is_f
     ∙ ap (λ x. fault_by c name e f x) is_a
 
-named_is : (files : List File) (c : Command) (name : List ℕ) (r : Progress) (o : Option (List ℕ)) → name_fault c r.met name ≡ o → named files c name r ≡ named_well files c name o r
+named_is : (files : List File) (c : Command) (name : List ℕ) (r : Progress) (o : Option (List ℕ)) → name_fault c r.met name ≡ o → named files c name r ≡ unless_misnamed files c name o r
 unfolding named
-named_is files c name r o is = ap (λ x. named_well files c name x r) is
+named_is files c name r o is = ap (λ x. unless_misnamed files c name x r) is
 
-well_is : (files : List File) (c : Command) (name : List ℕ) (r : Progress) (t : Option (List ℕ)) → text_of files name ≡ t → named_well files c name None r ≡ looked_for c name t (meeting c name r)
-well_is files c name r t is = ap (λ x. looked_for c name x (meeting c name r)) is
+well_is : (files : List File) (c : Command) (name : List ℕ) (r : Progress) (t : Option (List ℕ)) → text_of files name ≡ t → unless_misnamed files c name None r ≡ looked_up c name t (meeting c name r)
+well_is files c name r t is = ap (λ x. looked_up c name x (meeting c name r)) is
 
 -- \bibdata
 

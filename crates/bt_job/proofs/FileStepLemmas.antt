@@ -13,7 +13,7 @@ use Rattle.bt_job.specs.Naming.{is_among, with_ending, with_name}
 use Rattle.bt_job.specs.Faults.{LineFault, SecondCommand, IllEnded, style_fault, input_fault, right_parts}
 use Rattle.bt_job.specs.Lines.{JobLine, lines_of, first_with, style_names, input_names, argument_fault, once, line_fault, lines_opened}
 use Rattle.bt_job.specs.Citations.{keys_of, star_of, missed, messages}
-use Rattle.bt_job.specs.Inner.Taking.{named, going_on, item_taken}
+use Rattle.bt_job.specs.inner.Taking.{named, going_on, item_taken}
 use Rattle.bt_job.proofs.PartLemmas.{end_outcome, right_wrong, right_more, first_wrong, first_more}
 use Rattle.bt_job.proofs.EndingLemmas.{base_not_aux}
 use Rattle.bt_job.proofs.FileLemmas.{is_aux, is_input, IsStyled, one_styled, IsInput, one_input}
@@ -23,7 +23,7 @@ use Rattle.bt_job.proofs.StepLemmas.{item_is, bases_of, styles_of, again_first, 
 
 -- \bibstyle
 
--- behind another \bibstyle
+-- after another \bibstyle
 second_style : (files : List File) (root : List ℕ) (lines : List JobLine) (r : Progress) (level : ℕ) (file : List ℕ) (n : ℕ) (parts : List (List ℕ)) (end : Option AuxFault) (first : JobLine) → Holds files root lines r → first_with Style lines ≡ Some first
     → (let line = line_at level file n Style parts end in Steps files root lines line (item_taken files line.item r))
 second_style files root lines r level file n parts end first h e =

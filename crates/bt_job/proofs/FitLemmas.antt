@@ -48,7 +48,7 @@ not_same-append k key (j ∷ ks) h differ =
     let both = none_first (is_same_folded j k) j (same_name k ks) h in
     rw both.0 (not_same-append k key ks both.1 differ)
 
--- a new key behind distinct ones
+-- a new key after distinct ones
 distinct-append : (key : List ℕ) (ks : List (List ℕ)) → AreDistinct ks → same_name key ks ≡ None → AreDistinct (ks ++ key ∷ [])
 distinct-append key [] d h = (refl, tt)
 distinct-append key (k ∷ ks) d h =
@@ -109,7 +109,7 @@ names_longer : (seen names : List (List ℕ)) → length seen ≤ length (fold w
 names_longer seen [] = omega arith
 names_longer seen (n ∷ ns) = omega (arith, with_longer (is_among seen n) seen n, names_longer (with_name seen n) ns)
 
--- no more keys stand in front of a place than at all
+-- no more keys stand before a place than at all
 keys_before : (k : ℕ) (parts : List (List ℕ)) → length (keys_of (take k parts)) ≤ length (keys_of parts)
 keys_before k parts =
     let is_key : List ℕ → Bool = λ part. not (is_star part) in

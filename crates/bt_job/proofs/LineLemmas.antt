@@ -20,7 +20,7 @@ use Rattle.bt_job.specs.Naming.{is_among, text_of, with_name, each_once}
 use Rattle.bt_job.specs.Faults.{LineFault, SecondStar, OtherSpelling, IllEnded, words, key_fault, spelling_fault, right_parts}
 use Rattle.bt_job.specs.Lines.{JobLine, lines_of, has_command, first_with, cited, input_names, argument_fault, command_fault, line_fault, lines_opened, opened_by}
 use Rattle.bt_job.specs.Citations.{keys_of, star_of, databases, styles, missed, along, wanted, file_line, told_of, messages}
-use Rattle.bt_job.specs.Inner.Taking.{told, told_at}
+use Rattle.bt_job.specs.inner.Taking.{told, logged_at}
 use Rattle.bt_job.proofs.PartLemmas.{first_wrong, first_more}
 use Rattle.bt_job.proofs.FileLemmas.{is_base, is_input}
 
@@ -119,10 +119,10 @@ pub record Nests (files : List File) (root : List ℕ) (lines : List JobLine) (l
   pub more : input_names (lines ++ line ∷ []) ≡ input_names lines ++ name ∷ []
   pub holds : Holds files root (lines ++ line ∷ []) r
 
--- What a line leaves: the same holds with it at the end, when its message is told; and what it opens.
+-- What a line leaves: the same holds with it at the end, when its message is reported; and what it opens.
 abbrev pub Steps : List File → List ℕ → List JobLine → JobLine → Progress × Outcome → Type 0
 Steps files root lines line (r, Taken) = Holds files root (lines ++ line ∷ []) r × (opened_by files root lines line ≡ [])
-Steps files root lines line (r, Wrong words) = Holds files root (lines ++ line ∷ []) (told_at line.file line.item.line words r) × (opened_by files root lines line ≡ [])
+Steps files root lines line (r, Wrong words) = Holds files root (lines ++ line ∷ []) (logged_at line.file line.item.line words r) × (opened_by files root lines line ≡ [])
 Steps files root lines line (r, Opens name) =
     Nests files root lines line name (told (plain FileLine (file_line (line.level + 1) name)) r)
 

@@ -6,14 +6,14 @@ use Rattle.bt_bib.specs.declared.aux_line.AuxItem.{AuxItem}
 use Rattle.bt_job.specs.declared.progress.Progress.{Progress}
 use Rattle.bt_job.specs.declared.progress.Outcome.{Outcome}
 use Rattle.bt_job.specs.Naming.{text_of}
-use Rattle.bt_job.specs.Inner.Taking.{item_taken}
-use Rattle.bt_job.specs.Inner.Nesting.{in_place, lines_taken, opened, file_taken}
+use Rattle.bt_job.specs.inner.Taking.{item_taken}
+use Rattle.bt_job.specs.inner.Nesting.{in_place, lines_taken, opened, file_taken}
 
--- an item of a list, with what stands behind it
+-- an item of a list, with what stands after it
 pub drop_at : {A : Type 0} → (xs : List A) (i : ℕ) (x : A) → i < length xs → x ≡ get_or xs i x → drop i xs ≡ x ∷ drop (i + 1) xs
 drop_at xs i x lt is = drop_more xs i x lt ∙ ap (λ y. y ∷ drop (i + 1) xs) (sym is)
 
--- a line in front of others
+-- a line before others
 pub line_cons : (nested : List ℕ → Progress → Progress) (files : List File) (file : List ℕ) (item : AuxItem) (items : List AuxItem) (r : Progress) → lines_taken nested files file (item ∷ items) r ≡ lines_taken nested files file items (in_place nested file item.line (item_taken files item r))
 unfolding lines_taken
 line_cons nested files file item items r = refl

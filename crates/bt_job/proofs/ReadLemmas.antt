@@ -11,8 +11,8 @@ use Rattle.bt_job.specs.declared.progress.Outcome.TheVariants.{Taken, Wrong, Ope
 use Rattle.bt_job.specs.Naming.{text_of}
 use Rattle.bt_job.specs.Lines.{JobLine, lines_in, input_names, opened_by, read_on, unopened}
 use Rattle.bt_job.specs.Citations.{file_line}
-use Rattle.bt_job.specs.Inner.Taking.{told, told_at, item_taken}
-use Rattle.bt_job.specs.Inner.Nesting.{in_place, lines_taken, opened, file_taken}
+use Rattle.bt_job.specs.inner.Taking.{told, logged_at, item_taken}
+use Rattle.bt_job.specs.inner.Nesting.{in_place, lines_taken, opened, file_taken}
 use Rattle.bt_job.proofs.NestingLemmas.{line_cons, lines_nil, file_suc}
 use Rattle.bt_job.proofs.LineLemmas.{Holds, Steps}
 use Rattle.bt_job.proofs.FileStepLemmas.{line_steps}
@@ -27,7 +27,7 @@ closed files root lines = weight (λ t. 1) files (root ∷ input_names lines)
 abbrev pub to_come : List File → List ℕ → List JobLine → List JobLine → ℕ
 to_come files root before next = length next + unopened files (root ∷ input_names before)
 
--- Reading some lines comes to the later ones behind others, of which the same holds as of what the code has then.
+-- Reading some lines comes to the later ones after others, of which the same holds as of what the code has then.
 pub record Reaches (files : List File) (root : List ℕ) (bound : ℕ) (before next later : List JobLine) (r : Progress) : Type 0 where
   pub lines : List JobLine
   pub left : ℕ
@@ -59,7 +59,7 @@ reaches_more files root bound before line next later r h = record {
   fewer = omega (arith, h.fewer, weight_line (λ t. 1) files root before line);
 }
 
--- a nested file, then the lines behind it
+-- a nested file, then the lines after it
 reaches_then : (files : List File) (root : List ℕ) (bound : ℕ) (before next between later : List JobLine) (q r : Progress) (h : Reaches files root bound before next between q)
     → Reaches files root h.left h.lines between later r → Reaches files root bound before next later r
 reaches_then files root bound before next between later q r h k = record {
@@ -71,13 +71,13 @@ reaches_then files root bound before next between later q r h k = record {
   fewer = omega (arith, h.fewer, k.fewer);
 }
 
--- what the lines behind a line come to
+-- what the lines after a line come to
 abbrev Later : List File → List ℕ → ℕ → (List ℕ → Progress → Progress) → ℕ → List ℕ → List AuxItem → List JobLine → Type 0
 Later files root files_left nested level file items later =
     (before : List JobLine) (r : Progress) (bound : ℕ) → Holds files root before r → closed files root before ≤ files_left → to_come files root before (of_file level file items ++ later) ≤ bound
     → Reaches files root bound before (of_file level file items ++ later) later (lines_taken nested files file items r)
 
--- a line by what it comes to, and those behind it
+-- a line by what it comes to, and those after it
 line_reaches : (files : List File) (root : List ℕ) (files_left : ℕ) (nested : List ℕ → Progress → Progress) (level : ℕ) (file : List ℕ) (item : AuxItem) (items : List AuxItem) (before later : List JobLine) (bound : ℕ) (x : Progress × Outcome)
     → ReadsFile files root files_left (level + 1) nested → Later files root files_left nested level file items later → closed files root before ≤ files_left
     → (let line : JobLine = record { level = level; file = file; item = item } in Steps files root before line x
@@ -89,8 +89,8 @@ line_reaches files root files_left nested level file item items before later bou
     (behind (before ++ line ∷ []) r bound steps.0 (omega (arith, few, weight_line (λ t. 1) files root before line))) fits
 line_reaches files root files_left nested level file item items before later bound (r, Wrong words) reads behind few steps fits =
     let line : JobLine = record { level = level; file = file; item = item } in
-    subst (λ ls. to_come files root (before ++ line ∷ []) (ls ++ (of_file level file items ++ later)) ≤ bound → Reaches files root bound (before ++ line ∷ []) (ls ++ (of_file level file items ++ later)) later (lines_taken nested files file items (told_at file item.line words r))) (sym steps.1)
-    (behind (before ++ line ∷ []) (told_at file item.line words r) bound steps.0 (omega (arith, few, weight_line (λ t. 1) files root before line))) fits
+    subst (λ ls. to_come files root (before ++ line ∷ []) (ls ++ (of_file level file items ++ later)) ≤ bound → Reaches files root bound (before ++ line ∷ []) (ls ++ (of_file level file items ++ later)) later (lines_taken nested files file items (logged_at file item.line words r))) (sym steps.1)
+    (behind (before ++ line ∷ []) (logged_at file item.line words r) bound steps.0 (omega (arith, few, weight_line (λ t. 1) files root before line))) fits
 line_reaches files root files_left nested level file item items before later bound (r, Opens name) reads behind few steps fits =
     let line : JobLine = record { level = level; file = file; item = item } in
     let opens = steps.opens ∙ ap (lines_in (level + 1) name) steps.there in

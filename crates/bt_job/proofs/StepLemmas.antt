@@ -14,7 +14,7 @@ use Rattle.bt_job.specs.Naming.{is_among, is_file_name, with_name}
 use Rattle.bt_job.specs.Faults.{LineFault, SecondCommand, key_fault, database_fault, style_fault, right_parts}
 use Rattle.bt_job.specs.Lines.{JobLine, has_command, first_with, line_parts, cited, database_names, style_names, argument_fault, once, line_fault}
 use Rattle.bt_job.specs.Citations.{keys_of, star_of, missed, wanted, told_of, messages}
-use Rattle.bt_job.specs.Inner.Taking.{parts_taken, is_second, second_words, entered, item_taken}
+use Rattle.bt_job.specs.inner.Taking.{parts_taken, is_second, second_words, command_met, item_taken}
 use Rattle.bt_job.proofs.CitedLemmas.{cited_to, all_cited}
 use Rattle.bt_job.proofs.EndingLemmas.{base_ends, aux_not_base}
 use Rattle.bt_job.proofs.FileLemmas.{is_base, is_aux, is_input, based_to, all_based}
@@ -22,9 +22,9 @@ use Rattle.bt_job.proofs.LineLemmas.{line_at, Holds, Steps, same_first, new_firs
 
 -- a counted line, which is a second of its command or not
 pub item_is : (files : List File) (item : AuxItem) (r : Progress) (b : Bool) → is_second item.command r ≡ b
-    → item_taken files item r ≡ cond b (r, Wrong (second_words item.command)) (parts_taken files item.command item.fault item.parts (entered item.command r))
+    → item_taken files item r ≡ cond b (r, Wrong (second_words item.command)) (parts_taken files item.command item.fault item.parts (command_met item.command r))
 unfolding item_taken
-item_is files item r b is = ap (λ x. cond x (r, Wrong (second_words item.command)) (parts_taken files item.command item.fault item.parts (entered item.command r))) is
+item_is files item r b is = ap (λ x. cond x (r, Wrong (second_words item.command)) (parts_taken files item.command item.fault item.parts (command_met item.command r))) is
 
 -- the databases and the style, by the first line of their command
 abbrev pub bases_of : List File → Option JobLine → List (List ℕ)
@@ -110,7 +110,7 @@ citation_steps files root lines r level file n parts end h =
 
 -- \bibdata
 
--- behind another \bibdata
+-- after another \bibdata
 second_database : (files : List File) (root : List ℕ) (lines : List JobLine) (r : Progress) (level : ℕ) (file : List ℕ) (n : ℕ) (parts : List (List ℕ)) (end : Option AuxFault) (first : JobLine) → Holds files root lines r → first_with Database lines ≡ Some first
     → (let line = line_at level file n Database parts end in Steps files root lines line (item_taken files line.item r))
 second_database files root lines r level file n parts end first h e =

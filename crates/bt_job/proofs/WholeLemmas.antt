@@ -6,8 +6,8 @@ use Rattle.bt_bib.specs.declared.aux_line.Command.{Command}
 use Rattle.bt_bib.specs.declared.aux_line.Command.TheVariants.{Citation, Database, Style, Nested}
 use Rattle.bt_bib.specs.declared.aux_argument.AuxFault.{AuxFault}
 use Rattle.bt_bib.specs.declared.aux_line.AuxItem.{AuxItem}
-use Rattle.bt_bib.specs.AuxArgument.{inside, kept, fault_of}
-use Rattle.bt_bib.specs.AuxLine.{is_line_end, word, command_of, item, counted, items_from, aux_lines}
+use Rattle.bt_bib.specs.AuxArgument.{inside, parts_kept, fault_of}
+use Rattle.bt_bib.specs.AuxLine.{is_line_end, word, command_of, item, if_counted, items_from, aux_lines}
 
 abbrev pub IsWhole : List (List ℕ) → Option AuxFault → Type 0
 IsWhole [] None = ⊥
@@ -26,7 +26,7 @@ abbrev pub AreParted : List AuxItem → Type 0
 AreParted [] = Unit {0}
 AreParted (i ∷ is) = IsPartedAs i.command i.parts i.fault × AreParted is
 
-kept_whole : (o : Option AuxFault) (argument : List ℕ) → IsWhole (kept o (argument ∷ [])) o
+kept_whole : (o : Option AuxFault) (argument : List ℕ) → IsWhole (parts_kept o (argument ∷ [])) o
 kept_whole None argument = tt
 kept_whole (Some f) argument = tt
 
@@ -36,7 +36,7 @@ item_parted n line Database = tt
 item_parted n line Style = let rest = drop (length (word Style)) line in kept_whole (fault_of rest) (inside rest)
 item_parted n line Nested = let rest = drop (length (word Nested)) line in kept_whole (fault_of rest) (inside rest)
 
-counted_parted : (n : ℕ) (line : List ℕ) (o : Option Command) (later : List AuxItem) → AreParted later → AreParted (counted n line o later)
+counted_parted : (n : ℕ) (line : List ℕ) (o : Option Command) (later : List AuxItem) → AreParted later → AreParted (if_counted n line o later)
 counted_parted n line None later h = h
 counted_parted n line (Some c) later h = (item_parted n line c, h)
 

@@ -23,14 +23,14 @@ is_star part = bytes_eq part (codes "*")
 abbrev pub keys_of : List (List ℕ) → List (List ℕ)
 keys_of parts = each_once (filter (λ part. not (is_star part)) parts)
 
--- how many keys stand in front of the `*`, if it was cited
+-- how many keys stand before the `*`, if it was cited
 abbrev pub star_of : List (List ℕ) → Option ℕ
 star_of parts =
     if is_among parts (codes "*") then Some (length (keys_of (before_first is_star parts))) else None
 
 -- Files
 
--- the databases: the names of the first \bibdata in front of the first that is wrong
+-- the databases: the names of the first \bibdata before the first that is wrong
 abbrev pub databases : List File → List JobLine → List (List ℕ)
 databases files lines = right_parts (database_fault files) [] (database_names (line_parts (first_with Database lines)))
 
@@ -45,7 +45,7 @@ missed _ = []
 
 -- Lines one by one
 
--- what each line gives behind those that stand before it, in order
+-- what each line gives after those that stand before it, in order
 abbrev pub along : {A : Type 0} → (List JobLine → JobLine → List A) → List JobLine → List JobLine → List A
 along f before [] = []
 along f before (line ∷ lines) = f before line ++ along f (before ++ line ∷ []) lines

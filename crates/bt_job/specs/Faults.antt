@@ -84,7 +84,7 @@ input_fault files before name =
 
 -- The first fault ends a command.
 
--- the parts in front of the first that is wrong
+-- the parts before the first that is wrong
 abbrev pub right_parts : PartFault → List (List ℕ) → List (List ℕ) → List (List ℕ)
 right_parts fault before [] = []
 right_parts fault before (part ∷ parts) =

@@ -1,7 +1,6 @@
 pub mod Naming
-pub mod NameTable
 pub mod Faults
 pub mod Lines
 pub mod Citations
 pub mod Fit
-pub mod Inner
+pub mod inner

@@ -1,4 +1,4 @@
--- The counted lines of a job: those of its root file, with the lines of each file that one of them opens behind it.
+-- The counted lines of a job: those of its root file, with the lines of each file that one of them opens after it.
 use Rattle.std.specs.Prelude.{◌≡◌, ◌≤◌, ℕ, zero, suc, ◌+◌, Bool, true, false, List, [], ◌∷◌, ◌++◌, length, map, fold, filter, find, flat_map, sum_by, codes, Option, Some, None, if◌then◌else◌}
 use Rattle.std.specs.Option.{option_or, option_map}
 use Rattle.bt_bib.specs.declared.aux_line.Command.{Command}
@@ -47,7 +47,7 @@ abbrev pub line_parts : Option JobLine → List (List ℕ)
 line_parts None = []
 line_parts (Some line) = line.item.parts
 
--- what was cited, with the parts of one more \citation in front of the first that is wrong
+-- what was cited, with the parts of one more \citation before the first that is wrong
 abbrev pub with_cited : List (List ℕ) → JobLine → List (List ℕ)
 with_cited before line = before ++ right_parts key_fault before line.item.parts
 
@@ -69,7 +69,7 @@ input_names lines = flat_map (λ line. line.item.parts) (filter (has_command Nes
 
 -- What is wrong with a line
 
--- the first fault of its names behind others, else that of the argument's end
+-- the first fault of its names after others, else that of the argument's end
 abbrev pub argument_fault : PartFault → List (List ℕ) → List (List ℕ) → Option AuxFault → Option LineFault
 argument_fault fault before names end = option_or (first_fault fault before names) (option_map IllEnded end)
 
@@ -107,7 +107,7 @@ lines_opened files line None =
 abbrev pub opened_by : List File → List ℕ → List JobLine → JobLine → List JobLine
 opened_by files root before line = lines_opened files line (line_fault files root before line)
 
--- Some lines, and behind them the next ones, each with the lines of the file that it opens behind it; at most so many
+-- Some lines, and after them the next ones, each with the lines of the file that it opens after it; at most so many
 -- more. Which bound it is doesn't matter where it is large enough (AnyBoundServes).
 unfoldable pub read_on : ℕ → List File → List ℕ → List JobLine → List JobLine → List JobLine
 read_on zero files root before next = before
@@ -142,7 +142,7 @@ AnyBoundServes =
     → length next + unopened files (root ∷ input_names before) ≤ n
     → read_on m files root before next ≡ read_on n files root before next
 
--- Behind a line come the lines of the file that it opens, then the others.
+-- After a line come the lines of the file that it opens, then the others.
 abbrev pub NestedInPlace : Type 0
 NestedInPlace =
     (files : List File) (root : List ℕ) (before : List JobLine) (line : JobLine) (later : List JobLine)

@@ -5,14 +5,18 @@ use Rattle.std.specs.Str.{bytes_eq}
 use Rattle.bt_job.specs.declared.files.File.{File}
 
 -- a letter, a digit or one of . - _ + /
-abbrev pub is_name_byte : ℕ → Bool
-is_name_byte b =
+abbrev pub is_file_name_byte : ℕ → Bool
+is_file_name_byte b =
     (nat_le 65 b && nat_le b 90) || (nat_le 97 b && nat_le b 122) || (nat_le 48 b && nat_le b 57)
     || b == 46 || b == 45 || b == 95 || b == 43 || b == 47
 
+-- how many bytes a file name may have
+abbrev pub file_name_size_limit : ℕ
+file_name_size_limit = 64
+
 -- whether a file may have this name
 abbrev pub is_file_name : List ℕ → Bool
-is_file_name name = nat_le 1 (length name) && nat_le (length name) 64 && list_all is_name_byte name
+is_file_name name = nat_le 1 (length name) && nat_le (length name) file_name_size_limit && list_all is_file_name_byte name
 
 -- whether a name is among some
 abbrev pub is_among : List (List ℕ) → List ℕ → Bool
@@ -23,7 +27,7 @@ abbrev pub text_of : List File → List ℕ → Option (List ℕ)
 text_of [] name = None
 text_of (f ∷ fs) name = if bytes_eq f.name name then Some f.text else text_of fs name
 
--- a name with an ending, which is put behind it unless it is there
+-- a name with an ending, which is put after it unless it is there
 abbrev pub with_ending : List ℕ → List ℕ → List ℕ
 with_ending ending name = if ends_with eqb name ending then name else name ++ ending
 

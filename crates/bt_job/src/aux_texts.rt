@@ -17,7 +17,7 @@ pub struct AuxText {
 }
 
 impl AuxText {
-    /// Reads a text. The one error is out of memory.
+    /// Reads a text.
     fn read(alloc: Global, text: Shared<Bytes>) -> Result<AuxText, AllocError>
         ensures { IfOk result (λ known. known.text ≡ text) }
     {
@@ -25,7 +25,8 @@ impl AuxText {
         Ok(AuxText { text, lines })
     }
 
-    /// The same for one more owner; no part of it is copied. The one error is that a part has no room for another owner.
+    /// The same for one more owner; no part of it is copied. The one error is that a part has no room for another
+    /// owner.
     fn share(&self) -> Result<AuxText, AllocError>
         ensures { IfOk result (λ same. same.text ≡ self.now.text) }
     {

@@ -1,7 +1,7 @@
 //! Tables of names of files, which match byte for byte and are found by hashing.
 
 ghost use Rattle.std.specs.Prelude.{◌≡◌, ℕ, List, [], ◌∷◌, ◌++◌, OnOk, OnErr};
-ghost use Rattle.bt_job.specs.NameTable.{Mirrors, has_name};
+ghost use Rattle.bt_job.specs.inner.NameTable.{Mirrors, has_name};
 
 use bt_text::{Bytes, Sequence};
 use indexmap::IndexSet;

@@ -3,8 +3,8 @@
 ghost use Rattle.std.specs.Prelude.{◌≡◌, IfOk};
 ghost use Rattle.std.specs.List.{list_all};
 ghost use Rattle.std.specs.Option.{option_map};
-ghost use Rattle.bt_job.specs.Naming.{is_name_byte, is_file_name, with_ending, text_of};
-ghost use Rattle.bt_job.specs.Inner.Naming.{named_by, has_ending, met_before, name_fault};
+ghost use Rattle.bt_job.specs.Naming.{is_file_name_byte, is_file_name, with_ending, text_of};
+ghost use Rattle.bt_job.specs.inner.Naming.{file_name_of, has_ending, met_before, name_fault};
 
 use crate::files::File;
 use crate::reader::Reader;
@@ -16,13 +16,13 @@ use std::alloc::{AllocError, Global};
 pub const FILE_NAME_BYTES: usize = 64;
 
 fn is_name_byte(byte: u8) -> bool
-    ensures { result ≡ is_name_byte byte }
+    ensures { result ≡ is_file_name_byte byte }
 {
     matches!(byte, b'A'..=b'Z' | b'a'..=b'z' | b'0'..=b'9' | b'.' | b'-' | b'_' | b'+' | b'/')
 }
 
 fn has_name_bytes(name: &[u8]) -> bool
-    ensures { result ≡ list_all is_name_byte name.now }
+    ensures { result ≡ list_all is_file_name_byte name.now }
 {
     name.iter().all(|byte| is_name_byte(*byte))
 }
@@ -67,7 +67,7 @@ fn with_ending(alloc: Global, ending: &[u8], name: &[u8]) -> Result<Bytes, Alloc
 
 /// The name that a part of a command stands for. The one error is out of memory.
 pub fn named_by(alloc: Global, command: Command, part: &[u8]) -> Result<Bytes, AllocError>
-    ensures { IfOk result (λ name. name ≡ named_by command part.now) }
+    ensures { IfOk result (λ name. name ≡ file_name_of command part.now) }
 {
     match command {
         Command::Database => with_ending(alloc, b".bib", part),
@@ -107,7 +107,7 @@ fn met_before(alloc: Global, command: Command, name: &[u8]) -> Result<Option<Byt
 
 impl Reader {
     /// What is wrong with a name, where the files were met that were met so far. The one error is out of memory.
-    #[tactic(auto, unfolding(crate::specs::Inner::Naming::name_fault))]
+    #[tactic(auto, unfolding(crate::specs::inner::Naming::name_fault))]
     pub fn name_fault(&self, command: Command, name: &[u8]) -> Result<Option<Bytes>, AllocError>
         ensures { IfOk result (λ fault. fault ≡ name_fault command self.now.progress.met name.now) }
     {

@@ -7,7 +7,7 @@ ghost use Rattle.bt_job.specs.Fit.{IsFit, AlwaysFit};
 ghost use Rattle.bt_job.specs.Naming.{text_of};
 ghost use Rattle.bt_job.specs.Citations.{file_line, citations};
 ghost use Rattle.bt_job.specs.Lines.{AnyBoundServes, NestedInPlace};
-ghost use Rattle.bt_job.specs.Inner.Nesting.{file_taken, missing, missing_one, ended, nothing_met, rooted};
+ghost use Rattle.bt_job.specs.inner.Nesting.{file_taken, missing, missing_one, ended, nothing_met, rooted};
 
 use crate::aux_texts::AuxTexts;
 use crate::citations::Citations;
@@ -108,7 +108,7 @@ impl Reader {
     }
 
     /// The errors at the end of the root.
-    #[tactic(auto, unfolding(crate::specs::Inner::Nesting::ended))]
+    #[tactic(auto, unfolding(crate::specs::inner::Nesting::ended))]
     fn end(&mut self, file: &Shared<Bytes>) -> Result<(), AllocError>
         ensures { OnOk result (self.new.progress ≡ ended file.now self.old.progress) }
     {
@@ -156,8 +156,8 @@ impl Reader {
     }
 }
 
-/// What the files of a session ask for whose root name is this, which has no `.aux` at its end. Of their texts only those
-/// are read that aren't known. The one error is out of memory.
+/// What the files of a session ask for whose root name is this, which has no `.aux` at its end. Of their texts only
+/// those are read that aren't known. The one error is out of memory.
 pub fn read_citations(
     alloc: Global,
     files: &[File],
@@ -174,7 +174,7 @@ pub fn read_citations(
     Ok(asked)
 }
 
-/// A law: behind each line come the lines of the file that it opens, if it opens one, at any depth, then
+/// A law: after each line come the lines of the file that it opens, if it opens one, at any depth, then
 /// the others.
 pub fn nested_in_place()
     ensures { NestedInPlace }

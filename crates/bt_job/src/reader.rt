@@ -2,9 +2,9 @@
 
 ghost use Rattle.std.specs.Prelude.{◌≡◌, OnOk, OnErr};
 ghost use Rattle.bt_job.specs.Naming.{is_among};
-ghost use Rattle.bt_job.specs.NameTable.{Mirrors};
-ghost use Rattle.bt_job.specs.Inner.Taking.{told, told_at, meeting, wanting};
-ghost use Rattle.bt_job.specs.Inner.Nesting.{nothing_met, asked_for};
+ghost use Rattle.bt_job.specs.inner.NameTable.{Mirrors};
+ghost use Rattle.bt_job.specs.inner.Taking.{told, logged_at, meeting, wanting};
+ghost use Rattle.bt_job.specs.inner.Nesting.{nothing_met, asked_for};
 
 use crate::citations::Citations;
 use crate::name_table::NameTable;
@@ -89,7 +89,7 @@ impl Reader {
         line: usize,
         words: Bytes,
     ) -> Result<(), AllocError>
-        ensures ok { OnOk result (self.new.progress ≡ told_at file.now line words self.old.progress) }
+        ensures ok { OnOk result (self.new.progress ≡ logged_at file.now line words self.old.progress) }
         ensures err { OnErr result (self.new.progress ≡ self.old.progress) }
     {
         let place = Place::Line {

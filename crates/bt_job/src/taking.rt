@@ -1,8 +1,8 @@
 //! What a counted line comes to.
 
 ghost use Rattle.std.specs.Prelude.{◌≡◌, ◌++◌, codes, IfOk};
-ghost use Rattle.bt_job.specs.Inner.Taking.{told, cited_all, cited_key, cited_part, kind, found, looked_for, named, part_taken, fault_words};
-ghost use Rattle.bt_job.specs.Inner.Taking.{fault_outcome, is_second, second_words, entered, item_taken};
+ghost use Rattle.bt_job.specs.inner.Taking.{told, cited_all, cited_key, cited_part, file_kind, file_found, looked_up, named, part_taken, fault_words};
+ghost use Rattle.bt_job.specs.inner.Taking.{fault_outcome, is_second, second_words, command_met, item_taken};
 
 use crate::files::File;
 use crate::naming::{named_by, text_of};
@@ -29,7 +29,7 @@ fn mismatch(alloc: Global, key: &[u8], old: &[u8]) -> Result<Bytes, AllocError>
 }
 
 fn kind(command: Command) -> &'static [u8]
-    ensures { result.now ≡ kind command }
+    ensures { result.now ≡ file_kind command }
 {
     match command {
         Command::Database => b"database",
@@ -89,7 +89,7 @@ impl Reader {
     }
 
     /// Takes a part of `\citation`.
-    #[tactic(auto, unfolding(crate::specs::Inner::Taking::cited_part))]
+    #[tactic(auto, unfolding(crate::specs::inner::Taking::cited_part))]
     fn cite(&mut self, part: &[u8]) -> Result<Outcome, AllocError>
         ensures { IfOk result (λ outcome. (self.new.progress, outcome) ≡ cited_part part.now self.old.progress) }
     {
@@ -111,7 +111,7 @@ impl Reader {
 
     /// Takes a file that is there.
     fn take_found(&mut self, command: Command, name: &[u8]) -> Result<Outcome, AllocError>
-        ensures { IfOk result (λ outcome. (self.new.progress, outcome) ≡ found command name.now self.old.progress) }
+        ensures { IfOk result (λ outcome. (self.new.progress, outcome) ≡ file_found command name.now self.old.progress) }
     {
         let text = Bytes::copied(self.alloc, name)?;
         match command {
@@ -131,7 +131,7 @@ impl Reader {
     }
 
     /// Takes a name of a file.
-    #[tactic(auto, unfolding(crate::specs::Inner::Taking::named))]
+    #[tactic(auto, unfolding(crate::specs::inner::Taking::named))]
     fn take_name(
         &mut self,
         files: &[File],
@@ -183,7 +183,7 @@ impl Reader {
 
     /// Notes that a command was met.
     fn enter(&mut self, command: Command)
-        ensures { self.new.progress ≡ entered command self.old.progress }
+        ensures { self.new.progress ≡ command_met command self.old.progress }
     {
         match command {
             Command::Citation => self.progress.citation_met = true,
@@ -194,7 +194,7 @@ impl Reader {
     }
 
     /// Takes a counted line. The one error is out of memory; what stood before it in the line may then be taken.
-    #[tactic(auto, unfolding(crate::specs::Inner::Taking::item_taken))]
+    #[tactic(auto, unfolding(crate::specs::inner::Taking::item_taken))]
     pub fn take_item(&mut self, files: &[File], item: &AuxItem) -> Result<Outcome, AllocError>
         ensures { IfOk result (λ outcome. (self.new.progress, outcome) ≡ item_taken files.now item.now self.old.progress) }
     {

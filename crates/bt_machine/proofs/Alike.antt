@@ -12,12 +12,12 @@ use Rattle.bt_actions.specs.Tally.{with_call}
 use Rattle.bt_actions.specs.Item.{Code, Item, Num, Txt, Fun, Name, Block}
 use Rattle.bt_actions.specs.World.{World, Act, Goes, Stops}
 use Rattle.bt_actions.specs.State.{pushed}
-use Rattle.bt_actions.specs.Arguments.{number_of, code_of, taken}
+use Rattle.bt_actions.specs.Arguments.{as_number, as_code, taken}
 use Rattle.bt_actions.specs.Given.{zero_item, empty_item}
 use Rattle.bt_actions.specs.Reading.{of_entry, field_at, number_at, text_at}
 use Rattle.bt_actions.specs.Actions.{basic}
-use Rattle.bt_machine.specs.Eval.{Ending, Done, Stopped, Runner, then_go, acted, code_body, body_at, type_function, run_function, run_type, by_sign, run_chosen, turn, turns, run_loop, built_in, act, builtin_called, eval_within}
-use Rattle.bt_machine.specs.Step.{tick_limit, checked, rested, Finish, finished_at, finished}
+use Rattle.bt_machine.specs.Eval.{Ending, Done, Stopped, Runner, then_go, acted, code_body, function_body, type_function, run_function, run_type, by_sign, run_chosen, turn, turns, run_loop, built_in, act, builtin_called, eval_within}
+use Rattle.bt_machine.specs.Step.{tick_limit, checked, rested, Finish, finished_at, finish_of}
 use Rattle.bt_machine.proofs.Places.{Part, Place, embed, WorldsAlike, ActsAlike, same_part, on_alike, on_pairs, say_alike, taken_alike, taken_two_alike, taken_three_alike, by_entry, of_entry_alike, pushed_alike, basic_alike}
 
 module _ (e : Option Entry) (pre : List ℕ) (P P' : Place e) where
@@ -60,7 +60,7 @@ module _ (e : Option Entry) (pre : List ℕ) (P P' : Place e) where
   turns_alike : (m : ℕ) (test body : World → ℕ → Ending) → GoAlike test → GoAlike body → GoAlike (turns m test body)
   turns_alike zero test body t b s k = ((same_part e pre P P') s, refl)
   turns_alike (suc m) test body t b s k =
-      then_alike _ _ (λ w k. turn (taken builtin.While number_of w) k body (turns m test body)) (t s k) (λ s k. (on_pairs e pre P P') EndingsAlike (λ q. turn q k body (turns m test body)) _ _ ((taken_alike e pre P P') builtin.While number_of s) (λ o s. turn_alike o s k body (turns m test body) b (turns_alike m test body t b)))
+      then_alike _ _ (λ w k. turn (taken builtin.While as_number w) k body (turns m test body)) (t s k) (λ s k. (on_pairs e pre P P') EndingsAlike (λ q. turn q k body (turns m test body)) _ _ ((taken_alike e pre P P') builtin.While as_number s) (λ o s. turn_alike o s k body (turns m test body) b (turns_alike m test body t b)))
 
   module _ (p : Program) (run : Runner) (f : (b : Body) → GoAlike (run b)) where
     -- functions that run others
@@ -75,7 +75,7 @@ module _ (e : Option Entry) (pre : List ℕ) (P P' : Place e) where
 
     function_alike : (o : Option ℕ) (s : Part) (k : ℕ) → EndingsAlike (run_function p.functions run o (embed e pre P s) k) (run_function p.functions run o (embed e pre P' s) k)
     function_alike None s k = ((same_part e pre P P') s, refl)
-    function_alike (Some n) s k = f (body_at p.functions n) s k
+    function_alike (Some n) s k = f (function_body p.functions n) s k
 
     type_alike : (o : Option Entry) (s : Part) (k : ℕ) → EndingsAlike (run_type p.functions run o (embed e pre P s) k) (run_type p.functions run o (embed e pre P' s) k)
     type_alike None s k = ((say_alike e pre P P') NoEntry s, refl)
@@ -85,9 +85,9 @@ module _ (e : Option Entry) (pre : List ℕ) (P P' : Place e) where
     built_in_alike builtin.CallType s k =
         (by_entry e pre P P') EndingsAlike (λ o w. run_type p.functions run o w k) s (λ o. type_alike o s k)
     built_in_alike builtin.If s k =
-        (on_pairs e pre P P') EndingsAlike (λ q. run_chosen run q k) _ _ ((taken_three_alike e pre P P') builtin.If number_of code_of code_of s) (λ o s. chosen_alike o s k)
+        (on_pairs e pre P P') EndingsAlike (λ q. run_chosen run q k) _ _ ((taken_three_alike e pre P P') builtin.If as_number as_code as_code s) (λ o s. chosen_alike o s k)
     built_in_alike builtin.While s k =
-        (on_pairs e pre P P') EndingsAlike (λ q. run_loop run q k) _ _ ((taken_two_alike e pre P P') builtin.While code_of code_of s) (λ o s. loop_alike o s k)
+        (on_pairs e pre P P') EndingsAlike (λ q. run_loop run q k) _ _ ((taken_two_alike e pre P P') builtin.While as_code as_code s) (λ o s. loop_alike o s k)
     built_in_alike b s k =
         acted_alike (basic p b (embed e pre P s)) (basic p b (embed e pre P' s)) k ((basic_alike e pre P P') p b s)
 
@@ -112,7 +112,7 @@ module _ (e : Option Entry) (pre : List ℕ) (P P' : Place e) where
     act_alike (Called (EntryText n)) s k = of_entry_at (text_at n) empty_item s k
     act_alike (Called (GlobalNumber n)) s k = pushed_at (Num (slice_index_or s.globals.numbers n (pos 0))) s k
     act_alike (Called (GlobalText n)) s k = pushed_at (Txt (slice_index_or s.globals.texts n [])) s k
-    act_alike (Called (Function n)) s k = f (body_at p.functions n) s k
+    act_alike (Called (Function n)) s k = f (function_body p.functions n) s k
 
   -- a body
   pub eval_alike : (p : Program) (deep : ℕ) (b : Body) → GoAlike (eval_within p deep b)
@@ -150,7 +150,7 @@ module _ (e : Option Entry) (pre : List ℕ) (P P' : Place e) where
       }
 
   -- an evaluation's end
-  pub finished_alike : (o o' : Ending) → EndingsAlike o o' → FinishesAlike (finished o) (finished o')
+  pub finished_alike : (o o' : Ending) → EndingsAlike o o' → FinishesAlike (finish_of o) (finish_of o')
   finished_alike (Done w k) (Done w' k') h =
       finished_at_alike _ _ false k k' ((on_alike e pre P P') (λ w w'. (WorldsAlike e pre P P') (checked w.stack w) (checked w'.stack w')) w w' h.0 (λ s. checked_alike s.stack s)) h.1
   finished_alike (Done w k) (Stopped w' k') h = elim h [ ]

@@ -14,18 +14,18 @@ use Rattle.bt_actions.specs.declared.complaint.Complaint.TheVariants.{NoEntry, S
 use Rattle.bt_actions.specs.Item.{Code, Name, Block, Item, Num, Txt, Fun}
 use Rattle.bt_actions.specs.World.{World, Act, Goes, Stops, entry_of, say, with_stack}
 use Rattle.bt_actions.specs.State.{text_len, pushed, pushed_in_error, popped_from, popped, appended}
-use Rattle.bt_actions.specs.Arguments.{number_of, text_of, field_text_of, code_of, target_of, any_of, judged, taken, taken_two, taken_three}
+use Rattle.bt_actions.specs.Arguments.{as_number, as_text, as_field_text, as_code, as_target, as_any, judged, taken, taken_two, taken_three}
 use Rattle.bt_actions.specs.Given.{Given, Gives, Errs, answered, valued, zero_item, empty_item}
 use Rattle.bt_actions.specs.Numbers.{greater_of, less_of, sum_of, difference_of, byte_number, ascii_text, digits_text}
 use Rattle.bt_actions.specs.Comparing.{equality_of, emptiness_of, missing_of}
 use Rattle.bt_actions.specs.Texts.{join_of, period_of, case_of, purified_of, substring_given, prefix_of, length_of, width_given, quote}
 use Rattle.bt_actions.specs.Names.{names_counted, name_formatted}
-use Rattle.bt_actions.specs.Reading.{given, of_entry, key_item, kind_item, field_at, number_at, text_at}
-use Rattle.bt_actions.specs.Assigning.{with_number, with_text, with_globals, with_own, stored, own_changed, assigned}
+use Rattle.bt_actions.specs.Reading.{entry_or_error, of_entry, key_item, kind_item, field_at, number_at, text_at}
+use Rattle.bt_actions.specs.Assigning.{with_number, with_text, with_globals, with_own, put_if_right, own_changed, assigned}
 use Rattle.bt_actions.specs.Logging.{log_value, log_warning}
 use Rattle.bt_actions.specs.Stacking.{duplicated, swapped}
-use Rattle.bt_actions.specs.Actions.{done_with, goes_with, basic}
-use Rattle.bt_machine.specs.Eval.{Ending, Done, Stopped, Runner, then_go, acted, code_body, body_at, type_function, run_function, run_type, by_sign, run_chosen, turn, turns, run_loop, built_in, act, counted, eval_within}
+use Rattle.bt_actions.specs.Actions.{act_with, change_with, basic}
+use Rattle.bt_machine.specs.Eval.{Ending, Done, Stopped, Runner, then_go, acted, code_body, function_body, type_function, run_function, run_type, by_sign, run_chosen, turn, turns, run_loop, built_in, act, call_counted, eval_within}
 
 -- an action leaves at most so many values on the stack, where it doesn't stop
 abbrev pub Grows : ℕ → Act → Type 0
@@ -100,7 +100,7 @@ valued_grows : {A : Type 0} (f : A → Given) (default : Item) (q : Option A × 
 valued_grows f default (None, w) s h = pushed_grows default w s h
 valued_grows f default (Some a, w) s h = answered_grows (f a) w s h
 
-given_grows : (value : Entry → Item) (default : Item) (o : Option Entry) (w : World) (s : ℕ) → length w.stack ≤ s → Grows (suc s) (given value default o w)
+given_grows : (value : Entry → Item) (default : Item) (o : Option Entry) (w : World) (s : ℕ) → length w.stack ≤ s → Grows (suc s) (entry_or_error value default o w)
 given_grows value default None w s h = in_error_grows NoEntry default w s h
 given_grows value default (Some e) w s h = pushed_grows (value e) w s h
 
@@ -122,11 +122,11 @@ three_grows b lower middle upper f default w =
 
 -- what leaves the stack as it is
 
-goes_grows : {A : Type 0} (f : A → World → World) → ((a : A) (w : World) → (f a w).stack ≡ w.stack) → (q : Option A × World) (s : ℕ) → length q.1.stack ≤ s → Grows (suc s) (goes_with f q)
+goes_grows : {A : Type 0} (f : A → World → World) → ((a : A) (w : World) → (f a w).stack ≡ w.stack) → (q : Option A × World) (s : ℕ) → length q.1.stack ≤ s → Grows (suc s) (change_with f q)
 goes_grows f same (None, w) s h = omega arith
 goes_grows f same (Some a, w) s h = let e = ap length (same a w) in omega arith
 
-stored_stack : (put : Variables → World → World) → ((vs : Variables) (w : World) → (put vs w).stack ≡ w.stack) → (o : Option Variables) (w : World) → (stored put o w).stack ≡ w.stack
+stored_stack : (put : Variables → World → World) → ((vs : Variables) (w : World) → (put vs w).stack ≡ w.stack) → (o : Option Variables) (w : World) → (put_if_right put o w).stack ≡ w.stack
 stored_stack put same None w = refl
 stored_stack put same (Some vs) w = same vs w
 
@@ -143,7 +143,7 @@ assigned_stack (v, GlobalNumber n) w = stored_stack with_globals (λ vs w. refl)
 assigned_stack (v, GlobalText n) w = stored_stack with_globals (λ vs w. refl) (with_text n v w.globals) w
 assigned_stack (v, Function n) w = refl
 
-appended_grows : (q : Option (List ℕ) × World) (s : ℕ) → length q.1.stack ≤ s → Grows (suc s) (done_with appended q)
+appended_grows : (q : Option (List ℕ) × World) (s : ℕ) → length q.1.stack ≤ s → Grows (suc s) (act_with appended q)
 appended_grows (None, w) s h = omega arith
 appended_grows (Some t, w) s h =
     if_grows (nat_le (length w.held + length t) 65536) (Goes _) (Stops (say TextPassed w)) (suc s) (omega arith) tt
@@ -161,46 +161,46 @@ swapped_len (v ∷ u ∷ vs) w h = omega arith
 
 -- a built-in function that runs no other leaves at most one value more
 pub basic_grows : (p : Program) (b : Primitive) (w : World) → Grows (suc (length w.stack)) (basic p b w)
-basic_grows p builtin.Greater w = two_grows builtin.Greater number_of number_of greater_of zero_item w
-basic_grows p builtin.Less w = two_grows builtin.Less number_of number_of less_of zero_item w
-basic_grows p builtin.Equals w = two_grows builtin.Equals any_of any_of equality_of zero_item w
-basic_grows p builtin.Plus w = two_grows builtin.Plus number_of number_of sum_of zero_item w
-basic_grows p builtin.Minus w = two_grows builtin.Minus number_of number_of difference_of zero_item w
-basic_grows p builtin.Join w = two_grows builtin.Join text_of text_of join_of empty_item w
+basic_grows p builtin.Greater w = two_grows builtin.Greater as_number as_number greater_of zero_item w
+basic_grows p builtin.Less w = two_grows builtin.Less as_number as_number less_of zero_item w
+basic_grows p builtin.Equals w = two_grows builtin.Equals as_any as_any equality_of zero_item w
+basic_grows p builtin.Plus w = two_grows builtin.Plus as_number as_number sum_of zero_item w
+basic_grows p builtin.Minus w = two_grows builtin.Minus as_number as_number difference_of zero_item w
+basic_grows p builtin.Join w = two_grows builtin.Join as_text as_text join_of empty_item w
 basic_grows p builtin.Assign w =
-    goes_grows assigned assigned_stack (taken_two builtin.Assign any_of target_of w) _ (taken_two_len builtin.Assign any_of target_of w)
-basic_grows p builtin.AddPeriod w = one_grows builtin.AddPeriod text_of period_of empty_item w
+    goes_grows assigned assigned_stack (taken_two builtin.Assign as_any as_target w) _ (taken_two_len builtin.Assign as_any as_target w)
+basic_grows p builtin.AddPeriod w = one_grows builtin.AddPeriod as_text period_of empty_item w
 basic_grows p builtin.CallType w = omega arith
-basic_grows p builtin.ChangeCase w = two_grows builtin.ChangeCase text_of text_of case_of empty_item w
-basic_grows p builtin.ChrToInt w = one_grows builtin.ChrToInt text_of byte_number zero_item w
+basic_grows p builtin.ChangeCase w = two_grows builtin.ChangeCase as_text as_text case_of empty_item w
+basic_grows p builtin.ChrToInt w = one_grows builtin.ChrToInt as_text byte_number zero_item w
 basic_grows p builtin.Cite w = of_entry_grows key_item empty_item w
 basic_grows p builtin.Duplicate w = duplicated_grows w.stack w
-basic_grows p builtin.Empty w = one_grows builtin.Empty field_text_of emptiness_of zero_item w
-basic_grows p builtin.FormatName w = three_grows builtin.FormatName text_of number_of text_of name_formatted empty_item w
+basic_grows p builtin.Empty w = one_grows builtin.Empty as_field_text emptiness_of zero_item w
+basic_grows p builtin.FormatName w = three_grows builtin.FormatName as_text as_number as_text name_formatted empty_item w
 basic_grows p builtin.If w = omega arith
-basic_grows p builtin.IntToChr w = one_grows builtin.IntToChr number_of ascii_text empty_item w
-basic_grows p builtin.IntToStr w = one_grows builtin.IntToStr number_of digits_text empty_item w
-basic_grows p builtin.Missing w = one_grows builtin.Missing field_text_of missing_of zero_item w
+basic_grows p builtin.IntToChr w = one_grows builtin.IntToChr as_number ascii_text empty_item w
+basic_grows p builtin.IntToStr w = one_grows builtin.IntToStr as_number digits_text empty_item w
+basic_grows p builtin.Missing w = one_grows builtin.Missing as_field_text missing_of zero_item w
 basic_grows p builtin.Newline w = omega arith
-basic_grows p builtin.NumNames w = one_grows builtin.NumNames text_of names_counted zero_item w
+basic_grows p builtin.NumNames w = one_grows builtin.NumNames as_text names_counted zero_item w
 basic_grows p builtin.Pop w = let h = popped_len w in omega arith
 basic_grows p builtin.Preamble w = pushed_grows (Txt w.preamble) w _ (omega arith)
-basic_grows p builtin.Purify w = one_grows builtin.Purify text_of purified_of empty_item w
+basic_grows p builtin.Purify w = one_grows builtin.Purify as_text purified_of empty_item w
 basic_grows p builtin.Quote w = pushed_grows (Txt quote) w _ (omega arith)
 basic_grows p builtin.Skip w = omega arith
 basic_grows p builtin.Stack w = omega arith
-basic_grows p builtin.Substring w = three_grows builtin.Substring text_of number_of number_of substring_given empty_item w
+basic_grows p builtin.Substring w = three_grows builtin.Substring as_text as_number as_number substring_given empty_item w
 basic_grows p builtin.Swap w = let h = swapped_len w.stack w (omega arith) in omega arith
-basic_grows p builtin.TextLength w = one_grows builtin.TextLength text_of length_of zero_item w
-basic_grows p builtin.TextPrefix w = two_grows builtin.TextPrefix text_of number_of prefix_of empty_item w
+basic_grows p builtin.TextLength w = one_grows builtin.TextLength as_text length_of zero_item w
+basic_grows p builtin.TextPrefix w = two_grows builtin.TextPrefix as_text as_number prefix_of empty_item w
 basic_grows p builtin.Top w =
-    goes_grows (log_value p) (λ v w. refl) (taken builtin.Top any_of w) _ (taken_len builtin.Top any_of w)
+    goes_grows (log_value p) (λ v w. refl) (taken builtin.Top as_any w) _ (taken_len builtin.Top as_any w)
 basic_grows p builtin.Type w = of_entry_grows kind_item empty_item w
 basic_grows p builtin.Warning w =
-    goes_grows log_warning (λ t w. refl) (taken builtin.Warning text_of w) _ (taken_len builtin.Warning text_of w)
+    goes_grows log_warning (λ t w. refl) (taken builtin.Warning as_text w) _ (taken_len builtin.Warning as_text w)
 basic_grows p builtin.While w = omega arith
-basic_grows p builtin.Width w = one_grows builtin.Width text_of width_given zero_item w
-basic_grows p builtin.Write w = appended_grows (taken builtin.Write text_of w) _ (taken_len builtin.Write text_of w)
+basic_grows p builtin.Width w = one_grows builtin.Width as_text width_given zero_item w
+basic_grows p builtin.Write w = appended_grows (taken builtin.Write as_text w) _ (taken_len builtin.Write as_text w)
 
 -- an evaluation leaves at most k ticks and, where it isn't stopped, at most s ticks and values together
 abbrev pub Shrinks : ℕ → ℕ → Ending → Type 0
@@ -236,7 +236,7 @@ turns_shrinks : (m : ℕ) (test body : World → ℕ → Ending) → AllShrink t
 turns_shrinks zero test body t b w k = omega arith
 turns_shrinks (suc m) test body t b w k =
     then_shrinks (test w k) _ k (k + length w.stack) k (k + length w.stack) (omega arith) (t w k)
-    (λ w' j hj hs. let l = taken_len builtin.While number_of w' in turn_shrinks _ _ j k (k + length w.stack) body (turns m test body) hj (omega arith) b (turns_shrinks m test body t b))
+    (λ w' j hj hs. let l = taken_len builtin.While as_number w' in turn_shrinks _ _ j k (k + length w.stack) body (turns m test body) hj (omega arith) b (turns_shrinks m test body t b))
 
 module _ (p : Program) (run : Runner) (h : (b : Body) → AllShrink (run b)) where
   -- a body, where fewer values stand on the stack
@@ -254,7 +254,7 @@ module _ (p : Program) (run : Runner) (h : (b : Body) → AllShrink (run b)) whe
 
   function_shrinks : (o : Option ℕ) (w : World) (k s : ℕ) → k + length w.stack ≤ s → Shrinks k s (run_function p.functions run o w k)
   function_shrinks None w k s i = (omega arith, i)
-  function_shrinks (Some n) w k s i = run_shrinks (body_at p.functions n) w k s i
+  function_shrinks (Some n) w k s i = run_shrinks (function_body p.functions n) w k s i
 
   type_shrinks : (o : Option Entry) (w : World) (k s : ℕ) → k + length w.stack ≤ s → Shrinks k s (run_type p.functions run o w k)
   type_shrinks None w k s i = (omega arith, i)
@@ -262,12 +262,12 @@ module _ (p : Program) (run : Runner) (h : (b : Body) → AllShrink (run b)) whe
 
   built_in_shrinks : (b : Primitive) (w : World) (k : ℕ) → Shrinks k (suc (k + length w.stack)) (built_in p run b w k)
   built_in_shrinks builtin.If w k =
-      let t = taken_three builtin.If number_of code_of code_of w in
-      let l = taken_three_len builtin.If number_of code_of code_of w in
+      let t = taken_three builtin.If as_number as_code as_code w in
+      let l = taken_three_len builtin.If as_number as_code as_code w in
       chosen_shrinks t.0 t.1 k _ (omega arith)
   built_in_shrinks builtin.While w k =
-      let t = taken_two builtin.While code_of code_of w in
-      let l = taken_two_len builtin.While code_of code_of w in
+      let t = taken_two builtin.While as_code as_code w in
+      let l = taken_two_len builtin.While as_code as_code w in
       loop_shrinks t.0 t.1 k _ (omega arith)
   built_in_shrinks builtin.CallType w k = type_shrinks (entry_of w) w k _ (omega arith)
   built_in_shrinks b w k = acted_shrinks (basic p b w) k _ (basic_grows p b w)
@@ -285,7 +285,7 @@ module _ (p : Program) (run : Runner) (h : (b : Body) → AllShrink (run b)) whe
       acted_shrinks (pushed (Num (slice_index_or w.globals.numbers n (pos 0))) w) k _ (pushed_grows (Num (slice_index_or w.globals.numbers n (pos 0))) w _ (omega arith))
   act_shrinks (Called (GlobalText n)) w k =
       acted_shrinks (pushed (Txt (slice_index_or w.globals.texts n [])) w) k _ (pushed_grows (Txt (slice_index_or w.globals.texts n [])) w _ (omega arith))
-  act_shrinks (Called (Function n)) w k = run_shrinks (body_at p.functions n) w k _ (omega arith)
+  act_shrinks (Called (Function n)) w k = run_shrinks (function_body p.functions n) w k _ (omega arith)
 
 -- a body
 pub eval_shrinks : (p : Program) (deep : ℕ) (b : Body) → AllShrink (eval_within p deep b)
@@ -294,4 +294,4 @@ eval_shrinks p deep End w k = (omega arith, omega arith)
 eval_shrinks p deep (Then e rest) w zero = omega arith
 eval_shrinks p zero (Then e rest) w (suc k) = omega arith
 eval_shrinks p (suc deep) (Then e rest) w (suc k) =
-    then_shrinks _ _ k (suc (k + length w.stack)) (suc k) (suc k + length w.stack) (omega arith) (act_shrinks p (eval_within p deep) (eval_shrinks p deep) e (counted e w) k) (λ w' j hj hs. Shrinks_weaker _ j (j + length w'.stack) (suc k) (suc k + length w.stack) (omega arith) (omega arith) (eval_shrinks p deep rest w' j))
+    then_shrinks _ _ k (suc (k + length w.stack)) (suc k) (suc k + length w.stack) (omega arith) (act_shrinks p (eval_within p deep) (eval_shrinks p deep) e (call_counted e w) k) (λ w' j hj hs. Shrinks_weaker _ j (j + length w'.stack) (suc k) (suc k + length w.stack) (omega arith) (omega arith) (eval_shrinks p deep rest w' j))

@@ -10,8 +10,8 @@ use Rattle.bt_actions.specs.declared.entry.Entry.{Entry}
 use Rattle.bt_actions.specs.declared.complaint.Complaint.TheVariants.{TicksPassed}
 use Rattle.bt_actions.specs.Item.{Code}
 use Rattle.bt_actions.specs.World.{World, entry_of, say}
-use Rattle.bt_actions.specs.Arguments.{number_of, code_of, taken, taken_two, taken_three}
-use Rattle.bt_machine.specs.Eval.{Ending, Done, Stopped, Runner, then_go, code_body, body_at, type_function, run_function, run_type, by_sign, run_chosen, turn, turns, looped, run_loop, built_in, act, counted, eval_within, eval, IsEvaluation}
+use Rattle.bt_actions.specs.Arguments.{as_number, as_code, taken, taken_two, taken_three}
+use Rattle.bt_machine.specs.Eval.{Ending, Done, Stopped, Runner, then_go, code_body, function_body, type_function, run_function, run_type, by_sign, run_chosen, turn, turns, looped, run_loop, built_in, act, call_counted, eval_within, eval, IsEvaluation}
 use Rattle.bt_machine.proofs.Bounds.{Shrinks, AllShrink, act_shrinks, eval_shrinks, taken_len, taken_some_len}
 
 -- the same from everywhere with at most k ticks
@@ -38,9 +38,9 @@ turns_same zero m' test test' body body' top ts bs t b w k hk h h' = absurd (ome
 turns_same (suc m) zero test test' body body' top ts bs t b w k hk h h' = absurd (omega arith)
 turns_same (suc m) (suc m') test test' body body' top ts bs t b w k hk h h' =
     then_same (test w k) _ _ k (k + length w.stack) (ts w k)
-    (λ w1 j hj hs. let l = taken_len While number_of w1 in turn_same (taken While number_of w1).0 (taken While number_of w1).1 j body body' (turns m test body) (turns m' test' body') bs (b (taken While number_of w1).1 j (omega arith))
-    (λ n e w2 i hi hs2. let l = taken_some_len While number_of w1 n e in turns_same m m' test test' body body' top ts bs t b w2 i (omega arith) (omega arith) (omega arith)))
-    ∙ ap (λ o. then_go o (λ w k. turn (taken While number_of w) k body' (turns m' test' body'))) (t w k hk)
+    (λ w1 j hj hs. let l = taken_len While as_number w1 in turn_same (taken While as_number w1).0 (taken While as_number w1).1 j body body' (turns m test body) (turns m' test' body') bs (b (taken While as_number w1).1 j (omega arith))
+    (λ n e w2 i hi hs2. let l = taken_some_len While as_number w1 n e in turns_same m m' test test' body body' top ts bs t b w2 i (omega arith) (omega arith) (omega arith)))
+    ∙ ap (λ o. then_go o (λ w k. turn (taken While as_number w) k body' (turns m' test' body'))) (t w k hk)
 
 -- an element, where what it runs is the same
 module _ (p : Program) (run run' : Runner) (k : ℕ) (s : (b : Body) → AllShrink (run b)) (same : (b : Body) → Agree k (run b) (run' b)) where
@@ -55,21 +55,21 @@ module _ (p : Program) (run run' : Runner) (k : ℕ) (s : (b : Body) → AllShri
 
   function_same : (o : Option ℕ) (w : World) → run_function p.functions run o w k ≡ run_function p.functions run' o w k
   function_same None w = refl
-  function_same (Some n) w = same (body_at p.functions n) w k (omega arith)
+  function_same (Some n) w = same (function_body p.functions n) w k (omega arith)
 
   type_same : (o : Option Entry) (w : World) → run_type p.functions run o w k ≡ run_type p.functions run' o w k
   type_same None w = refl
   type_same (Some e) w = function_same (type_function p.functions e.function) w
 
   built_in_same : (b : Primitive) (w : World) → built_in p run b w k ≡ built_in p run' b w k
-  built_in_same If w = chosen_same (taken_three If number_of code_of code_of w).0 _
-  built_in_same While w = loop_same (taken_two While code_of code_of w).0 _
+  built_in_same If w = chosen_same (taken_three If as_number as_code as_code w).0 _
+  built_in_same While w = loop_same (taken_two While as_code as_code w).0 _
   built_in_same CallType w = type_same (entry_of w) w
   built_in_same _ w = refl
 
   act_same : (e : Element) (w : World) → act p run e w k ≡ act p run' e w k
   act_same (Called (Builtin b)) w = built_in_same b w
-  act_same (Called (Function n)) w = same (body_at p.functions n) w k (omega arith)
+  act_same (Called (Function n)) w = same (function_body p.functions n) w k (omega arith)
   act_same _ w = refl
 
 -- where calls may stand deeper than there are ticks, more changes nothing
@@ -80,9 +80,9 @@ eval_stable p deep deep' (Then e rest) w zero h h' = refl
 eval_stable p zero deep' (Then e rest) w (suc k) h h' = absurd (omega arith)
 eval_stable p (suc deep) zero (Then e rest) w (suc k) h h' = absurd (omega arith)
 eval_stable p (suc deep) (suc deep') (Then e rest) w (suc k) h h' =
-    then_same (act p (eval_within p deep) e (counted e w) k) _ _ k (suc (k + length w.stack)) (act_shrinks p _ (eval_shrinks p deep) e (counted e w) k)
+    then_same (act p (eval_within p deep) e (call_counted e w) k) _ _ k (suc (k + length w.stack)) (act_shrinks p _ (eval_shrinks p deep) e (call_counted e w) k)
     (λ w' j hj hs. eval_stable p deep deep' rest w' j (omega arith) (omega arith))
-    ∙ ap (λ o. then_go o (eval_within p deep' rest)) (act_same p _ _ k (eval_shrinks p deep) (λ b w' j hj. eval_stable p deep deep' b w' j (omega arith) (omega arith)) e (counted e w))
+    ∙ ap (λ o. then_go o (eval_within p deep' rest)) (act_same p _ _ k (eval_shrinks p deep) (λ b w' j hj. eval_stable p deep deep' b w' j (omega arith) (omega arith)) e (call_counted e w))
 
 -- no element
 pub eval-end : (p : Program) (w : World) (k : ℕ) → eval p End w k ≡ Done w k
@@ -95,22 +95,22 @@ unfolding eval_within
 eval-no_tick p e rest w = refl
 
 -- an element and the rest
-pub eval-then : (p : Program) (e : Element) (rest : Body) (w : World) (k : ℕ) → eval p (Then e rest) w (suc k) ≡ then_go (act p (eval p) e (counted e w) k) (eval p rest)
+pub eval-then : (p : Program) (e : Element) (rest : Body) (w : World) (k : ℕ) → eval p (Then e rest) w (suc k) ≡ then_go (act p (eval p) e (call_counted e w) k) (eval p rest)
 unfolding eval_within
 eval-then p e rest w k =
-    then_same (act p (eval_within p k) e (counted e w) k) _ _ k (suc (k + length w.stack)) (act_shrinks p _ (eval_shrinks p k) e (counted e w) k)
+    then_same (act p (eval_within p k) e (call_counted e w) k) _ _ k (suc (k + length w.stack)) (act_shrinks p _ (eval_shrinks p k) e (call_counted e w) k)
     (λ w' j hj hs. eval_stable p k j rest w' j (omega arith) (omega arith))
-    ∙ ap (λ o. then_go o (eval p rest)) (act_same p _ _ k (eval_shrinks p k) (λ b w' j hj. eval_stable p k j b w' j (omega arith) (omega arith)) e (counted e w))
+    ∙ ap (λ o. then_go o (eval p rest)) (act_same p _ _ k (eval_shrinks p k) (λ b w' j hj. eval_stable p k j b w' j (omega arith) (omega arith)) e (call_counted e w))
 
 pub eval-shrinks : (p : Program) (b : Body) → AllShrink (eval p b)
 eval-shrinks p b w k = eval_shrinks p k b w k
 
 -- a loop: its test, a number, its body, and the loop again
-pub looped-turn : (p : Program) (test body : Code) (w : World) (k : ℕ) → looped (eval p) test body w k ≡ then_go (eval p (code_body test) w k) (λ w k. turn (taken While number_of w) k (eval p (code_body body)) (looped (eval p) test body))
+pub looped-turn : (p : Program) (test body : Code) (w : World) (k : ℕ) → looped (eval p) test body w k ≡ then_go (eval p (code_body test) w k) (λ w k. turn (taken While as_number w) k (eval p (code_body body)) (looped (eval p) test body))
 looped-turn p test body w k =
     then_same (eval p (code_body test) w k) _ _ k (k + length w.stack) (eval-shrinks p (code_body test) w k)
-    (λ w1 j hj hs. turn_same (taken While number_of w1).0 (taken While number_of w1).1 j (eval p (code_body body)) (eval p (code_body body)) (turns (k + length w.stack) (eval p (code_body test)) (eval p (code_body body))) (looped (eval p) test body) (eval-shrinks p (code_body body)) refl
-    (λ n e w2 i hi hs2. let l = taken_some_len While number_of w1 n e in turns_same (k + length w.stack) (suc (i + length w2.stack)) _ _ _ _ i (eval-shrinks p (code_body test)) (eval-shrinks p (code_body body)) (λ w' j' h. refl) (λ w' j' h. refl) w2 i (omega arith) (omega arith) (omega arith)))
+    (λ w1 j hj hs. turn_same (taken While as_number w1).0 (taken While as_number w1).1 j (eval p (code_body body)) (eval p (code_body body)) (turns (k + length w.stack) (eval p (code_body test)) (eval p (code_body body))) (looped (eval p) test body) (eval-shrinks p (code_body body)) refl
+    (λ n e w2 i hi hs2. let l = taken_some_len While as_number w1 n e in turns_same (k + length w.stack) (suc (i + length w2.stack)) _ _ _ _ i (eval-shrinks p (code_body test)) (eval-shrinks p (code_body body)) (λ w' j' h. refl) (λ w' j' h. refl) w2 i (omega arith) (omega arith) (omega arith)))
 
 -- all of them
 pub is_evaluation : (p : Program) → IsEvaluation p (eval p)

@@ -9,9 +9,9 @@ use Rattle.bt_actions.specs.declared.complaint.Complaint.{Complaint}
 use Rattle.bt_actions.specs.declared.complaint.Complaint.TheVariants.{EmptyStack, WrongKind, NoEntry, LeftOver, TicksPassed, StackPassed}
 use Rattle.bt_log.specs.declared.message.Message.{Message}
 use Rattle.bt_actions.specs.Item.{Num}
-use Rattle.bt_actions.specs.World.{World, no_variables, told}
+use Rattle.bt_actions.specs.World.{World, no_variables, told_message}
 use Rattle.bt_machine.specs.Eval.{eval_within, eval, Done, Stopped}
-use Rattle.bt_machine.specs.Step.{Finish, begun, step}
+use Rattle.bt_machine.specs.Step.{Finish, step_begun, step}
 
 -- a style of these functions
 abbrev style : List Definition → Program
@@ -68,7 +68,7 @@ of_elements es = of_bodies (function es ∷ [])
 -- what such a step tells
 abbrev tells : List Complaint → List Message
 tells [] = []
-tells (m ∷ ms) = told (start []) m ∷ tells ms
+tells (m ∷ ms) = told_message (start []) m ∷ tells ms
 
 -- #1 {"a"} {"b"} if$ write$, and with 0 and with -1
 above_zero : (of_elements (Amount (pos 1) ∷ Braced (body_of (Words (codes "a") ∷ [])) ∷ Braced (body_of (Words (codes "b") ∷ [])) ∷ Called (Builtin If) ∷ Called (Builtin Write) ∷ [])).world.held ≡ codes "a"
@@ -114,7 +114,7 @@ unfolding eval_within
 loop_pops = refl
 
 -- {#1} {skip$} while$ with 9 ticks: three for itself, and the third turn's body has none left
-endless : eval (style []) (body_of (Braced (body_of (Amount (pos 1) ∷ [])) ∷ Braced (body_of (Called (Builtin Skip) ∷ [])) ∷ Called (Builtin While) ∷ [])) (begun None (start [])) 8 ≡ Stopped (record (begun None (start [])) { messages = tells (TicksPassed ∷ []); calls = replicate 25 0 ++ 2 ∷ replicate 8 0 ++ 1 ∷ 0 ∷ 0 ∷ [] }) 0
+endless : eval (style []) (body_of (Braced (body_of (Amount (pos 1) ∷ [])) ∷ Braced (body_of (Called (Builtin Skip) ∷ [])) ∷ Called (Builtin While) ∷ [])) (step_begun None (start [])) 8 ≡ Stopped (record (step_begun None (start [])) { messages = tells (TicksPassed ∷ []); calls = replicate 25 0 ++ 2 ∷ replicate 8 0 ++ 1 ∷ 0 ∷ 0 ∷ [] }) 0
 unfolding eval_within
 endless = refl
 
@@ -158,10 +158,10 @@ unfolding eval_within
 full_stack = refl
 
 -- the last tick can be taken, and without one an element is neither carried out nor counted
-last_tick : eval (style []) (body_of (Called (Builtin Skip) ∷ [])) (begun None (start [])) 1 ≡ Done (record (begun None (start [])) { calls = replicate 25 0 ++ 1 ∷ replicate 11 0 }) 0
+last_tick : eval (style []) (body_of (Called (Builtin Skip) ∷ [])) (step_begun None (start [])) 1 ≡ Done (record (step_begun None (start [])) { calls = replicate 25 0 ++ 1 ∷ replicate 11 0 }) 0
 unfolding eval_within
 last_tick = refl
 
-no_tick : eval (style []) (body_of (Called (Builtin Skip) ∷ Called (Builtin Skip) ∷ [])) (begun None (start [])) 1 ≡ Stopped (record (begun None (start [])) { messages = tells (TicksPassed ∷ []); calls = replicate 25 0 ++ 1 ∷ replicate 11 0 }) 0
+no_tick : eval (style []) (body_of (Called (Builtin Skip) ∷ Called (Builtin Skip) ∷ [])) (step_begun None (start [])) 1 ≡ Stopped (record (step_begun None (start [])) { messages = tells (TicksPassed ∷ []); calls = replicate 25 0 ++ 1 ∷ replicate 11 0 }) 0
 unfolding eval_within
 no_tick = refl

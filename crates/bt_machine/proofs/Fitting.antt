@@ -9,10 +9,10 @@ use Rattle.bt_actions.specs.declared.entry.Variables.{Variables}
 use Rattle.bt_actions.specs.declared.entry.Entry.{Entry}
 use Rattle.bt_actions.specs.Item.{Item}
 use Rattle.bt_actions.specs.World.{World, no_entry}
-use Rattle.bt_actions.specs.Assigning.{with_number, with_text, with_globals, stored, own_changed, assigned}
+use Rattle.bt_actions.specs.Assigning.{with_number, with_text, with_globals, put_if_right, own_changed, assigned}
 use Rattle.bt_actions.specs.View.{entries_in}
 use Rattle.bt_machine.specs.Eval.{Ending, Done, Stopped, eval}
-use Rattle.bt_machine.specs.Step.{tick_limit, begun, finished, step, first_variables, world_in}
+use Rattle.bt_machine.specs.Step.{tick_limit, step_begun, finish_of, step, first_variables, world_in}
 use Rattle.bt_machine.specs.Fits.{Count, Fits, OwnFit, ValuesFitAgain}
 use Rattle.bt_machine.proofs.Keeping.{Kept}
 use Rattle.bt_machine.proofs.KeepingEval.{EndKept, eval_kept, checked_kept}
@@ -26,7 +26,7 @@ module _ (globals own : Count) (x : Option ℕ) (l : ℕ) where
   abbrev WorldFits : World → Type 0
   WorldFits w = RestFits w.current w.entries w.globals
 
-  globals_kept : (o : Option Variables) (w : World) → WorldFits w → OwnFit globals o → WorldFits (stored with_globals o w)
+  globals_kept : (o : Option Variables) (w : World) → WorldFits w → OwnFit globals o → WorldFits (put_if_right with_globals o w)
   globals_kept None w h f = h
   globals_kept (Some vs) w h f = (h.0, h.1, f, h.3)
 
@@ -64,7 +64,7 @@ module _ (globals own : Count) (x : Option ℕ) (l : ℕ) where
   abbrev FinishKept : World → Type 0
   FinishKept w = (length w.entries ≡ l) × Fits globals w.globals × EntryFits own w.entries x
 
-  finished_kept : (o : Ending) → EndKept fitting (λ c. tt) o → FinishKept (finished o).world
+  finished_kept : (o : Ending) → EndKept fitting (λ c. tt) o → FinishKept (finish_of o).world
   finished_kept (Done w k) h =
       let i = checked_kept fitting (λ c. tt) w.stack w h in
       (i.0.1, i.0.2, i.0.3)
@@ -83,13 +83,13 @@ no_first c (e ∷ es) l = absurd (omega arith)
 fit_from : (p : Program) (globals own : Count) (o : Option Entry) (t : Target) (w : World) → w.entries ≡ entries_in o → Fits globals w.globals → OwnFit own (option_map (λ e. e.variables) o) → Fits globals (step p (option_map (λ e. 0) o) t w).world.globals × OwnFit own (first_variables (step p (option_map (λ e. 0) o) t w).world.entries) × (is_none (first_variables (step p (option_map (λ e. 0) o) t w).world.entries) ≡ is_none o)
 fit_from p globals own None t w q h f =
     let b = Then (Called t) End in
-    let w0 = begun None w in
+    let w0 = step_begun None w in
     let k = finished_kept globals own None 0 (eval p b w0 tick_limit) (eval_kept (fitting globals own None 0) (λ c. tt) p tick_limit b w0 tick_limit ((refl, ap length q, h, tt), tt)) in
     let r = no_first own (step p None t w).world.entries k.0 in
     (k.1, r.0, r.1)
 fit_from p globals own (Some e) t w q h f =
     let b = Then (Called t) End in
-    let w0 = begun (Some 0) w in
+    let w0 = step_begun (Some 0) w in
     let l : length w.entries ≡ 1 = ap length q in
     let fits : EntryFits own w.entries (Some 0) = (omega arith, subst (λ es. Fits own (slice_index_or es 0 no_entry).variables) (sym q) f) in
     let k = finished_kept globals own (Some 0) 1 (eval p b w0 tick_limit) (eval_kept (fitting globals own (Some 0) 1) (λ c. tt) p tick_limit b w0 tick_limit ((refl, l, h, fits), tt)) in

@@ -7,7 +7,8 @@ use Rattle.bt_style.specs.Tree.{Element, Words, Quoted, Braced, Called, body_of}
 use Rattle.bt_style.specs.Program.{Definition, Program}
 use Rattle.bt_style.specs.Reach.{leads_to, is_among}
 use Rattle.bt_machine.specs.declared.input.Input.{Input}
-use Rattle.bt_machine.specs.Footprint.{blend, among, input_over}
+use Rattle.bt_machine.specs.Footprint.{blend, input_over}
+use Rattle.bt_machine.specs.inner.Footprint.{among}
 use Rattle.bt_machine.specs.Agreement.{outcome_over}
 use Rattle.bt_machine.specs.Comparison.{reach_by, agreement}
 use Rattle.bt_machine.specs.Step.{step_in}

@@ -10,20 +10,20 @@ use Rattle.bt_actions.specs.declared.entry.Variables.{Variables}
 use Rattle.bt_actions.specs.declared.entry.Entry.{Entry}
 use Rattle.bt_actions.specs.declared.complaint.Complaint.{Complaint}
 use Rattle.bt_actions.specs.declared.complaint.Complaint.TheVariants.{NoEntry, StackPassed, TextPassed}
-use Rattle.bt_actions.specs.Item.{Item, Num, Txt, Gap}
+use Rattle.bt_actions.specs.Item.{Item, Num, Txt, Missing}
 use Rattle.bt_actions.specs.World.{World, Act, Goes, Stops, entry_of, say, with_stack}
 use Rattle.bt_actions.specs.State.{text_len, pushed, pushed_in_error, popped_from, popped, appended}
-use Rattle.bt_actions.specs.Arguments.{number_of, text_of, field_text_of, target_of, any_of, judged, both, taken, taken_two, taken_three}
+use Rattle.bt_actions.specs.Arguments.{as_number, as_text, as_field_text, as_target, as_any, judged, both, taken, taken_two, taken_three}
 use Rattle.bt_actions.specs.Given.{Given, Gives, Errs, answered, valued, zero_item, empty_item}
 use Rattle.bt_actions.specs.Numbers.{greater_of, less_of, sum_of, difference_of, byte_number, ascii_text, digits_text}
 use Rattle.bt_actions.specs.Comparing.{equality_of, emptiness_of, missing_of}
 use Rattle.bt_actions.specs.Texts.{join_of, period_of, case_of, purified_of, substring_given, prefix_of, length_of, width_given, quote}
 use Rattle.bt_actions.specs.Names.{names_counted, name_formatted}
-use Rattle.bt_actions.specs.Reading.{given, of_entry, key_item, kind_item, field_at, field_item}
+use Rattle.bt_actions.specs.Reading.{entry_or_error, of_entry, key_item, kind_item, field_at, field_item}
 use Rattle.bt_actions.specs.Assigning.{assigned}
 use Rattle.bt_actions.specs.Logging.{log_value, log_warning}
 use Rattle.bt_actions.specs.Stacking.{duplicated, swapped}
-use Rattle.bt_actions.specs.Actions.{done_with, goes_with, basic}
+use Rattle.bt_actions.specs.Actions.{act_with, change_with, basic}
 use Rattle.bt_actions.proofs.GivenLemmas.{GivenHas, ascii_has, byte_has, case_has, difference_has, digits_has, emptiness_has, equality_has, greater_has, join_has, length_has, less_has, missing_has, name_has, names_has, period_has, prefix_has, purified_has, substring_has, sum_has, width_has}
 use Rattle.bt_machine.proofs.Bounds.{assigned_stack}
 
@@ -45,7 +45,7 @@ pub record Kept : Type 1 where
   pub Pushed : Item → Type 0
   pub numbers : (n : ℤ) → Pushed (Num n)
   pub texts : (t : List ℕ) → Pushed (Txt t)
-  pub gaps : (n : ℕ) → Pushed (Gap n)
+  pub gaps : (n : ℕ) → Pushed (Missing n)
   pub again : (v : Item) → OnStack v → Pushed v
   pub short : (v : Item) → Pushed v → text_len v ≤ 65536 → OnStack v
   pub assigns : (v : Item) (t : Target) (w : World) → OnStack v → Rest w.current w.entries w.globals → Rest (assigned (v, t) w).current (assigned (v, t) w).entries (assigned (v, t) w).globals
@@ -138,7 +138,7 @@ module _ (kept : Kept) where
   three_kept c lower middle upper g default w i d h =
       valued_kept g default (taken_three c lower middle upper w) i d (taken_three_kept c lower middle upper w h)
 
-  given_kept : (value : Entry → Item) (default : Item) (o : Option Entry) (w : World) → ((e : Entry) → kept.Pushed (value e)) → kept.Pushed default → IsKept w → ActKept (given value default o w)
+  given_kept : (value : Entry → Item) (default : Item) (o : Option Entry) (w : World) → ((e : Entry) → kept.Pushed (value e)) → kept.Pushed default → IsKept w → ActKept (entry_or_error value default o w)
   given_kept value default None w i d h = in_error_kept NoEntry default w d h
   given_kept value default (Some e) w i d h = pushed_kept (value e) w (i e) h
 
@@ -153,11 +153,11 @@ module _ (kept : Kept) where
   field_kept n e = field_in n (slice_index_or e.fields n None)
 
   -- the run goes on
-  goes_kept : {A : Type 0} (g : A → World → World) → ((a : A) (w : World) → IsKept w → IsKept (g a w)) → (q : Option A × World) → IsKept q.1 → ActKept (goes_with g q)
+  goes_kept : {A : Type 0} (g : A → World → World) → ((a : A) (w : World) → IsKept w → IsKept (g a w)) → (q : Option A × World) → IsKept q.1 → ActKept (change_with g q)
   goes_kept g f (None, w) h = h
   goes_kept g f (Some a, w) h = f a w h
 
-  appended_kept : (q : Option (List ℕ) × World) → IsKept q.1 → ActKept (done_with appended q)
+  appended_kept : (q : Option (List ℕ) × World) → IsKept q.1 → ActKept (act_with appended q)
   appended_kept (None, w) h = h
   appended_kept (Some t, w) h = if_kept _ (Goes _) (Stops (say TextPassed w)) (λ r. h) h
 
@@ -167,15 +167,15 @@ module _ (kept : Kept) where
   assigned_kept v t w s h =
       (kept.assigns v t w s h.0, subst (Each kept.OnStack) (sym (assigned_stack (v, t) w)) h.1)
 
-  both_assigned : (o : Option Item) (t : Option Target) (w : World) → Within kept.OnStack o → IsKept w → ActKept (goes_with assigned (both (option_and_then any_of o) t, w))
+  both_assigned : (o : Option Item) (t : Option Target) (w : World) → Within kept.OnStack o → IsKept w → ActKept (change_with assigned (both (option_and_then as_any o) t, w))
   both_assigned None t w s h = h
   both_assigned (Some v) None w s h = h
   both_assigned (Some v) (Some t) w s h = assigned_kept v t w s h
 
-  assign_kept : (w : World) → IsKept w → ActKept (goes_with assigned (taken_two builtin.Assign any_of target_of w))
+  assign_kept : (w : World) → IsKept w → ActKept (change_with assigned (taken_two builtin.Assign as_any as_target w))
   assign_kept w h =
       let top = popped w in
-      both_assigned (popped top.1).0 (option_and_then target_of top.0) (taken_two builtin.Assign any_of target_of w).1 (popped_in top.1 (popped_kept w h)) (taken_two_kept builtin.Assign any_of target_of w h)
+      both_assigned (popped top.1).0 (option_and_then as_target top.0) (taken_two builtin.Assign as_any as_target w).1 (popped_in top.1 (popped_kept w h)) (taken_two_kept builtin.Assign as_any as_target w h)
 
   -- the functions of the stack alone
 
@@ -190,44 +190,44 @@ module _ (kept : Kept) where
 
   -- a built-in function that runs no other
   pub basic_kept : (p : Program) (c : Primitive) (w : World) → IsKept w → ActKept (basic p c w)
-  basic_kept p builtin.Greater w h = two_kept builtin.Greater number_of number_of greater_of zero_item w (greater_has kept.Pushed kept.numbers kept.texts) zero h
-  basic_kept p builtin.Less w h = two_kept builtin.Less number_of number_of less_of zero_item w (less_has kept.Pushed kept.numbers kept.texts) zero h
-  basic_kept p builtin.Equals w h = two_kept builtin.Equals any_of any_of equality_of zero_item w (equality_has kept.Pushed kept.numbers kept.texts) zero h
-  basic_kept p builtin.Plus w h = two_kept builtin.Plus number_of number_of sum_of zero_item w (sum_has kept.Pushed kept.numbers kept.texts) zero h
-  basic_kept p builtin.Minus w h = two_kept builtin.Minus number_of number_of difference_of zero_item w (difference_has kept.Pushed kept.numbers kept.texts) zero h
-  basic_kept p builtin.Join w h = two_kept builtin.Join text_of text_of join_of empty_item w (join_has kept.Pushed kept.numbers kept.texts) empty h
+  basic_kept p builtin.Greater w h = two_kept builtin.Greater as_number as_number greater_of zero_item w (greater_has kept.Pushed kept.numbers kept.texts) zero h
+  basic_kept p builtin.Less w h = two_kept builtin.Less as_number as_number less_of zero_item w (less_has kept.Pushed kept.numbers kept.texts) zero h
+  basic_kept p builtin.Equals w h = two_kept builtin.Equals as_any as_any equality_of zero_item w (equality_has kept.Pushed kept.numbers kept.texts) zero h
+  basic_kept p builtin.Plus w h = two_kept builtin.Plus as_number as_number sum_of zero_item w (sum_has kept.Pushed kept.numbers kept.texts) zero h
+  basic_kept p builtin.Minus w h = two_kept builtin.Minus as_number as_number difference_of zero_item w (difference_has kept.Pushed kept.numbers kept.texts) zero h
+  basic_kept p builtin.Join w h = two_kept builtin.Join as_text as_text join_of empty_item w (join_has kept.Pushed kept.numbers kept.texts) empty h
   basic_kept p builtin.Assign w h = assign_kept w h
-  basic_kept p builtin.AddPeriod w h = one_kept builtin.AddPeriod text_of period_of empty_item w (period_has kept.Pushed kept.numbers kept.texts) empty h
+  basic_kept p builtin.AddPeriod w h = one_kept builtin.AddPeriod as_text period_of empty_item w (period_has kept.Pushed kept.numbers kept.texts) empty h
   basic_kept p builtin.CallType w h = h
-  basic_kept p builtin.ChangeCase w h = two_kept builtin.ChangeCase text_of text_of case_of empty_item w (case_has kept.Pushed kept.numbers kept.texts) empty h
-  basic_kept p builtin.ChrToInt w h = one_kept builtin.ChrToInt text_of byte_number zero_item w (byte_has kept.Pushed kept.numbers kept.texts) zero h
+  basic_kept p builtin.ChangeCase w h = two_kept builtin.ChangeCase as_text as_text case_of empty_item w (case_has kept.Pushed kept.numbers kept.texts) empty h
+  basic_kept p builtin.ChrToInt w h = one_kept builtin.ChrToInt as_text byte_number zero_item w (byte_has kept.Pushed kept.numbers kept.texts) zero h
   basic_kept p builtin.Cite w h = of_entry_kept key_item empty_item w (λ e. kept.texts _) empty h
   basic_kept p builtin.Duplicate w h = duplicated_kept w.stack w h h.1
-  basic_kept p builtin.Empty w h = one_kept builtin.Empty field_text_of emptiness_of zero_item w (emptiness_has kept.Pushed kept.numbers kept.texts) zero h
+  basic_kept p builtin.Empty w h = one_kept builtin.Empty as_field_text emptiness_of zero_item w (emptiness_has kept.Pushed kept.numbers kept.texts) zero h
   basic_kept p builtin.FormatName w h =
-      three_kept builtin.FormatName text_of number_of text_of name_formatted empty_item w (name_has kept.Pushed kept.numbers kept.texts) empty h
+      three_kept builtin.FormatName as_text as_number as_text name_formatted empty_item w (name_has kept.Pushed kept.numbers kept.texts) empty h
   basic_kept p builtin.If w h = h
-  basic_kept p builtin.IntToChr w h = one_kept builtin.IntToChr number_of ascii_text empty_item w (ascii_has kept.Pushed kept.numbers kept.texts) empty h
-  basic_kept p builtin.IntToStr w h = one_kept builtin.IntToStr number_of digits_text empty_item w (digits_has kept.Pushed kept.numbers kept.texts) empty h
-  basic_kept p builtin.Missing w h = one_kept builtin.Missing field_text_of missing_of zero_item w (missing_has kept.Pushed kept.numbers kept.texts) zero h
+  basic_kept p builtin.IntToChr w h = one_kept builtin.IntToChr as_number ascii_text empty_item w (ascii_has kept.Pushed kept.numbers kept.texts) empty h
+  basic_kept p builtin.IntToStr w h = one_kept builtin.IntToStr as_number digits_text empty_item w (digits_has kept.Pushed kept.numbers kept.texts) empty h
+  basic_kept p builtin.Missing w h = one_kept builtin.Missing as_field_text missing_of zero_item w (missing_has kept.Pushed kept.numbers kept.texts) zero h
   basic_kept p builtin.Newline w h = h
-  basic_kept p builtin.NumNames w h = one_kept builtin.NumNames text_of names_counted zero_item w (names_has kept.Pushed kept.numbers kept.texts) zero h
+  basic_kept p builtin.NumNames w h = one_kept builtin.NumNames as_text names_counted zero_item w (names_has kept.Pushed kept.numbers kept.texts) zero h
   basic_kept p builtin.Pop w h = popped_kept w h
   basic_kept p builtin.Preamble w h = pushed_kept (Txt w.preamble) w (kept.texts w.preamble) h
-  basic_kept p builtin.Purify w h = one_kept builtin.Purify text_of purified_of empty_item w (purified_has kept.Pushed kept.numbers kept.texts) empty h
+  basic_kept p builtin.Purify w h = one_kept builtin.Purify as_text purified_of empty_item w (purified_has kept.Pushed kept.numbers kept.texts) empty h
   basic_kept p builtin.Quote w h = pushed_kept (Txt quote) w (kept.texts quote) h
   basic_kept p builtin.Skip w h = h
   basic_kept p builtin.Stack w h = (h.0, tt)
   basic_kept p builtin.Substring w h =
-      three_kept builtin.Substring text_of number_of number_of substring_given empty_item w (substring_has kept.Pushed kept.numbers kept.texts) empty h
+      three_kept builtin.Substring as_text as_number as_number substring_given empty_item w (substring_has kept.Pushed kept.numbers kept.texts) empty h
   basic_kept p builtin.Swap w h = swapped_kept w.stack w h h.1
-  basic_kept p builtin.TextLength w h = one_kept builtin.TextLength text_of length_of zero_item w (length_has kept.Pushed kept.numbers kept.texts) zero h
-  basic_kept p builtin.TextPrefix w h = two_kept builtin.TextPrefix text_of number_of prefix_of empty_item w (prefix_has kept.Pushed kept.numbers kept.texts) empty h
+  basic_kept p builtin.TextLength w h = one_kept builtin.TextLength as_text length_of zero_item w (length_has kept.Pushed kept.numbers kept.texts) zero h
+  basic_kept p builtin.TextPrefix w h = two_kept builtin.TextPrefix as_text as_number prefix_of empty_item w (prefix_has kept.Pushed kept.numbers kept.texts) empty h
   basic_kept p builtin.Top w h =
-      goes_kept (log_value p) (λ v w h. h) (taken builtin.Top any_of w) (taken_kept builtin.Top any_of w h)
+      goes_kept (log_value p) (λ v w h. h) (taken builtin.Top as_any w) (taken_kept builtin.Top as_any w h)
   basic_kept p builtin.Type w h = of_entry_kept kind_item empty_item w (λ e. kept.texts _) empty h
   basic_kept p builtin.Warning w h =
-      goes_kept log_warning (λ t w h. h) (taken builtin.Warning text_of w) (taken_kept builtin.Warning text_of w h)
+      goes_kept log_warning (λ t w h. h) (taken builtin.Warning as_text w) (taken_kept builtin.Warning as_text w h)
   basic_kept p builtin.While w h = h
-  basic_kept p builtin.Width w h = one_kept builtin.Width text_of width_given zero_item w (width_has kept.Pushed kept.numbers kept.texts) zero h
-  basic_kept p builtin.Write w h = appended_kept (taken builtin.Write text_of w) (taken_kept builtin.Write text_of w h)
+  basic_kept p builtin.Width w h = one_kept builtin.Width as_text width_given zero_item w (width_has kept.Pushed kept.numbers kept.texts) zero h
+  basic_kept p builtin.Write w h = appended_kept (taken builtin.Write as_text w) (taken_kept builtin.Write as_text w h)

@@ -10,11 +10,11 @@ use Rattle.bt_actions.specs.declared.entry.Entry.{Entry}
 use Rattle.bt_actions.specs.Item.{Code, Item, Num, Txt, Fun, Name, Block}
 use Rattle.bt_actions.specs.World.{World, Act, Goes, Stops, entry_of}
 use Rattle.bt_actions.specs.State.{pushed}
-use Rattle.bt_actions.specs.Arguments.{number_of, code_of, taken, taken_two, taken_three}
+use Rattle.bt_actions.specs.Arguments.{as_number, as_code, taken, taken_two, taken_three}
 use Rattle.bt_actions.specs.Given.{zero_item, empty_item}
 use Rattle.bt_actions.specs.Reading.{of_entry, field_at, number_at, text_at}
 use Rattle.bt_actions.specs.Actions.{basic}
-use Rattle.bt_machine.specs.Eval.{Ending, Done, Stopped, Runner, then_go, acted, code_body, body_at, type_function, run_function, run_type, by_sign, run_chosen, turn, turns, run_loop, built_in, act, counted, eval_within}
+use Rattle.bt_machine.specs.Eval.{Ending, Done, Stopped, Runner, then_go, acted, code_body, function_body, type_function, run_function, run_type, by_sign, run_chosen, turn, turns, run_loop, built_in, act, call_counted, eval_within}
 use Rattle.bt_machine.specs.Step.{checked}
 use Rattle.bt_machine.proofs.Keeping.{Kept, IsKept, ActKept, pushed_kept, taken_kept, taken_two_kept, taken_three_kept, of_entry_kept, field_kept, basic_kept}
 
@@ -44,7 +44,7 @@ module _ (kept : Kept) (codes : (c : Code) → kept.Pushed (Fun c)) where
   turns_kept : (m : ℕ) (test body : World → ℕ → Ending) → GoKept test → GoKept body → GoKept (turns m test body)
   turns_kept zero test body t b w k h = h
   turns_kept (suc m) test body t b w k h =
-      then_kept (test w k) _ (t w k h) (λ w k h. turn_kept (taken builtin.While number_of w).0 (taken builtin.While number_of w).1 k body (turns m test body) (taken_kept kept builtin.While number_of w h) b (turns_kept m test body t b))
+      then_kept (test w k) _ (t w k h) (λ w k h. turn_kept (taken builtin.While as_number w).0 (taken builtin.While as_number w).1 k body (turns m test body) (taken_kept kept builtin.While as_number w h) b (turns_kept m test body t b))
 
   module _ (p : Program) (run : Runner) (f : (b : Body) → GoKept (run b)) where
     chosen_kept : (o : Option (ℤ × Code × Code)) (w : World) (k : ℕ) → IsKept kept w → EndKept (run_chosen run (o, w) k)
@@ -58,7 +58,7 @@ module _ (kept : Kept) (codes : (c : Code) → kept.Pushed (Fun c)) where
 
     function_kept : (o : Option ℕ) (w : World) (k : ℕ) → IsKept kept w → EndKept (run_function p.functions run o w k)
     function_kept None w k h = h
-    function_kept (Some n) w k h = f (body_at p.functions n) w k h
+    function_kept (Some n) w k h = f (function_body p.functions n) w k h
 
     type_kept : (o : Option Entry) (w : World) (k : ℕ) → IsKept kept w → EndKept (run_type p.functions run o w k)
     type_kept None w k h = h
@@ -67,11 +67,11 @@ module _ (kept : Kept) (codes : (c : Code) → kept.Pushed (Fun c)) where
     built_in_kept : (b : Primitive) → GoKept (built_in p run b)
     built_in_kept builtin.CallType w k h = type_kept (entry_of w) w k h
     built_in_kept builtin.If w k h =
-        let t = taken_three builtin.If number_of code_of code_of w in
-        chosen_kept t.0 t.1 k (taken_three_kept kept builtin.If number_of code_of code_of w h)
+        let t = taken_three builtin.If as_number as_code as_code w in
+        chosen_kept t.0 t.1 k (taken_three_kept kept builtin.If as_number as_code as_code w h)
     built_in_kept builtin.While w k h =
-        let t = taken_two builtin.While code_of code_of w in
-        loop_kept t.0 t.1 k (taken_two_kept kept builtin.While code_of code_of w h)
+        let t = taken_two builtin.While as_code as_code w in
+        loop_kept t.0 t.1 k (taken_two_kept kept builtin.While as_code as_code w h)
     built_in_kept b w k h = acted_kept (basic p b w) k (basic_kept kept p b w h)
 
     act_kept : (e : Element) → GoKept (act p run e)
@@ -89,7 +89,7 @@ module _ (kept : Kept) (codes : (c : Code) → kept.Pushed (Fun c)) where
     act_kept (Called (GlobalText n)) w k h =
         let t = slice_index_or w.globals.texts n [] in
         acted_kept (pushed (Txt t) w) k (pushed_kept kept (Txt t) w (kept.texts t) h)
-    act_kept (Called (Function n)) w k h = f (body_at p.functions n) w k h
+    act_kept (Called (Function n)) w k h = f (function_body p.functions n) w k h
 
   -- a body
   pub eval_kept : (p : Program) (deep : ℕ) (b : Body) → GoKept (eval_within p deep b)
@@ -98,7 +98,7 @@ module _ (kept : Kept) (codes : (c : Code) → kept.Pushed (Fun c)) where
   eval_kept p deep (Then e rest) w zero h = h
   eval_kept p zero (Then e rest) w (suc k) h = h
   eval_kept p (suc deep) (Then e rest) w (suc k) h =
-      then_kept _ (eval_within p deep rest) (act_kept p (eval_within p deep) (eval_kept p deep) e (counted e w) k h) (eval_kept p deep rest)
+      then_kept _ (eval_within p deep rest) (act_kept p (eval_within p deep) (eval_kept p deep) e (call_counted e w) k h) (eval_kept p deep rest)
 
   pub checked_kept : (vs : List Item) (w : World) → IsKept kept w → IsKept kept (checked vs w)
   checked_kept [] w h = h

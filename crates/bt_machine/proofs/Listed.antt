@@ -7,7 +7,8 @@ use Rattle.bt_style.specs.declared.reach.Reach.{Reach}
 use Rattle.bt_style.specs.Numbers.{as_field, as_entry_number, as_entry_text, as_global_number, as_global_text}
 use Rattle.bt_style.specs.Reach.{target_eq, is_among}
 use Rattle.bt_actions.specs.declared.entry.Variables.{Variables}
-use Rattle.bt_machine.specs.Footprint.{among, blend_variables, blend_globals, blend_own}
+use Rattle.bt_machine.specs.Footprint.{blend_variables, blend_globals, blend_own}
+use Rattle.bt_machine.specs.inner.Footprint.{among}
 
 -- whether a number is this one
 abbrev is_this : Option ℕ → ℕ → Bool

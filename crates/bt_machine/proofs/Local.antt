@@ -9,7 +9,7 @@ use Rattle.bt_style.specs.Tree.{Called, End, Then}
 use Rattle.bt_style.specs.Program.{Program}
 use Rattle.bt_actions.specs.World.{World, no_variables, no_entry, entry_in}
 use Rattle.bt_machine.specs.Eval.{eval}
-use Rattle.bt_machine.specs.Step.{tick_limit, begun, rested, Finish, finished, step}
+use Rattle.bt_machine.specs.Step.{tick_limit, step_begun, rested, Finish, finish_of, step}
 use Rattle.bt_actions.specs.View.{entries_in}
 use Rattle.bt_machine.specs.Place.{IsPlace, cut, alone, with_variables, put_back, finish_back, DependsOnInput, Own, own, SameInputSameOutcome}
 use Rattle.bt_machine.proofs.Places.{Part, Place, varied, embed}
@@ -86,12 +86,12 @@ entries_again None es = refl
 entries_again (Some n) es = set-get_or es n no_entry
 
 -- a step begins with that part among all entries
-start_in_world : (x : Option ℕ) (w : World) (h : IsPlace x w) → embed (entry_in w.entries x) w.preamble (in_world x w h) (start x w) ≡ begun x w
+start_in_world : (x : Option ℕ) (w : World) (h : IsPlace x w) → embed (entry_in w.entries x) w.preamble (in_world x w h) (start x w) ≡ step_begun x w
 unfolding in_world start
 start_in_world x w h =
-    ap (λ es. record (begun x w) { entries = es; lines = w.lines ++ []; messages = w.messages ++ [] }) (entries_again x w.entries)
-    ∙ ap (λ ls. record (begun x w) { lines = ls; messages = w.messages ++ [] }) (append-nil w.lines)
-    ∙ ap (λ ms. record (begun x w) { messages = ms }) (append-nil w.messages)
+    ap (λ es. record (step_begun x w) { entries = es; lines = w.lines ++ []; messages = w.messages ++ [] }) (entries_again x w.entries)
+    ∙ ap (λ ls. record (step_begun x w) { lines = ls; messages = w.messages ++ [] }) (append-nil w.lines)
+    ∙ ap (λ ms. record (step_begun x w) { messages = ms }) (append-nil w.messages)
 
 -- an entry alone with its own variables
 alone_again : (x : Option ℕ) (es : List Entry) → entries_in (varied (own_variables (entry_in es x)) (entry_in es x)) ≡ entries_in (entry_in es x)
@@ -99,9 +99,9 @@ alone_again None es = refl
 alone_again (Some n) es = refl
 
 -- a step begins with that part alone
-start_alone : (x : Option ℕ) (w : World) → embed (entry_in w.entries x) w.preamble (by_itself x w) (start x w) ≡ begun (alone x) (cut x w)
+start_alone : (x : Option ℕ) (w : World) → embed (entry_in w.entries x) w.preamble (by_itself x w) (start x w) ≡ step_begun (alone x) (cut x w)
 unfolding by_itself start
-start_alone x w = ap (λ es. record (begun (alone x) (cut x w)) { entries = es }) (alone_again x w.entries)
+start_alone x w = ap (λ es. record (step_begun (alone x) (cut x w)) { entries = es }) (alone_again x w.entries)
 
 -- the variables that are put back
 variables_back : (x : Option ℕ) (es : List Entry) (v : Variables) → with_variables x es v ≡ with_variables x es (slice_index_or (entries_in (varied v (entry_in es x))) 0 no_entry).variables
@@ -126,8 +126,8 @@ step_local p x t w h =
     let P = in_world x w h in
     let P' = by_itself x w in
     let a = finished_alike e w.preamble P P' (eval p b (embed e w.preamble P (start x w)) tick_limit) (eval p b (embed e w.preamble P' (start x w)) tick_limit) (eval_alike e w.preamble P P' p tick_limit b (start x w) tick_limit) in
-    let begins : step p x t w ≡ finished (eval p b (embed e w.preamble P (start x w)) tick_limit) = ap (λ v. finished (eval p b v tick_limit)) (sym (start_in_world x w h)) in
-    let begins_alone : finished (eval p b (embed e w.preamble P' (start x w)) tick_limit) ≡ step p (alone x) t (cut x w) = ap (λ v. finished (eval p b v tick_limit)) (start_alone x w) in
+    let begins : step p x t w ≡ finish_of (eval p b (embed e w.preamble P (start x w)) tick_limit) = ap (λ v. finish_of (eval p b v tick_limit)) (sym (start_in_world x w h)) in
+    let begins_alone : finish_of (eval p b (embed e w.preamble P' (start x w)) tick_limit) ≡ step p (alone x) t (cut x w) = ap (λ v. finish_of (eval p b v tick_limit)) (start_alone x w) in
     begins ∙ finish_eq _ _ (a.here ∙ part_back x w h a.part ∙ ap (put_back x w) (sym a.there)) a.stopped a.cost a.calls ∙ ap (finish_back x w) begins_alone
 
 -- what is a step's own, where its entry stands alone

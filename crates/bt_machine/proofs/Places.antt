@@ -17,17 +17,17 @@ use Rattle.bt_actions.specs.Item.{Item, Txt}
 use Rattle.bt_actions.specs.Words.{message_of}
 use Rattle.bt_actions.specs.World.{World, Act, Goes, Stops, entry_in, entry_of, key_in, say, with_stack, with_output}
 use Rattle.bt_actions.specs.State.{text_len, pushed, pushed_in_error, popped_from, popped, appended}
-use Rattle.bt_actions.specs.Arguments.{number_of, text_of, field_text_of, target_of, any_of, is_wrong, judged, both, all_three, taken, taken_two, taken_three}
+use Rattle.bt_actions.specs.Arguments.{as_number, as_text, as_field_text, as_target, as_any, is_wrong, judged, both, all_three, taken, taken_two, taken_three}
 use Rattle.bt_actions.specs.Given.{Given, Gives, Errs, answered, valued, zero_item, empty_item}
 use Rattle.bt_actions.specs.Numbers.{greater_of, less_of, sum_of, difference_of, byte_number, ascii_text, digits_text}
 use Rattle.bt_actions.specs.Comparing.{equality_of, emptiness_of, missing_of}
 use Rattle.bt_actions.specs.Texts.{join_of, period_of, case_of, purified_of, substring_given, prefix_of, length_of, width_given, quote}
 use Rattle.bt_actions.specs.Names.{names_counted, name_formatted}
-use Rattle.bt_actions.specs.Reading.{given, of_entry, key_item, kind_item}
-use Rattle.bt_actions.specs.Assigning.{with_number, with_text, with_globals, stored, own_changed, assigned}
-use Rattle.bt_actions.specs.Logging.{shown, log_value, log_stack, log_warning}
+use Rattle.bt_actions.specs.Reading.{entry_or_error, of_entry, key_item, kind_item}
+use Rattle.bt_actions.specs.Assigning.{with_number, with_text, with_globals, put_if_right, own_changed, assigned}
+use Rattle.bt_actions.specs.Logging.{shown_value, log_value, log_stack, log_warning}
 use Rattle.bt_actions.specs.Stacking.{duplicated, swapped}
-use Rattle.bt_actions.specs.Actions.{done_with, goes_with, basic}
+use Rattle.bt_actions.specs.Actions.{act_with, change_with, basic}
 use Rattle.bt_machine.specs.Place.{with_variables}
 
 -- what a step may change
@@ -84,7 +84,7 @@ with_place x vs w = record w { entries = with_variables x w.entries vs }
 -- a change of the variables v of an entry, which stands at this place
 abbrev own_by : (Variables → Option Variables) → Option ℕ → Option Entry → Variables → World → World
 own_by change x None v w = say NoEntry w
-own_by change x (Some d) v w = stored (with_place x) (change v) w
+own_by change x (Some d) v w = put_if_right (with_place x) (change v) w
 
 -- the variables of an entry that was read
 variables_of : (a d : Entry) (v : Variables) → Some a ≡ Some (record d { variables = v }) → a.variables ≡ v
@@ -98,7 +98,7 @@ own_read : (change : Variables → Option Variables) (x : Option ℕ) (e : Optio
 own_read change None None w v h = refl
 own_read change None (Some d) w v h = cc
 own_read change (Some n) None w v h = cc
-own_read change (Some n) (Some d) w v h = ap (λ vs. stored (with_place (Some n)) (change vs) w) (variables_of _ d v h)
+own_read change (Some n) (Some d) w v h = ap (λ vs. put_if_right (with_place (Some n)) (change vs) w) (variables_of _ d v h)
 
 module _ (e : Option Entry) (pre : List ℕ) (P P' : Place e) where
   -- worlds of one part at the two places
@@ -133,7 +133,7 @@ module _ (e : Option Entry) (pre : List ℕ) (P P' : Place e) where
   key_at : (R : Place e) (s : Part) → key_in (R.entries s.variables) R.index ≡ key_of e
   key_at R s = ap key_of (R.reads s.variables) ∙ key_varied s.variables e
 
-  -- messages are told, and then the stack is another one
+  -- messages are reported, and then the stack is another one
   told_alike : (ms : Option (List ℕ) → List Message) (vs : List Item) (s : Part) → WorldsAlike (record (embed e pre P s) { messages = (P.heard ++ s.said) ++ ms (key_in (P.entries s.variables) P.index); stack = vs }) (record (embed e pre P' s) { messages = (P'.heard ++ s.said) ++ ms (key_in (P'.entries s.variables) P'.index); stack = vs })
   told_alike ms vs s =
       (record s { said = s.said ++ ms (key_of e); stack = vs }, at P, at P')
@@ -143,7 +143,7 @@ module _ (e : Option Entry) (pre : List ℕ) (P P' : Place e) where
           ap (λ key. record (embed e pre R s) { messages = (R.heard ++ s.said) ++ ms key; stack = vs }) (key_at R s)
           ∙ ap (λ ms. record (embed e pre R s) { messages = ms; stack = vs }) (append_assoc R.heard s.said (ms (key_of e)))
 
-  -- a complaint is told
+  -- a complaint is reported
   pub say_alike : (m : Complaint) (s : Part) → WorldsAlike (say m (embed e pre P s)) (say m (embed e pre P' s))
   say_alike m s = told_alike (λ key. message_of key m ∷ []) s.stack s
 
@@ -229,7 +229,7 @@ module _ (e : Option Entry) (pre : List ℕ) (P P' : Place e) where
 
   -- what the step's entry gives
 
-  given_alike : (value : Entry → Item) (default : Item) (o : Option Entry) (s : Part) → ActsAlike (given value default o (embed e pre P s)) (given value default o (embed e pre P' s))
+  given_alike : (value : Entry → Item) (default : Item) (o : Option Entry) (s : Part) → ActsAlike (entry_or_error value default o (embed e pre P s)) (entry_or_error value default o (embed e pre P' s))
   given_alike value default None s = in_error_alike NoEntry default s
   given_alike value default (Some d) s = pushed_alike (value d) s
 
@@ -240,11 +240,11 @@ module _ (e : Option Entry) (pre : List ℕ) (P P' : Place e) where
 
   pub of_entry_alike : (value : Entry → Item) (default : Item) (s : Part) → ActsAlike (of_entry value default (embed e pre P s)) (of_entry value default (embed e pre P' s))
   of_entry_alike value default s =
-      by_entry ActsAlike (given value default) s (λ o. given_alike value default o s)
+      by_entry ActsAlike (entry_or_error value default) s (λ o. given_alike value default o s)
 
   -- variables get values
 
-  stored_alike : (o : Option Variables) (s : Part) → WorldsAlike (stored (with_place P.index) o (embed e pre P s)) (stored (with_place P'.index) o (embed e pre P' s))
+  stored_alike : (o : Option Variables) (s : Part) → WorldsAlike (put_if_right (with_place P.index) o (embed e pre P s)) (put_if_right (with_place P'.index) o (embed e pre P' s))
   stored_alike None s = say_alike (WrongKind builtin.Assign) s
   stored_alike (Some vs) s =
       (record s { variables = vs }, at P, at P')
@@ -261,7 +261,7 @@ module _ (e : Option Entry) (pre : List ℕ) (P P' : Place e) where
       let read = λ (R : Place e). own_read change R.index e (embed e pre R s) s.variables (R.reads s.variables) in
       subst (λ w. WorldsAlike w (own_changed change P'.index (embed e pre P' s))) (sym (read P)) (subst (λ w. WorldsAlike (own_by change P.index e s.variables (embed e pre P s)) w) (sym (read P')) (own_by_alike change e s))
 
-  globals_alike : (o : Option Variables) (s : Part) → WorldsAlike (stored with_globals o (embed e pre P s)) (stored with_globals o (embed e pre P' s))
+  globals_alike : (o : Option Variables) (s : Part) → WorldsAlike (put_if_right with_globals o (embed e pre P s)) (put_if_right with_globals o (embed e pre P' s))
   globals_alike None s = say_alike (WrongKind builtin.Assign) s
   globals_alike (Some vs) s = same_part (record s { globals = vs })
 
@@ -275,7 +275,7 @@ module _ (e : Option Entry) (pre : List ℕ) (P P' : Place e) where
   assigned_alike (v, Function n) s = say_alike NotVariable s
 
   -- actions where the run goes on
-  goes_alike : {A : Type 0} (f : A → World → World) → ((a : A) (s : Part) → WorldsAlike (f a (embed e pre P s)) (f a (embed e pre P' s))) → (o : Option A) (s : Part) → ActsAlike (goes_with f (o, embed e pre P s)) (goes_with f (o, embed e pre P' s))
+  goes_alike : {A : Type 0} (f : A → World → World) → ((a : A) (s : Part) → WorldsAlike (f a (embed e pre P s)) (f a (embed e pre P' s))) → (o : Option A) (s : Part) → ActsAlike (change_with f (o, embed e pre P s)) (change_with f (o, embed e pre P' s))
   goes_alike f h None s = same_part s
   goes_alike f h (Some a) s = h a s
 
@@ -288,7 +288,7 @@ module _ (e : Option Entry) (pre : List ℕ) (P P' : Place e) where
       put : (R : Place e) → with_output o (embed e pre R s) ≡ embed e pre R (record s { out = s.out ++ o.lines; held = o.held })
       put R = ap (λ ls. record (embed e pre R s) { lines = ls; held = o.held }) (append_assoc R.before s.out o.lines)
 
-  appended_alike : (o : Option (List ℕ)) (s : Part) → ActsAlike (done_with appended (o, embed e pre P s)) (done_with appended (o, embed e pre P' s))
+  appended_alike : (o : Option (List ℕ)) (s : Part) → ActsAlike (act_with appended (o, embed e pre P s)) (act_with appended (o, embed e pre P' s))
   appended_alike None s = same_part s
   appended_alike (Some t) s =
       if_alike (nat_le (length s.held + length t) 65536) (Goes (with_output (written s.held t) (embed e pre P s))) (Goes (with_output (written s.held t) (embed e pre P' s))) (Stops (say TextPassed (embed e pre P s))) (Stops (say TextPassed (embed e pre P' s))) (output_alike (written s.held t) s) (say_alike TextPassed s)
@@ -305,48 +305,48 @@ module _ (e : Option Entry) (pre : List ℕ) (P P' : Place e) where
   swapped_alike (v ∷ u ∷ vs) s = same_part (record s { stack = u ∷ v ∷ vs })
 
   log_stack_alike : (p : Program) (s : Part) → WorldsAlike (log_stack p (embed e pre P s)) (log_stack p (embed e pre P' s))
-  log_stack_alike p s = told_alike (λ key. map (λ v. message_of key (Shown (shown p v))) s.stack) [] s
+  log_stack_alike p s = told_alike (λ key. map (λ v. message_of key (Shown (shown_value p v))) s.stack) [] s
 
   -- a built-in function that runs no other
   pub basic_alike : (p : Program) (b : Primitive) (s : Part) → ActsAlike (basic p b (embed e pre P s)) (basic p b (embed e pre P' s))
-  basic_alike p builtin.Greater s = two_alike builtin.Greater number_of number_of greater_of zero_item s
-  basic_alike p builtin.Less s = two_alike builtin.Less number_of number_of less_of zero_item s
-  basic_alike p builtin.Equals s = two_alike builtin.Equals any_of any_of equality_of zero_item s
-  basic_alike p builtin.Plus s = two_alike builtin.Plus number_of number_of sum_of zero_item s
-  basic_alike p builtin.Minus s = two_alike builtin.Minus number_of number_of difference_of zero_item s
-  basic_alike p builtin.Join s = two_alike builtin.Join text_of text_of join_of empty_item s
+  basic_alike p builtin.Greater s = two_alike builtin.Greater as_number as_number greater_of zero_item s
+  basic_alike p builtin.Less s = two_alike builtin.Less as_number as_number less_of zero_item s
+  basic_alike p builtin.Equals s = two_alike builtin.Equals as_any as_any equality_of zero_item s
+  basic_alike p builtin.Plus s = two_alike builtin.Plus as_number as_number sum_of zero_item s
+  basic_alike p builtin.Minus s = two_alike builtin.Minus as_number as_number difference_of zero_item s
+  basic_alike p builtin.Join s = two_alike builtin.Join as_text as_text join_of empty_item s
   basic_alike p builtin.Assign s =
-      on_pairs ActsAlike (goes_with assigned) _ _ (taken_two_alike builtin.Assign any_of target_of s) (goes_alike assigned assigned_alike)
-  basic_alike p builtin.AddPeriod s = one_alike builtin.AddPeriod text_of period_of empty_item s
+      on_pairs ActsAlike (change_with assigned) _ _ (taken_two_alike builtin.Assign as_any as_target s) (goes_alike assigned assigned_alike)
+  basic_alike p builtin.AddPeriod s = one_alike builtin.AddPeriod as_text period_of empty_item s
   basic_alike p builtin.CallType s = same_part s
-  basic_alike p builtin.ChangeCase s = two_alike builtin.ChangeCase text_of text_of case_of empty_item s
-  basic_alike p builtin.ChrToInt s = one_alike builtin.ChrToInt text_of byte_number zero_item s
+  basic_alike p builtin.ChangeCase s = two_alike builtin.ChangeCase as_text as_text case_of empty_item s
+  basic_alike p builtin.ChrToInt s = one_alike builtin.ChrToInt as_text byte_number zero_item s
   basic_alike p builtin.Cite s = of_entry_alike key_item empty_item s
   basic_alike p builtin.Duplicate s = duplicated_alike s.stack s
-  basic_alike p builtin.Empty s = one_alike builtin.Empty field_text_of emptiness_of zero_item s
-  basic_alike p builtin.FormatName s = three_alike builtin.FormatName text_of number_of text_of name_formatted empty_item s
+  basic_alike p builtin.Empty s = one_alike builtin.Empty as_field_text emptiness_of zero_item s
+  basic_alike p builtin.FormatName s = three_alike builtin.FormatName as_text as_number as_text name_formatted empty_item s
   basic_alike p builtin.If s = same_part s
-  basic_alike p builtin.IntToChr s = one_alike builtin.IntToChr number_of ascii_text empty_item s
-  basic_alike p builtin.IntToStr s = one_alike builtin.IntToStr number_of digits_text empty_item s
-  basic_alike p builtin.Missing s = one_alike builtin.Missing field_text_of missing_of zero_item s
+  basic_alike p builtin.IntToChr s = one_alike builtin.IntToChr as_number ascii_text empty_item s
+  basic_alike p builtin.IntToStr s = one_alike builtin.IntToStr as_number digits_text empty_item s
+  basic_alike p builtin.Missing s = one_alike builtin.Missing as_field_text missing_of zero_item s
   basic_alike p builtin.Newline s = output_alike (line_ended s.held) s
-  basic_alike p builtin.NumNames s = one_alike builtin.NumNames text_of names_counted zero_item s
+  basic_alike p builtin.NumNames s = one_alike builtin.NumNames as_text names_counted zero_item s
   basic_alike p builtin.Pop s = (popped_by s.stack s).1
   basic_alike p builtin.Preamble s = pushed_alike (Txt pre) s
-  basic_alike p builtin.Purify s = one_alike builtin.Purify text_of purified_of empty_item s
+  basic_alike p builtin.Purify s = one_alike builtin.Purify as_text purified_of empty_item s
   basic_alike p builtin.Quote s = pushed_alike (Txt quote) s
   basic_alike p builtin.Skip s = same_part s
   basic_alike p builtin.Stack s = log_stack_alike p s
   basic_alike p builtin.Substring s =
-      three_alike builtin.Substring text_of number_of number_of substring_given empty_item s
+      three_alike builtin.Substring as_text as_number as_number substring_given empty_item s
   basic_alike p builtin.Swap s = swapped_alike s.stack s
-  basic_alike p builtin.TextLength s = one_alike builtin.TextLength text_of length_of zero_item s
-  basic_alike p builtin.TextPrefix s = two_alike builtin.TextPrefix text_of number_of prefix_of empty_item s
+  basic_alike p builtin.TextLength s = one_alike builtin.TextLength as_text length_of zero_item s
+  basic_alike p builtin.TextPrefix s = two_alike builtin.TextPrefix as_text as_number prefix_of empty_item s
   basic_alike p builtin.Top s =
-      on_pairs ActsAlike (goes_with (log_value p)) _ _ (taken_alike builtin.Top any_of s) (goes_alike (log_value p) (λ v s. say_alike (Shown (shown p v)) s))
+      on_pairs ActsAlike (change_with (log_value p)) _ _ (taken_alike builtin.Top as_any s) (goes_alike (log_value p) (λ v s. say_alike (Shown (shown_value p v)) s))
   basic_alike p builtin.Type s = of_entry_alike kind_item empty_item s
   basic_alike p builtin.Warning s =
-      on_pairs ActsAlike (goes_with log_warning) _ _ (taken_alike builtin.Warning text_of s) (goes_alike log_warning (λ t s. say_alike (Warned t) s))
+      on_pairs ActsAlike (change_with log_warning) _ _ (taken_alike builtin.Warning as_text s) (goes_alike log_warning (λ t s. say_alike (Warned t) s))
   basic_alike p builtin.While s = same_part s
-  basic_alike p builtin.Width s = one_alike builtin.Width text_of width_given zero_item s
-  basic_alike p builtin.Write s = on_pairs ActsAlike (done_with appended) _ _ (taken_alike builtin.Write text_of s) appended_alike
+  basic_alike p builtin.Width s = one_alike builtin.Width as_text width_given zero_item s
+  basic_alike p builtin.Write s = on_pairs ActsAlike (act_with appended) _ _ (taken_alike builtin.Write as_text s) appended_alike

@@ -8,7 +8,8 @@ use Rattle.bt_actions.specs.declared.entry.Variables.{Variables}
 use Rattle.bt_machine.specs.declared.input.Input.{Input}
 use Rattle.bt_machine.specs.declared.outcome.Outcome.{Outcome}
 use Rattle.bt_machine.specs.Step.{step_in, outcome_of}
-use Rattle.bt_machine.specs.Footprint.{among, blend_variables}
+use Rattle.bt_machine.specs.Footprint.{blend_variables}
+use Rattle.bt_machine.specs.inner.Footprint.{among}
 use Rattle.bt_machine.specs.Agreement.{Agree, IsFootprint, outcome_over}
 use Rattle.bt_machine.specs.Comparison.{same_text_at, same_counts, same_variables}
 use Rattle.bt_machine.proofs.Truths.{and_both}

@@ -14,12 +14,12 @@ use Rattle.bt_actions.specs.declared.state.Flow.TheVariants.{Go, Stop}
 use Rattle.bt_actions.specs.declared.complaint.Complaint.TheVariants.{TicksPassed}
 use Rattle.bt_actions.specs.Item.{Code, Name, Block}
 use Rattle.bt_actions.specs.World.{World, Act, say}
-use Rattle.bt_actions.specs.Arguments.{number_of, taken}
+use Rattle.bt_actions.specs.Arguments.{as_number, taken}
 use Rattle.bt_actions.specs.Actions.{basic}
 use Rattle.bt_actions.specs.View.{act_of}
-use Rattle.bt_machine.specs.Eval.{Ending, Done, Stopped, Runner, then_go, acted, code_body, body_at, no_definition, turn, looped, built_in, act, called, counted, eval}
-use Rattle.bt_machine.specs.Step.{tick_limit, begun, finished_at, finished, step}
-use Rattle.bt_machine.specs.Control.{Frame, Run, Test, left, load, LeadsTo, on_top, is_stop, checked_at, ended}
+use Rattle.bt_machine.specs.Eval.{Ending, Done, Stopped, Runner, then_go, acted, code_body, function_body, no_definition, turn, looped, built_in, act, called, call_counted, eval}
+use Rattle.bt_machine.specs.Step.{tick_limit, step_begun, finished_at, finish_of, step}
+use Rattle.bt_machine.specs.inner.Control.{Frame, Run, Test, left, load, LeadsTo, on_top, is_stop, checked_at, run_ended}
 use Rattle.bt_machine.proofs.Bounds.{Grows, basic_grows, taken_some_len}
 use Rattle.bt_machine.proofs.Equations.{eval-end, eval-no_tick, eval-then, looped-turn}
 
@@ -87,14 +87,14 @@ leads_run p c fs fs1 w w1 k k1 ef ew ek =
     rw (ef, ew, ek) (left-on_top p c fs w k, omega arith)
 
 -- an element, with the rest of its body planned
-left-then : (p : Program) (e : Element) (rest : Body) (fs : List Frame) (w : World) (k : ℕ) → then_go (eval p (Then e rest) w (suc k)) (left p fs) ≡ then_go (act p (eval p) e (counted e w) k) (left p (on_top (Block rest) fs))
+left-then : (p : Program) (e : Element) (rest : Body) (fs : List Frame) (w : World) (k : ℕ) → then_go (eval p (Then e rest) w (suc k)) (left p fs) ≡ then_go (act p (eval p) e (call_counted e w) k) (left p (on_top (Block rest) fs))
 left-then p e rest fs w k =
     ap (λ o. then_go o (left p fs)) (eval-then p e rest w k)
     ∙ then_go-then_go _ (eval p rest) (left p fs)
-    ∙ (λ i. then_go (act p (eval p) e (counted e w) k) (λ w' k'. sym (left-on_top p (Block rest) fs w' k') i))
+    ∙ (λ i. then_go (act p (eval p) e (call_counted e w) k) (λ w' k'. sym (left-on_top p (Block rest) fs w' k') i))
 
 -- a name alone
-left-name : (p : Program) (t : Target) (fs : List Frame) (w : World) (k : ℕ) → then_go (eval p (Then (Called t) End) w (suc k)) (left p fs) ≡ then_go (called p (eval p) t (counted (Called t) w) k) (left p fs)
+left-name : (p : Program) (t : Target) (fs : List Frame) (w : World) (k : ℕ) → then_go (eval p (Then (Called t) End) w (suc k)) (left p fs) ≡ then_go (called p (eval p) t (call_counted (Called t) w) k) (left p fs)
 left-name p t fs w k = ap (λ o. then_go o (left p fs)) (eval-then p (Called t) End w k) ∙ then_go-eval_end p _ (left p fs)
 
 -- a loop, with its test planned and then the look at the number
@@ -103,7 +103,7 @@ left-loop p test body fs w k =
     left-on_top p test (Test test body ∷ fs) w k
     ∙ sym (ap (λ o. then_go o (left p fs)) (looped-turn p test body w k) ∙ then_go-then_go (eval p (code_body test) w k) _ (left p fs))
 
--- a turn's body, with the loop planned behind it
+-- a turn's body, with the loop planned after it
 pub left-turn : (p : Program) (test body : Code) (fs : List Frame) (w : World) (k : ℕ) → left p (on_top body (on_top test (Test test body ∷ fs))) w k ≡ then_go (then_go (eval p (code_body body) w k) (looped (eval p) test body)) (left p fs)
 left-turn p test body fs w k =
     left-on_top p body (on_top test (Test test body ∷ fs)) w k
@@ -123,20 +123,20 @@ turn_above (pos (suc n)) w k body again h = refl
 turn_above (negsuc n) w k body again h = absurd (omega arith)
 
 -- a turn of a loop was planned, with n the number that its test left
-pub leads_turn : (p : Program) (test body : Code) (n : ℤ) (fs fs3 : List Frame) (w w3 : World) (k k3 : ℕ) → pos 0 <ℤ n → Some n ≡ (taken While number_of w).0 → fs3 ≡ on_top body (on_top test (Test test body ∷ fs)) → w3 ≡ (taken While number_of w).1 → k3 ≡ k → LeadsTo p Go fs3 w3 k3 (then_go (turn (taken While number_of w) k (eval p (code_body body)) (looped (eval p) test body)) (left p fs)) (load fs w k + 0)
+pub leads_turn : (p : Program) (test body : Code) (n : ℤ) (fs fs3 : List Frame) (w w3 : World) (k k3 : ℕ) → pos 0 <ℤ n → Some n ≡ (taken While as_number w).0 → fs3 ≡ on_top body (on_top test (Test test body ∷ fs)) → w3 ≡ (taken While as_number w).1 → k3 ≡ k → LeadsTo p Go fs3 w3 k3 (then_go (turn (taken While as_number w) k (eval p (code_body body)) (looped (eval p) test body)) (left p fs)) (load fs w k + 0)
 leads_turn p test body n fs fs3 w w3 k k3 h e ef ew ek =
-    let v = (taken While number_of w).1 in
-    let l = taken_some_len While number_of w n (sym e) in
+    let v = (taken While as_number w).1 in
+    let l = taken_some_len While as_number w n (sym e) in
     let m : length w3.stack ≡ length v.stack = ap (λ (u : World). length u.stack) ew in
     let f = ap length ef in
     let g = length-on_top test (Test test body ∷ fs) in
     let b = length-on_top body (on_top test (Test test body ∷ fs)) in
     let same : left p fs3 w3 k3 ≡ left p (on_top body (on_top test (Test test body ∷ fs))) v k = rw (ef, ew, ek) refl in
-    let turned : then_go (eval p (code_body body) v k) (looped (eval p) test body) ≡ turn (taken While number_of w) k (eval p (code_body body)) (looped (eval p) test body) = sym (turn_above n v k (eval p (code_body body)) (looped (eval p) test body) h) ∙ ap (λ o. turn (o, v) k (eval p (code_body body)) (looped (eval p) test body)) e in
+    let turned : then_go (eval p (code_body body) v k) (looped (eval p) test body) ≡ turn (taken While as_number w) k (eval p (code_body body)) (looped (eval p) test body) = sym (turn_above n v k (eval p (code_body body)) (looped (eval p) test body) h) ∙ ap (λ o. turn (o, v) k (eval p (code_body body)) (looped (eval p) test body)) e in
     (same ∙ left-turn p test body fs v k ∙ ap (λ o. then_go o (left p fs)) turned, omega arith)
 
 -- no function of this number: nothing is run
-pub left_past : (p : Program) (functions : List Function) (n : ℕ) (fs : List Frame) (w : World) (k : ℕ) → p.functions ≡ definitions_of functions → length functions ≤ n → left p fs w k ≡ then_go (eval p (body_at p.functions n) w k) (left p fs)
+pub left_past : (p : Program) (functions : List Function) (n : ℕ) (fs : List Frame) (w : World) (k : ℕ) → p.functions ≡ definitions_of functions → length functions ≤ n → left p fs w k ≡ then_go (eval p (function_body p.functions n) w k) (left p fs)
 left_past p functions n fs w k e h =
     let l = length-map functions definition_of in
     let m = ap length e in
@@ -147,7 +147,7 @@ pub left_no_tick : (p : Program) (e : Element) (rest : Body) (fs : List Frame) (
 left_no_tick p e rest fs w = sym (ap (λ o. then_go o (left p fs)) (eval-no_tick p e rest w))
 
 -- an element took its tick and was carried out, before the rest of its body
-pub leads_then : (p : Program) (flow : Flow) (e : Element) (rest : Body) (fs fs' : List Frame) (w w1 w' : World) (k k1 k' : ℕ) → k1 + 1 ≡ k → w1 ≡ counted e w → LeadsTo p flow fs' w' k' (then_go (act p (eval p) e w1 k1) (left p (on_top (Block rest) fs))) (load (on_top (Block rest) fs) w1 k1 + 4) → LeadsTo p flow fs' w' k' (then_go (eval p (Then e rest) w k) (left p fs)) (load fs w k)
+pub leads_then : (p : Program) (flow : Flow) (e : Element) (rest : Body) (fs fs' : List Frame) (w w1 w' : World) (k k1 k' : ℕ) → k1 + 1 ≡ k → w1 ≡ call_counted e w → LeadsTo p flow fs' w' k' (then_go (act p (eval p) e w1 k1) (left p (on_top (Block rest) fs))) (load (on_top (Block rest) fs) w1 k1 + 4) → LeadsTo p flow fs' w' k' (then_go (eval p (Then e rest) w k) (left p fs)) (load fs w k)
 leads_then p flow e rest fs fs' w w1 w' k k1 k' q ew h =
     let r : k ≡ suc k1 = omega arith in
     let l = length-on_top (Block rest) fs in
@@ -157,7 +157,7 @@ leads_then p flow e rest fs fs' w w1 w' k k1 k' q ew h =
     LeadsTo_along p flow fs' w' k' _ _ _ _ same (omega arith) h
 
 -- a name took its tick and was called
-pub leads_name : (p : Program) (flow : Flow) (t : Target) (fs fs1 fs' : List Frame) (w w1 w' : World) (k k1 k' : ℕ) → k1 + 1 ≡ k → fs1 ≡ fs → w1 ≡ counted (Called t) w → LeadsTo p flow fs' w' k' (then_go (called p (eval p) t w1 k1) (left p fs1)) (load fs1 w1 k1 + 4) → LeadsTo p flow fs' w' k' (then_go (eval p (Then (Called t) End) w k) (left p fs)) (load fs w k + 0)
+pub leads_name : (p : Program) (flow : Flow) (t : Target) (fs fs1 fs' : List Frame) (w w1 w' : World) (k k1 k' : ℕ) → k1 + 1 ≡ k → fs1 ≡ fs → w1 ≡ call_counted (Called t) w → LeadsTo p flow fs' w' k' (then_go (called p (eval p) t w1 k1) (left p fs1)) (load fs1 w1 k1 + 4) → LeadsTo p flow fs' w' k' (then_go (eval p (Then (Called t) End) w k) (left p fs)) (load fs w k + 0)
 leads_name p flow t fs fs1 fs' w w1 w' k k1 k' q ef ew h =
     let r : k ≡ suc k1 = omega arith in
     let l = ap length ef in
@@ -172,13 +172,13 @@ then_go-done p (Done w k) = refl
 then_go-done p (Stopped w k) = refl
 
 -- how the code looks at a run's end
-finished-ended : (flow : Flow) (w : World) (k : ℕ) → finished_at (checked_at flow w) (is_stop flow) k ≡ finished (ended flow w k)
+finished-ended : (flow : Flow) (w : World) (k : ℕ) → finished_at (checked_at flow w) (is_stop flow) k ≡ finish_of (run_ended flow w k)
 finished-ended Go w k = refl
 finished-ended Stop w k = refl
 
 -- what a run from a step's beginning leaves, with w1 and k1 at its end and w2 and k2 once the stack was looked at
-pub step_finished : (p q : Program) (x : Option ℕ) (t : Target) (w w0 w1 w2 : World) (flow : Flow) (k0 k1 k2 : ℕ) (fs : List Frame) → q ≡ p → fs ≡ Run (Name t) ∷ [] → w0 ≡ begun x w → k0 ≡ tick_limit → ended flow w1 k1 ≡ left q fs w0 k0 → w2 ≡ checked_at flow w1 → k2 ≡ k1 → finished_at w2 (is_stop flow) k2 ≡ step p x t w
+pub step_finished : (p q : Program) (x : Option ℕ) (t : Target) (w w0 w1 w2 : World) (flow : Flow) (k0 k1 k2 : ℕ) (fs : List Frame) → q ≡ p → fs ≡ Run (Name t) ∷ [] → w0 ≡ step_begun x w → k0 ≡ tick_limit → run_ended flow w1 k1 ≡ left q fs w0 k0 → w2 ≡ checked_at flow w1 → k2 ≡ k1 → finished_at w2 (is_stop flow) k2 ≡ step p x t w
 step_finished p q x t w w0 w1 w2 flow k0 k1 k2 fs ep ef ew ek e e2 q2 =
-    let start : left q fs w0 k0 ≡ left p (Run (Name t) ∷ []) (begun x w) tick_limit = rw (ep, ef, ew, ek) refl in
+    let start : left q fs w0 k0 ≡ left p (Run (Name t) ∷ []) (step_begun x w) tick_limit = rw (ep, ef, ew, ek) refl in
     let end : finished_at w2 (is_stop flow) k2 ≡ finished_at (checked_at flow w1) (is_stop flow) k1 = rw (e2, q2) refl in
-    end ∙ finished-ended flow w1 k1 ∙ ap finished (e ∙ start ∙ then_go-done p (eval p (Then (Called t) End) (begun x w) tick_limit))
+    end ∙ finished-ended flow w1 k1 ∙ ap finish_of (e ∙ start ∙ then_go-done p (eval p (Then (Called t) End) (step_begun x w) tick_limit))

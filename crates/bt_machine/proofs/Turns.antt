@@ -10,7 +10,7 @@ use Rattle.bt_actions.specs.View.{world_of}
 use Rattle.bt_machine.specs.declared.machine.Machine.{Machine}
 use Rattle.bt_machine.specs.declared.script.Script.{Script}
 use Rattle.bt_machine.specs.Eval.{Stopped, then_go, eval}
-use Rattle.bt_machine.specs.Control.{Frame, left, load, on_top, waiting, frames_of, ticks_of, waiting_load, load_of, program_in, rest_of, CarriesOut, RunsBody}
+use Rattle.bt_machine.specs.inner.Control.{Frame, left, load, on_top, waiting, frames_of, ticks_of, waiting_load, load_of, program_in, rest_of, CarriesOut, RunsBody}
 use Rattle.bt_machine.proofs.Steps.{left-on_top, on_top_of_none}
 
 -- what is left to do on a machine whose body has an element

@@ -4,7 +4,7 @@ ghost use Rattle.std.specs.Prelude.{◌≡◌, ◌≤◌, ◌∷◌, [], IfOk, O
 ghost use Rattle.bt_style.specs.Tree.{End, Then, Called, element_of, ops_body};
 ghost use Rattle.bt_style.specs.declared.builtin.Builtin.TheVariants as builtin;
 ghost use Rattle.bt_actions.specs.World.{entry_of, say};
-ghost use Rattle.bt_actions.specs.Arguments.{number_of, code_of, taken, taken_two, taken_three};
+ghost use Rattle.bt_actions.specs.Arguments.{as_number, as_code, taken, taken_two, taken_three};
 ghost use Rattle.bt_actions.specs.State.{text_len, pushed};
 ghost use Rattle.bt_actions.specs.View.{code_seen, item_of, world_of};
 ghost use Rattle.bt_machine.specs.Eval.{eval, act, acted, called, built_in, run_chosen, run_loop, run_function, run_type, looped, turn, code_body, builtin_in, builtin_called};
@@ -33,7 +33,7 @@ pub struct Machine<'a> {
     pub state: State<'a>,
     /// What is left of the body that is being run.
     pub body: &'a [Op],
-    /// What is left to do behind it, the next at the end.
+    /// What is left to do after it, the next at the end.
     pub control: Vec<Frame<'a>>,
 }
 
@@ -57,7 +57,7 @@ fn builtin_called(op: &Op) -> Option<Builtin>
     }
 }
 
-/// Tells that no tick is left.
+/// Reports that no tick is left.
 #[cold]
 #[inline(never)]
 fn tell_no_tick(state: &mut State) -> Result<(), AllocError>
@@ -68,7 +68,7 @@ fn tell_no_tick(state: &mut State) -> Result<(), AllocError>
 }
 
 impl<'a> Machine<'a> {
-    ghost use Rattle.bt_machine.specs.Control.{CarriesOut, RunsBody, Test, on_top, waiting, frames_of, frame_seen, meant, rest_of, ended_at};
+    ghost use Rattle.bt_machine.specs.inner.Control.{CarriesOut, RunsBody, Test, on_top, waiting, frames_of, frame_seen, meant, rest_of, ended_at};
 
     /// Puts something on the control stack.
     fn defer(&mut self, frame: Frame<'a>) -> Result<(), AllocError>

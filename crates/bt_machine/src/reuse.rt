@@ -5,7 +5,7 @@ ghost use Rattle.bt_style.specs.Reach.{is_among, keeps_held};
 ghost use Rattle.bt_machine.specs.Agreement.{IsNextOutcome, outcome_over, own_over};
 ghost use Rattle.bt_machine.specs.Comparison.{same_counts, same_variables};
 ghost use Rattle.bt_machine.specs.Footprint.{blend_globals, pick};
-ghost use Rattle.bt_machine.specs.Putting.{blend_at};
+ghost use Rattle.bt_machine.specs.inner.Putting.{blend_at};
 
 use crate::agreement::{same_counts, same_text_at, same_variables};
 use crate::input::Input;

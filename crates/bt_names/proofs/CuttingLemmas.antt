@@ -9,7 +9,8 @@ use Rattle.std.proofs.lemmas.Bool.{true≢false, false≢true, cases_Bool, or_pa
 use Rattle.bt_text.specs.Blocks.{blocks}
 use Rattle.bt_text.proofs.BlockLemmas.{blocks_from_start}
 use Rattle.bt_names.specs.declared.tokens.Token.{Token}
-use Rattle.bt_names.specs.Cutting.{Run, is_single, onto_gap, onto_text, runs, sign_of, tokens, is_comma, is_parting, first_or_none, sections_from, first_section, other_sections, begins_token}
+use Rattle.bt_names.specs.Cutting.{Run, is_single, onto_gap, onto_text, runs, sign_of, tokens, is_comma, is_parting, first_or_none}
+use Rattle.bt_names.specs.inner.Cutting.{sections_from, first_section, other_sections, begins_token}
 use Rattle.bt_names.proofs.StrayLemmas.{single_from}
 
 -- ---- sections
@@ -51,7 +52,7 @@ abbrev pub onto_run : List ℕ → List Run → List Run
 onto_run [] rs = rs
 onto_run (b ∷ u) rs = onto_text (b ∷ u) rs
 
--- the tokens found, and those of the runs behind them
+-- the tokens found, and those of the runs after them
 abbrev pub tokens_behind : List Token → ℕ → List Run → List Token
 tokens_behind [] lead rs = tokens lead rs
 tokens_behind (w ∷ ws) lead rs = (w ∷ ws) ++ map (λ s. record { text = s.text; before = sign_of s.gap }) rs
@@ -75,7 +76,7 @@ runs_parting b t h =
     let rest = runs (first_section t) in
     ap runs (first_section_block (b ∷ t) (b ∷ []) t (single_block b t (parting_no_brace b h)) (parting_no_comma b h)) ∙ ap (λ x. cond x (onto_gap (b ∷ []) rest) (onto_text (b ∷ []) rest)) h
 
--- the runs behind a gap of n bytes
+-- the runs after a gap of n bytes
 abbrev runs_behind : List ℕ → ℕ → List Run
 runs_behind t n = onto_gap (take n t) (runs (first_section (drop n t)))
 

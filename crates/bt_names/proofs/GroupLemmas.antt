@@ -4,12 +4,12 @@ use Rattle.std.proofs.lemmas.List.{length-take-le, take_all}
 use Rattle.bt_names.specs.declared.tokens.Token.{Token}
 use Rattle.bt_names.specs.declared.growth.Stop.{Stop}
 use Rattle.bt_names.specs.declared.growth.Stop.TheVariants.{Longer, OutOfMemory}
-use Rattle.bt_names.specs.Growth.{StopsAt}
+use Rattle.bt_names.specs.inner.Growth.{StopsAt}
 use Rattle.bt_names.specs.Joining.{Between, is_short, joined}
-use Rattle.bt_names.specs.Groups.{ends_in_tie, finished, put_in}
+use Rattle.bt_names.specs.Groups.{ends_in_tie, group_finished, put_in}
 
 -- The end of a group takes away one byte at most.
-finished_longer : (out : List ℕ) → length out ≤ length (finished out) + 1
+finished_longer : (out : List ℕ) → length out ≤ length (group_finished out) + 1
 finished_longer out =
     let front = take (length out - 1) out in
     by_tests (ends_in_tie out) (ends_in_tie front) (is_short front) out
@@ -22,12 +22,12 @@ finished_longer out =
         let front = take (length out - 1) out in
         omega (arith, length-take-le (length out - 1) out (omega arith), length-append front (32 ∷ []))
 
-finished_stops : (limit : ℕ) (t out : List ℕ) (stop : Stop) → length t ≤ length out → StopsAt (limit + 1) t stop → StopsAt limit (finished out) stop
+finished_stops : (limit : ℕ) (t out : List ℕ) (stop : Stop) → length t ≤ length out → StopsAt (limit + 1) t stop → StopsAt limit (group_finished out) stop
 finished_stops limit t out Longer h s = omega (arith, finished_longer out)
 finished_stops limit t out OutOfMemory h s = tt
 
 -- the exit of a `?` before the end of a group
-pub end_stops : {X : Type 0} (r : Result X Stop) (limit : ℕ) (t out : List ℕ) (stop : Stop) → length t ≤ length out → IsErrAnd r (λ e. e ≡ stop) → StopsAt (limit + 1) t stop → IfErr r (StopsAt limit (finished out))
+pub end_stops : {X : Type 0} (r : Result X Stop) (limit : ℕ) (t out : List ℕ) (stop : Stop) → length t ≤ length out → IsErrAnd r (λ e. e ≡ stop) → StopsAt (limit + 1) t stop → IfErr r (StopsAt limit (group_finished out))
 end_stops (Ok x) limit t out stop h same s = tt
 end_stops (Err e) limit t out stop h same s = rw same (finished_stops limit t out stop h s)
 
@@ -35,7 +35,7 @@ first_is : (ws : List Token) (w : Token) → 1 ≤ length ws → w ≡ get_or ws
 first_is [] w h is = absurd (omega arith)
 first_is (v ∷ ws) w h is = ap (λ u. u ∷ ws) (sym is)
 
--- the tokens behind the first
+-- the tokens after the first
 pub others_are : (ws : List Token) → take (length ws - 1) (drop 1 ws) ≡ drop 1 ws
 others_are [] = refl
 others_are (w ∷ ws) = take_all (length (w ∷ ws) - 1) ws (omega arith)

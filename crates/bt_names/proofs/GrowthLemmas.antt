@@ -2,7 +2,7 @@
 use Rattle.std.proofs.Common.{◌≡◌, ℕ, ◌≤◌, List, length, Result, Ok, Err, IfErr, IsErrAnd, arith}
 use Rattle.bt_names.specs.declared.growth.Stop.{Stop}
 use Rattle.bt_names.specs.declared.growth.Stop.TheVariants.{Longer, OutOfMemory}
-use Rattle.bt_names.specs.Growth.{StopsAt}
+use Rattle.bt_names.specs.inner.Growth.{StopsAt}
 
 -- Where a beginning is longer than the limit, the whole is.
 pub stops_more : (limit : ℕ) (t u : List ℕ) (stop : Stop) → length t ≤ length u → StopsAt limit t stop → StopsAt limit u stop

@@ -1,8 +1,8 @@
--- Tokens behind one another.
+-- Tokens one after another.
 use Rattle.std.proofs.Common.{◌≡◌, ℕ, ◌+◌, ◌<◌, ◌≤◌, cond, eqb, ltb, ◌||◌, List, [], ◌∷◌, ◌++◌, get_or, length, drop, Result, IfErr, IsErrAnd, sym, ap, ◌∙◌, arith, length-append, length-drop}
 use Rattle.std.proofs.lemmas.List.{drop_more}
 use Rattle.bt_names.specs.declared.growth.Stop.{Stop}
-use Rattle.bt_names.specs.Growth.{StopsAt}
+use Rattle.bt_names.specs.inner.Growth.{StopsAt}
 use Rattle.bt_names.proofs.GrowthLemmas.{stops_through}
 use Rattle.std.proofs.lemmas.Bool.Decides.{nat_tests}
 use Rattle.bt_text.specs.ByteTests.{is_separator}

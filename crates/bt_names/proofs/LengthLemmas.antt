@@ -8,7 +8,7 @@ use Rattle.std.proofs.lemmas.List.Sums.{sum_by-append}
 use Rattle.std.proofs.lemmas.Bool.{cases_Bool}
 use Rattle.bt_text.specs.Blocks.{begins_special}
 use Rattle.bt_text.specs.Depth.{depth_behind}
-use Rattle.bt_text.specs.Pieces.{Piece, pieces_of, brace, other, single, special, is_character}
+use Rattle.bt_text.specs.Pieces.{Piece, block_pieces, brace, other, single, special, is_character}
 use Rattle.bt_text.specs.Length.{text_length_of}
 use Rattle.bt_text.proofs.BlockLemmas.{blocks_from, blocks_from_first, blocks_from_start}
 
@@ -17,7 +17,7 @@ onto_last b [] = (b ∷ []) ∷ []
 onto_last b (x ∷ []) = (x ++ b ∷ []) ∷ []
 onto_last b (x ∷ y ∷ r) = x ∷ onto_last b (y ∷ r)
 
--- the blocks of a text with one more byte, where the depth in front of it is 0 or not
+-- the blocks of a text with one more byte, where the depth before it is 0 or not
 abbrev pushed : Bool → ℕ → List (List ℕ) → List (List ℕ)
 pushed true b bs = bs ++ (b ∷ []) ∷ []
 pushed false b bs = onto_last b bs
@@ -33,7 +33,7 @@ push_none : (x : Bool) (b : ℕ) → pushed x b [] ≡ (b ∷ []) ∷ []
 push_none true b = refl
 push_none false b = refl
 
--- at depth e behind the byte c
+-- at depth e after the byte c
 abbrev first_with : ℕ → ℕ → List (List ℕ) → List (List ℕ)
 first_with e c bs = cond (eqb e 0) ((c ∷ []) ∷ bs) (onto_first c bs)
 
@@ -65,11 +65,11 @@ characters ps = count_by is_character ps
 characters-append : (ps qs : List Piece) → characters (ps ++ qs) ≡ characters ps + characters qs
 characters-append ps qs = sum_by-append (λ x. cond {A = ℕ} (is_character x) 1 0) ps qs
 
-block_more : (s : List ℕ) (b : ℕ) → characters (pieces_of s) ≤ characters (pieces_of (s ++ b ∷ []))
+block_more : (s : List ℕ) (b : ℕ) → characters (block_pieces s) ≤ characters (block_pieces (s ++ b ∷ []))
 block_more [] b = omega arith
 block_more (a ∷ []) b = by_brace (cases_Bool (eqb a 123))
   where
-    by_brace : (eqb a 123 ≡ true) ⊎ (eqb a 123 ≡ false) → characters (pieces_of (a ∷ [])) ≤ characters (pieces_of (a ∷ b ∷ []))
+    by_brace : (eqb a 123 ≡ true) ⊎ (eqb a 123 ≡ false) → characters (block_pieces (a ∷ [])) ≤ characters (block_pieces (a ∷ b ∷ []))
     by_brace (inl e) =
         let none = ap (λ (x : Bool). cond {A = ℕ} (is_character (cond (x || eqb a 125) (brace a) (other a))) 1 0) e in
         omega (arith, none)
@@ -83,15 +83,15 @@ block_more (a ∷ c ∷ s) b = by_test (begins_special (a ∷ c ∷ s))
     by_test false = omega (arith, ap characters (map-append single (a ∷ c ∷ s) (b ∷ [])), characters-append (map single (a ∷ c ∷ s)) (map single (b ∷ [])))
 
 abbrev all_characters : List (List ℕ) → ℕ
-all_characters bs = characters (flat_map pieces_of bs)
+all_characters bs = characters (flat_map block_pieces bs)
 
 last_more : (b : ℕ) (bs : List (List ℕ)) → all_characters bs ≤ all_characters (onto_last b bs)
 last_more b [] = omega arith
-last_more b (s ∷ []) = omega (arith, block_more s b, characters-append (pieces_of s) [], characters-append (pieces_of (s ++ b ∷ [])) [])
-last_more b (s ∷ t ∷ bs) = omega (arith, last_more b (t ∷ bs), characters-append (pieces_of s) (flat_map pieces_of (t ∷ bs)), characters-append (pieces_of s) (flat_map pieces_of (onto_last b (t ∷ bs))))
+last_more b (s ∷ []) = omega (arith, block_more s b, characters-append (block_pieces s) [], characters-append (block_pieces (s ++ b ∷ [])) [])
+last_more b (s ∷ t ∷ bs) = omega (arith, last_more b (t ∷ bs), characters-append (block_pieces s) (flat_map block_pieces (t ∷ bs)), characters-append (block_pieces s) (flat_map block_pieces (onto_last b (t ∷ bs))))
 
 pushed_more : (x : Bool) (b : ℕ) (bs : List (List ℕ)) → all_characters bs ≤ all_characters (pushed x b bs)
-pushed_more true b bs = omega (arith, ap characters (flat_map-append pieces_of bs ((b ∷ []) ∷ [])), characters-append (flat_map pieces_of bs) (flat_map pieces_of ((b ∷ []) ∷ [])))
+pushed_more true b bs = omega (arith, ap characters (flat_map-append block_pieces bs ((b ∷ []) ∷ [])), characters-append (flat_map block_pieces bs) (flat_map block_pieces ((b ∷ []) ∷ [])))
 pushed_more false b bs = last_more b bs
 
 pub text_length_push : (t : List ℕ) (b : ℕ) → text_length_of t ≤ text_length_of (t ++ b ∷ [])

@@ -9,7 +9,8 @@ use Rattle.bt_text.specs.Blocks.{blocks}
 use Rattle.std.specs.Char.{to_ascii_lowercase}
 use Rattle.bt_text.specs.Depth.{depth, depth_behind}
 use Rattle.bt_text.proofs.BlockLemmas.{depth_take}
-use Rattle.bt_names.specs.Patterns.{block_fault, fault_of_blocks, first_place, is_doubled_at, letter_fault, letter_places, names_part, letters_from, moved_by, or_else, pattern_fault, IsLetterPlace}
+use Rattle.bt_names.specs.Patterns.{block_fault, fault_of_blocks, first_place, is_doubled_at, letter_fault, letter_places, names_part, letters_from, moved_by, or_else, pattern_fault}
+use Rattle.bt_names.specs.inner.Patterns.{IsLetterPlace}
 
 pub letters_more : (t : List ℕ) (i : ℕ) → i < length t → letters_from t i ≡ cond (is_letter (get_or t i 0) && eqb (depth (take i t)) 0) (i ∷ letters_from t (i + 1)) (letters_from t (i + 1))
 letters_more t i h =

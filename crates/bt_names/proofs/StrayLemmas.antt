@@ -33,7 +33,7 @@ inside_kept d zero b bs = refl
 inside_kept d (suc e) b [] = rw eqb-suc-zero refl
 inside_kept d (suc e) b (x ∷ bs) = rw eqb-suc-zero refl
 
--- Behind a byte that is no left brace, depth 0 stays.
+-- After a byte that is no left brace, depth 0 stays.
 flat_behind : (b : ℕ) → eqb b 123 ≡ false → depth_behind 0 b ≡ 0
 flat_behind b h = ap (λ (x : Bool). cond {A = ℕ} x 1 (cond {A = ℕ} (eqb b 125) 0 0)) h ∙ same (eqb b 125) 0
   where

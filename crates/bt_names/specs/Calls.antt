@@ -24,7 +24,7 @@ name_parts_or_fault (Some name) = parts_or_fault (parts_of name)
 unfoldable pub name_parts : List ℕ → ℤ → Result Parts NameFault
 name_parts names n = name_parts_or_fault (name_at names n)
 
--- A fault is told as it is. Memory runs out only where there is no other fault.
+-- A fault is reported as it is. Memory runs out only where there is no other fault.
 abbrev pub IsNameFault : Result Parts NameFault → NameFault → Type 0
 IsNameFault r no_memory = IsOk r
 IsNameFault r no_such_name = r ≡ Err no_such_name
@@ -46,7 +46,7 @@ formatted_or_fault (Some name) pattern = formatted_parts (parts_of name) pattern
 unfoldable pub formatted_name : List ℕ → ℤ → List ℕ → Result (List ℕ) FormatFault
 formatted_name names n pattern = formatted_or_fault (name_at names n) pattern
 
--- A fault is told as it is. Memory runs out only where there is no other fault.
+-- A fault is reported as it is. Memory runs out only where there is no other fault.
 abbrev pub IsFormatFault : Result (List ℕ) FormatFault → FormatFault → Type 0
 IsFormatFault r OutOfMemory = IsOk r
 IsFormatFault r NoSuchName = r ≡ Err NoSuchName

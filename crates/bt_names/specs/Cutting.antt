@@ -1,5 +1,5 @@
 -- The tokens of a name.
-use Rattle.std.specs.Prelude.{ℕ, ◌==◌, Bool, false, not, ◌||◌, if◌then◌else◌, List, [], ◌∷◌, ◌++◌, length, drop, map, filter}
+use Rattle.std.specs.Prelude.{ℕ, ◌==◌, Bool, false, not, ◌||◌, if◌then◌else◌, List, [], ◌∷◌, ◌++◌, length, map, filter}
 use Rattle.std.specs.List.{slice_split}
 use Rattle.bt_text.specs.ByteTests.{is_white, is_separator, right_brace, space}
 use Rattle.bt_text.specs.Blocks.{blocks}
@@ -46,7 +46,7 @@ abbrev pub runs : List (List ℕ) → List Run
 runs [] = []
 runs (block ∷ rest) = if is_single is_parting block then onto_gap block (runs rest) else onto_text block (runs rest)
 
--- A gap is told by its first byte, where each white byte counts as a space.
+-- A gap is known by its first byte, where each white byte counts as a space.
 abbrev pub sign_of : List ℕ → ℕ
 sign_of [] = 0
 sign_of (b ∷ gap) = if is_white b then space else b
@@ -64,19 +64,3 @@ lead_behind (w ∷ ws) = comma
 abbrev pub first_or_none : {X : Type 0} → List (List X) → List X
 first_or_none [] = []
 first_or_none (x ∷ xs) = x
-
--- the sections of a text that has no right brace at depth 0
-abbrev pub sections_from : List ℕ → List (List (List ℕ))
-sections_from t = slice_split is_comma (blocks t)
-
--- the blocks before the first comma at depth 0, and the sections behind it
-abbrev pub first_section : List ℕ → List (List ℕ)
-first_section t = first_or_none (sections_from t)
-
-abbrev pub other_sections : List ℕ → List (List (List ℕ))
-other_sections t = drop 1 (sections_from t)
-
--- A text begins with a token.
-abbrev pub begins_token : List ℕ → Bool
-begins_token [] = false
-begins_token (b ∷ t) = not (is_parting b || b == comma)

@@ -1,4 +1,4 @@
--- The tokens of a part behind one another, with what goes between them.
+-- The tokens of a part one after another, with what goes between them.
 use Rattle.std.specs.Prelude.{ℕ, Bool, nat_lt, ◌==◌, ◌||◌, if◌then◌else◌, List, [], ◌∷◌, ◌++◌, length}
 use Rattle.bt_text.specs.ByteTests.{is_separator, full_stop, space, tie}
 use Rattle.bt_text.specs.Length.{text_length_of}
@@ -20,8 +20,8 @@ abbrev pub dotted : Form → List ℕ → List ℕ
 dotted Whole out = out
 dotted Initials out = out ++ full_stop ∷ []
 
--- what goes before the token w and those behind it, where out stands in front: its own separator, or a tie before the
--- last token and behind a short output, or a space
+-- what goes before the token w and those after it, where out stands in front: its own separator, or a tie before the
+-- last token and after a short output, or a space
 abbrev pub sign_before : List ℕ → Token → List Token → ℕ
 sign_before out w rest = if is_separator w.before then w.before else (if length rest == 0 || is_short out then tie else space)
 
@@ -29,7 +29,7 @@ abbrev pub linked : Between → List ℕ → Token → List Token → List ℕ
 linked (by_text text) out w rest = out ++ text
 linked (by_signs form) out w rest = dotted form out ++ sign_before (dotted form out) w rest ∷ []
 
--- the output out, and the tokens behind it in turn
+-- the output out, and the tokens after it in turn
 abbrev pub joined : Between → List ℕ → List Token → List ℕ
 joined between out [] = out
 joined between out (w ∷ rest) = joined between (linked between out w rest ++ w.text) rest

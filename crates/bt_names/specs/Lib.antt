@@ -6,5 +6,5 @@ pub mod Patterns
 pub mod Spelling
 pub mod Joining
 pub mod Groups
-pub mod Growth
 pub mod Calls
+pub mod inner

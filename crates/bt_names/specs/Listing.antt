@@ -5,7 +5,7 @@ use Rattle.bt_text.specs.ByteTests.{is_white}
 use Rattle.bt_text.specs.Depth.{depth_at}
 use Rattle.bt_text.specs.Folding.{is_same_folded}
 
--- A text begins with `and` in any case, and white space directly behind it.
+-- A text begins with `and` in any case, and white space directly after it.
 abbrev pub begins_with_and : List ℕ → Bool
 begins_with_and (a ∷ n ∷ d ∷ w ∷ t) = is_same_folded (a ∷ n ∷ d ∷ []) (codes "and") && is_white w
 begins_with_and _ = false

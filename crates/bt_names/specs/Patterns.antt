@@ -1,5 +1,5 @@
 -- The faults of a pattern.
-use Rattle.std.specs.Prelude.{◌≡◌, ℕ, ◌+◌, ◌-◌, ◌<◌, ◌==◌, Bool, true, ◌&&◌, if◌then◌else◌, List, [], ◌∷◌, length, take, drop, filter, slice_index, Option, None, Some, codes}
+use Rattle.std.specs.Prelude.{ℕ, ◌+◌, ◌-◌, ◌==◌, Bool, ◌&&◌, if◌then◌else◌, List, [], ◌∷◌, length, take, drop, filter, slice_index, Option, None, Some, codes}
 use Rattle.std.specs.Char.{to_ascii_lowercase}
 use Rattle.std.specs.List.{list_any, range_with_len}
 use Rattle.bt_text.specs.ByteTests.{is_letter, right_brace}
@@ -9,8 +9,8 @@ use Rattle.bt_names.specs.Cutting.{is_single}
 
 -- A block that begins with a left brace is a group. What stands inside it goes up to its right brace, or to the
 -- pattern's end where it has none.
-abbrev pub inside : List ℕ → List ℕ
-inside group = if depth group == 0 then take (length group - 2) (drop 1 group) else drop 1 group
+abbrev pub inside_group : List ℕ → List ℕ
+inside_group group = if depth group == 0 then take (length group - 2) (drop 1 group) else drop 1 group
 
 -- the places of the letters at depth 0 of what stands inside a group, from a place on
 abbrev pub letters_from : List ℕ → ℕ → List ℕ
@@ -19,21 +19,15 @@ letters_from t start = filter (λ i. is_letter (slice_index t i) && depth_at t i
 abbrev pub letter_places : List ℕ → List ℕ
 letter_places t = letters_from t 0
 
--- such a place
-pub record IsLetterPlace (t : List ℕ) (i : ℕ) : Type 0 where
-  pub within : i < length t
-  pub letter : is_letter (slice_index t i) ≡ true
-  pub flat : depth_at t i ≡ 0
-
 -- `f`, `v`, `l` and `j` name a part, in either case.
 abbrev pub names_part : ℕ → Bool
 names_part b = list_any (λ letter. letter == to_ascii_lowercase b) (codes "fvlj")
 
--- The same letter, in either case, stands at place i and directly behind it.
+-- The same letter, in either case, stands at place i and directly after it.
 abbrev pub is_doubled_at : List ℕ → ℕ → Bool
 is_doubled_at t i = to_ascii_lowercase (slice_index t i) == to_ascii_lowercase (slice_index t (i + 1))
 
--- the place behind the letter, or behind both if it is doubled
+-- the place after the letter, or after both if it is doubled
 abbrev pub letter_end : List ℕ → ℕ → ℕ
 letter_end t i = if is_doubled_at t i then i + 2 else i + 1
 
@@ -59,7 +53,7 @@ moved_by n (Some i) = Some (n + i)
 abbrev pub block_fault : List ℕ → Option ℕ
 block_fault block =
     if begins_group block
-    then or_else (moved_by 1 (letter_fault (inside block) (letter_places (inside block)))) (if depth block == 0 then None else Some (length block))
+    then or_else (moved_by 1 (letter_fault (inside_group block) (letter_places (inside_group block)))) (if depth block == 0 then None else Some (length block))
     else (if is_single (λ b. b == right_brace) block then Some 0 else None)
 
 -- the first fault of some blocks, by its place from where the first of them begins

@@ -3,7 +3,6 @@ use Rattle.std.specs.Prelude.{ℕ, if◌then◌else◌, List, [], ◌∷◌, map
 use Rattle.bt_text.specs.Blocks.{blocks, begins_special}
 use Rattle.bt_text.specs.ByteTests.{is_letter}
 use Rattle.bt_names.specs.declared.tokens.Token.{Token}
-use Rattle.bt_names.specs.declared.tokens.Parts.{Parts}
 use Rattle.bt_names.specs.declared.spelling.Form.{Form}
 use Rattle.bt_names.specs.declared.spelling.Form.TheVariants.{Whole, Initials}
 use Rattle.bt_names.specs.Cutting.{first_or_none}
@@ -11,7 +10,7 @@ use Rattle.bt_names.specs.Cutting.{first_or_none}
 abbrev pub first_block : List ℕ → List ℕ
 first_block t = first_or_none (blocks t)
 
--- the first letter at any depth, or the group of the first left brace that has a backslash behind it, whichever begins
+-- the first letter at any depth, or the group of the first left brace that has a backslash after it, whichever begins
 -- first
 abbrev pub initial : List ℕ → List ℕ
 initial [] = []
@@ -24,7 +23,3 @@ by_initial w = record { text = initial w.text; before = w.before }
 abbrev pub spelled : Form → List Token → List Token
 spelled Whole ws = ws
 spelled Initials ws = map by_initial ws
-
--- the parts by their initials
-abbrev pub abbreviated : Parts → Parts
-abbreviated p = record { first = map by_initial p.first; von = map by_initial p.von; last = map by_initial p.last; jr = map by_initial p.jr }

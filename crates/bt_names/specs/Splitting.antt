@@ -37,7 +37,7 @@ without_comma ws =
 abbrev pub with_commas : (before jr first : List Token) → Parts
 with_commas ws jr first = record { first = first; von = take (von_end ws) ws; last = drop (von_end ws) ws; jr = jr }
 
--- the tokens of a section, behind those of the sections before it
+-- the tokens of a section, after those of the sections before it
 abbrev pub section_tokens : List Token → List (List ℕ) → List Token
 section_tokens earlier section = tokens (lead_behind earlier) (runs section)
 

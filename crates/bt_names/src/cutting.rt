@@ -3,7 +3,8 @@
 ghost use Rattle.std.specs.Prelude.{◌≡◌, ◌<◌, ◌≤◌, [], ◌∷◌, ◌++◌, ◌==◌, if◌then◌else◌, IfOk, OnOk, IfSome, IfNone, IsTrue, length, take, drop, count_by};
 ghost use Rattle.std.specs.List.{prefix_len};
 ghost use Rattle.bt_text.specs.Blocks.{blocks};
-ghost use Rattle.bt_names.specs.Cutting.{begins_token, first_section, is_comma, is_parting, kept_blocks, other_sections, runs, sections_from, sign_of, tokens};
+ghost use Rattle.bt_names.specs.Cutting.{is_comma, is_parting, kept_blocks, runs, sign_of, tokens};
+ghost use Rattle.bt_names.specs.inner.Cutting.{begins_token, first_section, other_sections, sections_from};
 
 use crate::lent::LentToken;
 use bt_text::{block_len, depth_behind, is_separator, is_white};
@@ -47,7 +48,7 @@ fn gap_len(text: &[u8]) -> usize
     text.iter().take_while(|byte| is_parting(**byte)).count()
 }
 
-/// What a gap is told by: its first byte, where white space counts as a space.
+/// What a gap is known by: its first byte, where white space counts as a space.
 fn sign_of(gap: &[u8]) -> u8
     ensures { result ≡ sign_of gap.now }
 {
@@ -92,7 +93,7 @@ fn token_len(text: &[u8]) -> usize
     }
 }
 
-/// Puts a token behind others.
+/// Puts a token after others.
 fn push_token<'a>(
     found: &mut Vec<LentToken<'a>>,
     text: &'a [u8],
@@ -126,7 +127,7 @@ pub fn tokens_before_comma<'a>(
     }
 }
 
-/// What stands behind the first comma at depth 0.
+/// What stands after the first comma at depth 0.
 pub fn behind_comma(text: &[u8]) -> Option<&[u8]>
     ensures some { IfSome result (λ rest. other_sections text.now ≡ sections_from rest.now) }
     ensures none { IfNone result (other_sections text.now ≡ []) }

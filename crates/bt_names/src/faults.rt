@@ -5,7 +5,7 @@ ghost use Rattle.std.specs.Prelude.{◌≡◌};
 use std::alloc::AllocError;
 use thiserror::Error;
 
-/// Why a name has no parts. The first that holds is told.
+/// Why a name has no parts. The first that holds is reported.
 #[derive(Clone, Copy, PartialEq, Eq, Debug, Error)]
 pub enum NameFault {
     /// The text doesn't list so many names, or the number is 0 or less.
@@ -19,7 +19,7 @@ pub enum NameFault {
     OutOfMemory,
 }
 
-/// Why a name was not formatted. The first that holds is told.
+/// Why a name was not formatted. The first that holds is reported.
 #[derive(Clone, Copy, PartialEq, Eq, Debug, Error)]
 pub enum FormatFault {
     /// The text doesn't list so many names, or the number is 0 or less.

@@ -3,10 +3,10 @@
 ghost use Rattle.std.specs.Prelude.{◌≡◌, ◌≤◌, ◌+◌, ◌++◌, ◌==◌, ◌<◌, IfErr, IfOk, OnOk, length};
 ghost use Rattle.std.specs.List.{suffix_len};
 ghost use Rattle.bt_text.specs.ByteTests.{tie};
-ghost use Rattle.bt_names.specs.Growth.{StopsAt};
+ghost use Rattle.bt_names.specs.inner.Growth.{StopsAt};
 ghost use Rattle.bt_names.specs.Joining.{by_signs, by_text};
 ghost use Rattle.bt_names.specs.Patterns.{letter_places};
-ghost use Rattle.bt_names.specs.Groups.{block_output, ends_in_tie, finished, form_at, formatted, group_output, put_in, with_tokens};
+ghost use Rattle.bt_names.specs.Groups.{block_output, ends_in_tie, group_finished, form_at, formatted, group_output, put_in, with_tokens};
 
 use crate::growth::{Stop, push_in_group, push_within};
 use crate::joining::{join_by_signs, join_by_text, push_linked};
@@ -33,9 +33,9 @@ fn ends_in_tie(text: &[u8]) -> bool
     0 < trailing_ties(text)
 }
 
-/// Of two ties at a group's end one goes, and a single one becomes a space behind 3 text characters.
+/// Of two ties at a group's end one goes, and a single one becomes a space after 3 text characters.
 fn finish(out: &mut Vec<u8>)
-    ensures { out.new.items ≡ finished out.old.items }
+    ensures { out.new.items ≡ group_finished out.old.items }
 {
     if !ends_in_tie(out) {
         return;
@@ -59,10 +59,10 @@ fn begun(alloc: Global, limit: usize, before: &[u8], first: &LentToken) -> Resul
     Ok(out)
 }
 
-/// A group's output with what stands in the group behind it, and its end finished.
+/// A group's output with what stands in the group after it, and its end finished.
 fn ended(out: Vec<u8>, limit: usize, behind: &[u8]) -> Result<Vec<u8>, Stop>
-    ensures ok { IfOk result (λ t. t.items ≡ finished (out.items ++ behind.now)) }
-    ensures stop { IfErr result (StopsAt limit (finished (out.items ++ behind.now))) }
+    ensures ok { IfOk result (λ t. t.items ≡ group_finished (out.items ++ behind.now)) }
+    ensures stop { IfErr result (StopsAt limit (group_finished (out.items ++ behind.now))) }
 {
     let mut out = out;
     push_in_group(&mut out, limit, behind)?;
@@ -70,7 +70,7 @@ fn ended(out: Vec<u8>, limit: usize, behind: &[u8]) -> Result<Vec<u8>, Stop>
     Ok(out)
 }
 
-/// The tokens of a part with a text between them, and what stands in the group before and behind them.
+/// The tokens of a part with a text between them, and what stands in the group before and after them.
 fn put_in_by_text(
     alloc: Global,
     limit: usize,
@@ -92,7 +92,7 @@ fn put_in_by_text(
     }
 }
 
-/// The tokens of a part with signs between them, and what stands in the group before and behind them.
+/// The tokens of a part with signs between them, and what stands in the group before and after them.
 fn put_in_by_signs(
     alloc: Global,
     limit: usize,
@@ -114,7 +114,7 @@ fn put_in_by_signs(
     }
 }
 
-/// The tokens of a part in a group, where a group directly behind the letter is the text between them.
+/// The tokens of a part in a group, where a group directly after the letter is the text between them.
 fn with_tokens(
     alloc: Global,
     limit: usize,
@@ -164,7 +164,7 @@ fn group_output(alloc: Global, limit: usize, parts: &Spelled, text: &[u8]) -> Re
     }
 }
 
-/// Puts behind `out` what a block of a pattern gives.
+/// Puts after `out` what a block of a pattern gives.
 fn push_block(
     alloc: Global,
     out: &mut Vec<u8>,

@@ -1,7 +1,7 @@
 //! Texts that grow up to a limit.
 
 ghost use Rattle.std.specs.Prelude.{◌≡◌, ◌≤◌, ◌+◌, ◌++◌, OnOk, IfErr, length};
-ghost use Rattle.bt_names.specs.Growth.{StopsAt};
+ghost use Rattle.bt_names.specs.inner.Growth.{StopsAt};
 
 use std::alloc::AllocError;
 
@@ -24,7 +24,7 @@ impl From<AllocError> for Stop {
     }
 }
 
-/// Puts bytes behind a text, unless it gets longer than the limit.
+/// Puts bytes after a text, unless it gets longer than the limit.
 pub fn push_within(out: &mut Vec<u8>, limit: usize, more: &[u8]) -> Result<(), Stop>
     ensures ok { OnOk result (out.new.items ≡ out.old.items ++ more.now) }
     ensures within { OnOk result (length out.new.items ≤ limit) }
@@ -37,7 +37,7 @@ pub fn push_within(out: &mut Vec<u8>, limit: usize, more: &[u8]) -> Result<(), S
     Ok(())
 }
 
-/// Puts bytes behind a group's output, unless it gets more than a byte longer than the limit: the end of a group may
+/// Puts bytes after a group's output, unless it gets more than a byte longer than the limit: the end of a group may
 /// take one byte away.
 pub fn push_in_group(out: &mut Vec<u8>, limit: usize, more: &[u8]) -> Result<(), Stop>
     ensures ok { OnOk result (out.new.items ≡ out.old.items ++ more.now) }

@@ -1,9 +1,9 @@
-//! Puts the tokens of a part behind one another, with what goes between them.
+//! Puts the tokens of a part one after another, with what goes between them.
 
 ghost use Rattle.std.specs.Prelude.{◌≡◌, ◌≤◌, ◌+◌, ◌==◌, ◌++◌, ◌||◌, false, if◌then◌else◌, IfErr, OnOk};
 ghost use Rattle.bt_text.specs.ByteTests.{is_separator, space, tie};
 ghost use Rattle.bt_text.specs.Length.{text_length_of};
-ghost use Rattle.bt_names.specs.Growth.{StopsAt};
+ghost use Rattle.bt_names.specs.inner.Growth.{StopsAt};
 ghost use Rattle.bt_names.specs.Joining.{by_signs, by_text, dotted, is_short, joined};
 
 use crate::growth::{Stop, push_in_group};
@@ -11,7 +11,7 @@ use crate::lent::LentToken;
 use crate::spelling::Form;
 use bt_text::{is_separator, text_length};
 
-/// Puts a token behind a group's output, with what goes before it.
+/// Puts a token after a group's output, with what goes before it.
 pub fn push_linked(
     out: &mut Vec<u8>,
     limit: usize,
@@ -41,7 +41,7 @@ pub fn join_by_text(
     Ok(())
 }
 
-/// Puts a full stop behind an initial.
+/// Puts a full stop after an initial.
 fn push_dot(out: &mut Vec<u8>, limit: usize, form: Form) -> Result<(), Stop>
     ensures ok { OnOk result (out.new.items ≡ dotted form out.old.items) }
     ensures stop { IfErr result (StopsAt (limit + 1) (dotted form out.old.items)) }

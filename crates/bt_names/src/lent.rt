@@ -80,11 +80,11 @@ impl<'t, 'a> Model for LentParts<'t, 'a> {
 
 impl<'t, 'a> LentParts<'t, 'a> {
     ghost use Rattle.std.specs.Prelude.{◌≡◌, IfOk};
-    ghost use Rattle.bt_names.specs.Groups.{named_by};
+    ghost use Rattle.bt_names.specs.Groups.{part_named};
 
     /// The tokens of the part that a letter names.
     pub fn named_by(&self, letter: u8) -> &'t [LentToken<'a>]
-        ensures { result.now ≡ named_by self.now letter }
+        ensures { result.now ≡ part_named self.now letter }
     {
         match letter.to_ascii_lowercase() {
             b'f' => self.first,

@@ -5,7 +5,7 @@ ghost use Rattle.bt_names.specs.Listing.{begins_with_and, has_and_at, is_behind_
 
 use bt_text::{depth_behind, eq_ignore_ascii_case, is_white};
 
-/// Whether a text begins with `and` in any case, and white space directly behind it.
+/// Whether a text begins with `and` in any case, and white space directly after it.
 fn begins_with_and(text: &[u8]) -> bool
     ensures { result ≡ begins_with_and text.now }
 {

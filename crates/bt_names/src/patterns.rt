@@ -3,7 +3,8 @@
 ghost use Rattle.std.specs.Prelude.{◌≡◌, ◌<◌, ◌≤◌, ◌-◌, ◌+◌, [], ◌∷◌, IfSome, IfNone, if◌then◌else◌, length, take, drop, slice_index};
 ghost use Rattle.bt_text.specs.Blocks.{begins_group};
 ghost use Rattle.bt_text.specs.Depth.{depth_at};
-ghost use Rattle.bt_names.specs.Patterns.{block_fault, first_place, inside, is_doubled_at, letter_end, letter_fault, letter_places, letters_from, names_part, pattern_fault, IsLetterPlace};
+ghost use Rattle.bt_names.specs.Patterns.{block_fault, first_place, inside_group, is_doubled_at, letter_end, letter_fault, letter_places, letters_from, names_part, pattern_fault};
+ghost use Rattle.bt_names.specs.inner.Patterns.{IsLetterPlace};
 
 use bt_text::{block_len, depth_behind, depth_of, is_letter};
 
@@ -16,7 +17,7 @@ pub fn begins_group(block: &[u8]) -> bool
 
 /// What stands inside a group.
 pub fn inside(group: &[u8]) -> &[u8]
-    ensures value { result.now ≡ inside group.now }
+    ensures value { result.now ≡ inside_group group.now }
     ensures shorter { length result.now ≤ length group.now - 1 }
 {
     let behind = group.get(1..).unwrap_or(&[]);
@@ -55,7 +56,7 @@ fn names_part(byte: u8) -> bool
     matches!(byte.to_ascii_lowercase(), b'f' | b'v' | b'l' | b'j')
 }
 
-/// The byte at a place, or 0 behind the end.
+/// The byte at a place, or 0 after the end.
 fn byte_at(text: &[u8], place: usize) -> u8
     ensures { result ≡ slice_index text.now place }
 {
@@ -70,7 +71,7 @@ pub fn is_doubled_at(text: &[u8], place: usize) -> bool
     byte_at(text, place).to_ascii_lowercase() == byte_at(text, place + 1).to_ascii_lowercase()
 }
 
-/// The place behind a letter, or behind both if it is doubled.
+/// The place after a letter, or after both if it is doubled.
 pub fn letter_end(text: &[u8], place: usize) -> usize
     requires { IsLetterPlace text.now place }
     ensures end { result ≡ letter_end text.now place }

@@ -1,8 +1,9 @@
 //! How a pattern spells the tokens of a part: whole, or by their initials.
 
 ghost use Rattle.std.specs.Prelude.{◌≡◌, ◌++◌, IfOk, OnOk, map};
-ghost use Rattle.bt_names.specs.Groups.{named_by};
-ghost use Rattle.bt_names.specs.Spelling.{abbreviated, by_initial, first_block, initial, spelled};
+ghost use Rattle.bt_names.specs.Groups.{part_named};
+ghost use Rattle.bt_names.specs.Spelling.{by_initial, first_block, initial, spelled};
+ghost use Rattle.bt_names.specs.inner.Spelling.{abbreviated};
 
 use crate::lent::{LentParts, LentToken};
 use bt_text::{begins_special, block_len, is_letter};
@@ -82,7 +83,7 @@ pub struct Spelled<'t, 'a> {
 impl<'t, 'a> Model for Spelled<'t, 'a> {
     ghost use Rattle.std.specs.Prelude.{◌≡◌};
     ghost use Rattle.bt_names.specs.declared.tokens.Parts.{Parts};
-    ghost use Rattle.bt_names.specs.Spelling.{abbreviated};
+    ghost use Rattle.bt_names.specs.inner.Spelling.{abbreviated};
 
     ghost Value = { Parts };
 
@@ -123,7 +124,7 @@ impl<'t, 'a> Spelled<'t, 'a> {
 
     /// The tokens of the part that a letter names, in this form.
     pub fn named_by(&self, letter: u8, form: Form) -> &[LentToken<'a>]
-        ensures { result.now ≡ spelled form (named_by self.now letter) }
+        ensures { result.now ≡ spelled form (part_named self.now letter) }
     {
         match form {
             Form::Whole => self.whole.named_by(letter),

@@ -30,7 +30,7 @@ fn tokens_before_von(tokens: &[LentToken]) -> usize
     tokens.iter().take_while(|token| !is_von(*token)).count()
 }
 
-/// How many tokens stand behind the last von token.
+/// How many tokens stand after the last von token.
 fn tokens_behind_von(tokens: &[LentToken]) -> usize
     ensures within { result ≤ length tokens.now }
     ensures len { result ≡ suffix_len (λ w. not (is_von w)) tokens.now }
@@ -193,14 +193,14 @@ impl<'a> Sections<'a> {
     }
 }
 
-/// What stands before the first token behind others and a comma.
+/// What stands before the first token after others and a comma.
 fn lead_behind(tokens: &[LentToken]) -> u8
     ensures { result ≡ lead_behind tokens.now }
 {
     if tokens.is_empty() { 0 } else { b',' }
 }
 
-/// What stands before the first token behind two sections.
+/// What stands before the first token after two sections.
 fn lead_behind_two(front: &[LentToken], second: &[LentToken]) -> u8
     ensures { result ≡ lead_behind (front.now ++ second.now) }
 {

@@ -35,7 +35,7 @@ fn begins_small(text: &[u8]) -> bool
     false
 }
 
-/// Whether a special character is judged as small, by what stands behind its backslash.
+/// Whether a special character is judged as small, by what stands after its backslash.
 fn control_is_small(text: &[u8]) -> bool
     ensures { result ≡ special_is_small (left_brace ∷ backslash ∷ text.now) }
 {

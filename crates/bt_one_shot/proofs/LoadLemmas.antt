@@ -12,13 +12,14 @@ use Rattle.bt_serve.specs.Commands.{state_or, unless_wanting}
 use Rattle.bt_one_shot.specs.declared.folder.Found.{Found}
 use Rattle.bt_one_shot.specs.declared.folder.Found.TheVariants as found
 use Rattle.bt_one_shot.specs.Folders.{Contents, Seen, Gains, Finds, LooksUp, looked_up}
-use Rattle.bt_one_shot.specs.Sinks.{Sunk, GoesOn}
-use Rattle.bt_one_shot.specs.Loading.{Reading, name_of, next, taken_found, behind, behind_all, refusal_line, refusal_lines, InOrder, all_looked_up}
-use Rattle.bt_one_shot.specs.Progress.{LooksUpName, Goes}
+use Rattle.bt_one_shot.specs.Sinks.{Sunk}
+use Rattle.bt_one_shot.specs.inner.Sinks.{GoesOn}
+use Rattle.bt_one_shot.specs.Loading.{Reading, name_of, next, taken_found, after_file, after_files, refusal_line, refusal_lines, InOrder, all_looked_up}
+use Rattle.bt_one_shot.specs.inner.Progress.{LooksUpName, Goes}
 use Rattle.bt_one_shot.proofs.TellLemmas.{goes_on_none, goes_on_more}
 use Rattle.bt_one_shot.proofs.WantLemmas.{is_met, new_here}
 
--- Lists that are told
+-- Lists that are reported
 
 pub gains_none : {A : Type 0} (a : Option (List A)) → Gains a a []
 gains_none {A} None = tt
@@ -45,24 +46,24 @@ looks_more a b c xs ys p q =
 
 -- Files, one after another
 
-behind_more : (s : State) (xs ys : List Reading) → behind_all s (xs ++ ys) ≡ behind_all (behind_all s xs) ys
+behind_more : (s : State) (xs ys : List Reading) → after_files s (xs ++ ys) ≡ after_files (after_files s xs) ys
 behind_more s [] ys = refl
-behind_more s (x ∷ xs) ys = behind_more (behind s x) xs ys
+behind_more s (x ∷ xs) ys = behind_more (after_file s x) xs ys
 
-lines_more : (s : State) (xs ys : List Reading) → refusal_lines s (xs ++ ys) ≡ refusal_lines s xs ++ refusal_lines (behind_all s xs) ys
+lines_more : (s : State) (xs ys : List Reading) → refusal_lines s (xs ++ ys) ≡ refusal_lines s xs ++ refusal_lines (after_files s xs) ys
 lines_more s [] ys = refl
 lines_more s (x ∷ xs) ys =
-    ap (λ t. refusal_line x.name (taken_found s x.name x.wants x.found) ++ t) (lines_more (behind s x) xs ys)
+    ap (λ t. refusal_line x.name (taken_found s x.name x.wants x.found) ++ t) (lines_more (after_file s x) xs ys)
     ∙ sym (append_assoc (refusal_line x.name (taken_found s x.name x.wants x.found)) _ _)
 
 order_more : (held : Option Contents) (s : State) (met : List (List ℕ)) (xs ys : List Reading) → InOrder held s met xs →
-    InOrder held (behind_all s xs) (met ++ map name_of xs) ys → InOrder held s met (xs ++ ys)
+    InOrder held (after_files s xs) (met ++ map name_of xs) ys → InOrder held s met (xs ++ ys)
 order_more held s met [] ys p q = subst (λ m. InOrder held s m ys) (append-nil met) q
 order_more held s met (x ∷ xs) ys p q = (
   p.0,
   p.1,
-  order_more held (behind s x) (met ++ x.name ∷ []) xs ys p.2
-      (subst (λ m. InOrder held (behind_all (behind s x) xs) m ys) (sym (append_assoc met (x.name ∷ []) (map name_of xs))) q),
+  order_more held (after_file s x) (met ++ x.name ∷ []) xs ys p.2
+      (subst (λ m. InOrder held (after_files (after_file s x) xs) m ys) (sym (append_assoc met (x.name ∷ []) (map name_of xs))) q),
 )
 
 -- Nothing was looked up.
@@ -84,13 +85,13 @@ goes_more known s t u k l m a b c x y z p q =
     record {
       files = p.files ++ q.files;
       in_order = order_more a.held s k p.files q.files p.in_order then_others;
-      is_behind = q.is_behind ∙ ap (λ v. behind_all v q.files) p.is_behind ∙ sym (behind_more s p.files q.files);
+      is_behind = q.is_behind ∙ ap (λ v. after_files v q.files) p.is_behind ∙ sym (behind_more s p.files q.files);
       are_met = q.are_met ∙ ap (λ v. v ++ map name_of q.files) p.are_met ∙ append_assoc k (map name_of p.files) (map name_of q.files) ∙ ap (λ v. k ++ v) names;
       looked_up = subst (LooksUp a c) (sym (flat_map-append (λ (r : Reading). looked_up r.name r.found) p.files q.files)) (looks_more a b c _ _ p.looked_up q.looked_up);
       tells = subst (GoesOn known x z) lines (goes_on_more known x y z _ _ p.tells q.tells);
     }
   where
-    then_others : InOrder a.held (behind_all s p.files) (k ++ map name_of p.files) q.files
+    then_others : InOrder a.held (after_files s p.files) (k ++ map name_of p.files) q.files
     then_others = rw (← p.is_behind, ← p.are_met, ← p.looked_up.held) q.in_order
 
     names : map name_of p.files ++ map name_of q.files ≡ map name_of (p.files ++ q.files)
@@ -112,7 +113,7 @@ goes_one known s t met name a b x y is l =
       tells = subst (GoesOn known x y) (sym (append-nil (refusal_line name (taken_found s name l.wants l.found)))) l.tells;
     }
 
--- The next file, behind others.
+-- The next file, after others.
 pub goes_then : (known : ℕ) (s t u : State) (k l l' : List (List ℕ)) (name : List ℕ) (a b c : Seen) (x y z : Sunk) (w : List (List ℕ)) (i : ℕ) (d : List ℕ) →
     Goes known s t k l a b x y → w ≡ (shown t).wanted → i < length w → get_or w i d ≡ name → list_all (is_met l) (take i w) ≡ true → is_met l name ≡ false →
     l' ≡ l ++ name ∷ [] → LooksUpName known t u name b c y z → Goes known s u k l' a c x z
@@ -133,11 +134,11 @@ found_root s name wants (found.Bytes text) = made_root wants (refusal_of (write 
 found_root s name wants found.Missing = refl
 found_root s name wants found.NoRoom = refl
 
-root_behind : (s : State) (files : List Reading) → (behind_all s files).root ≡ s.root
+root_behind : (s : State) (files : List Reading) → (after_files s files).root ≡ s.root
 root_behind s [] = refl
-root_behind s (r ∷ rs) = root_behind (behind s r) rs ∙ found_root s r.name r.wants r.found
+root_behind s (r ∷ rs) = root_behind (after_file s r) rs ∙ found_root s r.name r.wants r.found
 
--- behind all files that were looked up
+-- after all files that were looked up
 pub goes_root : (known : ℕ) (s t session : State) (met met' : List (List ℕ)) (a b : Seen) (x y : Sunk) (root : List ℕ) (min : ℕ) →
     s ≡ no_texts root min → Goes known s t met met' a b x y → session ≡ t → session.root ≡ root
 goes_root known s t session met met' a b x y root min is goes same =

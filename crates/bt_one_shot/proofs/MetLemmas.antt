@@ -10,7 +10,7 @@ pub any_items : {Z : Type 0} (name : List ℕ) (names : List (Vec ℕ Z)) → li
 any_items {Z} name [] = refl
 any_items {Z} name (n ∷ ns) = ap (λ b. bytes_eq name n.items || b) (any_items name ns)
 
--- A new name goes behind the others.
+-- A new name goes after the others.
 pub put_items : {Z : Type 0} (name : Vec ℕ Z) (names : List (Vec ℕ Z)) → list_any (bytes_eq name.items) (map (λ k. k.items) names) ≡ false →
     map (λ k. k.items) (insert_key (λ k m. bytes_eq k.items m.items) names name) ≡ map (λ k. k.items) names ++ name.items ∷ []
 put_items {Z} name names fresh =

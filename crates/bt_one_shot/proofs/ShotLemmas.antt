@@ -5,13 +5,13 @@ use Rattle.bibtex.specs.declared.state.State.{State}
 use Rattle.bibtex.specs.Present.{no_texts, shown}
 use Rattle.bt_one_shot.specs.Folders.{Contents, Written, Seen, LooksUp, Holds, HoldsBut, Writes, Fails, WritesOne, with_file}
 use Rattle.bt_one_shot.specs.Sinks.{Sunk, Tells}
-use Rattle.bt_one_shot.specs.Loading.{name_of, next, behind_all, refusal_lines, InOrder}
+use Rattle.bt_one_shot.specs.Loading.{name_of, next, after_files, refusal_lines, InOrder}
 use Rattle.bt_one_shot.specs.Shots.{exit_of, bbl_file, blg_file, unwritten_line, printed_log, Ends, Runs, Stops}
-use Rattle.bt_one_shot.specs.Progress.{Goes}
+use Rattle.bt_one_shot.specs.inner.Progress.{Goes}
 use Rattle.bt_one_shot.proofs.TellLemmas.{tells_nothing}
 use Rattle.bt_one_shot.proofs.LoadLemmas.{gains_more, looks_none}
 
--- What is held behind one file after another
+-- What is held after one file after another
 
 held_both : (a b c : Option Contents) (f g : Written) → Holds a b (f ∷ []) → Holds b c (g ∷ []) → Holds a c (f ∷ g ∷ [])
 held_both None b c f g p q = tt
@@ -58,7 +58,7 @@ pub ends_at_bbl : (s : State) (log : List ℕ) (a b : Seen) (out : Sunk) (IsTold
 ends_at_bbl s log a b out IsTold name bytes is fails told =
     inr (inl (record { fails = subst (λ n. Fails a b [] n) is fails; unprinted = refl; tells = subst (λ n. IsTold (unwritten_line n)) is told; is_exit = refl }))
 
--- The log can't be written behind it.
+-- The log can't be written after it.
 pub ends_at_blg : (s : State) (log : List ℕ) (a b c : Seen) (out : Sunk) (IsTold : List ℕ → Type 0) (name bytes other more : List ℕ) →
     name ≡ s.root ++ codes ".bbl" → bytes ≡ (shown s).bbl → other ≡ s.root ++ codes ".blg" →
     WritesOne a b (file_of name bytes) true → WritesOne b c (file_of other more) false → IsTold (unwritten_line other) → Ends s log a c out out IsTold 3
@@ -120,8 +120,8 @@ runs_behind root min known terse s t session met met' a b c out out' err err' er
           (ends err (refusal_lines (no_texts root min) goes.files) few (subst (λ u. Tells err err' (refusal_lines u goes.files)) is (goes.tells err [] few (tells_nothing err)))));
     }
   where
-    is_loaded : t ≡ behind_all (no_texts root min) goes.files
-    is_loaded = goes.is_behind ∙ ap (λ u. behind_all u goes.files) is
+    is_loaded : t ≡ after_files (no_texts root min) goes.files
+    is_loaded = goes.is_behind ∙ ap (λ u. after_files u goes.files) is
 
     are_met : met' ≡ map name_of goes.files
     are_met = goes.are_met ∙ ap (λ m. m ++ map name_of goes.files) none

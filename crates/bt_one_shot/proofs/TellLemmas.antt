@@ -1,9 +1,10 @@
--- What is told on a sink, one text behind another.
+-- What is reported on a sink, one text after another.
 use Rattle.std.proofs.Common.{◌≡◌, ◌⊎◌, inl, inr, true, ℕ, ◌+◌, List, [], ◌++◌, append_assoc, append-nil, ap, sym, ◌∙◌, subst, refl, arith, Option, None, Some, Result, Ok, Err, OnOk, OnErr}
 use Rattle.std.specs.Io.KnownBytes.{Appends}
 use Rattle.bt_serve.specs.Writes.{AppendsPart}
 use Rattle.bt_serve.proofs.WriteLemmas.{appends_more, part_behind}
-use Rattle.bt_one_shot.specs.Sinks.{Sunk, Tells, GoesOn}
+use Rattle.bt_one_shot.specs.Sinks.{Sunk, Tells}
+use Rattle.bt_one_shot.specs.inner.Sinks.{GoesOn}
 
 -- What a sink that wasn't written to again has is a beginning of more, too.
 pub not_again : (first old : Sunk) (text more : List ℕ) → Tells first old text → (old.failures ≡ first.failures → ⊥) → Tells first old (text ++ more)
@@ -11,7 +12,7 @@ not_again first old text more (inl (all, same, kept)) failed = absurd (failed sa
 not_again first old text more (inr ((part, rest, is, has), once)) failed =
     inr ((part, rest ++ more, ap (λ t. t ++ more) is ∙ append_assoc part rest more, has), once)
 
--- A text that was said behind one that was told.
+-- A text that was said after one that was reported.
 pub said : {T E : Type 0} (first old new : Sunk) (text more : List ℕ) (result : Result T E) → Tells first old text → old.failures ≡ first.failures →
     OnOk result (Appends old.contents new.contents more) → OnErr result (AppendsPart old.contents new.contents more) →
     OnOk result (new.failures ≡ old.failures) → OnErr result (new.failures ≡ old.failures + 1) → OnOk result (new.is_flushed ≡ true) → Tells first new (text ++ more)
@@ -24,7 +25,7 @@ appends_nothing : (a : Option (List ℕ)) → Appends a a []
 appends_nothing None = tt
 appends_nothing (Some u) = sym (append-nil u)
 
--- Nothing is told.
+-- Nothing is reported.
 pub tells_nothing : (sink : Sunk) → Tells sink sink []
 tells_nothing sink = inl (appends_nothing sink.contents, refl, λ before. before)
 

@@ -33,7 +33,7 @@ right_true : (a b : Bool) → (a && b) ≡ true → b ≡ true
 right_true true b is = is
 right_true false b is = absurd cc
 
--- what was met is met behind one more name
+-- what was met is met after one more name
 met_stays : (met : List (List ℕ)) (x n : List ℕ) → is_met met n ≡ true → is_met (noted met x) n ≡ true
 met_stays met x n is = go (is_met met x)
   where
@@ -73,7 +73,7 @@ front_new met met' x names i d lt is front fresh is_more =
     let more = front_more met x names i d lt is front in
     rw (add-one, is_more) (rw fresh at more)
 
--- The one at a place is the first new one, where those in front of it were met and it wasn't.
+-- The one at a place is the first new one, where those before it were met and it wasn't.
 pub new_here : (met : List (List ℕ)) (x : List ℕ) (names : List (List ℕ)) (i : ℕ) (d : List ℕ) → i < length names → get_or names i d ≡ x →
     list_all (is_met met) (take i names) ≡ true → is_met met x ≡ false → first_new met names ≡ Some x
 new_here met x [] i d lt is front fresh = absurd (omega arith)

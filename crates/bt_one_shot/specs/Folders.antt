@@ -24,7 +24,7 @@ pub record Seen : Type 0 where
   -- how many writes failed
   pub failures : ℕ
 
--- a list that is told has these elements more
+-- a list that is reported has these elements more
 abbrev pub Gains : {A : Type 0} → Option (List A) → Option (List A) → List A → Type 0
 Gains None new more = Unit {0}
 Gains (Some old) None more = ⊥

@@ -4,4 +4,4 @@ pub mod Folders
 pub mod Sinks
 pub mod Loading
 pub mod Shots
-pub mod Progress
+pub mod inner

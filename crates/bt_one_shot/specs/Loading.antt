@@ -35,14 +35,14 @@ taken_found s name wants found.NoRoom = Err OutOfMemory
 abbrev pub taken : State → Reading → Result State Refusal
 taken s r = taken_found s r.name r.wants r.found
 
--- the state behind a file; one that is refused counts as missing
-abbrev pub behind : State → Reading → State
-behind s r = state_or s (taken s r)
+-- the state after a file; one that is refused counts as missing
+abbrev pub after_file : State → Reading → State
+after_file s r = state_or s (taken s r)
 
--- the state behind files
-abbrev pub behind_all : State → List Reading → State
-behind_all s [] = s
-behind_all s (r ∷ rs) = behind_all (behind s r) rs
+-- the state after files
+abbrev pub after_files : State → List Reading → State
+after_files s [] = s
+after_files s (r ∷ rs) = after_files (after_file s r) rs
 
 -- the line that tells why a file is refused
 abbrev pub refusal_line : List ℕ → Result State Refusal → List ℕ
@@ -53,13 +53,13 @@ refusal_line name (Err refusal) =
 -- the lines that tell which files are refused
 abbrev pub refusal_lines : State → List Reading → List ℕ
 refusal_lines s [] = []
-refusal_lines s (r ∷ rs) = refusal_line r.name (taken s r) ++ refusal_lines (behind s r) rs
+refusal_lines s (r ∷ rs) = refusal_line r.name (taken s r) ++ refusal_lines (after_file s r) rs
 
 -- Each of the files was the next one when it was looked up, and what was found is what the folder holds.
 abbrev pub InOrder : Option Contents → State → List (List ℕ) → List Reading → Type 0
 InOrder held s met [] = Unit {0}
 InOrder held s met (r ∷ rs) =
-    (next s met ≡ Some r.name) × Finds held r.name r.found × InOrder held (behind s r) (met ++ r.name ∷ []) rs
+    (next s met ≡ Some r.name) × Finds held r.name r.found × InOrder held (after_file s r) (met ++ r.name ∷ []) rs
 
 -- the names that were looked up for files
 abbrev pub all_looked_up : List Reading → List (List ℕ)

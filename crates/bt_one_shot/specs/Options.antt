@@ -12,7 +12,7 @@ abbrev pub asked_of : Options → Asked
 asked_of o = record { root = o.root; min = o.min; terse = o.terse; resident = o.resident }
 
 -- The fault that words have: one that the parser finds, help among them; or, where it finds none, a job's name that is
--- no root name. Want of memory may stand in the place of either.
+-- no root name. Out of memory may stand in the place of either.
 abbrev pub IsFaultOf : List (List ℕ) → OptionsFault → Type 0
 IsFaultOf words (Parser fault) = IsAmong (kind_of fault) (faults_of words)
 IsFaultOf words BadJobName = (faults_of words ≡ []) × (is_root_name (asked words).root ≡ false)

@@ -4,7 +4,7 @@ use Rattle.bibtex.specs.declared.state.State.{State}
 use Rattle.bibtex.specs.Present.{no_texts, shown}
 use Rattle.bt_one_shot.specs.Folders.{Written, Seen, LooksUp, Writes, Fails}
 use Rattle.bt_one_shot.specs.Sinks.{Sunk, Tells}
-use Rattle.bt_one_shot.specs.Loading.{Reading, name_of, next, behind_all, refusal_lines, InOrder, all_looked_up}
+use Rattle.bt_one_shot.specs.Loading.{Reading, name_of, next, after_files, refusal_lines, InOrder, all_looked_up}
 
 -- What is looked up
 
@@ -14,13 +14,13 @@ pub record Loads (root : List ℕ) (min : ℕ) (old new : Seen) (files : List Re
   pub in_order : InOrder old.held (no_texts root min) [] files
   pub looked_up : LooksUp old new (all_looked_up files)
 
--- the state behind them
+-- the state after them
 abbrev pub loaded : List ℕ → ℕ → List Reading → State
-loaded root min files = behind_all (no_texts root min) files
+loaded root min files = after_files (no_texts root min) files
 
 -- the lines that tell which of them are refused
-abbrev pub told : List ℕ → ℕ → List Reading → List ℕ
-told root min files = refusal_lines (no_texts root min) files
+abbrev pub refusals_told : List ℕ → ℕ → List Reading → List ℕ
+refusals_told root min files = refusal_lines (no_texts root min) files
 
 -- What is left
 
@@ -41,18 +41,18 @@ abbrev pub printed_log : Bool → State → List ℕ
 printed_log true s = (shown s).terse
 printed_log false s = (shown s).blg
 
--- the line that tells that a file can't be written
+-- the line that reports that a file can't be written
 abbrev pub unwritten_line : List ℕ → List ℕ
 unwritten_line name = codes "bibtex: can't write " ++ (name ++ codes "\n")
 
--- Both files are written, the bibliography first, then this log is printed, and nothing more is told.
+-- Both files are written, the bibliography first, then this log is printed, and nothing more is reported.
 pub record Finishes (s : State) (log : List ℕ) (old new : Seen) (out out' : Sunk) (IsTold : List ℕ → Type 0) (exit : ℕ) : Type 0 where
   pub writes : Writes old new (bbl_file s ∷ blg_file s ∷ [])
   pub prints : Tells out out' log
   pub quiet : IsTold []
   pub is_exit : exit ≡ exit_of (shown s).status
 
--- Files are written, but then this one can't be. That is told, and nothing more is written or printed.
+-- Files are written, but then this one can't be. That is reported, and nothing more is written or printed.
 pub record GivesUp (files : List Written) (name : List ℕ) (old new : Seen) (out out' : Sunk) (IsTold : List ℕ → Type 0) (exit : ℕ) : Type 0 where
   pub fails : Fails old new files name
   pub unprinted : out' ≡ out
@@ -66,17 +66,17 @@ Ends s log old new out out' IsTold exit =
     ⊎ GivesUp [] (bbl_file s).name old new out out' IsTold exit
     ⊎ GivesUp (bbl_file s ∷ []) (blg_file s).name old new out out' IsTold exit
 
--- A job is run: its files are looked up until it wants no new one, and the run ends with the state behind them.
+-- A job is run: its files are looked up until it wants no new one, and the run ends with the state after them.
 pub record Runs (root : List ℕ) (min : ℕ) (terse : Bool) (old new : Seen) (out out' err err' : Sunk) (exit : ℕ) : Type 0 where
   pub files : List Reading
   pub between : Seen
   pub loads : Loads root min old between files
   pub are_all : next (loaded root min files) (map name_of files) ≡ None
-  pub ends : Ends (loaded root min files) (printed_log terse (loaded root min files)) between new out out' (λ text. Tells err err' (told root min files ++ text)) exit
+  pub ends : Ends (loaded root min files) (printed_log terse (loaded root min files)) between new out out' (λ text. Tells err err' (refusals_told root min files ++ text)) exit
 
 -- There is no room to go on. Some of its files were looked up, and nothing is written or printed.
 pub record Stops (root : List ℕ) (min : ℕ) (old new : Seen) (out out' err err' : Sunk) : Type 0 where
   pub files : List Reading
   pub loads : Loads root min old new files
   pub unprinted : out' ≡ out
-  pub tells : Tells err err' (told root min files)
+  pub tells : Tells err err' (refusals_told root min files)

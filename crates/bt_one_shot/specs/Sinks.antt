@@ -1,5 +1,5 @@
--- What is told on a sink.
-use Rattle.std.specs.Prelude.{◌≡◌, ◌⊎◌, ◌+◌, ℕ, Bool, true, List, ◌++◌, Option}
+-- What is reported on a sink.
+use Rattle.std.specs.Prelude.{◌≡◌, ◌⊎◌, ◌+◌, ℕ, Bool, true, List, Option}
 use Rattle.std.specs.Io.KnownBytes.{Appends}
 use Rattle.bt_serve.specs.Writes.{AppendsPart}
 
@@ -19,7 +19,3 @@ abbrev pub Tells : Sunk → Sunk → List ℕ → Type 0
 Tells old new text =
     (Appends old.contents new.contents text × (new.failures ≡ old.failures) × (old.is_flushed ≡ true → new.is_flushed ≡ true))
     ⊎ (AppendsPart old.contents new.contents text × (new.failures ≡ old.failures + 1))
-
--- Behind any text that was told so since the sink had failed so often, this one is.
-abbrev pub GoesOn : ℕ → Sunk → Sunk → List ℕ → Type 0
-GoesOn known old new more = (first : Sunk) (text : List ℕ) → first.failures ≡ known → Tells first old text → Tells first new (text ++ more)

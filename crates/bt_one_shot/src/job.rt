@@ -97,10 +97,10 @@ fn write_out<F: Folder, O: Sink, E: Sink>(
 /// Runs a job once: looks up each file that it wants, once each and in the order in which its run looks for them, then
 /// writes its `.bbl` and its `.blg`, and writes the log to `out`. It answers the exit status.
 ///
-/// A file that is refused is told on `err`, and counts as missing. A file that can't be written is told on `err`, the
-/// exit status is 3, and nothing is written after it. After its first failure neither `out` nor `err` is written to
-/// again. The one error is want of memory; then nothing was written to the folder. The memory of a job that was run is
-/// left to the end of the program.
+/// A file that is refused is reported on `err`, and counts as missing. A file that can't be written is reported on
+/// `err`, the exit status is 3, and nothing is written after it. After its first failure neither `out` nor `err` is
+/// written to again. The one error is out of memory; then nothing was written to the folder. The memory of a job that
+/// was run is left to the end of the program.
 pub fn one_shot<F: Folder, O: Sink, E: Sink>(
     alloc: Global,
     options: &Options,

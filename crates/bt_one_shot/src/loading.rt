@@ -2,9 +2,10 @@
 
 ghost use Rattle.std.specs.Prelude.{◌≡◌, ◌^◌, ◌-◌, ◌<◌, Bool, true, false, length, None, OnOk, Ok, Err};
 ghost use Rattle.std.specs.List.{flat_map};
-ghost use Rattle.bt_one_shot.specs.Sinks.{sunk, GoesOn};
+ghost use Rattle.bt_one_shot.specs.Sinks.{sunk};
+ghost use Rattle.bt_one_shot.specs.inner.Sinks.{GoesOn};
 ghost use Rattle.bt_one_shot.specs.Loading.{next, refusal_line};
-ghost use Rattle.bt_one_shot.specs.Progress.{TakesIn, LooksUpName, Goes};
+ghost use Rattle.bt_one_shot.specs.inner.Progress.{TakesIn, LooksUpName, Goes};
 
 use crate::folder::{Folder, Found};
 use crate::met::Met;
@@ -26,7 +27,7 @@ pub fn tell<E: Sink>(err: &mut E, known: u64, pieces: &[&[u8]])
     }
 }
 
-/// Tells that a file was refused.
+/// Reports that a file was refused.
 fn tell_refused<E: Sink>(err: &mut E, known: u64, refusal: Refusal, name: &[u8])
     requires { known < 2 ^ 64 - 1 }
     ensures { GoesOn known (sunk (E.contents err.old) (E.failure_count err.old) (E.is_flushed err.old))
@@ -77,7 +78,7 @@ fn look_up<F: Folder, E: Sink>(
 }
 
 /// Looks up those names that a draft wants and that are new, in their order, until one changes it, and says whether one
-/// has. The one error is out of memory.
+/// has.
 #[tactic(auto, using(crate::proofs::LoadLemmas::goes_none))]
 fn look_up_wanted<F: Folder, E: Sink>(
     alloc: Global,
@@ -108,7 +109,7 @@ fn look_up_wanted<F: Folder, E: Sink>(
 }
 
 /// Looks up each file that a draft wants, once each and in the order in which its run looks for them, until it wants no
-/// new one. A file that is refused is told on `err`, and counts as missing. The one error is out of memory.
+/// new one. A file that is refused is reported on `err`, and counts as missing. The one error is out of memory.
 #[tactic(auto, using(crate::proofs::LoadLemmas::goes_none, crate::proofs::LoadLemmas::goes_more))]
 pub fn load_all<F: Folder, E: Sink>(
     alloc: Global,

@@ -39,7 +39,7 @@ impl Met {
         self.names.len() > 0 && self.names.contains(name)
     }
 
-    /// Puts a new name behind the others. The one error is out of memory.
+    /// Puts a new name after the others. The one error is out of memory.
     pub fn put(&mut self, alloc: Global, name: &[u8]) -> Result<(), AllocError>
         requires { list_any (bytes_eq name.now) self.old ≡ false }
         ensures ok { OnOk result (self.new ≡ self.old ++ name.now ∷ []) }

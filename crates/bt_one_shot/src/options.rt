@@ -93,9 +93,9 @@ fn is_set(matches: &ArgMatches<'_>, name: &str) -> bool
     }
 }
 
-/// What these words ask for, of which the first is the program's name. A last `.aux` of the job's name is left out. Words
-/// that the parser doesn't take, and `--help`, are `Parser`; a name that isn't a root's is `BadJobName`; want of memory
-/// may stand in the place of either.
+/// What these words ask for, of which the first is the program's name. A last `.aux` of the job's name is left out.
+/// Words that the parser doesn't take, and `--help`, are `Parser`; a name that isn't a root's is `BadJobName`; out of
+/// memory may stand in the place of either.
 pub fn parse_options(alloc: Global, words: &[String]) -> Result<Options, OptionsFault>
     ensures taken { IfOk result (λ _. faults_of (map string_bytes words.now) ≡ []) }
     ensures asked { IfOk result (λ options. asked_of options ≡ asked (map string_bytes words.now)) }

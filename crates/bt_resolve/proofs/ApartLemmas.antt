@@ -13,7 +13,7 @@ use Rattle.bt_resolve.specs.declared.stored.Stored.{Stored}
 use Rattle.bt_text.specs.NameList.{has_name, are_apart}
 use Rattle.bt_resolve.specs.Names.{place_of_name}
 use Rattle.bt_resolve.specs.Listed.{place_of_key, parents, is_cited, is_cited_at, is_among, firsts, cited_places, uncited_parents, others_than, listed_by, listed}
-use Rattle.bt_resolve.specs.Inherited.{spelled, entry_seen, entry_at, entries_seen, is_left_out, values_behind}
+use Rattle.bt_resolve.specs.Inherited.{key_spelled, entry_seen, entry_at, entries_seen, is_left_out, values_behind}
 use Rattle.bt_resolve.specs.Laws.{KeysApart, EntriesApart}
 use Rattle.bt_resolve.specs.Resolved.{resolved, stored_entries, asked}
 use Rattle.bt_resolve.proofs.FieldLemmas.{same_at, same_back, has_alike, some_zero, some_suc, before_suc, value_or, or_false, and_true}
@@ -48,14 +48,14 @@ spelled_step true o k key ks f h = f refl
 spelled_step false None k key ks f h = h
 spelled_step false (Some i) k key ks f h = h
 
-spelled_same : (ks : List (List ℕ)) (key : List ℕ) → is_same_folded (spelled ks key) key ≡ true
+spelled_same : (ks : List (List ℕ)) (key : List ℕ) → is_same_folded (key_spelled ks key) key ≡ true
 spelled_same [] key = same_self key
 spelled_same (k ∷ ks) key = spelled_step (is_same_folded k key) (place_of_name ks key) k key ks (λ e. e) (spelled_same ks key)
 
-spelled_apart : (ks : List (List ℕ)) (k m : List ℕ) → is_same_folded k m ≡ false → is_same_folded (spelled ks k) (spelled ks m) ≡ false
+spelled_apart : (ks : List (List ℕ)) (k m : List ℕ) → is_same_folded k m ≡ false → is_same_folded (key_spelled ks k) (key_spelled ks m) ≡ false
 spelled_apart ks k m h =
-    same_at (spelled ks k) k (spelled ks m) (spelled_same ks k)
-    ∙ same_back k (spelled ks m) ∙ same_at (spelled ks m) m k (spelled_same ks m) ∙ same_back m k ∙ h
+    same_at (key_spelled ks k) k (key_spelled ks m) (spelled_same ks k)
+    ∙ same_back k (key_spelled ks m) ∙ same_at (key_spelled ks m) m k (spelled_same ks m) ∙ same_back m k ∙ h
 
 -- ---- lists of places
 
@@ -257,7 +257,7 @@ abbrev Keys : Type 0
 Keys = List (List ℕ)
 
 abbrev key_of : Keys → Option Stored → Option (List ℕ)
-key_of keys o = option_map (λ (s : Stored). spelled keys s.key) o
+key_of keys o = option_map (λ (s : Stored). key_spelled keys s.key) o
 
 abbrev keys_at : Keys → List Stored → List ℕ → Keys
 keys_at keys ss ps = filter_map (λ p. key_of keys (slice_get ss p)) ps
@@ -272,12 +272,12 @@ keys_of a min ss values (p ∷ ps) =
     key_cons a min ss (values p) (slice_get ss p) (filter_map (entry_at a min ss values) ps)
     ∙ ap (λ (ks : Keys). cons_option (key_of a.keys (slice_get ss p)) ks) (keys_of a min ss values ps)
 
-none_alike_by : (keys : Keys) (ss : List Stored) → KeysApart ss → (p q : ℕ) (s : Stored) (o : Option Stored) (rest : Keys) → slice_get ss p ≡ Some s → slice_get ss q ≡ o → q ≢ p → has_name rest (spelled keys s.key) ≡ false → has_name (cons_option (key_of keys o) rest) (spelled keys s.key) ≡ false
+none_alike_by : (keys : Keys) (ss : List Stored) → KeysApart ss → (p q : ℕ) (s : Stored) (o : Option Stored) (rest : Keys) → slice_get ss p ≡ Some s → slice_get ss q ≡ o → q ≢ p → has_name rest (key_spelled keys s.key) ≡ false → has_name (cons_option (key_of keys o) rest) (key_spelled keys s.key) ≡ false
 none_alike_by keys ss apart p q s None rest sp sq ne h = h
 none_alike_by keys ss apart p q s (Some t) rest sp sq ne h =
-    or_both (is_same_folded (spelled keys t.key) (spelled keys s.key)) (has_name rest (spelled keys s.key)) (spelled_apart keys t.key s.key (pair_apart ss apart q p ne t s sq sp)) h
+    or_both (is_same_folded (key_spelled keys t.key) (key_spelled keys s.key)) (has_name rest (key_spelled keys s.key)) (spelled_apart keys t.key s.key (pair_apart ss apart q p ne t s sq sp)) h
 
-none_alike : (keys : Keys) (ss : List Stored) → KeysApart ss → (p : ℕ) (s : Stored) → slice_get ss p ≡ Some s → (ps : List ℕ) → is_among ps p ≡ false → has_name (keys_at keys ss ps) (spelled keys s.key) ≡ false
+none_alike : (keys : Keys) (ss : List Stored) → KeysApart ss → (p : ℕ) (s : Stored) → slice_get ss p ≡ Some s → (ps : List ℕ) → is_among ps p ≡ false → has_name (keys_at keys ss ps) (key_spelled keys s.key) ≡ false
 none_alike keys ss apart p s sp [] h = refl
 none_alike keys ss apart p s sp (q ∷ qs) h =
     let both = or_false (q == p) (is_among qs p) h in
@@ -285,7 +285,7 @@ none_alike keys ss apart p s sp (q ∷ qs) h =
 
 apart_by : (keys : Keys) (ss : List Stored) → KeysApart ss → (p : ℕ) (o : Option Stored) (ps : List ℕ) → slice_get ss p ≡ o → is_among ps p ≡ false → are_apart (keys_at keys ss ps) ≡ true → are_apart (cons_option (key_of keys o) (keys_at keys ss ps)) ≡ true
 apart_by keys ss apart p None ps sp new h = h
-apart_by keys ss apart p (Some s) ps sp new h = not_and (has_name (keys_at keys ss ps) (spelled keys s.key)) (are_apart (keys_at keys ss ps)) (none_alike keys ss apart p s sp ps new) h
+apart_by keys ss apart p (Some s) ps sp new h = not_and (has_name (keys_at keys ss ps) (key_spelled keys s.key)) (are_apart (keys_at keys ss ps)) (none_alike keys ss apart p s sp ps new) h
 
 keys_apart : (keys : Keys) (ss : List Stored) → KeysApart ss → (ps : List ℕ) → Distinct ps → are_apart (keys_at keys ss ps) ≡ true
 keys_apart keys ss apart [] h = refl

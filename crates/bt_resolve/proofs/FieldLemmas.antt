@@ -16,8 +16,8 @@ use Rattle.bt_text.specs.NameList.{has_name, are_apart}
 use Rattle.bt_resolve.specs.Names.{crossref, place_of_name}
 use Rattle.bt_resolve.specs.Values.{MacroTexts, field_value, value_warnings}
 use Rattle.bt_resolve.specs.Warnings.{line_of}
-use Rattle.bt_resolve.specs.Fields.{given, own_value, is_declared, has_field, field_messages, declared_messages, fields_messages}
-use Rattle.bt_resolve.specs.Slots.{slot_of, given_by, is_filled, is_filled_at, fill, with_field, extra_messages, slot_messages}
+use Rattle.bt_resolve.specs.Fields.{given_value, own_value, is_declared, has_field, field_messages, declared_messages, fields_messages}
+use Rattle.bt_resolve.specs.inner.Slots.{slot_of, given_by, is_filled, is_filled_at, fill, with_field, extra_messages, slot_messages}
 
 -- names that match are found alike
 pub same_at : (n m other : List ℕ) → is_same_folded n m ≡ true → is_same_folded n other ≡ is_same_folded m other
@@ -29,8 +29,8 @@ same_back n m = nat_list_eq_equiv.symm (folded n) (folded m)
 pub same_in : (n m other : List ℕ) → is_same_folded n m ≡ true → is_same_folded other n ≡ is_same_folded other m
 same_in n m other same = same_back other n ∙ same_at n m other same ∙ same_back m other
 
-given_alike : (macros : MacroTexts) (fields : List Field) (n m : List ℕ) → is_same_folded n m ≡ true → given macros fields n ≡ given macros fields m
-unfolding given
+given_alike : (macros : MacroTexts) (fields : List Field) (n m : List ℕ) → is_same_folded n m ≡ true → given_value macros fields n ≡ given_value macros fields m
+unfolding given_value
 given_alike macros fields n m same =
     let tests : (λ (f : Field). is_same_folded f.name n) ≡ (λ (f : Field). is_same_folded f.name m) = fun_ext (λ (f : Field). same_in n m f.name same) in
     ap (λ (test : Field → Bool). option_map (λ (f : Field). field_value macros f.value) (find test fields)) tests
@@ -40,8 +40,8 @@ found_is : (b : Bool) (macros : MacroTexts) (f : Field) (o : Option Field) (c : 
 found_is true macros f o c h = refl
 found_is false macros f o c h = h
 
-given_is : (macros : MacroTexts) (fields : List Field) (name : List ℕ) → is_some (given macros fields name) ≡ has_field fields name
-unfolding given
+given_is : (macros : MacroTexts) (fields : List Field) (name : List ℕ) → is_some (given_value macros fields name) ≡ has_field fields name
+unfolding given_value
 given_is macros [] name = refl
 given_is macros (f ∷ fs) name = found_is (is_same_folded f.name name) macros f (find (λ (g : Field). is_same_folded g.name name) fs) (has_field fs name) (given_is macros fs name)
 
@@ -63,8 +63,8 @@ found_first : (b : Bool) (macros : MacroTexts) (g : Field) (later before : Optio
 found_first true macros g later before u h = refl
 found_first false macros g later before u h = h
 
-pub given_more : (macros : MacroTexts) (before : List Field) (f : Field) (name : List ℕ) → given macros (before ++ f ∷ []) name ≡ or_then (given macros before name) (only_at (is_same_folded f.name name) (field_value macros f.value))
-unfolding given
+pub given_more : (macros : MacroTexts) (before : List Field) (f : Field) (name : List ℕ) → given_value macros (before ++ f ∷ []) name ≡ or_then (given_value macros before name) (only_at (is_same_folded f.name name) (field_value macros f.value))
+unfolding given_value
 given_more macros [] f name = last_found (is_same_folded f.name name) macros f
 given_more macros (g ∷ gs) f name = found_first (is_same_folded g.name name) macros g (find (λ (h : Field). is_same_folded h.name name) (gs ++ f ∷ [])) (find (λ (h : Field). is_same_folded h.name name) gs) (only_at (is_same_folded f.name name) (field_value macros f.value)) (given_more macros gs f name)
 
@@ -73,8 +73,8 @@ or_nothing None = refl
 or_nothing (Some t) = refl
 
 -- a field of another name changes nothing
-given_other : (macros : MacroTexts) (before : List Field) (f : Field) (name : List ℕ) → is_same_folded f.name name ≡ false → given macros (before ++ f ∷ []) name ≡ given macros before name
-given_other macros before f name other = given_more macros before f name ∙ ap (λ (b : Bool). or_then (given macros before name) (only_at b (field_value macros f.value))) other ∙ or_nothing (given macros before name)
+given_other : (macros : MacroTexts) (before : List Field) (f : Field) (name : List ℕ) → is_same_folded f.name name ≡ false → given_value macros (before ++ f ∷ []) name ≡ given_value macros before name
+given_other macros before f name other = given_more macros before f name ∙ ap (λ (b : Bool). or_then (given_value macros before name) (only_at b (field_value macros f.value))) other ∙ or_nothing (given_value macros before name)
 
 or_there : (o u : Option (List ℕ)) → is_some o ≡ true → or_then o u ≡ o
 or_there None u h = let wrong : false ≡ true = h in cc
@@ -85,13 +85,13 @@ or_missing None u h = refl
 or_missing (Some t) u h = let wrong : true ≡ false = h in cc
 
 -- nor does a second field of the name
-given_again : (macros : MacroTexts) (before : List Field) (f : Field) (name : List ℕ) → is_some (given macros before name) ≡ true → given macros (before ++ f ∷ []) name ≡ given macros before name
-given_again macros before f name there = given_more macros before f name ∙ or_there (given macros before name) (only_at (is_same_folded f.name name) (field_value macros f.value)) there
+given_again : (macros : MacroTexts) (before : List Field) (f : Field) (name : List ℕ) → is_some (given_value macros before name) ≡ true → given_value macros (before ++ f ∷ []) name ≡ given_value macros before name
+given_again macros before f name there = given_more macros before f name ∙ or_there (given_value macros before name) (only_at (is_same_folded f.name name) (field_value macros f.value)) there
 
-given_now : (macros : MacroTexts) (before : List Field) (f : Field) (name : List ℕ) → is_some (given macros before name) ≡ false → is_same_folded f.name name ≡ true → given macros (before ++ f ∷ []) name ≡ Some (field_value macros f.value)
+given_now : (macros : MacroTexts) (before : List Field) (f : Field) (name : List ℕ) → is_some (given_value macros before name) ≡ false → is_same_folded f.name name ≡ true → given_value macros (before ++ f ∷ []) name ≡ Some (field_value macros f.value)
 given_now macros before f name missing same =
     given_more macros before f name
-    ∙ or_missing (given macros before name) (only_at (is_same_folded f.name name) (field_value macros f.value)) missing
+    ∙ or_missing (given_value macros before name) (only_at (is_same_folded f.name name) (field_value macros f.value)) missing
     ∙ ap (λ (b : Bool). only_at b (field_value macros f.value)) same
 
 -- ---- lists of values by names
@@ -191,8 +191,8 @@ unless true v w h = refl
 unless false v w h = h refl
 
 -- what a name has stays, where the field has another name or isn't the first of it
-own_stays : (macros : MacroTexts) (before : List Field) (f : Field) (n : List ℕ) → (is_same_folded n crossref ≡ false → given macros (before ++ f ∷ []) n ≡ given macros before n) → own_value macros (before ++ f ∷ []) n ≡ own_value macros before n
-own_stays macros before f n h = unless (is_same_folded n crossref) (given macros (before ++ f ∷ []) n) (given macros before n) h
+own_stays : (macros : MacroTexts) (before : List Field) (f : Field) (n : List ℕ) → (is_same_folded n crossref ≡ false → given_value macros (before ++ f ∷ []) n ≡ given_value macros before n) → own_value macros (before ++ f ∷ []) n ≡ own_value macros before n
+own_stays macros before f n h = unless (is_same_folded n crossref) (given_value macros (before ++ f ∷ []) n) (given_value macros before n) h
 
 not_crossref : (b : Bool) (v : Option (List ℕ)) → b ≡ false → (if b then None else v) ≡ v
 not_crossref true v h = let wrong : true ≡ false = h in cc
@@ -200,7 +200,7 @@ not_crossref false v h = refl
 
 own_alike : (macros : MacroTexts) (before : List Field) (n m : List ℕ) → is_same_folded n m ≡ true → own_value macros before n ≡ own_value macros before m
 own_alike macros before n m same =
-    ap (λ (b : Bool). if b then None else given macros before n) (same_at n m crossref same)
+    ap (λ (b : Bool). if b then None else given_value macros before n) (same_at n m crossref same)
     ∙ ap (λ (v : Option (List ℕ)). if is_same_folded m crossref then None else v) (given_alike macros before n m same)
 
 made : (vs ws : Values) (c d : Option (List ℕ)) → vs ≡ ws → c ≡ d → let g : Given = record { values = vs; crossref = c } in let h : Given = record { values = ws; crossref = d } in g ≡ h
@@ -223,24 +223,24 @@ step_crossref ns macros before f same =
     let own' = own_value macros (before ++ f ∷ []) in
     let stays : own' ≡ own = fun_ext (λ n. own_stays macros before f n (λ apart. given_other macros before f n (same_at f.name crossref n same ∙ same_back crossref n ∙ apart))) in
     let values : map own' ns ≡ map own ns = ap (λ (g : List ℕ → Option (List ℕ)). map g ns) stays in
-    by_filled (is_some (given macros before crossref)) (given_by ns macros before) (fill Crossref (field_value macros f.value) (given_by ns macros before)) (given_by ns macros (before ++ f ∷ []))
-    (λ there. made (map own' ns) (map own ns) (given macros (before ++ f ∷ []) crossref) (given macros before crossref) values (given_again macros before f crossref there))
-    (λ missing. made (map own' ns) (map own ns) (given macros (before ++ f ∷ []) crossref) (Some (field_value macros f.value)) values (given_now macros before f crossref missing same))
+    by_filled (is_some (given_value macros before crossref)) (given_by ns macros before) (fill Crossref (field_value macros f.value) (given_by ns macros before)) (given_by ns macros (before ++ f ∷ []))
+    (λ there. made (map own' ns) (map own ns) (given_value macros (before ++ f ∷ []) crossref) (given_value macros before crossref) values (given_again macros before f crossref there))
+    (λ missing. made (map own' ns) (map own ns) (given_value macros (before ++ f ∷ []) crossref) (Some (field_value macros f.value)) values (given_now macros before f crossref missing same))
 
 step_none : (ns : List (List ℕ)) (macros : MacroTexts) (before : List Field) (f : Field) → is_same_folded f.name crossref ≡ false → place_of_name ns f.name ≡ None → Step ns macros before f None
 step_none ns macros before f apart none =
     let own = own_value macros before in
     let own' = own_value macros (before ++ f ∷ []) in
-    made (map own' ns) (map own ns) (given macros (before ++ f ∷ []) crossref) (given macros before crossref)
+    made (map own' ns) (map own ns) (given_value macros (before ++ f ∷ []) crossref) (given_value macros before crossref)
     (map_off own own' f.name (λ n other. own_stays macros before f n (λ _. given_other macros before f n (same_back f.name n ∙ other))) ns (no_place ns f.name none))
     (given_other macros before f crossref apart)
 
 -- the slot of a name is filled where a field of the name stands before
 filled_is : (ns : List (List ℕ)) (macros : MacroTexts) (before : List Field) (name : List ℕ) (p : ℕ) → is_same_folded name crossref ≡ false → place_of_name ns name ≡ Some p →
-    is_filled_at (slice_get (map (own_value macros before) ns) p) ≡ is_some (given macros before name)
+    is_filled_at (slice_get (map (own_value macros before) ns) p) ≡ is_some (given_value macros before name)
 filled_is ns macros before name p apart at =
     ap is_filled_at (map_get (own_value macros before) name (λ n same. own_alike macros before n name same) ns p at)
-    ∙ ap (λ (v : Option (List ℕ)). is_some v) (not_crossref (is_same_folded name crossref) (given macros before name) apart)
+    ∙ ap (λ (v : Option (List ℕ)). is_some v) (not_crossref (is_same_folded name crossref) (given_value macros before name) apart)
 
 step_value : (ns : List (List ℕ)) (macros : MacroTexts) (before : List Field) (f : Field) (p : ℕ) → IsTrue (are_apart ns) → is_same_folded f.name crossref ≡ false → place_of_name ns f.name ≡ Some p → Step ns macros before f (Some (Value p))
 step_value ns macros before f p all_apart apart at =
@@ -256,12 +256,12 @@ step_value ns macros before f p all_apart apart at =
       | inl same ↦ own_stays macros before f n (λ _. given_again macros before f n (ap (λ (w : Option (List ℕ)). is_some w) (given_alike macros before n f.name same) ∙ sym filled ∙ there))
       | inr off ↦ other n off
     ]) in
-    made (map own' ns) (map own ns) (given macros (before ++ f ∷ []) crossref) (given macros before crossref) (ap (λ (g : List ℕ → Option (List ℕ)). map g ns) stays) same_crossref)
+    made (map own' ns) (map own ns) (given_value macros (before ++ f ∷ []) crossref) (given_value macros before crossref) (ap (λ (g : List ℕ → Option (List ℕ)). map g ns) stays) same_crossref)
     (λ missing.
-    made (map own' ns) (slice_set (map own ns) p (Some v)) (given macros (before ++ f ∷ []) crossref) (given macros before crossref)
+    made (map own' ns) (slice_set (map own ns) p (Some v)) (given_value macros (before ++ f ∷ []) crossref) (given_value macros before crossref)
     (map_at own own' f.name (Some v) other
     (λ n same.
-    not_crossref (is_same_folded n crossref) (given macros (before ++ f ∷ []) n) (same_at n f.name crossref same ∙ apart)
+    not_crossref (is_same_folded n crossref) (given_value macros (before ++ f ∷ []) n) (same_at n f.name crossref same ∙ apart)
     ∙ given_now macros before f n (ap (λ (w : Option (List ℕ)). is_some w) (given_alike macros before n f.name same) ∙ sym filled ∙ missing) (same_back f.name n ∙ same))
     ns all_apart p at)
     same_crossref)
@@ -324,7 +324,7 @@ told_next ns macros database key m fields i f g less is so_far =
 
 -- before the first field
 pub nothing_given : (ns : List (List ℕ)) (macros : MacroTexts) (values : Values) → values ≡ map no_value ns → let g : Given = record { values = values; crossref = None } in g ≡ given_by ns macros []
-unfolding given
+unfolding given_value
 nothing_given ns macros values none =
-    let same : no_value ≡ own_value macros [] = fun_ext (λ n. sym (unless (is_same_folded n crossref) (given macros [] n) None (λ _. refl) ∙ unless_none (is_same_folded n crossref))) in
+    let same : no_value ≡ own_value macros [] = fun_ext (λ n. sym (unless (is_same_folded n crossref) (given_value macros [] n) None (λ _. refl) ∙ unless_none (is_same_folded n crossref))) in
     made values (map (own_value macros []) ns) None None (none ∙ ap (λ (g : List ℕ → Option (List ℕ)). map g ns) same) refl

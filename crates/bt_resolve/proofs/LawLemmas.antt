@@ -10,7 +10,7 @@ use Rattle.bt_bib.specs.declared.item.Entry.{Entry}
 use Rattle.bt_resolve.specs.declared.asked.Asked.{Asked}
 use Rattle.bt_resolve.specs.declared.declared.Macro.{Macro}
 use Rattle.bt_resolve.specs.declared.stored.Stored.{Stored}
-use Rattle.bt_text.specs.ByName.{place_of}
+use Rattle.bt_text.specs.ByName.{first_place}
 use Rattle.bt_resolve.specs.Macros.{macro_before}
 use Rattle.bt_resolve.specs.Values.{MacroTexts}
 use Rattle.bt_resolve.specs.Stored.{stored_of, is_wanted, is_stored, with_entry, with_item, stored_among}
@@ -38,9 +38,9 @@ place_step n true o h = omega arith
 place_step n false None h = tt
 place_step n false (Some p) h = omega (arith, h)
 
-place_below : {X : Type 0} (test : X → Bool) (xs : List X) → SomeBelow (length xs) (place_of test xs)
+place_below : {X : Type 0} (test : X → Bool) (xs : List X) → SomeBelow (length xs) (first_place test xs)
 place_below test [] = tt
-place_below test (x ∷ xs) = place_step (length xs) (test x) (place_of test xs) (place_below test xs)
+place_below test (x ∷ xs) = place_step (length xs) (test x) (first_place test xs) (place_below test xs)
 
 below_cons : (n : ℕ) (o : Option ℕ) (ps : List ℕ) → SomeBelow n o → Below n ps → Below n (cons_option o ps)
 below_cons n None ps h hs = hs

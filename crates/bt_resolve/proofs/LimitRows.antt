@@ -19,7 +19,7 @@ over_the_limit : value (letters 32769) (Macro (codes "m") 1 ∷ Macro (codes "m"
 unfolding value
 over_the_limit = refl
 
--- and it is told at the line of its name, in small letters
+-- and it is reported at the line of its name, in small letters
 told_over_the_limit :
     value_warnings None (letters 32769) (line_of 1 3) (codes "Title") (Macro (codes "m") 4 ∷ Macro (codes "m") 4 ∷ [])
     ≡ warning 1 3 (codes "Warning--the value of \"title\" is over 65536 bytes") ∷ []

@@ -6,13 +6,14 @@ use Rattle.std.proofs.lemmas.List.{drop_more}
 use Rattle.bt_text.specs.Folding.{is_same_folded}
 use Rattle.bt_text.specs.ByName.{with_value, no_value}
 use Rattle.bt_text.specs.NameList.{has_name, are_apart, same_name}
-use Rattle.bt_resolve.specs.Inherited.{spelled}
-use Rattle.bt_resolve.specs.Names.{place_of_name, from_place, places_from}
+use Rattle.bt_resolve.specs.Inherited.{key_spelled}
+use Rattle.bt_resolve.specs.Names.{place_of_name}
+use Rattle.bt_resolve.specs.inner.Names.{from_place, places_from}
 
 abbrev Place : Type 0
 Place = Option ℕ
 
--- behind the last name no place is found
+-- after the last name no place is found
 pub none_behind : (names : List (List ℕ)) (n : ℕ) → drop n names ≡ [] → no_value ≡ places_from names n
 none_behind names n empty = fun_ext (λ name. ap (λ (ns : List (List ℕ)). from_place n (place_of_name ns name)) (sym empty))
 
@@ -21,7 +22,7 @@ place_step true i o = let n : i ≡ i + 0 = omega arith in ap (λ (k : ℕ). Som
 place_step false i None = refl
 place_step false i (Some k) = let n : (i + 1) + k ≡ i + suc k = omega arith in ap (λ (j : ℕ). Some j) n
 
--- one name more, in front of those whose places are known
+-- one name more, before those whose places are known
 pub place_more : (t : List ℕ → Place) (names : List (List ℕ)) (place next now : ℕ) (x : List ℕ) → next ≡ place + 1 → now ≡ place → place < length names → x ≡ get_or names place x →
     t ≡ places_from names next → with_value x place t ≡ places_from names now
 place_more t names place next now x next_is now_is less is known = fun_ext (λ name.
@@ -66,11 +67,11 @@ tail_not_apart names zero h = h
 tail_not_apart [] (suc k) h = h
 tail_not_apart (n ∷ ns) (suc k) h = and_false (not (has_name ns n)) (are_apart ns) (tail_not_apart ns k h)
 
--- a name that stands again behind itself
+-- a name that stands again after itself
 pub not_apart : (names : List (List ℕ)) (k : ℕ) (x : List ℕ) → k < length names → x ≡ get_or names k x → has_name (drop (k + 1) names) x ≡ true → are_apart names ≡ false
 not_apart names k x less is again = tail_not_apart names k (ap (λ (ns : List (List ℕ)). are_apart ns) (drop_more names k x less ∙ ap (λ (y : List ℕ). y ∷ drop (k + 1) names) (sym is)) ∙ not_there (has_name (drop (k + 1) names) x) (are_apart (drop (k + 1) names)) again)
 
--- one name more, which isn't behind itself
+-- one name more, which isn't after itself
 pub apart_more : (names : List (List ℕ)) (k : ℕ) (x : List ℕ) → k < length names → x ≡ get_or names k x → has_name (drop (k + 1) names) x ≡ false → are_apart (drop (k + 1) names) ≡ true → are_apart (drop k names) ≡ true
 apart_more names k x less is new apart =
     ap (λ (ns : List (List ℕ)). are_apart ns) (drop_more names k x less ∙ ap (λ (y : List ℕ). y ∷ drop (k + 1) names) (sym is))
@@ -96,11 +97,11 @@ same_at_place [] name = refl
 same_at_place (n ∷ ns) name = found_step ns n (is_same_folded n name) (place_of_name ns name) (same_name name ns) (same_at_place ns name)
 
 -- a key as it is cited, else as in the database
-spelled_by : (keys : List (List ℕ)) (key asked : List ℕ) (found : Option (List ℕ)) → asked ≡ key → found ≡ same_name asked keys → unwrap_or found key ≡ spelled keys key
+spelled_by : (keys : List (List ℕ)) (key asked : List ℕ) (found : Option (List ℕ)) → asked ≡ key → found ≡ same_name asked keys → unwrap_or found key ≡ key_spelled keys key
 spelled_by keys key asked found same is = ap (λ (o : Option (List ℕ)). unwrap_or o key) (is ∙ ap (λ (k : List ℕ). same_name k keys) same ∙ same_at_place keys key)
 
-pub spelled_uncited : (keys : List (List ℕ)) (key asked text : List ℕ) (found : Option (List ℕ)) → asked ≡ key → found ≡ same_name asked keys → found ≡ None → text ≡ key → text ≡ spelled keys key
+pub spelled_uncited : (keys : List (List ℕ)) (key asked text : List ℕ) (found : Option (List ℕ)) → asked ≡ key → found ≡ same_name asked keys → found ≡ None → text ≡ key → text ≡ key_spelled keys key
 spelled_uncited keys key asked text found same is none here = here ∙ sym (ap (λ (o : Option (List ℕ)). unwrap_or o key) none) ∙ spelled_by keys key asked found same is
 
-pub spelled_cited : (keys : List (List ℕ)) (key asked text cited : List ℕ) (found : Option (List ℕ)) → asked ≡ key → found ≡ same_name asked keys → found ≡ Some cited → text ≡ cited → text ≡ spelled keys key
+pub spelled_cited : (keys : List (List ℕ)) (key asked text cited : List ℕ) (found : Option (List ℕ)) → asked ≡ key → found ≡ same_name asked keys → found ≡ Some cited → text ≡ cited → text ≡ key_spelled keys key
 spelled_cited keys key asked text cited found same is some here = here ∙ sym (ap (λ (o : Option (List ℕ)). unwrap_or o key) some) ∙ spelled_by keys key asked found same is

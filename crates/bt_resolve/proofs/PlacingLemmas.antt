@@ -11,13 +11,13 @@ use Rattle.bt_resolve.specs.Values.{MacroTexts}
 use Rattle.bt_resolve.specs.Macros.{with_content, macro_before}
 use Rattle.bt_resolve.specs.Stored.{with_item, stored_among}
 use Rattle.bt_resolve.specs.Messages.{for_each, preamble_at, preamble_of, messages_at, item_messages, database_messages}
-use Rattle.bt_resolve.specs.Reading.{State, after_item, after_items, after_databases, nothing_read}
+use Rattle.bt_resolve.specs.inner.Reading.{State, after_item, after_items, after_databases, nothing_read}
 use Rattle.std.specs.List.{flat_map}
 use Rattle.bt_resolve.specs.Listed.{listed}
 use Rattle.bt_resolve.specs.References.{reference_messages, missing_messages, list_messages}
 use Rattle.bt_resolve.specs.Resolved.{all_items, stored_entries, preamble}
 
--- the state stands behind these items, the last of them first
+-- the state stands after these items, the last of them first
 pub record StandsBehind (a : Asked) (ms : List Macro) (before : List Item) (s : State) : Type 0 where
   pub macros : s.macros ≡ macro_before ms before
   pub stored : s.stored ≡ stored_among a ms before
@@ -41,7 +41,7 @@ messages_next a ms database before s item at =
     ap (λ (macros : MacroTexts). s.messages ++ item_messages a macros s.stored database item) at.macros
     ∙ ap (λ (stored : List Stored). s.messages ++ item_messages a (macro_before ms before) stored database item) at.stored
 
--- behind one more item first
+-- after one more item first
 pub behind_next : (item : Item) (rest before : List Item) → reverse (item ∷ rest) ++ before ≡ reverse rest ++ item ∷ before
 behind_next item rest before = ap (λ (is : List Item). is ++ before) (reverse_onto rest item []) ∙ append_assoc (reverse rest) (item ∷ []) before
 
@@ -111,7 +111,7 @@ preamble_is a ms databases = (all_add a ms databases).preamble
 pub messages_are : (a : Asked) (ms : List Macro) (databases : List (List Item)) → (after_databases a 1 (nothing_read ms) databases).messages ≡ database_messages a ms 1 [] databases
 messages_are a ms databases = (all_add a ms databases).messages
 
--- the messages of the list behind others
+-- the messages of the list after others
 pub list_told : (a : Asked) (stored : List Stored) (places : List ℕ) (m : List Message) → places ≡ listed a stored → m ++ flat_map (reference_messages a.keys stored) places ++ flat_map (missing_messages stored) a.keys ≡ m ++ list_messages a stored
 unfolding list_messages
 list_told a stored places m is =

@@ -9,7 +9,7 @@ use Rattle.bt_text.proofs.NameLemmas.{more_by_small, absent_by_small, values_by_
 use Rattle.bt_resolve.specs.declared.stored.Stored.{Stored}
 use Rattle.bt_resolve.specs.Values.{is_named}
 use Rattle.bt_resolve.specs.Stored.{is_stored, is_referred_to}
-use Rattle.bt_resolve.specs.Store.{IsIndexed, stored_in, with_reference}
+use Rattle.bt_resolve.specs.inner.Store.{IsIndexed, stored_in, with_reference}
 
 abbrev key_of : Stored → List ℕ
 key_of s = s.key

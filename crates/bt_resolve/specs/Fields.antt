@@ -10,12 +10,12 @@ use Rattle.bt_resolve.specs.Warnings.{line_of, extra_field}
 use Rattle.bt_resolve.specs.Values.{MacroTexts, field_value, value_warnings}
 
 -- what fields give for a name: the value of the first field of that name
-unfoldable pub given : MacroTexts → List Field → List ℕ → Option (List ℕ)
-given macros fields name = option_map (λ (f : Field). field_value macros f.value) (find (λ (f : Field). is_same_folded f.name name) fields)
+unfoldable pub given_value : MacroTexts → List Field → List ℕ → Option (List ℕ)
+given_value macros fields name = option_map (λ (f : Field). field_value macros f.value) (find (λ (f : Field). is_same_folded f.name name) fields)
 
 -- what they give for a declared name. `crossref` is kept apart, and not inherited.
 abbrev pub own_value : MacroTexts → List Field → List ℕ → Option (List ℕ)
-own_value macros fields name = if is_same_folded name crossref then None else given macros fields name
+own_value macros fields name = if is_same_folded name crossref then None else given_value macros fields name
 
 abbrev pub own_values : List (List ℕ) → MacroTexts → List Field → List (Option (List ℕ))
 own_values declared macros fields = map (own_value macros fields) declared

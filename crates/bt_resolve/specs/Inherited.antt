@@ -61,12 +61,12 @@ with_crossref None name values = values
 with_crossref (Some p) name values = slice_set values p name
 
 -- a key as it is cited, else as in the database
-abbrev pub spelled : List (List ℕ) → List ℕ → List ℕ
-spelled keys key = unwrap_or (option_and_then (slice_get keys) (place_of_name keys key)) key
+abbrev pub key_spelled : List (List ℕ) → List ℕ → List ℕ
+key_spelled keys key = unwrap_or (option_and_then (slice_get keys) (place_of_name keys key)) key
 
 abbrev pub entry_seen : Asked → ℕ → List Stored → List (Option (List ℕ)) → Stored → Entry
 entry_seen a min stored values s = record {
-  key = spelled a.keys s.key;
+  key = key_spelled a.keys s.key;
   kind = s.kind;
   function = s.function;
   fields = with_crossref (place_of_name a.fields crossref) (final_crossref a min stored s) values;

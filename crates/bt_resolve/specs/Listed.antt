@@ -4,12 +4,12 @@ use Rattle.std.specs.List.{list_any, range_with_len}
 use Rattle.bt_text.specs.Folding.{is_same_folded}
 use Rattle.bt_resolve.specs.declared.asked.Asked.{Asked}
 use Rattle.bt_resolve.specs.declared.stored.Stored.{Stored}
-use Rattle.bt_text.specs.ByName.{place_of}
+use Rattle.bt_text.specs.ByName.{first_place}
 use Rattle.bt_text.specs.NameList.{has_name}
 
 -- the stored entry of a key
 abbrev pub place_of_key : List Stored → List ℕ → Option ℕ
-place_of_key stored key = place_of (λ (s : Stored). is_same_folded s.key key) stored
+place_of_key stored key = first_place (λ (s : Stored). is_same_folded s.key key) stored
 
 -- the stored entry that an entry refers to, by its `crossref` as read
 abbrev pub parent_of : List Stored → Stored → Option ℕ

@@ -8,7 +8,7 @@ use Rattle.bt_log.specs.declared.message.Message.{Message}
 use Rattle.bt_resolve.specs.declared.stored.Stored.{Stored}
 use Rattle.bt_resolve.specs.Stored.{is_stored}
 use Rattle.bt_resolve.specs.Listed.{place_of_key, listed}
-use Rattle.bt_resolve.specs.Inherited.{spelled}
+use Rattle.bt_resolve.specs.Inherited.{key_spelled}
 
 -- a message about the entry of a key
 abbrev pub about : Rank → List ℕ → List ℕ → Option (List ℕ) → Message
@@ -37,7 +37,7 @@ crossref_messages stored key (Some name) = parent_messages key name (option_and_
 
 abbrev pub entry_messages : List (List ℕ) → List Stored → Option Stored → List Message
 entry_messages keys stored None = []
-entry_messages keys stored (Some s) = crossref_messages stored (spelled keys s.key) s.crossref
+entry_messages keys stored (Some s) = crossref_messages stored (key_spelled keys s.key) s.crossref
 
 -- of an entry of the list, by its `crossref` as read
 unfoldable pub reference_messages : List (List ℕ) → List Stored → ℕ → List Message

@@ -13,7 +13,7 @@ use Rattle.bt_text.specs.NameList.{has_name}
 use Rattle.bt_resolve.specs.Names.{crossref, place_of_name}
 use Rattle.bt_resolve.specs.Values.{MacroTexts, is_named}
 use Rattle.bt_resolve.specs.Macros.{macro_before}
-use Rattle.bt_resolve.specs.Fields.{given, own_values}
+use Rattle.bt_resolve.specs.Fields.{given_value, own_values}
 
 abbrev pub kind_of : Entry → List ℕ
 kind_of e = unwrap_or e.kind []
@@ -24,7 +24,7 @@ stored_of a macros e key = record {
   key = key;
   kind = folded (kind_of e);
   function = place_of_name a.types (kind_of e);
-  crossref = given macros e.fields crossref;
+  crossref = given_value macros e.fields crossref;
   values = own_values a.fields macros e.fields;
 }
 

@@ -30,25 +30,25 @@ part_text macros (Macro name line) = unwrap_or (macros name) []
 abbrev pub joined_parts : MacroTexts → List Part → List ℕ
 joined_parts macros parts = flat_map (part_text macros) parts
 
+-- how many bytes a value may have
+abbrev pub value_size_limit : ℕ
+value_size_limit = 65536
+
 abbrev pub is_too_long : List ℕ → Bool
-is_too_long text = nat_lt 65536 (length text)
+is_too_long text = nat_lt value_size_limit (length text)
 
 -- nothing of a text that is too long, else the text
 abbrev pub within_limit : List ℕ → Option (List ℕ)
 within_limit text = if is_too_long text then None else Some text
 
--- a text with another after it, within the limit
-abbrev pub with_part : List ℕ → List ℕ → Option (List ℕ)
-with_part text front = within_limit (front ++ text)
-
-abbrev pub finished : Option (List ℕ) → List ℕ
-finished None = []
-finished (Some text) = white_joined text
+abbrev pub joined_or_empty : Option (List ℕ) → List ℕ
+joined_or_empty None = []
+joined_or_empty (Some text) = white_joined text
 
 -- The value of a string or a preamble: the parts' texts joined, each run of white space one space. It is empty where the
 -- texts join to more than 65,536 bytes.
 unfoldable pub value : MacroTexts → List Part → List ℕ
-value macros parts = finished (within_limit (joined_parts macros parts))
+value macros parts = joined_or_empty (within_limit (joined_parts macros parts))
 
 abbrev pub without_first_space : List ℕ → List ℕ
 without_first_space t = if slice_index t 0 == 32 then drop 1 t else t

@@ -1,19 +1,14 @@
 -- The words of the warnings that items give.
-use Rattle.std.specs.Prelude.{ℕ, ◌+◌, List, ◌++◌, codes, Option, Some, None}
+use Rattle.std.specs.Prelude.{ℕ, List, ◌++◌, codes, Option, Some, None}
 use Rattle.bt_text.specs.Folding.{folded}
 use Rattle.bt_log.specs.declared.message.Rank.TheVariants.{Warning}
 use Rattle.bt_log.specs.declared.message.Place.TheVariants.{DatabaseLine}
 use Rattle.bt_log.specs.declared.message.Message.{Message}
 use Rattle.bt_resolve.specs.declared.message.Place.{Place}
-use Rattle.bt_resolve.specs.declared.message.Origin.{Origin}
 
 -- a line of a database, by the database's number
 abbrev pub line_of : ℕ → ℕ → Place
 line_of database line = record { database = database; line = line }
-
--- a line of an item that stands somewhere
-abbrev pub line_at : Origin → ℕ → Place
-line_at origin line = line_of origin.database (line + origin.start.line)
 
 -- a warning at a line of a database, about the entry of a key or about none
 abbrev pub warning_at : Place → List ℕ → Option (List ℕ) → Message

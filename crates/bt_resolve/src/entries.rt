@@ -4,11 +4,11 @@ ghost use Rattle.std.specs.Prelude.{◌≡◌, ◌++◌, ◌∷◌, [], All, IfO
 ghost use Rattle.bt_bib.specs.Moved.{moved_entry, nowhere};
 ghost use Rattle.bt_bib.specs.Moving.{FitsField, FitsLine};
 ghost use Rattle.bt_text.specs.ByName.{known};
-ghost use Rattle.bt_resolve.specs.Entries.{standing_of};
+ghost use Rattle.bt_resolve.specs.inner.Entries.{standing_of};
 ghost use Rattle.bt_resolve.specs.Messages.{key_messages, stored_messages, type_messages};
 ghost use Rattle.bt_text.specs.NameList.{are_apart};
 ghost use Rattle.bt_resolve.specs.Stored.{is_wanted, kind_of, stored_of, with_entry};
-ghost use Rattle.bt_resolve.specs.Warnings.{line_at};
+ghost use Rattle.bt_resolve.specs.inner.Warnings.{line_at};
 
 use crate::faults::repeated;
 use crate::fields::FieldReader;
@@ -67,7 +67,7 @@ impl Reader<'_> {
         }
     }
 
-    /// Tells that a type has no function.
+    /// Reports that a type has no function.
     fn tell_type(
         &self,
         function: Option<usize>,

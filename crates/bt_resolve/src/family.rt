@@ -1,7 +1,7 @@
 //! The stored entries, with what each refers to.
 
 ghost use Rattle.std.specs.Prelude.{◌≡◌, ◌+◌, ◌-◌, ◌^◌, ◌<◌, ℕ, count_by, if◌then◌else◌, map, IfOk, OnOk};
-ghost use Rattle.bt_resolve.specs.Family.{count_at};
+ghost use Rattle.bt_resolve.specs.inner.Family.{count_at};
 ghost use Rattle.bt_resolve.specs.Inherited.{children, is_place, parent_at};
 ghost use Rattle.bt_resolve.specs.Listed.{parent_of, place_of_key};
 ghost use Rattle.bt_resolve.specs.Stored.{is_stored};
@@ -26,7 +26,7 @@ impl Model for Family {
 
     ghost Value = { List Stored };
 
-    ghost use Rattle.bt_resolve.specs.Family.{IsFamily};
+    ghost use Rattle.bt_resolve.specs.inner.Family.{IsFamily};
 
     ghost view = { λ family. family.store };
 

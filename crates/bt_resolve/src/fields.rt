@@ -6,9 +6,9 @@ ghost use Rattle.bt_bib.specs.Moving.{FitsField};
 ghost use Rattle.bt_text.specs.ByName.{known};
 ghost use Rattle.bt_resolve.specs.Fields.{fields_messages};
 ghost use Rattle.bt_text.specs.NameList.{are_apart};
-ghost use Rattle.bt_resolve.specs.Slots.{extra_messages, fill, given_by, is_filled, is_filled_at, slot_messages, slot_of, with_field};
+ghost use Rattle.bt_resolve.specs.inner.Slots.{extra_messages, fill, given_by, is_filled, is_filled_at, slot_messages, slot_of, with_field};
 ghost use Rattle.bt_resolve.specs.Values.{field_value, value_warnings};
-ghost use Rattle.bt_resolve.specs.Warnings.{line_at};
+ghost use Rattle.bt_resolve.specs.inner.Warnings.{line_at};
 
 use crate::index::Index;
 use crate::macro_text::MacroText;
@@ -127,7 +127,7 @@ impl FieldReader<'_> {
         trimmed(self.alloc, value)
     }
 
-    /// Puts a value in its slot, or tells that a field of its name stands before it.
+    /// Puts a value in its slot, or reports that a field of its name stands before it.
     fn put(
         &self,
         field: &Field,

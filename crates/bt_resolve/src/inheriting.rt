@@ -2,7 +2,7 @@
 
 ghost use Rattle.std.specs.Prelude.{◌≡◌, IfOk, OnOk};
 ghost use Rattle.bt_resolve.specs.Inherited.{inherited};
-ghost use Rattle.bt_resolve.specs.Inheriting.{all_inherit, inherits_at, values_read};
+ghost use Rattle.bt_resolve.specs.inner.Inheriting.{all_inherit, inherits_at, values_read};
 
 use crate::family::Family;
 use crate::seen_values::shared_at;

@@ -30,7 +30,7 @@ impl Model for JoinedParts {
 
     ghost Value = { List ℕ };
 
-    ghost use Rattle.bt_resolve.specs.JoinedParts.{bytes_of};
+    ghost use Rattle.bt_resolve.specs.inner.JoinedParts.{bytes_of};
 
     ghost view = { λ joined. bytes_of joined.holder };
 }

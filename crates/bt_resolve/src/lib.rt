@@ -37,8 +37,3 @@ pub use laws::{
     stored_keys_apart,
 };
 pub use resolution::resolve;
-
-#[cfg(test)]
-mod row_tests;
-#[cfg(test)]
-mod tests;

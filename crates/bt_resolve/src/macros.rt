@@ -6,7 +6,7 @@ ghost use Rattle.bt_bib.specs.Moving.{FitsLine, FitsValue};
 ghost use Rattle.bt_text.specs.ByName.{known};
 ghost use Rattle.bt_resolve.specs.Macros.{faultless, style_macro, with_string};
 ghost use Rattle.bt_resolve.specs.Messages.{preamble_messages, preamble_value, string_messages};
-ghost use Rattle.bt_resolve.specs.Warnings.{line_at};
+ghost use Rattle.bt_resolve.specs.inner.Warnings.{line_at};
 
 use crate::declared::Macro;
 use crate::macro_text::MacroText;

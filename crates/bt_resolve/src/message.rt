@@ -4,7 +4,7 @@ ghost use Rattle.std.specs.Prelude.{◌≡◌, None};
 ghost use Rattle.bt_bib.specs.Moved.{nowhere};
 ghost use Rattle.bt_bib.specs.Moving.{FitsLine};
 ghost use Rattle.bt_log.specs.declared.message.Place.TheVariants.{DatabaseLine};
-ghost use Rattle.bt_resolve.specs.Warnings.{line_at};
+ghost use Rattle.bt_resolve.specs.inner.Warnings.{line_at};
 
 use bt_bib::Spot;
 pub use bt_log::Message;

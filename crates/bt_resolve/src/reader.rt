@@ -3,7 +3,7 @@
 ghost use Rattle.std.specs.Prelude.{◌≡◌};
 ghost use Rattle.bt_bib.specs.Moved.{nowhere};
 ghost use Rattle.bt_bib.specs.Moving.{FitsLine};
-ghost use Rattle.bt_resolve.specs.Warnings.{line_at};
+ghost use Rattle.bt_resolve.specs.inner.Warnings.{line_at};
 
 use crate::asked::Asked;
 use crate::message::{Origin, Place};

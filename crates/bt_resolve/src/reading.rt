@@ -6,7 +6,7 @@ ghost use Rattle.bt_bib.specs.Moved.{moved_item, nowhere};
 ghost use Rattle.bt_bib.specs.Moving.{FitsItem};
 ghost use Rattle.bt_text.specs.NameList.{are_apart};
 ghost use Rattle.bt_resolve.specs.Messages.{database_messages};
-ghost use Rattle.bt_resolve.specs.Reading.{after_content, after_item, after_items, nothing_read, state_of};
+ghost use Rattle.bt_resolve.specs.inner.Reading.{after_content, after_item, after_items, nothing_read, state_of};
 ghost use Rattle.bt_resolve.specs.Resolved.{preamble, stored_entries};
 
 use crate::asked::Asked;

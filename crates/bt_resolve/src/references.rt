@@ -2,7 +2,7 @@
 
 ghost use Rattle.std.specs.Prelude.{◌≡◌, Some, None, ◌++◌, option_and_then, option_copied, slice_get, IfOk, OnOk};
 ghost use Rattle.std.specs.List.{flat_map};
-ghost use Rattle.bt_resolve.specs.Inherited.{spelled};
+ghost use Rattle.bt_resolve.specs.Inherited.{key_spelled};
 ghost use Rattle.bt_resolve.specs.Listed.{place_of_key};
 ghost use Rattle.bt_resolve.specs.References.{about, bad_reference, crossref_messages, entry_messages, missing_messages, nested, no_entry, parent_messages, reference_messages};
 
@@ -90,7 +90,7 @@ pub fn spelled(
     keys: &NameList,
     key: &Shared<Bytes>,
 ) -> Result<Shared<Bytes>, AllocError>
-    ensures { IfOk result (λ text. text ≡ spelled keys.now key.now) }
+    ensures { IfOk result (λ text. text ≡ key_spelled keys.now key.now) }
 {
     match keys.find(alloc, key.as_slice())? {
         None => key.share(),
@@ -125,7 +125,7 @@ fn tell_parent(
     }
 }
 
-/// What the messages of the list are told with.
+/// What the messages of the list are reported with.
 #[derive(Clone, Copy, Drop)]
 pub struct Teller<'a> {
     pub alloc: Global,
@@ -207,7 +207,7 @@ impl<'a> Teller<'a> {
         Ok(())
     }
 
-    /// Tells that a key has no entry.
+    /// Reports that a key has no entry.
     #[tactic(auto, unfolding(crate::specs::References::missing_messages))]
     fn missing(&self, key: &[u8], messages: &mut Sequence<Message>) -> Result<(), AllocError>
         ensures { OnOk result (messages.new ≡ messages.old

@@ -4,7 +4,7 @@ ghost use Rattle.std.specs.Prelude.{◌≡◌, ◌++◌, ◌∷◌, [], ℕ, Lis
 ghost use Rattle.bt_text.specs.ByName.{HasRoom, known, listed};
 ghost use Rattle.bt_text.specs.Folding.{folded};
 ghost use Rattle.bt_resolve.specs.Listed.{place_of_key};
-ghost use Rattle.bt_resolve.specs.Store.{with_reference};
+ghost use Rattle.bt_resolve.specs.inner.Store.{with_reference};
 ghost use Rattle.bt_resolve.specs.Stored.{is_referred_to, is_stored};
 
 use crate::stored::Stored;
@@ -28,7 +28,7 @@ impl Model for Store {
 
     ghost Value = { List Stored };
 
-    ghost use Rattle.bt_resolve.specs.Store.{IsIndexed, stored_in};
+    ghost use Rattle.bt_resolve.specs.inner.Store.{IsIndexed, stored_in};
 
     ghost view = { λ store. stored_in store.entries };
 

@@ -5,8 +5,9 @@ ghost use Rattle.std.specs.List.{flat_map};
 ghost use Rattle.bt_bib.specs.Moved.{moved_part, nowhere};
 ghost use Rattle.bt_bib.specs.Moving.{FitsLine, FitsPart};
 ghost use Rattle.bt_text.specs.ByName.{known};
-ghost use Rattle.bt_resolve.specs.Values.{finished, is_named, joined_parts, length_warnings, macro_warnings, others, part_text, part_warnings, value, value_warnings, with_part, within_limit, without_first_space, without_last_space};
-ghost use Rattle.bt_resolve.specs.Warnings.{line_at};
+ghost use Rattle.bt_resolve.specs.Values.{joined_or_empty, is_named, joined_parts, length_warnings, macro_warnings, others, part_text, part_warnings, value, value_warnings, within_limit, without_first_space, without_last_space};
+ghost use Rattle.bt_resolve.specs.inner.Values.{with_part};
+ghost use Rattle.bt_resolve.specs.inner.Warnings.{line_at};
 
 use crate::joined_parts::JoinedParts;
 use crate::macro_text::MacroText;
@@ -84,7 +85,7 @@ impl<'a> ValueReader<'a> {
         }
     }
 
-    /// Joins what a macro stands for, or tells that it stands for nothing.
+    /// Joins what a macro stands for, or reports that it stands for nothing.
     fn read_macro(
         &self,
         name: &[u8],
@@ -160,7 +161,7 @@ impl<'a> ValueReader<'a> {
         messages: &mut Sequence<Message>,
     ) -> Result<Shared<Bytes>, AllocError>
         requires { FitsLine nowhere self.now.origin.start line }
-        ensures value { IfOk result (λ text. text ≡ finished joined) }
+        ensures value { IfOk result (λ text. text ≡ joined_or_empty joined) }
         ensures messages { OnOk result (messages.new ≡ messages.old
             ++ length_warnings joined (line_at self.now.origin line) name.now) }
     {
@@ -173,7 +174,7 @@ impl<'a> ValueReader<'a> {
         }
     }
 
-    /// The value of the parts, with its warnings. That it is over the limit is told of this name, at this line.
+    /// The value of the parts, with its warnings. That it is over the limit is reported with this name, at this line.
     #[tactic(auto, unfolding(crate::specs::Values::value, crate::specs::Values::value_warnings))]
     pub fn value(
         &self,

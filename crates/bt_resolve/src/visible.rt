@@ -3,7 +3,7 @@
 ghost use Rattle.std.specs.Prelude.{◌≡◌, ◌++◌, ◌∷◌, [], slice_get, IfOk, OnOk};
 ghost use Rattle.std.specs.List.{slice_index_or};
 ghost use Rattle.bt_resolve.specs.Inherited.{entries_by, entry_at, entry_seen, final_crossref, is_left_out};
-ghost use Rattle.bt_resolve.specs.Inheriting.{all_inherit, values_read};
+ghost use Rattle.bt_resolve.specs.inner.Inheriting.{all_inherit, values_read};
 
 use crate::asked::Asked;
 use crate::entry::Entry;

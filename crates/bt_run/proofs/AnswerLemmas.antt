@@ -19,16 +19,18 @@ use Rattle.bt_job.specs.Fit.{IsWithin, IsFit}
 use Rattle.bt_run.specs.declared.course.Course.{Course}
 use Rattle.bt_run.specs.declared.course.Step.{Step}
 use Rattle.bt_run.specs.declared.reuse.Reuse.{Reuse}
-use Rattle.bt_run.specs.Work.{total_cost, work_under, IsStep, IsConsistent}
-use Rattle.bt_run.specs.Steps.{StepsAre, steps_under, styled_work, work_after, IsTaken}
+use Rattle.bt_run.specs.Work.{total_cost, work_under, IsStep}
+use Rattle.bt_run.specs.inner.Work.{IsConsistent}
+use Rattle.bt_run.specs.Steps.{StepsAre, styled_work, work_after}
+use Rattle.bt_run.specs.inner.Steps.{steps_under, IsTaken}
 use Rattle.bt_run.specs.Kept.{named_text, style_text, run_work, report_after}
 use Rattle.bt_run.proofs.WorkLemmas.{work_none, work_first}
 use Rattle.bt_run.specs.Reading.{Job}
 use Rattle.bt_run.specs.Commands.{commands_from}
-use Rattle.bt_run.specs.Counts.{counted}
-use Rattle.bt_run.specs.Meaning.{begun, first_globals, carried, job_for, fault_told, styled, run_with, run_of, Meaning, shown, meaning, trace}
+use Rattle.bt_run.specs.Counts.{with_counts}
+use Rattle.bt_run.specs.Meaning.{run_begun, first_globals, style_run, job_for, fault_told, styled, run_with, run_of, Meaning, course_shown, meaning, trace}
 
-pub begun_consistent : (p : Program) (earlier : List Step) (globals : Variables) (log : List Message) (r : Course) (reuse : Reuse) → r ≡ begun globals log → reuse.meter ≡ 0 → reuse.ran ≡ 0 → reuse.known ≡ [] → reuse.lookup.index ≡ None → IsConsistent p earlier r reuse
+pub begun_consistent : (p : Program) (earlier : List Step) (globals : Variables) (log : List Message) (r : Course) (reuse : Reuse) → r ≡ run_begun globals log → reuse.meter ≡ 0 → reuse.ran ≡ 0 → reuse.known ≡ [] → reuse.lookup.index ≡ None → IsConsistent p earlier r reuse
 begun_consistent p earlier globals log r reuse is ticks ran none unmade =
     rw is (record {
       ran = ran ∙ ap length (sym (work_none p earlier));
@@ -41,7 +43,7 @@ begun_consistent p earlier globals log r reuse is ticks ran none unmade =
       ordered = λ k d h. absurd (omega (arith, h));
     })
 
-pub counted_consistent : (p : Program) (earlier : List Step) (r next : Course) (reuse : Reuse) → next ≡ counted r → IsConsistent p earlier r reuse → IsConsistent p earlier next reuse
+pub counted_consistent : (p : Program) (earlier : List Step) (r next : Course) (reuse : Reuse) → next ≡ with_counts r → IsConsistent p earlier r reuse → IsConsistent p earlier next reuse
 counted_consistent p earlier r next reuse is h = rw is (record { ran = h.ran; ticks = h.ticks; fewer = h.fewer; bounded = h.bounded; steps = h.steps; known = h.known; indexed = h.indexed; ordered = h.ordered })
 
 -- What was carried out
@@ -61,7 +63,7 @@ no_work None earlier (Some text) = refl
 no_work (Some own) earlier (Some text) = no_work_if (bytes_eq own text) (styled_work (style_of text) earlier []) (no_styled_work (style_of text) earlier)
 
 -- where no step ran
-pub nothing_taken : (own : Option (List ℕ)) (earlier : List Step) (text : Option (List ℕ)) (globals : Variables) (log : List Message) (r : Course) (reuse : Reuse) → r ≡ begun globals log → reuse.meter ≡ 0 → reuse.ran ≡ 0 → IsTaken own earlier text r.trace reuse
+pub nothing_taken : (own : Option (List ℕ)) (earlier : List Step) (text : Option (List ℕ)) (globals : Variables) (log : List Message) (r : Course) (reuse : Reuse) → r ≡ run_begun globals log → reuse.meter ≡ 0 → reuse.ran ≡ 0 → IsTaken own earlier text r.trace reuse
 nothing_taken own earlier text globals log r reuse is ticks ran =
     rw is (record {
       ran = ran ∙ ap length (sym (no_work own earlier text));
@@ -109,13 +111,13 @@ earlier_under p text (Some t) steps h read = all_under (IsStep p) (bytes_eq t te
 pub earlier_steps : (p : Program) (text : List ℕ) (own : Option (List ℕ)) (steps earlier : List Step) → StepsAre own steps → style_of text ≡ Ok p → earlier ≡ steps_under own steps text → All (IsStep p) earlier
 earlier_steps p text own steps earlier h read is = subst (λ (es : List Step). All (IsStep p) es) (sym is) (earlier_under p text own steps h read)
 
--- the commands of a style behind the beginning of its run, and the counts
-pub carried_by : (job : Job) (log : List Message) (globals : Variables) (first r next : Course) → globals ≡ first_globals job.program → first ≡ begun globals log → r ≡ commands_from job 0 job.program.commands first → next ≡ counted r → next ≡ carried job log
+-- the commands of a style after the beginning of its run, and the counts
+pub carried_by : (job : Job) (log : List Message) (globals : Variables) (first r next : Course) → globals ≡ first_globals job.program → first ≡ run_begun globals log → r ≡ commands_from job 0 job.program.commands first → next ≡ with_counts r → next ≡ style_run job log
 carried_by job log globals first r next are is_first is_r is = rw (is, is_r, is_first, are) refl
 
 -- without a style
-pub no_style : (files : List File) (c : Citations) (min : ℕ) (globals : Variables) (r : Course) → r ≡ begun globals c.log → globals ≡ no_variables → c.style ≡ None → r ≡ run_with files c min c.style
-no_style files c min globals r is none named = is ∙ ap (λ g. begun g c.log) none ∙ ap (run_with files c min) (sym named)
+pub no_style : (files : List File) (c : Citations) (min : ℕ) (globals : Variables) (r : Course) → r ≡ run_begun globals c.log → globals ≡ no_variables → c.style ≡ None → r ≡ run_with files c min c.style
+no_style files c min globals r is none named = is ∙ ap (λ g. run_begun g c.log) none ∙ ap (run_with files c min) (sym named)
 
 -- a style that is lent by its owner
 pub lent_style : (text : List ℕ) (own lent : Style) → style_of text ≡ Ok (program_of own) → lent ≡ own → style_of text ≡ Ok (program_of lent)
@@ -124,17 +126,17 @@ lent_style text own lent read is =
     read ∙ ap again (sym is)
 
 -- a style that could be read
-pub style_ran : (files : List File) (c : Citations) (min : ℕ) (style s1 s2 text : List ℕ) (databases : List (List ℕ)) (p : Program) (r : Course) → r ≡ carried (record { files = files; cites = record { keys = c.keys; star = c.star }; databases = databases; min = min; style = s2; program = p }) c.log → c.style ≡ Some style → databases ≡ c.databases → s2 ≡ style → style_of text ≡ Ok p → text ≡ unwrap_or (text_of files s1) [] → s1 ≡ style → r ≡ run_with files c min c.style
+pub style_ran : (files : List File) (c : Citations) (min : ℕ) (style s1 s2 text : List ℕ) (databases : List (List ℕ)) (p : Program) (r : Course) → r ≡ style_run (record { files = files; cites = record { keys = c.keys; star = c.star }; databases = databases; min = min; style = s2; program = p }) c.log → c.style ≡ Some style → databases ≡ c.databases → s2 ≡ style → style_of text ≡ Ok p → text ≡ unwrap_or (text_of files s1) [] → s1 ≡ style → r ≡ run_with files c min c.style
 style_ran files c min style s1 s2 text databases p r is named same_databases same2 read is_text same1 =
-    let ran : r ≡ carried (job_for files c min style p) c.log = is ∙ (λ j. carried (record { files = files; cites = record { keys = c.keys; star = c.star }; databases = same_databases j; min = min; style = same2 j; program = p }) c.log) in
+    let ran : r ≡ style_run (job_for files c min style p) c.log = is ∙ (λ j. style_run (record { files = files; cites = record { keys = c.keys; star = c.star }; databases = same_databases j; min = min; style = same2 j; program = p }) c.log) in
     let whole : style_of (unwrap_or (text_of files style) []) ≡ Ok p = ap (λ s. style_of (unwrap_or (text_of files s) [])) (sym same1) ∙ ap style_of (sym is_text) ∙ read in
     ran ∙ ap (styled files c min style) (sym whole) ∙ ap (run_with files c min) (sym named)
 
 -- a style that could not
-pub style_refused : (files : List File) (c : Citations) (min : ℕ) (style s1 s2 text : List ℕ) (fault : Fault) (globals : Variables) (message : Message) (log : List Message) (r : Course) → r ≡ begun globals log → globals ≡ no_variables → log ≡ c.log ++ message ∷ [] → message ≡ fault_told s2 fault → c.style ≡ Some style → s2 ≡ style → style_of text ≡ Err fault → text ≡ unwrap_or (text_of files s1) [] → s1 ≡ style → r ≡ run_with files c min c.style
+pub style_refused : (files : List File) (c : Citations) (min : ℕ) (style s1 s2 text : List ℕ) (fault : Fault) (globals : Variables) (message : Message) (log : List Message) (r : Course) → r ≡ run_begun globals log → globals ≡ no_variables → log ≡ c.log ++ message ∷ [] → message ≡ fault_told s2 fault → c.style ≡ Some style → s2 ≡ style → style_of text ≡ Err fault → text ≡ unwrap_or (text_of files s1) [] → s1 ≡ style → r ≡ run_with files c min c.style
 style_refused files c min style s1 s2 text fault globals message log r is none is_log is_message named same2 read is_text same1 =
     let told : message ≡ fault_told style fault = is_message ∙ ap (λ s. fault_told s fault) same2 in
-    let ran : r ≡ begun no_variables (c.log ++ fault_told style fault ∷ []) = is ∙ ap (λ g. begun g log) none ∙ ap (begun no_variables) (is_log ∙ ap (λ m. c.log ++ m ∷ []) told) in
+    let ran : r ≡ run_begun no_variables (c.log ++ fault_told style fault ∷ []) = is ∙ ap (λ g. run_begun g log) none ∙ ap (run_begun no_variables) (is_log ∙ ap (λ m. c.log ++ m ∷ []) told) in
     let whole : style_of (unwrap_or (text_of files style) []) ≡ Err fault = ap (λ s. style_of (unwrap_or (text_of files s) [])) (sym same1) ∙ ap style_of (sym is_text) ∙ read in
     ran ∙ ap (styled files c min style) (sym whole) ∙ ap (run_with files c min) (sym named)
 
@@ -146,10 +148,10 @@ pub star_within : (files : List File) (c : Citations) → IsFit files c → ForS
 star_within files c fit = within c.star (length c.keys) fit.star
 
 -- what is shown is what the files mean
-pub meant : (files : List File) (root : List ℕ) (min : ℕ) (c : Citations) (r : Course) (wanted : List (List ℕ)) (m : Meaning) → m ≡ shown r wanted → r ≡ run_with files c min c.style → wanted ≡ c.wanted → c ≡ citations files root → m ≡ meaning files root min
+pub meant : (files : List File) (root : List ℕ) (min : ℕ) (c : Citations) (r : Course) (wanted : List (List ℕ)) (m : Meaning) → m ≡ course_shown r wanted → r ≡ run_with files c min c.style → wanted ≡ c.wanted → c ≡ citations files root → m ≡ meaning files root min
 unfolding meaning run_of
 meant files root min c r wanted m is is_run are_wanted is_cited =
-    is ∙ (λ j. shown (is_run j) (are_wanted j)) ∙ ap (λ d. shown (run_with files d min d.style) d.wanted) is_cited
+    is ∙ (λ j. course_shown (is_run j) (are_wanted j)) ∙ ap (λ d. course_shown (run_with files d min d.style) d.wanted) is_cited
 
 -- The log is what the messages are in words.
 pub log_spelled : (files : List File) (root : List ℕ) (min : ℕ) → (meaning files root min).blg ≡ log_bytes (meaning files root min).messages

@@ -15,10 +15,10 @@ use Rattle.bt_job.specs.declared.citations.Citations.{Citations}
 use Rattle.bt_job.specs.Naming.{text_of}
 use Rattle.bt_job.specs.Citations.{citations}
 use Rattle.bt_run.specs.declared.course.Course.{Course}
-use Rattle.bt_run.specs.Reading.{Job, declared_before, items_in, found, read_in}
+use Rattle.bt_run.specs.Reading.{Job, declared_before, items_in, found_for, read_in}
 use Rattle.bt_run.specs.Commands.{unless_stopped, carried_out, commands_from, command}
-use Rattle.bt_run.specs.Counts.{counted}
-use Rattle.bt_run.specs.Meaning.{begun, first_globals, job_for, styled, run_with, run_of, shown, meaning, trace}
+use Rattle.bt_run.specs.Counts.{with_counts}
+use Rattle.bt_run.specs.Meaning.{run_begun, first_globals, job_for, styled, run_with, run_of, course_shown, meaning, trace}
 use Rattle.bt_run.specs.Kept.{named_text, style_text}
 use Rattle.bt_run.specs.ByName.{HaveSameTexts}
 use Rattle.bt_run.proofs.LookupLemmas.{cited_alike}
@@ -35,7 +35,7 @@ items_same files others same (name ∷ names) =
 abbrev with_files : List File → Job → Job
 with_files files job = record job { files = files }
 
-found_same : (files others : List File) → HaveSameTexts files others → (job : Job) (number : ℕ) → found (with_files files job) number ≡ found (with_files others job) number
+found_same : (files others : List File) → HaveSameTexts files others → (job : Job) (number : ℕ) → found_for (with_files files job) number ≡ found_for (with_files others job) number
 found_same files others same job number =
     ap (λ items. resolved (declared_before number job.program) job.cites items job.min) (items_same files others same job.databases)
 
@@ -67,7 +67,7 @@ styled_same : (files others : List File) → HaveSameTexts files others → (c :
     styled files c min style read ≡ styled others c min style read
 styled_same files others same c min style (Err fault) = refl
 styled_same files others same c min style (Ok p) =
-    ap counted (commands_same files others same (job_for files c min style p) 0 p.commands (begun (first_globals p) c.log))
+    ap with_counts (commands_same files others same (job_for files c min style p) 0 p.commands (run_begun (first_globals p) c.log))
 
 run_same : (files others : List File) → HaveSameTexts files others → (c : Citations) (min : ℕ) (style : Option (List ℕ)) →
     run_with files c min style ≡ run_with others c min style
@@ -85,8 +85,8 @@ whole_run_same files others same root min =
 pub meaning_same : (files others : List File) → HaveSameTexts files others → (root : List ℕ) (min : ℕ) → meaning files root min ≡ meaning others root min
 unfolding meaning
 meaning_same files others same root min =
-    ap (λ (r : Course). shown r (citations files root).wanted) (whole_run_same files others same root min)
-    ∙ ap (λ (c : Citations). shown (run_of others root min) c.wanted) (cited_alike files others root same)
+    ap (λ (r : Course). course_shown r (citations files root).wanted) (whole_run_same files others same root min)
+    ∙ ap (λ (c : Citations). course_shown (run_of others root min) c.wanted) (cited_alike files others root same)
 
 pub trace_same : (files others : List File) → HaveSameTexts files others → (root : List ℕ) (min : ℕ) → trace files root min ≡ trace others root min
 unfolding trace

@@ -5,7 +5,7 @@ use Rattle.bt_run.specs.declared.course.Course.{Course}
 use Rattle.bt_run.specs.declared.course.Step.{Step}
 use Rattle.bt_run.specs.declared.readings.Readings.{Readings}
 use Rattle.bt_run.specs.declared.reuse.Reuse.{Reuse}
-use Rattle.bt_run.specs.Work.{IsConsistent}
+use Rattle.bt_run.specs.inner.Work.{IsConsistent}
 use Rattle.bt_run.specs.Sorting.{key_at}
 use Rattle.bt_run.specs.Reading.{Job, list_order, read}
 use Rattle.bt_run.specs.Commands.{sorted_run}

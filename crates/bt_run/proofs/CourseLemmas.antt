@@ -18,14 +18,16 @@ use Rattle.bt_log.specs.declared.message.Message.{Message}
 use Rattle.bt_run.specs.declared.course.Course.{Course}
 use Rattle.bt_run.specs.declared.course.Step.{Step}
 use Rattle.bt_run.specs.declared.course.Site.{Site}
-use Rattle.bt_run.specs.Course.{world_of, input_at, kept, left_by, stepped, all_told, with_variables, variables_back, put_back}
+use Rattle.bt_run.specs.Course.{course_world, input_at, step_kept, left_by, stepped, all_told}
+use Rattle.bt_run.specs.inner.Course.{with_variables, variables_back, put_back}
 use Rattle.bt_run.specs.declared.reuse.Reuse.{Reuse}
-use Rattle.bt_run.specs.Work.{key_in, total_cost, work_under, IsStep, IsNext, IsConsistent}
+use Rattle.bt_run.specs.Work.{key_in, total_cost, work_under, IsStep}
+use Rattle.bt_run.specs.inner.Work.{IsNext, IsConsistent}
 use Rattle.bt_run.proofs.WorkLemmas.{work_append, work_fewer}
 
 -- what a step leaves in the world of its entry alone, or of none
 abbrev alone_left : Program → Target → Option ℕ → Course → Finish
-alone_left p t x r = step p (alone x) t (cut x (world_of r))
+alone_left p t x r = step p (alone x) t (cut x (course_world r))
 
 -- the same as an outcome with its cost
 abbrev own_left : Finish → Own
@@ -36,7 +38,7 @@ abbrev left_back : Site → Target → Option ℕ → Course → Finish → Cour
 left_back site t x r f =
     record (put_back x (outcome_of f) r) {
       log = r.log ++ all_told site.line site.style f.world.messages;
-      trace = r.trace ++ kept site.command (input_at t x (world_of r)) (own_left f) ∷ [];
+      trace = r.trace ++ step_kept site.command (input_at t x (course_world r)) (own_left f) ∷ [];
     }
 
 -- the variables of the entry that stands alone
@@ -48,44 +50,44 @@ no_variables_left : (p : Program) → DependsOnInput p → (t : Target) (w : Wor
 no_variables_left p law t w = ap (λ (f : Finish). first_variables f.world.entries) (law None t (cut None w) tt)
 
 -- what a step in the world of all entries left that was its own is what it leaves on its input
-own_back : (p : Program) → DependsOnInput p → (t : Target) (n : ℕ) (r : Course) → n < length r.entries → own (Some n) (world_of r) (finish_back (Some n) (world_of r) (alone_left p t (Some n) r)) ≡ own_left (alone_left p t (Some n) r)
+own_back : (p : Program) → DependsOnInput p → (t : Target) (n : ℕ) (r : Course) → n < length r.entries → own (Some n) (course_world r) (finish_back (Some n) (course_world r) (alone_left p t (Some n) r)) ≡ own_left (alone_left p t (Some n) r)
 own_back p law t n r h =
     let f = alone_left p t (Some n) r in
     let e : Entry = record (slice_index_or r.entries n no_entry) { variables = (slice_index_or f.world.entries 0 no_entry).variables } in
-    let variables = ap (λ (d : Entry). Some d.variables) (get_or-set_same r.entries n e no_entry h) ∙ sym (one_entry p law t n (world_of r)) in
+    let variables = ap (λ (d : Entry). Some d.variables) (get_or-set_same r.entries n e no_entry h) ∙ sym (one_entry p law t n (course_world r)) in
     let lines = drop-append_seam r.lines f.world.lines in
     λ j. record { outcome = record { globals = f.world.globals; variables = variables j; held = f.world.held; lines = lines j; messages = f.world.messages; stop = f.stopped; calls = f.calls }; cost = f.cost }
 
 -- the same of a step without an entry
-own_back_alone : (p : Program) → DependsOnInput p → (t : Target) (r : Course) → own None (world_of r) (finish_back None (world_of r) (alone_left p t None r)) ≡ own_left (alone_left p t None r)
+own_back_alone : (p : Program) → DependsOnInput p → (t : Target) (r : Course) → own None (course_world r) (finish_back None (course_world r) (alone_left p t None r)) ≡ own_left (alone_left p t None r)
 own_back_alone p law t r =
     let f = alone_left p t None r in
-    let variables = sym (no_variables_left p law t (world_of r)) in
+    let variables = sym (no_variables_left p law t (course_world r)) in
     let lines = drop-append_seam r.lines f.world.lines in
     λ j. record { outcome = record { globals = f.world.globals; variables = variables j; held = f.world.held; lines = lines j; messages = f.world.messages; stop = f.stopped; calls = f.calls }; cost = f.cost }
 
 -- a step in the world of all entries puts back what it leaves on its input
-pub step_back : (p : Program) → DependsOnInput p → (site : Site) (t : Target) (x : Option ℕ) (r : Course) → IsPlace x (world_of r) → stepped p site t x r ≡ left_back site t x r (step_in p (input_at t x (world_of r)))
+pub step_back : (p : Program) → DependsOnInput p → (site : Site) (t : Target) (x : Option ℕ) (r : Course) → IsPlace x (course_world r) → stepped p site t x r ≡ left_back site t x r (step_in p (input_at t x (course_world r)))
 step_back p law site t None r h =
-    let w = world_of r in
+    let w = course_world r in
     let f = alone_left p t None r in
     let back : stepped p site t None r ≡ left_by site t None r (finish_back None w f) = ap (left_by site t None r) (law None t w h) in
     let own_part = own_back_alone p law t r in
-    back ∙ (λ j. record { entries = r.entries; order = r.order; globals = f.world.globals; preamble = r.preamble; held = f.world.held; lines = r.lines ++ f.world.lines; log = r.log ++ all_told site.line site.style f.world.messages; trace = r.trace ++ kept site.command (input_at t None w) (own_part j) ∷ []; stopped = f.stopped })
+    back ∙ (λ j. record { entries = r.entries; order = r.order; globals = f.world.globals; preamble = r.preamble; held = f.world.held; lines = r.lines ++ f.world.lines; log = r.log ++ all_told site.line site.style f.world.messages; trace = r.trace ++ step_kept site.command (input_at t None w) (own_part j) ∷ []; stopped = f.stopped })
 step_back p law site t (Some n) r h =
-    let w = world_of r in
+    let w = course_world r in
     let f = alone_left p t (Some n) r in
     let back : stepped p site t (Some n) r ≡ left_by site t (Some n) r (finish_back (Some n) w f) = ap (left_by site t (Some n) r) (law (Some n) t w h) in
     let entries = sym (one_entry p law t n w) in
     let own_part = own_back p law t n r h in
-    back ∙ (λ j. record { entries = variables_back (Some n) (entries j) r.entries; order = r.order; globals = f.world.globals; preamble = r.preamble; held = f.world.held; lines = r.lines ++ f.world.lines; log = r.log ++ all_told site.line site.style f.world.messages; trace = r.trace ++ kept site.command (input_at t (Some n) w) (own_part j) ∷ []; stopped = f.stopped })
+    back ∙ (λ j. record { entries = variables_back (Some n) (entries j) r.entries; order = r.order; globals = f.world.globals; preamble = r.preamble; held = f.world.held; lines = r.lines ++ f.world.lines; log = r.log ++ all_told site.line site.style f.world.messages; trace = r.trace ++ step_kept site.command (input_at t (Some n) w) (own_part j) ∷ []; stopped = f.stopped })
 
 -- The same for a run's own way of putting an outcome back, piece by piece.
-pub step_taken : (p : Program) → DependsOnInput p → (site : Site) (t : Target) (x : Option ℕ) (r back : Course) (s : Step) (messages log : List Message) (steps : List Step) → IsPlace x (world_of r) → s.command ≡ site.command → s.input ≡ input_at t x (world_of r) → IsStep p s → back ≡ put_back x s.outcome r → messages ≡ all_told site.line site.style s.outcome.messages → log ≡ back.log ++ messages → steps ≡ back.trace ++ s ∷ [] → record back { log = log; trace = steps } ≡ stepped p site t x r
+pub step_taken : (p : Program) → DependsOnInput p → (site : Site) (t : Target) (x : Option ℕ) (r back : Course) (s : Step) (messages log : List Message) (steps : List Step) → IsPlace x (course_world r) → s.command ≡ site.command → s.input ≡ input_at t x (course_world r) → IsStep p s → back ≡ put_back x s.outcome r → messages ≡ all_told site.line site.style s.outcome.messages → log ≡ back.log ++ messages → steps ≡ back.trace ++ s ∷ [] → record back { log = log; trace = steps } ≡ stepped p site t x r
 step_taken p law site t x r back s messages log steps h is_command is_input own is_back are_told is_log are_steps =
-    let i = input_at t x (world_of r) in
+    let i = input_at t x (course_world r) in
     let is_outcome = own.outcome ∙ ap (λ (j : Input). outcome_of (step_in p j)) is_input in
-    let is_step : s ≡ kept site.command i (own_left (step_in p i)) =
+    let is_step : s ≡ step_kept site.command i (own_left (step_in p i)) =
     λ j. record {
       command = is_command j;
       key = (own.key ∙ ap key_in is_input) j;

@@ -14,8 +14,8 @@ use Rattle.bt_actions.specs.declared.entry.Entry.{Entry}
 use Rattle.bt_machine.specs.declared.input.Input.{Input}
 use Rattle.bt_run.specs.declared.course.Step.{Step}
 use Rattle.bt_run.specs.declared.index.Index.{Index}
-use Rattle.bt_run.specs.Index.{key_or_none, step_name, places_at, IsIndex}
-use Rattle.bt_run.specs.Work.{IsLike, IsUnlikeAt}
+use Rattle.bt_run.specs.inner.Index.{key_or_none, step_name, places_at, IsIndex}
+use Rattle.bt_run.specs.inner.Work.{IsLike, IsUnlikeAt}
 use Rattle.bt_run.proofs.WorkLemmas.{key_same}
 
 -- One more place

@@ -63,7 +63,7 @@ command action line = record { action = action; line = line }
 abbrev definition : List ℕ → Definition
 definition name = record { name = name; body = End }
 
--- two functions before READ, and one behind it
+-- two functions before READ, and one after it
 abbrev style : Program
 style = record {
   fields = codes "crossref" ∷ [];

@@ -23,11 +23,11 @@ order key m n = ordering_then (slice_cmp nat_cmp (key m) (key n)) (nat_cmp m n)
 order_total : (key : ℕ → List ℕ) → IsTotalOrder (order key)
 order_total key = then_total (on_total key nat_list_cmp_total) nat_cmp_total
 
--- the first doesn't stand behind the second
+-- the first doesn't stand after the second
 abbrev Upto : (ℕ → List ℕ) → ℕ → ℕ → Type 0
 Upto key m n = is_gt (order key m n) ≡ false
 
--- each place doesn't stand behind those that follow it
+-- each place doesn't stand after those that follow it
 abbrev Rising : (ℕ → List ℕ) → List ℕ → Type 0
 Rising key [] = Unit {0}
 Rising key (m ∷ ms) = All (Upto key m) ms × Rising key ms
@@ -50,7 +50,7 @@ order_by k f x y = ordering_then (slice_cmp nat_cmp (k x) (k y)) (nat_cmp (f x) 
 order_by_total : {X : Type 0} (k : X → List ℕ) (f : X → ℕ) → IsTotalOrder (order_by k f)
 order_by_total k f = then_total (on_total k nat_list_cmp_total) (on_total f nat_cmp_total)
 
--- an element doesn't stand behind one that follows it
+-- an element doesn't stand after one that follows it
 named_upto : (key : ℕ → List ℕ) (a b : List ℕ) (m n : ℕ) → a ≡ key m → b ≡ key n → is_lt (ordering_then (slice_cmp nat_cmp b a) (nat_cmp n m)) ≡ false → Upto key m n
 named_upto key a b m n am bn h =
     let e : is_lt (order key n m) ≡ false = ap (λ x. is_lt (ordering_then (slice_cmp nat_cmp x (key m)) (nat_cmp n m))) (sym bn) ∙ ap (λ x. is_lt (ordering_then (slice_cmp nat_cmp b x) (nat_cmp n m))) (sym am) ∙ h in
@@ -87,7 +87,7 @@ sum_of_zeros : (f : ℕ → ℕ) (xs : List ℕ) → All (λ x. f x ≡ 0) xs �
 sum_of_zeros f [] all = refl
 sum_of_zeros f (x ∷ xs) all = omega (arith, sum_by-cons f x xs, all 0 x (omega arith), sum_of_zeros f xs (All-tail (λ z. f z ≡ 0) x xs all))
 
--- the first of one list doesn't stand behind the first of the other
+-- the first of one list doesn't stand after the first of the other
 first_upto : (key : ℕ → List ℕ) (x y : ℕ) (xs ys : List ℕ) → All (Upto key y) ys → SameSums (x ∷ xs) (y ∷ ys) → Upto key y x
 first_upto key x y xs ys rest sums =
     let f : ℕ → ℕ = λ z. cond (is_gt (order key y z)) 1 0 in
@@ -148,7 +148,7 @@ unfolding sorted
 sorted_all key P [] all = all
 sorted_all key P (n ∷ ns) all = put_all key P n (sorted key ns) (all 0 n (omega arith)) (sorted_all key P ns (All-tail P n ns all))
 
--- a place in front of a later one whose key isn't smaller
+-- a place before a later one whose key isn't smaller
 nat_less : (n m : ℕ) → n < m → is_gt (nat_cmp n m) ≡ false
 nat_less n m h = grind (arith, nat_tests, h)
 
@@ -157,7 +157,7 @@ in_front Less n m le h = refl
 in_front Equal n m le h = nat_less n m h
 in_front Greater n m le h = cc
 
--- a place behind one whose key is smaller
+-- a place after one whose key is smaller
 behind : (a back o : Ordering) → back ≡ ordering_reverse a → is_le a ≡ false → is_gt (ordering_then back o) ≡ false
 behind Less back o e le = cc
 behind Equal back o e le = cc

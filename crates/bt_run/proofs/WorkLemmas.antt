@@ -26,8 +26,9 @@ use Rattle.bt_run.specs.declared.course.Step.{Step}
 use Rattle.bt_run.specs.declared.reuse.Reuse.{Reuse}
 use Rattle.bt_run.specs.declared.reuse.Known.{Known}
 use Rattle.bt_run.specs.Reached.{names_in}
-use Rattle.bt_run.specs.Index.{IsIndex}
-use Rattle.bt_run.specs.Work.{key_in, IsStep, same_key, is_same, is_again, work_under, IsLike, IsKnown, step_now, IsCounted, IsNext}
+use Rattle.bt_run.specs.inner.Index.{IsIndex}
+use Rattle.bt_run.specs.Work.{key_in, IsStep, same_key, is_same, is_again, work_under}
+use Rattle.bt_run.specs.inner.Work.{IsLike, IsKnown, step_now, IsCounted, IsNext}
 use Rattle.bt_run.proofs.ReachedLemmas.{footprint_named}
 
 -- Agreement

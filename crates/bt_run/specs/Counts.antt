@@ -22,17 +22,17 @@ abbrev pub count_message : List ℕ → Message
 count_message words = plain CallCount words
 
 -- the line of a function
-abbrev pub row_told : List Step → Row → Message
-row_told trace row = count_message (row.name ++ codes " -- " ++ decimal (calls_of trace row))
+abbrev pub function_line : List Step → Row → Message
+function_line trace row = count_message (row.name ++ codes " -- " ++ decimal (calls_of trace row))
 
--- the line in front of them
-abbrev pub total_told : ℕ → Message
-total_told count = count_message (codes "The built-in function-call counts, " ++ decimal count ++ codes " in all, are:")
+-- the line before them
+abbrev pub total_line : ℕ → Message
+total_line count = count_message (codes "The built-in function-call counts, " ++ decimal count ++ codes " in all, are:")
 
 -- the counts of a run, function by function in the order of the table
 unfoldable pub counts_told : List Step → List Message
-counts_told trace = total_told (all_calls trace) ∷ map (row_told trace) table
+counts_told trace = total_line (all_calls trace) ∷ map (function_line trace) table
 
--- a run with the counts of its calls behind its messages
-abbrev pub counted : Course → Course
-counted r = record r { log = r.log ++ counts_told r.trace }
+-- a run with the counts of its calls after its messages
+abbrev pub with_counts : Course → Course
+with_counts r = record r { log = r.log ++ counts_told r.trace }

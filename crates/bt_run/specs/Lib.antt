@@ -1,16 +1,14 @@
 pub mod Course
 pub mod Reached
-pub mod Index
 pub mod Work
 pub mod Sorting
 pub mod Reading
 pub mod Styles
-pub mod BodySet
 pub mod Commands
 pub mod Counts
 pub mod Meaning
-pub mod JobView
 pub mod Shown
 pub mod Kept
 pub mod Steps
 pub mod ByName
+pub mod inner

@@ -19,7 +19,7 @@ use Rattle.bt_run.specs.declared.course.Course.{Course}
 use Rattle.bt_run.specs.declared.course.Step.{Step}
 use Rattle.bt_run.specs.Reading.{Job}
 use Rattle.bt_run.specs.Commands.{commands_from}
-use Rattle.bt_run.specs.Counts.{counted}
+use Rattle.bt_run.specs.Counts.{with_counts}
 
 -- The style
 
@@ -34,9 +34,9 @@ first_number name =
 abbrev pub first_globals : Program → Variables
 first_globals p = record { numbers = map first_number p.global_numbers; texts = map (λ name. []) p.global_texts }
 
--- a run that has told this, in front of the style's commands
-abbrev pub begun : Variables → List Message → Course
-begun globals log =
+-- a run that has logged this, before the style's commands
+abbrev pub run_begun : Variables → List Message → Course
+run_begun globals log =
     record {
       entries = [];
       order = [];
@@ -64,22 +64,22 @@ job_for files c min style p = record {
   program = p;
 }
 
--- the commands of a style in order behind a log, then the counts
-abbrev pub carried : Job → List Message → Course
-carried job log = counted (commands_from job 0 job.program.commands (begun (first_globals job.program) log))
+-- the commands of a style in order after a log, then the counts
+abbrev pub style_run : Job → List Message → Course
+style_run job log = with_counts (commands_from job 0 job.program.commands (run_begun (first_globals job.program) log))
 
--- a run under a style of this name with a fault, which is told behind a log and ends the run
-abbrev pub refused : List ℕ → Fault → List Message → Course
-refused style fault log = begun no_variables (log ++ fault_told style fault ∷ [])
+-- a run under a style of this name with a fault, which goes to the end of a log and ends the run
+abbrev pub faulty_run : List ℕ → Fault → List Message → Course
+faulty_run style fault log = run_begun no_variables (log ++ fault_told style fault ∷ [])
 
 -- what a style that can be read does, or its first fault
 abbrev pub styled : List File → Citations → ℕ → List ℕ → Result Program Fault → Course
-styled files c min style (Err fault) = refused style fault c.log
-styled files c min style (Ok p) = carried (job_for files c min style p) c.log
+styled files c min style (Err fault) = faulty_run style fault c.log
+styled files c min style (Ok p) = style_run (job_for files c min style p) c.log
 
--- without a style the run ends behind the .aux files
+-- without a style the run ends after the .aux files
 abbrev pub run_with : List File → Citations → ℕ → Option (List ℕ) → Course
-run_with files c min None = begun no_variables c.log
+run_with files c min None = run_begun no_variables c.log
 run_with files c min (Some style) = styled files c min style (style_of (unwrap_or (text_of files style) []))
 
 -- Runs
@@ -109,12 +109,12 @@ shown_of lines log wanted =
       wanted = wanted;
     }
 
-abbrev pub shown : Course → List (List ℕ) → Meaning
-shown r wanted = shown_of r.lines r.log wanted
+abbrev pub course_shown : Course → List (List ℕ) → Meaning
+course_shown r wanted = shown_of r.lines r.log wanted
 
 -- what files mean from this root, with this min-crossrefs
 unfoldable pub meaning : List File → List ℕ → ℕ → Meaning
-meaning files root min = shown (run_of files root min) (citations files root).wanted
+meaning files root min = course_shown (run_of files root min) (citations files root).wanted
 
 -- the steps of that run
 unfoldable pub trace : List File → List ℕ → ℕ → List Step

@@ -58,7 +58,7 @@ functions_before number p = take (count_by (λ (c : Command). is_definition c.ac
 abbrev pub known_macro : Macro → KnownMacro
 known_macro m = record { name = m.name; value = m.text }
 
--- what the style declares in front of the command of this number: its fields, a type for each function, and its macros
+-- what the style declares before the command of this number: its fields, a type for each function, and its macros
 abbrev pub declared_before : ℕ → Program → Declared
 declared_before number p = record {
   fields = p.fields;
@@ -77,16 +77,16 @@ abbrev pub items_in : List File → List ℕ → List Item
 items_in files name = items_of (pieces_of (text_in files name))
 
 -- what the databases give for the citations, at the command of this number
-abbrev pub found : Job → ℕ → Resolved
-found job number = resolved (declared_before number job.program) job.cites (map (items_in job.files) job.databases) job.min
+abbrev pub found_for : Job → ℕ → Resolved
+found_for job number = resolved (declared_before number job.program) job.cites (map (items_in job.files) job.databases) job.min
 
 -- numbers that are 0 and empty texts, as many as there are names
 abbrev pub blank : List (List ℕ) → List (List ℕ) → Variables
 blank numbers texts = record { numbers = map (λ name. pos 0) numbers; texts = map (λ name. []) texts }
 
 -- an entry with its variables, as many as the style declares
-abbrev pub entered : Program → FoundEntry → Entry
-entered p e = record { key = e.key; kind = e.kind; function = e.function; fields = e.fields; variables = blank p.entry_numbers p.entry_texts }
+abbrev pub with_blank_variables : Program → FoundEntry → Entry
+with_blank_variables p e = record { key = e.key; kind = e.kind; function = e.function; fields = e.fields; variables = blank p.entry_numbers p.entry_texts }
 
 -- Messages
 
@@ -141,15 +141,15 @@ all_read databases messages = databases_told 1 databases messages ++ filter (λ 
 abbrev pub list_order : List Entry → List ℕ
 list_order entries = range_with_len 0 (length entries)
 
--- the run behind what the databases gave
+-- the run after what the databases gave
 abbrev pub read_in : Program → List (List ℕ) → Resolved → Course → Course
 read_in p databases found r =
     record r {
-      entries = map (entered p) found.entries;
-      order = list_order (map (entered p) found.entries);
+      entries = map (with_blank_variables p) found.entries;
+      order = list_order (map (with_blank_variables p) found.entries);
       preamble = found.preamble;
       log = r.log ++ all_read databases found.messages;
     }
 
 abbrev pub read : Job → ℕ → Course → Course
-read job number r = read_in job.program job.databases (found job number) r
+read job number r = read_in job.program job.databases (found_for job number) r

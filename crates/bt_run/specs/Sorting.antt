@@ -17,7 +17,7 @@ key_at entries n = sort_key (slice_index_or entries n no_entry)
 abbrev pub is_upto : List ℕ → List ℕ → Bool
 is_upto a b = is_le (slice_cmp nat_cmp a b)
 
--- a place among sorted ones: in front of the first whose key isn't smaller
+-- a place among sorted ones: before the first whose key isn't smaller
 unfoldable pub put_among : (ℕ → List ℕ) → ℕ → List ℕ → List ℕ
 put_among key n [] = n ∷ []
 put_among key n (m ∷ ms) = if is_upto (key n) (key m) then n ∷ m ∷ ms else m ∷ put_among key n ms

@@ -1,20 +1,14 @@
 -- The steps of a run under the text of its style.
-use Rattle.std.specs.Prelude.{◌≡◌, ◌≤◌, ℕ, List, [], Option, Some, None, Result, Ok, Err, All, length, bytes_eq, if◌then◌else◌}
+use Rattle.std.specs.Prelude.{◌≡◌, ℕ, List, Option, Some, None, Result, Ok, Err, All, bytes_eq, if◌then◌else◌}
 use Rattle.bt_style.specs.declared.fault.Fault.{Fault}
 use Rattle.bt_style.specs.Program.{Program}
 use Rattle.bt_style.specs.Reader.{style_of}
 use Rattle.bt_run.specs.declared.course.Step.{Step}
-use Rattle.bt_run.specs.declared.reuse.Reuse.{Reuse}
-use Rattle.bt_run.specs.Work.{IsStep, work_under, total_cost}
+use Rattle.bt_run.specs.Work.{IsStep, work_under}
 
 -- All steps are those of the style of this text, if it could be read. (No cases: a ghost field's type must be seen to be a proposition.)
 abbrev pub StepsAre : Option (List ℕ) → List Step → Type 0
 StepsAre text steps = (t : List ℕ) (p : Program) → text ≡ Some t → style_of t ≡ Ok p → All (IsStep p) steps
-
--- an earlier run's steps, where its style had this text
-abbrev pub steps_under : Option (List ℕ) → List Step → List ℕ → List Step
-steps_under None steps text = []
-steps_under (Some own) steps text = if bytes_eq own text then steps else []
 
 -- the work of steps under a style that could be read; a style with a fault has no steps
 abbrev pub styled_work : Result Program Fault → List Step → List Step → List Step
@@ -27,10 +21,3 @@ abbrev pub work_after : Option (List ℕ) → List Step → Option (List ℕ) �
 work_after own earlier None steps = steps
 work_after None earlier (Some text) steps = steps
 work_after (Some own) earlier (Some text) steps = if bytes_eq own text then styled_work (style_of text) earlier steps else steps
-
--- What was carried out is the work of a run's steps, which are those of its style.
-pub record IsTaken (own : Option (List ℕ)) (earlier : List Step) (text : Option (List ℕ)) (steps : List Step) (reuse : Reuse) : Type 0 where
-  pub ran : reuse.ran ≡ length (work_after own earlier text steps)
-  pub ticks : reuse.meter ≡ total_cost (work_after own earlier text steps)
-  pub fewer : reuse.ran ≤ length steps
-  pub true_steps : StepsAre text steps

@@ -3,12 +3,12 @@
 ghost use Rattle.std.specs.Prelude.{◌≡◌, ◌≤◌, [], None, length, IfOk};
 ghost use Rattle.std.specs.Option.{ForSome};
 ghost use Rattle.bt_style.specs.Program.{program_of};
-ghost use Rattle.bt_run.specs.Work.{IsConsistent};
-ghost use Rattle.bt_run.specs.Steps.{IsTaken};
+ghost use Rattle.bt_run.specs.inner.Work.{IsConsistent};
+ghost use Rattle.bt_run.specs.inner.Steps.{IsTaken};
 ghost use Rattle.bt_run.specs.Kept.{named_text, style_text, report_after};
 ghost use Rattle.bt_actions.specs.World.{no_variables};
-ghost use Rattle.bt_run.specs.Meaning.{carried, refused, run_with, shown_of, meaning, trace};
-ghost use Rattle.bt_run.specs.JobView.{job_of};
+ghost use Rattle.bt_run.specs.Meaning.{style_run, faulty_run, run_with, shown_of, meaning, trace};
+ghost use Rattle.bt_run.specs.inner.JobView.{job_of};
 ghost use Rattle.bt_run.specs.Shown.{meaning_of};
 
 use crate::beginning::{begin, fault_told, first_globals};
@@ -39,7 +39,7 @@ pub struct Answers {
     pub terse: Bytes,
     /// The messages of the log in their parts, in order.
     pub messages: Sequence<Message>,
-    /// 0 where the run was clean, 1 behind warnings, 2 behind errors, 3 behind a fatal error.
+    /// 0 where the run was clean, 1 after warnings, 2 after errors, 3 after a fatal error.
     pub status: u8,
     /// The names of the files that were looked for and not found, in order, each once.
     pub wanted: Sequence<Bytes>,
@@ -68,7 +68,7 @@ fn no_variables(alloc: Global) -> Variables
     }
 }
 
-/// Carries out the commands of a style behind a log, and tells the counts.
+/// Carries out the commands of a style after a log, and logs the counts.
 #[tactic(auto, using(crate::proofs::AnswerLemmas::begun_consistent, crate::proofs::AnswerLemmas::counted_consistent, crate::proofs::AnswerLemmas::carried_by))]
 fn carry_out_style(
     alloc: Global,
@@ -80,7 +80,7 @@ fn carry_out_style(
     requires ran { reuse.old.ran ≡ 0 }
     requires known { reuse.old.known ≡ [] }
     requires index { reuse.old.lookup.index ≡ None }
-    ensures run { IfOk result (λ course. course ≡ carried (job_of job.entry) log) }
+    ensures run { IfOk result (λ course. course ≡ style_run (job_of job.entry) log) }
     ensures consistent { IfOk result
         (λ course. IsConsistent (program_of job.entry.style.now) job.entry.earlier.now course reuse.new) }
 {
@@ -91,14 +91,14 @@ fn carry_out_style(
     Ok(course)
 }
 
-/// A run under a style with a fault: the fault is told behind a log, and ends the run.
+/// A run under a style with a fault: the fault goes to the end of a log, and ends the run.
 fn refuse_style(
     alloc: Global,
     name: &[u8],
     fault: Fault,
     log: Sequence<Message>,
 ) -> Result<Course, AllocError>
-    ensures { IfOk result (λ course. course ≡ refused name.now fault log) }
+    ensures { IfOk result (λ course. course ≡ faulty_run name.now fault log) }
 {
     let mut log = log;
     log.push(fault_told(alloc, name, fault)?)?;
@@ -215,8 +215,8 @@ pub struct Run {
 }
 
 /// What the files mean from this root, the name of its file without `.aux`, with this min-crossrefs. Of the steps that
-/// are kept of an earlier run, those that agree are taken over where its style has the same text; all others are carried
-/// out, and reported. Texts that were read before aren't read again. The one error is out of memory.
+/// are kept of an earlier run, those that agree are taken over where its style has the same text; all others are
+/// carried out, and reported. Texts that were read before aren't read again. The one error is out of memory.
 #[tactic(auto, using(crate::proofs::AnswerLemmas::star_within))]
 pub fn answers_after(
     alloc: Global,

@@ -2,7 +2,7 @@
 
 ghost use Rattle.std.specs.Prelude.{◌≡◌, map, IfOk};
 ghost use Rattle.bt_style.specs.Program.{program_of};
-ghost use Rattle.bt_run.specs.Meaning.{first_number, first_globals, begun, fault_told};
+ghost use Rattle.bt_run.specs.Meaning.{first_number, first_globals, run_begun, fault_told};
 
 use crate::course::Course;
 use crate::declaring::empty_texts;
@@ -46,13 +46,13 @@ pub fn first_globals(alloc: Global, style: &Style) -> Result<Variables, AllocErr
     })
 }
 
-/// A run that has told this, in front of the style's commands.
+/// A run that has logged this, before the style's commands.
 pub fn begin(
     alloc: Global,
     globals: Variables,
     log: Sequence<Message>,
 ) -> Result<Course, AllocError>
-    ensures { IfOk result (λ course. course ≡ begun globals log) }
+    ensures { IfOk result (λ course. course ≡ run_begun globals log) }
 {
     Ok(Course {
         entries: Sequence::new(alloc),

@@ -3,8 +3,8 @@
 ghost use Rattle.std.specs.Prelude.{◌≡◌, ◌<◌, Some, All, Contains, IfOk, IfSome, IsSome, OnOk, length, reverse};
 ghost use Rattle.bt_style.specs.Program.{program_of};
 ghost use Rattle.bt_machine.specs.Place.{IsPlace};
-ghost use Rattle.bt_run.specs.Course.{world_of, input_at, stepped};
-ghost use Rattle.bt_run.specs.Work.{IsConsistent, IsNext};
+ghost use Rattle.bt_run.specs.Course.{course_world, input_at, stepped};
+ghost use Rattle.bt_run.specs.inner.Work.{IsConsistent, IsNext};
 ghost use Rattle.bt_run.specs.Commands.{iterated, unless_stopped};
 
 use crate::course::{Course, Site, Step};
@@ -35,11 +35,11 @@ impl<'a> Caller<'a> {
         course: &Course,
         next: usize,
     ) -> Option<&'a Shared<Step>>
-        requires { IsPlace place (world_of course.now) }
+        requires { IsPlace place (course_world course.now) }
         ensures within { IsSome result → next < length self.entry.job.earlier.now }
         ensures among { IfSome result (λ s. Contains self.entry.job.earlier.now s.now) }
         ensures command { IfSome result (λ s. s.now.command ≡ self.entry.site.now.command) }
-        ensures input { IfSome result (λ s. s.now.input ≡ input_at target place (world_of course.now)) }
+        ensures input { IfSome result (λ s. s.now.input ≡ input_at target place (course_world course.now)) }
     {
         let earlier = self.job.earlier;
         if next < earlier.len() {
@@ -97,10 +97,10 @@ impl<'a> Caller<'a> {
         course: &Course,
         reuse: &mut Reuse,
     ) -> Result<Shared<Step>, AllocError>
-        requires placed { IsPlace place (world_of course.now) }
+        requires placed { IsPlace place (course_world course.now) }
         requires consistent { IsConsistent (program_of self.job.style.now) self.job.earlier.now course.now reuse.old }
         ensures command { IfOk result (λ s. s.command ≡ self.entry.site.now.command) }
-        ensures input { IfOk result (λ s. s.input ≡ input_at target place (world_of course.now)) }
+        ensures input { IfOk result (λ s. s.input ≡ input_at target place (course_world course.now)) }
         ensures next { IfOk result
             (λ s. IsNext (program_of self.entry.job.style.now) self.entry.job.earlier.now s reuse.old reuse.new) }
     {
@@ -126,7 +126,7 @@ impl<'a> Caller<'a> {
         course: &mut Course,
         reuse: &mut Reuse,
     ) -> Result<(), AllocError>
-        requires placed { IsPlace place (world_of course.old) }
+        requires placed { IsPlace place (course_world course.old) }
         requires consistent { IsConsistent (program_of self.job.style.now) self.job.earlier.now course.old reuse.old }
         ensures run { OnOk result (course.new
             ≡ stepped (program_of self.entry.job.style.now) self.entry.site.now target place course.old) }

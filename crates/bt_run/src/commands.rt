@@ -2,10 +2,10 @@
 
 ghost use Rattle.std.specs.Prelude.{◌≡◌, OnOk, IfOk};
 ghost use Rattle.bt_style.specs.Program.{program_of};
-ghost use Rattle.bt_run.specs.Work.{IsConsistent};
+ghost use Rattle.bt_run.specs.inner.Work.{IsConsistent};
 ghost use Rattle.bt_run.specs.Reading.{read};
 ghost use Rattle.bt_run.specs.Commands.{sorted_run, site_of, command as command_done, commands_from};
-ghost use Rattle.bt_run.specs.JobView.{job_of};
+ghost use Rattle.bt_run.specs.inner.JobView.{job_of};
 
 use crate::caller::Caller;
 use crate::course::{Course, Site};

@@ -3,7 +3,7 @@
 ghost use Rattle.std.specs.Prelude.{◌≡◌, ℕ, ◌+◌, ◌++◌, ◌*◌, ◌≤◌, ◌<◌, ◌^◌, length, map, sum_by, slice_index_or, codes, decimal, IfOk, OnOk};
 ghost use Rattle.bt_style.specs.Builtins.{place_of, name_of};
 ghost use Rattle.bt_style.specs.Names.{row_of};
-ghost use Rattle.bt_run.specs.Counts.{calls_at, all_calls, count_message, total_told, row_told, counted};
+ghost use Rattle.bt_run.specs.Counts.{calls_at, all_calls, count_message, total_line, function_line, with_counts};
 
 use crate::course::{Course, Step};
 use bt_log::{Message, Rank};
@@ -22,7 +22,7 @@ struct Tally<'a> {
     ghost bounded: { (place : ℕ) → place < 37 → slice_index_or calls place 0 < 2 ^ 96 },
 }
 
-/// Adds the calls of a step to those of the steps in front of it.
+/// Adds the calls of a step to those of the steps before it.
 fn add_calls(sums: &mut [u128; BUILTIN_COUNT], calls: &[u32; BUILTIN_COUNT])
     requires { (place : ℕ) → place < 37 → slice_index_or sums.old place 0 < 2 ^ 96 }
     ensures added { (place : ℕ) → place < 37 → slice_index_or sums.new place 0 ≡ slice_index_or sums.old place 0 + slice_index_or calls.now place 0 }
@@ -75,7 +75,7 @@ fn all_calls(tally: &Tally<'_>) -> u128
 
 /// The line before the counts.
 fn total_told(alloc: Global, count: u128) -> Result<Message, AllocError>
-    ensures { IfOk result (λ message. message ≡ total_told count) }
+    ensures { IfOk result (λ message. message ≡ total_line count) }
 {
     let mut buffer = Buffer::new();
     let count = buffer.format(count).as_bytes();
@@ -106,14 +106,14 @@ fn row_told(alloc: Global, builtin: Builtin, count: u128) -> Result<Message, All
     count_line(alloc, builtin.name(), count)
 }
 
-/// Tells the counts of these functions.
+/// Logs the counts of these functions.
 fn tell_rows(
     alloc: Global,
     log: &mut Sequence<Message>,
     tally: &Tally<'_>,
     builtins: &[Builtin],
 ) -> Result<(), AllocError>
-    ensures { OnOk result (log.new ≡ log.old ++ map (λ b. row_told tally.now.steps.now (row_of b)) builtins.now) }
+    ensures { OnOk result (log.new ≡ log.old ++ map (λ b. function_line tally.now.steps.now (row_of b)) builtins.now) }
 {
     'builtins: for builtin in builtins {
         let count = calls_at(tally, builtin.place());
@@ -122,9 +122,9 @@ fn tell_rows(
     Ok(())
 }
 
-/// Tells the counts of a run behind its messages, function by function in the order of the table.
+/// Logs the counts of a run after its messages, function by function in the order of the table.
 pub fn tell_counts(alloc: Global, course: &mut Course) -> Result<(), AllocError>
-    ensures { OnOk result (course.new ≡ counted course.old) }
+    ensures { OnOk result (course.new ≡ with_counts course.old) }
 {
     let tally = count_calls(course.trace.as_slice());
     let count = all_calls(&tally);

@@ -29,7 +29,8 @@ impl Database {
         Ok(Database { text, items })
     }
 
-    /// The same for one more owner; no part of it is copied. The one error is that a part has no room for another owner.
+    /// The same for one more owner; no part of it is copied. The one error is that a part has no room for another
+    /// owner.
     pub fn share(&self) -> Result<Database, AllocError>
         ensures { IfOk result (λ same. same.text ≡ self.now.text) }
     {
@@ -40,8 +41,8 @@ impl Database {
     }
 
     /// The database of a text that is this one's with a splice. Only what the splice can have changed is read, from the
-    /// boundary before it to the first one after it that both texts have, and its bytes are counted. The one error is out of
-    /// memory.
+    /// boundary before it to the first one after it that both texts have, and its bytes are counted. The one error is
+    /// out of memory.
     pub fn spliced(
         &self,
         alloc: Global,
@@ -71,7 +72,7 @@ pub fn database_of<'a>(databases: &'a [Database], text: &[u8]) -> Option<&'a Dat
         .find(|database| database.text.as_slice() == text)
 }
 
-/// The database of a text: the one that was read, else it is read and put behind those that were.
+/// The database of a text: the one that was read, else it is read and put after those that were.
 fn taken_or_read(
     alloc: Global,
     databases: &mut Sequence<Database>,
@@ -87,7 +88,7 @@ fn taken_or_read(
     Ok(database)
 }
 
-/// The databases of these names, in order. Those that weren't read before are read, and put behind those that were.
+/// The databases of these names, in order. Those that weren't read before are read, and put after those that were.
 pub fn databases_in(
     alloc: Global,
     files: &[File],

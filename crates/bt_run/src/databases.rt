@@ -1,4 +1,4 @@
-//! What the log tells of the databases.
+//! What the log says of the databases.
 
 ghost use Rattle.std.specs.Prelude.{◌≡◌, ◌++◌, ◌∷◌, [], map, filter, IfOk, OnOk};
 ghost use Rattle.bt_log.specs.declared.message.Message.{Message as MessageSeen};
@@ -70,7 +70,7 @@ fn tell_if_about(
     Ok(())
 }
 
-/// Tells of a database: its line, and the messages about it.
+/// Logs a database: its line, and the messages about it.
 fn tell_database(
     alloc: Global,
     log: &mut Sequence<Message>,
@@ -107,7 +107,7 @@ fn tell_general(log: &mut Sequence<Message>, messages: &[Message]) -> Result<(),
     Ok(())
 }
 
-/// Tells of all databases in order, and then what is about none.
+/// Logs all databases in order, and then what is about none.
 pub fn tell_databases(
     alloc: Global,
     log: &mut Sequence<Message>,

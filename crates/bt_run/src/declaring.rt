@@ -79,7 +79,7 @@ fn known_macros(alloc: Global, macros: &[bt_style::Macro]) -> Result<Sequence<Ma
     Ok(known)
 }
 
-/// What the style declares in front of the command of a number: its fields, a type for each function that is defined
+/// What the style declares before the command of a number: its fields, a type for each function that is defined
 /// there, and its macros.
 pub fn declared_before(alloc: Global, style: &Style, number: usize) -> Result<Declared, AllocError>
     ensures { IfOk result (λ declared. declared ≡ declared_before number (program_of style.now)) }

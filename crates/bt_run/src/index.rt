@@ -2,7 +2,7 @@
 
 ghost use Rattle.std.specs.Prelude.{◌≡◌, ◌++◌, [], ◌∷◌, ℕ, List, IfOk, OnOk, option_copied, unwrap_or, if◌then◌else◌};
 ghost use Rattle.bt_text.specs.Folding.{is_same_folded};
-ghost use Rattle.bt_run.specs.Index.{step_name, places_at, IsIndex};
+ghost use Rattle.bt_run.specs.inner.Index.{step_name, places_at, IsIndex};
 
 use crate::course::Step;
 use bt_machine::Input;

@@ -1,7 +1,8 @@
 //! What is kept of an earlier run.
 
 ghost use Rattle.std.specs.Prelude.{◌≡◌, None, []};
-ghost use Rattle.bt_run.specs.Steps.{StepsAre, steps_under};
+ghost use Rattle.bt_run.specs.Steps.{StepsAre};
+ghost use Rattle.bt_run.specs.inner.Steps.{steps_under};
 
 use crate::course::Step;
 use bt_text::{Bytes, Sequence, Shared};

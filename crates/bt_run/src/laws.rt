@@ -6,7 +6,7 @@ ghost use Rattle.bt_run.specs.Meaning.{meaning, trace};
 ghost use Rattle.bt_run.specs.ByName.{HaveSameTexts};
 
 /// A law: what files mean, the steps of their run and the text of its style depend on which text each name has. So the
-/// order of the files is not seen, nor is one behind another of its name.
+/// order of the files is not seen, nor is one after another of its name.
 pub fn meaning_by_names()
     ensures meaning { (files others : List File) → HaveSameTexts files others → (root : List ℕ) (min : ℕ) →
         meaning files root min ≡ meaning others root min }

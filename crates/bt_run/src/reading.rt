@@ -2,8 +2,8 @@
 
 ghost use Rattle.std.specs.Prelude.{◌≡◌, map, IfOk, OnOk};
 ghost use Rattle.bt_style.specs.Program.{program_of};
-ghost use Rattle.bt_run.specs.Reading.{found, entered, list_order, read_in, read};
-ghost use Rattle.bt_run.specs.JobView.{job_of};
+ghost use Rattle.bt_run.specs.Reading.{found_for, with_blank_variables, list_order, read_in, read};
+ghost use Rattle.bt_run.specs.inner.JobView.{job_of};
 
 use crate::course::Course;
 use crate::database::{Database, all_items, databases_in};
@@ -23,7 +23,7 @@ fn found(
     number: usize,
     databases: &mut Sequence<Database>,
 ) -> Result<Resolved, AllocError>
-    ensures { IfOk result (λ all. all ≡ found (job_of job.entry) number) }
+    ensures { IfOk result (λ all. all ≡ found_for (job_of job.entry) number) }
 {
     let declared = declared_before(alloc, job.style, number)?;
     let read = databases_in(alloc, job.files, job.databases, databases)?;
@@ -57,7 +57,7 @@ fn all_entered(
     style: &Style,
     entries: Sequence<bt_resolve::Entry>,
 ) -> Result<Sequence<Entry>, AllocError>
-    ensures { IfOk result (λ all. all ≡ map (entered (program_of style.now)) entries) }
+    ensures { IfOk result (λ all. all ≡ map (with_blank_variables (program_of style.now)) entries) }
 {
     let numbers = style.entry_numbers.as_slice();
     let texts = style.entry_texts.as_slice();
@@ -81,8 +81,8 @@ fn list_order(alloc: Global, entries: &[Entry]) -> Result<Sequence<usize>, Alloc
     Ok(order)
 }
 
-/// Reads the databases: the entries with their variables, the list order, the preamble, and what is told. Of these
-/// databases only those are read that weren't before; they are put behind those that were.
+/// Reads the databases: the entries with their variables, the list order, the preamble, and what is reported. Of these
+/// databases only those are read that weren't before; they are put after those that were.
 pub fn read(
     alloc: Global,
     job: Job<'_>,

@@ -6,8 +6,9 @@ ghost use Rattle.bt_style.specs.Program.{program_of};
 ghost use Rattle.bt_style.specs.Reach.{is_among};
 ghost use Rattle.bt_machine.specs.Step.{step_in, outcome_of};
 ghost use Rattle.bt_machine.specs.Agreement.{IsFootprint, IsNextOutcome, outcome_over};
-ghost use Rattle.bt_run.specs.Index.{IsIndex};
-ghost use Rattle.bt_run.specs.Work.{IsStep, IsLike, IsNoneAt, IsNone, IsMet, IsKnown, step_now, IsCounted};
+ghost use Rattle.bt_run.specs.inner.Index.{IsIndex};
+ghost use Rattle.bt_run.specs.Work.{IsStep};
+ghost use Rattle.bt_run.specs.inner.Work.{IsLike, IsNoneAt, IsNone, IsMet, IsKnown, step_now, IsCounted};
 
 use crate::course::Step;
 use crate::index::Index;

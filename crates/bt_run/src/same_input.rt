@@ -4,7 +4,7 @@ ghost use Rattle.std.specs.Prelude.{◌≡◌, ◌<◌, length, IsTrue};
 ghost use Rattle.std.specs.Option.{ForSome};
 ghost use Rattle.bt_actions.specs.World.{entry_in};
 ghost use Rattle.bt_machine.specs.Place.{IsPlace};
-ghost use Rattle.bt_run.specs.Course.{world_of, input_at};
+ghost use Rattle.bt_run.specs.Course.{course_world, input_at};
 
 use crate::course::Course;
 use crate::reusing::is_same_function;
@@ -54,8 +54,8 @@ fn equal_preambles(old: &[u8], new: &[u8]) -> bool
 
 /// Whether an input is what a step is given now, for the entry at a place or for none.
 pub fn is_input(input: &Input, course: &Course, target: Target, place: Option<usize>) -> bool
-    requires { IsPlace place (world_of course.now) }
-    ensures { IsTrue result → input.now ≡ input_at target place (world_of course.now) }
+    requires { IsPlace place (course_world course.now) }
+    ensures { IsTrue result → input.now ≡ input_at target place (course_world course.now) }
 {
     input.target == target
         && is_entry_at(&input.entry, course.entries.as_slice(), place)

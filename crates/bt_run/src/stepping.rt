@@ -7,7 +7,8 @@ ghost use Rattle.bt_actions.specs.World.{entry_in};
 ghost use Rattle.bt_machine.specs.Place.{IsPlace};
 ghost use Rattle.bt_log.specs.declared.message.Place.TheVariants as places;
 ghost use Rattle.bt_log.specs.Message.{at};
-ghost use Rattle.bt_run.specs.Course.{world_of, input_at, all_told, variables_back, put_back};
+ghost use Rattle.bt_run.specs.Course.{course_world, input_at, all_told};
+ghost use Rattle.bt_run.specs.inner.Course.{variables_back, put_back};
 
 use crate::course::{Course, Site};
 use bt_actions::{Entry, Variables};
@@ -20,7 +21,7 @@ use std::mem;
 
 /// The entry at a place, shared with the run, or none.
 fn entry_at(course: &Course, place: Option<usize>) -> Result<Option<Entry>, AllocError>
-    requires { IsPlace place (world_of course.now) }
+    requires { IsPlace place (course_world course.now) }
     ensures { IfOk result (λ entry. entry ≡ entry_in course.now.entries place) }
 {
     match place {
@@ -36,8 +37,8 @@ pub fn cut_out(
     target: Target,
     place: Option<usize>,
 ) -> Result<Input, AllocError>
-    requires { IsPlace place (world_of course.now) }
-    ensures { IfOk result (λ input. input ≡ input_at target place (world_of course.now)) }
+    requires { IsPlace place (course_world course.now) }
+    ensures { IfOk result (λ input. input ≡ input_at target place (course_world course.now)) }
 {
     Ok(Input {
         target,
@@ -117,7 +118,7 @@ fn put_held(alloc: Global, held: &mut Held, left: &Held) -> Result<(), AllocErro
     Ok(())
 }
 
-/// Puts lines behind others, shared with those who have them.
+/// Puts lines after others, shared with those who have them.
 fn push_lines(lines: &mut Sequence<Shared<Bytes>>, more: &[Shared<Bytes>]) -> Result<(), AllocError>
     ensures { OnOk result (lines.new ≡ lines.old ++ more.now) }
 {
@@ -134,7 +135,7 @@ pub fn put_back(
     place: Option<usize>,
     outcome: &Outcome,
 ) -> Result<(), AllocError>
-    requires { IsPlace place (world_of course.old) }
+    requires { IsPlace place (course_world course.old) }
     ensures { OnOk result (course.new ≡ put_back place outcome.now course.old) }
 {
     put_variables_back(alloc, &mut course.entries, place, &outcome.variables)?;

@@ -6,7 +6,7 @@ ghost use Rattle.bt_style.specs.Fault.{Gives};
 ghost use Rattle.bt_style.specs.Program.{program_of};
 ghost use Rattle.bt_style.specs.Reader.{style_of};
 ghost use Rattle.bt_run.specs.Styles.{read_as};
-ghost use Rattle.bt_run.specs.BodySet.{bodies_set};
+ghost use Rattle.bt_run.specs.inner.BodySet.{bodies_set};
 
 use bt_job::File;
 use bt_style::{Fault, Style, StyleRefusal, read_style};
@@ -22,7 +22,7 @@ pub struct ReadStyle {
 }
 
 impl ReadStyle {
-    /// Reads a text. The one error is out of memory.
+    /// Reads a text.
     fn read(alloc: Global, text: Shared<Bytes>) -> Result<ReadStyle, AllocError>
         ensures { IfOk result (λ known. known.text ≡ text) }
     {
@@ -34,7 +34,8 @@ impl ReadStyle {
         Ok(ReadStyle { text, style })
     }
 
-    /// The same for one more owner; no part of it is copied. The one error is that a part has no room for another owner.
+    /// The same for one more owner; no part of it is copied. The one error is that a part has no room for another
+    /// owner.
     pub fn share(&self) -> Result<ReadStyle, AllocError>
         ensures { IfOk result (λ same. same.text ≡ self.now.text) }
     {

@@ -9,7 +9,7 @@ use Rattle.bibtex.specs.declared.state.State.{State}
 use Rattle.bibtex.specs.Present.{reported}
 use Rattle.bibtex.specs.Changes.{Change, write, splice, remove, root_name, min_crossrefs}
 use Rattle.bibtex.specs.Applied.{outcome, applied, IsAnswer}
-use Rattle.bibtex.specs.Headline.{behind, AnswersInTurn, behind_all}
+use Rattle.bibtex.specs.Headline.{after_answer, AnswersInTurn, after_answers}
 use Rattle.bt_serve.specs.Commands.{Request, Command, edit, bbl, blg, status, quit, unreadable, too_long, request_of, refused, edit_answer, state_or, unless_wanting, after, after_of, state_after, Wants, WantsInTurn}
 use Rattle.bt_serve.specs.Edits.{edit_with, edit_in, edits_of, brought, AreSame, Leads, LeadsBy}
 
@@ -35,7 +35,7 @@ applied_same e change bytes s is =
 -- An edit with this outcome is answered so, and then the others lead to a state.
 abbrev AnswersOne : List Edit → List (Result Report Refusal) → Result Report Refusal → State → State → Result State Refusal → Type 0
 AnswersOne es answers a s t made =
-    IsAnswer made a × IfOk a (λ report. report ≡ reported s (behind a made s)) × AnswersInTurn es answers (behind a made s) × (t ≡ behind_all es answers (behind a made s))
+    IsAnswer made a × IfOk a (λ report. report ≡ reported s (after_answer a made s)) × AnswersInTurn es answers (after_answer a made s) × (t ≡ after_answers es answers (after_answer a made s))
 
 -- From commands to edits
 

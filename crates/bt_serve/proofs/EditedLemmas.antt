@@ -4,7 +4,7 @@ use Rattle.std.specs.List.{AllByRecursion, flat_map}
 use Rattle.bibtex.specs.declared.state.State.{State}
 use Rattle.bt_serve.specs.declared.fault.ServeFault.{ServeFault}
 use Rattle.bt_serve.specs.declared.fault.ServeFault.TheVariants.{ReadFailed, WriteFailed, Truncated}
-use Rattle.bt_serve.specs.Commands.{Command, request_of, spelled, ends, state_after}
+use Rattle.bt_serve.specs.Commands.{Command, request_of, command_text, ends, state_after}
 use Rattle.bt_serve.specs.Serves.{Ends}
 use Rattle.bt_serve.specs.Whole.{commands_of, commands_within, up_to_quit, AnswersAll, AnswersBefore, AnswersPart}
 use Rattle.bt_serve.specs.Edits.{LeadsBy, IsEdited}
@@ -16,7 +16,7 @@ use Rattle.bt_serve.proofs.EditLemmas.{leads_by}
 to_state : (cs : List Command) (ms : List Bool) (s t : State) → length ms ≡ length cs → t ≡ state_after ms cs s → LeadsBy cs s t
 to_state cs ms s t len is = subst (LeadsBy cs s) (sym is) (leads_by cs ms s len)
 
--- the commands in front of one, and that one
+-- the commands before one, and that one
 part_edited : (input said said' : List ℕ) (s t : State) → AnswersPart input said said' s t → IsEdited {A = Bool} (Err WriteFailed) input s t
 part_edited input said said' s t (front, c, others, ms, m, is, goes_on, len, part, edited, wants, want) = (
   front ++ c ∷ [],
@@ -37,6 +37,6 @@ fails_edited input rest said said' s t Truncated end =
     ap up_to_quit (sym (append-nil (commands_of input).commands)) ∙ up_to_front (commands_of input).commands [] before.5 ∙ append-nil (commands_of input).commands in
     rw all (to_state (commands_of input).commands before.0 s t before.1 before.3)
 fails_edited input rest said said' s t ReadFailed (cs, ms, mid, told, between, a, turn) =
-    let k = front_cut cs mid (length (flat_map spelled cs ++ mid)) a.each (omega arith) in
+    let k = front_cut cs mid (length (flat_map command_text cs ++ mid)) a.each (omega arith) in
     (cs, (commands_within k.0 mid).commands, ap (λ t. (commands_of t).commands) a.read ∙ k.2, to_state cs ms s t a.one_each (turn.4 ∙ a.edited))
 fails_edited input rest said said' s t WriteFailed end = part_edited input said said' s t (ends_answers_part input rest said said' s t end)

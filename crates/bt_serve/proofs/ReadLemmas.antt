@@ -42,7 +42,7 @@ consumes_part a b c k n xs ys zs h i p q =
     let e = take_two k n xs ys zs h i in
     rw e (consumes_more a b c (take k xs) (take n ys) p q)
 
--- One more byte of a line, written behind the others.
+-- One more byte of a line, written after the others.
 pub line_more : (a b c : Option (List ℕ)) (k x : ℕ) (xs ys : List ℕ) → ys ≡ take k xs ++ x ∷ [] → HasNoFeed (take k xs) → x ≢ 10 →
     Consumes a b (take k xs) → Consumes b c (x ∷ []) → HasNoFeed ys × Consumes a c ys
 line_more a b c k x xs ys e n f p q =

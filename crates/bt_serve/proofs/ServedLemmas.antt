@@ -2,7 +2,7 @@
 use Rattle.std.proofs.Common.{◌≡◌, inl, inr, ℕ, zero, suc, ◌≤◌, List, [], ◌∷◌, ◌++◌, length, refl, ap, sym, ◌∙◌, subst, arith, append_assoc, append-nil, length-append, None, Bool, true, false, Ok, Err}
 use Rattle.std.specs.List.{AllByRecursion, flat_map}
 use Rattle.bibtex.specs.declared.state.State.{State}
-use Rattle.bt_serve.specs.Commands.{Command, request_of, spelled, ends, answer, after, answers_to, Wants}
+use Rattle.bt_serve.specs.Commands.{Command, request_of, command_text, ends, answer, after, answers_to, Wants}
 use Rattle.bt_serve.specs.Serves.{IsCommand, Answered, Ends}
 use Rattle.bt_serve.specs.declared.fault.ServeFault.TheVariants.{WriteFailed, Truncated}
 use Rattle.bt_serve.specs.Whole.{Cut, commands_within, commands_of, up_to_quit, AnswersAll, AnswersBefore, AnswersPart}
@@ -14,20 +14,20 @@ up_to_front [] xs a = refl
 up_to_front (c ∷ cs) xs a = rw (← a.0) (ap (λ t. c ∷ t) (up_to_front cs xs a.1))
 
 -- the commands in front, and then those of the rest
-pub front_cut : (cs : List Command) (rest : List ℕ) (n : ℕ) → AllByRecursion IsCommand cs → length (flat_map spelled cs ++ rest) ≤ n →
-    (k : ℕ) × (length rest ≤ k) × ((commands_within n (flat_map spelled cs ++ rest)).commands ≡ cs ++ (commands_within k rest).commands)
+pub front_cut : (cs : List Command) (rest : List ℕ) (n : ℕ) → AllByRecursion IsCommand cs → length (flat_map command_text cs ++ rest) ≤ n →
+    (k : ℕ) × (length rest ≤ k) × ((commands_within n (flat_map command_text cs ++ rest)).commands ≡ cs ++ (commands_within k rest).commands)
 front_cut [] rest n a h = (n, h, refl)
-front_cut (c ∷ cs) rest zero a h = absurd (omega (arith, length-append (spelled c ++ flat_map spelled cs) rest, length-append (spelled c) (flat_map spelled cs), length-append c.line (10 ∷ c.bytes)))
+front_cut (c ∷ cs) rest zero a h = absurd (omega (arith, length-append (command_text c ++ flat_map command_text cs) rest, length-append (command_text c) (flat_map command_text cs), length-append c.line (10 ∷ c.bytes)))
 front_cut (c ∷ cs) rest (suc n) a h =
-    let e = append_assoc (spelled c) (flat_map spelled cs) rest in
-    let size : length (spelled c ++ (flat_map spelled cs ++ rest)) ≤ suc n = omega (arith, h, ap length e) in
-    let less : length (flat_map spelled cs ++ rest) ≤ n = omega (arith, size, length-append (spelled c) (flat_map spelled cs ++ rest), length-append c.line (10 ∷ c.bytes)) in
+    let e = append_assoc (command_text c) (flat_map command_text cs) rest in
+    let size : length (command_text c ++ (flat_map command_text cs ++ rest)) ≤ suc n = omega (arith, h, ap length e) in
+    let less : length (flat_map command_text cs ++ rest) ≤ n = omega (arith, size, length-append (command_text c) (flat_map command_text cs ++ rest), length-append c.line (10 ∷ c.bytes)) in
     let later = front_cut cs rest n a.1 less in
-    (later.0, later.1, ap (λ t. (commands_within (suc n) t).commands) e ∙ ap (λ (x : Cut). x.commands) (cut_first c (flat_map spelled cs ++ rest) n a.0 size) ∙ ap (λ t. c ∷ t) later.2)
+    (later.0, later.1, ap (λ t. (commands_within (suc n) t).commands) e ∙ ap (λ (x : Cut). x.commands) (cut_first c (flat_map command_text cs ++ rest) n a.0 size) ∙ ap (λ t. c ∷ t) later.2)
 
 -- the first command, where a line feed ends its line and where the input does
-head_fed : (c : Command) (rest : List ℕ) (k : ℕ) → IsCommand c → length (spelled c ++ rest) ≤ k → (xs : List Command) × ((commands_within k (spelled c ++ rest)).commands ≡ c ∷ xs)
-head_fed c rest zero i h = absurd (omega (arith, length-append (spelled c) rest, length-append c.line (10 ∷ c.bytes)))
+head_fed : (c : Command) (rest : List ℕ) (k : ℕ) → IsCommand c → length (command_text c ++ rest) ≤ k → (xs : List Command) × ((commands_within k (command_text c ++ rest)).commands ≡ c ∷ xs)
+head_fed c rest zero i h = absurd (omega (arith, length-append (command_text c) rest, length-append c.line (10 ∷ c.bytes)))
 head_fed c rest (suc k) i h = ((commands_within k rest).commands, ap (λ (x : Cut). x.commands) (cut_first c rest k i h))
 
 up_to_one : (c : Command) (xs : List Command) → true ≡ ends (request_of c.line) → up_to_quit (c ∷ xs) ≡ c ∷ []
@@ -53,18 +53,18 @@ all_answered input mid said told said' state between state' cs ms c m a e w f z 
 
 pub ends_answers_all : (input rest said said' : List ℕ) (state state' : State) → Ends input rest said said' state state' (Ok true) → AnswersAll input said said' state state'
 ends_answers_all input rest said said' state state' (cs, ms, mid, told, between, a, inl d) =
-    let e : commands_of input ≡ record { commands = cs; rest = [] } = ap commands_of (a.read ∙ ap (λ t. flat_map spelled cs ++ t) d.0 ∙ append-nil (flat_map spelled cs)) ∙ cut_whole cs a.each in
+    let e : commands_of input ≡ record { commands = cs; rest = [] } = ap commands_of (a.read ∙ ap (λ t. flat_map command_text cs ++ t) d.0 ∙ append-nil (flat_map command_text cs)) ∙ cut_whole cs a.each in
     let u : up_to_quit (commands_of input).commands ≡ cs = ap (λ (x : Cut). up_to_quit x.commands) e ∙ ap up_to_quit (sym (append-nil cs)) ∙ up_to_front cs [] a.goes_on ∙ append-nil cs in
     rw u (ms, a.one_each, d.2 ∙ a.written, d.3 ∙ a.edited, a.wanting)
 ends_answers_all input rest said said' state state' (cs, ms, mid, told, between, a, inr (c, m, i, inl (r, q), w, f, z)) =
-    let k = front_cut cs mid (length (flat_map spelled cs ++ mid)) a.each (omega arith) in
+    let k = front_cut cs mid (length (flat_map command_text cs ++ mid)) a.each (omega arith) in
     let x = head_fed c rest k.0 i (omega (arith, k.1, ap length r)) in
     let h = ap (λ t. (commands_within k.0 t).commands) r ∙ x.1 in
     let u : up_to_quit (commands_of input).commands ≡ cs ++ c ∷ [] =
     ap (λ t. up_to_quit (commands_of t).commands) a.read ∙ ap up_to_quit (k.2 ∙ ap (λ t. cs ++ t) h) ∙ up_to_front cs (c ∷ x.0) a.goes_on ∙ ap (λ t. cs ++ t) (up_to_one c x.0 q) in
     all_answered input mid said told said' state between state' cs ms c m a u w f z
 ends_answers_all input rest said said' state state' (cs, ms, mid, told, between, a, inr (c, m, i, inr l, w, f, y)) =
-    let k = front_cut cs mid (length (flat_map spelled cs ++ mid)) a.each (omega arith) in
+    let k = front_cut cs mid (length (flat_map command_text cs ++ mid)) a.each (omega arith) in
     let h = ap (λ t. (commands_within k.0 t).commands) l.2 ∙ ap (λ (x : Cut). x.commands) (last_left c i l.0 l.1 k.0 (omega (arith, k.1, ap length l.2))) in
     let u : up_to_quit (commands_of input).commands ≡ cs ++ c ∷ [] =
     ap (λ t. up_to_quit (commands_of t).commands) a.read ∙ ap up_to_quit (k.2 ∙ ap (λ t. cs ++ t) h) ∙ up_to_front cs (c ∷ []) a.goes_on ∙ ap (λ t. cs ++ t) (up_to_alone c (ends (request_of c.line)) refl) in
@@ -95,13 +95,13 @@ part_answered input mid said told said' state between state' cs ms c m others a 
 
 pub ends_answers_part : (input rest said said' : List ℕ) (state state' : State) → Ends input rest said said' state state' (Err WriteFailed) → AnswersPart input said said' state state'
 ends_answers_part input rest said said' state state' (cs, ms, mid, told, between, a, (c, m, i, inl r, (part, more, q, w), f, y)) =
-    let k = front_cut cs mid (length (flat_map spelled cs ++ mid)) a.each (omega arith) in
+    let k = front_cut cs mid (length (flat_map command_text cs ++ mid)) a.each (omega arith) in
     let x = head_fed c rest k.0 i (omega (arith, k.1, ap length r)) in
     let h = ap (λ t. (commands_within k.0 t).commands) r ∙ x.1 in
     let u : (commands_of input).commands ≡ cs ++ c ∷ x.0 = ap (λ t. (commands_of t).commands) a.read ∙ k.2 ∙ ap (λ t. cs ++ t) h in
     part_answered input mid said told said' state between state' cs ms c m x.0 a u part more q w f y
 ends_answers_part input rest said said' state state' (cs, ms, mid, told, between, a, (c, m, i, inr l, (part, more, q, w), f, y)) =
-    let k = front_cut cs mid (length (flat_map spelled cs ++ mid)) a.each (omega arith) in
+    let k = front_cut cs mid (length (flat_map command_text cs ++ mid)) a.each (omega arith) in
     let h = ap (λ t. (commands_within k.0 t).commands) l.2 ∙ ap (λ (x : Cut). x.commands) (last_left c i l.0 l.1 k.0 (omega (arith, k.1, ap length l.2))) in
     let u : (commands_of input).commands ≡ cs ++ c ∷ [] = ap (λ t. (commands_of t).commands) a.read ∙ k.2 ∙ ap (λ t. cs ++ t) h in
     part_answered input mid said told said' state between state' cs ms c m [] a u part more q w f y

@@ -7,7 +7,7 @@ use Rattle.bibtex.specs.declared.state.State.{State}
 use Rattle.bibtex.specs.Changes.{Change}
 use Rattle.bibtex.specs.Applied.{outcome, refusal_of, changed, unless_refused, IsAnswer}
 use Rattle.bt_serve.specs.Commands.{edit, edit_answer, state_or, unless_wanting, accepted, refused}
-use Rattle.bt_serve.specs.Serves.{Takes, Does, taken_text}
+use Rattle.bt_serve.specs.inner.Serves.{Takes, Does, taken_text}
 
 -- What answers an edit whose bytes found no room.
 dropped_at : (refusal : Option Refusal) (s : State) → IsAnswer {A = Report} (unless_refused refusal s) (Err (unwrap_or refusal OutOfMemory))
@@ -18,7 +18,7 @@ pub dropped : (change : Change) (bytes : List ℕ) (n : ℕ) (s : State) (refusa
     IsAnswer {A = Report} (outcome change bytes s) (Err (unwrap_or refusal OutOfMemory))
 dropped change bytes n s refusal e h = rw (e, ← h) (dropped_at (refusal_of change (length bytes) s) (changed change bytes s))
 
--- A refusal that the definitions give, or want of memory where they give none.
+-- A refusal that the definitions give, or out of memory where they give none.
 refused_as : (change : Change) (bytes : List ℕ) (s : State) (r : Refusal) (made : Result State Refusal) → outcome change bytes s ≡ made → IsAnswer {A = Report} made (Err r) →
     (wants : Bool) × (s ≡ state_or s (unless_wanting wants (outcome change bytes s))) × (refused r ≡ edit_answer s (unless_wanting wants (outcome change bytes s))) ×
     (wants ≡ true → edit_answer s (unless_wanting wants (outcome change bytes s)) ≡ refused OutOfMemory)

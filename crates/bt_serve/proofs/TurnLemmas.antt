@@ -7,8 +7,9 @@ use Rattle.std.specs.Io.KnownBytes.{Consumes, Appends, IsAtEnd}
 use Rattle.bt_serve.proofs.ReadLemmas.{consumes_more}
 use Rattle.bt_serve.specs.Reads.{HasNoFeed}
 use Rattle.bibtex.specs.declared.state.State.{State}
-use Rattle.bt_serve.specs.Commands.{Request, Command, request_of, request_of_words, words_of, too_long, ends, answer, after, answers_to, state_after, spelled, Wants, WantsInTurn}
-use Rattle.bt_serve.specs.Serves.{Answered, IsCommand, Replies, Turn, ended}
+use Rattle.bt_serve.specs.Commands.{Request, Command, request_of, request_of_words, words_in_line, too_long, ends, answer, after, answers_to, state_after, command_text, Wants, WantsInTurn}
+use Rattle.bt_serve.specs.Serves.{Answered, IsCommand, Turn, loop_ended}
+use Rattle.bt_serve.specs.inner.Serves.{Replies}
 use Rattle.bt_serve.specs.declared.fault.ServeFault.{ServeFault}
 use Rattle.bt_serve.specs.declared.fault.ServeFault.TheVariants.{ReadFailed, WriteFailed, Truncated}
 
@@ -73,7 +74,7 @@ turn_line line mid input said request old new held held' state state' (Err Trunc
 pub turn_last : (line input said : List ℕ) (request : Request) (old new held held' : Option (List ℕ)) (state state' : State) (r : Result Bool ServeFault) →
     HasNoFeed line → line ≢ [] → request ≡ request_of line → input ≡ line → old ≡ Some [] → held ≡ Some said →
     Replies request old new held held' state state' r →
-    (rest : List ℕ) × (said' : List ℕ) × (new ≡ Some rest) × (held' ≡ Some said') × Turn input rest said said' state state' (ended r)
+    (rest : List ℕ) × (said' : List ℕ) × (new ≡ Some rest) × (held' ≡ Some said') × Turn input rest said said' state state' (loop_ended r)
 turn_last line input said request old new held held' state state' (Ok b) f n q e o h p =
     let d = rw q at p in
     let k = consumed old new d.0.1 [] d.0.3 o in
@@ -94,7 +95,7 @@ turn_last line input said request old new held held' state state' (Err Truncated
     (k.0, said, k.1, d.2 ∙ h, ((line, d.0.0, f, inr (e, first_empty d.0.0 k.0 k.2), d.0.1), second_empty d.0.0 k.0 k.2, refl, d.3))
 
 -- What a line of at most 256 bytes asks for, and a longer one.
-pub request_short : (line : List ℕ) → length line ≤ 256 → request_of_words (words_of line) ≡ request_of line
+pub request_short : (line : List ℕ) → length line ≤ 256 → request_of_words (words_in_line line) ≡ request_of line
 request_short line h = grind (arith, nat_tests)
 
 pub request_long : (line : List ℕ) → 256 < length line → too_long ≡ request_of line
@@ -111,7 +112,7 @@ feed_turn line input said request first old new held held' state state' r f q p 
 pub end_turn : (line input said : List ℕ) (request : Request) (first old new held held' : Option (List ℕ)) (state state' : State) (r : Result Bool ServeFault) →
     HasNoFeed line → line ≢ [] → request ≡ request_of line → Consumes first old line → IsAtEnd old → first ≡ Some input → held ≡ Some said →
     Replies request old new held held' state state' r →
-    (rest : List ℕ) × (said' : List ℕ) × (new ≡ Some rest) × (held' ≡ Some said') × Turn input rest said said' state state' (ended r)
+    (rest : List ℕ) × (said' : List ℕ) × (new ≡ Some rest) × (held' ≡ Some said') × Turn input rest said said' state state' (loop_ended r)
 end_turn line input said request first old new held held' state state' r f n q p z e h d =
     let k = consumed first old line input p e in
     let y = at_end old k.0 z k.1 in
@@ -174,8 +175,8 @@ answered_more input mid rest said told said' state between state' cs ms a t = re
   each = all_more IsCommand cs t.0 a.each t.2;
   goes_on = all_more (λ c. false ≡ ends (request_of c.line)) cs t.0 a.goes_on t.4;
   one_each = omega (arith, length-append ms (t.1 ∷ []), length-append cs (t.0 ∷ []), a.one_each);
-  read = a.read ∙ ap (λ u. flat_map spelled cs ++ u) t.3 ∙ sym (append_assoc (flat_map spelled cs) (spelled t.0) rest) ∙
-      ap (λ u. u ++ rest) (ap (λ u. flat_map spelled cs ++ u) (sym (append-nil (spelled t.0))) ∙ sym (flat_map-append spelled cs (t.0 ∷ [])));
+  read = a.read ∙ ap (λ u. flat_map command_text cs ++ u) t.3 ∙ sym (append_assoc (flat_map command_text cs) (command_text t.0) rest) ∙
+      ap (λ u. u ++ rest) (ap (λ u. flat_map command_text cs ++ u) (sym (append-nil (command_text t.0))) ∙ sym (flat_map-append command_text cs (t.0 ∷ [])));
   written = t.5 ∙ ap (λ u. u ++ answer t.1 between t.0) a.written ∙ append_assoc said (answers_to ms cs state) (answer t.1 between t.0) ∙
       ap (λ u. said ++ (answers_to ms cs state ++ answer t.1 u t.0)) a.edited ∙ ap (λ u. said ++ u) (sym (answers_more ms cs state t.1 t.0 a.one_each));
   edited = t.6 ∙ ap (λ u. after t.1 u t.0) a.edited ∙ sym (state_more ms cs state t.1 t.0 a.one_each);

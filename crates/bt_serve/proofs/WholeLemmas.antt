@@ -4,7 +4,7 @@ use Rattle.std.specs.List.{AllByRecursion, flat_map}
 use Rattle.std.proofs.Math.Seq.{take-append_seam, drop-append_seam}
 use Rattle.std.proofs.lemmas.Bool.Decides.{nat_tests}
 use Rattle.bt_serve.specs.Reads.{HasNoFeed}
-use Rattle.bt_serve.specs.Commands.{Command, request_of, bytes_behind, spelled}
+use Rattle.bt_serve.specs.Commands.{Command, request_of, bytes_behind, command_text}
 use Rattle.bt_serve.specs.Serves.{IsCommand, IsCut}
 use Rattle.bt_serve.specs.Whole.{Cut, Line, first_line, text_behind, with_first, command_at, commands_within, commands_of}
 
@@ -36,30 +36,30 @@ command_short l text bytes others e h =
     let lt : nat_le (bytes_behind (request_of l.line)) (length bytes) ≡ false = grind (arith, nat_tests) in
     rw (e, lt) refl
 
-pub cut_first : (c : Command) (t : List ℕ) (n : ℕ) → IsCommand c → length (spelled c ++ t) ≤ suc n → commands_within (suc n) (spelled c ++ t) ≡ with_first c (commands_within n t)
+pub cut_first : (c : Command) (t : List ℕ) (n : ℕ) → IsCommand c → length (command_text c ++ t) ≤ suc n → commands_within (suc n) (command_text c ++ t) ≡ with_first c (commands_within n t)
 cut_first c t n k h =
     let e = append_assoc c.line (10 ∷ c.bytes) t in
     let l = ap first_line e ∙ first_line_feed c.line (c.bytes ++ t) k.0 in
-    within_step n (spelled c ++ t) (omega (arith, length-append (spelled c) t, length-append c.line (10 ∷ c.bytes))) ∙
-    ap (λ (x : Line). command_at x (spelled c ++ t) (commands_within n)) l ∙
-    command_whole (record { line = c.line; behind = Some (c.bytes ++ t) }) (spelled c ++ t) c.bytes t (commands_within n) refl k.1
+    within_step n (command_text c ++ t) (omega (arith, length-append (command_text c) t, length-append c.line (10 ∷ c.bytes))) ∙
+    ap (λ (x : Line). command_at x (command_text c ++ t) (commands_within n)) l ∙
+    command_whole (record { line = c.line; behind = Some (c.bytes ++ t) }) (command_text c ++ t) c.bytes t (commands_within n) refl k.1
 
 -- whole commands, and then what is cut off of the rest
-cut_onto : (cs : List Command) (rest : List ℕ) (cut : Cut) (n : ℕ) → AllByRecursion IsCommand cs → length (flat_map spelled cs ++ rest) ≤ n →
+cut_onto : (cs : List Command) (rest : List ℕ) (cut : Cut) (n : ℕ) → AllByRecursion IsCommand cs → length (flat_map command_text cs ++ rest) ≤ n →
     ((k : ℕ) → length rest ≤ k → commands_within k rest ≡ cut) →
-    commands_within n (flat_map spelled cs ++ rest) ≡ record { commands = cs ++ cut.commands; rest = cut.rest }
+    commands_within n (flat_map command_text cs ++ rest) ≡ record { commands = cs ++ cut.commands; rest = cut.rest }
 cut_onto [] rest cut n a h base = base n h
-cut_onto (c ∷ cs) rest cut zero a h base = absurd (omega (arith, length-append (spelled c ++ flat_map spelled cs) rest, length-append (spelled c) (flat_map spelled cs), length-append c.line (10 ∷ c.bytes)))
+cut_onto (c ∷ cs) rest cut zero a h base = absurd (omega (arith, length-append (command_text c ++ flat_map command_text cs) rest, length-append (command_text c) (flat_map command_text cs), length-append c.line (10 ∷ c.bytes)))
 cut_onto (c ∷ cs) rest cut (suc n) a h base =
-    let e = append_assoc (spelled c) (flat_map spelled cs) rest in
-    let size : length (spelled c ++ (flat_map spelled cs ++ rest)) ≤ suc n = omega (arith, h, ap length e) in
-    let less : length (flat_map spelled cs ++ rest) ≤ n = omega (arith, size, length-append (spelled c) (flat_map spelled cs ++ rest), length-append c.line (10 ∷ c.bytes)) in
-    ap (commands_within (suc n)) e ∙ cut_first c (flat_map spelled cs ++ rest) n a.0 size ∙ ap (with_first c) (cut_onto cs rest cut n a.1 less base)
+    let e = append_assoc (command_text c) (flat_map command_text cs) rest in
+    let size : length (command_text c ++ (flat_map command_text cs ++ rest)) ≤ suc n = omega (arith, h, ap length e) in
+    let less : length (flat_map command_text cs ++ rest) ≤ n = omega (arith, size, length-append (command_text c) (flat_map command_text cs ++ rest), length-append c.line (10 ∷ c.bytes)) in
+    ap (commands_within (suc n)) e ∙ cut_first c (flat_map command_text cs ++ rest) n a.0 size ∙ ap (with_first c) (cut_onto cs rest cut n a.1 less base)
 
 -- the same, where nothing is cut off of the rest
-cut_all : (cs : List Command) (rest : List ℕ) (n : ℕ) → AllByRecursion IsCommand cs → length (flat_map spelled cs ++ rest) ≤ n →
+cut_all : (cs : List Command) (rest : List ℕ) (n : ℕ) → AllByRecursion IsCommand cs → length (flat_map command_text cs ++ rest) ≤ n →
     ((k : ℕ) → length rest ≤ k → commands_within k rest ≡ record { commands = []; rest = rest }) →
-    commands_within n (flat_map spelled cs ++ rest) ≡ record { commands = cs; rest = rest }
+    commands_within n (flat_map command_text cs ++ rest) ≡ record { commands = cs; rest = rest }
 cut_all cs rest n a h base =
     cut_onto cs rest (record { commands = []; rest = rest }) n a h base ∙ ap (λ xs. let x : Cut = record { commands = xs; rest = rest } in x) (append-nil cs)
 
@@ -77,13 +77,13 @@ short_left (b ∷ t) (line, bytes, f, inr e, lt) (suc k) h =
     ap (λ (x : Line). command_at x (b ∷ t) (commands_within k)) (ap first_line e.0 ∙ first_line_end line f) ∙
     command_short (record { line = line; behind = None }) (b ∷ t) bytes (commands_within k) (sym e.1) lt
 
-pub cut_whole : (cs : List Command) → AllByRecursion IsCommand cs → commands_of (flat_map spelled cs) ≡ record { commands = cs; rest = [] }
+pub cut_whole : (cs : List Command) → AllByRecursion IsCommand cs → commands_of (flat_map command_text cs) ≡ record { commands = cs; rest = [] }
 cut_whole cs a =
-    let e = append-nil (flat_map spelled cs) in
-    ap commands_of (sym e) ∙ cut_all cs [] (length (flat_map spelled cs ++ [])) a (omega arith) none_left
+    let e = append-nil (flat_map command_text cs) in
+    ap commands_of (sym e) ∙ cut_all cs [] (length (flat_map command_text cs ++ [])) a (omega arith) none_left
 
-pub cut_short : (cs : List Command) (rest : List ℕ) → AllByRecursion IsCommand cs → IsCut rest → commands_of (flat_map spelled cs ++ rest) ≡ record { commands = cs; rest = rest }
-cut_short cs rest a r = cut_all cs rest (length (flat_map spelled cs ++ rest)) a (omega arith) (short_left rest r)
+pub cut_short : (cs : List Command) (rest : List ℕ) → AllByRecursion IsCommand cs → IsCut rest → commands_of (flat_map command_text cs ++ rest) ≡ record { commands = cs; rest = rest }
+cut_short cs rest a r = cut_all cs rest (length (flat_map command_text cs ++ rest)) a (omega arith) (short_left rest r)
 
 -- a last command, whose line ends with the input
 pub last_left : (c : Command) → IsCommand c → c.line ≢ [] → c.bytes ≡ [] → (k : ℕ) → length c.line ≤ k → commands_within k c.line ≡ record { commands = c ∷ []; rest = [] }
@@ -101,6 +101,6 @@ last_left c i some none k h =
         ∙ ap (with_first (record { line = b ∷ t; bytes = [] })) (none_left k (omega arith))
 
 pub cut_last : (cs : List Command) (c : Command) → AllByRecursion IsCommand cs → IsCommand c → c.line ≢ [] → c.bytes ≡ [] →
-    commands_of (flat_map spelled cs ++ c.line) ≡ record { commands = cs ++ c ∷ []; rest = [] }
+    commands_of (flat_map command_text cs ++ c.line) ≡ record { commands = cs ++ c ∷ []; rest = [] }
 cut_last cs c a i some none =
-    cut_onto cs c.line (record { commands = c ∷ []; rest = [] }) (length (flat_map spelled cs ++ c.line)) a (omega arith) (last_left c i some none)
+    cut_onto cs c.line (record { commands = c ∷ []; rest = [] }) (length (flat_map command_text cs ++ c.line)) a (omega arith) (last_left c i some none)

@@ -4,7 +4,7 @@ use Rattle.std.specs.List.{slice_split, position_or_len}
 use Rattle.std.proofs.lemmas.List.Splits.{slice_split_first, length-slice_split}
 use Rattle.std.proofs.lemmas.List.Quantifiers.{position-Some}
 use Rattle.std.proofs.lemmas.Grind.{common_steps}
-use Rattle.bt_serve.specs.Commands.{words_of, request_of_words, unreadable}
+use Rattle.bt_serve.specs.Commands.{words_in_line, request_of_words, unreadable}
 
 pub split_some : (p : ℕ → Bool) (xs : List ℕ) (i : ℕ) → position p xs ≡ Some i → slice_split p xs ≡ take i xs ∷ slice_split p (drop (i + 1) xs)
 split_some p xs i e =
@@ -30,5 +30,5 @@ six_at : (a b c d e : List ℕ) (ws : List (List ℕ)) → 0 < length ws → req
 six_at a b c d e [] h = absurd (omega arith)
 six_at a b c d e (w ∷ ws) h = refl
 
-pub six_words : (a b c d e t : List ℕ) → request_of_words (a ∷ b ∷ c ∷ d ∷ e ∷ words_of t) ≡ unreadable
-six_words a b c d e t = six_at a b c d e (words_of t) (omega (arith, length-slice_split (λ (x : ℕ). x == 32) t))
+pub six_words : (a b c d e t : List ℕ) → request_of_words (a ∷ b ∷ c ∷ d ∷ e ∷ words_in_line t) ≡ unreadable
+six_words a b c d e t = six_at a b c d e (words_in_line t) (omega (arith, length-slice_split (λ (x : ℕ). x == 32) t))

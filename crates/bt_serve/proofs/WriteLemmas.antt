@@ -19,7 +19,7 @@ appends_kept None b p = tt
 appends_kept (Some u) None p = absurd p
 appends_kept (Some u) (Some v) p = p ∙ sym (append-nil u)
 
--- A write that failed, behind others.
+-- A write that failed, after others.
 pub part_behind : (a b c : Option (List ℕ)) (xs ys more whole : List ℕ) → whole ≡ xs ++ (ys ++ more) → Appends a b xs → AppendsPart b c ys → AppendsPart a c whole
 part_behind a b c xs ys more whole e p q =
     (xs ++ q.0, q.1 ++ more, e ∙ ap (λ t. xs ++ (t ++ more)) q.2 ∙ ap (λ t. xs ++ t) (append_assoc q.0 q.1 more) ∙ sym (append_assoc xs q.0 (q.1 ++ more)), appends_more a b c xs q.0 p q.3)
@@ -32,7 +32,7 @@ pub on_err_any : {T E P : Type 0} → (r : Result T E) → P → OnErr r P
 on_err_any (Ok x) p = tt
 on_err_any (Err e) p = p
 
--- The pieces before one, that one, and those behind it.
+-- The pieces before one, that one, and those after it.
 pub flat_map_at : {X : Type 0} (f : X → List ℕ) (xs : List X) (i : ℕ) (d : X) → i < length xs →
     flat_map f xs ≡ flat_map f (take i xs) ++ (f (get_or xs i d) ++ flat_map f (drop (i + 1) xs))
 flat_map_at f xs i d h =

@@ -23,13 +23,8 @@ pub record Command : Type 0 where
 -- What a line asks for
 
 -- the words of a line, which single spaces part
-abbrev pub words_of : List ℕ → List (List ℕ)
-words_of line = slice_split (λ b. b == 32) line
-
--- a text's first word, and the text behind the space that follows it
-abbrev pub FirstWord : List ℕ → List ℕ → Option (List ℕ) → Type 0
-FirstWord text word None = words_of text ≡ word ∷ []
-FirstWord text word (Some rest) = words_of text ≡ word ∷ words_of rest
+abbrev pub words_in_line : List ℕ → List (List ℕ)
+words_in_line line = slice_split (λ b. b == 32) line
 
 -- 0 to 9
 abbrev pub is_digit : ℕ → Bool
@@ -97,7 +92,7 @@ request_of_words _ = unreadable
 
 -- a line of more than 256 bytes asks for nothing
 abbrev pub request_of : List ℕ → Request
-request_of line = if nat_lt 256 (length line) then too_long else request_of_words (words_of line)
+request_of line = if nat_lt 256 (length line) then too_long else request_of_words (words_in_line line)
 
 -- how many bytes follow a line
 abbrev pub bytes_behind : Request → ℕ
@@ -130,12 +125,12 @@ abbrev pub edit_answer : State → Result State Refusal → List ℕ
 edit_answer old (Ok state) = accepted (reported old state)
 edit_answer old (Err refusal) = refused refusal
 
--- the state behind an edit of this outcome
+-- the state after an edit of this outcome
 abbrev pub state_or : State → Result State Refusal → State
 state_or old (Ok state) = state
 state_or old (Err refusal) = old
 
--- what becomes of an edit whose outcome is this, where the truth value says whether it wants of memory
+-- what becomes of an edit whose outcome is this, where the truth value says whether it is out of memory
 abbrev pub unless_wanting : Bool → Result State Refusal → Result State Refusal
 unless_wanting false made = made
 unless_wanting true (Ok state) = Err OutOfMemory
@@ -172,7 +167,7 @@ answer wants state c = answer_of wants state (request_of c.line) c.bytes
 abbrev pub after : Bool → State → Command → State
 after wants state c = after_of wants state (request_of c.line) c.bytes
 
--- The answers to commands, one after another, where a list of truth values says which edits want of memory.
+-- The answers to commands, one after another, where a list of truth values says which edits ran out of memory.
 abbrev pub answers_to : List Bool → List Command → State → List ℕ
 answers_to [] cs state = []
 answers_to (m ∷ ms) [] state = []
@@ -184,7 +179,7 @@ state_after [] cs state = state
 state_after (m ∷ ms) [] state = state
 state_after (m ∷ ms) (c ∷ cs) state = state_after ms cs (after m state c)
 
--- a truth value is true only at a request that is answered by the refusal for want of memory
+-- a truth value is true only at a request that is answered by the refusal as out of memory
 abbrev pub Wants : Bool → State → Request → List ℕ → Type 0
 Wants wants state request bytes = wants ≡ true → answer_of wants state request bytes ≡ refused OutOfMemory
 
@@ -195,15 +190,10 @@ WantsInTurn (m ∷ ms) [] state = Unit {0}
 WantsInTurn (m ∷ ms) (c ∷ cs) state = Wants m state (request_of c.line) c.bytes × WantsInTurn ms cs (after m state c)
 
 -- a command as it is spelled where a line feed ends its line
-abbrev pub spelled : Command → List ℕ
-spelled c = c.line ++ 10 ∷ c.bytes
+abbrev pub command_text : Command → List ℕ
+command_text c = c.line ++ 10 ∷ c.bytes
 
--- whether nothing is read behind it
+-- whether nothing is read after it
 abbrev pub ends : Request → Bool
 ends quit = true
 ends _ = false
-
--- any other than an edit
-abbrev pub IsShown : Request → Type 0
-IsShown (edit change n) = ⊥
-IsShown _ = Unit {0}

@@ -1,4 +1,4 @@
--- How the faults of the loop are told, and what was handed on at one.
+-- How the faults of the loop are reported, and what was handed on at one.
 use Rattle.std.specs.Prelude.{◌≡◌, ℕ, Bool, true, Result, Ok, Err}
 use Rattle.bt_serve.specs.declared.fault.ServeFault.{ServeFault}
 use Rattle.bt_serve.specs.declared.fault.ServeFault.TheVariants.{ReadFailed, WriteFailed, Truncated}

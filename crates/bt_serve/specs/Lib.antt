@@ -2,7 +2,7 @@ pub mod Faults
 pub mod Reads
 pub mod Writes
 pub mod Commands
-pub mod Asked
 pub mod Serves
 pub mod Whole
 pub mod Edits
+pub mod inner

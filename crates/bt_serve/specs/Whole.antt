@@ -10,12 +10,12 @@ pub record Cut : Type 0 where
   pub commands : List Command
   pub rest : List ℕ
 
--- a line, and what stands behind its line feed where it has one
+-- a line, and what stands after its line feed where it has one
 pub record Line : Type 0 where
   pub line : List ℕ
   pub behind : Option (List ℕ)
 
--- the first line of a text, and what stands behind its line feed where it has one
+-- the first line of a text, and what stands after its line feed where it has one
 abbrev pub first_line : List ℕ → Line
 first_line [] = record { line = []; behind = None }
 first_line (b ∷ t) = if b == 10 then record { line = []; behind = Some t } else record { line = b ∷ (first_line t).line; behind = (first_line t).behind }
@@ -28,7 +28,7 @@ text_behind l = elim l.behind [ Some t ↦ t | None ↦ [] ]
 abbrev pub with_first : Command → Cut → Cut
 with_first c cut = record { commands = c ∷ cut.commands; rest = cut.rest }
 
--- the command of a line, and then those of what stands behind it; or nothing, where its bytes are cut short
+-- the command of a line, and then those of what stands after it; or nothing, where its bytes are cut short
 abbrev pub command_at : Line → List ℕ → (List ℕ → Cut) → Cut
 command_at l text others =
     let count = bytes_behind (request_of l.line) in
@@ -52,14 +52,15 @@ abbrev pub up_to_quit : List Command → List Command
 up_to_quit [] = []
 up_to_quit (c ∷ cs) = if ends (request_of c.line) then c ∷ [] else c ∷ up_to_quit cs
 
--- All commands of an input up to the one that ends the loop were answered, for some choice of the edits that want of memory refused.
+-- All commands of an input up to the one that ends the loop were answered, for some choice of the edits that were
+-- refused as out of memory.
 abbrev pub AnswersAll : List ℕ → List ℕ → List ℕ → State → State → Type 0
 AnswersAll input said said' state state' =
     (ms : List Bool) × (length ms ≡ length (up_to_quit (commands_of input).commands)) ×
     (said' ≡ said ++ answers_to ms (up_to_quit (commands_of input).commands) state) × (state' ≡ state_after ms (up_to_quit (commands_of input).commands) state) ×
     WantsInTurn ms (up_to_quit (commands_of input).commands) state
 
--- All commands of an input were answered, none ends the loop, and behind them the input is cut short.
+-- All commands of an input were answered, none ends the loop, and after them the input is cut short.
 abbrev pub AnswersBefore : List ℕ → List ℕ → List ℕ → State → State → Type 0
 AnswersBefore input said said' state state' =
     (ms : List Bool) × (length ms ≡ length (commands_of input).commands) ×
@@ -67,7 +68,7 @@ AnswersBefore input said said' state state' =
     WantsInTurn ms (commands_of input).commands state ×
     AllByRecursion (λ c. false ≡ ends (request_of c.line)) (commands_of input).commands × IsCut (commands_of input).rest
 
--- The commands in front of one were answered, a beginning of its answer was written, and the state are those after it.
+-- The commands before one were answered, a beginning of its answer was written, and the state are those after it.
 abbrev pub AnswersPart : List ℕ → List ℕ → List ℕ → State → State → Type 0
 AnswersPart input said said' state state' =
     (front : List Command) × (c : Command) × (others : List Command) × (ms : List Bool) × (m : Bool) ×

@@ -3,9 +3,10 @@
 ghost use Rattle.std.specs.Prelude.{◌≡◌, ◌+◌, ◌-◌, ◌^◌, ◌<◌, ◌≤◌, [], length, codes, IfOk, OnOk, OnErr, Err, true, false};
 ghost use Rattle.std.specs.Io.KnownBytes.{Appends};
 ghost use Rattle.bibtex.specs.Changes.{change_of};
-ghost use Rattle.bt_serve.specs.Asked.{asked};
-ghost use Rattle.bt_serve.specs.Commands.{edit, code_of, number_line, text_answer, answer_of, ends, IsShown, accepted, refused};
-ghost use Rattle.bt_serve.specs.Serves.{Takes, taken_text, Replies};
+ghost use Rattle.bt_serve.specs.inner.Asked.{request_seen};
+ghost use Rattle.bt_serve.specs.Commands.{edit, code_of, number_line, text_answer, answer_of, ends, accepted, refused};
+ghost use Rattle.bt_serve.specs.inner.Commands.{IsShown};
+ghost use Rattle.bt_serve.specs.inner.Serves.{Takes, taken_text, Replies};
 ghost use Rattle.bt_serve.specs.Writes.{AppendsPart};
 ghost use Rattle.bt_serve.specs.Faults.{HandsOn};
 
@@ -95,7 +96,7 @@ pub fn answer_request<S: Source, K: Sink>(
 ) -> Result<bool, ServeFault>
     requires reads { S.failure_count source.old < 2 ^ 64 - 1 }
     requires writes { K.failure_count sink.old < 2 ^ 64 - 1 }
-    ensures replies { Replies (asked request.entry) (S.remaining source.old) (S.remaining source.new)
+    ensures replies { Replies (request_seen request.entry) (S.remaining source.old) (S.remaining source.new)
         (K.contents sink.old) (K.contents sink.new) session.old session.new result }
     ensures lowers { S.reads_left source.new ≤ S.reads_left source.old }
     ensures reads { OnOk result (S.failure_count source.new ≡ S.failure_count source.old) }
@@ -113,7 +114,7 @@ pub fn answer_request<S: Source, K: Sink>(
     }
 }
 
-/// Tells that an edit was accepted, with its report.
+/// Reports that an edit was accepted, with its report.
 fn say_accepted<K: Sink>(sink: &mut K, report: Report) -> Result<(), Failed>
     requires { K.failure_count sink.old < 2 ^ 64 - 1 }
     ensures all { OnOk result (Appends (K.contents sink.old) (K.contents sink.new) (accepted report)) }
@@ -196,10 +197,10 @@ fn say_text<K: Sink>(sink: &mut K, word: &[u8], text: &[u8]) -> Result<(), Faile
 /// Answers a request that changes nothing, and says whether it was the last one.
 fn say_shown<K: Sink>(sink: &mut K, session: &Session, request: Request<'_>) -> Result<bool, Failed>
     requires few { K.failure_count sink.old < 2 ^ 64 - 1 }
-    requires shown { IsShown (asked request) }
-    ensures all { OnOk result (Appends (K.contents sink.old) (K.contents sink.new) (answer_of false session.now (asked request.entry) [])) }
-    ensures last { IfOk result (λ last. last ≡ ends (asked request.entry)) }
-    ensures part { OnErr result (AppendsPart (K.contents sink.old) (K.contents sink.new) (answer_of false session.now (asked request.entry) [])) }
+    requires shown { IsShown (request_seen request) }
+    ensures all { OnOk result (Appends (K.contents sink.old) (K.contents sink.new) (answer_of false session.now (request_seen request.entry) [])) }
+    ensures last { IfOk result (λ last. last ≡ ends (request_seen request.entry)) }
+    ensures part { OnErr result (AppendsPart (K.contents sink.old) (K.contents sink.new) (answer_of false session.now (request_seen request.entry) [])) }
     ensures ok { OnOk result (K.failure_count sink.new ≡ K.failure_count sink.old) }
     ensures err { OnErr result (K.failure_count sink.new ≡ K.failure_count sink.old + 1) }
     ensures flushed { OnOk result (K.is_flushed sink.new ≡ true) }

@@ -1,8 +1,9 @@
 //! What a line of the loop asks for.
 
 ghost use Rattle.std.specs.Prelude.{◌≡◌, ℕ, ◌≤◌, ◌∷◌, [], length, position, ◌==◌, MatchOption, option_copied};
-ghost use Rattle.bt_serve.specs.Commands.{words_of, number_of, request_of_words, one_word, two_words, write_of, splice_of, remove_of, root_of, min_of, FirstWord};
-ghost use Rattle.bt_serve.specs.Asked.{asked};
+ghost use Rattle.bt_serve.specs.Commands.{words_in_line, number_of, request_of_words, one_word, two_words, write_of, splice_of, remove_of, root_of, min_of};
+ghost use Rattle.bt_serve.specs.inner.Commands.{FirstWord};
+ghost use Rattle.bt_serve.specs.inner.Asked.{request_seen};
 
 use bibtex::Change;
 
@@ -28,7 +29,7 @@ pub enum Request<'a> {
 /// What a line of at most 256 bytes asks for.
 #[tactic(auto, using(crate::proofs::WordLemmas::six_words))]
 pub fn parse(line: &[u8]) -> Request<'_>
-    ensures { asked result ≡ request_of_words (words_of line.now) }
+    ensures { request_seen result ≡ request_of_words (words_in_line line.now) }
 {
     let (first, rest) = next_word(line);
     let Some(rest) = rest else {
@@ -61,7 +62,7 @@ pub fn parse(line: &[u8]) -> Request<'_>
 
 /// What a line of one word asks for.
 fn plain_request<'a>(word: &[u8]) -> Request<'a>
-    ensures { asked result ≡ one_word word.now }
+    ensures { request_seen result ≡ one_word word.now }
 {
     if word == b"bbl".as_slice() {
         Request::Bbl
@@ -78,7 +79,7 @@ fn plain_request<'a>(word: &[u8]) -> Request<'a>
 
 /// What a line of two words asks for.
 fn named_request<'a>(word: &[u8], argument: &'a [u8]) -> Request<'a>
-    ensures { asked result ≡ two_words word.now argument.now }
+    ensures { request_seen result ≡ two_words word.now argument.now }
 {
     if word == b"remove".as_slice() {
         remove_request(argument)
@@ -92,7 +93,7 @@ fn named_request<'a>(word: &[u8], argument: &'a [u8]) -> Request<'a>
 }
 
 fn remove_request(name: &[u8]) -> Request<'_>
-    ensures { asked result ≡ remove_of name.now }
+    ensures { request_seen result ≡ remove_of name.now }
 {
     if name.is_empty() {
         Request::Unreadable
@@ -102,7 +103,7 @@ fn remove_request(name: &[u8]) -> Request<'_>
 }
 
 fn root_request(name: &[u8]) -> Request<'_>
-    ensures { asked result ≡ root_of name.now }
+    ensures { request_seen result ≡ root_of name.now }
 {
     if name.is_empty() {
         Request::Unreadable
@@ -112,7 +113,7 @@ fn root_request(name: &[u8]) -> Request<'_>
 }
 
 fn min_request<'a>(min: Option<usize>) -> Request<'a>
-    ensures { asked result ≡ min_of min }
+    ensures { request_seen result ≡ min_of min }
 {
     match min {
         Some(min) if min <= 4_294_967_295 => Request::Edit(Change::MinCrossrefs(min as u32), 0),
@@ -121,7 +122,7 @@ fn min_request<'a>(min: Option<usize>) -> Request<'a>
 }
 
 fn write_request(name: &[u8], count: Option<usize>) -> Request<'_>
-    ensures { asked result ≡ write_of name.now count }
+    ensures { request_seen result ≡ write_of name.now count }
 {
     match count {
         Some(count) if !name.is_empty() => Request::Edit(Change::Write(name), count),
@@ -135,7 +136,7 @@ fn splice_request(
     end: Option<usize>,
     count: Option<usize>,
 ) -> Request<'_>
-    ensures { asked result ≡ splice_of name.now start end count }
+    ensures { request_seen result ≡ splice_of name.now start end count }
 {
     if name.is_empty() {
         return Request::Unreadable;
@@ -148,7 +149,7 @@ fn splice_request(
     }
 }
 
-/// The first word, and what follows the space behind it.
+/// The first word, and what follows the space after it.
 fn next_word(text: &[u8]) -> (&[u8], Option<&[u8]>)
     ensures { FirstWord text.now result.0.now (option_copied result.1) }
 {

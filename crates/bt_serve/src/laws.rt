@@ -3,20 +3,20 @@ ghost use Rattle.std.specs.Prelude.{◌≡◌, ◌≢◌, ℕ, Bool, List, [], �
 ghost use Rattle.std.specs.List.{AllByRecursion, flat_map};
 ghost use Rattle.bibtex.specs.declared.edit.Edit.{Edit};
 ghost use Rattle.bibtex.specs.declared.state.State.{State};
-ghost use Rattle.bt_serve.specs.Commands.{Command, spelled, state_after, WantsInTurn};
+ghost use Rattle.bt_serve.specs.Commands.{Command, command_text, state_after, WantsInTurn};
 ghost use Rattle.bt_serve.specs.Serves.{IsCommand, IsCut};
 ghost use Rattle.bt_serve.specs.Whole.{commands_of};
 ghost use Rattle.bt_serve.specs.Edits.{edits_of, AreSame, Leads, LeadsBy};
 
-/// The join of whole commands is cut into these commands and no others, whatever is cut short behind them; behind the
+/// The join of whole commands is cut into these commands and no others, whatever is cut short after them; after the
 /// last one, if it brings no bytes, the line feed may be missing.
 pub fn commands_of_joined()
     ensures whole { (cs : List Command) → AllByRecursion IsCommand cs →
-        commands_of (flat_map spelled cs) ≡ record { commands = cs; rest = [] } }
+        commands_of (flat_map command_text cs) ≡ record { commands = cs; rest = [] } }
     ensures cut { (cs : List Command) (rest : List ℕ) → AllByRecursion IsCommand cs → IsCut rest →
-        commands_of (flat_map spelled cs ++ rest) ≡ record { commands = cs; rest = rest } }
+        commands_of (flat_map command_text cs ++ rest) ≡ record { commands = cs; rest = rest } }
     ensures last { (cs : List Command) (c : Command) → AllByRecursion IsCommand cs → IsCommand c → c.line ≢ [] → c.bytes ≡ [] →
-        commands_of (flat_map spelled cs ++ c.line) ≡ record { commands = cs ++ c ∷ []; rest = [] } }
+        commands_of (flat_map command_text cs ++ c.line) ≡ record { commands = cs ++ c ∷ []; rest = [] } }
 {}
 
 /// A list of edits that commands ask for leads by `edit_all` to the states after these commands, and to no others.

@@ -2,7 +2,8 @@
 
 ghost use Rattle.std.specs.Prelude.{◌≡◌, ℕ, List, ◌+◌, ◌-◌, ◌^◌, ◌<◌, ◌≤◌, ◌++◌, length, take, [], ◌∷◌, IfOk, IfErr, OnOk, OnErr, MatchResult};
 ghost use Rattle.std.specs.Io.KnownBytes.{Consumes, Keeps};
-ghost use Rattle.bt_serve.specs.Reads.{ReadsByte, ReadsLine, ReadsPart, SkipsLine, ReadsAll, ReadsBelow, DropsAll, HasNoFeed};
+ghost use Rattle.bt_serve.specs.Reads.{HasNoFeed};
+ghost use Rattle.bt_serve.specs.inner.Reads.{ReadsByte, ReadsLine, ReadsPart, SkipsLine, ReadsAll, ReadsBelow, DropsAll};
 
 use crate::streams::{Failed, Source};
 

@@ -1,7 +1,8 @@
 //! The loop that reads commands, carries them out and answers them.
 
 ghost use Rattle.std.specs.Prelude.{◌≡◌, ℕ, ◌+◌, ◌-◌, ◌^◌, ◌<◌, ◌≤◌, [], OnOk, List, Some, Err};
-ghost use Rattle.bt_serve.specs.Serves.{ended, Turns, Ends};
+ghost use Rattle.bt_serve.specs.Serves.{loop_ended, Ends};
+ghost use Rattle.bt_serve.specs.inner.Serves.{Turns};
 ghost use Rattle.bt_serve.specs.Faults.{HandsOn};
 ghost use Rattle.bt_serve.specs.Whole.{AnswersAll, AnswersBefore, AnswersPart};
 ghost use Rattle.bt_serve.specs.Edits.{IsEdited};
@@ -59,9 +60,9 @@ fn serve_one<S: Source, K: Sink>(
 /// edits that the commands ask for.
 ///
 /// The faults: `ReadFailed` where a read failed; the whole commands that were read are carried out and answered.
-/// `WriteFailed` where a write failed; the commands in front of one are carried out and answered, that one is carried
-/// out, and a beginning of its answer is written. `Truncated` where the input ends inside the bytes of its last command;
-/// all commands in front of it are carried out and answered.
+/// `WriteFailed` where a write failed; the commands before one are carried out and answered, that one is carried
+/// out, and a beginning of its answer is written. `Truncated` where the input ends inside the bytes of its last
+/// command; all commands before it are carried out and answered.
 pub fn serve<S: Source, K: Sink>(
     alloc: Global,
     source: &mut S,
@@ -72,7 +73,7 @@ pub fn serve<S: Source, K: Sink>(
     requires writes { K.failure_count sink.old < 2 ^ 64 - 1 }
     ensures served { (input said : List ℕ) → S.remaining source.old ≡ Some input → K.contents sink.old ≡ Some said →
         (rest : List ℕ) × (said' : List ℕ) × (S.remaining source.new ≡ Some rest) × (K.contents sink.new ≡ Some said') ×
-        Ends input rest said said' session.old session.new (ended result) }
+        Ends input rest said said' session.old session.new (loop_ended result) }
     ensures all { (input said : List ℕ) → S.remaining source.old ≡ Some input → K.contents sink.old ≡ Some said →
         OnOk result ((said' : List ℕ) × (K.contents sink.new ≡ Some said') × AnswersAll input said said' session.old session.new) }
     ensures truncated { (input said : List ℕ) → S.remaining source.old ≡ Some input → K.contents sink.old ≡ Some said → result ≡ Err ServeFault.Truncated →

@@ -13,7 +13,7 @@ use Rattle.bt_style.specs.declared.names.Names.TheVariants.{Fields, EntryNumbers
 use Rattle.bt_style.specs.declared.style.Target.TheVariants as targets
 use Rattle.bt_style.specs.Program.{Program}
 use Rattle.bt_style.specs.Token.{tokens_of}
-use Rattle.bt_style.specs.Names.{place_in, meaning, is_taken, builtin_named}
+use Rattle.bt_style.specs.Names.{place_in, target_named, is_taken, builtin_named}
 use Rattle.bt_style.specs.Draft.{preset, with_name, with_macro, with_function, with_command}
 use Rattle.bt_style.specs.Declares.{new_name}
 use Rattle.bt_style.specs.Reader.{reading, style_of}
@@ -44,7 +44,7 @@ or_second : (a b : Bool) → (a || b) ≡ false → b ≡ false
 or_second true b h = cc
 or_second false b h = h
 
--- a name that is none of some may stand behind them
+-- a name that is none of some may stand after them
 push_apart : (names : List (List ℕ)) (name : List ℕ) → are_apart names ≡ true → list_any (λ n. is_same_folded name n) names ≡ false → are_apart (names ++ name ∷ []) ≡ true
 push_apart [] name h none = refl
 push_apart (first ∷ names) name h none =
@@ -97,10 +97,10 @@ absent (Some x) h = cc
 
 -- a name that isn't taken is no field's
 field_free : (p : Program) (name : List ℕ) → is_taken p name ≡ false → place_in p.fields name ≡ None
-unfolding meaning
+unfolding target_named
 field_free p name h =
     none_of targets.Field (place_in p.fields name)
-    (slot_none (option_map targets.Builtin (builtin_named name) ∷ []) (option_map targets.Field (place_in p.fields name)) _ (absent (meaning p name) h))
+    (slot_none (option_map targets.Builtin (builtin_named name) ∷ []) (option_map targets.Field (place_in p.fields name)) _ (absent (target_named p name) h))
 
 named_good : (names : Names) (name : List ℕ) (p : Program) → Good p → folded name ≡ name → is_taken p name ≡ false → Good (with_name names name p)
 named_good Fields name p g e free = record {

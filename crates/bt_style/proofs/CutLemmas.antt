@@ -1,4 +1,5 @@
--- A text is cut in front of a token: its tokens up to there stay the same, whatever stands behind the cut, but for the first byte there.
+-- A text is cut before a token: its tokens up to there stay the same, whatever stands after the cut, but for the first
+-- byte there.
 use Rattle.std.specs.List.{count_by}
 use Rattle.std.proofs.Common.{◌≡◌, ◌∙◌, ◌⊎◌, inl, inr, ap, sym, refl, subst, ℕ, zero, suc, ◌+◌, ◌-◌, ◌≤◌, false, cond, List, [], ◌∷◌, ◌++◌, length, Option, Some, None, arith, add-zero}
 use Rattle.std.proofs.lemmas.List.Sums.{sum_by-cons}
@@ -20,12 +21,12 @@ abbrev pub BeginsToken : List ℕ → Type 0
 BeginsToken [] = Unit {0}
 BeginsToken (b ∷ bytes) = (token : Token) × ((piece_at b bytes).token ≡ Some token)
 
--- What stands behind the cut may be put in the place of what stood there: no token in front is a text with a wrong byte
--- behind it, or no word can follow still.
+-- What stands after the cut may be put in the place of what stood there: no token in front is a text with a wrong byte
+-- after it, or no word can follow still.
 abbrev pub Fits : List (Token × ℕ) → List ℕ → List ℕ → Type 0
 Fits front rest other = ArePlain front ⊎ (may_follow rest ≡ false → may_follow other ≡ false)
 
--- the bytes before the cut, of which the first so many belong to a piece that began before, and those behind it
+-- the bytes before the cut, of which the first so many belong to a piece that began before, and those after it
 pub record Cut (covered line : ℕ) (bytes : List ℕ) (front : List (Token × ℕ)) (here : Tokens) : Type 0 where
   pub before : List ℕ
   pub rest : List ℕ
@@ -48,7 +49,7 @@ cut_here line bytes here begins e =
       goes_on = λ other a f. ap (λ n. tokens_behind 0 n other) none;
     }
 
--- a byte more in front of the cut, by what it is read as
+-- a byte more before the cut, by what it is read as
 cut_behind : (covered later b line : ℕ) (bytes : List ℕ) (front more : List (Token × ℕ)) (here : Tokens) → (c : Cut later (line_after b line) bytes more here) → covered ≤ suc (length c.before) →
     ((other : List ℕ) → EndAlike c.rest other → Fits front c.rest other → tokens_behind covered line (b ∷ (c.before ++ other)) ≡ in_front front (tokens_behind 0 (line_after b line + lines_in c.before) other)) →
     Cut covered line (b ∷ bytes) front here
@@ -62,13 +63,13 @@ cut_behind covered later b line bytes front more here c within goes_on = record 
   goes_on = λ other a f. goes_on other a f ∙ ap (λ n. in_front front (tokens_behind 0 n other)) (lines_more b line c.before);
 }
 
--- a text with a wrong byte behind it isn't plain
+-- a text with a wrong byte after it isn't plain
 not_glued : (o : Option Token) (token : Token) → o ≡ Some token → IsPlain token → o ≡ Some Glued → ⊥
 not_glued o token is plain glued =
     let same : token ≡ Glued = (let both : Some token ≡ Some Glued = sym is ∙ glued in cc both) in
     subst IsPlain same plain
 
--- the piece in front is the same with other bytes behind the cut
+-- the piece in front is the same with other bytes after the cut
 same_piece : (b line later : ℕ) (bytes : List ℕ) (more : List (Token × ℕ)) (here : Tokens) (c : Cut later line bytes more here) → (piece_at b bytes).size ≤ suc later → (other : List ℕ) →
     EndAlike c.rest other → ((piece_at b bytes).token ≡ Some Glued → may_follow c.rest ≡ false → may_follow other ≡ false) → piece_at b (c.before ++ other) ≡ piece_at b bytes
 same_piece b line later bytes more here c le other a apart =
@@ -117,7 +118,7 @@ cut_token b line bytes token front here is c =
     ∙ ap (λ (o : Option Token). with_token o line (tokens_behind (size - 1) (line_after b line) (c.before ++ other))) is
     ∙ ap (Front token line) (c.goes_on other a (fits_behind token line front c.rest other f)))
 
--- The cut in front of the token that stands behind some
+-- The cut before the token that stands after some
 
 cut_covered : (covered b line : ℕ) (bytes : List ℕ) (front : List (Token × ℕ)) (here : Tokens) → Cut covered (line_after b line) bytes front here → Cut (suc covered) line (b ∷ bytes) front here
 unfolding tokens_behind

@@ -12,8 +12,8 @@ use Rattle.bt_style.specs.Program.{Program, Definition}
 use Rattle.bt_style.specs.Tree.{Element, Amount, Quoted, Called, Body}
 use Rattle.bt_style.specs.Fault.{◌>>=◌}
 use Rattle.bt_style.specs.Token.{Tokens}
-use Rattle.bt_style.specs.Names.{builtin_named, place_in, first_some, meaning, function_names}
-use Rattle.bt_style.specs.Declares.{known, target_of, runnable}
+use Rattle.bt_style.specs.Names.{builtin_named, place_in, first_some, target_named, function_names}
+use Rattle.bt_style.specs.Declares.{target_or_fault, target_of, runnable}
 use Rattle.bt_style.specs.Elements.{number_at, quoted_at, word_element}
 use Rattle.bt_style.specs.Bodies.{body_at}
 use Rattle.bt_style.specs.Spelled.{SpellsElement, ByWord, ByLiteral, ByBraces, SpellsBody, ByClose, ByElement}
@@ -39,8 +39,8 @@ slot : {X : Type 0} (P : Target → Type 0) (f : X → Target) (o : Option X) (r
 slot P f None rest t is later h = later h
 slot P f (Some x) rest t is later h = (let same : f x ≡ t = cc h in subst P same (is x refl))
 
-meaning_within : (p : Program) (name : List ℕ) (t : Target) → meaning p name ≡ Some t → IsDeclared p (length p.functions) t
-unfolding meaning
+meaning_within : (p : Program) (name : List ℕ) (t : Target) → target_named p name ≡ Some t → IsDeclared p (length p.functions) t
+unfolding target_named
 meaning_within p name t h =
     let P : Target → Type 0 = IsDeclared p (length p.functions) in
     slot P targets.Builtin (builtin_named name) _ t (λ b e. tt)
@@ -53,12 +53,12 @@ meaning_within p name t h =
     (λ n e. subst (λ k. n < k) (length-map p.functions (λ (f : Definition). f.name)) (place_within (function_names p) name n e)) (λ e. cc)))))))
     h
 
-known_is : (o : Option Target) (line : ℕ) (t : Target) → known o line ≡ Ok t → o ≡ Some t
+known_is : (o : Option Target) (line : ℕ) (t : Target) → target_or_fault o line ≡ Ok t → o ≡ Some t
 known_is None line t h = cc
 known_is (Some x) line t h = ap Some (ok_same x t h)
 
 target_within : (p : Program) (word : List ℕ) (line : ℕ) (t : Target) → target_of p word line ≡ Ok t → IsDeclared p (length p.functions) t
-target_within p word line t h = meaning_within p (folded word) t (known_is (meaning p (folded word)) line t h)
+target_within p word line t h = meaning_within p (folded word) t (known_is (target_named p (folded word)) line t h)
 
 runnable_same : (s : Target) (line : ℕ) (t : Target) → runnable s line ≡ Ok t → s ≡ t
 runnable_same (targets.Builtin b) line t h = ok_same (targets.Builtin b) t h

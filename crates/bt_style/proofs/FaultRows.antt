@@ -6,7 +6,7 @@ use Rattle.bt_style.specs.declared.fault.Fault.{Fault}
 use Rattle.bt_style.specs.Token.{tokens_behind, piece_at, literal_piece}
 use Rattle.bt_style.specs.Builtins.{table}
 use Rattle.bt_style.specs.Program.{Program}
-use Rattle.bt_style.specs.Names.{meaning, macro_named, builtin_named}
+use Rattle.bt_style.specs.Names.{target_named, macro_named, builtin_named}
 use Rattle.bt_style.specs.Declares.{names_at}
 use Rattle.bt_style.specs.Elements.{word_element, number_at, size_at, quoted_at}
 use Rattle.bt_style.specs.Bodies.{body_at}
@@ -16,7 +16,7 @@ use Rattle.bt_style.specs.Reader.{style_of, reading, commands_at}
 
 -- what a text spells, with all that it computes by
 unfoldable pub spelled : List ℕ → Result Program Fault
-unfolding style_of tokens_behind piece_at literal_piece reading commands_at command_at arguments_at body_at names_at word_element number_at size_at quoted_at verb_named all_verbs meaning macro_named builtin_named table
+unfolding style_of tokens_behind piece_at literal_piece reading commands_at command_at arguments_at body_at names_at word_element number_at size_at quoted_at verb_named all_verbs target_named macro_named builtin_named table
 spelled text = style_of text
 
 abbrev pub HasFault : List ℕ → FaultKind → ℕ → Type 0

@@ -19,12 +19,12 @@ use Rattle.bt_style.proofs.ReaderLemmas.{ArePlain, plain_append, bytes_append, i
 use Rattle.bt_style.proofs.OnLineLemmas.{on_line, verb_on, order_on}
 use Rattle.bt_style.proofs.RuleLemmas.{with_rest, arguments_reader}
 
--- A command behind its word
+-- A command after its word
 
 abbrev with_stage : Stage × Program → Tokens → Stage × Program × Tokens
 with_stage made t = (made.0, made.1, t)
 
--- it is refused at the word, or a reader of what stands behind
+-- it is refused at the word, or a reader of what stands after
 data Command (stage : Stage) (p : Program) (word : List ℕ) (line : ℕ) : Type 0 where
   Refused : (f : Fault) → f.line ≡ line → ((t : Tokens) → command_at stage p word line t ≡ Err f) → Command stage p word line
   Allowed : Reader (Quoteless p) with_stage (command_at stage p word line) → Command stage p word line
@@ -161,7 +161,7 @@ refused_here stage p token line rest f at e = Faulted (record {
   plain = λ q. tt;
 })
 
--- a command was read, and what stands behind it goes on like this
+-- a command was read, and what stands after it goes on like this
 behind_command : (stage : Stage) (p : Program) (word : List ℕ) (line : ℕ) (rest : Tokens) (t : Takes (Quoteless p) with_stage (command_at stage p word line) rest) →
     Outcome t.value.0 t.value.1 t.rest → Outcome stage p (Front (Word word) line rest)
 behind_command stage p word line rest t (Whole q e) =

@@ -8,7 +8,7 @@ use Rattle.bt_text.specs.NameBytes.{is_name, is_name_byte}
 use Rattle.bt_style.specs.Token.{Open, Close, Word, Front, ends_word, piece_at, tokens_behind}
 use Rattle.bt_style.specs.Builtins.{Row, table}
 use Rattle.bt_style.specs.Program.{Program}
-use Rattle.bt_style.specs.Names.{builtin_among, builtin_named, place_in, function_names, macro_names, meaning, is_taken, macro_named, is_macro}
+use Rattle.bt_style.specs.Names.{builtin_among, builtin_named, place_in, function_names, macro_names, target_named, is_taken, macro_named, is_macro}
 use Rattle.bt_style.specs.Declares.{new_name}
 use Rattle.bt_style.specs.Laws.{is_byte}
 
@@ -100,7 +100,7 @@ abbrev pub fresh : Program → List ℕ
 fresh p = letters (suc (size p))
 
 free_by : (p : Program) (name : List ℕ) → length name ≡ suc (size p) → is_taken p name ≡ false
-unfolding meaning builtin_named
+unfolding target_named builtin_named
 free_by p name is =
     rw (
       not_builtin table name (omega arith),

@@ -34,7 +34,7 @@ pub record IsKept (P : Program → Type 0) : Type 0 where
   pub macro : (p : Program) (word : List ℕ) (line : ℕ) (name text : List ℕ) → new_name (is_macro p) word line ≡ Ok name → P p → P (with_macro name text p)
   pub listed : (p : Program) (action : Action) (line : ℕ) → NamesDeclared p action → P p → P (with_command action line p)
 
--- the place behind a list is one of a longer list
+-- the place after a list is one of a longer list
 longer : {A : Type 0} (xs : List A) (x : A) → length xs < length (xs ++ x ∷ [])
 longer xs x = omega (arith, length-append xs (x ∷ []))
 
@@ -152,7 +152,7 @@ command_keeps P k stage p word line tokens x g h =
     let allowed = bind_ok (in_order (out_of_order verb.0 stage) line) (λ allowed. arguments_at verb.0 line p tokens >>= λ next. Ok (stage_after verb.0 stage, next.0, next.1)) x verb.2 in
     behind_arguments P (stage_after verb.0 stage) (arguments_at verb.0 line p tokens) x (λ y e. arguments_keep P k verb.0 line p tokens y g e) allowed.2
 
--- what comes behind a command's word, or the end
+-- what comes after a command's word, or the end
 abbrev behind_word : (Stage → Program → Tokens → Result Program Fault) → Stage → Program → Option (List ℕ × ℕ × Tokens) → Result Program Fault
 behind_word later stage p None = Ok p
 behind_word later stage p (Some word) = command_at stage p word.0 word.1 word.2 >>= λ next. later next.0 next.1 next.2

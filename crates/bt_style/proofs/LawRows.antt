@@ -1,9 +1,10 @@
--- Worked examples of the laws of styles, computed: where a first fault stands in its text, what names stand for, places in the table.
+-- Worked examples of the laws of styles, computed: where a first fault stands in its text, what names stand for, places
+-- in the table.
 use Rattle.std.proofs.Common.{◌≡◌, ℕ, List, [], ◌∷◌, ◌++◌, map, Some, None, Err, refl, codes, true, is_ok, Result, Option, Ok}
 use Rattle.std.specs.Option.{option_map}
 use Rattle.bt_style.specs.declared.fault.FaultKind.TheVariants.{UnknownName, UnclosedBrace, StrayByte}
 use Rattle.bt_style.specs.Builtins.{table, place_of}
-use Rattle.bt_style.specs.Names.{builtin_named, place_in, meaning}
+use Rattle.bt_style.specs.Names.{builtin_named, place_in, target_named}
 use Rattle.bt_style.specs.Token.{Word, Glued, piece_at, literal_piece}
 use Rattle.bt_style.specs.declared.fault.Fault.{Fault}
 use Rattle.bt_style.specs.declared.builtin.Builtin.TheVariants.{Skip}
@@ -14,7 +15,7 @@ use Rattle.bt_style.specs.Reach.{body_names}
 use Rattle.bt_style.specs.Laws.{StandsInFront}
 use Rattle.bt_style.proofs.FaultRows.{spelled}
 
--- A name that isn't known: whatever stands behind the byte behind it, the fault is the same, though the name may go on to
+-- A name that isn't known: whatever stands after the byte after it, the fault is the same, though the name may go on to
 -- one that is known; a brace in its place makes a style.
 
 unknown_stands : StandsInFront (codes "bad") (codes "}\nREAD")
@@ -33,7 +34,7 @@ unknown_is_first : is_ok (spelled (codes "FUNCTION {f}\n{" ++ codes "\n}")) ≡ 
 unfolding spelled
 unknown_is_first = refl
 
--- a text with a wrong byte behind it: this byte is no part of the token
+-- a text with a wrong byte after it: this byte is no part of the token
 glued_stands : StandsInFront (codes "\"x\"") (codes "y}")
 unfolding piece_at literal_piece
 glued_stands = (Glued, refl)
@@ -87,13 +88,13 @@ earlier_functions = refl
 
 -- what a name stands for in a style
 abbrev found_in : Result Program Fault → List ℕ → Option Target
-found_in (Ok p) name = meaning p name
+found_in (Ok p) name = target_named p name
 found_in (Err f) name = None
 
 a_field : found_in (spelled (codes "ENTRY {title}{n}{}")) (codes "title") ≡ Some (targets.Field 1)
-unfolding spelled meaning builtin_named table
+unfolding spelled target_named builtin_named table
 a_field = refl
 
 an_entry_number : found_in (spelled (codes "ENTRY {title}{n}{}")) (codes "n") ≡ Some (targets.EntryNumber 0)
-unfolding spelled meaning builtin_named table
+unfolding spelled target_named builtin_named table
 an_entry_number = refl

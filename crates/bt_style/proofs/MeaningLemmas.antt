@@ -16,8 +16,9 @@ use Rattle.bt_style.specs.Program.{Program, Definition}
 use Rattle.bt_style.specs.Tree.{Body}
 use Rattle.bt_style.specs.Token.{tokens_of, count}
 use Rattle.bt_style.specs.Builtins.{table}
-use Rattle.bt_style.specs.Names.{builtin_named, meaning, is_taken, macro_named, is_macro, function_names, macro_names}
-use Rattle.bt_style.specs.Draft.{preset, with_name, next_target, with_macro, with_function}
+use Rattle.bt_style.specs.Names.{builtin_named, target_named, is_taken, macro_named, is_macro, function_names, macro_names}
+use Rattle.bt_style.specs.Draft.{preset, with_name, with_macro, with_function}
+use Rattle.bt_style.specs.inner.Draft.{next_target}
 use Rattle.bt_style.specs.Declares.{new_name}
 use Rattle.bt_style.specs.Reader.{reading, style_of}
 use Rattle.bt_style.specs.Apart.{AreFound, EachNameIsFound}
@@ -71,22 +72,22 @@ absent (Some x) h = cc
 
 abbrev Found : Program → Type 0
 Found p =
-    AreFound (meaning p) targets.Field p.fields × AreFound (meaning p) targets.EntryNumber p.entry_numbers × AreFound (meaning p) targets.EntryText p.entry_texts
-    × AreFound (meaning p) targets.GlobalNumber p.global_numbers × AreFound (meaning p) targets.GlobalText p.global_texts × AreFound (meaning p) targets.Function (function_names p)
+    AreFound (target_named p) targets.Field p.fields × AreFound (target_named p) targets.EntryNumber p.entry_numbers × AreFound (target_named p) targets.EntryText p.entry_texts
+    × AreFound (target_named p) targets.GlobalNumber p.global_numbers × AreFound (target_named p) targets.GlobalText p.global_texts × AreFound (target_named p) targets.Function (function_names p)
     × AreFound (macro_named p) (λ n. n) (macro_names p)
 
 -- what was found is found with a name more, and that name is found
-named_more : (list : Names) (name : List ℕ) (p : Program) → meaning p name ≡ None → Finds (meaning p) (meaning (with_name list name p)) × (meaning (with_name list name p) name ≡ Some (next_target list p))
+named_more : (list : Names) (name : List ℕ) (p : Program) → target_named p name ≡ None → Finds (target_named p) (target_named (with_name list name p)) × (target_named (with_name list name p) name ≡ Some (next_target list p))
 named_more list name p none = (
-  finds (meaning p) (meaning (with_name list name p)) name (next_target list p) none (λ x. meaning_declared list name x p none),
-  finds_new (meaning p) (meaning (with_name list name p)) name (next_target list p) (λ x. meaning_declared list name x p none),
+  finds (target_named p) (target_named (with_name list name p)) name (next_target list p) none (λ x. meaning_declared list name x p none),
+  finds_new (target_named p) (target_named (with_name list name p)) name (next_target list p) (λ x. meaning_declared list name x p none),
 )
 
-named_found : (list : Names) (name : List ℕ) (p : Program) → meaning p name ≡ None → Found p → Found (with_name list name p)
+named_found : (list : Names) (name : List ℕ) (p : Program) → target_named p name ≡ None → Found p → Found (with_name list name p)
 unfolding macro_named
 named_found Fields name p none h =
-    let f = meaning p in
-    let g = meaning (with_name Fields name p) in
+    let f = target_named p in
+    let g = target_named (with_name Fields name p) in
     let m = named_more Fields name p none in (
       new_found f g targets.Field p.fields name m.0 m.1 h.0,
       old_found f g targets.EntryNumber p.entry_numbers m.0 h.1,
@@ -97,8 +98,8 @@ named_found Fields name p none h =
       h.6,
     )
 named_found EntryNumbers name p none h =
-    let f = meaning p in
-    let g = meaning (with_name EntryNumbers name p) in
+    let f = target_named p in
+    let g = target_named (with_name EntryNumbers name p) in
     let m = named_more EntryNumbers name p none in (
       old_found f g targets.Field p.fields m.0 h.0,
       new_found f g targets.EntryNumber p.entry_numbers name m.0 m.1 h.1,
@@ -109,8 +110,8 @@ named_found EntryNumbers name p none h =
       h.6,
     )
 named_found EntryTexts name p none h =
-    let f = meaning p in
-    let g = meaning (with_name EntryTexts name p) in
+    let f = target_named p in
+    let g = target_named (with_name EntryTexts name p) in
     let m = named_more EntryTexts name p none in (
       old_found f g targets.Field p.fields m.0 h.0,
       old_found f g targets.EntryNumber p.entry_numbers m.0 h.1,
@@ -121,8 +122,8 @@ named_found EntryTexts name p none h =
       h.6,
     )
 named_found GlobalNumbers name p none h =
-    let f = meaning p in
-    let g = meaning (with_name GlobalNumbers name p) in
+    let f = target_named p in
+    let g = target_named (with_name GlobalNumbers name p) in
     let m = named_more GlobalNumbers name p none in (
       old_found f g targets.Field p.fields m.0 h.0,
       old_found f g targets.EntryNumber p.entry_numbers m.0 h.1,
@@ -133,8 +134,8 @@ named_found GlobalNumbers name p none h =
       h.6,
     )
 named_found GlobalTexts name p none h =
-    let f = meaning p in
-    let g = meaning (with_name GlobalTexts name p) in
+    let f = target_named p in
+    let g = target_named (with_name GlobalTexts name p) in
     let m = named_more GlobalTexts name p none in (
       old_found f g targets.Field p.fields m.0 h.0,
       old_found f g targets.EntryNumber p.entry_numbers m.0 h.1,
@@ -145,11 +146,11 @@ named_found GlobalTexts name p none h =
       h.6,
     )
 
-defined_found : (p : Program) (name : List ℕ) (body : Body) → meaning p name ≡ None → Found p → Found (with_function name body p)
+defined_found : (p : Program) (name : List ℕ) (body : Body) → target_named p name ≡ None → Found p → Found (with_function name body p)
 unfolding macro_named
 defined_found p name body none h =
-    let f = meaning p in
-    let g = meaning (with_function name body p) in
+    let f = target_named p in
+    let g = target_named (with_function name body p) in
     let new : Definition = record { name = name; body = body } in
     let more : Finds f g = finds f g name (targets.Function (length p.functions)) none (λ x. meaning_defined name x body p none) in
     let found : g name ≡ Some (targets.Function (length (function_names p))) =
@@ -164,7 +165,7 @@ defined_found p name body none h =
     )
 
 macro_found : (p : Program) (name text : List ℕ) → macro_named p name ≡ None → Found p → Found (with_macro name text p)
-unfolding meaning
+unfolding target_named
 macro_found p name text none h =
     let f = macro_named p in
     let g = macro_named (with_macro name text p) in
@@ -174,10 +175,10 @@ macro_found p name text none h =
     (h.0, h.1, h.2, h.3, h.4, h.5, subst (AreFound g (λ n. n)) (sym (map-append (λ (m : Macro). m.name) p.macros (new ∷ []))) (new_found f g (λ n. n) (macro_names p) name more found h.6))
 
 are_kept : IsKept Found
-unfolding meaning macro_named
+unfolding target_named macro_named
 are_kept = record {
-  named = λ list p word line name new h. named_found list name p (absent (meaning p name) (free (is_taken p) word line name new)) h;
-  defined = λ p word line name tokens body rest new b h. defined_found p name body (absent (meaning p name) (free (is_taken p) word line name new)) h;
+  named = λ list p word line name new h. named_found list name p (absent (target_named p name) (free (is_taken p) word line name new)) h;
+  defined = λ p word line name tokens body rest new b h. defined_found p name body (absent (target_named p name) (free (is_taken p) word line name new)) h;
   macro = λ p word line name text new h. macro_found p name text (absent (macro_named p name) (free (is_macro p) word line name new)) h;
   listed = λ p action line acts h. h;
 }
@@ -195,9 +196,9 @@ none_found : {T : Type 0} (f : List ℕ → Option T) (make : ℕ → T) → Are
 none_found f make n x e = cc
 
 preset_found : Found preset
-unfolding meaning builtin_named table
+unfolding target_named builtin_named table
 preset_found =
-    let f = meaning preset in (
+    let f = target_named preset in (
       one_found f targets.Field _ refl,
       none_found f targets.EntryNumber,
       one_found f targets.EntryText _ refl,

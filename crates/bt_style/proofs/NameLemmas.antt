@@ -18,10 +18,12 @@ use Rattle.bt_style.specs.declared.names.Names.TheVariants.{Fields, EntryNumbers
 use Rattle.bt_style.specs.Tree.{Body}
 use Rattle.bt_style.specs.Builtins.{Row, name_of}
 use Rattle.bt_style.specs.Program.{Program, Definition}
-use Rattle.bt_style.specs.Names.{Holds, row_of, builtin_among, builtin_named, place_in, first_some, meaning, macro_named, function_names, macro_names}
-use Rattle.bt_style.specs.Draft.{bare, with_name, next_target, with_macro, with_function}
+use Rattle.bt_style.specs.Names.{row_of, builtin_among, builtin_named, place_in, first_some, target_named, macro_named, function_names, macro_names}
+use Rattle.bt_style.specs.inner.Names.{Holds}
+use Rattle.bt_style.specs.Draft.{bare, with_name, with_macro, with_function}
+use Rattle.bt_style.specs.inner.Draft.{next_target}
 
--- one more built-in function in front of others
+-- one more built-in function before others
 pub builtin_more : (b : Builtin) (rows : List Row) (name : List ℕ) (old : Option Target) → old ≡ option_map targets.Builtin (builtin_among rows name) →
     (if bytes_eq (name_of b) name then Some (targets.Builtin b) else old) ≡ option_map targets.Builtin (builtin_among (row_of b ∷ rows) name)
 builtin_more b rows name old h =
@@ -79,13 +81,13 @@ slot us vs F names name q h =
           ∙ sym (cond-false (bytes_eq name q) (Some (F (length names))) (first_some (us ++ option_map F (place_in names q) ∷ vs)) n)
     ]
 
-free_alike : (p : Program) (name q : List ℕ) → meaning p name ≡ None → bytes_eq name q ≡ true → meaning p q ≡ None
-free_alike p name q h e = subst (λ (x : List ℕ). meaning p x ≡ None) ((bytes_decides name q).0 e) h
+free_alike : (p : Program) (name q : List ℕ) → target_named p name ≡ None → bytes_eq name q ≡ true → target_named p q ≡ None
+free_alike p name q h e = subst (λ (x : List ℕ). target_named p x ≡ None) ((bytes_decides name q).0 e) h
 
 -- what a name stands for once a free one is declared
-pub meaning_declared : (names : Names) (name q : List ℕ) (p : Program) → meaning p name ≡ None →
-    meaning (with_name names name p) q ≡ (if bytes_eq name q then Some (next_target names p) else meaning p q)
-unfolding meaning
+pub meaning_declared : (names : Names) (name q : List ℕ) (p : Program) → target_named p name ≡ None →
+    target_named (with_name names name p) q ≡ (if bytes_eq name q then Some (next_target names p) else target_named p q)
+unfolding target_named
 meaning_declared Fields name q p h =
     slot (option_map targets.Builtin (builtin_named q) ∷ [])
     (option_map targets.EntryNumber (place_in p.entry_numbers q) ∷ option_map targets.EntryText (place_in p.entry_texts q) ∷ option_map targets.GlobalNumber (place_in p.global_numbers q)
@@ -116,9 +118,9 @@ pub length_names : (fs : List Definition) → length (map (λ f. f.name) fs) ≡
 length_names [] = refl
 length_names (f ∷ fs) = ap (λ n. suc n) (length_names fs)
 
-pub meaning_defined : (name q : List ℕ) (body : Body) (p : Program) → meaning p name ≡ None →
-    meaning (with_function name body p) q ≡ (if bytes_eq name q then Some (targets.Function (length p.functions)) else meaning p q)
-unfolding meaning
+pub meaning_defined : (name q : List ℕ) (body : Body) (p : Program) → target_named p name ≡ None →
+    target_named (with_function name body p) q ≡ (if bytes_eq name q then Some (targets.Function (length p.functions)) else target_named p q)
+unfolding target_named
 meaning_defined name q body p h =
     let us : List (Option Target) =
     option_map targets.Builtin (builtin_named q) ∷ option_map targets.Field (place_in p.fields q) ∷ option_map targets.EntryNumber (place_in p.entry_numbers q)
@@ -152,29 +154,29 @@ macro_defined name text q p h =
 
 -- a table that holds what names stand for, once a free name is declared
 pub holds_declared : (old roomed new : ByName Target) (names : Names) (name : List ℕ) (p after : Program) (bytes : List ℕ) (value : Target) →
-    Holds old (meaning p) → ((key : List ℕ) → at_small roomed key ≡ at_small old key) → meaning p name ≡ None → after ≡ with_name names name p →
+    Holds old (target_named p) → ((key : List ℕ) → at_small roomed key ≡ at_small old key) → target_named p name ≡ None → after ≡ with_name names name p →
     bytes ≡ name → value ≡ next_target names p →
-    ((key : List ℕ) → at_small new key ≡ (if bytes_eq bytes key then Some value else at_small roomed key)) → Holds new (meaning after)
+    ((key : List ℕ) → at_small new key ≡ (if bytes_eq bytes key then Some value else at_small roomed key)) → Holds new (target_named after)
 holds_declared old roomed new names name p after bytes value holds room free is named stands put key =
     put key
     ∙ ap (λ (b : List ℕ). cond (bytes_eq b key) (Some value) (at_small roomed key)) named
     ∙ ap (λ (v : Target). cond (bytes_eq name key) (Some v) (at_small roomed key)) stands
     ∙ ap (λ (o : Option Target). cond (bytes_eq name key) (Some (next_target names p)) o) (room key ∙ holds key)
     ∙ sym (meaning_declared names name key p free)
-    ∙ ap (λ (q : Program). meaning q key) (sym is)
+    ∙ ap (λ (q : Program). target_named q key) (sym is)
 
 -- the same of a function
 pub holds_defined : (old roomed new : ByName Target) (name : List ℕ) (body : Body) (p after : Program) (bytes : List ℕ) (value : Target) →
-    Holds old (meaning p) → ((key : List ℕ) → at_small roomed key ≡ at_small old key) → meaning p name ≡ None → after ≡ with_function name body p →
+    Holds old (target_named p) → ((key : List ℕ) → at_small roomed key ≡ at_small old key) → target_named p name ≡ None → after ≡ with_function name body p →
     bytes ≡ name → value ≡ targets.Function (length p.functions) →
-    ((key : List ℕ) → at_small new key ≡ (if bytes_eq bytes key then Some value else at_small roomed key)) → Holds new (meaning after)
+    ((key : List ℕ) → at_small new key ≡ (if bytes_eq bytes key then Some value else at_small roomed key)) → Holds new (target_named after)
 holds_defined old roomed new name body p after bytes value holds room free is named stands put key =
     put key
     ∙ ap (λ (b : List ℕ). cond (bytes_eq b key) (Some value) (at_small roomed key)) named
     ∙ ap (λ (v : Target). cond (bytes_eq name key) (Some v) (at_small roomed key)) stands
     ∙ ap (λ (o : Option Target). cond (bytes_eq name key) (Some (targets.Function (length p.functions))) o) (room key ∙ holds key)
     ∙ sym (meaning_defined name key body p free)
-    ∙ ap (λ (q : Program). meaning q key) (sym is)
+    ∙ ap (λ (q : Program). target_named q key) (sym is)
 
 -- the same of a macro
 pub holds_macro : (old roomed new : ByName ℕ) (name text : List ℕ) (p after : Program) (bytes : List ℕ) (value : ℕ) →
@@ -207,18 +209,18 @@ unfolding macro_named
 macros_stay_defined m name body p after holds is key =
     holds key ∙ ap (λ (q : Program). macro_named q key) (sym is)
 
-pub names_stay : (m : ByName Target) (name text : List ℕ) (p after : Program) → Holds m (meaning p) → after ≡ with_macro name text p → Holds m (meaning after)
-unfolding meaning
+pub names_stay : (m : ByName Target) (name text : List ℕ) (p after : Program) → Holds m (target_named p) → after ≡ with_macro name text p → Holds m (target_named after)
+unfolding target_named
 names_stay m name text p after holds is key =
-    holds key ∙ ap (λ (q : Program). meaning q key) (sym is)
+    holds key ∙ ap (λ (q : Program). target_named q key) (sym is)
 
 -- where nothing is declared, a name stands for a built-in function or for nothing
-pub meaning-bare : (q : List ℕ) → meaning bare q ≡ option_map targets.Builtin (builtin_named q)
-unfolding meaning
+pub meaning-bare : (q : List ℕ) → target_named bare q ≡ option_map targets.Builtin (builtin_named q)
+unfolding target_named
 meaning-bare q = elim (builtin_named q) as (λ o. first_some (option_map targets.Builtin o ∷ None ∷ None ∷ None ∷ None ∷ None ∷ None ∷ []) ≡ option_map targets.Builtin o) [ None ↦ refl | Some b ↦ refl ]
 
-pub holds_builtins : (m : ByName Target) (p : Program) → Holds m (λ name. option_map targets.Builtin (builtin_named name)) → p ≡ bare → Holds m (meaning p)
-holds_builtins m p holds is key = holds key ∙ sym (meaning-bare key) ∙ ap (λ (q : Program). meaning q key) (sym is)
+pub holds_builtins : (m : ByName Target) (p : Program) → Holds m (λ name. option_map targets.Builtin (builtin_named name)) → p ≡ bare → Holds m (target_named p)
+holds_builtins m p holds is key = holds key ∙ sym (meaning-bare key) ∙ ap (λ (q : Program). target_named q key) (sym is)
 
 pub holds_no_macro : (m : ByName ℕ) (p : Program) → listed m ≡ [] → p ≡ bare → Holds m (macro_named p)
 unfolding macro_named

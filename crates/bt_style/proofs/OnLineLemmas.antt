@@ -1,4 +1,4 @@
--- A fault at a word is told on the word's line.
+-- A fault at a word is reported on the word's line.
 use Rattle.std.specs.Prelude.{ℕ, ◌≡◌, ◌^◌, ◌-◌, Bool, true, false, List, Option, Some, None, Result, Ok, Err, length, drop, not, nat_lt, ◌==◌}
 use Rattle.std.proofs.Common.{refl, subst, cond}
 use Rattle.bt_style.specs.declared.fault.Fault.{Fault}
@@ -12,14 +12,14 @@ use Rattle.bt_style.specs.declared.style.Target.TheVariants as targets
 use Rattle.bt_style.specs.declared.verbs.Verb.{Verb}
 use Rattle.bt_style.specs.Fault.{fault, ◌>>=◌}
 use Rattle.bt_style.specs.Program.{Program}
-use Rattle.bt_style.specs.Names.{meaning}
+use Rattle.bt_style.specs.Names.{target_named}
 use Rattle.bt_text.specs.Folding.{folded}
-use Rattle.bt_style.specs.Declares.{new_name, known, target_of, runnable}
+use Rattle.bt_style.specs.Declares.{new_name, target_or_fault, target_of, runnable}
 use Rattle.bt_style.specs.Commands.{run_target}
 use Rattle.bt_style.specs.Elements.{decimal, size_at, number_at, quoted_at, word_element}
 use Rattle.bt_style.specs.Verbs.{verb_of, in_order}
 
--- a fault that is told is on this line
+-- a fault that is reported is on this line
 abbrev OnIt : {A : Type 0} → ℕ → Result A Fault → Type 0
 OnIt line (Ok x) = Unit {0}
 OnIt line (Err f) = f.line ≡ line
@@ -50,12 +50,12 @@ new_by a b name line = on_if a fault_on (on_if b fault_on ok_on)
 pub new_name_on : (taken : List ℕ → Bool) (word : List ℕ) (line : ℕ) → IsOn line (new_name taken word line)
 new_name_on taken word line = new_by (not (is_name word)) (taken (folded word)) (folded word) line
 
-known_on : (o : Option Target) (line : ℕ) → IsOn line (known o line)
+known_on : (o : Option Target) (line : ℕ) → IsOn line (target_or_fault o line)
 known_on None line = fault_on
 known_on (Some t) line = ok_on
 
 target_on : (p : Program) (word : List ℕ) (line : ℕ) → IsOn line (target_of p word line)
-target_on p word line = known_on (meaning p (folded word)) line
+target_on p word line = known_on (target_named p (folded word)) line
 
 runnable_on : (t : Target) (line : ℕ) → IsOn line (runnable t line)
 runnable_on (targets.Field n) line = fault_on

@@ -1,4 +1,5 @@
--- The piece in front of a text ends in the text, and it stays the same whatever stands behind it, but for the first byte there.
+-- The piece before a text ends in the text, and it stays the same whatever stands after it, but for the first byte
+-- there.
 use Rattle.std.specs.Prelude.{◌==◌}
 use Rattle.std.specs.List.{before_first, position_or_len}
 use Rattle.std.proofs.Common.{◌≡◌, ◌∙◌, ap, sym, refl, subst, ℕ, zero, suc, ◌+◌, ◌<◌, ◌≤◌, Bool, true, false, cond, List, [], ◌∷◌, ◌++◌, length, take, drop, Some, None, arith}
@@ -16,7 +17,7 @@ before_stop p b bytes is = rw is refl
 before_next : (p : ℕ → Bool) (b : ℕ) (bytes : List ℕ) → p b ≡ false → before_first p (b ∷ bytes) ≡ b ∷ before_first p bytes
 before_next p b bytes is = (let one : 1 + position_or_len p bytes ≡ suc (position_or_len p bytes) = omega arith in rw (is, one) refl)
 
--- one of them is among these bytes, at the same place whatever stands behind
+-- one of them is among these bytes, at the same place whatever stands after
 record Inside (p : ℕ → Bool) (xs : List ℕ) : Type 0 where
   first : List ℕ
   stop : ℕ
@@ -62,7 +63,7 @@ none_left : (xs ys : List ℕ) → length (xs ++ ys) ≤ length xs → ys ≡ []
 none_left xs [] le = refl
 none_left xs (y ∷ ys) le = absurd (omega (arith, le, length-append xs (y ∷ ys)))
 
--- What stands behind a piece
+-- What stands after a piece
 
 abbrev begins_with_quote : List ℕ → Bool
 begins_with_quote [] = false

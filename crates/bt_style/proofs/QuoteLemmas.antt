@@ -15,14 +15,15 @@ use Rattle.bt_style.specs.declared.style.Target.TheVariants as targets
 use Rattle.bt_style.specs.Program.{Program}
 use Rattle.bt_style.specs.Tree.{Body}
 use Rattle.bt_style.specs.Fault.{◌>>=◌}
-use Rattle.bt_style.specs.Names.{builtin_named, meaning, is_taken}
+use Rattle.bt_style.specs.Names.{builtin_named, target_named, is_taken}
 use Rattle.bt_style.specs.Builtins.{table}
 use Rattle.bt_style.specs.Token.{tokens_of, count}
 use Rattle.bt_style.specs.Reader.{reading, style_of}
 use Rattle.bt_style.specs.declared.verbs.Stage.TheVariants.{BeforeEntry}
 use Rattle.bt_style.specs.Laws.{QuoteNamesNothing}
-use Rattle.bt_style.specs.Draft.{preset, with_name, next_target, with_function}
-use Rattle.bt_style.specs.Declares.{new_name, known, runnable}
+use Rattle.bt_style.specs.Draft.{preset, with_name, with_function}
+use Rattle.bt_style.specs.inner.Draft.{next_target}
+use Rattle.bt_style.specs.Declares.{new_name, target_or_fault, runnable}
 use Rattle.bt_style.specs.Commands.{run_target}
 use Rattle.bt_style.proofs.NameLemmas.{meaning_declared, meaning_defined}
 use Rattle.bt_style.proofs.SpelledLemmas.{ok_same}
@@ -33,7 +34,7 @@ quote = codes "\""
 
 -- a quote is no name of a style
 abbrev pub Quoteless : Program → Type 0
-Quoteless p = meaning p quote ≡ None
+Quoteless p = target_named p quote ≡ None
 
 lower_by : (b : ℕ) (v w : Bool) → is_name_byte b ≡ true → cond v b (cond w (b + 32) b) ≡ 34 → ⊥
 lower_by b true w is e = false≢true (subst (λ n. is_name_byte n ≡ true) e is)
@@ -78,14 +79,14 @@ absent (Some x) h = cc
 
 named : (names : Names) (p : Program) (name : List ℕ) → IsNew (is_taken p) name → Quoteless p → Quoteless (with_name names name p)
 named names p name n q =
-    meaning_declared names name quote p (absent (meaning p name) n.free) ∙ cond-false (bytes_eq name quote) (Some (next_target names p)) (meaning p quote) n.other ∙ q
+    meaning_declared names name quote p (absent (target_named p name) n.free) ∙ cond-false (bytes_eq name quote) (Some (next_target names p)) (target_named p quote) n.other ∙ q
 
 defined : (p : Program) (name : List ℕ) (body : Body) → IsNew (is_taken p) name → Quoteless p → Quoteless (with_function name body p)
 defined p name body n q =
-    meaning_defined name quote body p (absent (meaning p name) n.free) ∙ cond-false (bytes_eq name quote) (Some (targets.Function (length p.functions))) (meaning p quote) n.other ∙ q
+    meaning_defined name quote body p (absent (target_named p name) n.free) ∙ cond-false (bytes_eq name quote) (Some (targets.Function (length p.functions))) (target_named p quote) n.other ∙ q
 
 pub quoteless_kept : IsKept Quoteless
-unfolding meaning
+unfolding target_named
 quoteless_kept = record {
   named = λ names p word line name h q. named names p name (new (is_taken p) word line name h) q;
   defined = λ p word line name tokens body rest h b q. defined p name body (new (is_taken p) word line name h) q;
@@ -94,7 +95,7 @@ quoteless_kept = record {
 }
 
 pub preset_quoteless : Quoteless preset
-unfolding meaning builtin_named table
+unfolding target_named builtin_named table
 preset_quoteless = refl
 
 pub quote_names_nothing : QuoteNamesNothing
@@ -103,7 +104,7 @@ quote_names_nothing text p h = commands_keep Quoteless quoteless_kept (suc (coun
 
 -- what a quote is refused with
 pub run_refuses : (p : Program) → Quoteless p → (line : ℕ) → (f : Fault) × (run_target p quote line ≡ Err f)
-run_refuses p q line = (_, ap (λ o. known o line >>= λ t. runnable t line) q)
+run_refuses p q line = (_, ap (λ o. target_or_fault o line >>= λ t. runnable t line) q)
 
 pub new_refuses : (taken : List ℕ → Bool) → (line : ℕ) → (f : Fault) × (new_name taken quote line ≡ Err f)
 new_refuses taken line = (_, refl)

@@ -10,7 +10,8 @@ use Rattle.bt_style.specs.declared.style.Target.TheVariants as targets
 use Rattle.bt_style.specs.declared.style.Op.{Op}
 use Rattle.bt_style.specs.declared.style.Target.{Target}
 use Rattle.bt_style.specs.Tree.{ops_body}
-use Rattle.bt_style.specs.Reach.{target_eq, noted, noted_all, waiting_names, waiting_size, body_names, body_size}
+use Rattle.bt_style.specs.Reach.{target_eq, noted, noted_all, body_names}
+use Rattle.bt_style.specs.inner.Reach.{waiting_names, waiting_size, body_size}
 
 pub noted_all_append : (found as' bs : List Target) → noted_all found (as' ++ bs) ≡ noted_all (noted_all found as') bs
 noted_all_append found [] bs = refl

@@ -13,7 +13,7 @@ use Rattle.bt_style.specs.Bodies.{body_at}
 use Rattle.bt_style.specs.Spelled.{SpellsElement, ByWord, ByLiteral, ByBraces, SpellsBody, ByClose, ByElement, element_depth, depth_of}
 use Rattle.bt_style.proofs.SpelledLemmas.{before, before_push, before_none}
 
--- these elements, and behind them those of a body
+-- these elements, and after them those of a body
 abbrev behind : List Element → Body → List Element
 behind es End = es
 behind es (Then e b) = behind (es ++ e ∷ []) b

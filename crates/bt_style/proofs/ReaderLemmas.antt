@@ -1,5 +1,5 @@
--- Readers of tokens: what one takes it takes whatever stands behind, and where one stops at a fault, nothing goes on with
--- the token there, and some bytes go on in its place.
+-- Readers of tokens: what one takes it takes whatever stands after, and where one stops at a fault, nothing goes on
+-- with the token there, and some bytes go on in its place.
 use Rattle.std.specs.List.{list_all}
 use Rattle.std.specs.Prelude.{true, ◌&&◌}
 use Rattle.std.proofs.lemmas.List.Folds.{list_all-append}
@@ -17,7 +17,7 @@ pub count_behind : (front : List (Token × ℕ)) (rest : Tokens) → count rest 
 count_behind [] rest = omega arith
 count_behind (t ∷ front) rest = omega (arith, count_behind front rest)
 
--- The token is no text with a wrong byte behind it: it stays the same where its line ends behind it.
+-- The token is no text with a wrong byte after it: it stays the same where its line ends after it.
 abbrev pub IsPlain : Token → Type 0
 IsPlain Open = Unit {0}
 IsPlain Close = Unit {0}
@@ -37,14 +37,14 @@ plain_append (t ∷ front) more a b = (a.0, plain_append front more a.1 b)
 pub bytes_append : (xs ys : List ℕ) → list_all is_byte xs ≡ true → list_all is_byte ys ≡ true → list_all is_byte (xs ++ ys) ≡ true
 bytes_append xs ys a b = list_all-append is_byte xs ys ∙ ap (λ v. v && list_all is_byte ys) a ∙ b
 
--- These bytes are read, and what stands behind them is left.
+-- These bytes are read, and what stands after them is left.
 pub record Completes {A Y : Type 0} (pair : A → Tokens → Y) (r : Tokens → Result Y Fault) (line : ℕ) : Type 0 where
   pub bytes : List ℕ
   pub are_bytes : list_all is_byte bytes ≡ true
   pub value : A
   pub reads : (behind : List ℕ) → r (tokens_behind 0 line (bytes ++ behind)) ≡ Ok (pair value (tokens_behind 0 line behind))
 
--- Some tokens are taken, whatever stands behind them. They are plain if Q holds, as those in front of a fault.
+-- Some tokens are taken, whatever stands after them. They are plain if Q holds, as those before a fault.
 pub record Takes {A Y : Type 0} (Q : Type 0) (pair : A → Tokens → Y) (r : Tokens → Result Y Fault) (tokens : Tokens) : Type 0 where
   pub used : List (Token × ℕ)
   pub value : A
@@ -53,7 +53,7 @@ pub record Takes {A Y : Type 0} (Q : Type 0) (pair : A → Tokens → Y) (r : To
   pub reads : (other : Tokens) → r (in_front used other) ≡ Ok (pair value other)
   pub plain : Q → ArePlain used
 
--- there is a fault at a token, whatever stands behind it; bytes in its place complete what is before it
+-- there is a fault at a token, whatever stands after it; bytes in its place complete what is before it
 pub record Stops {A Y : Type 0} (Q : Type 0) (pair : A → Tokens → Y) (r : Tokens → Result Y Fault) (tokens : Tokens) : Type 0 where
   pub front : List (Token × ℕ)
   pub here : Tokens
@@ -79,7 +79,7 @@ just pair a = record {
   done = λ line. record { bytes = []; are_bytes = refl; value = a; reads = λ behind. refl };
 }
 
--- one reader behind another
+-- one reader after another
 then_done : {A B Y Z : Type 0} (pair : A → Tokens → Y) (other : B → Tokens → Z) (r : Tokens → Result Y Fault) (k : Y → Result Z Fault) (line : ℕ) →
     Completes pair r line → ((a : A) → Completes other (λ t. k (pair a t)) line) → Completes other (λ t. r t >>= k) line
 then_done pair other r k line d next =

@@ -20,7 +20,7 @@ use Rattle.bt_style.specs.Tree.{Element, Words, Braced, Body, body_of}
 use Rattle.bt_style.specs.Program.{Program}
 use Rattle.bt_style.specs.Fault.{◌>>=◌}
 use Rattle.bt_style.specs.Token.{Token, Open, Close, Word, Literal, Unclosed, Glued, Tokens, AtEnd, Front, tokens_behind, piece_at, literal_piece}
-use Rattle.bt_style.specs.Names.{meaning, builtin_named, is_taken, is_macro}
+use Rattle.bt_style.specs.Names.{target_named, builtin_named, is_taken, is_macro}
 use Rattle.bt_style.specs.Draft.{with_name, with_macro, with_function, with_command}
 use Rattle.bt_style.specs.Arguments.{open_at, close_at, word_at, braced_word, literal_at}
 use Rattle.bt_style.specs.Declares.{new_name, names_at, braced_names}
@@ -75,7 +75,8 @@ close_reader = record { reads = close_reads; done = close_done }
 
 -- A word in braces
 
--- a test of a word tells its fault on the word's line, and there is a word that it takes; a quote isn't taken, if Q holds
+-- a test of a word tells its fault on the word's line, and there is a word that it takes; a quote isn't taken, if Q
+-- holds
 record Takable {A : Type 0} (Q : Type 0) (take : List ℕ → ℕ → Result A Fault) : Type 0 where
   pub on : (word : List ℕ) (line : ℕ) → IsOn line (take word line)
   pub refuses : Q → (line : ℕ) → (f : Fault) × (take (codes "\"") line ≡ Err f)
@@ -85,11 +86,11 @@ record Takable {A : Type 0} (Q : Type 0) (take : List ℕ → ℕ → Result A F
   pub value : A
   pub taken : (line : ℕ) → take word line ≡ Ok value
 
--- behind the brace that opens
+-- after the brace that opens
 abbrev inside : {A : Type 0} → (List ℕ → ℕ → Result A Fault) → Tokens → Result (A × Tokens) Fault
 inside take t = word_at t >>= λ word. take word.0.0 word.0.1 >>= λ value. close_at word.1 >>= λ rest. Ok (value, rest)
 
--- behind the word
+-- after the word
 abbrev closing : {A : Type 0} → Tokens → A → Result (A × Tokens) Fault
 closing t value = close_at t >>= λ rest. Ok (value, rest)
 
@@ -158,7 +159,7 @@ unfolding tokens_behind piece_at
 skip_spelled line behind = refl
 
 skip_taken : (p : Program) (line : ℕ) → run_target p (codes "skip$") line ≡ Ok (targets.Builtin Skip)
-unfolding meaning builtin_named table
+unfolding target_named builtin_named table
 skip_taken p line = refl
 
 run_takable : (p : Program) → Takable (Quoteless p) (run_target p)

@@ -10,7 +10,7 @@ use Rattle.bt_style.proofs.FirstLemmas.{faulty_text}
 use Rattle.bt_style.proofs.PieceLemmas.{alike_by_first, follow_by_first, alike_by_feed, piece_same, piece_within}
 use Rattle.bt_style.proofs.CutLemmas.{lines_in, BeginsToken, placed, step, cut}
 
--- the token in front of these bytes, and those behind it
+-- the token before these bytes, and those after it
 record Parted (rest : List ℕ) : Type 0 where
   token : List ℕ
   behind : List ℕ
@@ -50,7 +50,7 @@ ends : (line : ℕ) → tokens_behind 0 line [] ≡ AtEnd line
 unfolding tokens_behind
 ends line = refl
 
--- other bytes behind a token leave it as it is
+-- other bytes after a token leave it as it is
 begins_same : (line : ℕ) (token behind other : List ℕ) → StandsInFront token behind → take 1 other ≡ take 1 behind →
     BeginsAs (tokens_behind 0 line (token ++ behind)) (tokens_behind 0 line (token ++ other))
 begins_same line [] behind other none e =

@@ -1,10 +1,10 @@
--- How the tokens of a text follow from its front piece and from what stands behind it.
+-- How the tokens of a text follow from its front piece and from what stands after it.
 use Rattle.std.proofs.Common.{◌≡◌, ℕ, zero, suc, ◌+◌, ◌-◌, ◌<◌, true, false, cond, List, [], ◌∷◌, length, take, drop, refl, sym, ◌∙◌, ap, arith, count_by, add-zero}
 use Rattle.std.proofs.Math.Seq.{take-nil, drop-nil}
 use Rattle.std.proofs.lemmas.List.Sums.{sum_by-cons}
 use Rattle.std.specs.Prelude.{Option}
 use Rattle.bt_style.specs.Token.{AtEnd, piece_at, with_token, is_line_feed, line_after, tokens_behind}
-use Rattle.bt_style.specs.Cursor.{front_piece, IsPiece, maybe_placed}
+use Rattle.bt_style.specs.inner.Cursor.{front_piece, IsPiece, maybe_placed}
 use Rattle.bt_style.specs.declared.token.Token.{Token as Found}
 
 pub line_after_is : (b line : ℕ) → line_after b line ≡ line + cond (is_line_feed b) 1 0
@@ -27,7 +27,7 @@ unfolding tokens_behind
 behind_piece zero line b bytes h = absurd (omega arith)
 behind_piece (suc n) line b bytes h = let e : suc n - 1 ≡ n = omega arith in rw e (passed (suc n) line (b ∷ bytes))
 
--- the front piece, and what stands behind it
+-- the front piece, and what stands after it
 pub front : (line : ℕ) (text : List ℕ) (found : Option Found) (size : ℕ) → 0 < length text →
     IsPiece (front_piece text) line found size (length text) →
     tokens_behind 0 line text ≡ maybe_placed found (tokens_behind 0 (line + count_by is_line_feed (take size text)) (drop size text))

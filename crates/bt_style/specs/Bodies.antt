@@ -1,10 +1,8 @@
 -- The bodies of functions.
-use Rattle.std.specs.Prelude.{ℕ, nat_lt, if◌then◌else◌, List, [], ◌∷◌, ◌++◌, length, map, reverse, Vec, Result, Ok}
-use Rattle.std.specs.declared.alloc.Global.{Global}
+use Rattle.std.specs.Prelude.{ℕ, nat_lt, if◌then◌else◌, List, [], ◌∷◌, ◌++◌, length, Result, Ok}
 use Rattle.bt_style.specs.declared.fault.FaultKind.TheVariants.{UnclosedText, UnclosedBrace, StrayByte}
 use Rattle.bt_style.specs.declared.fault.Fault.{Fault}
-use Rattle.bt_style.specs.declared.style.Op.{Op}
-use Rattle.bt_style.specs.Tree.{Element, Words, Braced, Body, body_of, elements_of}
+use Rattle.bt_style.specs.Tree.{Element, Words, Braced, Body, body_of}
 use Rattle.bt_style.specs.Program.{Program}
 use Rattle.bt_style.specs.Fault.{fault, ◌>>=◌}
 use Rattle.bt_style.specs.Token.{Open, Close, Word, Literal, Unclosed, Glued, Tokens, AtEnd, Front}
@@ -15,7 +13,7 @@ abbrev pub outer_limit : ℕ
 outer_limit = 99
 
 -- Up to the brace that closes a body. Of each brace that stands open, the innermost first, the elements before it
--- are at hand; now are those behind the last.
+-- are at hand; now are those after the last.
 unfoldable pub body_at : Program → List (List Element) → List Element → Tokens → Result (Body × Tokens) Fault
 body_at p outer now (AtEnd line) = fault UnclosedBrace line
 body_at p outer now (Front Open line rest) =
@@ -26,8 +24,3 @@ body_at p outer now (Front (Word word) line rest) = word_element p word line >>=
 body_at p outer now (Front (Literal bytes) line rest) = body_at p outer (now ++ Words bytes ∷ []) rest
 body_at p outer now (Front Unclosed line rest) = fault UnclosedText line
 body_at p outer now (Front Glued line rest) = fault StrayByte line
-
--- What the code keeps; no part of the meaning: the elements before each brace that stands open, the innermost first,
--- where a vector holds them the innermost last.
-abbrev pub opened : List (Vec Op Global) → List (List Element)
-opened vs = reverse (map (λ v. elements_of v.items) vs)

@@ -61,7 +61,7 @@ arguments_at verbs.Reverse line p tokens = run_at actions.Reverse line p tokens
 arguments_at verbs.Sort line p tokens = Ok (with_command actions.Sort line p, tokens)
 arguments_at verbs.Strings line p tokens = variables_at GlobalTexts actions.Strings line p tokens
 
--- a command that begins with this word: how far the commands have come then, the program, and what stands behind
+-- a command that begins with this word: how far the commands have come then, the program, and what stands after
 unfoldable pub command_at : Stage → Program → List ℕ → ℕ → Tokens → Result (Stage × Program × Tokens) Fault
 command_at stage p word line tokens = do
   verb ← verb_of (verb_named word) line

@@ -10,7 +10,7 @@ use Rattle.bt_style.specs.declared.names.Names.{Names}
 use Rattle.bt_style.specs.Program.{Program}
 use Rattle.bt_style.specs.Fault.{fault, ◌>>=◌}
 use Rattle.bt_style.specs.Token.{Open, Close, Word, Tokens, AtEnd, Front}
-use Rattle.bt_style.specs.Names.{meaning, is_taken}
+use Rattle.bt_style.specs.Names.{target_named, is_taken}
 use Rattle.bt_style.specs.Draft.{with_name}
 use Rattle.bt_style.specs.Arguments.{open_at}
 
@@ -21,13 +21,13 @@ new_name taken word line =
     else if taken (folded word) then fault NameTaken line
     else Ok (folded word)
 
-abbrev pub known : Option Target → ℕ → Result Target Fault
-known None line = fault UnknownName line
-known (Some target) line = Ok target
+abbrev pub target_or_fault : Option Target → ℕ → Result Target Fault
+target_or_fault None line = fault UnknownName line
+target_or_fault (Some target) line = Ok target
 
 -- what a word stands for
 abbrev pub target_of : Program → List ℕ → ℕ → Result Target Fault
-target_of p word line = known (meaning p (folded word)) line
+target_of p word line = target_or_fault (target_named p (folded word)) line
 
 -- functions of the style and built-in ones can be run
 abbrev pub runnable : Target → ℕ → Result Target Fault

@@ -1,7 +1,5 @@
 -- A style while it is read: where it starts, and what each declaration adds.
-use Rattle.std.specs.Prelude.{ℕ, List, [], ◌∷◌, ◌++◌, codes, length}
-use Rattle.bt_style.specs.declared.style.Target.{Target}
-use Rattle.bt_style.specs.declared.style.Target.TheVariants as targets
+use Rattle.std.specs.Prelude.{ℕ, List, [], ◌∷◌, ◌++◌, codes}
 use Rattle.bt_style.specs.declared.style.Action.{Action}
 use Rattle.bt_style.specs.declared.names.Names.{Names}
 use Rattle.bt_style.specs.declared.names.Names.TheVariants.{Fields, EntryNumbers, EntryTexts, GlobalNumbers, GlobalTexts}
@@ -28,14 +26,6 @@ with_name EntryNumbers name p = record p { entry_numbers = p.entry_numbers ++ na
 with_name EntryTexts name p = record p { entry_texts = p.entry_texts ++ name ∷ [] }
 with_name GlobalNumbers name p = record p { global_numbers = p.global_numbers ++ name ∷ [] }
 with_name GlobalTexts name p = record p { global_texts = p.global_texts ++ name ∷ [] }
-
--- what such a name then stands for
-abbrev pub next_target : Names → Program → Target
-next_target Fields p = targets.Field (length p.fields)
-next_target EntryNumbers p = targets.EntryNumber (length p.entry_numbers)
-next_target EntryTexts p = targets.EntryText (length p.entry_texts)
-next_target GlobalNumbers p = targets.GlobalNumber (length p.global_numbers)
-next_target GlobalTexts p = targets.GlobalText (length p.global_texts)
 
 abbrev pub with_macro : List ℕ → List ℕ → Program → Program
 with_macro name text p = record p { macros = p.macros ++ (record { name = name; text = text }) ∷ [] }

@@ -16,7 +16,7 @@ number_sign = 35
 abbrev pub apostrophe : ℕ
 apostrophe = 39
 
--- the number that digits spell, behind digits that spelled n
+-- the number that digits spell, after digits that spelled n
 abbrev pub decimal : ℕ → List ℕ → ℕ
 decimal n [] = n
 decimal n (d ∷ digits) = decimal (n * 10 + (d - 48)) digits
@@ -36,13 +36,13 @@ size_at greatest bytes line =
 abbrev pub is_minus : List ℕ → Bool
 is_minus bytes = slice_index bytes 0 == hyphen
 
--- behind the number sign
+-- after the number sign
 unfoldable pub number_at : List ℕ → ℕ → Result ℤ Fault
 number_at bytes line =
     if is_minus bytes then (size_at (2 ^ 31) (drop 1 bytes) line >>= λ n. Ok (neg_ℤ (pos n)))
     else size_at (2 ^ 31 - 1) bytes line >>= λ n. Ok (pos n)
 
--- behind the apostrophe
+-- after the apostrophe
 unfoldable pub quoted_at : Program → List ℕ → ℕ → Result Element Fault
 quoted_at p bytes line =
     if length bytes == 0 then fault BadName line

@@ -3,8 +3,6 @@ pub mod Program
 pub mod Builtins
 pub mod Fault
 pub mod Token
-pub mod TokenCode
-pub mod Cursor
 pub mod Names
 pub mod Draft
 pub mod Arguments
@@ -20,3 +18,4 @@ pub mod Numbers
 pub mod Reach
 pub mod Uses
 pub mod Laws
+pub mod inner

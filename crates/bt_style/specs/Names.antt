@@ -1,8 +1,6 @@
 -- What names stand for.
-use Rattle.std.specs.Prelude.{◌≡◌, ℕ, suc, Bool, if◌then◌else◌, List, [], ◌∷◌, map, Option, Some, None, is_some, bytes_eq}
+use Rattle.std.specs.Prelude.{ℕ, suc, Bool, if◌then◌else◌, List, [], ◌∷◌, map, Option, Some, None, is_some, bytes_eq}
 use Rattle.std.specs.Option.{option_map}
-use Rattle.bt_text.specs.declared.by_name.ByName.{ByName}
-use Rattle.bt_text.specs.ByName.{at_small}
 use Rattle.bt_style.specs.declared.builtin.Builtin.{Builtin}
 use Rattle.bt_style.specs.declared.style.Target.{Target}
 use Rattle.bt_style.specs.declared.style.Target.TheVariants as targets
@@ -50,11 +48,11 @@ meanings p name =
     option_map targets.GlobalText (place_in p.global_texts name) ∷
     option_map targets.Function (place_in (function_names p) name) ∷ []
 
-unfoldable pub meaning : Program → List ℕ → Option Target
-meaning p name = first_some (meanings p name)
+unfoldable pub target_named : Program → List ℕ → Option Target
+target_named p name = first_some (meanings p name)
 
 abbrev pub is_taken : Program → List ℕ → Bool
-is_taken p name = is_some (meaning p name)
+is_taken p name = is_some (target_named p name)
 
 -- Macros have a space of their own.
 unfoldable pub macro_named : Program → List ℕ → Option ℕ
@@ -62,7 +60,3 @@ macro_named p name = place_in (macro_names p) name
 
 abbrev pub is_macro : Program → List ℕ → Bool
 is_macro p name = is_some (macro_named p name)
-
--- a table has at each name in small letters what a function gives
-abbrev pub Holds : {X : Type 0} → ByName X → (List ℕ → Option X) → Type 0
-Holds table f = (name : List ℕ) → at_small table name ≡ f name

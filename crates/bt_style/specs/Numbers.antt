@@ -2,8 +2,6 @@
 use Rattle.std.specs.Prelude.{ℕ, Option, Some, None}
 use Rattle.bt_style.specs.declared.style.Target.{Target}
 use Rattle.bt_style.specs.declared.style.Target.TheVariants as targets
-use Rattle.bt_style.specs.declared.names.Names.{Names}
-use Rattle.bt_style.specs.declared.names.Names.TheVariants.{Fields, EntryNumbers, EntryTexts, GlobalNumbers, GlobalTexts}
 
 abbrev pub as_field : Target → Option ℕ
 as_field (targets.Field n) = Some n
@@ -24,11 +22,3 @@ as_global_number _ = None
 abbrev pub as_global_text : Target → Option ℕ
 as_global_text (targets.GlobalText n) = Some n
 as_global_text _ = None
-
--- the number of a name of a list
-abbrev pub number_in : Names → Target → Option ℕ
-number_in Fields name = as_field name
-number_in EntryNumbers name = as_entry_number name
-number_in EntryTexts name = as_entry_text name
-number_in GlobalNumbers name = as_global_number name
-number_in GlobalTexts name = as_global_text name

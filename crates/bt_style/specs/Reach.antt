@@ -1,16 +1,13 @@
 -- The names that a step may come to: from a name, through bodies, and from `call.type$` to the entry's function.
-use Rattle.std.specs.Prelude.{◌≡◌, ℕ, ◌+◌, Bool, true, false, ◌||◌, if◌then◌else◌, List, [], ◌∷◌, ◌++◌, Option, Some, None, Contains, codes, slice_get}
+use Rattle.std.specs.Prelude.{ℕ, Bool, true, false, ◌||◌, if◌then◌else◌, List, [], ◌∷◌, ◌++◌, Option, Some, None, Contains, codes, slice_get}
 use Rattle.std.specs.List.{list_any}
 use Rattle.std.specs.Option.{option_map_or}
-use Rattle.std.specs.HashSet.{HashSet, contains}
-use Rattle.std.proofs.Common.{Bor}
 use Rattle.bt_style.specs.contracts.style.TargetPartialEq.TheImpl as target_comparison
 use Rattle.bt_style.specs.declared.builtin.Builtin.{Builtin}
 use Rattle.bt_style.specs.declared.builtin.Builtin.TheVariants as builtins
-use Rattle.bt_style.specs.declared.style.Op.{Op}
 use Rattle.bt_style.specs.declared.style.Target.{Target}
 use Rattle.bt_style.specs.declared.style.Target.TheVariants as targets
-use Rattle.bt_style.specs.Tree.{Element, Amount, Words, Quoted, Braced, Called, Body, End, Then, ops_body}
+use Rattle.bt_style.specs.Tree.{Element, Amount, Words, Quoted, Braced, Called, Body, End, Then}
 use Rattle.bt_style.specs.Program.{Program, Definition}
 use Rattle.bt_style.specs.Names.{place_in, function_names}
 
@@ -75,7 +72,7 @@ keeps_preamble keep = keep (targets.Builtin builtins.Preamble)
 abbrev pub keeps_kind : (Target → Bool) → Bool
 keeps_kind keep = keep (targets.Builtin builtins.Type) || keep (targets.Builtin builtins.CallType)
 
--- a target behind those that are found, unless it is among them
+-- a target after those that are found, unless it is among them
 abbrev pub noted : List Target → Target → List Target
 noted found t = if is_among found t then found else found ++ t ∷ []
 
@@ -92,32 +89,3 @@ all_body_names (f ∷ fs) = body_names f.body ++ all_body_names fs
 -- the names that may be reached at all
 abbrev pub reachable : Program → Option ℕ → Target → List Target
 reachable p type_function start = start ∷ (maybe_function type_function ++ maybe_function (default_type p)) ++ all_body_names p.functions
-
--- What the code keeps while it looks for them: no part of the meaning, from here on.
-
--- a hashed set has the targets that are found
-abbrev pub Knows : {S : Type 0} → HashSet Target S → List Target → Type 0
-Knows seen found = (t : Target) → contains target_eq seen t ≡ is_among found t
-
--- parts of bodies that are still to be gone over, the next one last: the names in them
-abbrev pub waiting_names : List (Bor (List Op)) → List Target
-waiting_names [] = []
-waiting_names (ops ∷ above) = waiting_names above ++ body_names (ops_body ops.now)
-
--- how many elements a body has, inner ones too, and its end
-abbrev mutual
-  pub element_size : Element → ℕ
-  element_size (Amount n) = 1
-  element_size (Words t) = 1
-  element_size (Quoted name) = 1
-  element_size (Braced inner) = 1 + body_size inner
-  element_size (Called name) = 1
-
-  pub body_size : Body → ℕ
-  body_size End = 1
-  body_size (Then first rest) = element_size first + body_size rest
-
--- the same of parts of bodies
-abbrev pub waiting_size : List (Bor (List Op)) → ℕ
-waiting_size [] = 0
-waiting_size (ops ∷ above) = waiting_size above + body_size (ops_body ops.now)

@@ -10,7 +10,7 @@ use Rattle.bt_style.specs.Token.{Open, Close, Word, Tokens, AtEnd, Front, tokens
 use Rattle.bt_style.specs.Draft.{preset}
 use Rattle.bt_style.specs.Commands.{command_at}
 
--- the word with which a command begins, its line and what stands behind, or none at the end
+-- the word with which a command begins, its line and what stands after, or none at the end
 abbrev pub command_word : Tokens → Result (Option (List ℕ × ℕ × Tokens)) Fault
 command_word (AtEnd line) = Ok None
 command_word (Front Open line rest) = fault StrayByte line

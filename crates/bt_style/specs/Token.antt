@@ -31,7 +31,7 @@ pub data Token : Type 0 where
   Literal : (bytes : List ℕ) → Token
   -- a quote with no other on its line
   Unclosed : Token
-  -- two quotes of one line, and behind them a byte that doesn't end a word
+  -- two quotes of one line, and after them a byte that doesn't end a word
   Glued : Token
 
 -- tokens with their lines, up to the text's end with its line
@@ -44,7 +44,7 @@ pub record Piece : Type 0 where
   pub token : Option Token
   pub size : ℕ
 
--- what stands behind a literal may stand there
+-- what stands after a literal may stand there
 abbrev pub may_follow : List ℕ → Bool
 may_follow [] = true
 may_follow (b ∷ _) = ends_word b
@@ -59,7 +59,7 @@ literal_end inside (b ∷ behind) =
 unfoldable pub literal_piece : List ℕ → Piece
 literal_piece bytes = let inside = before_first ends_literal bytes in literal_end inside (drop (length inside) bytes)
 
--- the piece that begins with a byte, by what stands behind the byte
+-- the piece that begins with a byte, by what stands after the byte
 unfoldable pub piece_at : ℕ → List ℕ → Piece
 piece_at b bytes =
     let comment = before_first is_line_feed bytes in
@@ -78,8 +78,8 @@ abbrev pub with_token : Option Token → ℕ → Tokens → Tokens
 with_token None line rest = rest
 with_token (Some token) line rest = Front token line rest
 
--- The tokens of the rest of a text from a line on. The first so many bytes belong to a piece that began before: they are
--- passed one by one, so that each byte is one step of the recursion.
+-- The tokens of the rest of a text from a line on. The first so many bytes belong to a piece that began before: they
+-- are passed one by one, so that each byte is one step of the recursion.
 unfoldable pub tokens_behind : ℕ → ℕ → List ℕ → Tokens
 tokens_behind covered line [] = AtEnd line
 tokens_behind (suc covered) line (b ∷ bytes) = tokens_behind covered (line_after b line) bytes

@@ -27,8 +27,8 @@ NamesDeclared p (actions.Function n) = n < length p.functions
 NamesDeclared p (actions.Macro n) = n < length p.macros
 NamesDeclared p _ = Unit {0}
 
--- Each name in the body of a function, called or quoted, inner braces too, is declared, and none stands for this function or
--- one behind it.
+-- Each name in the body of a function, called or quoted, inner braces too, is declared, and none stands for this
+-- function or one after it.
 pub record UsesDeclared (p : Program) : Type 0 where
   pub bodies : (n : ℕ) (f : Definition) → slice_get p.functions n ≡ Some f → All (IsDeclared p n) (body_names f.body)
   pub commands : All (λ c. NamesDeclared p c.action) p.commands

@@ -5,7 +5,8 @@ ghost use Rattle.bt_style.specs.Fault.{Gives};
 ghost use Rattle.bt_style.specs.Token.{count};
 ghost use Rattle.bt_style.specs.Program.{program_of};
 ghost use Rattle.bt_style.specs.Tree.{body_of, ops_body, element_of, elements_of, Braced, Words};
-ghost use Rattle.bt_style.specs.Bodies.{opened, body_at};
+ghost use Rattle.bt_style.specs.Bodies.{body_at};
+ghost use Rattle.bt_style.specs.inner.Bodies.{open_bodies};
 
 use crate::arguments::fault;
 use crate::cursor::Cursor;
@@ -47,7 +48,7 @@ fn push_text(alloc: Global, ops: &mut Vec<Op>, bytes: &[u8]) -> Result<(), Alloc
 /// Keeps what stands before a brace that opens.
 #[tactic(auto, using(crate::proofs::BodyLemmas::opened_push))]
 fn enter(outer: &mut Vec<Vec<Op>>, before: Vec<Op>) -> Result<(), AllocError>
-    ensures { OnOk result (opened outer.new.items ≡ elements_of before.items ∷ opened outer.old.items) }
+    ensures { OnOk result (open_bodies outer.new.items ≡ elements_of before.items ∷ open_bodies outer.old.items) }
 {
     outer.push(before)?;
     Ok(())
@@ -56,7 +57,7 @@ fn enter(outer: &mut Vec<Vec<Op>>, before: Vec<Op>) -> Result<(), AllocError>
 /// What stands before the brace that a brace closes, if one is open.
 #[tactic(auto, using(crate::proofs::BodyLemmas::opened_push))]
 fn leave(outer: &mut Vec<Vec<Op>>) -> Option<Vec<Op>>
-    ensures { MatchOption result (opened outer.old.items ≡ []) (λ before. opened outer.old.items ≡ elements_of before.items ∷ opened outer.new.items) }
+    ensures { MatchOption result (open_bodies outer.old.items ≡ []) (λ before. open_bodies outer.old.items ≡ elements_of before.items ∷ open_bodies outer.new.items) }
 {
     outer.pop()
 }
@@ -64,7 +65,7 @@ fn leave(outer: &mut Vec<Vec<Op>>) -> Option<Vec<Op>>
 /// Whether no more braces may stand open.
 #[tactic(auto, using(crate::proofs::BodyLemmas::length_opened))]
 fn is_deep(outer: &[Vec<Op>]) -> bool
-    ensures { result ≡ not (nat_lt (length (opened outer.now)) 99) }
+    ensures { result ≡ not (nat_lt (length (open_bodies outer.now)) 99) }
 {
     outer.len() >= BRACE_DEPTH - 1
 }

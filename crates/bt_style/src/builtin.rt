@@ -6,8 +6,8 @@ ghost use Rattle.bt_style.specs.Builtins.{place_of, name_of};
 /// How many functions need no definition.
 pub const BUILTIN_COUNT: usize = 37;
 
-/// A function that needs no definition: the built-in functions of *Designing BibTeX Styles*, in the order of their table.
-/// Arguments are named from the lowest on the literal stack to the top.
+/// A function that needs no definition: the built-in functions of *Designing BibTeX Styles*, in the order of their
+/// table. Arguments are named from the lowest on the literal stack to the top.
 #[derive(Clone, Copy, PartialEq, Eq, Hash, Debug)]
 pub enum Builtin {
     /// `>`. Two numbers: 1 where the lower one on the stack is greater, else 0.
@@ -82,7 +82,7 @@ pub enum Builtin {
     While,
     /// `width$`. A text: its width.
     Width,
-    /// `write$`. A text: puts it behind the held line.
+    /// `write$`. A text: puts it after the held line.
     Write,
 }
 

@@ -4,7 +4,7 @@ ghost use Rattle.std.specs.Prelude.{◌≡◌, ◌≤◌, None, IfOk, OnOk};
 ghost use Rattle.bt_style.specs.Fault.{Gives};
 ghost use Rattle.bt_style.specs.Token.{count};
 ghost use Rattle.bt_style.specs.Program.{program_of};
-ghost use Rattle.bt_style.specs.Names.{meaning, macro_named, is_taken, is_macro};
+ghost use Rattle.bt_style.specs.Names.{target_named, macro_named, is_taken, is_macro};
 ghost use Rattle.bt_style.specs.Arguments.{braced_word};
 ghost use Rattle.bt_style.specs.Declares.{new_name};
 ghost use Rattle.bt_style.specs.Commands.{run_target, variables_at, arguments_at, command_at};
@@ -24,7 +24,7 @@ use std::alloc::Global;
 /// A new function's name in braces.
 fn function_name(alloc: Global, cursor: &mut Cursor, draft: &Draft) -> Result<Bytes, StyleRefusal>
     ensures gives { Gives (λ t. (t, cursor.new)) result (braced_word (new_name (is_taken (program_of draft.now))) cursor.old) }
-    ensures free { IfOk result (λ name. meaning (program_of draft.now) name ≡ None) }
+    ensures free { IfOk result (λ name. target_named (program_of draft.now) name ≡ None) }
     ensures shorter { OnOk result (count cursor.new ≤ count cursor.old) }
 {
     open(cursor)?;
@@ -195,7 +195,7 @@ pub fn arguments(
     }
 }
 
-/// A command behind its word.
+/// A command after its word.
 #[tactic(auto, unfolding(crate::specs::Commands::command_at))]
 pub fn command(
     alloc: Global,

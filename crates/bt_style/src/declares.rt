@@ -4,7 +4,7 @@ ghost use Rattle.std.specs.Prelude.{◌≡◌, ◌≤◌, None, IfOk, OnOk};
 ghost use Rattle.bt_style.specs.Program.{program_of};
 ghost use Rattle.bt_style.specs.Fault.{Gives};
 ghost use Rattle.bt_style.specs.Token.{count};
-ghost use Rattle.bt_style.specs.Names.{meaning, macro_named, is_taken, is_macro};
+ghost use Rattle.bt_style.specs.Names.{target_named, macro_named, is_taken, is_macro};
 ghost use Rattle.bt_style.specs.Declares.{new_name, target_of, runnable, names_at, braced_names};
 
 use crate::arguments::{fault, open};
@@ -41,7 +41,7 @@ pub fn new_name(
     line: usize,
 ) -> Result<Bytes, StyleRefusal>
     ensures gives { Gives (λ t. t) result (new_name (is_taken (program_of draft.now)) word.now line) }
-    ensures free { IfOk result (λ name. meaning (program_of draft.now) name ≡ None) }
+    ensures free { IfOk result (λ name. target_named (program_of draft.now) name ≡ None) }
 {
     if !is_name(word) {
         return Err(fault(FaultKind::BadName, line));

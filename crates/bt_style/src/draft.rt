@@ -3,8 +3,9 @@
 ghost use Rattle.std.specs.Prelude.{◌≡◌, ◌≤◌, None, IfOk, OnOk, OnErr, length, is_some};
 ghost use Rattle.bt_style.specs.Program.{program_of};
 ghost use Rattle.bt_style.specs.Tree.{ops_body};
-ghost use Rattle.bt_style.specs.Names.{meaning, macro_named, is_macro};
-ghost use Rattle.bt_style.specs.Draft.{bare, with_name, next_target, with_macro, with_function, with_command};
+ghost use Rattle.bt_style.specs.Names.{target_named, macro_named, is_macro};
+ghost use Rattle.bt_style.specs.Draft.{bare, with_name, with_macro, with_function, with_command};
+ghost use Rattle.bt_style.specs.inner.Draft.{next_target};
 
 use crate::names::{Names, builtins};
 use crate::style::{Action, Command, Function, Macro, Op, Style, Target};
@@ -30,11 +31,12 @@ impl Model for Draft {
     ghost coded = { Prim.hlevel (codes, op.the_row.coded) };
 
     ghost use Rattle.bt_style.specs.Program.{program_of};
-    ghost use Rattle.bt_style.specs.Names.{Holds, meaning, macro_named};
+    ghost use Rattle.bt_style.specs.Names.{target_named, macro_named};
+    ghost use Rattle.bt_style.specs.inner.Names.{Holds};
 
     ghost view = { λ d. d.style };
 
-    ghost invariant = { λ d. Holds d.targets (meaning (program_of d.style)) × Holds d.macros (macro_named (program_of d.style)) };
+    ghost invariant = { λ d. Holds d.targets (target_named (program_of d.style)) × Holds d.macros (macro_named (program_of d.style)) };
 }
 
 /// A style in which nothing is declared.
@@ -88,7 +90,7 @@ fn push_name(style: &mut Style, names: Names, name: Bytes) -> Result<(), AllocEr
     Ok(())
 }
 
-/// Puts a macro behind the others.
+/// Puts a macro after the others.
 fn push_macro(style: &mut Style, name: Bytes, text: Bytes) -> Result<(), AllocError>
     ensures ok { OnOk result (program_of style.new ≡ with_macro name text (program_of style.old)) }
     ensures err { OnErr result (program_of style.new ≡ program_of style.old) }
@@ -97,7 +99,7 @@ fn push_macro(style: &mut Style, name: Bytes, text: Bytes) -> Result<(), AllocEr
     Ok(())
 }
 
-/// Puts a function behind the others.
+/// Puts a function after the others.
 fn push_function(style: &mut Style, name: Bytes, body: Vec<Op>) -> Result<(), AllocError>
     ensures ok { OnOk result (program_of style.new ≡ with_function name (ops_body body.items) (program_of style.old)) }
     ensures err { OnErr result (program_of style.new ≡ program_of style.old) }
@@ -120,7 +122,7 @@ impl Draft {
 
     /// What a name in small letters stands for.
     pub fn meaning(&self, name: &Vec<u8>) -> Option<Target>
-        ensures { result ≡ meaning (program_of self.now) name.now.items }
+        ensures { result ≡ target_named (program_of self.now) name.now.items }
     {
         self.targets.get_small(name.as_slice()).copied()
     }
@@ -148,7 +150,7 @@ impl Draft {
 
     /// Declares a name.
     pub fn declare(&mut self, alloc: Global, names: Names, name: Bytes) -> Result<(), AllocError>
-        requires { meaning (program_of self.old) name ≡ None }
+        requires { target_named (program_of self.old) name ≡ None }
         ensures { OnOk result (program_of self.new ≡ with_name names name (program_of self.old)) }
     {
         let key = Vec::from_slice(alloc, name.as_slice())?;
@@ -179,7 +181,7 @@ impl Draft {
         name: Bytes,
         body: Vec<Op>,
     ) -> Result<(), AllocError>
-        requires { meaning (program_of self.old) name ≡ None }
+        requires { target_named (program_of self.old) name ≡ None }
         ensures { OnOk result (program_of self.new ≡ with_function name (ops_body body.items) (program_of self.old)) }
     {
         let key = Vec::from_slice(alloc, name.as_slice())?;
@@ -191,7 +193,7 @@ impl Draft {
     }
 
     /// Adds a command.
-    #[tactic(auto, unfolding(crate::specs::Names::meaning, crate::specs::Names::macro_named))]
+    #[tactic(auto, unfolding(crate::specs::Names::target_named, crate::specs::Names::macro_named))]
     pub fn add_command(&mut self, action: Action, line: usize) -> Result<(), AllocError>
         ensures { OnOk result (program_of self.new ≡ with_command action line (program_of self.old)) }
     {

@@ -12,7 +12,7 @@ pub enum FaultKind {
     /// A word stands where a command must stand, and is no command's.
     #[error("UnknownCommand")]
     UnknownCommand,
-    /// MACRO stands behind READ, or EXECUTE, ITERATE, REVERSE or SORT before it.
+    /// MACRO stands after READ, or EXECUTE, ITERATE, REVERSE or SORT before it.
     #[error("CommandOrder")]
     CommandOrder,
     /// A second ENTRY.
@@ -42,7 +42,7 @@ pub enum FaultKind {
     /// A word is declared that is no name, or nothing is quoted.
     #[error("BadName")]
     BadName,
-    /// A number has no digits or a wrong byte behind it, a text has a wrong byte behind it, or a brace stands where a
+    /// A number has no digits or a wrong byte after it, a text has a wrong byte after it, or a brace stands where a
     /// command must stand.
     #[error("StrayByte")]
     StrayByte,

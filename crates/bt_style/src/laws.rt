@@ -16,7 +16,8 @@ pub fn bodies_are_spelled()
     ensures { (p : Program) (tokens : Tokens) (b : Body) (rest : Tokens) → body_at p [] [] tokens ≡ Ok (b, rest) → SpellsBody p b tokens rest }
 {}
 
-/// A body that tokens spell by the grammar of bodies is the one that is read from them, where its braces stand at most 100 deep.
+/// A body that tokens spell by the grammar of bodies is the one that is read from them, where its braces stand at most
+/// 100 deep.
 pub fn spelled_bodies_are_read()
     ensures { (p : Program) (tokens : Tokens) (b : Body) (rest : Tokens) → SpellsBody p b tokens rest → depth_of b ≤ 100 → body_at p [] [] tokens ≡ Ok (b, rest) }
 {}
@@ -26,14 +27,14 @@ pub fn fields_are_apart()
     ensures { FieldsAreApart }
 {}
 
-/// Each name of a style that a text spells stands for what was declared by it. So no two fields, variables and functions
-/// have one name, none has that of a built-in function, and no two macros have one name.
+/// Each name of a style that a text spells stands for what was declared by it. So no two fields, variables and
+/// functions have one name, none has that of a built-in function, and no two macros have one name.
 pub fn each_name_is_found()
     ensures { EachNameIsFound }
 {}
 
-/// Each name in the body of a function of a style that a text spells is declared, and stands for no function from this one
-/// on; each name of a command is declared. So by the names in bodies no function comes to itself.
+/// Each name in the body of a function of a style that a text spells is declared, and stands for no function from this
+/// one on; each name of a command is declared. So by the names in bodies no function comes to itself.
 pub fn names_come_first()
     ensures { NamesComeFirst }
 {}
@@ -43,13 +44,13 @@ pub fn builtins_stand_in_their_places()
     ensures { StandInTheirPlaces }
 {}
 
-/// A fault stands at one token, or at the end: no style begins with the tokens up to this one, whatever stands behind it, and
-/// some style begins with those before it. So it is neither too early nor too late.
+/// A fault stands at one token, or at the end: no style begins with the tokens up to this one, whatever stands after
+/// it, and some style begins with those before it. So it is neither too early nor too late.
 pub fn fault_is_first()
     ensures { FaultIsFirst }
 {}
 
-/// The same of the text's bytes: no style begins with those up to the end of the token at the fault and the byte behind
+/// The same of the text's bytes: no style begins with those up to the end of the token at the fault and the byte after
 /// it, and some style begins with those before that token.
 pub fn fault_is_first_in_its_text()
     ensures { FaultIsFirstInItsText }
@@ -71,8 +72,8 @@ pub fn builtins_are_found_by_name()
     ensures { FoundByTheirNames }
 {}
 
-/// The function of a name has the place at which the name stands in the table; a name that doesn't stand there is that of
-/// no function.
+/// The function of a name has the place at which the name stands in the table; a name that doesn't stand there is that
+/// of no function.
 pub fn builtins_are_found_at_their_places()
     ensures { FoundAtTheirPlaces }
 {}

@@ -4,7 +4,8 @@ ghost use Rattle.std.specs.Prelude.{◌≡◌, map, ℕ, List, Some, IfOk, OnOk,
 ghost use Rattle.std.specs.Option.{option_map};
 ghost use Rattle.bt_text.specs.ByName.{at_small};
 ghost use Rattle.bt_style.specs.Builtins.{name_of};
-ghost use Rattle.bt_style.specs.Names.{Holds, row_of, builtin_among, builtin_named};
+ghost use Rattle.bt_style.specs.Names.{row_of, builtin_among, builtin_named};
+ghost use Rattle.bt_style.specs.inner.Names.{Holds};
 
 use crate::builtin::Builtin;
 use crate::style::Target;

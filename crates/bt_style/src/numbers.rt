@@ -1,7 +1,7 @@
 //! The numbers of the names of one list, among some names.
 
 ghost use Rattle.std.specs.Prelude.{◌≡◌, IfOk, filter_map};
-ghost use Rattle.bt_style.specs.Numbers.{number_in};
+ghost use Rattle.bt_style.specs.inner.Numbers.{number_in};
 
 use crate::names::Names;
 use crate::style::Target;

@@ -6,7 +6,8 @@ ghost use Rattle.bt_style.specs.Tree.{ops_body};
 ghost use Rattle.bt_style.specs.Program.{program_of, definitions_of};
 ghost use Rattle.bt_style.specs.Names.{place_in};
 ghost use Rattle.bt_style.specs.Numbers.{as_field, as_entry_number, as_entry_text, as_global_number, as_global_text};
-ghost use Rattle.bt_style.specs.Reach.{Knows, Reaches, noted, noted_all, waiting_names, waiting_size, body_names, body_size, function_body_names, maybe_function, is_call_type, default_type, leads_to, target_eq, is_among, keeps_held, keeps_preamble, keeps_kind};
+ghost use Rattle.bt_style.specs.Reach.{Reaches, noted, noted_all, body_names, function_body_names, maybe_function, is_call_type, default_type, leads_to, target_eq, is_among, keeps_held, keeps_preamble, keeps_kind};
+ghost use Rattle.bt_style.specs.inner.Reach.{Knows, waiting_names, waiting_size, body_size};
 
 use crate::builtin::Builtin;
 use crate::names::Names;
@@ -47,7 +48,7 @@ pub struct Reach {
     ghost kind_named: { kind ≡ keeps_kind (is_among targets) },
 }
 
-/// Puts a target behind those that are found, unless it is among them.
+/// Puts a target after those that are found, unless it is among them.
 fn note(
     found: &mut Sequence<Target>,
     seen: &mut HashSet<Target>,
@@ -82,7 +83,7 @@ fn take_up<'a>(waiting: &mut Vec<&'a [Op]>) -> Option<&'a [Op]>
     waiting.pop()
 }
 
-/// Goes over the first element of a part of a body, and leaves what stands in it and behind it for later.
+/// Goes over the first element of a part of a body, and leaves what stands in it and after it for later.
 fn go_over<'a>(
     found: &mut Sequence<Target>,
     seen: &mut HashSet<Target>,
@@ -250,7 +251,7 @@ fn find_all(
     note(found, seen, target)?;
     let mut place = 0usize;
     'targets: while let Some(here) = target_at(found, place) {
-        // The length fits, and so does the place behind an element.
+        // The length fits, and so does the place after an element.
         let _len = found.len();
         note_next(alloc, style, type_function, found, seen, here)?;
         place += 1;
@@ -285,9 +286,9 @@ fn listed(
 }
 
 impl Style {
-    /// What is reached from a name: the name itself, each name that is called or quoted in the bodies of its functions, inner braces too, and,
-    /// where `call.type$` is reached, the function of the entry's type (`type_function`, if it has one) and `default.type`. A number without
-    /// a function reaches nothing more. The one error is out of memory.
+    /// What is reached from a name: the name itself, each name that is called or quoted in the bodies of its functions,
+    /// inner braces too, and, where `call.type$` is reached, the function of the entry's type (`type_function`, if it
+    /// has one) and `default.type`. A number without a function reaches nothing more. The one error is out of memory.
     pub fn reach(
         &self,
         alloc: Global,

@@ -5,7 +5,7 @@ ghost use Rattle.std.specs.Option.{option_map};
 ghost use Rattle.bt_style.specs.Fault.{Gives};
 ghost use Rattle.bt_style.specs.Token.{count};
 ghost use Rattle.bt_style.specs.Program.{program_of};
-ghost use Rattle.bt_style.specs.Names.{meaning};
+ghost use Rattle.bt_style.specs.Names.{target_named};
 ghost use Rattle.bt_style.specs.Draft.{preset, with_name};
 ghost use Rattle.bt_style.specs.Reader.{command_word, commands_at, style_of};
 
@@ -28,7 +28,7 @@ fn declare_preset(
     names: Names,
     name: &[u8],
 ) -> Result<(), AllocError>
-    requires { meaning (program_of draft.old) name.now ≡ None }
+    requires { target_named (program_of draft.old) name.now ≡ None }
     ensures { OnOk result (program_of draft.new ≡ with_name names name.now (program_of draft.old)) }
 {
     let name = Bytes::copied(alloc, name)?;

@@ -3,7 +3,7 @@
 ghost use Rattle.std.specs.Prelude.{◌≡◌, ◌+◌, ◌<◌, length};
 ghost use Rattle.std.specs.List.{before_first};
 ghost use Rattle.bt_style.specs.Token.{ends_word, is_line_feed, ends_literal, may_follow, literal_piece};
-ghost use Rattle.bt_style.specs.Cursor.{IsPiece, front_piece};
+ghost use Rattle.bt_style.specs.inner.Cursor.{IsPiece, front_piece};
 
 use bt_text::is_white;
 
@@ -33,14 +33,14 @@ fn word_length(bytes: &[u8]) -> usize
     bytes.iter().take_while(|b| !ends_word(**b)).count()
 }
 
-/// How many bytes stand in front of the line's end.
+/// How many bytes stand before the line's end.
 fn comment_length(bytes: &[u8]) -> usize
     ensures { result ≡ length (before_first is_line_feed bytes.now) }
 {
     bytes.iter().take_while(|b| **b != b'\n').count()
 }
 
-/// How many bytes stand in front of a quote or the line's end.
+/// How many bytes stand before a quote or the line's end.
 fn literal_length(bytes: &[u8]) -> usize
     ensures { result ≡ length (before_first ends_literal bytes.now) }
 {
@@ -50,7 +50,7 @@ fn literal_length(bytes: &[u8]) -> usize
         .count()
 }
 
-/// Whether these bytes may stand behind a literal.
+/// Whether these bytes may stand after a literal.
 fn may_follow(bytes: &[u8]) -> bool
     ensures { result ≡ may_follow bytes.now }
 {

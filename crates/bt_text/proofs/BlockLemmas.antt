@@ -52,10 +52,10 @@ pub first_block_at : (t : List ℕ) (n : ℕ) → 0 < length t → n ≡ first_l
 first_block_at [] n h e = absurd (omega arith)
 first_block_at (b ∷ t) n h e = rw (e, blocks_from_start (b ∷ t), blocks_from_first 0 b t, blocks_from_start (drop (first_len 0 (b ∷ t)) (b ∷ t))) refl
 
--- A block ends behind the byte that brings the depth to 0.
+-- A block ends after the byte that brings the depth to 0.
 pub first_len_end : (d b : ℕ) (t : List ℕ) → depth_behind d b ≡ 0 → first_len d (b ∷ t) ≡ 1
 first_len_end d b t e = ap (λ x. suc (cond (eqb x 0) 0 (first_len x t))) e
 
--- The depth in front of a place, one place on.
+-- The depth before a place, one place on.
 pub depth_take : (t : List ℕ) (i : ℕ) → i < length t → depth (take (i + 1) t) ≡ depth_behind (depth (take i t)) (get_or t i 0)
 depth_take t i h = ap depth (take_more t i 0 h) ∙ depth_push (take i t) (get_or t i 0)

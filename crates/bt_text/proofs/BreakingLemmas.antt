@@ -9,7 +9,7 @@ use Rattle.std.proofs.Common.{ltb, leb, append_assoc, length-drop}
 use Rattle.std.proofs.lemmas.Bool.{ltb-true, leb-false}
 use Rattle.std.proofs.lemmas.List.Sums.{prefix_len-le-length}
 use Rattle.bt_text.specs.declared.output.Output.{Output}
-use Rattle.bt_text.specs.Breaking.{break_place, broken, broken_at, broken_within, lines_of, near_break, or_else, run_end}
+use Rattle.bt_text.specs.Breaking.{break_place, broken, broken_at, broken_within, line_unless_empty, near_break, or_else, run_end}
 use Rattle.bt_text.specs.ByteTests.{is_white, space}
 
 range_step : (i e : ℕ) → i < e → range_with_len i (e - i) ≡ i ∷ range_with_len (i + 1) (e - (i + 1))
@@ -125,11 +125,11 @@ pub broken_none : (t : List ℕ) → break_place t ≡ None → broken t ≡ rec
 broken_none t e = enough (length t) (suc (length t)) t (omega arith) (omega arith) ∙ ap (λ o. broken_at o t (broken_within (length t))) e
 
 -- the step of a loop that breaks a text
-pub broken_step : (lines : List (List ℕ)) (t new all : List ℕ) (i : ℕ) → break_place t ≡ Some i → new ≡ space ∷ space ∷ drop (i + 1) t → lines ++ (broken t).lines ≡ (broken all).lines → (broken t).held ≡ (broken all).held → ((lines ++ lines_of (take i t)) ++ (broken new).lines ≡ (broken all).lines) × ((broken new).held ≡ (broken all).held)
+pub broken_step : (lines : List (List ℕ)) (t new all : List ℕ) (i : ℕ) → break_place t ≡ Some i → new ≡ space ∷ space ∷ drop (i + 1) t → lines ++ (broken t).lines ≡ (broken all).lines → (broken t).held ≡ (broken all).held → ((lines ++ line_unless_empty (take i t)) ++ (broken new).lines ≡ (broken all).lines) × ((broken new).held ≡ (broken all).held)
 broken_step lines t new all i e f g h =
     let step = broken_more t i e in
-    let more : lines ++ (lines_of (take i t) ++ (broken new).lines) ≡ (broken all).lines = rw f (rw step at g) in
-    (append_assoc lines (lines_of (take i t)) (broken new).lines ∙ more, rw f (rw step at h))
+    let more : lines ++ (line_unless_empty (take i t) ++ (broken new).lines) ≡ (broken all).lines = rw f (rw step at g) in
+    (append_assoc lines (line_unless_empty (take i t)) (broken new).lines ∙ more, rw f (rw step at h))
 
 -- ---- breaks in place
 
@@ -138,7 +138,7 @@ overwritten bs i h =
     let within : i < length bs = omega arith in
     drop-set-add i (set bs i 32) 1 32 ∙ ap (λ l. set l 1 32) (drop-set bs i 32 within) ∙ ap (λ l. 32 ∷ set l 0 32) (drop_more bs (i + 1) 0 h)
 
--- two spaces over the bytes in front of what stands behind break place i of the text from place start on
+-- two spaces over the bytes before what stands after break place i of the text from place start on
 pub next_text : (bs : List ℕ) (start i next : ℕ) → next + 1 ≡ start + i → start + i < length bs → drop next (set (set bs next 32) (next + 1) 32) ≡ 32 ∷ 32 ∷ drop (i + 1) (drop start bs)
 next_text bs start i next e h =
     let within : next + 1 < length bs = omega arith in
@@ -166,6 +166,6 @@ no_place (Some i) e = cc
 pub broken_whole : (t : List ℕ) → is_some (break_place t) ≡ false → broken t ≡ record { lines = []; held = t }
 broken_whole t e = broken_none t (no_place (break_place t) e)
 
--- .. and puts no line behind others
+-- .. and puts no line after others
 pub lines_whole : (lines : List (List ℕ)) (t : List ℕ) → is_some (break_place t) ≡ false → lines ++ (broken t).lines ≡ lines
 lines_whole lines t e = ap (λ o. lines ++ o.lines) (broken_whole t e) ∙ append-nil lines

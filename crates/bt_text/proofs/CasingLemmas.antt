@@ -5,7 +5,7 @@ use Rattle.bt_text.specs.declared.title_place.TitlePlace.{TitlePlace}
 use Rattle.bt_text.specs.Blocks.{blocks}
 use Rattle.bt_text.specs.Casing.{changed_behind, changed_block, changed_case}
 use Rattle.bt_text.specs.Special.{Symbol, control, symbols}
-use Rattle.bt_text.specs.TitlePlace.{is_spared_at, next_place, place_behind}
+use Rattle.bt_text.specs.inner.TitlePlace.{is_spared_at, next_place, place_behind}
 use Rattle.bt_text.proofs.TitlePlaceLemmas.{place_behind-append, spared_at_place}
 
 -- the step of a loop over the symbols of a special character

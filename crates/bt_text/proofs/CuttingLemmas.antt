@@ -6,7 +6,7 @@ use Rattle.std.proofs.lemmas.List.Sums.{sum_by-cons}
 use Rattle.bt_text.specs.Blocks.{blocks}
 use Rattle.bt_text.specs.ByteTests.{is_brace}
 use Rattle.bt_text.specs.Cutting.{first_characters}
-use Rattle.bt_text.specs.Pieces.{Piece, brace, bytes_of, is_character, other, pieces, pieces_of, single}
+use Rattle.bt_text.specs.Pieces.{Piece, brace, bytes_of, is_character, other, pieces, block_pieces, single}
 
 pub first_none : (ps : List Piece) → first_characters 0 ps ≡ []
 first_none [] = refl
@@ -42,11 +42,11 @@ abbrev pub first_bytes : ℕ → List Piece → List ℕ
 first_bytes n ps = flat_map bytes_of (first_characters n ps)
 
 -- the step of a loop over the blocks
-pub first_bytes_block : (out t new all : List ℕ) (k n left : ℕ) → blocks t ≡ take k t ∷ blocks (drop k t) → new ≡ first_bytes n (pieces_of (take k t)) → left ≡ n - count_by is_character (pieces_of (take k t)) → out ++ first_bytes n (pieces t) ≡ all → (out ++ new) ++ first_bytes left (pieces (drop k t)) ≡ all
+pub first_bytes_block : (out t new all : List ℕ) (k n left : ℕ) → blocks t ≡ take k t ∷ blocks (drop k t) → new ≡ first_bytes n (block_pieces (take k t)) → left ≡ n - count_by is_character (block_pieces (take k t)) → out ++ first_bytes n (pieces t) ≡ all → (out ++ new) ++ first_bytes left (pieces (drop k t)) ≡ all
 first_bytes_block out t new all k n left e f g h =
-    let ps = pieces_of (take k t) in
+    let ps = block_pieces (take k t) in
     let qs = pieces (drop k t) in
-    let whole : first_bytes n (pieces t) ≡ first_bytes n ps ++ first_bytes (n - count_by is_character ps) qs = ap (λ bs. first_bytes n (flat_map pieces_of bs)) e ∙ ap (flat_map bytes_of) (first_characters-append n ps qs) ∙ flat_map_bytes-append (first_characters n ps) (first_characters (n - count_by is_character ps) qs) in
+    let whole : first_bytes n (pieces t) ≡ first_bytes n ps ++ first_bytes (n - count_by is_character ps) qs = ap (λ bs. first_bytes n (flat_map block_pieces bs)) e ∙ ap (flat_map bytes_of) (first_characters-append n ps qs) ∙ flat_map_bytes-append (first_characters n ps) (first_characters (n - count_by is_character ps) qs) in
     append_assoc out new (first_bytes left qs) ∙ ap (λ l. out ++ (l ++ first_bytes left qs)) f ∙ ap (λ k. out ++ (first_bytes n ps ++ first_bytes k qs)) g ∙ ap (λ l. out ++ l) (sym whole) ∙ h
 
 -- outside special characters, a byte at a time

@@ -69,7 +69,7 @@ some_or_else : (o p : Option ℕ) → is_some (or_else o p) ≡ (is_some o || is
 some_or_else (Some i) p = refl
 some_or_else None p = refl
 
--- A text of more than 79 bytes is broken where it has white space behind place 2.
+-- A text of more than 79 bytes is broken where it has white space after place 2.
 pub broken_where : (t : List ℕ) → 79 < length t → is_some (break_place t) ≡ list_any is_white (drop 3 t)
 broken_where t h =
     let near = take 77 (drop 3 t) in
@@ -90,7 +90,7 @@ drop_both (suc n) (x ∷ xs) ys =
     let less : n - length xs ≡ suc n - suc (length xs) = omega arith in
     drop_both n xs ys ∙ ap (λ k. drop n xs ++ drop k ys) less
 
--- Two texts together are broken where one of them has white space behind place 2.
+-- Two texts together are broken where one of them has white space after place 2.
 pub written_where : (h t : List ℕ) → 79 < length h + length t → is_some (break_place (h ++ t)) ≡ (list_any is_white (drop 3 h) || list_any is_white (drop (3 - length h) t))
 written_where h t long =
     let all : 79 < length (h ++ t) = omega (arith, length-append h t) in

@@ -4,7 +4,7 @@ use Rattle.std.specs.List.{onto_first}
 use Rattle.bt_text.specs.ByteTests.{is_brace}
 use Rattle.bt_text.specs.Blocks.{begins_special, blocks}
 use Rattle.bt_text.specs.Depth.{depth_behind}
-use Rattle.bt_text.specs.Pieces.{Piece, brace, bytes_of, other, pieces, pieces_of, single, special}
+use Rattle.bt_text.specs.Pieces.{Piece, brace, bytes_of, other, pieces, block_pieces, single, special}
 use Rattle.bt_text.proofs.BlockLemmas.{blocks_from, blocks_from_start}
 
 bytes_of_single : (b : ℕ) → bytes_of (single b) ≡ b ∷ []
@@ -18,7 +18,7 @@ bytes_of_plain : (t : List ℕ) → flat_map bytes_of (map single t) ≡ t
 bytes_of_plain [] = refl
 bytes_of_plain (b ∷ t) = ap (λ l. l ++ flat_map bytes_of (map single t)) (bytes_of_single b) ∙ ap (λ l. b ∷ l) (bytes_of_plain t)
 
-bytes_of_block : (block : List ℕ) → flat_map bytes_of (pieces_of block) ≡ block
+bytes_of_block : (block : List ℕ) → flat_map bytes_of (block_pieces block) ≡ block
 bytes_of_block block = by_test (begins_special block)
   where
     by_test : (a : Bool) → flat_map bytes_of (cond a (special block ∷ []) (map single block)) ≡ block
@@ -33,11 +33,11 @@ joined : List (List ℕ) → List ℕ
 joined [] = []
 joined (block ∷ bs) = block ++ joined bs
 
-bytes_of_blocks : (bs : List (List ℕ)) → flat_map bytes_of (flat_map pieces_of bs) ≡ joined bs
+bytes_of_blocks : (bs : List (List ℕ)) → flat_map bytes_of (flat_map block_pieces bs) ≡ joined bs
 unfolding joined
 bytes_of_blocks [] = refl
 bytes_of_blocks (block ∷ bs) =
-    bytes_of-append (pieces_of block) (flat_map pieces_of bs) ∙ ap (λ l. l ++ flat_map bytes_of (flat_map pieces_of bs)) (bytes_of_block block) ∙ ap (λ l. block ++ l) (bytes_of_blocks bs)
+    bytes_of-append (block_pieces block) (flat_map block_pieces bs) ∙ ap (λ l. l ++ flat_map bytes_of (flat_map block_pieces bs)) (bytes_of_block block) ∙ ap (λ l. block ++ l) (bytes_of_blocks bs)
 
 joined-onto_first : (b : ℕ) (bs : List (List ℕ)) → joined (onto_first b bs) ≡ b ∷ joined bs
 unfolding joined

@@ -11,7 +11,7 @@ use Rattle.std.proofs.lemmas.Iterator.Adapters.{position_from-zero}
 use Rattle.indexmap.specs.IndexMap.{insert_entry}
 use Rattle.bt_text.specs.Folding.{folded, is_same_folded}
 use Rattle.bt_text.specs.NameList.{same_name}
-use Rattle.bt_text.specs.ByName.{by_small, place_of}
+use Rattle.bt_text.specs.ByName.{by_small, first_place}
 
 pub if_ok : {A E : Type 0} (P Q : A → Type 0) (r : Result A E) → ((x : A) → P x → Q x) → IfOk r P → IfOk r Q
 if_ok P Q (Ok x) f h = f x h
@@ -38,12 +38,12 @@ whole : (o : Option ℕ) → from_place 0 o ≡ o
 whole None = refl
 whole (Some k) = let n : 0 + k ≡ k = omega arith in ap (λ (j : ℕ). Some j) n
 
-from : {K : Type 0} (test : K → Bool) (i : ℕ) (ks : List K) → position_from test i ks ≡ from_place i (place_of test ks)
+from : {K : Type 0} (test : K → Bool) (i : ℕ) (ks : List K) → position_from test i ks ≡ from_place i (first_place test ks)
 from test i [] = refl
-from test i (k ∷ ks) = ap (λ (o : Option ℕ). cond (test k) (Some i) o) (from test (i + 1) ks) ∙ step (test k) i (place_of test ks)
+from test i (k ∷ ks) = ap (λ (o : Option ℕ). cond (test k) (Some i) o) (from test (i + 1) ks) ∙ step (test k) i (first_place test ks)
 
-position_is_place : {K : Type 0} (test : K → Bool) (ks : List K) → position test ks ≡ place_of test ks
-position_is_place test ks = position_from-zero test ks ∙ from test 0 ks ∙ whole (place_of test ks)
+position_is_place : {K : Type 0} (test : K → Bool) (ks : List K) → position test ks ≡ first_place test ks
+position_is_place test ks = position_from-zero test ks ∙ from test 0 ks ∙ whole (first_place test ks)
 
 abbrev Stored : Type 0 → Type 0
 Stored X = List (Vec ℕ Global × X)
@@ -65,11 +65,11 @@ module _ {X : Type 0} where
   values_entries [] = refl
   values_entries (e ∷ es) = ap (λ (xs : List X). e.1 ∷ xs) (values_entries es)
 
-  place_keys : (small : List ℕ) (stored : Stored X) → place_of (λ k. bytes_eq small k.items) (map (λ e. e.0) stored) ≡ place_of (λ e. bytes_eq small e.0) (entries_of stored)
+  place_keys : (small : List ℕ) (stored : Stored X) → first_place (λ k. bytes_eq small k.items) (map (λ e. e.0) stored) ≡ first_place (λ e. bytes_eq small e.0) (entries_of stored)
   place_keys small [] = refl
   place_keys small (e ∷ es) = ap (λ (o : Option ℕ). if bytes_eq small e.0.items then Some 0 else option_map (λ i. suc i) o) (place_keys small es)
 
-  pub place_entries : (small : List ℕ) (stored : Stored X) → position (λ k. bytes_eq small k.items) (map (λ e. e.0) stored) ≡ place_of (λ e. bytes_eq small e.0) (entries_of stored)
+  pub place_entries : (small : List ℕ) (stored : Stored X) → position (λ k. bytes_eq small k.items) (map (λ e. e.0) stored) ≡ first_place (λ e. bytes_eq small e.0) (entries_of stored)
   place_entries small stored = position_is_place (λ k. bytes_eq small k.items) (map (λ e. e.0) stored) ∙ place_keys small stored
 
   mapped : (b : Bool) (xs ys : Stored X) → entries_of (cond b xs ys) ≡ cond b (entries_of xs) (entries_of ys)
@@ -82,7 +82,7 @@ module _ {X : Type 0} where
       mapped (bytes_eq key.items e.0.items) ((e.0, x) ∷ es) (e ∷ insert_entry (λ k m. bytes_eq k.items m.items) es key x)
       ∙ ap (λ (more : Entries X). cond (bytes_eq key.items e.0.items) ((e.0.items, x) ∷ entries_of es) ((e.0.items, e.1) ∷ more)) (insert_entries key x es)
 
-  -- what is found behind an insertion
+  -- what is found after an insertion
 
   replaced : (a b : Bool) (x y : X) (o : Option X) → a ≡ b → cond a (Some x) o ≡ cond b (Some x) (cond a (Some y) o)
   replaced true true x y o h = refl
@@ -123,10 +123,10 @@ module _ {X : Type 0} where
   -- values that have their names
 
   module _ (name : X → List ℕ) where
-    pub place_by_small : (small : List ℕ) (xs : List X) → place_of (λ e. bytes_eq small e.0) (by_small name xs) ≡ place_of (λ x. bytes_eq (folded (name x)) small) xs
+    pub place_by_small : (small : List ℕ) (xs : List X) → first_place (λ e. bytes_eq small e.0) (by_small name xs) ≡ first_place (λ x. bytes_eq (folded (name x)) small) xs
     place_by_small small [] = refl
     place_by_small small (x ∷ xs) =
-        ap (λ (b : Bool). if b then Some 0 else option_map (λ i. suc i) (place_of (λ e. bytes_eq small e.0) (by_small name xs))) (nat_list_eq_equiv.symm small (folded (name x)))
+        ap (λ (b : Bool). if b then Some 0 else option_map (λ i. suc i) (first_place (λ e. bytes_eq small e.0) (by_small name xs))) (nat_list_eq_equiv.symm small (folded (name x)))
         ∙ ap (λ (o : Option ℕ). if bytes_eq (folded (name x)) small then Some 0 else option_map (λ i. suc i) o) (place_by_small small xs)
 
     pub has_by_small : (small : List ℕ) (xs : List X) → is_some (lookup (bytes_eq small) (by_small name xs)) ≡ list_any (λ x. bytes_eq (folded (name x)) small) xs

@@ -2,11 +2,11 @@
 use Rattle.std.proofs.Common.{◌≡◌, ℕ, true, false, eqb, List, [], ◌∷◌, map, flat_map, refl, ◌≢◌, ◌⊎◌, inl, inr}
 use Rattle.std.proofs.lemmas.Bool.Decides.{eqb_tells}
 use Rattle.bt_text.specs.Blocks.{begins_special}
-use Rattle.bt_text.specs.Pieces.{pieces_of, single}
+use Rattle.bt_text.specs.Pieces.{block_pieces, single}
 use Rattle.bt_text.specs.Purifying.{purified_byte, purified_piece}
 
 -- outside special characters each byte is a piece
-pub pieces_of_plain : (block : List ℕ) → begins_special block ≡ false → pieces_of block ≡ map single block
+pub pieces_of_plain : (block : List ℕ) → begins_special block ≡ false → block_pieces block ≡ map single block
 pieces_of_plain block e = rw e refl
 
 purified_single : (b : ℕ) → purified_piece (single b) ≡ purified_byte b
@@ -21,5 +21,5 @@ pub purified_plain : (t : List ℕ) → flat_map purified_piece (map single t) �
 purified_plain [] = refl
 purified_plain (b ∷ t) = rw (purified_single b, purified_plain t) refl
 
-pub purified_plain_block : (block : List ℕ) → begins_special block ≡ false → flat_map purified_piece (pieces_of block) ≡ flat_map purified_byte block
+pub purified_plain_block : (block : List ℕ) → begins_special block ≡ false → flat_map purified_piece (block_pieces block) ≡ flat_map purified_byte block
 purified_plain_block block e = rw (pieces_of_plain block e, purified_plain block) refl

@@ -13,7 +13,7 @@ use Rattle.std.proofs.lemmas.Bool.{cases_lt, cond-true, cond-false}
 use Rattle.std.proofs.lemmas.Bool.Decides.{nat_tests}
 use Rattle.std.proofs.lemmas.List.{append-nil, drop_more, get_or_default}
 use Rattle.bt_text.specs.Sparse.{text_at, all_texts, IsRising, or_text, filled_from}
-use Rattle.bt_text.specs.Merging.{Present, place_at, below, behind, merged, same_text, same_present, IsAt, IsGap, IsInOrder}
+use Rattle.bt_text.specs.inner.Merging.{Present, place_at, below, above, merged, same_text, same_present, IsAt, IsGap, IsInOrder}
 
 abbrev Text : Type 0
 Text = Option (List ℕ)
@@ -123,7 +123,7 @@ gap_tail x xs place i gap = record {
   greater_after = λ j le lt. gap.greater_after (suc j) (omega (arith, le)) (omega (arith, lt));
 }
 
--- the place of the first isn't that of one behind it
+-- the place of the first isn't that of one after it
 first_apart : (p : ℕ) (text : List ℕ) (xs : Present) (c place i : ℕ) → IsRising (p + 1) c xs → IsAt xs place i → p ≢ place
 first_apart p text xs c place i rising there same = omega (arith, place_low xs (p + 1) c i rising there.in_range, there.has_place, same)
 
@@ -238,17 +238,17 @@ below_more place p text xs lt = cond-true (nat_lt p place) ((p, text) ∷ below 
 below_end : (place p : ℕ) (text : List ℕ) (xs : Present) → place ≤ p → below place ((p, text) ∷ xs) ≡ []
 below_end place p text xs le = cond-false (nat_lt p place) ((p, text) ∷ below place xs) [] (le_is p place le)
 
-behind_more : (place p : ℕ) (text : List ℕ) (xs : Present) → p < place → behind place ((p, text) ∷ xs) ≡ behind place xs
-behind_more place p text xs lt = cond-true (nat_lt p place) (behind place xs) (if eqb p place then xs else (p, text) ∷ xs) (lt_is p place lt)
+behind_more : (place p : ℕ) (text : List ℕ) (xs : Present) → p < place → above place ((p, text) ∷ xs) ≡ above place xs
+behind_more place p text xs lt = cond-true (nat_lt p place) (above place xs) (if eqb p place then xs else (p, text) ∷ xs) (lt_is p place lt)
 
-behind_same : (place p : ℕ) (text : List ℕ) (xs : Present) → p ≡ place → behind place ((p, text) ∷ xs) ≡ xs
+behind_same : (place p : ℕ) (text : List ℕ) (xs : Present) → p ≡ place → above place ((p, text) ∷ xs) ≡ xs
 behind_same place p text xs same =
-    cond-false (nat_lt p place) (behind place xs) (if eqb p place then xs else (p, text) ∷ xs) (le_is p place (omega (arith, same)))
+    cond-false (nat_lt p place) (above place xs) (if eqb p place then xs else (p, text) ∷ xs) (le_is p place (omega (arith, same)))
     ∙ cond-true (eqb p place) xs ((p, text) ∷ xs) (grind (arith, nat_tests, same))
 
-behind_end : (place p : ℕ) (text : List ℕ) (xs : Present) → place < p → behind place ((p, text) ∷ xs) ≡ (p, text) ∷ xs
+behind_end : (place p : ℕ) (text : List ℕ) (xs : Present) → place < p → above place ((p, text) ∷ xs) ≡ (p, text) ∷ xs
 behind_end place p text xs lt =
-    cond-false (nat_lt p place) (behind place xs) (if eqb p place then xs else (p, text) ∷ xs) (le_is p place (omega (arith, lt)))
+    cond-false (nat_lt p place) (above place xs) (if eqb p place then xs else (p, text) ∷ xs) (le_is p place (omega (arith, lt)))
     ∙ cond-false (eqb p place) xs ((p, text) ∷ xs) (grind (arith, nat_tests, lt))
 
 rising_below : (xs ys : Present) (a b c place : ℕ) → IsRising a b xs → a ≤ place → IsRising place c ys → place ≤ c → IsRising a c (below place xs ++ ys)
@@ -259,7 +259,7 @@ rising_below ((p, text) ∷ xs) ys a b c place rising le after most = elim (case
   | inr ge ↦ subst (λ (zs : Present). IsRising a c (zs ++ ys)) (sym (below_end place p text xs ge)) (rising_from ys a place c after le)
 ]
 
-rising_behind : (xs : Present) (a b place : ℕ) → IsRising a b xs → IsRising (place + 1) b (behind place xs)
+rising_behind : (xs : Present) (a b place : ℕ) → IsRising a b xs → IsRising (place + 1) b (above place xs)
 rising_behind [] a b place rising = tt
 rising_behind ((p, text) ∷ xs) a b place rising = elim (cases_lt p place) [
   | inl lt ↦ subst (IsRising (place + 1) b) (sym (behind_more place p text xs lt)) (rising_behind xs (p + 1) b place rising.2)
@@ -272,8 +272,8 @@ rising_behind ((p, text) ∷ xs) a b place rising = elim (cases_lt p place) [
 pub rising_merged : (xs ys : Present) (a b c : ℕ) → a ≤ c → IsRising a c xs → IsRising a b ys → IsRising a c (merged c xs ys)
 rising_merged [] ys a b c le rising others = subst (IsRising a c) (append-nil (below c ys)) (rising_below ys [] a b c c others le tt (omega arith))
 rising_merged ((p, text) ∷ xs) ys a b c le rising others =
-    rising_below ys ((p, text) ∷ merged c xs (behind p ys)) a b c p others rising.0
-    (omega arith, rising.1, rising_merged xs (behind p ys) (p + 1) b c (omega (arith, rising.1)) rising.2 (rising_behind ys a b p others))
+    rising_below ys ((p, text) ∷ merged c xs (above p ys)) a b c p others rising.0
+    (omega arith, rising.1, rising_merged xs (above p ys) (p + 1) b c (omega (arith, rising.1)) rising.2 (rising_behind ys a b p others))
     (omega (arith, rising.1))
 
 below_low : (xs ys : Present) (a b place i : ℕ) → IsRising a b xs → i < place → text_at ys i ≡ None → text_at (below place xs ++ ys) i ≡ text_at xs i
@@ -294,7 +294,7 @@ below_high ((p, text) ∷ xs) ys place i high = elim (cases_lt p place) [
   | inr ge ↦ ap (λ (zs : Present). text_at (zs ++ ys) i) (below_end place p text xs ge)
 ]
 
-behind_high : (xs : Present) (place i : ℕ) → place < i → text_at (behind place xs) i ≡ text_at xs i
+behind_high : (xs : Present) (place i : ℕ) → place < i → text_at (above place xs) i ≡ text_at xs i
 behind_high [] place i high = refl
 behind_high ((p, text) ∷ xs) place i high = elim (cases_lt p place) [
   | inl lt ↦ ap (λ (zs : Present). text_at zs i) (behind_more place p text xs lt) ∙ behind_high xs place i high
@@ -310,9 +310,9 @@ merged_text : (xs ys : Present) (a b c i : ℕ) → a ≤ c → IsRising a c xs 
 merged_text [] ys a b c i most rising others low =
     ap (λ (zs : Present). text_at zs i) (sym (append-nil (below c ys))) ∙ below_low ys [] a b c i others low refl
 merged_text ((p, text) ∷ xs) ys a b c i most rising others low =
-    let rest = merged c xs (behind p ys) in
-    let rest_rising : IsRising (p + 1) c rest = rising_merged xs (behind p ys) (p + 1) b c (omega (arith, rising.1)) rising.2 (rising_behind ys a b p others) in
-    let rest_is : text_at rest i ≡ or_text (text_at xs i) (text_at (behind p ys) i) = merged_text xs (behind p ys) (p + 1) b c i (omega (arith, rising.1)) rising.2 (rising_behind ys a b p others) low in
+    let rest = merged c xs (above p ys) in
+    let rest_rising : IsRising (p + 1) c rest = rising_merged xs (above p ys) (p + 1) b c (omega (arith, rising.1)) rising.2 (rising_behind ys a b p others) in
+    let rest_is : text_at rest i ≡ or_text (text_at xs i) (text_at (above p ys) i) = merged_text xs (above p ys) (p + 1) b c i (omega (arith, rising.1)) rising.2 (rising_behind ys a b p others) low in
     elim (cases_lt i p) [
       | inl lt ↦
           below_low ys ((p, text) ∷ rest) a b p i others lt (none_low ((p, text) ∷ rest) p c i (omega arith, rising.1, rest_rising) lt)

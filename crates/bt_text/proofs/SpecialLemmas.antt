@@ -15,7 +15,7 @@ control_name_letters (b ∷ t) n h e f =
     let few : n ≤ length (b ∷ t) = omega (arith, prefix_len-le-length is_letter (b ∷ t)) in
     (named, rw (named, length-take-le n (b ∷ t) few) refl)
 
--- the symbols behind the first n bytes
+-- the symbols after the first n bytes
 pub symbols_behind_drop : (n : ℕ) (t : List ℕ) → symbols_behind n t ≡ symbols (drop n t)
 symbols_behind_drop zero t = refl
 symbols_behind_drop (suc n) [] = refl

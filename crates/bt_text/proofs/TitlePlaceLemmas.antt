@@ -8,7 +8,7 @@ use Rattle.bt_text.specs.declared.modes.Mode.TheVariants.{Title, Lower, Upper}
 use Rattle.bt_text.specs.declared.title_place.TitlePlace.{TitlePlace}
 use Rattle.bt_text.specs.ByteTests.{is_white}
 use Rattle.bt_text.specs.Casing.{is_spared}
-use Rattle.bt_text.specs.TitlePlace.{is_empty, is_spared_at, next_place, place_behind}
+use Rattle.bt_text.specs.inner.TitlePlace.{is_empty, is_spared_at, next_place, place_behind}
 use Rattle.bt_text.specs.White.{ends_in, trimmed_end}
 
 suffix_len-push : (test : ℕ → Bool) (t : List ℕ) (b : ℕ) → suffix_len test (t ++ b ∷ []) ≡ cond (test b) (1 + suffix_len test t) 0
@@ -52,7 +52,7 @@ unfolding place_of
 place_behind-push front b =
     ap (λ first. place_of first (ends_in is_white (front ++ b ∷ [])) (ends_in (λ c. eqb c 58) (trimmed_end (front ++ b ∷ [])))) (is_empty-push front b) ∙ ap (λ white. place_of false white (ends_in (λ c. eqb c 58) (trimmed_end (front ++ b ∷ [])))) (ends_in-push is_white front b) ∙ ap (place_of false (is_white b)) (colon-push front b)
 
--- The place behind more bytes.
+-- The place after more bytes.
 pub place_behind-append : (front block : List ℕ) → place_behind (front ++ block) ≡ fold next_place (place_behind front) block
 place_behind-append front [] = ap place_behind (append-nil front)
 place_behind-append front (b ∷ block) =

@@ -3,7 +3,7 @@ use Rattle.std.proofs.Common.{◌≡◌, ℕ, zero, suc, ◌≤◌, Bool, true, 
 use Rattle.std.proofs.lemmas.List.Sums.{sum_by-cons}
 use Rattle.bt_text.specs.Blocks.{begins_special}
 use Rattle.bt_text.specs.ByteTests.{is_brace}
-use Rattle.bt_text.specs.Pieces.{brace, other, pieces_of, single}
+use Rattle.bt_text.specs.Pieces.{brace, other, block_pieces, single}
 use Rattle.bt_text.specs.Special.{Symbol, control}
 use Rattle.bt_text.specs.Widths.{byte_width, control_width, piece_width, symbol_width, widths}
 use Rattle.std.specs.List.{list_all}
@@ -44,9 +44,9 @@ pub width_plain : (t : List ℕ) → sum_by piece_width (map single t) ≡ sum_b
 width_plain [] = refl
 width_plain (b ∷ t) = sum_by-cons piece_width (single b) (map single t) ∙ ap (λ n. n + sum_by piece_width (map single t)) (width_single b) ∙ ap (λ n. byte_width b + n) (width_plain t) ∙ sym (sum_by-cons byte_width b t)
 
-pub block_width : (block : List ℕ) → begins_special block ≡ false → sum_by piece_width (pieces_of block) ≡ sum_by byte_width block
+pub block_width : (block : List ℕ) → begins_special block ≡ false → sum_by piece_width (block_pieces block) ≡ sum_by byte_width block
 block_width block e = rw (pieces_of_plain block e, width_plain block) refl
 
--- the width of a control sequence, and of the symbols behind it
+-- the width of a control sequence, and of the symbols after it
 pub width_control : (ss rest : List Symbol) (name gap : List ℕ) → ss ≡ control name gap ∷ rest → sum_by symbol_width ss ≡ control_width name + sum_by symbol_width rest
 width_control ss rest name gap e = ap (sum_by symbol_width) e ∙ sum_by-cons symbol_width (control name gap) rest

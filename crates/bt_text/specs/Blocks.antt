@@ -4,7 +4,7 @@ use Rattle.std.specs.List.{onto_first}
 use Rattle.bt_text.specs.ByteTests.{left_brace, backslash}
 use Rattle.bt_text.specs.Depth.{depth}
 
--- the text behind front, cut at each place where the bytes before the place have depth 0
+-- the text after front, cut at each place where the bytes before the place have depth 0
 abbrev pub blocks_behind : List ℕ → List ℕ → List (List ℕ)
 blocks_behind front [] = []
 blocks_behind front (b ∷ t) =
@@ -20,7 +20,7 @@ abbrev pub begins_group : List ℕ → Bool
 begins_group [] = false
 begins_group (b ∷ t) = b == left_brace
 
--- a left brace, and a backslash directly behind it
+-- a left brace, and a backslash directly after it
 abbrev pub begins_special : List ℕ → Bool
 begins_special (a ∷ b ∷ t) = a == left_brace && b == backslash
 begins_special _ = false

@@ -5,11 +5,19 @@ use Rattle.bt_text.specs.declared.output.Output.{Output}
 use Rattle.bt_text.specs.ByteTests.{is_white, space}
 use Rattle.bt_text.specs.White.{trimmed_end}
 
+-- how many bytes a line has at most, where it can be broken
+abbrev pub line_width : ℕ
+line_width = 79
+
+-- the first place at which a line may be broken
+abbrev pub first_break : ℕ
+first_break = 3
+
 -- the greatest of the places 3 to 79 that holds white space
 unfoldable pub near_break : List ℕ → Option ℕ
-near_break t = last_or None (filter (λ i. is_white (slice_index t i)) (range_with_len 3 77))
+near_break t = last_or None (filter (λ i. is_white (slice_index t i)) (range_with_len first_break (line_width + 1 - first_break)))
 
--- the last byte of the first run of white space that begins at place i or behind it
+-- the last byte of the first run of white space that begins at place i or after it
 abbrev pub run_end : List ℕ → ℕ → Option ℕ
 run_end t i =
     let start = i + position_or_len is_white (drop i t) in
@@ -21,7 +29,7 @@ or_else None other = other
 
 -- where a text of more than 79 bytes is broken
 abbrev pub break_place : List ℕ → Option ℕ
-break_place t = if nat_le (length t) 79 then None else or_else (near_break t) (run_end t 80)
+break_place t = if nat_le (length t) line_width then None else or_else (near_break t) (run_end t (line_width + 1))
 
 -- A line is written, unless nothing is left of it.
 abbrev pub unless_empty : List ℕ → List (List ℕ)
@@ -29,15 +37,15 @@ unless_empty [] = []
 unless_empty (b ∷ t) = (b ∷ t) ∷ []
 
 -- A line loses the white space at its end.
-abbrev pub lines_of : List ℕ → List (List ℕ)
-lines_of t = unless_empty (trimmed_end t)
+abbrev pub line_unless_empty : List ℕ → List (List ℕ)
+line_unless_empty t = unless_empty (trimmed_end t)
 
--- The text before the break place is a line, and two spaces and what stands behind it are broken in turn.
+-- The text before the break place is a line, and two spaces and what stands after it are broken in turn.
 abbrev pub broken_at : Option ℕ → List ℕ → (List ℕ → Output) → Output
 broken_at None t again = record { lines = []; held = t }
 broken_at (Some i) t again =
     let b = again (space ∷ space ∷ drop (i + 1) t) in
-    record { lines = lines_of (take i t) ++ b.lines; held = b.held }
+    record { lines = line_unless_empty (take i t) ++ b.lines; held = b.held }
 
 -- at most n breaks
 abbrev pub broken_within : ℕ → List ℕ → Output

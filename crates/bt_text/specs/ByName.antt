@@ -15,9 +15,9 @@ abbrev pub with_entry : {X : Type 0} → List ℕ → X → List (List ℕ × X)
 with_entry small value entries = insert_entry bytes_eq entries small value
 
 -- the place of the first element that passes a test
-abbrev pub place_of : {X : Type 0} → (X → Bool) → List X → Option ℕ
-place_of test [] = None
-place_of test (x ∷ xs) = if test x then Some 0 else option_map (λ i. suc i) (place_of test xs)
+abbrev pub first_place : {X : Type 0} → (X → Bool) → List X → Option ℕ
+first_place test [] = None
+first_place test (x ∷ xs) = if test x then Some 0 else option_map (λ i. suc i) (first_place test xs)
 
 -- what a table has at a name in small letters
 abbrev pub at_small : {X : Type 0} → ByName X → List ℕ → Option X

@@ -39,7 +39,7 @@ abbrev pub begins_title : List ℕ → Bool
 begins_title [] = true
 begins_title (b ∷ t) = ends_in is_white (b ∷ t) && ends_in (λ c. c == colon) (trimmed_end (b ∷ t))
 
--- whether the mode spares the block that stands behind front
+-- whether the mode spares the block that stands after front
 abbrev pub is_spared : Mode → List ℕ → Bool
 is_spared Title front = begins_title front
 is_spared Lower front = false

@@ -23,7 +23,7 @@ abbrev pub last_bytes : ℕ → List ℕ → List ℕ
 last_bytes n t = drop (length t - n) t
 
 -- At start i + 1 at most n bytes from place i on; at start -(i + 1) at most n bytes that end with the byte
--- that has i bytes behind it; at any other start or length nothing.
+-- that has i bytes after it; at any other start or length nothing.
 abbrev pub substring_of : List ℕ → ℤ → ℤ → List ℕ
 substring_of t (pos zero) n = []
 substring_of t (pos (suc i)) (pos n) = take n (drop i t)

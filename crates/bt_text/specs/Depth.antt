@@ -2,7 +2,7 @@
 use Rattle.std.specs.Prelude.{◌≡◌, ◌≢◌, ℕ, ◌+◌, ◌-◌, ◌<◌, ◌==◌, if◌then◌else◌, List, length, take, slice_index, fold}
 use Rattle.bt_text.specs.ByteTests.{left_brace, right_brace}
 
--- the depth behind the byte b, where it is d in front of it
+-- the depth after the byte b, where it is d before it
 abbrev pub depth_behind : ℕ → ℕ → ℕ
 depth_behind d b = if b == left_brace then d + 1 else (if b == right_brace then d - 1 else d)
 
@@ -10,7 +10,7 @@ depth_behind d b = if b == left_brace then d + 1 else (if b == right_brace then 
 abbrev pub depth : List ℕ → ℕ
 depth t = fold depth_behind 0 t
 
--- the depth in front of place i
+-- the depth before place i
 abbrev pub depth_at : List ℕ → ℕ → ℕ
 depth_at t i = depth (take i t)
 

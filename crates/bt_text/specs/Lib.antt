@@ -9,7 +9,6 @@ pub mod Length
 pub mod Cutting
 pub mod Period
 pub mod Casing
-pub mod TitlePlace
 pub mod Purifying
 pub mod Widths
 pub mod White
@@ -20,4 +19,4 @@ pub mod NameBytes
 pub mod Breaking
 pub mod Held
 pub mod Sparse
-pub mod Merging
+pub mod inner

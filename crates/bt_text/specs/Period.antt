@@ -11,7 +11,7 @@ abbrev pub ends_sentence : Option ℕ → Bool
 ends_sentence None = false
 ends_sentence (Some b) = b == full_stop || b == question_mark || b == exclamation_mark
 
--- A full stop is put behind a text, unless it is empty or its last byte that is no right brace ends a sentence.
+-- A full stop is put after a text, unless it is empty or its last byte that is no right brace ends a sentence.
 abbrev pub with_period : List ℕ → List ℕ
 with_period [] = []
 with_period (b ∷ t) = if ends_sentence (last_counting (b ∷ t)) then b ∷ t else b ∷ t ++ full_stop ∷ []

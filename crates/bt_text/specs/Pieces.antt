@@ -13,11 +13,11 @@ abbrev pub single : ℕ → Piece
 single b = if is_brace b then brace b else other b
 
 -- A group that begins with a left brace and a backslash is a special character.
-abbrev pub pieces_of : List ℕ → List Piece
-pieces_of block = if begins_special block then special block ∷ [] else map single block
+abbrev pub block_pieces : List ℕ → List Piece
+block_pieces block = if begins_special block then special block ∷ [] else map single block
 
 abbrev pub pieces : List ℕ → List Piece
-pieces t = flat_map pieces_of (blocks t)
+pieces t = flat_map block_pieces (blocks t)
 
 -- the bytes of a piece
 abbrev pub bytes_of : Piece → List ℕ

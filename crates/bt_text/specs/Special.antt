@@ -3,7 +3,7 @@ use Rattle.std.specs.Prelude.{ℕ, zero, suc, Bool, ◌||◌, ◌+◌, ◌==◌,
 use Rattle.std.specs.List.{list_any}
 use Rattle.bt_text.specs.ByteTests.{backslash, is_brace, is_letter, is_white}
 
--- a control sequence by its name, with the white space directly behind it, or a byte outside of these
+-- a control sequence by its name, with the white space directly after it, or a byte outside of these
 pub data Symbol : Type 0 where
   control : (name gap : List ℕ) → Symbol
   plain : ℕ → Symbol
@@ -14,7 +14,7 @@ abbrev pub control_name : List ℕ → List ℕ
 control_name [] = []
 control_name (b ∷ t) = if is_letter b then take_while is_letter (b ∷ t) else (if is_brace b then [] else b ∷ [])
 
--- the white space directly behind that control sequence
+-- the white space directly after that control sequence
 abbrev pub control_gap : List ℕ → List ℕ
 control_gap t = take_while is_white (drop (length (control_name t)) t)
 

@@ -15,7 +15,7 @@ abbrev pub begins_white : List ℕ → Bool
 begins_white [] = false
 begins_white (b ∷ t) = is_white b
 
--- what is left of the byte b in front of t: of a run of white space its last byte, as a space
+-- what is left of the byte b before t: of a run of white space its last byte, as a space
 abbrev pub joined_byte : ℕ → List ℕ → List ℕ
 joined_byte b t = if is_white b then (if begins_white t then [] else space ∷ []) else b ∷ []
 

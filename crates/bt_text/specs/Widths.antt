@@ -34,7 +34,7 @@ control_width name =
     (if bytes_eq name (codes "OE") then 1014 else
     sum_by byte_width (letters_of name)))))
 
--- In a special character braces, and white space behind a control sequence, have no width.
+-- In a special character braces, and white space after a control sequence, have no width.
 abbrev pub symbol_width : Symbol → ℕ
 symbol_width (control name gap) = control_width name
 symbol_width (plain b) = if is_brace b then 0 else byte_width b

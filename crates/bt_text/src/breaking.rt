@@ -1,7 +1,7 @@
 //! Where a long text is broken into lines.
 
 ghost use Rattle.std.specs.Prelude.{◌≡◌, ◌<◌, ◌≤◌, ◌++◌, length, None, IfOk, IfSome, OnOk, OnErr};
-ghost use Rattle.bt_text.specs.Breaking.{break_place, broken, lines_of, near_break, run_end};
+ghost use Rattle.bt_text.specs.Breaking.{break_place, broken, line_unless_empty, near_break, run_end};
 
 use crate::byte_tests::is_white;
 use crate::bytes::Bytes;
@@ -25,7 +25,7 @@ fn near_break(text: &[u8]) -> Option<usize>
     last
 }
 
-/// The last byte of the first run of white space that begins behind place 79.
+/// The last byte of the first run of white space that begins after place 79.
 fn run_end(text: &[u8]) -> Option<usize>
     requires { 79 < length text.now }
     ensures place { result ≡ run_end text.now 80 }
@@ -53,9 +53,9 @@ fn break_place(text: &[u8]) -> Option<usize>
     }
 }
 
-/// Puts a line behind others, without the white space at its end, unless nothing is left of it.
+/// Puts a line after others, without the white space at its end, unless nothing is left of it.
 pub fn push_line(alloc: Global, lines: &mut Sequence<Bytes>, text: &[u8]) -> Result<(), AllocError>
-    ensures ok { OnOk result (lines.new ≡ lines.old ++ lines_of text.now) }
+    ensures ok { OnOk result (lines.new ≡ lines.old ++ line_unless_empty text.now) }
     ensures err { OnErr result (lines.new ≡ lines.old) }
 {
     let line = trim_end(text);
@@ -65,8 +65,8 @@ pub fn push_line(alloc: Global, lines: &mut Sequence<Bytes>, text: &[u8]) -> Res
     Ok(())
 }
 
-/// The lines that a text is broken into, and what is held then. What stands behind a break place goes on behind two
-/// spaces, which are put over the two bytes in front of it: they are in a line by then.
+/// The lines that a text is broken into, and what is held then. What stands after a break place goes on after two
+/// spaces, which are put over the two bytes before it: they are in a line by then.
 pub fn break_lines(alloc: Global, text: Vec<u8>) -> Result<Output, AllocError>
     ensures output { IfOk result (λ output. output ≡ broken text.items) }
     ensures whole { IfOk result (λ output. break_place output.held ≡ None) }

@@ -1,7 +1,7 @@
 //! A hashed table of values by names, which match without regard to case.
 
 ghost use Rattle.std.specs.Prelude.{◌≡◌, [], map, ℕ, List, Some, is_some, option_copied, bytes_eq, if◌then◌else◌, IfOk, OnOk, OnErr};
-ghost use Rattle.bt_text.specs.ByName.{HasRoom, at_small, known, listed, no_value, place_of, with_entry, with_value};
+ghost use Rattle.bt_text.specs.ByName.{HasRoom, at_small, known, listed, no_value, first_place, with_entry, with_value};
 ghost use Rattle.bt_text.specs.Folding.{folded};
 
 use crate::folding::{is_ascii_lowercase, to_ascii_lowercase};
@@ -55,14 +55,14 @@ impl<V: Drop> ByName<V> {
 
     /// The place of a name in small letters.
     fn place_small(&self, small: &[u8]) -> Option<usize>
-        ensures { result ≡ place_of (λ e. bytes_eq small.now e.0) (listed self.now) }
+        ensures { result ≡ first_place (λ e. bytes_eq small.now e.0) (listed self.now) }
     {
         self.values.get_index_of(small)
     }
 
     /// The place of a name in the order in which the names came. The one error is out of memory.
     pub fn place(&self, alloc: Global, name: &[u8]) -> Result<Option<usize>, AllocError>
-        ensures { IfOk result (λ place. place ≡ place_of (λ e. bytes_eq (folded name.now) e.0) (listed self.now)) }
+        ensures { IfOk result (λ place. place ≡ first_place (λ e. bytes_eq (folded name.now) e.0) (listed self.now)) }
     {
         if is_ascii_lowercase(name) {
             return Ok(self.place_small(name));

@@ -37,7 +37,7 @@ impl Bytes {
         Bytes { bytes }
     }
 
-    /// A copy of these bytes. The one error is want of memory.
+    /// A copy of these bytes. The one error is out of memory.
     pub fn copied(alloc: Global, bytes: &[u8]) -> Result<Self, AllocError>
         ensures { IfOk result (λ text. text ≡ bytes.now) }
     {
@@ -69,7 +69,7 @@ impl Bytes {
         self.bytes.len()
     }
 
-    /// Puts bytes behind those that are there. After want of memory the text is as before.
+    /// Puts bytes after those that are there. After out of memory the text is as before.
     pub fn append(&mut self, more: &[u8]) -> Result<(), AllocError>
         ensures ok { OnOk result (self.new ≡ self.old ++ more.now) }
         ensures err { OnErr result (self.new ≡ self.old) }

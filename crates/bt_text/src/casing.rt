@@ -3,7 +3,7 @@
 ghost use Rattle.std.specs.Prelude.{◌≡◌, ◌≤◌, ◌++◌, ◌∷◌, ◌==◌, if◌then◌else◌, IfOk, OnOk, length, take, drop, flat_map, map};
 ghost use Rattle.bt_text.specs.Casing.{changed_block, changed_byte, changed_case, changed_control, changed_symbol};
 ghost use Rattle.bt_text.specs.Special.{is_foreign, symbols};
-ghost use Rattle.bt_text.specs.TitlePlace.{is_spared_at};
+ghost use Rattle.bt_text.specs.inner.TitlePlace.{is_spared_at};
 
 use crate::blocks::{begins_special, block_len};
 use crate::bytes::Bytes;
@@ -22,7 +22,7 @@ fn changed_byte(mode: Mode, byte: u8) -> u8
     }
 }
 
-/// Puts bytes behind `out` in the case of the mode.
+/// Puts bytes after `out` in the case of the mode.
 fn push_changed(out: &mut Vec<u8>, mode: Mode, text: &[u8]) -> Result<(), AllocError>
     ensures { OnOk result (out.new.items ≡ out.old.items ++ map (changed_byte mode) text.now) }
 {
@@ -32,7 +32,7 @@ fn push_changed(out: &mut Vec<u8>, mode: Mode, text: &[u8]) -> Result<(), AllocE
     Ok(())
 }
 
-/// Puts the name of a control sequence behind `out`, in the case of the mode if it is foreign.
+/// Puts the name of a control sequence after `out`, in the case of the mode if it is foreign.
 fn push_name(out: &mut Vec<u8>, mode: Mode, name: &[u8]) -> Result<(), AllocError>
     ensures { OnOk result (out.new.items ≡ out.old.items
         ++ (if is_foreign name.now then map (changed_byte mode) name.now else name.now)) }
@@ -44,7 +44,7 @@ fn push_name(out: &mut Vec<u8>, mode: Mode, name: &[u8]) -> Result<(), AllocErro
     }
 }
 
-/// Puts a control sequence behind `out`, with its name in the case of the mode.
+/// Puts a control sequence after `out`, with its name in the case of the mode.
 fn push_whole(out: &mut Vec<u8>, mode: Mode, name: &[u8], gap: &[u8]) -> Result<(), AllocError>
     ensures { OnOk result (out.new.items ≡ out.old.items
         ++ (92 ∷ (if is_foreign name.now then map (changed_byte mode) name.now else name.now)
@@ -56,7 +56,7 @@ fn push_whole(out: &mut Vec<u8>, mode: Mode, name: &[u8], gap: &[u8]) -> Result<
     Ok(())
 }
 
-/// Puts a control sequence behind `out`.
+/// Puts a control sequence after `out`.
 fn push_control(out: &mut Vec<u8>, mode: Mode, name: &[u8], gap: &[u8]) -> Result<(), AllocError>
     ensures { OnOk result (out.new.items ≡ out.old.items ++ changed_control mode name.now gap.now) }
 {
@@ -73,7 +73,7 @@ fn push_control(out: &mut Vec<u8>, mode: Mode, name: &[u8], gap: &[u8]) -> Resul
     }
 }
 
-/// Puts a special character behind `out`.
+/// Puts a special character after `out`.
 fn push_special(out: &mut Vec<u8>, mode: Mode, text: &[u8]) -> Result<(), AllocError>
     ensures { OnOk result (out.new.items
         ≡ out.old.items ++ flat_map (changed_symbol mode) (symbols text.now)) }
@@ -92,7 +92,7 @@ fn push_special(out: &mut Vec<u8>, mode: Mode, text: &[u8]) -> Result<(), AllocE
     Ok(())
 }
 
-/// Puts a block behind `out`.
+/// Puts a block after `out`.
 fn push_block(out: &mut Vec<u8>, mode: Mode, block: &[u8]) -> Result<(), AllocError>
     ensures { OnOk result (out.new.items ≡ out.old.items ++ changed_block mode block.now) }
 {
@@ -105,7 +105,7 @@ fn push_block(out: &mut Vec<u8>, mode: Mode, block: &[u8]) -> Result<(), AllocEr
     }
 }
 
-/// Puts a block behind `out`, as it is where the mode spares it.
+/// Puts a block after `out`, as it is where the mode spares it.
 fn push_part(
     out: &mut Vec<u8>,
     mode: Mode,
@@ -122,7 +122,7 @@ fn push_part(
     }
 }
 
-/// A text in the case of the mode. The one error is want of memory.
+/// A text in the case of the mode. The one error is out of memory.
 #[tactic(auto, using(crate::proofs::CasingLemmas::changed_from_start))]
 pub fn change_case(alloc: Global, text: &[u8], mode: Mode) -> Result<Bytes, AllocError>
     ensures { IfOk result (λ changed. changed ≡ changed_case mode text.now) }

@@ -3,7 +3,7 @@
 ghost use Rattle.std.specs.Prelude.{◌≡◌, ◌-◌, ◌<◌, ◌≤◌, ◌++◌, IfOk, OnOk, length, take, drop, flat_map, map, replicate};
 ghost use Rattle.bt_text.specs.ByteTests.{is_brace, right_brace};
 ghost use Rattle.bt_text.specs.Cutting.{first_characters, last_bytes, substring_of, text_prefix_of};
-ghost use Rattle.bt_text.specs.Pieces.{bytes_of, pieces, pieces_of, single};
+ghost use Rattle.bt_text.specs.Pieces.{bytes_of, pieces, block_pieces, single};
 
 use crate::blocks::{begins_special, block_len};
 use crate::bytes::Bytes;
@@ -41,7 +41,7 @@ fn part(text: &[u8], start: i32, len: i32) -> &[u8]
 }
 
 /// At most `len` bytes of a text: those from `start` on, counted from 1, or those up to `-start` from the end. The one
-/// error is want of memory.
+/// error is out of memory.
 pub fn substring(alloc: Global, text: &[u8], start: i32, len: i32) -> Result<Bytes, AllocError>
     ensures { IfOk result (λ part. part ≡ substring_of text.now start len) }
 {
@@ -76,7 +76,7 @@ fn plain_prefix_len(text: &[u8], most: usize) -> usize
 /// The beginning of a block with its first `most` text characters.
 fn block_prefix(block: &[u8], most: usize) -> &[u8]
     requires { 0 < most }
-    ensures { result.now ≡ flat_map bytes_of (first_characters most (pieces_of block.now)) }
+    ensures { result.now ≡ flat_map bytes_of (first_characters most (block_pieces block.now)) }
 {
     if begins_special(block) {
         block
@@ -85,7 +85,7 @@ fn block_prefix(block: &[u8], most: usize) -> &[u8]
     }
 }
 
-/// Puts right braces behind a text.
+/// Puts right braces after a text.
 fn push_closers(out: &mut Vec<u8>, count: usize) -> Result<(), AllocError>
     ensures { OnOk result (out.new.items ≡ out.old.items ++ replicate count right_brace) }
 {
@@ -112,7 +112,7 @@ fn first_characters(alloc: Global, text: &[u8], most: usize) -> Result<Vec<u8>, 
 }
 
 /// The beginning of a text with its first `most` text characters, or all of it if there are fewer, and a right brace
-/// for each brace left open. The one error is want of memory.
+/// for each brace left open. The one error is out of memory.
 pub fn text_prefix(alloc: Global, text: &[u8], most: i32) -> Result<Bytes, AllocError>
     ensures { IfOk result (λ prefix. prefix ≡ text_prefix_of text.now most) }
 {

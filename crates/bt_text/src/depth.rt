@@ -3,7 +3,7 @@
 ghost use Rattle.std.specs.Prelude.{◌≡◌, ◌<◌, ◌↔◌, IsTrue};
 ghost use Rattle.bt_text.specs.Depth.{IsBalanced, depth, depth_behind};
 
-/// The depth behind a byte, where it is `depth` in front of it.
+/// The depth after a byte, where it is `depth` before it.
 pub fn depth_behind(depth: usize, byte: u8) -> usize
     requires { depth < usize.MAX }
     ensures { result ≡ depth_behind depth byte }
@@ -15,7 +15,7 @@ pub fn depth_behind(depth: usize, byte: u8) -> usize
     }
 }
 
-/// The depth behind a text.
+/// The depth after a text.
 pub fn depth_of(text: &[u8]) -> usize
     ensures { result ≡ depth text.now }
 {
@@ -26,7 +26,7 @@ pub fn depth_of(text: &[u8]) -> usize
     depth
 }
 
-/// Whether each right brace has a left one before it, and each left one a right one behind it.
+/// Whether each right brace has a left one before it, and each left one a right one after it.
 #[tactic(auto, using(crate::proofs::BlockLemmas::depth_take))]
 pub fn balanced(text: &[u8]) -> bool
     ensures { IsTrue result ↔ IsBalanced text.now }

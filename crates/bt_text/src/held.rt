@@ -15,7 +15,7 @@ use std::alloc::{AllocError, Global};
 use std::marker::Model;
 use thiserror::Error;
 
-/// How many bytes a text of a style may have: a value, an argument, and the held line with what is written behind it.
+/// How many bytes a text of a style may have: a value, an argument, and the held line with what is written after it.
 pub const TEXT_BYTES: usize = 65_536;
 
 /// Why nothing was written.
@@ -40,7 +40,7 @@ impl From<AllocError> for HeldFault {
 }
 
 /// What was written and isn't a line yet. Contracts see its bytes. It is broken as soon as it can be, so a held line
-/// of more than 79 bytes has no white space behind place 2.
+/// of more than 79 bytes has no white space after place 2.
 #[derive(Debug, Drop)]
 pub struct Held {
     bytes: Bytes,
@@ -57,14 +57,14 @@ impl Model for Held {
     ghost invariant = { λ held. (length held.bytes ≤ 65536) × (break_place held.bytes ≡ None) };
 }
 
-/// What stands behind the first bytes of a text.
+/// What stands after the first bytes of a text.
 fn behind(text: &[u8], place: usize) -> &[u8]
     ensures { result.now ≡ drop place text.now }
 {
     text.get(place..).unwrap_or(&[])
 }
 
-/// Puts what the end of a held line gives behind `lines`.
+/// Puts what the end of a held line gives after `lines`.
 fn end_line(alloc: Global, held: &[u8], lines: &mut Sequence<Bytes>) -> Result<(), AllocError>
     ensures ok { OnOk result (lines.new ≡ lines.old ++ ended_lines held.now) }
     ensures err { OnErr result (lines.new ≡ lines.old) }
@@ -87,7 +87,7 @@ impl Held {
         }
     }
 
-    /// The same line again. The one error is want of memory.
+    /// The same line again. The one error is out of memory.
     pub fn copy(&self, alloc: Global) -> Result<Held, AllocError>
         ensures { IfOk result (λ held. held ≡ self.now) }
     {
@@ -103,7 +103,7 @@ impl Held {
         self.bytes.as_slice()
     }
 
-    /// Writes a text behind what is held, and puts the lines that are broken off behind `lines`. `TooLong` comes
+    /// Writes a text after what is held, and puts the lines that are broken off after `lines`. `TooLong` comes
     /// exactly where both together have more than 65,536 bytes, and before any memory is asked for. After a fault the
     /// held line and `lines` are as before.
     #[tactic(auto, using(crate::proofs::BreakingLemmas::broken_whole, crate::proofs::BreakingLemmas::lines_whole))]
@@ -133,14 +133,14 @@ impl Held {
         Ok(())
     }
 
-    /// Whether white space is held behind place 2. Of a longer line it is known that there is none.
+    /// Whether white space is held after place 2. Of a longer line it is known that there is none.
     fn has_white(&self) -> bool
         ensures { result ≡ list_any is_white (drop 3 self.now) }
     {
         self.bytes.len() <= 79 && has_white(behind(self.bytes.as_slice(), 3))
     }
 
-    /// Whether lines are broken off where a text is written behind what is held.
+    /// Whether lines are broken off where a text is written after what is held.
     #[tactic(auto, using(crate::proofs::HeldLemmas::written_where))]
     fn breaks_with(&self, text: &[u8]) -> bool
         requires { length self.now + length text.now ≤ 65536 }
@@ -151,7 +151,7 @@ impl Held {
             && (self.has_white() || has_white(behind(text, 3usize.saturating_sub(held))))
     }
 
-    /// What is held with a text behind it, broken into lines.
+    /// What is held with a text after it, broken into lines.
     fn broken_with(&self, alloc: Global, text: &[u8]) -> Result<Output, AllocError>
         ensures output { IfOk result (λ output. output ≡ written self.now text.now) }
         ensures whole { IfOk result (λ output. break_place output.held ≡ None) }
@@ -163,7 +163,7 @@ impl Held {
         break_lines(alloc, all)
     }
 
-    /// Ends the held line, and puts the line that this gives behind `lines`. The one fault is want of memory, after
+    /// Ends the held line, and puts the line that this gives after `lines`. The one fault is out of memory, after
     /// which the held line and `lines` are as before.
     pub fn newline(&mut self, alloc: Global, lines: &mut Sequence<Bytes>) -> Result<(), HeldFault>
         ensures held { OnOk result (self.new ≡ (line_ended self.old).held) }

@@ -2,13 +2,13 @@
 
 ghost use Rattle.std.specs.Prelude.{◌≡◌, ◌≤◌, length, count_by};
 ghost use Rattle.bt_text.specs.Length.{text_length_of};
-ghost use Rattle.bt_text.specs.Pieces.{is_character, pieces_of};
+ghost use Rattle.bt_text.specs.Pieces.{is_character, block_pieces};
 
 use crate::blocks::{begins_special, block_len};
 
 /// How many text characters a block has.
 pub fn block_characters(block: &[u8]) -> usize
-    ensures count { result ≡ count_by is_character (pieces_of block.now) }
+    ensures count { result ≡ count_by is_character (block_pieces block.now) }
     ensures few { result ≤ length block.now }
 {
     if begins_special(block) {

@@ -3,8 +3,8 @@
 /// How the case of a text is changed.
 #[derive(Clone, Copy, PartialEq, Eq, Debug)]
 pub enum Mode {
-    /// As `Lower`, but a letter at depth 0, or a whole special character, is spared at place 0 and behind white space
-    /// with a colon in front of it.
+    /// As `Lower`, but a letter at depth 0, or a whole special character, is spared at place 0 and after white space
+    /// with a colon before it.
     Title,
     /// Letters at depth 0, and those of special characters outside control sequences, are made small.
     Lower,

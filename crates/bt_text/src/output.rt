@@ -1,4 +1,4 @@
-//! What writing behind a held line gives.
+//! What writing after a held line gives.
 
 use crate::bytes::Bytes;
 use crate::sequence::Sequence;

@@ -3,7 +3,7 @@
 ghost use Rattle.std.specs.Prelude.{◌≡◌, ◌<◌, ◌++◌, ◌↔◌, ℕ, IsTrue, length, replicate, is_none, slice_index_or, slice_set, Some, None, option_copied, IfOk, IfErr, OnOk, OnErr};
 ghost use Rattle.std.specs.List.{list_all};
 ghost use Rattle.bt_text.specs.Sparse.{filled_from};
-ghost use Rattle.bt_text.specs.Merging.{below, behind, merged, same_present, same_text, IsGap, IsAt, IsInOrder};
+ghost use Rattle.bt_text.specs.inner.Merging.{below, above, merged, same_present, same_text, IsGap, IsAt, IsInOrder};
 
 use crate::bytes::Bytes;
 use crate::shared::Shared;
@@ -76,7 +76,7 @@ impl PlacedTexts {
         }
     }
 
-    /// Puts a text in a place; one behind the end stays as it is.
+    /// Puts a text in a place; one after the end stays as it is.
     fn put(&mut self, place: usize, text: Shared<Bytes>) -> Result<(), AllocError>
         ensures ok { OnOk result (self.new ≡ slice_set self.old place (Some text)) }
         ensures err { OnErr result (self.new ≡ self.old) }
@@ -102,8 +102,8 @@ impl PlacedTexts {
         }
     }
 
-    /// Puts a text in a place, or takes away the one that is there; a place behind the end stays as it is. The one error is
-    /// out of memory; all texts are then as before.
+    /// Puts a text in a place, or takes away the one that is there; a place after the end stays as it is. The one error
+    /// is out of memory; all texts are then as before.
     pub fn set(&mut self, place: usize, text: Option<Shared<Bytes>>) -> Result<(), AllocError>
         ensures ok { OnOk result (self.new ≡ slice_set self.old place text) }
         ensures err { OnErr result (self.new ≡ self.old) }
@@ -179,7 +179,7 @@ fn put_below<'a>(
     all: &mut Vec<(usize, Shared<Bytes>)>,
 ) -> Result<&'a [(usize, Shared<Bytes>)], AllocError>
     ensures all { OnOk result (all.new.items ≡ all.old.items ++ below place others.now) }
-    ensures behind { IfOk result (λ rest. rest.now ≡ behind place others.now) }
+    ensures behind { IfOk result (λ rest. rest.now ≡ above place others.now) }
 {
     'others: for i in 0..others.len() {
         let (at, text) = &others[i];

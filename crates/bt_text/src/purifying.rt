@@ -1,7 +1,7 @@
 //! Texts reduced to letters, digits and spaces.
 
 ghost use Rattle.std.specs.Prelude.{◌≡◌, ◌++◌, IfOk, OnOk, flat_map};
-ghost use Rattle.bt_text.specs.Pieces.{pieces_of};
+ghost use Rattle.bt_text.specs.Pieces.{block_pieces};
 ghost use Rattle.bt_text.specs.Purifying.{purified, purified_byte, purified_piece, purified_symbol};
 ghost use Rattle.bt_text.specs.Special.{symbols};
 
@@ -11,7 +11,7 @@ use crate::bytes::Bytes;
 use crate::special::{control_split, letters_of};
 use std::alloc::{AllocError, Global};
 
-/// Puts behind `out` what is kept of a special character.
+/// Puts after `out` what is kept of a special character.
 fn purify_special(out: &mut Vec<u8>, text: &[u8]) -> Result<(), AllocError>
     ensures { OnOk result (out.new.items ≡ out.old.items ++ flat_map purified_symbol (symbols text.now)) }
 {
@@ -31,7 +31,7 @@ fn purify_special(out: &mut Vec<u8>, text: &[u8]) -> Result<(), AllocError>
     Ok(())
 }
 
-/// Puts behind `out` what is kept of bytes outside special characters.
+/// Puts after `out` what is kept of bytes outside special characters.
 fn purify_bytes(out: &mut Vec<u8>, text: &[u8]) -> Result<(), AllocError>
     ensures { OnOk result (out.new.items ≡ out.old.items ++ flat_map purified_byte text.now) }
 {
@@ -45,10 +45,10 @@ fn purify_bytes(out: &mut Vec<u8>, text: &[u8]) -> Result<(), AllocError>
     Ok(())
 }
 
-/// Puts behind `out` what is kept of a block.
+/// Puts after `out` what is kept of a block.
 #[tactic(auto, using(crate::proofs::PieceLemmas::purified_plain_block))]
 fn purify_block(out: &mut Vec<u8>, block: &[u8]) -> Result<(), AllocError>
-    ensures { OnOk result (out.new.items ≡ out.old.items ++ flat_map purified_piece (pieces_of block.now)) }
+    ensures { OnOk result (out.new.items ≡ out.old.items ++ flat_map purified_piece (block_pieces block.now)) }
 {
     if begins_special(block) {
         purify_special(out, block)
@@ -58,7 +58,7 @@ fn purify_block(out: &mut Vec<u8>, block: &[u8]) -> Result<(), AllocError>
 }
 
 /// The letters and digits of a text, and a space for white space and separators. In special characters letters and
-/// digits alone are kept, and the letters that foreign control sequences stand for. The one error is want of memory.
+/// digits alone are kept, and the letters that foreign control sequences stand for. The one error is out of memory.
 pub fn purify(alloc: Global, text: &[u8]) -> Result<Bytes, AllocError>
     ensures { IfOk result (λ kept. kept ≡ purified text.now) }
 {

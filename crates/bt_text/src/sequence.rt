@@ -51,7 +51,7 @@ impl<T> Sequence<T> {
         self.items.len()
     }
 
-    /// Puts an element behind the others. After want of memory the list is as before.
+    /// Puts an element after the others. After out of memory the list is as before.
     pub fn push(&mut self, item: T) -> Result<(), AllocFailed<T>>
         ensures ok { OnOk result (self.new ≡ self.old ++ item ∷ []) }
         ensures err { OnErr result (self.new ≡ self.old) }
@@ -78,7 +78,7 @@ impl<T> Sequence<T> {
         mem::replace(&mut self.items[place], item)
     }
 
-    /// Moves elements behind the others, in their order. After want of memory the list is as before.
+    /// Moves elements after the others, in their order. After out of memory the list is as before.
     pub fn append(&mut self, mut more: Sequence<T>) -> Result<(), AllocError>
     where
         T: Drop,

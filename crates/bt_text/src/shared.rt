@@ -22,7 +22,7 @@ impl<T> Model for Shared<T> {
 }
 
 impl<T: Drop> Shared<T> {
-    /// The value, with one owner. The one error is want of memory.
+    /// The value, with one owner. The one error is out of memory.
     pub fn new(alloc: Global, value: T) -> Result<Self, AllocError>
         ensures { IfOk result (λ shared. shared ≡ value) }
     {
@@ -55,7 +55,7 @@ impl<T> Deref for Shared<T> {
 }
 
 impl Shared<Bytes> {
-    /// A copy of these bytes, with one owner. The one error is want of memory.
+    /// A copy of these bytes, with one owner. The one error is out of memory.
     pub fn copied(alloc: Global, bytes: &[u8]) -> Result<Self, AllocError>
         ensures { IfOk result (λ text. text ≡ bytes.now) }
     {

@@ -169,8 +169,8 @@ impl SparseTexts {
         Ok(())
     }
 
-    /// Puts a text in a place, or takes away the one that is there; a place behind the end stays as it is. The one error is
-    /// out of memory; all texts are then as before.
+    /// Puts a text in a place, or takes away the one that is there; a place after the end stays as it is. The one error
+    /// is out of memory; all texts are then as before.
     #[tactic(auto, using(crate::proofs::LayerLemmas::filled_put))]
     pub fn set(&mut self, place: usize, text: Option<Shared<Bytes>>) -> Result<(), AllocError>
         ensures ok { OnOk result (self.new ≡ slice_set self.old place text) }
@@ -196,8 +196,8 @@ impl SparseTexts {
         })
     }
 
-    /// The texts for many owners. Where they are many, those that are filled from them share them. The one error is out of
-    /// memory.
+    /// The texts for many owners. Where they are many, those that are filled from them share them. The one error is out
+    /// of memory.
     #[tactic(auto, using(crate::proofs::LayerLemmas::filled_none))]
     pub fn into_shared(self, alloc: Global) -> Result<Shared<SparseTexts>, AllocError>
         ensures { IfOk result (λ texts. texts ≡ self) }
@@ -215,8 +215,8 @@ impl SparseTexts {
         }
     }
 
-    /// The texts, each that is missing taken from others, for one more owner. Where the others are many and these are few,
-    /// the others are shared. The one error is out of memory.
+    /// The texts, each that is missing taken from others, for one more owner. Where the others are many and these are
+    /// few, the others are shared. The one error is out of memory.
     #[tactic(auto, using(crate::proofs::LayerLemmas::filled_none))]
     pub fn filled_from(&self, alloc: Global, others: &SparseTexts) -> Result<Self, AllocError>
         ensures { IfOk result (λ all. all ≡ filled_from self.now others.now) }

@@ -35,7 +35,7 @@ pub fn control_name_len(text: &[u8]) -> usize
     }
 }
 
-/// The name of the control sequence whose backslash stands before the text, and what follows the white space behind
+/// The name of the control sequence whose backslash stands before the text, and what follows the white space after
 /// it.
 pub fn control_split(text: &[u8]) -> (&[u8], &[u8])
     ensures name { result.0.now ≡ control_name text.now }
@@ -47,7 +47,7 @@ pub fn control_split(text: &[u8]) -> (&[u8], &[u8])
     (name, behind)
 }
 
-/// The name of the control sequence whose backslash stands before the text, the white space behind it, and what
+/// The name of the control sequence whose backslash stands before the text, the white space after it, and what
 /// follows.
 pub fn control_parts(text: &[u8]) -> (&[u8], &[u8], &[u8])
     ensures name { result.0.now ≡ control_name text.now }

@@ -1,9 +1,9 @@
-//! What stands in front of a place of a title, carried along the text.
+//! What stands before a place of a title, carried along the text.
 
 use crate::byte_tests::is_white;
 use crate::modes::Mode;
 
-/// A place of a title. The first letter is spared, and one behind white space with a colon in front of it.
+/// A place of a title. The first letter is spared, and one after white space with a colon before it.
 #[derive(Clone, Copy)]
 pub struct TitlePlace {
     pub is_first: bool,
@@ -14,7 +14,7 @@ pub struct TitlePlace {
 
 impl TitlePlace {
     ghost use Rattle.std.specs.Prelude.{◌≡◌, [], fold};
-    ghost use Rattle.bt_text.specs.TitlePlace.{is_spared_at, next_place, place_behind};
+    ghost use Rattle.bt_text.specs.inner.TitlePlace.{is_spared_at, next_place, place_behind};
 
     /// The first place.
     pub fn new() -> Self
@@ -37,7 +37,7 @@ impl TitlePlace {
         }
     }
 
-    /// The place behind a byte.
+    /// The place after a byte.
     fn behind(self, byte: u8) -> Self
         ensures { result ≡ next_place self byte }
     {
@@ -53,7 +53,7 @@ impl TitlePlace {
         }
     }
 
-    /// The place behind some bytes.
+    /// The place after some bytes.
     pub fn behind_all(self, bytes: &[u8]) -> Self
         ensures { result ≡ fold next_place self bytes.now }
     {

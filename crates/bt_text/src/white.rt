@@ -61,7 +61,7 @@ fn begins_white(text: &[u8]) -> bool
     }
 }
 
-/// Puts a byte behind `joined`, as a space if it ends a run of white space, and not if the run goes on.
+/// Puts a byte after `joined`, as a space if it ends a run of white space, and not if the run goes on.
 fn push_joined(joined: &mut Vec<u8>, byte: u8, behind: &[u8]) -> Result<(), AllocError>
     ensures { OnOk result (joined.new.items ≡ joined.old.items ++ joined_byte byte behind.now) }
 {
@@ -73,7 +73,7 @@ fn push_joined(joined: &mut Vec<u8>, byte: u8, behind: &[u8]) -> Result<(), Allo
     Ok(())
 }
 
-/// Whether a byte stays as it is before what stands behind it.
+/// Whether a byte stays as it is before what stands after it.
 fn stays(byte: u8, behind: &[u8]) -> bool
     ensures { IsTrue result ↔ joined_byte byte behind.now ≡ byte ∷ [] }
 {
@@ -94,7 +94,7 @@ pub fn is_white_joined(text: &[u8]) -> bool
     true
 }
 
-/// A text with each run of white space made one space. The one error is want of memory.
+/// A text with each run of white space made one space. The one error is out of memory.
 pub fn join_white(alloc: Global, text: &[u8]) -> Result<Bytes, AllocError>
     ensures { IfOk result (λ joined. joined ≡ white_joined text.now) }
 {

@@ -1,7 +1,7 @@
 //! How wide a text is printed.
 
 ghost use Rattle.std.specs.Prelude.{◌≡◌, ◌≤◌, ◌*◌, ◌+◌, ◌<◌, ◌^◌, length, slice_index, sum_by};
-ghost use Rattle.bt_text.specs.Pieces.{pieces_of};
+ghost use Rattle.bt_text.specs.Pieces.{block_pieces};
 ghost use Rattle.bt_text.specs.Special.{plain, symbols};
 ghost use Rattle.bt_text.specs.Widths.{byte_width, control_width, piece_width, symbol_width, width_of, widths};
 
@@ -110,7 +110,7 @@ fn bytes_width(text: &[u8]) -> u32
 #[tactic(auto, using(crate::proofs::WidthsLemmas::block_width))]
 fn block_width(block: &[u8]) -> u32
     requires { length block.now ≤ 65536 }
-    ensures exact { result ≡ sum_by piece_width (pieces_of block.now) }
+    ensures exact { result ≡ sum_by piece_width (block_pieces block.now) }
     ensures narrow { result ≤ 1028 * length block.now }
 {
     if begins_special(block) {

@@ -6,6 +6,7 @@
 mod aux_lines;
 mod databases;
 mod names;
+mod resolved;
 mod spelling;
 mod splices;
 mod styles;
@@ -24,6 +25,7 @@ fn answer(alloc: Global, case: &str) -> Result<Bytes, AllocError> {
         "read_bib" => databases::answer(alloc, case),
         "respliced" => splices::answer(alloc, case),
         "read_style" => styles::answer(alloc, case),
+        "resolve" => resolved::answer(alloc, case),
         _ => texts::answer(alloc, case),
     }
 }

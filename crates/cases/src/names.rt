@@ -5,7 +5,7 @@ use bt_names::{FormatFault, NameFault, Token, count, format, parts};
 use bt_text::{Bytes, Sequence};
 use std::alloc::{AllocError, Global};
 
-/// Puts the tokens of a part behind `out`, each by what stands before it and its text.
+/// Puts the tokens of a part after `out`, each by what stands before it and its text.
 fn push_part(out: &mut Bytes, name: &[u8], tokens: &Sequence<Token>) -> Result<(), AllocError> {
     out.append(name)?;
     out.append(b"=[")?;

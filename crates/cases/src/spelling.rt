@@ -27,7 +27,7 @@ pub fn unspelled(alloc: Global, word: &str) -> Result<Vec<u8>, AllocError> {
     Ok(bytes)
 }
 
-/// Puts bytes behind `out`, spelled to base 16.
+/// Puts bytes after `out`, spelled to base 16.
 pub fn push_spelled(out: &mut Bytes, bytes: &[u8]) -> Result<(), AllocError> {
     let digits = b"0123456789abcdef";
     if bytes.is_empty() {
@@ -66,7 +66,7 @@ pub fn place_at(case: &str, place: usize) -> usize {
     word_at(case, place).parse::<usize>().unwrap_or(0)
 }
 
-/// Puts texts behind `out`: in brackets, parted by commas.
+/// Puts texts after `out`: in brackets, parted by commas.
 pub fn push_list(out: &mut Bytes, texts: &[Bytes]) -> Result<(), AllocError> {
     out.append(b"[")?;
     for (place, text) in texts.iter().enumerate() {

@@ -8,7 +8,7 @@ use Rattle.std.proofs.Math.Seq.{drop-cons}
 use Rattle.bt_one_shot.specs.Folders.{Contents, Written, with_file, Holds}
 use Rattle.one_shot_cases.specs.Held.{nothing, held_in}
 
--- what a name has behind some files, where it had this before
+-- what a name has after some files, where it had this before
 abbrev pub last_of : Option (List ℕ) → List Written → List ℕ → Option (List ℕ)
 last_of before files name = fold with_file (λ _. before) files name
 

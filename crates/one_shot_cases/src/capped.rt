@@ -1,4 +1,4 @@
-//! A sink in memory that fails behind some bytes.
+//! A sink in memory that fails after some bytes.
 
 ghost use Rattle.std.specs.Prelude.{◌≡◌, Some};
 

@@ -62,7 +62,7 @@ fn has(names: &[&str], name: &[u8]) -> bool {
     names.iter().any(|each| each.as_bytes() == name)
 }
 
-/// Puts a file behind those that are there.
+/// Puts a file after those that are there.
 fn keep(alloc: Global, put: &mut Sequence<Put>, name: &[u8], bytes: &[u8]) -> Result<(), AllocError>
     ensures ok { OnOk result (put.new ≡ put.old ++ record { name = name.now; bytes = bytes.now } ∷ []) }
     ensures err { OnErr result (put.new ≡ put.old) }
@@ -72,7 +72,7 @@ fn keep(alloc: Global, put: &mut Sequence<Put>, name: &[u8], bytes: &[u8]) -> Re
     Ok(put.push(Put { name, bytes })?)
 }
 
-/// Puts a name behind those that are there.
+/// Puts a name after those that are there.
 fn keep_name(alloc: Global, names: &mut Sequence<Bytes>, name: &[u8]) -> Result<(), AllocError>
     ensures ok { OnOk result (names.new ≡ names.old ++ name.now ∷ []) }
     ensures err { OnErr result (names.new ≡ names.old) }
@@ -153,7 +153,7 @@ impl<'a> Memory<'a> {
         )
     }
 
-    /// A copy of the first bytes of a name, as many as are read at most. The one error is out of memory.
+    /// A copy of the first bytes of a name, as many as are read at most.
     fn first_bytes(&self, name: &[u8]) -> Result<Option<Bytes>, AllocError>
         ensures { IfOk result (λ bytes. bytes ≡ option_map (take most_read) (held_in self.now.given self.now.put name.now)) }
     {

@@ -30,7 +30,7 @@ pub enum Step<'a> {
     Run(Option<&'a str>),
 }
 
-/// The first line, and what is behind it.
+/// The first line, and what is after it.
 fn first_line(input: &[u8]) -> Option<(&str, &[u8])> {
     let end = input.iter().position(|byte| *byte == b'\n')?;
     let line = str::from_utf8(input.get(..end)?).ok()?;
@@ -69,7 +69,7 @@ fn line_step<'a>(word: &str, rest: Option<&'a str>) -> Option<Step<'a>> {
     }
 }
 
-/// The first step of some input, and the input behind it.
+/// The first step of some input, and the input after it.
 pub fn first_step(input: &[u8]) -> Option<(Step<'_>, &[u8])> {
     let (line, behind) = first_line(input)?;
     let (word, rest) = match line.split_once(' ') {

@@ -1,4 +1,4 @@
-//! What is told of a case.
+//! What is said of a case.
 
 ghost use Rattle.std.specs.Prelude.{◌≡◌, ◌<◌, ◌^◌, ◌-◌, true};
 ghost use Rattle.bibtex.specs.Present.{is_root_name};
@@ -8,7 +8,7 @@ use crate::memory::Memory;
 use anyhow::Result;
 use bt_one_shot::{Folder, Options, OptionsFault, one_shot, parse_options};
 
-/// Tells bytes behind a title, and how many there are.
+/// Prints bytes after a title, and how many there are.
 fn tell_bytes(rt: &impl Print, title: &str, bytes: &[u8]) -> Result<()> {
     let text = str::from_utf8(bytes).unwrap_or("no text\n");
     print!(rt; "{title} {}\n{text}", bytes.len())?;

@@ -41,7 +41,7 @@ fn started_anew(
     Ok((anew, last))
 }
 
-/// How many steps a report tells of.
+/// How many steps a report has.
 fn steps(report: Option<Report>) -> u64 {
     match report {
         Some(report) => report.ran.saturating_add(report.reused),

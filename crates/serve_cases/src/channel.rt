@@ -13,7 +13,7 @@ pub struct Limits<'a> {
     pub most: usize,
     /// At which place a read fails.
     pub read_fails: usize,
-    /// Behind how many bytes a write fails.
+    /// After how many bytes a write fails.
     pub write_fails: usize,
     /// The places at which is noted what was handed on.
     pub watched: &'a [usize],

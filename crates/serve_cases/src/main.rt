@@ -13,7 +13,7 @@ use std::alloc::{AllocError, Global};
 use std::cell::Cell;
 use std::io::{BufReader, Read};
 
-/// The names of which is told whether their files are there.
+/// The names of which it is said whether their files are there.
 const NAMES: [&str; 4] = ["job.aux", "s.bst", "x.bib", "y.bib"];
 
 /// Answers an input on a new session, and tells how it ended, what was read and written, and the files that are there.
@@ -41,7 +41,7 @@ fn answer(rt: &HostRuntime, title: &str, input: &[u8], limits: Limits<'_>) -> Re
     Ok(())
 }
 
-/// Answers an input where the write behind so many bytes fails, for each number of them.
+/// Answers an input where the write after so many bytes fails, for each number of them.
 fn fail_writes(
     rt: &HostRuntime,
     input: &[u8],
@@ -76,7 +76,7 @@ fn answer_as(rt: &HostRuntime, step: Step<'_>, input: &[u8], limits: Limits<'_>)
     }
 }
 
-/// Puts so many letters behind an input.
+/// Puts so many letters after an input.
 fn push_letters(input: &mut Vec<u8>, count: usize) -> Result<(), AllocError> {
     for _ in 0..count {
         input.push(b'a')?;

@@ -19,12 +19,12 @@ pub enum Step<'a> {
     Cut(usize),
     /// `read_fails PLACE`: answers the input, where the read at this place fails.
     ReadFails(usize),
-    /// `write_fails FIRST PLACE`: answers the input, where the write behind so many bytes fails, for each number from
+    /// `write_fails FIRST PLACE`: answers the input, where the write after so many bytes fails, for each number from
     /// the first up to the place.
     WriteFails(usize, usize),
 }
 
-/// The first line, and what is behind it.
+/// The first line, and what is after it.
 fn first_line(input: &[u8]) -> Option<(&str, &[u8])> {
     let end = input.iter().position(|byte| *byte == b'\n')?;
     let line = str::from_utf8(input.get(..end)?).ok()?;
@@ -53,7 +53,7 @@ fn line_step<'a>(word: &str, rest: &'a str) -> Option<Step<'a>> {
     }
 }
 
-/// The first step of some input, and the input behind it.
+/// The first step of some input, and the input after it.
 pub fn first_step(input: &[u8]) -> Option<(Step<'_>, &[u8])> {
     let (line, behind) = first_line(input)?;
     let (word, rest) = line.split_once(' ').unwrap_or((line, ""));

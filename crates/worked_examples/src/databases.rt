@@ -41,7 +41,7 @@ fn item_count(alloc: Global, text: &[u8]) -> Result<usize, AllocError> {
     )
 }
 
-/// Some bytes, and behind them one byte so many times.
+/// Some bytes, and after them one byte so many times.
 fn repeated(alloc: Global, front: &[u8], byte: u8, count: usize) -> Result<Bytes, AllocError> {
     let mut text = Bytes::copied(alloc, front)?;
     for _ in 0..count {

@@ -1,34 +1,39 @@
-//! Names in patterns, on worked examples.
+//! Names in patterns, within a limit.
 
 use crate::lists_of_names::repeated;
-use bt_names::{FormatFault, Formatted, NameFault, format, format_within};
+use bt_names::{FormatFault, Formatted, NameFault, format_within};
 use bt_text::Bytes;
 use std::alloc::Global;
 use std::test::Fail;
 
+/// A text, the number of a name in it, a pattern, and the first fault.
+const FAULTS: &[(&str, i32, &str, FormatFault)] = &[
+    ("", 1, "}", FormatFault::NoSuchName),
+    ("A and B", 3, "{ll}", FormatFault::NoSuchName),
+    ("A and B", 0, "{ll}", FormatFault::NoSuchName),
+    ("A and B", -1, "{ll}", FormatFault::NoSuchName),
+    ("A, B, C, D and E", 3, "}", FormatFault::NoSuchName),
+    ("A, B, C, D", 1, "{ll}", FormatFault::TooManyCommas),
+    ("A, B, C, D", 1, "}", FormatFault::TooManyCommas),
+    ("A", 1, "{ff x}", FormatFault::PatternFault(4)),
+    ("A", 1, "{ff", FormatFault::PatternFault(3)),
+    ("A", 1, "}", FormatFault::PatternFault(0)),
+    ("A", 1, "{ll}a}{x}", FormatFault::PatternFault(5)),
+    ("A", 1, "{fff}", FormatFault::PatternFault(3)),
+    ("A", 1, "{\\bf f}", FormatFault::PatternFault(2)),
+];
+
+/// The fault of a name in a pattern within the limit 0.
+fn fault_within(alloc: Global, names: &str, n: i32, pattern: &str) -> Option<FormatFault> {
+    format_within(alloc, names.as_bytes(), n, pattern.as_bytes(), 0).err()
+}
+
 #[test]
-fn tells_the_first_fault(rt: HostRuntime) -> Result<(), Fail> {
-    for (names, n, pattern, want) in [
-        ("", 1, "}", FormatFault::NoSuchName),
-        ("A and B", 3, "{ll}", FormatFault::NoSuchName),
-        ("A and B", 0, "{ll}", FormatFault::NoSuchName),
-        ("A and B", -1, "{ll}", FormatFault::NoSuchName),
-        ("A, B, C, D and E", 3, "}", FormatFault::NoSuchName),
-        ("A, B, C, D", 1, "{ll}", FormatFault::TooManyCommas),
-        ("A, B, C, D", 1, "}", FormatFault::TooManyCommas),
-        ("A", 1, "{ff x}", FormatFault::PatternFault(4)),
-        ("A", 1, "{ff", FormatFault::PatternFault(3)),
-        ("A", 1, "}", FormatFault::PatternFault(0)),
-        ("A", 1, "{ll}a}{x}", FormatFault::PatternFault(5)),
-        ("A", 1, "{fff}", FormatFault::PatternFault(3)),
-        ("A", 1, "{\\bf f}", FormatFault::PatternFault(2)),
-    ] {
-        let told = format(rt.alloc(), names.as_bytes(), n, pattern.as_bytes()).err();
-        assert_eq!(rt; told, Some(want), "of {names} in {pattern}");
-        let told = format_within(rt.alloc(), names.as_bytes(), n, pattern.as_bytes(), 0).err();
-        assert_eq!(rt; told, Some(want), "of {names} in {pattern}, within a limit");
+fn tells_the_first_fault_within_a_limit(rt: HostRuntime) {
+    for (names, n, pattern, want) in FAULTS {
+        let told = fault_within(rt.alloc(), names, *n, pattern);
+        assert_eq!(rt; told, Some(*want), "of {names} in {pattern}");
     }
-    Ok(())
 }
 
 /// The formatted text, or `longer` in its place.
@@ -39,29 +44,28 @@ fn within(alloc: Global, name: &[u8], pattern: &[u8], limit: usize) -> Result<By
     }
 }
 
+/// A name, a pattern, a limit, and the formatted text or `longer`.
+const WITHIN: &[(&str, &str, usize, &str)] = &[
+    ("Donald Ervin Knuth", "{ff{/}}", 11, "longer"),
+    ("Donald Ervin Knuth", "{ff{/}}", 12, "Donald/Ervin"),
+    ("Donald Ervin Knuth", "{ff{/}}", 13, "Donald/Ervin"),
+    ("Donald Ervin Knuth", "{ff}{ll}", 16, "longer"),
+    ("Donald Ervin Knuth", "{ff}{ll}", 17, "Donald~ErvinKnuth"),
+    ("Jean-Paul Sartre", "{f.~}{ll}", 11, "longer"),
+    ("Jean-Paul Sartre", "{f.~}{ll}", 12, "J.-P. Sartre"),
+    ("Al", "{ll~~}", 2, "longer"),
+    ("Al", "{ll~~}", 3, "Al~"),
+    ("Al", "{jj}abc", 2, "longer"),
+    ("Al", "{jj}abc", 3, "abc"),
+    ("Al", "", 0, ""),
+    ("Al", "{jj, }", 0, ""),
+];
+
 #[test]
 fn keeps_to_the_limit(rt: HostRuntime) -> Result<(), Fail> {
-    for (name, pattern, limit, want) in [
-        ("Donald Ervin Knuth", "{ff{/}}", 11, "longer"),
-        ("Donald Ervin Knuth", "{ff{/}}", 12, "Donald/Ervin"),
-        ("Donald Ervin Knuth", "{ff{/}}", 13, "Donald/Ervin"),
-        ("Donald Ervin Knuth", "{ff}{ll}", 16, "longer"),
-        ("Donald Ervin Knuth", "{ff}{ll}", 17, "Donald~ErvinKnuth"),
-        ("Jean-Paul Sartre", "{f.~}{ll}", 11, "longer"),
-        ("Jean-Paul Sartre", "{f.~}{ll}", 12, "J.-P. Sartre"),
-        ("Al", "{ll~~}", 2, "longer"),
-        ("Al", "{ll~~}", 3, "Al~"),
-        ("Al", "{jj}abc", 2, "longer"),
-        ("Al", "{jj}abc", 3, "abc"),
-        ("Al", "", 0, ""),
-        ("Al", "{jj, }", 0, ""),
-    ] {
-        let told = within(rt.alloc(), name.as_bytes(), pattern.as_bytes(), limit)?;
-        assert_eq!(rt;
-            told.as_slice(),
-            want.as_bytes(),
-            "of {name} in {pattern} within {limit}"
-        );
+    for (name, pattern, limit, want) in WITHIN {
+        let told = within(rt.alloc(), name.as_bytes(), pattern.as_bytes(), *limit)?;
+        assert_eq!(rt; told.as_slice(), want.as_bytes(), "of {name} in {pattern}");
     }
     Ok(())
 }

@@ -11,9 +11,19 @@ FUNCTION {f} {{ 'title } pop$}
 FUNCTION {g} {call.type$}
 FUNCTION {h} {'f preamble$}\n";
 
-fn reach_of(alloc: Global, function: usize, kind: Option<usize>) -> Result<Reach, Fail> {
-    let style = read_style(alloc, STYLE)?;
+/// What is reached from a function of a style.
+fn reached(
+    alloc: Global,
+    text: &[u8],
+    function: usize,
+    kind: Option<usize>,
+) -> Result<Reach, Fail> {
+    let style = read_style(alloc, text)?;
     Ok(style.reach(alloc, Target::Function(function), kind)?)
+}
+
+fn reach_of(alloc: Global, function: usize, kind: Option<usize>) -> Result<Reach, Fail> {
+    reached(alloc, STYLE, function, kind)
 }
 
 #[test]

@@ -1,4 +1,4 @@
-//! Databases that are changed in one place: their items are those of the new text, and the meter tells what was read.
+//! Databases that are changed in one place: their items are those of the new text.
 
 ghost use Rattle.std.specs.Prelude.{◌≤◌, length, IfOk};
 ghost use Rattle.bt_bib.specs.Splice.{IsSplice};
@@ -7,9 +7,6 @@ use bt_bib::{KeptItems, ReadMeter, Splice};
 use bt_text::Bytes;
 use std::alloc::{AllocError, Global};
 use std::test::Fail;
-
-/// Two entries, 44 bytes in all.
-const TWO: &[u8] = b"@misc{a, title = {A}}\n@misc{b, title = {B}}\n";
 
 /// Each kind of item, a comment word, faults, and text between them.
 const MANY: &[u8] =
@@ -33,89 +30,49 @@ fn spliced(
     Ok(new)
 }
 
-/// What was read of a spliced text.
-#[derive(Drop)]
-struct Told {
-    /// Its items, from those of the text before.
-    again: String,
-    /// Its items, read from its beginning.
-    whole: String,
-    /// How many bytes were read again.
-    read: u128,
-}
-
-/// The items of a spliced text from those of the text, and how many bytes were read; none where the splice lies
-/// outside it.
-fn respliced(
+/// Whether the items of a spliced text are the same from those of the text before and read from its beginning; not
+/// where the splice lies outside the text.
+fn is_read_alike(
     alloc: Global,
     text: &[u8],
     start: usize,
     end: usize,
     bytes: &[u8],
-) -> Result<Option<(KeptItems, Bytes, u128)>, AllocError> {
+) -> Result<bool, AllocError> {
     if end < start || text.len() < end {
-        return Ok(None);
+        return Ok(false);
     }
     let old = KeptItems::read(alloc, text)?;
     let new = spliced(alloc, text, start, end, bytes)?;
-    let mut meter = ReadMeter::new();
     let splice = Splice {
         begin: start,
         end,
         inserted: bytes.len(),
     };
-    let items = old.respliced(alloc, text, new.as_slice(), splice, &mut meter)?;
-    Ok(Some((items, new, meter.value())))
-}
-
-/// Reads a text and a splice of it; none where the splice lies outside it.
-fn both_ways(
-    alloc: Global,
-    text: &[u8],
-    start: usize,
-    end: usize,
-    bytes: &[u8],
-) -> Result<Option<Told>, AllocError> {
-    let Some((again, new, read)) = respliced(alloc, text, start, end, bytes)? else {
-        return Ok(None);
-    };
+    let again = old.respliced(alloc, text, new.as_slice(), splice, &mut ReadMeter::new())?;
     let whole = KeptItems::read(alloc, new.as_slice())?;
-    Ok(Some(Told {
-        again: format!(in alloc; "{again:?}")?,
-        whole: format!(in alloc; "{whole:?}")?,
-        read,
-    }))
+    let again = format!(in alloc; "{again:?}")?;
+    let whole = format!(in alloc; "{whole:?}")?;
+    Ok(again.as_str() == whole.as_str())
 }
 
-#[test]
-fn five_splices_read_so_many_bytes(rt: HostRuntime) -> Result<(), Fail> {
-    let alloc = rt.alloc();
-    let table: [(usize, usize, &[u8], u128); 5] = [
-        (40, 41, b"C", 22),
-        (18, 19, b"C", 21),
-        (20, 21, b"", 42),
-        (19, 21, b"", 42),
-        (0, 0, b"\n\n", 23),
-    ];
-    for (start, end, bytes, read) in table {
-        let told = both_ways(alloc, TWO, start, end, bytes)?.ok_or("outside")?;
-        assert_eq!(rt; told.read, read);
-        assert_eq!(rt; told.again.as_str(), told.whole.as_str());
-    }
-    Ok(())
-}
+/// Bytes that are put in, in the place of so many others.
+const INSERTED: &[(usize, &[u8])] = &[
+    (0, b""),
+    (1, b"}"),
+    (2, b"@misc{"),
+    (0, b"\"\n"),
+    (1, b"@comment"),
+];
 
 #[test]
 fn each_splice_gives_the_items_of_the_new_text(rt: HostRuntime) -> Result<(), Fail> {
-    let alloc = rt.alloc();
-    let inserted: [&[u8]; 5] = [b"", b"}", b"@misc{", b"\"\n", b"@comment"];
     for start in 0..MANY.len() {
-        for (place, bytes) in inserted.iter().enumerate() {
-            let end = start.saturating_add(place % 3);
-            if end <= MANY.len() {
-                let told = both_ways(alloc, MANY, start, end, bytes)?.ok_or("outside")?;
-                assert_eq!(rt; told.again.as_str(), told.whole.as_str());
-            }
+        for (count, bytes) in INSERTED {
+            let end = start.saturating_add(*count);
+            let is_inside = end <= MANY.len();
+            let is_alike = is_read_alike(rt.alloc(), MANY, start, end, bytes)?;
+            assert_eq!(rt; is_alike, is_inside, "at {start}");
         }
     }
     Ok(())

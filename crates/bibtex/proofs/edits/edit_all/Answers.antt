@@ -4,7 +4,7 @@ use Rattle.std.specs.Prelude.{Result}
 use Rattle.bibtex.specs.declared.edit.Edit.{Edit}
 use Rattle.bibtex.specs.declared.edit.Refusal.{Refusal}
 use Rattle.bt_run.specs.declared.answers.Report.{Report}
-use Rattle.bibtex.specs.Headline.{AnswersInTurn, behind_all}
+use Rattle.bibtex.specs.Headline.{AnswersInTurn, after_answers}
 use Rattle.bibtex.proofs.edits.edit_all.Goals as goal
 
 pub returns-clause-answers : goal.returns-clause-answers
@@ -16,6 +16,6 @@ returns-clause-answers c =
 pub returns-clause-state : goal.returns-clause-state
 returns-clause-state c =
     let none : drop c.edits.edit-index c.args.edits.now ≡ [] = drop_all c.edits.edit-index c.args.edits.now c.edits-test.false in
-    sym (ap (λ es. behind_all es [] c.edits.session) none)
+    sym (ap (λ es. after_answers es [] c.edits.session) none)
     ∙ c.edits.invariant.state []
-    ∙ ap (λ answers. behind_all c.args.edits.now answers c.args.session.now) (append-nil c.edits.answers.items)
+    ∙ ap (λ answers. after_answers c.args.edits.now answers c.args.session.now) (append-nil c.edits.answers.items)

@@ -1,6 +1,6 @@
 use Rattle.std.proofs.Common.{ltb, ltb-true, ltb-false, arith, rules}
 use Rattle.std.proofs.lemmas.List.Sorted.{IsPartitionPoint-from_clause, IsPartitionedBy-ltb}
-use Rattle.bt_bib.specs.Boundaries.{end_place}
+use Rattle.bt_bib.specs.inner.Boundaries.{end_place}
 use Rattle.bt_bib.proofs.RiseLemmas.{ends_rise, below_is_take}
 use Rattle.bt_bib.proofs.boundaries.count_below.Goals as goal
 

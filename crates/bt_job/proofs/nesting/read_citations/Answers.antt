@@ -1,7 +1,7 @@
 use Rattle.std.specs.Prelude.{codes}
 use Rattle.std.proofs.Common.{◌≡◌, ◌∙◌, ◌++◌, rules}
 use Rattle.bt_job.specs.Naming.{text_of}
-use Rattle.bt_job.specs.Inner.Nesting.{rooted, asked_for}
+use Rattle.bt_job.specs.inner.Nesting.{rooted, asked_for}
 use Rattle.bt_job.proofs.CitationLemmas.{citations_are}
 use Rattle.bt_job.proofs.FitLemmas.{reads_fit}
 use Rattle.bt_job.proofs.nesting.read_citations.Goals as goal

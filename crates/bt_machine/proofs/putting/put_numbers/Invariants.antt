@@ -1,6 +1,6 @@
 use Rattle.std.proofs.Common.{◌≡◌, length, drop}
 use Rattle.std.specs.Prelude.{pos}
-use Rattle.bt_machine.specs.Putting.{values_put}
+use Rattle.bt_machine.specs.inner.Putting.{values_put}
 use Rattle.bt_machine.proofs.putting.put_numbers.Given as goal
 
 abbrev pub invariant-places : goal.invariant-places

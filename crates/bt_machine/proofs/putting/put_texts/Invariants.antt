@@ -1,5 +1,5 @@
 use Rattle.std.proofs.Common.{◌≡◌, [], length, drop}
-use Rattle.bt_machine.specs.Putting.{values_put}
+use Rattle.bt_machine.specs.inner.Putting.{values_put}
 use Rattle.bt_machine.proofs.putting.put_texts.Given as goal
 
 abbrev pub invariant-places : goal.invariant-places

@@ -1,5 +1,6 @@
 use Rattle.std.proofs.Common.{◌∙◌, ap, sym, length, false, List}
-use Rattle.bt_machine.specs.Footprint.{among, blend}
+use Rattle.bt_machine.specs.Footprint.{blend}
+use Rattle.bt_machine.specs.inner.Footprint.{among}
 use Rattle.bt_machine.proofs.PutLemmas.{blend_again, blend_length}
 use Rattle.bt_machine.proofs.putting.texts_over.Goals as goal
 

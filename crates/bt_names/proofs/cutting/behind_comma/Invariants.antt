@@ -1,5 +1,5 @@
 use Rattle.std.proofs.Common.{◌≡◌, length}
-use Rattle.bt_names.specs.Cutting.{other_sections}
+use Rattle.bt_names.specs.inner.Cutting.{other_sections}
 use Rattle.bt_names.proofs.cutting.behind_comma.Given as goal
 
 abbrev pub invariant-walk : goal.invariant-walk

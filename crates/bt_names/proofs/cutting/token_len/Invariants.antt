@@ -1,5 +1,6 @@
 use Rattle.std.proofs.Common.{◌≡◌, ◌-◌, ◌≤◌, length, take, drop}
-use Rattle.bt_names.specs.Cutting.{first_section, runs}
+use Rattle.bt_names.specs.Cutting.{runs}
+use Rattle.bt_names.specs.inner.Cutting.{first_section}
 use Rattle.bt_names.proofs.CuttingLemmas.{onto_run}
 use Rattle.bt_names.proofs.cutting.token_len.Given as goal
 

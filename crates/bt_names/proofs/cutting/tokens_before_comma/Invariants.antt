@@ -1,5 +1,6 @@
 use Rattle.std.proofs.Common.{◌≡◌, length}
-use Rattle.bt_names.specs.Cutting.{first_section, runs, tokens}
+use Rattle.bt_names.specs.Cutting.{runs, tokens}
+use Rattle.bt_names.specs.inner.Cutting.{first_section}
 use Rattle.bt_names.proofs.CuttingLemmas.{tokens_behind}
 use Rattle.bt_names.proofs.cutting.tokens_before_comma.Given as goal
 

@@ -1,6 +1,6 @@
 use Rattle.std.proofs.Common.{◌≡◌, ◌-◌, ◌^◌, length}
 use Rattle.bt_one_shot.specs.Sinks.{sunk}
-use Rattle.bt_one_shot.specs.Progress.{Goes}
+use Rattle.bt_one_shot.specs.inner.Progress.{Goes}
 use Rattle.bt_one_shot.proofs.loading.load_all.Given as goal
 
 abbrev pub invariant-rounds : goal.invariant-rounds

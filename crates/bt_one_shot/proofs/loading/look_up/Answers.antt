@@ -2,7 +2,8 @@ use Rattle.std.proofs.Common.{◌∙◌, ap, sym, subst, Result}
 use Rattle.bibtex.specs.declared.edit.Refusal.{Refusal}
 use Rattle.bibtex.specs.declared.state.State.{State}
 use Rattle.bt_serve.specs.Commands.{state_or}
-use Rattle.bt_one_shot.specs.Sinks.{sunk, GoesOn}
+use Rattle.bt_one_shot.specs.Sinks.{sunk}
+use Rattle.bt_one_shot.specs.inner.Sinks.{GoesOn}
 use Rattle.bt_one_shot.specs.Loading.{refusal_line}
 use Rattle.bt_one_shot.proofs.loading.look_up.Goals as goal
 

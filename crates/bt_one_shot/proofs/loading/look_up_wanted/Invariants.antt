@@ -2,7 +2,7 @@ use Rattle.std.proofs.Common.{◌≡◌, ◌≤◌, true, length, take}
 use Rattle.std.specs.List.{list_all}
 use Rattle.bibtex.specs.Present.{shown}
 use Rattle.bt_one_shot.specs.Sinks.{sunk}
-use Rattle.bt_one_shot.specs.Progress.{Goes}
+use Rattle.bt_one_shot.specs.inner.Progress.{Goes}
 use Rattle.bt_one_shot.proofs.WantLemmas.{is_met}
 use Rattle.bt_one_shot.proofs.loading.look_up_wanted.Given as goal
 

@@ -1,6 +1,7 @@
 use Rattle.std.proofs.Common.{◌∙◌, ap, subst, codes, ℕ, List, ◌++◌}
 use Rattle.std.specs.Fmt.{decimal}
-use Rattle.bt_one_shot.specs.Sinks.{sunk, GoesOn}
+use Rattle.bt_one_shot.specs.Sinks.{sunk}
+use Rattle.bt_one_shot.specs.inner.Sinks.{GoesOn}
 use Rattle.bt_one_shot.proofs.loading.tell_refused.Goals as goal
 
 pub returns : goal.returns

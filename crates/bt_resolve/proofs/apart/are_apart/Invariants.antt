@@ -1,6 +1,6 @@
 use Rattle.std.proofs.Common.{◌≡◌, ◌-◌, true, drop}
 use Rattle.bt_text.specs.NameList.{are_apart}
-use Rattle.bt_resolve.specs.Names.{places_from}
+use Rattle.bt_resolve.specs.inner.Names.{places_from}
 use Rattle.bt_text.specs.ByName.{known}
 use Rattle.bt_resolve.proofs.apart.are_apart.Given as goal
 

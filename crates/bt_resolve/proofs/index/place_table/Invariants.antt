@@ -1,5 +1,5 @@
 use Rattle.std.proofs.Common.{◌≡◌, ◌-◌}
-use Rattle.bt_resolve.specs.Names.{places_from}
+use Rattle.bt_resolve.specs.inner.Names.{places_from}
 use Rattle.bt_text.specs.ByName.{known}
 use Rattle.bt_resolve.proofs.index.place_table.Given as goal
 

@@ -1,5 +1,5 @@
 use Rattle.std.proofs.Common.{◌≡◌, drop}
-use Rattle.bt_resolve.specs.Inheriting.{all_inherit}
+use Rattle.bt_resolve.specs.inner.Inheriting.{all_inherit}
 use Rattle.bt_resolve.proofs.inheriting.all_inherit.Given as goal
 
 abbrev pub invariant-places : goal.invariant-places

@@ -1,5 +1,5 @@
 use Rattle.std.proofs.Common.{◌≡◌, take}
-use Rattle.bt_resolve.specs.Inheriting.{values_read}
+use Rattle.bt_resolve.specs.inner.Inheriting.{values_read}
 use Rattle.bt_resolve.proofs.inheriting.values_read.Given as goal
 
 abbrev pub invariant-entries : goal.invariant-entries

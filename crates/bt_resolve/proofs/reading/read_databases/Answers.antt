@@ -1,7 +1,7 @@
 use Rattle.std.proofs.Common.{◌∙◌, ap, map}
 use Rattle.std.proofs.lemmas.List.{drop_all}
 use Rattle.bt_bib.specs.Items.{items_of}
-use Rattle.bt_resolve.specs.Reading.{State}
+use Rattle.bt_resolve.specs.inner.Reading.{State}
 use Rattle.bt_resolve.proofs.PlacingLemmas.{whole_is, stored_is, preamble_is, messages_are}
 use Rattle.bt_resolve.proofs.reading.read_databases.Goals as goal
 

@@ -1,6 +1,6 @@
 use Rattle.std.proofs.Common.{◌≡◌, ◌+◌, drop, map}
 use Rattle.bt_bib.specs.Items.{items_of}
-use Rattle.bt_resolve.specs.Reading.{after_databases, state_of}
+use Rattle.bt_resolve.specs.inner.Reading.{after_databases, state_of}
 use Rattle.bt_resolve.proofs.reading.read_databases.Given as goal
 
 abbrev pub invariant-databases : goal.invariant-databases

@@ -1,6 +1,6 @@
 use Rattle.std.proofs.Common.{◌≡◌, drop}
 use Rattle.bt_bib.specs.Items.{items_of}
-use Rattle.bt_resolve.specs.Reading.{after_items, state_of}
+use Rattle.bt_resolve.specs.inner.Reading.{after_items, state_of}
 use Rattle.bt_resolve.proofs.reading.read_pieces.Given as goal
 
 abbrev pub invariant-pieces : goal.invariant-pieces

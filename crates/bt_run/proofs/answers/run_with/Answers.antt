@@ -1,6 +1,6 @@
 use Rattle.std.proofs.Common.{◌∙◌, ap, Some}
 use Rattle.bt_style.specs.Program.{program_of}
-use Rattle.bt_run.specs.Steps.{steps_under}
+use Rattle.bt_run.specs.inner.Steps.{steps_under}
 use Rattle.bt_run.proofs.AnswerLemmas.{lent_style, earlier_steps, nothing_taken, run_taken}
 use Rattle.bt_run.proofs.answers.run_with.Goals as goal
 

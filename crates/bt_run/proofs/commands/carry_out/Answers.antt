@@ -1,5 +1,5 @@
 use Rattle.bt_style.specs.Program.{program_of}
-use Rattle.bt_run.specs.JobView.{job_of}
+use Rattle.bt_run.specs.inner.JobView.{job_of}
 use Rattle.bt_run.proofs.CommandLemmas.{read_consistent, sorted_consistent}
 use Rattle.bt_run.proofs.commands.carry_out.Goals as goal
 

@@ -1,8 +1,8 @@
 use Rattle.std.proofs.Common.{◌≡◌, drop}
 use Rattle.bt_style.specs.Program.{program_of}
-use Rattle.bt_run.specs.Work.{IsConsistent}
+use Rattle.bt_run.specs.inner.Work.{IsConsistent}
 use Rattle.bt_run.specs.Commands.{commands_from}
-use Rattle.bt_run.specs.JobView.{job_of}
+use Rattle.bt_run.specs.inner.JobView.{job_of}
 use Rattle.bt_run.proofs.commands.run_commands.Given as goal
 
 -- the commands that are left give the whole

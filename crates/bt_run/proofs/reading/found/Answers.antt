@@ -1,4 +1,4 @@
-use Rattle.bt_run.specs.JobView.{job_of}
+use Rattle.bt_run.specs.inner.JobView.{job_of}
 use Rattle.bt_run.proofs.ReadingLemmas.{found_by}
 use Rattle.bt_run.proofs.reading.found.Goals as goal
 

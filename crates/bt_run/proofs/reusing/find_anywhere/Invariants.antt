@@ -1,5 +1,5 @@
 use Rattle.std.proofs.Common.{ℕ, ◌<◌}
-use Rattle.bt_run.specs.Work.{IsUnlikeAt}
+use Rattle.bt_run.specs.inner.Work.{IsUnlikeAt}
 use Rattle.bt_run.proofs.reusing.find_anywhere.Given as goal
 
 -- at no place so far is one

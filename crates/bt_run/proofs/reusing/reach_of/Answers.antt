@@ -5,7 +5,7 @@ use Rattle.bt_style.specs.declared.style.Target.{Target}
 use Rattle.bt_style.specs.Program.{program_of}
 use Rattle.bt_style.specs.Reach.{Reaches}
 use Rattle.bt_run.specs.declared.reuse.Known.{Known}
-use Rattle.bt_run.specs.Work.{IsKnown}
+use Rattle.bt_run.specs.inner.Work.{IsKnown}
 use Rattle.bt_run.proofs.CourseLemmas.{all_behind}
 use Rattle.bt_run.proofs.WorkLemmas.{footprint_of}
 use Rattle.bt_run.proofs.reusing.reach_of.Goals as goal

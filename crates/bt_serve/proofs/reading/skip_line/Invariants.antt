@@ -1,5 +1,5 @@
 use Rattle.std.proofs.Common.{◌≡◌, ◌≤◌}
-use Rattle.bt_serve.specs.Reads.{ReadsPart}
+use Rattle.bt_serve.specs.inner.Reads.{ReadsPart}
 use Rattle.bt_serve.proofs.reading.skip_line.Given as goal
 
 abbrev pub invariant-rest : goal.invariant-rest

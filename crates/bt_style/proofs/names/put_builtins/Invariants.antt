@@ -1,7 +1,8 @@
 use Rattle.std.proofs.Common.{◌≤◌, map, drop, length}
 use Rattle.std.specs.Option.{option_map}
 use Rattle.bt_style.specs.declared.style.Target.TheVariants as targets
-use Rattle.bt_style.specs.Names.{Holds, row_of, builtin_among}
+use Rattle.bt_style.specs.Names.{row_of, builtin_among}
+use Rattle.bt_style.specs.inner.Names.{Holds}
 use Rattle.bt_style.proofs.names.put_builtins.Given as goal
 
 abbrev pub invariant-builtins : goal.invariant-builtins

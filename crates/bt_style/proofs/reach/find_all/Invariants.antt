@@ -1,5 +1,5 @@
 use Rattle.bt_style.specs.Program.{program_of}
-use Rattle.bt_style.specs.Reach.{Knows}
+use Rattle.bt_style.specs.inner.Reach.{Knows}
 use Rattle.bt_style.proofs.SearchLemmas.{Searched, work}
 use Rattle.bt_style.proofs.reach.find_all.Given as goal
 

@@ -1,6 +1,7 @@
 use Rattle.std.proofs.Common.{◌≡◌}
 use Rattle.bt_style.specs.Tree.{ops_body}
-use Rattle.bt_style.specs.Reach.{Knows, noted_all, waiting_names, waiting_size, body_names}
+use Rattle.bt_style.specs.Reach.{noted_all, body_names}
+use Rattle.bt_style.specs.inner.Reach.{Knows, waiting_names, waiting_size}
 use Rattle.bt_style.proofs.reach.note_body.Given as goal
 
 abbrev pub invariant-parts : goal.invariant-parts

@@ -1,5 +1,5 @@
 use Rattle.std.proofs.Common.{◌≡◌, ◌++◌, drop}
-use Rattle.bt_text.specs.Merging.{merged}
+use Rattle.bt_text.specs.inner.Merging.{merged}
 use Rattle.bt_text.proofs.placed.merged.Given as goal
 
 abbrev pub invariant-texts : goal.invariant-texts

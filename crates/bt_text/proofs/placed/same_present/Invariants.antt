@@ -1,5 +1,5 @@
 use Rattle.std.proofs.Common.{◌≡◌, drop}
-use Rattle.bt_text.specs.Merging.{same_present}
+use Rattle.bt_text.specs.inner.Merging.{same_present}
 use Rattle.bt_text.proofs.placed.same_present.Given as goal
 
 abbrev pub invariant-texts : goal.invariant-texts

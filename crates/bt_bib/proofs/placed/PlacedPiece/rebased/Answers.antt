@@ -1,6 +1,7 @@
 use Rattle.std.proofs.Common.{◌∙◌, sym, ap, subst}
-use Rattle.bt_bib.specs.Moving.{rebased_piece, FitsPiece}
-use Rattle.bt_bib.specs.Placed.{BeginsBehind}
+use Rattle.bt_bib.specs.Moving.{FitsPiece}
+use Rattle.bt_bib.specs.inner.Moving.{rebased_piece}
+use Rattle.bt_bib.specs.inner.Placed.{BeginsBehind}
 use Rattle.bt_bib.proofs.PlacedLemmas.{taken_over, shown_over}
 use Rattle.bt_bib.proofs.placed.PlacedPiece.rebased.Goals as goal
 

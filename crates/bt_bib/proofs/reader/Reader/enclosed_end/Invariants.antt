@@ -1,6 +1,7 @@
 use Rattle.std.proofs.Common.{length, ◌-◌, ◌≡◌, ◌≤◌, drop}
-use Rattle.bt_bib.specs.Spot.{here, IsAhead}
-use Rattle.bt_bib.specs.Enclosed.{enclosed_end}
+use Rattle.bt_bib.specs.Spot.{here}
+use Rattle.bt_bib.specs.inner.Spot.{IsAhead}
+use Rattle.bt_bib.specs.inner.Enclosed.{enclosed_end}
 use Rattle.bt_bib.proofs.EnclosedLemmas.{enclosed_run}
 use Rattle.bt_bib.proofs.reader.Reader.enclosed_end.Given as goal
 

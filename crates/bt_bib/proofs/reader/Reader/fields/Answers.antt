@@ -1,7 +1,8 @@
 use Rattle.std.proofs.Common.{◌∙◌, ap, Ok}
 use Rattle.std.proofs.lemmas.Result.{err_from_is_err_and}
 use Rattle.bt_bib.specs.Spot.{here}
-use Rattle.bt_bib.specs.Many.{all, gathered}
+use Rattle.bt_bib.specs.Many.{all}
+use Rattle.bt_bib.specs.inner.Many.{gathered}
 use Rattle.bt_bib.specs.Fields.{next_field}
 use Rattle.bt_bib.proofs.ManyLemmas.{gathers_more}
 use Rattle.bt_bib.proofs.FieldLemmas.{next_field_less}

@@ -1,6 +1,8 @@
 use Rattle.std.proofs.Common.{length, ◌-◌, ◌≡◌}
-use Rattle.bt_bib.specs.Spot.{here, IsAhead}
-use Rattle.bt_bib.specs.Many.{all, gathered}
+use Rattle.bt_bib.specs.Spot.{here}
+use Rattle.bt_bib.specs.inner.Spot.{IsAhead}
+use Rattle.bt_bib.specs.Many.{all}
+use Rattle.bt_bib.specs.inner.Many.{gathered}
 use Rattle.bt_bib.specs.Values.{joined}
 use Rattle.bt_bib.proofs.reader.Reader.others.Given as goal
 

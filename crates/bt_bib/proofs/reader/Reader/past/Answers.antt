@@ -1,6 +1,7 @@
 use Rattle.std.proofs.Common.{sym, ◌∙◌, ap, rules}
 use Rattle.bt_bib.specs.Spot.{here}
-use Rattle.bt_bib.specs.Scan.{has, past}
+use Rattle.bt_bib.specs.Scan.{past}
+use Rattle.bt_bib.specs.inner.Scan.{has}
 use Rattle.bt_bib.proofs.RunLemmas.{past_more, past_stop, past_end}
 use Rattle.bt_bib.proofs.reader.Reader.past.Goals as goal
 

@@ -1,6 +1,8 @@
 use Rattle.std.proofs.Common.{length, ◌-◌, ◌≡◌}
-use Rattle.bt_bib.specs.Spot.{here, IsAhead}
-use Rattle.bt_bib.specs.Scan.{has, past}
+use Rattle.bt_bib.specs.Spot.{here}
+use Rattle.bt_bib.specs.inner.Spot.{IsAhead}
+use Rattle.bt_bib.specs.Scan.{past}
+use Rattle.bt_bib.specs.inner.Scan.{has}
 use Rattle.bt_bib.proofs.reader.Reader.past.Given as goal
 
 abbrev pub invariant-bytes : goal.invariant-bytes

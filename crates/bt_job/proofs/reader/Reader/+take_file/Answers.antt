@@ -5,8 +5,8 @@ use Rattle.bt_job.specs.declared.progress.Progress.{Progress}
 use Rattle.bt_job.specs.declared.reader.Reader.{Reader}
 use Rattle.bt_job.specs.declared.progress.Outcome.{Outcome}
 use Rattle.bt_bib.specs.AuxLine.{aux_lines}
-use Rattle.bt_job.specs.Inner.Taking.{told, told_at}
-use Rattle.bt_job.specs.Inner.Nesting.{lines_taken, file_taken, in_place}
+use Rattle.bt_job.specs.inner.Taking.{told, logged_at}
+use Rattle.bt_job.specs.inner.Nesting.{lines_taken, file_taken, in_place}
 use Rattle.bt_job.proofs.NestingLemmas.{file_zero, file_opens, line_more, lines_end}
 use Rattle.bt_job.proofs.reader.Reader.+take_file.Goals.{in-Taken, in-Wrong+in_ok-tell_at-in-Wrong, in-Opens+in_ok-take_file-in-Opens}
 use Rattle.bt_job.proofs.reader.Reader.+take_file.Goals as goal
@@ -31,7 +31,7 @@ items-preserved t c =
     let place : Outcome → Progress = λ o. in_place nested c.args.file.now c.item-item.result.line (c.take_item.new.self.progress, o) in
     let placed : c.match-branch-6.self.progress ≡ place c.in_ok-take_item.field-0 = elim c.match-branch-6.branch [
       | in-Taken w ↦ ap asked w.self-is ∙ sym (ap place w.in-Taken.is)
-      | in-Wrong+in_ok-tell_at-in-Wrong w ↦ ap asked w.self-is ∙ w.in_ok-tell_at-in-Wrong.ensures.ok ∙ ap (λ (file : List ℕ). told_at file c.item-item.result.line w.in-Wrong.words c.take_item.new.self.progress) c.in_ok-name.ensures ∙ sym (ap place w.in-Wrong.is)
+      | in-Wrong+in_ok-tell_at-in-Wrong w ↦ ap asked w.self-is ∙ w.in_ok-tell_at-in-Wrong.ensures.ok ∙ ap (λ (file : List ℕ). logged_at file c.item-item.result.line w.in-Wrong.words c.take_item.new.self.progress) c.in_ok-name.ensures ∙ sym (ap place w.in-Wrong.is)
       | in-Opens+in_ok-take_file-in-Opens w ↦ ap asked w.self-is ∙ w.in_ok-take_file-in-Opens.ensures ∙ ap (λ (name : List ℕ). nested name c.take_item.new.self.progress) w.as_slice.ensures ∙ sym (ap place w.in-Opens.is)
     ] in
     line_more nested c.args.files.now c.args.file.now c.as_slice-item-items.result.now c.items.item-index c.item-item.result c.items.self.progress c.take_item.new.self.progress c.match-branch-6.self.progress _ c.in_ok-take_item.field-0

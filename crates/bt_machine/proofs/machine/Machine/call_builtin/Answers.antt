@@ -1,7 +1,7 @@
 use Rattle.std.proofs.Common.{ap}
 use Rattle.std.proofs.lemmas.Result.{IfOk-weaker}
 use Rattle.bt_actions.specs.View.{world_of}
-use Rattle.bt_machine.specs.Control.{program_in, frames_of, ticks_of}
+use Rattle.bt_machine.specs.inner.Control.{program_in, frames_of, ticks_of}
 use Rattle.bt_machine.proofs.Steps.{leads_basic}
 use Rattle.bt_machine.proofs.machine.Machine.call_builtin.Goals as goal
 

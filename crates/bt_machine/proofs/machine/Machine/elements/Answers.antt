@@ -1,6 +1,6 @@
 use Rattle.std.proofs.Common.{◌≡◌, length, refl, subst, ◌∙◌, arith, rules}
 use Rattle.bt_style.specs.Tree.{Then, element_of, ops_body}
-use Rattle.bt_machine.specs.Control.{RunsBody}
+use Rattle.bt_machine.specs.inner.Control.{RunsBody}
 use Rattle.bt_machine.proofs.Turns.{turn_goes, body_ends, body_stops}
 use Rattle.bt_machine.proofs.machine.Machine.elements.Goals as goal
 

@@ -1,6 +1,6 @@
 use Rattle.std.proofs.Common.{refl, arith}
 use Rattle.bt_actions.specs.View.{world_of}
-use Rattle.bt_machine.specs.Control.{program_in, frames_of, ticks_of}
+use Rattle.bt_machine.specs.inner.Control.{program_in, frames_of, ticks_of}
 use Rattle.bt_machine.proofs.Steps.{left_past}
 use Rattle.bt_machine.proofs.machine.Machine.enter.Goals as goal
 

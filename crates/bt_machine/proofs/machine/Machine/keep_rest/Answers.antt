@@ -1,5 +1,5 @@
 use Rattle.std.proofs.Common.{rules, ◌≢◌, length, sym, ◌∙◌}
-use Rattle.bt_machine.specs.Control.{waiting}
+use Rattle.bt_machine.specs.inner.Control.{waiting}
 use Rattle.bt_machine.proofs.Steps.{on_top_of_some}
 use Rattle.bt_machine.proofs.machine.Machine.keep_rest.Goals as goal
 

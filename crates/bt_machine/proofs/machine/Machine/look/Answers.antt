@@ -1,7 +1,7 @@
 use Rattle.std.specs.Prelude.{pos, ◌<ℤ◌}
 use Rattle.std.proofs.Common.{rules, ap, sym, ◌∙◌}
 use Rattle.bt_actions.specs.View.{code_seen, world_of}
-use Rattle.bt_machine.specs.Control.{program_in, frames_of, ticks_of, on_top}
+use Rattle.bt_machine.specs.inner.Control.{program_in, frames_of, ticks_of, on_top}
 use Rattle.bt_machine.proofs.Steps.{leads_turn}
 use Rattle.bt_machine.proofs.machine.Machine.look.Goals as goal
 

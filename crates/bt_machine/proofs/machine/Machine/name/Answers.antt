@@ -3,7 +3,7 @@ use Rattle.std.proofs.lemmas.Result.{IfOk-weaker}
 use Rattle.bt_style.specs.Tree.{Called, End}
 use Rattle.bt_actions.specs.Tally.{with_call}
 use Rattle.bt_actions.specs.View.{world_of}
-use Rattle.bt_machine.specs.Control.{program_in, frames_of, ticks_of}
+use Rattle.bt_machine.specs.inner.Control.{program_in, frames_of, ticks_of}
 use Rattle.bt_machine.proofs.Steps.{left_no_tick, leads_name}
 use Rattle.bt_machine.proofs.machine.Machine.name.Goals as goal
 

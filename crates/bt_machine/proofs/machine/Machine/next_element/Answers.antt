@@ -3,7 +3,7 @@ use Rattle.std.proofs.lemmas.Result.{IfOk-weaker}
 use Rattle.bt_style.specs.Tree.{element_of, ops_body}
 use Rattle.bt_actions.specs.Tally.{with_call}
 use Rattle.bt_actions.specs.View.{world_of}
-use Rattle.bt_machine.specs.Control.{program_in, waiting, ticks_of}
+use Rattle.bt_machine.specs.inner.Control.{program_in, waiting, ticks_of}
 use Rattle.bt_machine.proofs.Steps.{left_no_tick, leads_then}
 use Rattle.bt_machine.proofs.machine.Machine.next_element.Goals as goal
 

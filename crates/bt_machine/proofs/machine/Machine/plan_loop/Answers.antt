@@ -1,6 +1,6 @@
 use Rattle.std.proofs.Common.{ap, ◌∙◌}
 use Rattle.bt_actions.specs.View.{code_seen, world_of}
-use Rattle.bt_machine.specs.Control.{program_in, frames_of, ticks_of, on_top}
+use Rattle.bt_machine.specs.inner.Control.{program_in, frames_of, ticks_of, on_top}
 use Rattle.bt_machine.proofs.Steps.{leads_loop}
 use Rattle.bt_machine.proofs.machine.Machine.plan_loop.Goals as goal
 

@@ -1,5 +1,5 @@
 use Rattle.std.proofs.Common.{◌≡◌}
-use Rattle.bt_machine.specs.Control.{rest_of, load_of}
+use Rattle.bt_machine.specs.inner.Control.{rest_of, load_of}
 use Rattle.bt_machine.proofs.machine.Machine.run.Given as goal
 
 -- what is left from here is what was left at first

@@ -1,5 +1,5 @@
 use Rattle.std.proofs.Common.{rules, ◌≢◌, length}
-use Rattle.bt_machine.specs.Control.{waiting}
+use Rattle.bt_machine.specs.inner.Control.{waiting}
 use Rattle.bt_machine.proofs.Steps.{on_top_of_some}
 use Rattle.bt_machine.proofs.machine.Machine.take_frame.Goals as goal
 

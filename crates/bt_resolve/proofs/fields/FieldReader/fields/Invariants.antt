@@ -2,7 +2,7 @@ use Rattle.std.proofs.Common.{◌≡◌, ◌++◌, [], take, drop, map}
 use Rattle.bt_bib.specs.Moved.{moved_field}
 use Rattle.bt_text.specs.ByName.{known}
 use Rattle.bt_resolve.specs.Fields.{fields_messages}
-use Rattle.bt_resolve.specs.Slots.{given_by}
+use Rattle.bt_resolve.specs.inner.Slots.{given_by}
 use Rattle.bt_resolve.proofs.fields.FieldReader.fields.Given as goal
 
 abbrev pub invariant-fields : goal.invariant-fields

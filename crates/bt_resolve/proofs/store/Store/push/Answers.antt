@@ -3,7 +3,7 @@ use Rattle.bt_text.specs.ByName.{known, listed, with_entry}
 use Rattle.bt_text.specs.Folding.{folded}
 use Rattle.bt_resolve.specs.declared.stored.Stored.{Stored}
 use Rattle.bt_resolve.specs.Stored.{is_stored}
-use Rattle.bt_resolve.specs.Store.{stored_in, with_reference}
+use Rattle.bt_resolve.specs.inner.Store.{stored_in, with_reference}
 use Rattle.bt_resolve.proofs.StoreLemmas.{IsNext, all_stored, entries_next, indexed_next}
 use Rattle.bt_resolve.proofs.store.Store.push.Goals as goal
 

@@ -2,7 +2,7 @@ use Rattle.std.proofs.Common.{refl, sym, subst, ◌+◌}
 use Rattle.bt_style.specs.Program.{program_of}
 use Rattle.bt_run.specs.declared.course.Step.{Step}
 use Rattle.bt_run.specs.declared.reuse.Reuse.{Reuse}
-use Rattle.bt_run.specs.Work.{IsNext}
+use Rattle.bt_run.specs.inner.Work.{IsNext}
 use Rattle.bt_run.proofs.WorkLemmas.{met_again}
 use Rattle.bt_run.proofs.caller.Caller.next_step.Goals as goal
 

@@ -1,6 +1,6 @@
 use Rattle.std.proofs.Common.{◌≡◌, length, drop}
 use Rattle.bt_style.specs.Program.{program_of}
-use Rattle.bt_run.specs.Work.{IsConsistent}
+use Rattle.bt_run.specs.inner.Work.{IsConsistent}
 use Rattle.bt_run.specs.Commands.{iterated}
 use Rattle.bt_run.proofs.caller.Caller.run_for_each.Given as goal
 

@@ -1,6 +1,7 @@
 use Rattle.std.proofs.Common.{ap, ◌∙◌, length}
 use Rattle.bt_style.specs.Program.{program_of}
-use Rattle.bt_run.specs.Course.{all_told, put_back}
+use Rattle.bt_run.specs.Course.{all_told}
+use Rattle.bt_run.specs.inner.Course.{put_back}
 use Rattle.bt_run.proofs.CourseLemmas.{step_taken, consistent_behind, length-variables_back}
 use Rattle.bt_run.specs.declared.course.Course.{Course}
 use Rattle.bt_run.specs.declared.course.Step.{Step}

@@ -1,5 +1,5 @@
 use Rattle.std.proofs.Common.{◌∙◌, arith}
-use Rattle.bt_run.specs.Index.{step_name}
+use Rattle.bt_run.specs.inner.Index.{step_name}
 use Rattle.bt_run.proofs.IndexLemmas.{indexed_more, indexed_all}
 use Rattle.bt_run.proofs.index.Index.of.Goals as goal
 

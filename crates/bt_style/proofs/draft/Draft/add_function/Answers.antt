@@ -4,13 +4,13 @@ use Rattle.std.specs.Map.{lookup}
 use Rattle.bt_style.specs.declared.style.Style.{Style}
 use Rattle.bt_style.specs.Tree.{ops_body}
 use Rattle.bt_style.specs.Program.{program_of}
-use Rattle.bt_style.specs.Names.{meaning}
+use Rattle.bt_style.specs.Names.{target_named}
 use Rattle.bt_style.proofs.NameLemmas.{holds_defined, macros_stay_defined}
 use Rattle.bt_style.proofs.draft.Draft.add_function.Goals as goal
 
 pub invariant_of-self-2 : goal.invariant_of-self-2
 invariant_of-self-2 c =
-    let free : meaning (program_of c.self.inside.style) c.args.name ≡ None = ap (λ (s : Style). meaning (program_of s) c.args.name) c.self.view_is ∙ c.requires in
+    let free : target_named (program_of c.self.inside.style) c.args.name ≡ None = ap (λ (s : Style). target_named (program_of s) c.args.name) c.self.view_is ∙ c.requires in
     let p = program_of c.self.inside.style in
     let after = program_of c.push_function.new.style in
     let is = c.in_ok-push_function.ensures.ok in (

@@ -3,13 +3,13 @@ use Rattle.std.specs.Prelude.{bytes_eq}
 use Rattle.std.specs.Map.{lookup}
 use Rattle.bt_style.specs.declared.style.Style.{Style}
 use Rattle.bt_style.specs.Program.{program_of}
-use Rattle.bt_style.specs.Names.{meaning}
+use Rattle.bt_style.specs.Names.{target_named}
 use Rattle.bt_style.proofs.NameLemmas.{holds_declared, macros_stay_declared}
 use Rattle.bt_style.proofs.draft.Draft.declare.Goals as goal
 
 pub invariant_of-self-2 : goal.invariant_of-self-2
 invariant_of-self-2 c =
-    let free : meaning (program_of c.self.inside.style) c.args.name ≡ None = ap (λ (s : Style). meaning (program_of s) c.args.name) c.self.view_is ∙ c.requires in
+    let free : target_named (program_of c.self.inside.style) c.args.name ≡ None = ap (λ (s : Style). target_named (program_of s) c.args.name) c.self.view_is ∙ c.requires in
     let p = program_of c.self.inside.style in
     let after = program_of c.push_name.new.style in
     let is = c.in_ok-push_name.ensures.ok in (

@@ -1,5 +1,5 @@
 use Rattle.std.proofs.Common.{◌≡◌, sym, subst, ap, ◌∙◌, None, set}
-use Rattle.bt_text.specs.Merging.{IsAt, IsGap, IsInOrder}
+use Rattle.bt_text.specs.inner.Merging.{IsAt, IsGap, IsInOrder}
 use Rattle.bt_text.specs.Sparse.{all_texts, IsRising}
 use Rattle.bt_text.proofs.SparseLemmas.{in_order, rising_remove, all_remove_at, all_in_gap}
 use Rattle.bt_text.proofs.placed.PlacedTexts.clear.Goals as goal

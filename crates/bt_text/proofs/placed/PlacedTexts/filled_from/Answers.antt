@@ -1,6 +1,6 @@
 use Rattle.std.proofs.Common.{◌≡◌, sym, subst, ap, ◌∙◌, arith}
 use Rattle.bt_text.specs.Sparse.{all_texts, filled_from, IsRising}
-use Rattle.bt_text.specs.Merging.{merged}
+use Rattle.bt_text.specs.inner.Merging.{merged}
 use Rattle.bt_text.proofs.SparseLemmas.{all_merged, rising_merged}
 use Rattle.bt_text.proofs.placed.PlacedTexts.filled_from.Goals as goal
 

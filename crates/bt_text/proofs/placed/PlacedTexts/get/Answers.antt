@@ -1,5 +1,5 @@
 use Rattle.std.proofs.Common.{sym, subst, ap, ◌∙◌, None, get_or}
-use Rattle.bt_text.specs.Merging.{IsAt, IsGap, IsInOrder}
+use Rattle.bt_text.specs.inner.Merging.{IsAt, IsGap, IsInOrder}
 use Rattle.bt_text.proofs.SparseLemmas.{in_order, got, all_get_gap}
 use Rattle.bt_text.proofs.placed.PlacedTexts.get.Goals as goal
 

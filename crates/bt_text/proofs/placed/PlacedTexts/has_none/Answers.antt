@@ -1,7 +1,7 @@
 use Rattle.std.proofs.Common.{ap, ◌∙◌, length}
 use Rattle.std.specs.Prelude.{is_none, ◌==◌}
 use Rattle.std.specs.List.{list_all}
-use Rattle.bt_text.specs.Merging.{Present}
+use Rattle.bt_text.specs.inner.Merging.{Present}
 use Rattle.bt_text.proofs.SparseLemmas.{none_present}
 use Rattle.bt_text.proofs.placed.PlacedTexts.has_none.Goals as goal
 

@@ -1,7 +1,7 @@
 use Rattle.std.proofs.Common.{◌≡◌, sym, ap, ◌∙◌, true, false, Bool, arith, nat_eq}
 use Rattle.std.specs.Prelude.{◌==◌, ◌&&◌}
 use Rattle.std.proofs.lemmas.Bool.Decides.{nat_tests}
-use Rattle.bt_text.specs.Merging.{Present, same_present}
+use Rattle.bt_text.specs.inner.Merging.{Present, same_present}
 use Rattle.bt_text.proofs.SparseLemmas.{same_is}
 use Rattle.bt_text.proofs.placed.PlacedTexts.is_same.Goals as goal
 

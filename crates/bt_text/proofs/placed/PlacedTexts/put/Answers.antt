@@ -1,5 +1,5 @@
 use Rattle.std.proofs.Common.{◌≡◌, sym, subst, ap, ◌∙◌, Some, set, arith}
-use Rattle.bt_text.specs.Merging.{IsAt, IsGap, IsInOrder}
+use Rattle.bt_text.specs.inner.Merging.{IsAt, IsGap, IsInOrder}
 use Rattle.bt_text.specs.Sparse.{all_texts, IsRising}
 use Rattle.bt_text.proofs.SparseLemmas.{in_order, rising_set, rising_insert, all_behind, all_set_at, all_insert}
 use Rattle.bt_text.proofs.placed.PlacedTexts.put.Goals as goal

@@ -1,5 +1,5 @@
 use Rattle.std.proofs.Common.{◌≡◌, fold, take}
-use Rattle.bt_text.specs.TitlePlace.{next_place}
+use Rattle.bt_text.specs.inner.TitlePlace.{next_place}
 use Rattle.bt_text.proofs.title_place.TitlePlace.behind_all.Given as goal
 
 abbrev pub invariant-loop-byte : goal.invariant-loop-byte

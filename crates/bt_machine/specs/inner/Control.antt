@@ -1,0 +1,110 @@
+-- What is left to do, as the machine's body and its control stack hold it, and what it means.
+use Rattle.std.specs.Prelude.{◌≡◌, Bool, true, false, ℕ, ◌+◌, ◌*◌, ◌≤◌, List, [], ◌∷◌, length, map, reverse}
+use Rattle.bt_style.specs.declared.builtin.Builtin.TheVariants.{While}
+use Rattle.bt_style.specs.Program.{Program, program_of}
+use Rattle.bt_style.specs.Tree.{Body, End, Then, ops_body}
+use Rattle.bt_actions.specs.declared.state.Flow.{Flow}
+use Rattle.bt_actions.specs.declared.state.Flow.TheVariants.{Go, Stop}
+use Rattle.bt_actions.specs.Item.{Code, Name, Block}
+use Rattle.bt_actions.specs.World.{World}
+use Rattle.bt_actions.specs.Arguments.{as_number, taken}
+use Rattle.bt_actions.specs.View.{code_seen, world_of}
+use Rattle.bt_machine.specs.declared.machine.Frame.{Frame as HeldFrame}
+use Rattle.bt_machine.specs.declared.machine.Frame.TheVariants as held
+use Rattle.bt_machine.specs.declared.machine.Machine.{Machine}
+use Rattle.bt_machine.specs.Eval.{Ending, Done, Stopped, then_go, code_body, turn, looped, eval}
+use Rattle.bt_machine.specs.Step.{checked}
+
+-- one thing that is left to do
+pub data Frame : Type 0 where
+  -- this is to be run
+  Run : (code : Code) → Frame
+  -- a loop's test was run: the number that it left decides on a turn of the body
+  Test : (test body : Code) → Frame
+
+-- what it does
+abbrev pub meant : Program → Frame → World → ℕ → Ending
+meant p (Run c) w k = eval p (code_body c) w k
+meant p (Test test body) w k = turn (taken While as_number w) k (eval p (code_body body)) (looped (eval p) test body)
+
+-- what is left to do, the next first
+abbrev pub left : Program → List Frame → World → ℕ → Ending
+left p [] w k = Done w k
+left p (f ∷ fs) w k = then_go (meant p f w k) (left p fs)
+
+-- a number that falls with each thing that is done
+abbrev pub load : List Frame → World → ℕ → ℕ
+load fs w k = 8 * k + 4 * length w.stack + length fs
+
+-- where the run stands leads to this ending, and is no heavier than the bound
+abbrev pub LeadsTo : Program → Flow → List Frame → World → ℕ → Ending → ℕ → Type 0
+LeadsTo p Go fs w k o bound = (left p fs w k ≡ o) × (load fs w k ≤ bound)
+LeadsTo p Stop fs w k o bound = Stopped w k ≡ o
+
+-- this on top of what is left to do; a body without elements is nothing to do
+abbrev pub on_top : Code → List Frame → List Frame
+on_top (Name t) fs = Run (Name t) ∷ fs
+on_top (Block End) fs = fs
+on_top (Block (Then e rest)) fs = Run (Block (Then e rest)) ∷ fs
+
+-- what is left to do on a machine: what is left of its body, then what waits on its control stack
+abbrev pub frame_seen : HeldFrame → Frame
+frame_seen (held.Run c) = Run (code_seen c)
+frame_seen (held.Test test body) = Test (code_seen test) (code_seen body)
+
+abbrev pub waiting : Machine → List Frame
+waiting m = reverse (map frame_seen m.control.items)
+
+abbrev pub frames_of : Machine → List Frame
+frames_of m = on_top (Block (ops_body m.body.now)) (waiting m)
+
+-- a machine's ticks
+abbrev pub ticks_of : Machine → ℕ
+ticks_of m = m.state.tally.ticks
+
+-- a machine's load
+abbrev pub load_of : Machine → ℕ
+load_of m = load (frames_of m) (world_of m.state) (ticks_of m)
+
+-- the load without what is left of the body
+abbrev pub waiting_load : Machine → ℕ
+waiting_load m = load (waiting m) (world_of m.state) (ticks_of m)
+
+-- the style that is run
+abbrev pub program_in : Machine → Program
+program_in m = program_of m.script.style.now
+
+-- what the machine's run leads to from here
+abbrev pub rest_of : Machine → Ending
+rest_of m = left (program_in m) (frames_of m) (world_of m.state) (ticks_of m)
+
+-- the machine stands where this run, and then what was left to do, leads to; its load is higher by so much at most
+abbrev pub CarriesOut : Machine → Machine → (Program → World → ℕ → Ending) → ℕ → Flow → Type 0
+CarriesOut old new run more flow =
+    let p = program_in old in
+    LeadsTo p flow (frames_of new) (world_of new.state) (ticks_of new) (then_go (run p (world_of old.state) (ticks_of old)) (left p (frames_of old))) (load_of old + more)
+
+-- the same of a body that is run before what waited
+abbrev pub RunsBody : Machine → Machine → Body → Flow → Type 0
+RunsBody old new body flow =
+    let p = program_in old in
+    LeadsTo p flow (frames_of new) (world_of new.state) (ticks_of new) (then_go (eval p body (world_of old.state) (ticks_of old)) (left p (waiting old))) (waiting_load old)
+
+-- whether the run was stopped
+abbrev pub is_stop : Flow → Bool
+is_stop Go = false
+is_stop Stop = true
+
+-- the world at a run's end, with an error where the stack isn't empty
+abbrev pub checked_at : Flow → World → World
+checked_at Go w = checked w.stack w
+checked_at Stop w = w
+
+-- how a run ended
+abbrev pub run_ended : Flow → World → ℕ → Ending
+run_ended Go w k = Done w k
+run_ended Stop w k = Stopped w k
+
+-- how a machine's run ended
+abbrev pub ended_at : Flow → Machine → Ending
+ended_at flow m = run_ended flow (world_of m.state) (ticks_of m)

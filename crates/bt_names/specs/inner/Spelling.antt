@@ -1,0 +1,8 @@
+-- What only helpers' contracts say, beside `Spelling`.
+use Rattle.std.specs.Prelude.{map}
+use Rattle.bt_names.specs.declared.tokens.Parts.{Parts}
+use Rattle.bt_names.specs.Spelling.{by_initial}
+
+-- the parts by their initials
+abbrev pub abbreviated : Parts → Parts
+abbreviated p = record { first = map by_initial p.first; von = map by_initial p.von; last = map by_initial p.last; jr = map by_initial p.jr }

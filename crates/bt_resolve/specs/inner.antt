@@ -1,0 +1,11 @@
+-- What only helpers, loops and proofs need: no part of the meaning.
+pub mod Names
+pub mod Warnings
+pub mod Values
+pub mod JoinedParts
+pub mod Slots
+pub mod Entries
+pub mod Store
+pub mod Inheriting
+pub mod Family
+pub mod Reading

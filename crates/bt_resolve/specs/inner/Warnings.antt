@@ -1,0 +1,9 @@
+-- What only helpers' contracts say, beside `Warnings`.
+use Rattle.std.specs.Prelude.{ℕ, ◌+◌}
+use Rattle.bt_resolve.specs.declared.message.Place.{Place}
+use Rattle.bt_resolve.specs.declared.message.Origin.{Origin}
+use Rattle.bt_resolve.specs.Warnings.{line_of}
+
+-- a line of an item that stands somewhere
+abbrev pub line_at : Origin → ℕ → Place
+line_at origin line = line_of origin.database (line + origin.start.line)

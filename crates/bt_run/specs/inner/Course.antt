@@ -1,0 +1,29 @@
+-- What only helpers' contracts say, beside `Course`.
+use Rattle.std.specs.Prelude.{ℕ, List, ◌++◌, slice_set, slice_index_or, Option, Some, None}
+use Rattle.bt_actions.specs.declared.entry.Variables.{Variables}
+use Rattle.bt_actions.specs.declared.entry.Entry.{Entry}
+use Rattle.bt_actions.specs.World.{no_entry}
+use Rattle.bt_machine.specs.declared.outcome.Outcome.{Outcome}
+use Rattle.bt_run.specs.declared.course.Course.{Course}
+
+-- What the code does with an outcome, which is no part of the meaning
+
+abbrev pub with_variables : Option Variables → Entry → Entry
+with_variables None e = e
+with_variables (Some v) e = record e { variables = v }
+
+abbrev pub variables_back : Option ℕ → Option Variables → List Entry → List Entry
+variables_back None v entries = entries
+variables_back (Some n) v entries = slice_set entries n (with_variables v (slice_index_or entries n no_entry))
+
+-- What an outcome leaves of a run: the entry's variables are replaced, and its lines go to the end. The log and the trace
+-- are not touched.
+abbrev pub put_back : Option ℕ → Outcome → Course → Course
+put_back x o r =
+    record r {
+      entries = variables_back x o.variables r.entries;
+      globals = o.globals;
+      held = o.held;
+      lines = r.lines ++ o.lines;
+      stopped = o.stop;
+    }

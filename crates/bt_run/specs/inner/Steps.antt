@@ -1,0 +1,18 @@
+-- What only helpers' contracts say, beside `Steps`.
+use Rattle.std.specs.Prelude.{◌≡◌, ◌≤◌, ℕ, List, [], Option, Some, None, length, bytes_eq, if◌then◌else◌}
+use Rattle.bt_run.specs.declared.course.Step.{Step}
+use Rattle.bt_run.specs.declared.reuse.Reuse.{Reuse}
+use Rattle.bt_run.specs.Work.{total_cost}
+use Rattle.bt_run.specs.Steps.{StepsAre, work_after}
+
+-- an earlier run's steps, where its style had this text
+abbrev pub steps_under : Option (List ℕ) → List Step → List ℕ → List Step
+steps_under None steps text = []
+steps_under (Some own) steps text = if bytes_eq own text then steps else []
+
+-- What was carried out is the work of a run's steps, which are those of its style.
+pub record IsTaken (own : Option (List ℕ)) (earlier : List Step) (text : Option (List ℕ)) (steps : List Step) (reuse : Reuse) : Type 0 where
+  pub ran : reuse.ran ≡ length (work_after own earlier text steps)
+  pub ticks : reuse.meter ≡ total_cost (work_after own earlier text steps)
+  pub fewer : reuse.ran ≤ length steps
+  pub true_steps : StepsAre text steps

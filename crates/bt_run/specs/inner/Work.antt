@@ -1,0 +1,76 @@
+-- What only helpers' contracts say, beside `Work`.
+use Rattle.std.specs.Prelude.{◌≡◌, ◌↔◌, ◌<◌, ◌≤◌, ◌+◌, ◌*◌, ℕ, List, [], ◌∷◌, Some, All, Contains, length, slice_get}
+use Rattle.std.specs.Option.{ForSome}
+use Rattle.bt_style.specs.declared.style.Target.{Target}
+use Rattle.bt_style.specs.Program.{Program}
+use Rattle.bt_machine.specs.declared.input.Input.{Input}
+use Rattle.bt_machine.specs.declared.outcome.Outcome.{Outcome}
+use Rattle.bt_style.specs.Reach.{Reaches, is_among}
+use Rattle.bt_machine.specs.Agreement.{Agree}
+use Rattle.bt_run.specs.declared.course.Step.{Step}
+use Rattle.bt_run.specs.declared.course.Course.{Course}
+use Rattle.bt_run.specs.declared.reuse.Known.{Known}
+use Rattle.bt_run.specs.declared.reuse.Reuse.{Reuse}
+use Rattle.bt_run.specs.declared.reusing.Sought.{Sought}
+use Rattle.bt_run.specs.declared.reusing.Found.{Found}
+use Rattle.bt_run.specs.inner.Index.{IsIndex}
+use Rattle.bt_run.specs.Work.{key_in, IsStep, work_under, total_cost}
+
+-- A run over earlier steps
+
+-- an earlier step of this command, whose input agrees with this one in some names
+pub record IsLike (command : ℕ) (names : List Target) (i : Input) (s : Step) : Type 0 where
+  pub of_command : s.command ≡ command
+  pub agree : Agree (is_among names) s.input i
+
+-- the step at a place, if there is one, is not like
+abbrev pub IsUnlikeAt : ℕ → List Target → Input → List Step → ℕ → Type 0
+IsUnlikeAt command names i steps k = (s : Step) → slice_get steps k ≡ Some s → IsLike command names i s → ⊥
+
+-- Of a step that is looked for: that none at a place is like it, that no earlier one is, and that one was met which is.
+
+abbrev pub IsNoneAt : Sought → List Step → ℕ → Type 0
+IsNoneAt sought steps k = IsUnlikeAt sought.command sought.reach.now.targets sought.input.now steps k
+
+abbrev pub IsNone : Sought → List Step → Type 0
+IsNone sought steps = All (λ s. IsLike sought.command sought.reach.now.targets sought.input.now s → ⊥) steps
+
+abbrev pub IsMet : Sought → List Step → Found → Type 0
+IsMet sought steps found =
+    (found.place < length steps) × Contains steps found.step.now
+    × IsLike sought.command sought.reach.now.targets sought.input.now found.step.now
+
+-- what is known to be reached from a name
+abbrev pub IsKnown : Program → Known → Type 0
+IsKnown p k = (t : Target) → Contains k.reach.targets t ↔ Reaches p k.function k.target t
+
+-- the step of an input, as it is kept
+abbrev pub step_now : ℕ → Input → Outcome → ℕ → Step
+step_now command i o cost = record { command = command; key = key_in i; input = i; outcome = o; cost = cost }
+
+-- a step counts as its part of the work
+pub record IsCounted (p : Program) (earlier : List Step) (t : Step) (before after : Reuse) : Type 0 where
+  pub ran : after.ran ≡ before.ran + length (work_under p earlier (t ∷ []))
+  pub ticks : after.meter ≡ before.meter + total_cost (work_under p earlier (t ∷ []))
+
+-- The step that a run over earlier ones comes to: it is one of the style and counts as its part of the work, its ticks are a
+-- million at most, and what is known of the style and of the earlier steps stays so.
+pub record IsNext (p : Program) (earlier : List Step) (t : Step) (before after : Reuse) : Type 0 where
+  pub step : IsStep p t
+  pub counted : IsCounted p earlier t before after
+  pub within : after.meter ≤ before.meter + 1000000
+  pub known : All (IsKnown p) after.known
+  pub indexed : ForSome after.lookup.index (IsIndex earlier)
+
+-- What a run over earlier steps keeps to: what was carried out is the work of its trace, and costs at most a million ticks
+-- for each step of it; its steps are those of the style; what it worked out of the style is so; its index, if there is one, is
+-- that of the earlier steps; and its order names entries alone.
+pub record IsConsistent (p : Program) (earlier : List Step) (r : Course) (reuse : Reuse) : Type 0 where
+  pub ran : reuse.ran ≡ length (work_under p earlier r.trace)
+  pub ticks : reuse.meter ≡ total_cost (work_under p earlier r.trace)
+  pub fewer : reuse.ran ≤ length r.trace
+  pub bounded : reuse.meter ≤ 1000000 * length r.trace
+  pub steps : All (IsStep p) r.trace
+  pub known : All (IsKnown p) reuse.known
+  pub indexed : ForSome reuse.lookup.index (IsIndex earlier)
+  pub ordered : All (λ n. n < length r.entries) r.order

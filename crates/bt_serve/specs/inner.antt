@@ -1,0 +1,5 @@
+-- What only helpers, loops and proofs need: no part of the meaning.
+pub mod Reads
+pub mod Commands
+pub mod Asked
+pub mod Serves

@@ -1,0 +1,121 @@
+//! Cases of databases that are resolved for a style with the fields `crossref` and `title`, a function for `misc`, and
+//! the macro `s`, which stands for `S`.
+
+use crate::spelling::{number, place_at, unspelled, word_at};
+use bt_bib::KeptItems;
+use bt_log::{Message, Place, Rank};
+use bt_resolve::{Cites, Declared, Entry, Macro, Resolved, are_apart, resolve};
+use bt_text::{Bytes, NameList, Sequence, Shared};
+use std::alloc::{AllocError, Global};
+
+fn declared(alloc: Global) -> Result<Declared, AllocError> {
+    let mut fields = Sequence::new(alloc);
+    fields.push(Bytes::copied(alloc, b"crossref")?)?;
+    fields.push(Bytes::copied(alloc, b"title")?)?;
+    let mut types = Sequence::new(alloc);
+    types.push(Bytes::copied(alloc, b"misc")?)?;
+    let mut macros = Sequence::new(alloc);
+    macros.push(Macro {
+        name: Bytes::copied(alloc, b"s")?,
+        value: Bytes::copied(alloc, b"S")?,
+    })?;
+    Ok(Declared {
+        fields,
+        types,
+        macros,
+    })
+}
+
+/// The keys of a word, parted by commas, and how many stand before a `*`, which cites all entries.
+fn cited(alloc: Global, word: &str) -> Result<(NameList, Option<usize>), AllocError> {
+    let mut keys = NameList::new(alloc);
+    let mut star = None;
+    for key in word.split(',') {
+        if key == "*" {
+            star = Some(keys.as_slice().len());
+        } else if keys.find(alloc, key.as_bytes())?.is_none() {
+            keys.push(alloc, key.as_bytes())?;
+        }
+    }
+    Ok((keys, star))
+}
+
+/// Puts the end of a line after what stands there.
+fn push_end(out: &mut Bytes) -> Result<(), AllocError> {
+    if 0 < out.len() {
+        out.append(b" ; ")?;
+    }
+    Ok(())
+}
+
+/// Puts an entry after `out`: its key, its type and the type's function, and in brackets each value that isn't missing.
+fn push_entry(alloc: Global, out: &mut Bytes, entry: &Entry) -> Result<(), AllocError> {
+    push_end(out)?;
+    out.append_all(&[entry.key.as_slice(), b" ", entry.kind.as_slice()])?;
+    if let Some(function) = entry.function {
+        out.append(b" ")?;
+        out.append(number(alloc, function)?.as_slice())?;
+    }
+    for place in 0..entry.fields.len() {
+        match entry.fields.get(place) {
+            None => out.append(b" -")?,
+            Some(text) => out.append_all(&[b" [", text.as_slice(), b"]"])?,
+        }
+    }
+    Ok(())
+}
+
+/// Puts a message after `out`: its rank, its place, its words, and its second line after a bar.
+fn push_message(alloc: Global, out: &mut Bytes, message: &Message) -> Result<(), AllocError> {
+    push_end(out)?;
+    match message.rank {
+        Rank::Error => out.append(b"error ")?,
+        _ => out.append(b"warning ")?,
+    }
+    if let Some(Place::DatabaseLine { database, line, .. }) = &message.place {
+        out.append(number(alloc, *database)?.as_slice())?;
+        out.append(b":")?;
+        out.append(number(alloc, *line)?.as_slice())?;
+        out.append(b" ")?;
+    }
+    out.append(message.words.as_slice())?;
+    if let Some(second) = &message.second {
+        out.append_all(&[b" | ", second.as_slice()])?;
+    }
+    Ok(())
+}
+
+/// The entries, the preamble if there is one, and the messages, with ` ; ` between them.
+fn shown(alloc: Global, resolved: &Resolved) -> Result<Bytes, AllocError> {
+    let mut out = Bytes::new(alloc);
+    for entry in resolved.entries.as_slice() {
+        push_entry(alloc, &mut out, entry)?;
+    }
+    if resolved.preamble.len() > 0 {
+        push_end(&mut out)?;
+        out.append_all(&[b"preamble ", resolved.preamble.as_slice()])?;
+    }
+    for message in resolved.messages.as_slice() {
+        push_message(alloc, &mut out, message)?;
+    }
+    Ok(out)
+}
+
+/// The answer of a case: what its keys and its two databases give, with its `min`.
+pub fn answer(alloc: Global, case: &str) -> Result<Bytes, AllocError> {
+    let declared = declared(alloc)?;
+    let (keys, star) = cited(alloc, word_at(case, 1))?;
+    let star = star.filter(|before| *before <= keys.as_slice().len());
+    let keys = Shared::new(alloc, keys)?;
+    let cites = Cites { keys, star };
+    let min = place_at(case, 2).min(65_535) as u32;
+    let first = KeptItems::read(alloc, &unspelled(alloc, word_at(case, 3))?)?;
+    let second = KeptItems::read(alloc, &unspelled(alloc, word_at(case, 4))?)?;
+    if !are_apart(alloc, declared.fields.as_slice())? {
+        return Ok(Bytes::new(alloc));
+    }
+    shown(
+        alloc,
+        &resolve(alloc, &declared, &cites, &[&first, &second], min)?,
+    )
+}
