@@ -13,7 +13,7 @@
 -- | database | text without `@`, and then any number of items and comments, each with such text after it    |
 --
 -- White space may stand between all of these (`⋯`), and `( )` for the outer `{ }`.
-use Rattle.std.specs.Prelude.{◌≡◌, ℕ, Bool, true, false, ◌&&◌, List, [], ◌∷◌, codes, Some}
+use Rattle.std.specs.Prelude.{◌≡◌, ℕ, Bool, true, false, ◌&&◌, List, [], ◌∷◌, codes, Some, None}
 use Rattle.std.specs.List.{list_all}
 use Rattle.bt_text.specs.ByteTests.{is_digit, left_brace, right_brace}
 use Rattle.bt_text.specs.NameBytes.{is_name}
@@ -23,12 +23,14 @@ use Rattle.bt_bib.specs.declared.item.Closing.TheVariants.{Brace, Parenthesis}
 use Rattle.bt_bib.specs.declared.item.Part.{Part}
 use Rattle.bt_bib.specs.declared.item.Part.TheVariants.{Text, Macro}
 use Rattle.bt_bib.specs.declared.item.Field.{Field}
+use Rattle.bt_bib.specs.declared.item.Content.{Content}
 use Rattle.bt_bib.specs.declared.item.Content.TheVariants as contents
 use Rattle.bt_bib.specs.declared.item.Item.{Item}
 use Rattle.bt_bib.specs.declared.item.Piece.{Piece}
 use Rattle.bt_bib.specs.declared.item.Piece.TheVariants as pieces
 use Rattle.bt_bib.specs.declared.keywords.Keyword.{Keyword}
 use Rattle.bt_bib.specs.declared.keywords.Keyword.TheVariants as keywords
+use Rattle.bt_bib.specs.Spot.{passed}
 use Rattle.bt_bib.specs.Scan.{closing_sign, is_key_byte}
 use Rattle.bt_bib.specs.Keywords.{keyword_of}
 use Rattle.bt_bib.specs.Pieces.{is_text}
@@ -117,6 +119,11 @@ WordOf keyword s word = IsWord keyword word
 -- `@word{`, and what stands after it
 abbrev pub Head : Keyword → List ℕ → Closing → Spelling → Spelling
 Head keyword word close A = Sign at_sign ⋯ Bytes word (IsWord keyword word) ⋯ Sign (opening_sign close) ⋯ A
+
+-- an item without a fault that this text is, where it stands here
+abbrev pub whole : Spot → List ℕ → ℕ → Content → Closing → Item
+whole s text line content close =
+    record { start = s; end = passed text s; line = line; content = content; close = Some close; fault = None }
 
 -- an item: its line is that of the key, of the name that a string defines, or of the `@` of a preamble
 pub data ItemOf : Item → Spot → List ℕ → Type 0 where

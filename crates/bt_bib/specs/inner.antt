@@ -9,4 +9,3 @@ pub mod Boundaries
 pub mod Rereading
 pub mod Moving
 pub mod Placed
-pub mod Spelled
