@@ -1,6 +1,8 @@
 //! Cases of databases that are resolved for a style with the fields `crossref` and `title`, a function for `misc`, and
 //! the macro `s`, which stands for `S`.
 
+ghost use Rattle.std.specs.Prelude.{◌≤◌, length, IfSome};
+
 use crate::spelling::{number, place_at, unspelled, word_at};
 use bt_bib::KeptItems;
 use bt_log::{Message, Place, Rank};
@@ -38,6 +40,16 @@ fn cited(alloc: Global, word: &str) -> Result<(NameList, Option<usize>), AllocEr
         }
     }
     Ok((keys, star))
+}
+
+/// How many keys stand before a `*`, if there are so many.
+fn star_within(star: Option<usize>, keys: &NameList) -> Option<usize>
+    ensures { IfSome result (λ before. before ≤ length keys.now) }
+{
+    match star {
+        Some(before) if before <= keys.as_slice().len() => Some(before),
+        _ => None,
+    }
 }
 
 /// Puts the end of a line after what stands there.
@@ -105,7 +117,7 @@ fn shown(alloc: Global, resolved: &Resolved) -> Result<Bytes, AllocError> {
 pub fn answer(alloc: Global, case: &str) -> Result<Bytes, AllocError> {
     let declared = declared(alloc)?;
     let (keys, star) = cited(alloc, word_at(case, 1))?;
-    let star = star.filter(|before| *before <= keys.as_slice().len());
+    let star = star_within(star, &keys);
     let keys = Shared::new(alloc, keys)?;
     let cites = Cites { keys, star };
     let min = place_at(case, 2).min(65_535) as u32;
