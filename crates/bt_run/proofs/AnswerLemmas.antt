@@ -18,6 +18,7 @@ use Rattle.bt_job.specs.Citations.{citations}
 use Rattle.bt_job.specs.Fit.{IsWithin, IsFit}
 use Rattle.bt_run.specs.declared.course.Course.{Course}
 use Rattle.bt_run.specs.declared.course.Step.{Step}
+use Rattle.bt_run.specs.declared.earlier.Earlier.{Earlier}
 use Rattle.bt_run.specs.declared.reuse.Reuse.{Reuse}
 use Rattle.bt_run.specs.Work.{total_cost, work_under, IsStep}
 use Rattle.bt_run.specs.inner.Work.{IsConsistent}
@@ -25,26 +26,30 @@ use Rattle.bt_run.specs.Steps.{StepsAre, styled_work, work_after}
 use Rattle.bt_run.specs.inner.Steps.{steps_under, IsTaken}
 use Rattle.bt_run.specs.Kept.{named_text, style_text, run_work, report_after}
 use Rattle.bt_run.proofs.WorkLemmas.{work_none, work_first}
+use Rattle.bt_run.proofs.EarlierLemmas.{nothing_placed, same_none}
 use Rattle.bt_run.specs.Reading.{Job}
 use Rattle.bt_run.specs.Commands.{commands_from}
 use Rattle.bt_run.specs.Counts.{with_counts}
 use Rattle.bt_run.specs.Meaning.{run_begun, first_globals, style_run, job_for, fault_told, styled, run_with, run_of, Meaning, course_shown, meaning, trace}
 
-pub begun_consistent : (p : Program) (earlier : List Step) (globals : Variables) (log : List Message) (r : Course) (reuse : Reuse) → r ≡ run_begun globals log → reuse.meter ≡ 0 → reuse.ran ≡ 0 → reuse.known ≡ [] → reuse.lookup.index ≡ None → IsConsistent p earlier r reuse
-begun_consistent p earlier globals log r reuse is ticks ran none unmade =
+pub begun_consistent : (p : Program) (earlier : Earlier) (globals : Variables) (log : List Message) (r : Course) (reuse : Reuse) → r ≡ run_begun globals log → reuse.meter ≡ 0 → reuse.ran ≡ 0 → reuse.known ≡ [] → reuse.lookup.index ≡ None → reuse.places ≡ [] → reuse.same ≡ [] → IsConsistent p earlier r reuse
+begun_consistent p earlier globals log r reuse is ticks ran none unmade unplaced unmarked =
     rw is (record {
-      ran = ran ∙ ap length (sym (work_none p earlier));
-      ticks = ticks ∙ ap total_cost (sym (work_none p earlier));
+      ran = ran ∙ ap length (sym (work_none p earlier.steps.now));
+      ticks = ticks ∙ ap total_cost (sym (work_none p earlier.steps.now));
       fewer = omega (arith, ran);
       bounded = omega (arith, ticks);
       steps = λ k d h. absurd (omega (arith, h));
       known = rw none (λ k d h. absurd (omega (arith, h)));
       indexed = rw unmade (λ x e. absurd cc);
       ordered = λ k d h. absurd (omega (arith, h));
+      counted = ap length unplaced;
+      placed = nothing_placed [] [] reuse.places refl;
+      same = same_none earlier.entries.now [] reuse.same unmarked;
     })
 
-pub counted_consistent : (p : Program) (earlier : List Step) (r next : Course) (reuse : Reuse) → next ≡ with_counts r → IsConsistent p earlier r reuse → IsConsistent p earlier next reuse
-counted_consistent p earlier r next reuse is h = rw is (record { ran = h.ran; ticks = h.ticks; fewer = h.fewer; bounded = h.bounded; steps = h.steps; known = h.known; indexed = h.indexed; ordered = h.ordered })
+pub counted_consistent : (p : Program) (earlier : Earlier) (r next : Course) (reuse : Reuse) → next ≡ with_counts r → IsConsistent p earlier r reuse → IsConsistent p earlier next reuse
+counted_consistent p earlier r next reuse is h = rw is (record { ran = h.ran; ticks = h.ticks; fewer = h.fewer; bounded = h.bounded; steps = h.steps; known = h.known; indexed = h.indexed; ordered = h.ordered; counted = h.counted; placed = h.placed; same = h.same })
 
 -- What was carried out
 
@@ -89,7 +94,7 @@ true_steps p text steps read h = λ t q named again.
     let program : p ≡ q = cc in
     subst (λ (o : Program). All (IsStep o) steps) program h
 
-pub run_taken : (p : Program) (own : Option (List ℕ)) (before : List Step) (text : List ℕ) (earlier : List Step) (r : Course) (reuse : Reuse) → style_of text ≡ Ok p → earlier ≡ steps_under own before text → IsConsistent p earlier r reuse → IsTaken own before (Some text) r.trace reuse
+pub run_taken : (p : Program) (own : Option (List ℕ)) (before : List Step) (text : List ℕ) (earlier : Earlier) (r : Course) (reuse : Reuse) → style_of text ≡ Ok p → earlier.steps.now ≡ steps_under own before text → IsConsistent p earlier r reuse → IsTaken own before (Some text) r.trace reuse
 run_taken p own before text earlier r reuse read is h =
     let work = ap (λ es. work_under p es r.trace) is ∙ work_read p own before text r.trace read in
     record {

@@ -1,6 +1,6 @@
 -- A step in the world of all entries, by its outcome on its input alone.
 use Rattle.std.specs.Prelude.{slice_index_or}
-use Rattle.std.proofs.Common.{zero, suc, ◌≡◌, refl, ℕ, ◌+◌, ◌<◌, List, [], ◌∷◌, ◌++◌, length, All, Option, Some, None, sym, ap, ◌∙◌, arith}
+use Rattle.std.proofs.Common.{zero, suc, ◌≡◌, refl, ℕ, ◌+◌, ◌<◌, List, [], ◌∷◌, ◌++◌, length, All, Option, Some, None, sym, ap, ◌∙◌, subst, arith}
 use Rattle.std.proofs.Math.Seq.{drop-append_seam}
 use Rattle.std.proofs.lemmas.List.{get_or-set_same, length-set, length-append}
 use Rattle.std.proofs.lemmas.List.Elements.{All-append}
@@ -18,12 +18,15 @@ use Rattle.bt_log.specs.declared.message.Message.{Message}
 use Rattle.bt_run.specs.declared.course.Course.{Course}
 use Rattle.bt_run.specs.declared.course.Step.{Step}
 use Rattle.bt_run.specs.declared.course.Site.{Site}
+use Rattle.bt_run.specs.declared.earlier.Earlier.{Earlier}
 use Rattle.bt_run.specs.Course.{course_world, input_at, step_kept, left_by, stepped, all_told}
 use Rattle.bt_run.specs.inner.Course.{with_variables, variables_back, put_back}
 use Rattle.bt_run.specs.declared.reuse.Reuse.{Reuse}
 use Rattle.bt_run.specs.Work.{key_in, total_cost, work_under, IsStep}
+use Rattle.bt_run.specs.inner.Earlier.{AreSame}
 use Rattle.bt_run.specs.inner.Work.{IsNext, IsConsistent}
 use Rattle.bt_run.proofs.WorkLemmas.{work_append, work_fewer}
+use Rattle.bt_run.proofs.EarlierLemmas.{same_back, placed_more}
 
 -- what a step leaves in the world of its entry alone, or of none
 abbrev alone_left : Program → Target → Option ℕ → Course → Finish
@@ -113,19 +116,23 @@ pub all_behind : {A : Type 0} (P : A → Type 0) (xs : List A) (y : A) → All P
 all_behind P xs y h g = All-append P xs (y ∷ []) h (all_one P y g)
 
 -- a step keeps what a run keeps to
-pub consistent_behind : (p : Program) (earlier : List Step) (x : Option ℕ) (o : Outcome) (r back : Course) (s : Step) (log : List Message) (steps : List Step) (before after : Reuse) → IsConsistent p earlier r before → back ≡ put_back x o r → steps ≡ back.trace ++ s ∷ [] → IsNext p earlier s before after → IsConsistent p earlier (record back { log = log; trace = steps }) after
-consistent_behind p earlier x o r back s log steps before after h is_back are_steps next =
-    let cost : Step → ℕ = λ (t : Step). t.cost in
-    let so_far = work_under p earlier r.trace in
-    let more = work_under p earlier (s ∷ []) in
-    let works = work_append p earlier r.trace (s ∷ []) in
-    rw (are_steps, is_back) (record {
+pub consistent_behind : (p : Program) (earlier : Earlier) (t : Target) (x : Option ℕ) (r back : Course) (s : Step) (log : List Message) (steps : List Step) (places : List (Option ℕ)) (before after : Reuse) → IsConsistent p earlier r before → s.input ≡ input_at t x (course_world r) → back ≡ put_back x s.outcome r → steps ≡ back.trace ++ s ∷ [] → places ≡ after.places ++ x ∷ [] → IsNext p earlier.steps.now s before after → IsConsistent p earlier (record back { log = log; trace = steps }) (record after { places = places })
+consistent_behind p earlier t x r back s log steps places before after h is_input is_back are_steps are_places next =
+    let cost : Step → ℕ = λ (u : Step). u.cost in
+    let so_far = work_under p earlier.steps.now r.trace in
+    let more = work_under p earlier.steps.now (s ∷ []) in
+    let works = work_append p earlier.steps.now r.trace (s ∷ []) in
+    let own = ap (λ (i : Input). i.entry) is_input in
+    rw (are_places, next.places, are_steps, is_back) (record {
       ran = next.counted.ran ∙ ap (λ n. n + length more) h.ran ∙ sym (ap length works ∙ length-append so_far more);
       ticks = next.counted.ticks ∙ ap (λ n. n + total_cost more) h.ticks ∙ sym (ap total_cost works ∙ sum_by-append cost so_far more);
-      fewer = omega (arith, length-append r.trace (s ∷ []), h.fewer, next.counted.ran, work_fewer p earlier (s ∷ []));
+      fewer = omega (arith, length-append r.trace (s ∷ []), h.fewer, next.counted.ran, work_fewer p earlier.steps.now (s ∷ []));
       bounded = omega (arith, length-append r.trace (s ∷ []), h.bounded, next.within);
       steps = all_behind (IsStep p) r.trace s h.steps next.step;
       known = next.known;
       indexed = next.indexed;
-      ordered = λ k d lt. omega (arith, length-variables_back x o.variables r.entries, h.ordered k d lt);
+      ordered = λ k d lt. omega (arith, length-variables_back x s.outcome.variables r.entries, h.ordered k d lt);
+      counted = omega (arith, length-append r.trace (s ∷ []), length-append before.places (x ∷ []), h.counted);
+      placed = placed_more r.entries r.trace before.places s x s.outcome.variables h.counted h.placed own;
+      same = subst (AreSame earlier.entries.now (variables_back x s.outcome.variables r.entries)) (sym next.same) (same_back earlier.entries.now r.entries before.same x s.outcome.variables h.same);
     })

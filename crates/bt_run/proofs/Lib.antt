@@ -9,6 +9,7 @@ mod Rows
 mod MeaningRows
 pub mod ReachedLemmas
 pub mod WorkLemmas
+pub mod EarlierLemmas
 pub mod IndexLemmas
 pub mod LookupLemmas
 pub mod ByNameLemmas

@@ -1,6 +1,7 @@
 -- What only helpers, loops and proofs need: no part of the meaning.
 pub mod Course
 pub mod Index
+pub mod Earlier
 pub mod Work
 pub mod BodySet
 pub mod JobView

@@ -3,6 +3,7 @@
 ghost use Rattle.std.specs.Prelude.{◌≡◌, ◌≤◌, [], None, length, IfOk};
 ghost use Rattle.std.specs.Option.{ForSome};
 ghost use Rattle.bt_style.specs.Program.{program_of};
+ghost use Rattle.bt_run.specs.inner.Earlier.{ArePlaced};
 ghost use Rattle.bt_run.specs.inner.Work.{IsConsistent};
 ghost use Rattle.bt_run.specs.inner.Steps.{IsTaken};
 ghost use Rattle.bt_run.specs.Kept.{named_text, style_text, report_after};
@@ -16,7 +17,7 @@ use crate::commands::run_commands;
 use crate::counts::tell_counts;
 use crate::course::Course;
 use crate::job::{Job, shared_text};
-use crate::kept::{Kept, steps_under};
+use crate::kept::{Kept, earlier_under};
 use crate::readings::Readings;
 use crate::reuse::{Lookup, Reuse};
 use bt_actions::Variables;
@@ -82,10 +83,12 @@ fn carry_out_style(
     requires index { reuse.old.lookup.index ≡ None }
     ensures run { IfOk result (λ course. course ≡ style_run (job_of job.entry) log) }
     ensures consistent { IfOk result
-        (λ course. IsConsistent (program_of job.entry.style.now) job.entry.earlier.now course reuse.new) }
+        (λ course. IsConsistent (program_of job.entry.style.now) job.entry.earlier course reuse.new) }
 {
     let globals = first_globals(alloc, job.style)?;
     let mut course = begin(alloc, globals, log)?;
+    reuse.places = Sequence::new(alloc);
+    reuse.same = Sequence::new(alloc);
     run_commands(alloc, job, &mut course, reuse)?;
     tell_counts(alloc, &mut course)?;
     Ok(course)
@@ -131,6 +134,7 @@ fn run_with(
     ensures wanted { IfOk result (λ r. r.wanted ≡ citations.wanted) }
     ensures text { IfOk result (λ r. r.text ≡ named_text files.now citations.style) }
     ensures taken { IfOk result (λ r. IsTaken kept.now.text kept.now.steps r.text r.course.trace reuse.new) }
+    ensures placed { IfOk result (λ r. ArePlaced r.course.entries r.course.trace reuse.new.places) }
 {
     let Citations {
         keys,
@@ -156,7 +160,7 @@ fn run_with(
     let bytes = text.as_slice();
     match reuse.readings.style(alloc, &text) {
         Ok(style) => {
-            let earlier = steps_under(kept, bytes);
+            let earlier = earlier_under(kept, bytes);
             let job = Job {
                 files,
                 cites: &cites,
@@ -237,6 +241,8 @@ pub fn answers_after(
         meter: Meter::new(),
         ran: 0,
         next: 0,
+        places: Sequence::new(alloc),
+        same: Sequence::new(alloc),
         lookup: Lookup {
             scans: 0,
             index: None,
@@ -251,6 +257,7 @@ pub fn answers_after(
         text,
     } = ran;
     let Course {
+        entries,
         lines,
         log,
         trace,
@@ -265,7 +272,12 @@ pub fn answers_after(
         ticks: reuse.meter.value(),
     };
     let readings = reuse.readings.present(alloc, files)?;
-    let kept = Kept { text, steps: trace };
+    let kept = Kept {
+        text,
+        steps: trace,
+        places: reuse.places,
+        entries,
+    };
     Ok(Run {
         answers,
         kept,

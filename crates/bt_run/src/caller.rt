@@ -1,9 +1,10 @@
 //! A command of the style that takes steps: EXECUTE, ITERATE or REVERSE.
 
-ghost use Rattle.std.specs.Prelude.{◌≡◌, ◌<◌, Some, All, Contains, IfOk, IfSome, IsSome, OnOk, length, reverse};
+ghost use Rattle.std.specs.Prelude.{◌≡◌, ◌<◌, true, Some, All, Contains, IfOk, IfSome, IsSome, IsTrue, OnOk, length, reverse, slice_get};
 ghost use Rattle.bt_style.specs.Program.{program_of};
 ghost use Rattle.bt_machine.specs.Place.{IsPlace};
 ghost use Rattle.bt_run.specs.Course.{course_world, input_at, stepped};
+ghost use Rattle.bt_run.specs.inner.Earlier.{AreSame, IsMarked};
 ghost use Rattle.bt_run.specs.inner.Work.{IsConsistent, IsNext};
 ghost use Rattle.bt_run.specs.Commands.{iterated, unless_stopped};
 
@@ -17,6 +18,36 @@ use bt_machine::{Input, step_depends_on_its_input};
 use bt_style::Target;
 use bt_text::Shared;
 use std::alloc::{AllocError, Global};
+
+/// The place of an earlier step's entry, if it has one.
+fn place_of(places: &[Option<usize>], step: usize) -> Option<usize>
+    ensures { IfSome result (λ n. slice_get places.now step ≡ Some (Some n)) }
+{
+    match places.get(step) {
+        None => None,
+        Some(place) => *place,
+    }
+}
+
+/// Whether a place is marked.
+fn is_marked(marks: &[bool], place: usize) -> bool
+    ensures { IsTrue result → slice_get marks.now place ≡ Some true }
+{
+    match marks.get(place) {
+        None => false,
+        Some(mark) => *mark,
+    }
+}
+
+/// Whether the entry at a place is known to be that of an earlier step, but for its variables.
+fn is_same_entry(places: &[Option<usize>], step: usize, place: Option<usize>, same: &[bool]) -> bool
+    ensures { IsTrue result → IsMarked places.now same.now step place }
+{
+    match (place, place_of(places, step)) {
+        (Some(place), Some(own)) => own == place && is_marked(same, place),
+        _ => false,
+    }
+}
 
 /// A command that takes steps, in what a run reads.
 #[derive(Clone, Copy)]
@@ -33,18 +64,23 @@ impl<'a> Caller<'a> {
         target: Target,
         place: Option<usize>,
         course: &Course,
-        next: usize,
+        reuse: &Reuse,
     ) -> Option<&'a Shared<Step>>
-        requires { IsPlace place (course_world course.now) }
-        ensures within { IsSome result → next < length self.entry.job.earlier.now }
-        ensures among { IfSome result (λ s. Contains self.entry.job.earlier.now s.now) }
+        requires placed { IsPlace place (course_world course.now) }
+        requires same { AreSame self.job.earlier.entries.now course.now.entries reuse.now.same }
+        ensures within { IsSome result → reuse.now.next < length self.entry.job.earlier.steps.now }
+        ensures among { IfSome result (λ s. Contains self.entry.job.earlier.steps.now s.now) }
         ensures command { IfSome result (λ s. s.now.command ≡ self.entry.site.now.command) }
         ensures input { IfSome result (λ s. s.now.input ≡ input_at target place (course_world course.now)) }
     {
         let earlier = self.job.earlier;
-        if next < earlier.len() {
-            let step = &earlier[next];
-            if step.command == self.site.command && is_input(&step.input, course, target, place) {
+        let next = reuse.next;
+        if next < earlier.steps.len() {
+            let step = &earlier.steps[next];
+            let same = is_same_entry(earlier.places, next, place, reuse.same.as_slice());
+            if step.command == self.site.command
+                && is_input(&step.input, course, target, place, same)
+            {
                 return Some(step);
             }
         }
@@ -58,11 +94,11 @@ impl<'a> Caller<'a> {
         course: &Course,
         reuse: &mut Reuse,
     ) -> Result<Shared<Step>, AllocError>
-        requires { IsConsistent (program_of self.job.style.now) self.job.earlier.now course.now reuse.old }
+        requires { IsConsistent (program_of self.job.style.now) self.job.earlier course.now reuse.old }
         ensures command { IfOk result (λ s. s.command ≡ self.entry.site.now.command) }
         ensures input { IfOk result (λ s. s.input ≡ input) }
         ensures next { IfOk result
-            (λ s. IsNext (program_of self.entry.job.style.now) self.entry.job.earlier.now s reuse.old reuse.new) }
+            (λ s. IsNext (program_of self.entry.job.style.now) self.entry.job.earlier.steps.now s reuse.old reuse.new) }
     {
         let Caller { alloc, job, site } = self;
         // Its length fits 64 bits, so that the count of the steps that were carried out can't overflow.
@@ -73,7 +109,7 @@ impl<'a> Caller<'a> {
             job.style,
             site.command,
             &input,
-            job.earlier,
+            job.earlier.steps,
             reuse,
         )?;
         let step = Shared::new(
@@ -98,13 +134,13 @@ impl<'a> Caller<'a> {
         reuse: &mut Reuse,
     ) -> Result<Shared<Step>, AllocError>
         requires placed { IsPlace place (course_world course.now) }
-        requires consistent { IsConsistent (program_of self.job.style.now) self.job.earlier.now course.now reuse.old }
+        requires consistent { IsConsistent (program_of self.job.style.now) self.job.earlier course.now reuse.old }
         ensures command { IfOk result (λ s. s.command ≡ self.entry.site.now.command) }
         ensures input { IfOk result (λ s. s.input ≡ input_at target place (course_world course.now)) }
         ensures next { IfOk result
-            (λ s. IsNext (program_of self.entry.job.style.now) self.entry.job.earlier.now s reuse.old reuse.new) }
+            (λ s. IsNext (program_of self.entry.job.style.now) self.entry.job.earlier.steps.now s reuse.old reuse.new) }
     {
-        match self.given_again(target, place, course, reuse.next) {
+        match self.given_again(target, place, course, reuse) {
             Some(step) => {
                 reuse.next += 1;
                 let same = step.share()?;
@@ -127,11 +163,11 @@ impl<'a> Caller<'a> {
         reuse: &mut Reuse,
     ) -> Result<(), AllocError>
         requires placed { IsPlace place (course_world course.old) }
-        requires consistent { IsConsistent (program_of self.job.style.now) self.job.earlier.now course.old reuse.old }
+        requires consistent { IsConsistent (program_of self.job.style.now) self.job.earlier course.old reuse.old }
         ensures run { OnOk result (course.new
             ≡ stepped (program_of self.entry.job.style.now) self.entry.site.now target place course.old) }
         ensures consistent { OnOk result
-            (IsConsistent (program_of self.entry.job.style.now) self.entry.job.earlier.now course.new reuse.new) }
+            (IsConsistent (program_of self.entry.job.style.now) self.entry.job.earlier course.new reuse.new) }
         ensures entries { OnOk result (length course.new.entries ≡ length course.old.entries) }
     {
         step_depends_on_its_input();
@@ -140,6 +176,7 @@ impl<'a> Caller<'a> {
         let messages = all_told(self.alloc, step.outcome.messages.as_slice(), self.site)?;
         course.log.append(messages)?;
         course.trace.push(step)?;
+        reuse.places.push(place)?;
         Ok(())
     }
 
@@ -152,11 +189,11 @@ impl<'a> Caller<'a> {
         reuse: &mut Reuse,
     ) -> Result<(), AllocError>
         requires placed { place < length course.old.entries }
-        requires consistent { IsConsistent (program_of self.job.style.now) self.job.earlier.now course.old reuse.old }
+        requires consistent { IsConsistent (program_of self.job.style.now) self.job.earlier course.old reuse.old }
         ensures run { OnOk result (course.new ≡ unless_stopped course.old.stopped course.old
             (stepped (program_of self.entry.job.style.now) self.entry.site.now target (Some place) course.old)) }
         ensures consistent { OnOk result
-            (IsConsistent (program_of self.entry.job.style.now) self.entry.job.earlier.now course.new reuse.new) }
+            (IsConsistent (program_of self.entry.job.style.now) self.entry.job.earlier course.new reuse.new) }
         ensures entries { OnOk result (length course.new.entries ≡ length course.old.entries) }
     {
         if course.stopped {
@@ -174,11 +211,11 @@ impl<'a> Caller<'a> {
         reuse: &mut Reuse,
     ) -> Result<(), AllocError>
         requires placed { All (λ n. n < length course.old.entries) places.now }
-        requires consistent { IsConsistent (program_of self.job.style.now) self.job.earlier.now course.old reuse.old }
+        requires consistent { IsConsistent (program_of self.job.style.now) self.job.earlier course.old reuse.old }
         ensures run { OnOk result (course.new
             ≡ iterated (program_of self.entry.job.style.now) self.entry.site.now target places.now course.old) }
         ensures consistent { OnOk result
-            (IsConsistent (program_of self.entry.job.style.now) self.entry.job.earlier.now course.new reuse.new) }
+            (IsConsistent (program_of self.entry.job.style.now) self.entry.job.earlier course.new reuse.new) }
     {
         'places: for place in places {
             self.take_next(target, *place, course, reuse)?;
@@ -193,11 +230,11 @@ impl<'a> Caller<'a> {
         course: &mut Course,
         reuse: &mut Reuse,
     ) -> Result<(), AllocError>
-        requires { IsConsistent (program_of self.job.style.now) self.job.earlier.now course.old reuse.old }
+        requires { IsConsistent (program_of self.job.style.now) self.job.earlier course.old reuse.old }
         ensures run { OnOk result (course.new
             ≡ iterated (program_of self.entry.job.style.now) self.entry.site.now target course.old.order course.old) }
         ensures consistent { OnOk result
-            (IsConsistent (program_of self.entry.job.style.now) self.entry.job.earlier.now course.new reuse.new) }
+            (IsConsistent (program_of self.entry.job.style.now) self.entry.job.earlier course.new reuse.new) }
     {
         let places = Vec::from_slice(self.alloc, course.order.as_slice())?;
         self.run_for_each(target, places.as_slice(), course, reuse)
@@ -210,11 +247,11 @@ impl<'a> Caller<'a> {
         course: &mut Course,
         reuse: &mut Reuse,
     ) -> Result<(), AllocError>
-        requires { IsConsistent (program_of self.job.style.now) self.job.earlier.now course.old reuse.old }
+        requires { IsConsistent (program_of self.job.style.now) self.job.earlier course.old reuse.old }
         ensures run { OnOk result (course.new ≡ iterated
             (program_of self.entry.job.style.now) self.entry.site.now target (reverse course.old.order) course.old) }
         ensures consistent { OnOk result
-            (IsConsistent (program_of self.entry.job.style.now) self.entry.job.earlier.now course.new reuse.new) }
+            (IsConsistent (program_of self.entry.job.style.now) self.entry.job.earlier course.new reuse.new) }
     {
         let mut places = Vec::from_slice(self.alloc, course.order.as_slice())?;
         places.reverse();

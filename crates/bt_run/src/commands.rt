@@ -9,6 +9,7 @@ ghost use Rattle.bt_run.specs.inner.JobView.{job_of};
 
 use crate::caller::Caller;
 use crate::course::{Course, Site};
+use crate::earlier::{no_places, same_entries};
 use crate::job::Job;
 use crate::reading::read;
 use crate::reuse::Reuse;
@@ -22,6 +23,27 @@ fn sort(alloc: Global, course: &mut Course) -> Result<(), AllocError>
     ensures { OnOk result (course.new ≡ sorted_run course.old) }
 {
     course.order = sorted_places(alloc, course.entries.as_slice())?;
+    Ok(())
+}
+
+/// Reads the databases, and finds which entries the earlier run has at the same place. (What ran before has no entry.)
+fn read_beside(
+    alloc: Global,
+    job: Job<'_>,
+    number: usize,
+    course: &mut Course,
+    reuse: &mut Reuse,
+) -> Result<(), AllocError>
+    requires { IsConsistent (program_of job.style.now) job.earlier course.old reuse.old }
+    ensures run { OnOk result (course.new ≡ read (job_of job.entry) number course.old) }
+    ensures consistent { OnOk result
+        (IsConsistent (program_of job.entry.style.now) job.entry.earlier course.new reuse.new) }
+{
+    read(alloc, job, number, course, &mut reuse.readings.databases)?;
+    let places = no_places(alloc, course.trace.as_slice())?;
+    let same = same_entries(alloc, job.earlier.entries, course.entries.as_slice())?;
+    reuse.places = places;
+    reuse.same = same;
     Ok(())
 }
 
@@ -46,10 +68,10 @@ fn carry_out(
     course: &mut Course,
     reuse: &mut Reuse,
 ) -> Result<(), AllocError>
-    requires { IsConsistent (program_of job.style.now) job.earlier.now course.old reuse.old }
+    requires { IsConsistent (program_of job.style.now) job.earlier course.old reuse.old }
     ensures run { OnOk result (course.new ≡ command_done (job_of job.entry) number command course.old) }
     ensures consistent { OnOk result
-        (IsConsistent (program_of job.entry.style.now) job.entry.earlier.now course.new reuse.new) }
+        (IsConsistent (program_of job.entry.style.now) job.entry.earlier course.new reuse.new) }
 {
     if course.stopped {
         return Ok(());
@@ -73,7 +95,7 @@ fn carry_out(
             Caller { alloc, job, site }.reverse(target, course, reuse)
         }
         Action::Read => {
-            read(alloc, job, number, course, &mut reuse.readings.databases)?;
+            read_beside(alloc, job, number, course, reuse)?;
             Ok(())
         }
         Action::Sort => {
@@ -90,11 +112,11 @@ pub fn run_commands(
     course: &mut Course,
     reuse: &mut Reuse,
 ) -> Result<(), AllocError>
-    requires { IsConsistent (program_of job.style.now) job.earlier.now course.old reuse.old }
+    requires { IsConsistent (program_of job.style.now) job.earlier course.old reuse.old }
     ensures run { OnOk result
         (course.new ≡ commands_from (job_of job.entry) 0 job.entry.style.now.commands course.old) }
     ensures consistent { OnOk result
-        (IsConsistent (program_of job.entry.style.now) job.entry.earlier.now course.new reuse.new) }
+        (IsConsistent (program_of job.entry.style.now) job.entry.earlier course.new reuse.new) }
 {
     'commands: for (number, command) in job.style.commands.as_slice().iter().enumerate() {
         carry_out(alloc, job, number, *command, course, reuse)?;

@@ -7,7 +7,7 @@ ghost use Rattle.std.specs.Option.{ForSome};
 ghost use Rattle.bt_job.specs.Naming.{text_of};
 ghost use Rattle.bt_text.specs.NameList.{are_apart};
 
-use crate::course::Step;
+use crate::earlier::Earlier;
 use bt_job::File;
 use bt_resolve::Cites;
 use bt_style::Style;
@@ -25,9 +25,9 @@ pub struct Job<'a> {
     /// The name of the style's file.
     pub name: &'a [u8],
     pub style: &'a Style,
-    /// The steps of an earlier run under this style; none where there was none.
-    pub earlier: &'a [Shared<Step>],
-    ghost steps: { All (IsStep (program_of style.now)) earlier.now },
+    /// An earlier run under this style; one without steps where there was none.
+    pub earlier: Earlier<'a>,
+    ghost steps: { All (IsStep (program_of style.now)) earlier.steps.now },
     ghost fields_apart: { IsTrue (are_apart style.now.fields) },
     ghost star_within: { ForSome cites.now.star (λ before. before ≤ length cites.now.keys) },
 }

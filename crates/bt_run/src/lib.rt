@@ -11,6 +11,7 @@ mod course;
 mod database;
 mod databases;
 mod declaring;
+mod earlier;
 mod index;
 mod job;
 mod kept;

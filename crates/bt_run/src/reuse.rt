@@ -31,6 +31,10 @@ pub struct Reuse {
     pub ran: u128,
     /// The place after that of the earlier step that was met last.
     pub next: usize,
+    /// The place in the list of each step's entry, if it has one.
+    pub places: Sequence<Option<usize>>,
+    /// Whether the earlier run's entry at a place is the one there, but for its variables.
+    pub same: Sequence<bool>,
     pub lookup: Lookup,
     /// What was worked out of the style so far, each once.
     pub known: Sequence<Known>,

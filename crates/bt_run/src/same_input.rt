@@ -1,10 +1,11 @@
 //! Whether an earlier step was given just what a step is given now.
 
 ghost use Rattle.std.specs.Prelude.{◌≡◌, ◌<◌, length, IsTrue};
-ghost use Rattle.std.specs.Option.{ForSome};
+ghost use Rattle.std.specs.Option.{ForSome, option_map};
 ghost use Rattle.bt_actions.specs.World.{entry_in};
 ghost use Rattle.bt_machine.specs.Place.{IsPlace};
 ghost use Rattle.bt_run.specs.Course.{course_world, input_at};
+ghost use Rattle.bt_run.specs.inner.Earlier.{fixed};
 
 use crate::course::Course;
 use crate::reusing::is_same_function;
@@ -22,25 +23,33 @@ fn equal_bytes(old: &[u8], new: &[u8]) -> bool
     old == new
 }
 
-/// Whether two entries are equal. What mostly differs is compared first.
-fn equal_entries(old: &Entry, new: &Entry) -> bool
-    ensures { IsTrue result → old.now ≡ new.now }
+/// Whether two entries are equal, but for their variables. What mostly differs is compared first.
+pub fn equal_fixed(old: &Entry, new: &Entry) -> bool
+    ensures { IsTrue result → fixed old.now ≡ fixed new.now }
 {
     equal_bytes(old.key.as_slice(), new.key.as_slice())
         && is_same_function(old.function, new.function)
-        && equal_variables(&old.variables, &new.variables)
         && equal_bytes(old.kind.as_slice(), new.kind.as_slice())
         && old.fields.is_same(&new.fields)
 }
 
+/// Whether two entries are equal. All but their variables is compared where it isn't known to be the same.
+fn equal_entries(old: &Entry, new: &Entry, same: bool) -> bool
+    requires { IsTrue same → fixed old.now ≡ fixed new.now }
+    ensures { IsTrue result → old.now ≡ new.now }
+{
+    equal_variables(&old.variables, &new.variables) && (same || equal_fixed(old, new))
+}
+
 /// Whether an entry is the one at a place, or there is none at none.
-fn is_entry_at(entry: &Option<Entry>, entries: &[Entry], place: Option<usize>) -> bool
-    requires { ForSome place (λ n. n < length entries.now) }
+fn is_entry_at(entry: &Option<Entry>, entries: &[Entry], place: Option<usize>, same: bool) -> bool
+    requires placed { ForSome place (λ n. n < length entries.now) }
+    requires same { IsTrue same → option_map fixed entry.now ≡ option_map fixed (entry_in entries.now place) }
     ensures { IsTrue result → entry.now ≡ entry_in entries.now place }
 {
     match (entry, place) {
         (None, None) => true,
-        (Some(entry), Some(place)) => equal_entries(entry, &entries[place]),
+        (Some(entry), Some(place)) => equal_entries(entry, &entries[place], same),
         _ => false,
     }
 }
@@ -52,13 +61,21 @@ fn equal_preambles(old: &[u8], new: &[u8]) -> bool
     new.len() <= PREAMBLE_BYTES && equal_bytes(old, new)
 }
 
-/// Whether an input is what a step is given now, for the entry at a place or for none.
-pub fn is_input(input: &Input, course: &Course, target: Target, place: Option<usize>) -> bool
-    requires { IsPlace place (course_world course.now) }
+/// Whether an input is what a step is given now, for the entry at a place or for none, which may be known to be the same
+/// but for its variables.
+pub fn is_input(
+    input: &Input,
+    course: &Course,
+    target: Target,
+    place: Option<usize>,
+    same: bool,
+) -> bool
+    requires placed { IsPlace place (course_world course.now) }
+    requires same { IsTrue same → option_map fixed input.now.entry ≡ option_map fixed (entry_in course.now.entries place) }
     ensures { IsTrue result → input.now ≡ input_at target place (course_world course.now) }
 {
     input.target == target
-        && is_entry_at(&input.entry, course.entries.as_slice(), place)
+        && is_entry_at(&input.entry, course.entries.as_slice(), place, same)
         && equal_variables(&input.globals, &course.globals)
         && equal_bytes(input.held.bytes(), course.held.bytes())
         && equal_preambles(input.preamble.as_slice(), course.preamble.as_slice())

@@ -9,11 +9,13 @@ use Rattle.bt_style.specs.Reach.{Reaches, is_among}
 use Rattle.bt_machine.specs.Agreement.{Agree}
 use Rattle.bt_run.specs.declared.course.Step.{Step}
 use Rattle.bt_run.specs.declared.course.Course.{Course}
+use Rattle.bt_run.specs.declared.earlier.Earlier.{Earlier}
 use Rattle.bt_run.specs.declared.reuse.Known.{Known}
 use Rattle.bt_run.specs.declared.reuse.Reuse.{Reuse}
 use Rattle.bt_run.specs.declared.reusing.Sought.{Sought}
 use Rattle.bt_run.specs.declared.reusing.Found.{Found}
 use Rattle.bt_run.specs.inner.Index.{IsIndex}
+use Rattle.bt_run.specs.inner.Earlier.{ArePlaced, AreSame}
 use Rattle.bt_run.specs.Work.{key_in, IsStep, work_under, total_cost}
 
 -- A run over earlier steps
@@ -61,16 +63,21 @@ pub record IsNext (p : Program) (earlier : List Step) (t : Step) (before after :
   pub within : after.meter ≤ before.meter + 1000000
   pub known : All (IsKnown p) after.known
   pub indexed : ForSome after.lookup.index (IsIndex earlier)
+  pub places : after.places ≡ before.places
+  pub same : after.same ≡ before.same
 
 -- What a run over earlier steps keeps to: what was carried out is the work of its trace, and costs at most a million ticks
 -- for each step of it; its steps are those of the style; what it worked out of the style is so; its index, if there is one, is
--- that of the earlier steps; and its order names entries alone.
-pub record IsConsistent (p : Program) (earlier : List Step) (r : Course) (reuse : Reuse) : Type 0 where
-  pub ran : reuse.ran ≡ length (work_under p earlier r.trace)
-  pub ticks : reuse.meter ≡ total_cost (work_under p earlier r.trace)
+-- that of the earlier steps; its order names entries alone; and what it knows of entries without comparing them is so.
+pub record IsConsistent (p : Program) (earlier : Earlier) (r : Course) (reuse : Reuse) : Type 0 where
+  pub ran : reuse.ran ≡ length (work_under p earlier.steps.now r.trace)
+  pub ticks : reuse.meter ≡ total_cost (work_under p earlier.steps.now r.trace)
   pub fewer : reuse.ran ≤ length r.trace
   pub bounded : reuse.meter ≤ 1000000 * length r.trace
   pub steps : All (IsStep p) r.trace
   pub known : All (IsKnown p) reuse.known
-  pub indexed : ForSome reuse.lookup.index (IsIndex earlier)
+  pub indexed : ForSome reuse.lookup.index (IsIndex earlier.steps.now)
   pub ordered : All (λ n. n < length r.entries) r.order
+  pub counted : length reuse.places ≡ length r.trace
+  pub placed : ArePlaced r.entries r.trace reuse.places
+  pub same : AreSame earlier.entries.now r.entries reuse.same

@@ -15,8 +15,8 @@ invariant_of-job-clause-steps c =
     let style = c.deref-in-Ok.result.now in
     let read = lent_style c.in_ok-text.text c.in-Ok.style style c.in-Ok.ensures c.deref-in-Ok.ensures in
     let is = c.as_slice-bytes.ensures ∙ c.deref.ensures in
-    earlier_steps (program_of style) c.in_ok-text.text k.text k.steps c.steps_under-earlier.result.now k.true_steps read
-    (c.steps_under-earlier.ensures ∙ ap (steps_under k.text k.steps) is)
+    earlier_steps (program_of style) c.in_ok-text.text k.text k.steps c.earlier_under-earlier.result.steps.now k.true_steps read
+    (c.earlier_under-earlier.ensures ∙ ap (steps_under k.text k.steps) is)
 
 pub returns-in-Ok-clause-taken : goal.returns-in-Ok-clause-taken
 returns-in-Ok-clause-taken c =
@@ -24,8 +24,8 @@ returns-in-Ok-clause-taken c =
     let style = c.deref-in-Ok.result.now in
     let read = lent_style c.in_ok-text.text c.in-Ok.style style c.in-Ok.ensures c.deref-in-Ok.ensures in
     let is = c.as_slice-bytes.ensures ∙ c.deref.ensures in
-    run_taken (program_of style) k.text k.steps c.in_ok-text.text c.steps_under-earlier.result.now c.in_ok-course-in-Ok.course c.carry_out_style.new.reuse
-    read (c.steps_under-earlier.ensures ∙ ap (steps_under k.text k.steps) is) c.in_ok-course-in-Ok.ensures.consistent
+    run_taken (program_of style) k.text k.steps c.in_ok-text.text c.earlier_under-earlier.result c.in_ok-course-in-Ok.course c.carry_out_style.new.reuse
+    read (c.earlier_under-earlier.ensures ∙ ap (steps_under k.text k.steps) is) c.in_ok-course-in-Ok.ensures.consistent
 
 pub returns-in-Err-Fault-clause-taken : goal.returns-in-Err-Fault-clause-taken
 returns-in-Err-Fault-clause-taken c =

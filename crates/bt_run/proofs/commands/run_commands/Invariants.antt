@@ -9,5 +9,5 @@ use Rattle.bt_run.proofs.commands.run_commands.Given as goal
 abbrev pub invariant-commands : goal.invariant-commands
 invariant-commands l = record {
   run : commands_from (job_of l.job) l.number (drop l.number l.job.style.now.commands) l.course ≡ commands_from (job_of l.job) 0 l.job.style.now.commands l.fn.course;
-  consistent : IsConsistent (program_of l.job.style.now) l.job.earlier.now l.course l.reuse;
+  consistent : IsConsistent (program_of l.job.style.now) l.job.earlier l.course l.reuse;
 }

@@ -12,5 +12,5 @@ returns-in_ok-same-in-Some-clause-next c =
     let p = program_of job.style.now in
     let reuse = c.args.reuse.now in
     let after : Reuse = record reuse { next = reuse.next + 1 } in
-    subst (λ (s : Step). IsNext p job.earlier.now s reuse after) (sym c.in_ok-same-in-Some.ensures)
-    (met_again p job.earlier.now c.in-Some.step.now reuse after job.steps c.in-Some.ensures.among c.requires.consistent.known c.requires.consistent.indexed refl)
+    subst (λ (s : Step). IsNext p job.earlier.steps.now s reuse after) (sym c.in_ok-same-in-Some.ensures)
+    (met_again p job.earlier.steps.now c.in-Some.step.now reuse after job.steps c.in-Some.ensures.among c.requires.consistent.known c.requires.consistent.indexed refl)

@@ -9,5 +9,5 @@ abbrev pub invariant-places : goal.invariant-places
 invariant-places l = record {
   run : iterated (program_of l.self.job.style.now) l.self.site.now l.target (drop l.place-index l.places) l.course ≡ iterated (program_of l.self.job.style.now) l.self.site.now l.target l.places l.fn.course;
   entries : length l.course.entries ≡ length l.fn.course.entries;
-  consistent : IsConsistent (program_of l.self.job.style.now) l.self.job.earlier.now l.course l.reuse;
+  consistent : IsConsistent (program_of l.self.job.style.now) l.self.job.earlier l.course l.reuse;
 }

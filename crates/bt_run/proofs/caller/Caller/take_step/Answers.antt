@@ -18,8 +18,8 @@ returns-clause-run c =
 pub returns-clause-consistent : goal.returns-clause-consistent
 returns-clause-consistent c =
     let s = c.in_ok-step.step in
-    consistent_behind (program_of c.args.self.job.style.now) c.args.self.job.earlier.now c.args.place s.outcome c.args.course.now c.put_back.new.course s c.append.new.self c.push.new.self c.args.reuse.now c.next_step.new.reuse
-    c.requires.consistent (c.in_ok-put_back.ensures ∙ ap (λ (s : Step). put_back c.args.place s.outcome c.args.course.now) c.deref.ensures) c.in_ok-push.ensures.ok c.in_ok-step.ensures.next
+    consistent_behind (program_of c.args.self.job.style.now) c.args.self.job.earlier c.args.target c.args.place c.args.course.now c.put_back.new.course s c.append.new.self c.push.new.self c.push-2.new.self c.args.reuse.now c.next_step.new.reuse
+    c.requires.consistent c.in_ok-step.ensures.input (c.in_ok-put_back.ensures ∙ ap (λ (s : Step). put_back c.args.place s.outcome c.args.course.now) c.deref.ensures) c.in_ok-push.ensures.ok c.in_ok-push-2.ensures.ok c.in_ok-step.ensures.next
 
 pub returns-clause-entries : goal.returns-clause-entries
 returns-clause-entries c = ap (λ (r : Course). length r.entries) c.in_ok-put_back.ensures ∙ length-variables_back c.args.place _ c.args.course.now.entries

@@ -1,0 +1,91 @@
+-- What is known of entries without comparing them stays so from step to step.
+use Rattle.std.specs.Prelude.{slice_get, slice_index_or, slice_set, true, ◌⊎◌}
+use Rattle.std.specs.Option.{option_map}
+use Rattle.std.proofs.Common.{◌≡◌, refl, sym, ap, ◌∙◌, subst, inl, inr, ℕ, zero, suc, ◌+◌, ◌<◌, Bool, List, [], ◌∷◌, ◌++◌, length, map, Option, Some, None, arith}
+use Rattle.std.proofs.lemmas.Option.{slice_get_within, slice_get-map}
+use Rattle.bt_actions.specs.declared.entry.Entry.{Entry}
+use Rattle.bt_actions.specs.declared.entry.Variables.{Variables}
+use Rattle.bt_actions.specs.World.{no_entry, entry_in}
+use Rattle.bt_run.specs.declared.course.Step.{Step}
+use Rattle.bt_run.specs.declared.earlier.Earlier.{Earlier}
+use Rattle.bt_run.specs.inner.Course.{with_variables, variables_back}
+use Rattle.bt_run.specs.inner.Earlier.{fixed, fixed_at, ArePlaced, AreSame, IsMarked}
+
+-- variables are all that a step puts back into an entry
+
+fixed_with : (v : Option Variables) (e : Entry) → fixed (with_variables v e) ≡ fixed e
+fixed_with None e = refl
+fixed_with (Some v) e = refl
+
+fixed_set : (entries : List Entry) (m n : ℕ) (e : Entry) → fixed e ≡ fixed_at entries m → fixed_at (slice_set entries m e) n ≡ fixed_at entries n
+fixed_set [] m n e h = refl
+fixed_set (d ∷ ds) zero zero e h = h
+fixed_set (d ∷ ds) zero (suc n) e h = refl
+fixed_set (d ∷ ds) (suc m) zero e h = refl
+fixed_set (d ∷ ds) (suc m) (suc n) e h = fixed_set ds m n e h
+
+fixed_back : (x : Option ℕ) (v : Option Variables) (entries : List Entry) (n : ℕ) → fixed_at (variables_back x v entries) n ≡ fixed_at entries n
+fixed_back None v entries n = refl
+fixed_back (Some m) v entries n = fixed_set entries m n (with_variables v (slice_index_or entries m no_entry)) (fixed_with v (slice_index_or entries m no_entry))
+
+pub same_back : (others entries : List Entry) (same : List Bool) (x : Option ℕ) (v : Option Variables) → AreSame others entries same → AreSame others (variables_back x v entries) same
+same_back others entries same x v h = λ n e. h n e ∙ sym (fixed_back x v entries n)
+
+-- what stands in a list with one element more
+
+more_here : {X : Type 0} (x d : X) (xs : List X) (y : X) (k : ℕ) → (slice_get xs k ≡ Some y) ⊎ ((k ≡ length xs) × (x ≡ y)) → (slice_get (d ∷ xs) (suc k) ≡ Some y) ⊎ ((suc k ≡ length (d ∷ xs)) × (x ≡ y))
+more_here x d xs y k (inl here) = inl here
+more_here x d xs y k (inr last) = inr (ap suc last.0, last.1)
+
+last_or : {X : Type 0} (xs : List X) (x y : X) (k : ℕ) → slice_get (xs ++ x ∷ []) k ≡ Some y → (slice_get xs k ≡ Some y) ⊎ ((k ≡ length xs) × (x ≡ y))
+last_or [] x y zero h = inr (refl, cc)
+last_or [] x y (suc k) h = absurd cc
+last_or (d ∷ ds) x y zero h = inl h
+last_or (d ∷ ds) x y (suc k) h = more_here x d ds y k (last_or ds x y k h)
+
+-- a step more, with its place
+
+pub entry_placed : (entry : Option Entry) (entries : List Entry) (x : Option ℕ) → entry ≡ entry_in entries x → (n : ℕ) → x ≡ Some n → option_map fixed entry ≡ Some (fixed_at entries n)
+entry_placed entry entries x h n e = ap (option_map fixed) (h ∙ ap (entry_in entries) e)
+
+placed_or : (entries news : List Entry) (steps : List Step) (places : List (Option ℕ)) (s t : Step) (x : Option ℕ) (k n : ℕ) → fixed_at news n ≡ fixed_at entries n → length places ≡ length steps → ArePlaced entries steps places → (x ≡ Some n → option_map fixed s.input.entry ≡ Some (fixed_at entries n)) → (slice_get places k ≡ Some (Some n)) ⊎ ((k ≡ length places) × (x ≡ Some n)) → (slice_get steps k ≡ Some t) ⊎ ((k ≡ length steps) × (s ≡ t)) → option_map fixed t.input.entry ≡ Some (fixed_at news n)
+placed_or entries news steps places s t x k n kept counted h own (inl at) (inl here) = h k n t at here ∙ ap Some (sym kept)
+placed_or entries news steps places s t x k n kept counted h own (inl at) (inr last) = absurd (omega (arith, slice_get_within places k (Some n) at, counted, last.0))
+placed_or entries news steps places s t x k n kept counted h own (inr at) (inl here) = absurd (omega (arith, slice_get_within steps k t here, counted, at.0))
+placed_or entries news steps places s t x k n kept counted h own (inr at) (inr last) =
+    ap (λ (u : Step). option_map fixed u.input.entry) (sym last.1) ∙ own at.1 ∙ ap Some (sym kept)
+
+pub placed_more : (entries : List Entry) (steps : List Step) (places : List (Option ℕ)) (s : Step) (x : Option ℕ) (v : Option Variables) → length places ≡ length steps → ArePlaced entries steps places → s.input.entry ≡ entry_in entries x → ArePlaced (variables_back x v entries) (steps ++ s ∷ []) (places ++ x ∷ [])
+placed_more entries steps places s x v counted h is =
+    λ k n t at here. placed_or entries (variables_back x v entries) steps places s t x k n (fixed_back x v entries n) counted h (entry_placed s.input.entry entries x is n) (last_or places x (Some n) k at) (last_or steps s t k here)
+
+-- steps that are for no entry
+pub none_placed : (entries : List Entry) (steps : List Step) → ArePlaced entries steps (map (λ step. None) steps)
+none_placed entries steps = λ k n s at here.
+    let none : Step → Option ℕ = λ step. None in
+    let empty : Some (none s) ≡ Some (Some n) = sym (ap (option_map none) here) ∙ sym (slice_get-map none steps k) ∙ at in
+    absurd cc
+
+-- no steps
+pub nothing_placed : (entries : List Entry) (steps : List Step) (places : List (Option ℕ)) → steps ≡ [] → ArePlaced entries steps places
+nothing_placed entries steps places is = λ k n s at here.
+    let none : slice_get [] k ≡ Some s = ap (λ (ts : List Step). slice_get ts k) (sym is) ∙ here in
+    absurd (omega (arith, slice_get_within [] k s none))
+
+-- one place more that is known to be the same, or not
+same_or : (others entries : List Entry) (same : List Bool) (b : Bool) (k n : ℕ) → length same ≡ n → AreSame others entries same → (b ≡ true → fixed_at others n ≡ fixed_at entries n) → (slice_get same k ≡ Some true) ⊎ ((k ≡ length same) × (b ≡ true)) → fixed_at others k ≡ fixed_at entries k
+same_or others entries same b k n counted h own (inl at) = h k at
+same_or others entries same b k n counted h own (inr last) = subst (λ m. fixed_at others m ≡ fixed_at entries m) (sym (last.0 ∙ counted)) (own last.1)
+
+pub same_more : (others entries : List Entry) (same next : List Bool) (b : Bool) (n : ℕ) → length same ≡ n → AreSame others entries same → next ≡ same ++ b ∷ [] → (b ≡ true → fixed_at others n ≡ fixed_at entries n) → AreSame others entries next
+same_more others entries same next b n counted h is own = rw is (λ k e. same_or others entries same b k n counted h own (last_or same b true k e))
+
+pub same_none : (others entries : List Entry) (same : List Bool) → same ≡ [] → AreSame others entries same
+same_none others entries same is = λ n e.
+    let none : slice_get [] n ≡ Some true = ap (λ (bs : List Bool). slice_get bs n) (sym is) ∙ e in
+    absurd (omega (arith, slice_get_within [] n true none))
+
+-- an entry at a marked place is that of the earlier step, but for its variables
+pub marked_same : (earlier : Earlier) (entries : List Entry) (same : List Bool) (step : ℕ) (place : Option ℕ) (s : Step) → AreSame earlier.entries.now entries same → slice_get earlier.steps.now step ≡ Some s → IsMarked earlier.places.now same step place → option_map fixed s.input.entry ≡ option_map fixed (entry_in entries place)
+marked_same earlier entries same step None s h is m = absurd m
+marked_same earlier entries same step (Some n) s h is m = earlier.placed step n s m.0 is ∙ ap Some (h n m.1)
