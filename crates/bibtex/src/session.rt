@@ -55,7 +55,7 @@ impl Session {
         Ok(Session::of(Draft::new(alloc, root, min)?)?)
     }
 
-    /// A session at this state, which is run from scratch. The one error is out of memory.
+    /// A session at this state, which is run from scratch.
     pub fn of(draft: Draft) -> Result<Session, AllocError>
         ensures { IfOk result (λ session. session ≡ draft) }
     {

@@ -113,7 +113,7 @@ fn add_line(
     Ok(())
 }
 
-/// The counted lines of a text, in order. The one error is out of memory.
+/// The counted lines of a text, in order.
 pub fn read_aux(alloc: Global, text: &[u8]) -> Result<Sequence<AuxItem>, AllocError>
     ensures { IfOk result (λ items. items ≡ aux_lines text.now) }
 {

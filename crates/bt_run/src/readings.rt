@@ -30,7 +30,7 @@ impl Readings {
         }
     }
 
-    /// The same for one more owner; no text or reading is copied. The one error is out of memory.
+    /// The same for one more owner; no text or reading is copied.
     pub fn share(&self, alloc: Global) -> Result<Readings, AllocError> {
         let mut styles = Sequence::new(alloc);
         'styles: for style in self.styles.as_slice() {
@@ -59,7 +59,7 @@ impl Readings {
         known.style()
     }
 
-    /// Those readings whose text is still one of these files'. The one error is out of memory.
+    /// Those readings whose text is still one of these files'.
     pub fn present(&self, alloc: Global, files: &[File]) -> Result<Readings, AllocError> {
         Ok(Readings {
             aux_texts: self.aux_texts.present(alloc, files)?,

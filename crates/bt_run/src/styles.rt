@@ -34,8 +34,7 @@ impl ReadStyle {
         Ok(ReadStyle { text, style })
     }
 
-    /// The same for one more owner; no part of it is copied. The one error is that a part has no room for another
-    /// owner.
+    /// The same for one more owner; no part of it is copied.
     pub fn share(&self) -> Result<ReadStyle, AllocError>
         ensures { IfOk result (λ same. same.text ≡ self.now.text) }
     {

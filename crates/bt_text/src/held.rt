@@ -87,7 +87,7 @@ impl Held {
         }
     }
 
-    /// The same line again. The one error is out of memory.
+    /// The same line again.
     pub fn copy(&self, alloc: Global) -> Result<Held, AllocError>
         ensures { IfOk result (λ held. held ≡ self.now) }
     {
