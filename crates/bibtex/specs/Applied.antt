@@ -69,7 +69,7 @@ refusal_of (min_crossrefs n) size s = None
 
 -- What becomes of the state
 
--- the state after a change that nothing stands against
+-- the state after a change that there is no reason to refuse
 abbrev pub changed : Change → List ℕ → State → State
 changed (write name) bytes s = record s { texts = with_text name bytes s.texts }
 changed (splice name start end) bytes s =

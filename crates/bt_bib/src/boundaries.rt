@@ -8,7 +8,7 @@ ghost use Rattle.bt_bib.specs.inner.Boundaries.{below, InOrder};
 use crate::placed::PlacedPiece;
 use crate::spot::Spot;
 
-/// How many pieces end below a place. Their ends rise, so they are those in front.
+/// How many pieces end below a place. Their ends rise, so these are the first ones.
 pub fn count_below(pieces: &[PlacedPiece], limit: usize) -> usize
     requires { InOrder pieces.now }
     ensures within { result ≤ length pieces.now }

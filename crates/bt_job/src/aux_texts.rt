@@ -8,7 +8,7 @@ use bt_bib::{AuxItem, read_aux};
 use bt_text::{Bytes, Sequence, Shared};
 use std::alloc::{AllocError, Global};
 
-/// An `.aux` text as it was read: the text and its counted lines.
+/// An `.aux` text as it was read: the text and those of its lines that count.
 #[derive(Debug, Drop)]
 pub struct AuxText {
     text: Shared<Bytes>,
@@ -69,7 +69,7 @@ impl AuxTexts {
             .find(|known| known.text.as_slice() == text)
     }
 
-    /// The counted lines of a text. It is read where it wasn't before.
+    /// The lines of a text that count. It is read where it wasn't before.
     pub fn lines(
         &mut self,
         alloc: Global,
