@@ -20,7 +20,7 @@ pub struct Reread<'a> {
 }
 
 impl<'a> Reread<'a> {
-    /// Nothing is read again yet.
+    /// What was read is known, and nothing is read again yet.
     pub fn of(alloc: Global, known: &'a Readings) -> Reread<'a>
         ensures { result.meter ≡ 0 }
     {
@@ -33,7 +33,7 @@ impl<'a> Reread<'a> {
     }
 
     /// Reads a known database again where a splice can have changed it. A text that isn't known as a database isn't
-    /// read.
+    /// read. After out of memory nothing is spliced.
     pub fn splice(
         &mut self,
         old: &[u8],

@@ -85,7 +85,7 @@ impl Session {
         })
     }
 
-    /// The first reason against a change that brings so many bytes; out of memory is none. It takes no memory.
+    /// The first reason to refuse a change that brings `size` bytes; out of memory is none. It takes no memory.
     pub fn refusal(&self, change: Change<'_>, size: usize) -> Option<Refusal>
         ensures { result ≡ refusal_of (change_of change.entry) size self.now }
     {

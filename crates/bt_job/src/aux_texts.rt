@@ -25,7 +25,7 @@ impl AuxText {
         Ok(AuxText { text, lines })
     }
 
-    /// The same for one more owner; no part of it is copied.
+    /// The text and its lines for one more owner; no part of them is copied.
     fn share(&self) -> Result<AuxText, AllocError>
         ensures { IfOk result (λ same. same.text ≡ self.now.text) }
     {
@@ -50,7 +50,7 @@ impl AuxTexts {
         }
     }
 
-    /// The same for one more owner; no text is copied.
+    /// The texts for one more owner; none of them is copied.
     pub fn share(&self, alloc: Global) -> Result<AuxTexts, AllocError> {
         let mut known = Sequence::new(alloc);
         'texts: for text in self.known.as_slice() {

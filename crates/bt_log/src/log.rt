@@ -145,7 +145,7 @@ fn add_tersely(text: &mut Bytes, message: &Message) -> Result<(), AllocError>
     }
 }
 
-/// The same of each message that the terse log has.
+/// Puts each message that the terse log has, in words, after the lines.
 fn terse_messages(alloc: Global, log: &[Message]) -> Result<Bytes, AllocError>
     ensures { IfOk result (λ bytes. bytes ≡ messages_bytes (terse log.now)) }
 {
@@ -165,7 +165,7 @@ pub fn log_bytes(alloc: Global, log: &[Message]) -> Result<Bytes, AllocError>
     Ok(text)
 }
 
-/// The same without the lines of files and the counts of calls; the last line is that of the whole log.
+/// The bytes of the log without the lines of files and the counts of calls; the last line is that of the whole log.
 pub fn terse_bytes(alloc: Global, log: &[Message]) -> Result<Bytes, AllocError>
     ensures { IfOk result (λ bytes. bytes ≡ terse_bytes log.now) }
 {

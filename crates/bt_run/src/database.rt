@@ -29,7 +29,7 @@ impl Database {
         Ok(Database { text, items })
     }
 
-    /// The same for one more owner; no part of it is copied.
+    /// The database for one more owner; no part of it is copied.
     pub fn share(&self) -> Result<Database, AllocError>
         ensures { IfOk result (λ same. same.text ≡ self.now.text) }
     {
@@ -86,7 +86,8 @@ fn taken_or_read(
     Ok(database)
 }
 
-/// The databases of these names, in order. Those that weren't read before are read, and put after those that were.
+/// The databases of these names, in order. Those that weren't read before are read, and put after those that were;
+/// after out of memory these have what was read so far.
 pub fn databases_in(
     alloc: Global,
     files: &[File],

@@ -1,4 +1,4 @@
--- What only helpers' contracts say, beside `Boundaries`.
+-- Pieces in the order of a text, and those of them that end below a place.
 use Rattle.std.specs.Prelude.{ℕ, nat_lt, List, [], ◌∷◌, if◌then◌else◌}
 use Rattle.bt_bib.specs.declared.item.Piece.{Piece}
 use Rattle.bt_bib.specs.Boundaries.{end_of, Rises}

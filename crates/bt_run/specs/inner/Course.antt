@@ -1,4 +1,4 @@
--- What only helpers' contracts say, beside `Course`.
+-- What is put back into a run after a step.
 use Rattle.std.specs.Prelude.{ℕ, List, ◌++◌, slice_set, slice_index_or, Option, Some, None}
 use Rattle.bt_actions.specs.declared.entry.Variables.{Variables}
 use Rattle.bt_actions.specs.declared.entry.Entry.{Entry}
