@@ -53,8 +53,8 @@ pub record IsCounted (p : Program) (earlier : List Step) (t : Step) (before afte
   pub ran : after.ran ≡ before.ran + length (work_under p earlier (t ∷ []))
   pub ticks : after.meter ≡ before.meter + total_cost (work_under p earlier (t ∷ []))
 
--- The step that a run over earlier ones comes to: it is one of the style and counts as its part of the work, its ticks
--- are a million at most, and what is known of the style and of the earlier steps stays so.
+-- The step that a run over earlier ones comes to: it is one of the style and counts as its part of the work, its ticks are a
+-- million at most, and what is known of the style and of the earlier steps stays so.
 pub record IsNext (p : Program) (earlier : List Step) (t : Step) (before after : Reuse) : Type 0 where
   pub step : IsStep p t
   pub counted : IsCounted p earlier t before after
@@ -62,9 +62,9 @@ pub record IsNext (p : Program) (earlier : List Step) (t : Step) (before after :
   pub known : All (IsKnown p) after.known
   pub indexed : ForSome after.lookup.index (IsIndex earlier)
 
--- What a run over earlier steps keeps to: what was carried out is the work of its trace, and costs at most a million
--- ticks for each step of it; its steps are those of the style; what it worked out of the style is so; its index, if
--- there is one, is that of the earlier steps; and its order names entries alone.
+-- What a run over earlier steps keeps to: what was carried out is the work of its trace, and costs at most a million ticks
+-- for each step of it; its steps are those of the style; what it worked out of the style is so; its index, if there is one, is
+-- that of the earlier steps; and its order names entries alone.
 pub record IsConsistent (p : Program) (earlier : List Step) (r : Course) (reuse : Reuse) : Type 0 where
   pub ran : reuse.ran ≡ length (work_under p earlier r.trace)
   pub ticks : reuse.meter ≡ total_cost (work_under p earlier r.trace)
