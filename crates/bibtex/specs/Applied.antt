@@ -22,7 +22,7 @@ file_count_limit = 64
 
 -- Refusals, each the first whose condition holds
 
--- against a text of so many bytes under a name
+-- the reason to refuse a text of this length under a name
 abbrev pub write_refusal : List File → List ℕ → ℕ → Option Refusal
 write_refusal files name size =
     if not (is_file_name name) then Some BadName
@@ -30,7 +30,7 @@ write_refusal files name size =
     else if is_none (place_of_file name files) && nat_le file_count_limit (length files) then Some TooManyFiles
     else None
 
--- against so many bytes in the place of the bytes of a text from one place up to another
+-- the reason to refuse this number of bytes in the place of those of a text from one place up to another
 abbrev pub range_refusal : List ℕ → ℕ → ℕ → ℕ → Option Refusal
 range_refusal text start end size =
     if nat_lt end start || nat_lt (length text) end then Some RangeOutside
@@ -59,7 +59,7 @@ remove_refusal files name =
 abbrev pub root_refusal : List ℕ → Option Refusal
 root_refusal root = if is_root_name root then None else Some BadName
 
--- against a change that brings so many bytes
+-- the reason to refuse a change that brings this number of bytes
 abbrev pub refusal_of : Change → ℕ → State → Option Refusal
 refusal_of (write name) size s = write_refusal s.texts name size
 refusal_of (splice name start end) size s = splice_refusal s.texts name start end size
@@ -69,7 +69,7 @@ refusal_of (min_crossrefs n) size s = None
 
 -- What becomes of the state
 
--- the state after a change that nothing stands against
+-- the state after a change that there is no reason to refuse
 abbrev pub changed : Change → List ℕ → State → State
 changed (write name) bytes s = record s { texts = with_text name bytes s.texts }
 changed (splice name start end) bytes s =

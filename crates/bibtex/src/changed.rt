@@ -25,7 +25,7 @@ fn shared(file: &File) -> Result<File, AllocError>
     })
 }
 
-/// The same files, which share their names and texts. The one error is out of memory.
+/// The same files, which share their names and texts.
 pub fn all_shared(alloc: Global, files: &[File]) -> Result<Sequence<File>, AllocError>
     ensures { IfOk result (λ again. again ≡ files.now) }
 {
@@ -36,8 +36,7 @@ pub fn all_shared(alloc: Global, files: &[File]) -> Result<Sequence<File>, Alloc
     Ok(again)
 }
 
-/// The files with a text in the place of that of its name, or after the others where none has it. The one error is
-/// out of memory.
+/// The files with a text in the place of that of its name, or after the others where none has it.
 pub fn with_text(
     alloc: Global,
     files: &[File],
@@ -58,7 +57,7 @@ pub fn with_text(
     Ok(changed)
 }
 
-/// The files but those of a name. The one error is out of memory.
+/// The files but those of a name.
 pub fn without(alloc: Global, files: &[File], name: &[u8]) -> Result<Sequence<File>, AllocError>
     ensures { IfOk result (λ left. left ≡ without name.now files.now) }
 {
@@ -71,7 +70,7 @@ pub fn without(alloc: Global, files: &[File], name: &[u8]) -> Result<Sequence<Fi
     Ok(left)
 }
 
-/// A text with other bytes in the place of its bytes `start..end`. The one error is out of memory.
+/// A text with other bytes in the place of its bytes `start..end`.
 pub fn replaced(
     alloc: Global,
     text: &[u8],

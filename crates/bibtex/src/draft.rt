@@ -65,8 +65,7 @@ impl Draft {
         Ok(())
     }
 
-    /// The names of the files that a run of this state looks for and doesn't find, in order, each once. The one error is
-    /// out of memory.
+    /// The names of the files that a run of this state looks for and doesn't find, in order, each once.
     #[tactic(auto, using(crate::proofs::SessionLemmas::wanted_by))]
     pub fn wanted(&self) -> Result<Sequence<Bytes>, AllocError>
         ensures { IfOk result (λ names. names ≡ (shown self.now).wanted) }

@@ -12,8 +12,8 @@ use std::alloc::{AllocError, Global};
 /// room for the answers; then nothing is changed.
 ///
 /// This is the whole promise in one sentence: after any list of edits the session's state, of which `bbl`, `blg`,
-/// `status` and the rest show the meaning from scratch, is the result of the accepted edits, and a refused one, for want
-/// of memory too, changes nothing.
+/// `status` and the rest show the meaning from scratch, is the result of the accepted edits, and a refused one, for
+/// lack of memory too, changes nothing.
 pub fn edit_all(
     alloc: Global,
     session: &mut Session,

@@ -15,8 +15,8 @@ pub fn names_stand_once()
 {}
 
 /// A law: the order in which the present texts were first written is never seen. Two states with the same texts in
-/// whatever order mean the same, an edit between two such pairs reports the same, and each list of edits may be answered
-/// in the one as in the other, and leaves states with the same texts again.
+/// whatever order mean the same, an edit between two such pairs reports the same, and each list of edits may be
+/// answered in the one as in the other, and leaves states with the same texts again.
 pub fn order_is_never_seen()
     ensures shown { (s t : State) → AreAlike s t → shown s ≡ shown t }
     ensures reported { (s t s' t' : State) → AreAlike s t → AreAlike s' t' → reported s s' ≡ reported t t' }

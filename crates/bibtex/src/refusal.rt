@@ -1,4 +1,4 @@
-//! The first reason that stands against a change.
+//! The first reason to refuse a change.
 
 ghost use Rattle.std.specs.Prelude.{◌≡◌, length};
 ghost use Rattle.std.specs.Option.{option_map};
@@ -25,7 +25,7 @@ pub fn is_root_name(root: &[u8]) -> bool
     is_file_name(root) && root.len() <= ROOT_LIMIT
 }
 
-/// What stands against a text of so many bytes under a name.
+/// The reason to refuse a text of `size` bytes under a name, if there is one.
 pub fn write_refusal(files: &[File], name: &[u8], size: usize) -> Option<Refusal>
     ensures { result ≡ write_refusal files.now name.now size }
 {
@@ -41,7 +41,7 @@ pub fn write_refusal(files: &[File], name: &[u8], size: usize) -> Option<Refusal
     None
 }
 
-/// What stands against so many bytes in the place of a text's bytes `start..end`.
+/// The reason to refuse `size` bytes in the place of a text's bytes `start..end`, if there is one.
 fn range_refusal(text: &[u8], start: usize, end: usize, size: usize) -> Option<Refusal>
     ensures { result ≡ range_refusal text.now start end size }
 {
@@ -55,7 +55,7 @@ fn range_refusal(text: &[u8], start: usize, end: usize, size: usize) -> Option<R
     None
 }
 
-/// What stands against so many bytes in the place of the bytes `start..end` of the text of a name.
+/// The reason to refuse `size` bytes in the place of the bytes `start..end` of the text of a name, if there is one.
 pub fn splice_refusal(
     files: &[File],
     name: &[u8],
@@ -74,7 +74,7 @@ pub fn splice_refusal(
     }
 }
 
-/// What stands against the removal of a file.
+/// The reason to refuse the removal of a file, if there is one.
 pub fn remove_refusal(files: &[File], name: &[u8]) -> Option<Refusal>
     ensures { result ≡ remove_refusal files.now name.now }
 {
@@ -87,7 +87,7 @@ pub fn remove_refusal(files: &[File], name: &[u8]) -> Option<Refusal>
     }
 }
 
-/// What stands against a root name.
+/// The reason to refuse a root name, if there is one.
 pub fn root_refusal(root: &[u8]) -> Option<Refusal>
     ensures { result ≡ root_refusal root.now }
 {

@@ -20,7 +20,7 @@ pub struct Reread<'a> {
 }
 
 impl<'a> Reread<'a> {
-    /// Nothing is read again yet.
+    /// What was read is known, and nothing is read again yet.
     pub fn of(alloc: Global, known: &'a Readings) -> Reread<'a>
         ensures { result.meter ≡ 0 }
     {
@@ -32,8 +32,8 @@ impl<'a> Reread<'a> {
         }
     }
 
-    /// Reads a known database again where a splice can have changed it. A text that isn't known as a database isn't read.
-    /// The one error is out of memory.
+    /// Reads a known database again where a splice can have changed it. A text that isn't known as a database isn't
+    /// read. After out of memory nothing is spliced.
     pub fn splice(
         &mut self,
         old: &[u8],
@@ -50,7 +50,7 @@ impl<'a> Reread<'a> {
         Ok(())
     }
 
-    /// What is known after the edit. The one error is out of memory.
+    /// What is known after the edit.
     pub fn readings(self) -> Result<Readings, AllocError> {
         let mut readings = self.known.share(self.alloc)?;
         if let Some(database) = self.spliced {

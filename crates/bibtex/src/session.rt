@@ -55,7 +55,7 @@ impl Session {
         Ok(Session::of(Draft::new(alloc, root, min)?)?)
     }
 
-    /// A session at this state, which is run from scratch. The one error is out of memory.
+    /// A session at this state, which is run from scratch.
     pub fn of(draft: Draft) -> Result<Session, AllocError>
         ensures { IfOk result (λ session. session ≡ draft) }
     {
@@ -85,7 +85,7 @@ impl Session {
         })
     }
 
-    /// The first reason against a change that brings so many bytes; out of memory is none. It takes no memory.
+    /// The first reason to refuse a change that brings `size` bytes; out of memory is none. It takes no memory.
     pub fn refusal(&self, change: Change<'_>, size: usize) -> Option<Refusal>
         ensures { result ≡ refusal_of (change_of change.entry) size self.now }
     {

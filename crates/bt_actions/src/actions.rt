@@ -11,7 +11,7 @@ use bt_style::{Builtin, Style};
 use std::alloc::{AllocError, Global};
 
 /// Calls a built-in function that runs no other: what it does to the state, and whether the run goes on. For
-/// `call.type$`, `if$` and `while$`, which run others, nothing is done. The one error is out of memory.
+/// `call.type$`, `if$` and `while$`, which run others, nothing is done.
 pub fn call_basic(
     state: &mut State,
     alloc: Global,

@@ -104,7 +104,7 @@ impl<'a> ShortText<'a> {
         self.text.as_slice()
     }
 
-    /// The text twice, both with the same bytes. The one error is out of memory.
+    /// The text twice, both with the same bytes.
     pub fn twice(self, alloc: Global) -> Result<(ShortText<'a>, ShortText<'a>), AllocError>
         ensures first { IfOk result (λ both. both.0 ≡ self.entry) }
         ensures second { IfOk result (λ both. both.1 ≡ self.entry) }
@@ -116,7 +116,7 @@ impl<'a> ShortText<'a> {
     }
 
     /// The text with another one after it, which may be too long. Bytes that this text alone has are not copied, nor
-    /// those of either where the other one is empty. The one error is out of memory.
+    /// those of either where the other one is empty.
     pub fn joined(self, alloc: Global, upper: ShortText<'a>) -> Result<Text<'a>, AllocError>
         ensures { IfOk result (λ text. bytes_of text ≡ self.entry ++ upper.entry) }
     {
@@ -144,7 +144,7 @@ impl<'a> ShortText<'a> {
         text
     }
 
-    /// Its bytes for one owner. Those that it alone has are not copied. The one error is out of memory.
+    /// Its bytes for one owner. Those that it alone has are not copied.
     pub fn into_bytes(self, alloc: Global) -> Result<Bytes, AllocError>
         ensures { IfOk result (λ bytes. bytes ≡ self.entry) }
     {
@@ -157,8 +157,7 @@ impl<'a> ShortText<'a> {
         }
     }
 
-    /// Its bytes for many owners. They are copied where they are lent by one that can't share them. The one error is
-    /// out of memory.
+    /// Its bytes for many owners. They are copied where they are lent by one that can't share them.
     pub fn into_shared(self, alloc: Global) -> Result<Shared<Bytes>, AllocError>
         ensures { IfOk result (λ bytes. bytes ≡ self.entry) }
     {

@@ -77,7 +77,7 @@ impl<'a> State<'a> {
         }
     }
 
-    /// Takes the topmost value, and tells nothing.
+    /// Takes the topmost value, and reports nothing.
     pub fn take_top(&mut self) -> Option<Value<'a>>
         ensures some { IfSome result (λ value. (world_of self.old).stack ≡ item_of value ∷ (world_of self.new).stack) }
         ensures none { IfNone result ((world_of self.old).stack ≡ []) }

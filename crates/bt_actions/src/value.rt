@@ -26,7 +26,7 @@ impl<'a> Value<'a> {
     ghost use Rattle.bt_actions.specs.State.{text_len};
     ghost use Rattle.bt_actions.specs.View.{item_of};
 
-    /// The value twice. The bytes of a text are shared by both. The one error is out of memory.
+    /// The value twice. The bytes of a text are shared by both.
     pub fn twice(self, alloc: Global) -> Result<(Value<'a>, Value<'a>), AllocError>
         ensures first { IfOk result (λ both. item_of both.0 ≡ item_of self.entry) }
         ensures second { IfOk result (λ both. item_of both.1 ≡ item_of self.entry) }

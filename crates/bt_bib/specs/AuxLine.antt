@@ -1,4 +1,4 @@
--- The counted lines of one .aux text.
+-- The lines of one .aux text that count.
 use Rattle.std.specs.Prelude.{ℕ, ◌+◌, Bool, ◌==◌, List, [], ◌∷◌, length, drop, codes, Option, Some, None, if◌then◌else◌}
 use Rattle.std.specs.List.{slice_split, starts_with}
 use Rattle.std.specs.Prelude.{eqb}
@@ -41,7 +41,7 @@ parting Database = Commas
 parting Style = Whole
 parting Nested = Whole
 
--- a counted line
+-- a line that counts
 abbrev pub item : ℕ → List ℕ → Command → AuxItem
 item n line c =
     let rest = drop (length (word c)) line in
@@ -57,6 +57,6 @@ abbrev pub items_from : ℕ → List (List ℕ) → List AuxItem
 items_from n [] = []
 items_from n (l ∷ ls) = if_counted n (trimmed_end l) (command_of (trimmed_end l)) (items_from (n + 1) ls)
 
--- the counted lines of a text
+-- the lines of a text that count
 unfoldable pub aux_lines : List ℕ → List AuxItem
 aux_lines text = items_from 1 (slice_split is_line_end text)

@@ -30,7 +30,7 @@ SpelledPartsAreRead = (close : Closing) (p : Part) (s : Spot) (text rest : List 
     (PartOf p ▸ White) s text → BeginsBy (part_ends close) rest →
     part close (at s (text ++ rest)) ≡ Ok (p, at (passed text s) rest)
 
--- In front of a comma or the closing sign stands a value, or a field.
+-- what may end a value or a field: a comma or the closing sign
 abbrev pub value_ends : Closing → List ℕ
 value_ends close = 44 ∷ closing_sign close ∷ []
 

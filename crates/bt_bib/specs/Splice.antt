@@ -5,7 +5,7 @@ use Rattle.bt_bib.specs.declared.item.Piece.{Piece}
 use Rattle.bt_bib.specs.Boundaries.{boundaries}
 use Rattle.bt_bib.specs.Reading.{pieces_of}
 
--- new is old with the bytes from begin up to end replaced by so many others
+-- new is old with the bytes from begin up to end replaced by `inserted` others
 pub record IsSplice (old new : List ℕ) (begin end inserted : ℕ) : Type 0 where
   pub order : begin ≤ end
   pub inside : end ≤ length old

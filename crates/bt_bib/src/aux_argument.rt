@@ -104,7 +104,6 @@ fn fault_at(behind: &[u8]) -> Option<AuxFault>
 }
 
 /// The parts before a fault, and the fault, of what stands after a command's opening brace.
-/// The one error is out of memory.
 pub fn read_argument(
     alloc: Global,
     rest: &[u8],

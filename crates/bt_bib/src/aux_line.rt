@@ -1,4 +1,4 @@
-//! The counted lines of one .aux text.
+//! The lines of one .aux text that count.
 
 ghost use Rattle.std.specs.Prelude.{◌≡◌, ◌≤◌, ◌<◌, ◌+◌, ◌^◌, [], ◌++◌, length, IfOk, OnOk, IfSome};
 ghost use Rattle.std.specs.List.{position_or_len, suffix_len};
@@ -46,7 +46,7 @@ impl Command {
     }
 }
 
-/// A counted line: the parts before its fault, if it has one.
+/// A line that counts: its command, and the parts before its fault, if it has one.
 #[derive(Debug, Drop)]
 pub struct AuxItem {
     pub line: usize,
@@ -83,7 +83,7 @@ fn command_of(line: &[u8]) -> Option<Command>
     }
 }
 
-/// A counted line.
+/// A line that counts.
 fn item(alloc: Global, number: usize, line: &[u8], command: Command) -> Result<AuxItem, AllocError>
     requires { length (word command) ≤ length line.now }
     ensures { IfOk result (λ found. found ≡ item number line.now command) }
@@ -113,7 +113,7 @@ fn add_line(
     Ok(())
 }
 
-/// The counted lines of a text, in order. The one error is out of memory.
+/// The lines of a text that count, in order.
 pub fn read_aux(alloc: Global, text: &[u8]) -> Result<Sequence<AuxItem>, AllocError>
     ensures { IfOk result (λ items. items ≡ aux_lines text.now) }
 {

@@ -8,7 +8,7 @@ ghost use Rattle.bt_bib.specs.inner.Boundaries.{below, InOrder};
 use crate::placed::PlacedPiece;
 use crate::spot::Spot;
 
-/// How many pieces end below a place. Their ends rise, so they are those in front.
+/// How many pieces end below a place. Their ends rise, so these are the first ones.
 pub fn count_below(pieces: &[PlacedPiece], limit: usize) -> usize
     requires { InOrder pieces.now }
     ensures within { result ≤ length pieces.now }
@@ -17,7 +17,7 @@ pub fn count_below(pieces: &[PlacedPiece], limit: usize) -> usize
     pieces.partition_point(|piece| piece.end().place < limit)
 }
 
-/// The last boundary of so many pieces of a text.
+/// The last boundary among the first `count` pieces of a text.
 pub fn last_boundary(pieces: &[PlacedPiece], count: usize) -> Spot
     requires { count ≤ length pieces.now }
     ensures { result ≡ last_end start (take count pieces.now) }

@@ -22,7 +22,7 @@ pub enum Turn {
     Closes,
     /// It is a right brace without its left one.
     Breaks,
-    /// It leaves so many further braces open.
+    /// It leaves this number of further braces open.
     Goes(usize),
 }
 

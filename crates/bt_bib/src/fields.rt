@@ -55,7 +55,8 @@ impl Reader<'_> {
         }
     }
 
-    /// Puts the fields of an entry after `fields` as they are read, up to the entry's end or its fault.
+    /// Puts the fields of an entry after `fields` as they are read, up to the entry's end or its fault. After out of
+    /// memory those that were read before stay there.
     pub fn fields(
         &self,
         from: Spot,

@@ -39,7 +39,7 @@ impl KeptItems {
         }
     }
 
-    /// The items of a database, in the order of its text, as `read_bib` reads them. The one error is out of memory.
+    /// The items of a database, in the order of its text, as `read_bib` reads them.
     #[tactic(auto, unfolding(crate::specs::Reading::pieces_of))]
     pub fn read(alloc: Global, text: &[u8]) -> Result<KeptItems, AllocError>
         ensures { IfOk result (λ items. items ≡ pieces_of text.now) }

@@ -21,7 +21,8 @@ pub fn fault_is_final()
     ensures { FaultIsFinal }
 {}
 
-/// The bytes of a faulty item up to its fault's place begin an item without a fault: no byte before that place is wrong.
+/// The bytes of a faulty item up to its fault's place begin an item without a fault: no byte before that place is
+/// wrong.
 pub fn fault_is_first()
     ensures { FaultIsFirst }
 {}

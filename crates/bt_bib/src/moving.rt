@@ -14,7 +14,7 @@ fn rebased_line(line: usize, a: Spot, b: Spot) -> usize
     line.saturating_sub(a.line) + b.line
 }
 
-/// The same of a place with its line.
+/// The spot that `spot` becomes where the text from `a` on stands from `b` on.
 pub fn rebased(spot: Spot, a: Spot, b: Spot) -> Spot
     requires { FitsSpot a b spot }
     ensures { result ≡ rebased a b spot }

@@ -115,7 +115,8 @@ impl Reader<'_> {
 }
 
 /// The items of a database, in the order of its text. Any bytes are a database: what can't be read is an item with a
-/// fault, and reading goes on at the next `@` from the fault's place on. The one error is out of memory.
+/// fault, and reading goes on at the next `@` from the fault's place on. A run reads by `KeptItems::read`; only the
+/// program `cases` calls this.
 #[tactic(auto, unfolding(crate::specs::Reading::pieces_of))]
 pub fn read_bib(alloc: Global, text: &[u8]) -> Result<Items, AllocError>
     ensures { IfOk result (λ items. items ≡ pieces_of text.now) }

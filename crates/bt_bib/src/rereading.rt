@@ -16,7 +16,7 @@ use crate::reader::Reader;
 use crate::spot::Spot;
 use std::alloc::AllocError;
 
-/// A splice of a text: its bytes from `begin` up to `end` became others, so many.
+/// A splice of a text: `inserted` bytes came in the place of those from `begin` up to `end`.
 #[derive(Clone, Copy, Debug)]
 pub struct Splice {
     pub begin: usize,

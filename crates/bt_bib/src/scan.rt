@@ -96,7 +96,7 @@ impl Reader<'_> {
         }
     }
 
-    /// The place so many bytes on.
+    /// The place `count` bytes after a place.
     pub fn ahead(&self, from: Spot, count: usize) -> Spot
         requires at { IsIn self.now.text.now from }
         requires within { from.place + count ≤ length self.now.text.now }

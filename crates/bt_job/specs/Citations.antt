@@ -57,7 +57,7 @@ wanted files root lines =
 
 -- Messages
 
--- the line of the log where a file begins, which is so many levels below the root
+-- the line of the log where a file begins, by its level below the root
 abbrev pub file_line : ℕ → List ℕ → List ℕ
 file_line level file =
     if level == 0 then codes "The top-level auxiliary file: " ++ file

@@ -8,7 +8,7 @@ use bt_bib::{AuxItem, read_aux};
 use bt_text::{Bytes, Sequence, Shared};
 use std::alloc::{AllocError, Global};
 
-/// An `.aux` text as it was read: the text and its counted lines.
+/// An `.aux` text as it was read: the text and those of its lines that count.
 #[derive(Debug, Drop)]
 pub struct AuxText {
     text: Shared<Bytes>,
@@ -25,8 +25,7 @@ impl AuxText {
         Ok(AuxText { text, lines })
     }
 
-    /// The same for one more owner; no part of it is copied. The one error is that a part has no room for another
-    /// owner.
+    /// The text and its lines for one more owner; no part of them is copied.
     fn share(&self) -> Result<AuxText, AllocError>
         ensures { IfOk result (λ same. same.text ≡ self.now.text) }
     {
@@ -51,7 +50,7 @@ impl AuxTexts {
         }
     }
 
-    /// The same for one more owner; no text is copied. The one error is out of memory.
+    /// The texts for one more owner; none of them is copied.
     pub fn share(&self, alloc: Global) -> Result<AuxTexts, AllocError> {
         let mut known = Sequence::new(alloc);
         'texts: for text in self.known.as_slice() {
@@ -70,7 +69,7 @@ impl AuxTexts {
             .find(|known| known.text.as_slice() == text)
     }
 
-    /// The counted lines of a text. It is read where it wasn't before. The one error is out of memory.
+    /// The lines of a text that count. It is read where it wasn't before.
     pub fn lines(
         &mut self,
         alloc: Global,
@@ -87,7 +86,7 @@ impl AuxTexts {
         Ok(lines)
     }
 
-    /// Those that are still the text of one of these files. The one error is out of memory.
+    /// Those that are still the text of one of these files.
     pub fn present(&self, alloc: Global, files: &[File]) -> Result<AuxTexts, AllocError> {
         let mut known = Sequence::new(alloc);
         'files: for file in files {

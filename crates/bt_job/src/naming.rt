@@ -65,7 +65,7 @@ fn with_ending(alloc: Global, ending: &[u8], name: &[u8]) -> Result<Bytes, Alloc
     }
 }
 
-/// The name that a part of a command stands for. The one error is out of memory.
+/// The name that a part of a command stands for.
 pub fn named_by(alloc: Global, command: Command, part: &[u8]) -> Result<Bytes, AllocError>
     ensures { IfOk result (λ name. name ≡ file_name_of command part.now) }
 {
@@ -106,7 +106,7 @@ fn met_before(alloc: Global, command: Command, name: &[u8]) -> Result<Option<Byt
 }
 
 impl Reader {
-    /// What is wrong with a name, where the files were met that were met so far. The one error is out of memory.
+    /// What is wrong with a name, where the files were met that were met so far.
     #[tactic(auto, unfolding(crate::specs::inner::Naming::name_fault))]
     pub fn name_fault(&self, command: Command, name: &[u8]) -> Result<Option<Bytes>, AllocError>
         ensures { IfOk result (λ fault. fault ≡ name_fault command self.now.progress.met name.now) }

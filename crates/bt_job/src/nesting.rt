@@ -157,7 +157,7 @@ impl Reader {
 }
 
 /// What the files of a session ask for whose root name is this, which has no `.aux` at its end. Of their texts only
-/// those are read that aren't known. The one error is out of memory.
+/// those are read that aren't known.
 pub fn read_citations(
     alloc: Global,
     files: &[File],

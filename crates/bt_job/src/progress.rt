@@ -30,7 +30,7 @@ pub struct Progress {
 pub enum Outcome {
     /// It is taken, or nothing new.
     Taken,
-    /// It is an error, told in these words.
+    /// It is an error with these words.
     Wrong(Bytes),
     /// It opens the file of this name.
     Opens(Bytes),

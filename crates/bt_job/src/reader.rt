@@ -82,7 +82,8 @@ impl Reader {
         Ok(())
     }
 
-    /// Puts an error at a line of a file after the other messages. The one error is out of memory; nothing is logged then.
+    /// Puts an error at a line of a file after the other messages. The one error is out of memory; nothing is logged
+    /// then.
     pub fn tell_at(
         &mut self,
         file: &Shared<Bytes>,

@@ -1,4 +1,4 @@
-//! What a counted line comes to.
+//! What a line that counts comes to.
 
 ghost use Rattle.std.specs.Prelude.{◌≡◌, ◌++◌, codes, IfOk};
 ghost use Rattle.bt_job.specs.inner.Taking.{told, cited_all, cited_key, cited_part, file_kind, file_found, looked_up, named, part_taken, fault_words};
@@ -193,7 +193,7 @@ impl Reader {
         }
     }
 
-    /// Takes a counted line. The one error is out of memory; what stood before it in the line may then be taken.
+    /// Takes a line that counts. The one error is out of memory; what stood before it in the line may then be taken.
     #[tactic(auto, unfolding(crate::specs::inner::Taking::item_taken))]
     pub fn take_item(&mut self, files: &[File], item: &AuxItem) -> Result<Outcome, AllocError>
         ensures { IfOk result (λ outcome. (self.new.progress, outcome) ≡ item_taken files.now item.now self.old.progress) }

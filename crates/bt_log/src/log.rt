@@ -104,7 +104,7 @@ fn add_line(text: &mut Bytes, line: &[u8]) -> Result<(), AllocError>
     text.append(b"\n")
 }
 
-/// The lines, each with a line feed after it. The one error is out of memory.
+/// The lines, each with a line feed after it.
 pub fn lines_bytes(alloc: Global, lines: &[Shared<Bytes>]) -> Result<Bytes, AllocError>
     ensures { IfOk result (λ bytes. bytes ≡ lines_bytes lines.now) }
 {
@@ -145,7 +145,7 @@ fn add_tersely(text: &mut Bytes, message: &Message) -> Result<(), AllocError>
     }
 }
 
-/// The same of each message that the terse log has.
+/// Puts each message that the terse log has, in words, after the lines.
 fn terse_messages(alloc: Global, log: &[Message]) -> Result<Bytes, AllocError>
     ensures { IfOk result (λ bytes. bytes ≡ messages_bytes (terse log.now)) }
 {
@@ -156,7 +156,7 @@ fn terse_messages(alloc: Global, log: &[Message]) -> Result<Bytes, AllocError>
     Ok(text)
 }
 
-/// The bytes of the log: its messages and the last line. The one error is out of memory.
+/// The bytes of the log: its messages and the last line.
 pub fn log_bytes(alloc: Global, log: &[Message]) -> Result<Bytes, AllocError>
     ensures { IfOk result (λ bytes. bytes ≡ log_bytes log.now) }
 {
@@ -165,8 +165,7 @@ pub fn log_bytes(alloc: Global, log: &[Message]) -> Result<Bytes, AllocError>
     Ok(text)
 }
 
-/// The same without the lines of files and the counts of calls; the last line is that of the whole log. The one error
-/// is out of memory.
+/// The bytes of the log without the lines of files and the counts of calls; the last line is that of the whole log.
 pub fn terse_bytes(alloc: Global, log: &[Message]) -> Result<Bytes, AllocError>
     ensures { IfOk result (λ bytes. bytes ≡ terse_bytes log.now) }
 {

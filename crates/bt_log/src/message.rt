@@ -50,7 +50,7 @@ pub enum Place {
 }
 
 impl Place {
-    /// The same place, whose file's name has one more owner. The one error is that it has no room for it.
+    /// The same place, whose file's name has one more owner.
     fn share(&self) -> Result<Place, AllocError>
         ensures { IfOk result (λ place. place ≡ self.now) }
     {
@@ -95,7 +95,7 @@ pub struct Message {
 }
 
 impl Message {
-    /// A message that says these pieces, about no entry and without a place. The one error is out of memory.
+    /// A message that says these pieces, about no entry and without a place.
     pub fn of(alloc: Global, rank: Rank, pieces: &[&[u8]]) -> Result<Message, AllocError>
         ensures { IfOk result (λ message. message ≡ plain rank (joined (map (λ piece. piece.now) pieces.now))) }
     {
@@ -108,8 +108,7 @@ impl Message {
         })
     }
 
-    /// An error at a place, from which on the rest of this, a command or an entry, is left out. The one error is out of
-    /// memory.
+    /// An error at a place, from which on the rest of this, a command or an entry, is left out.
     pub fn skipping(
         alloc: Global,
         words: Bytes,
@@ -131,7 +130,7 @@ impl Message {
         })
     }
 
-    /// The same message, whose texts have one more owner. The one error is that one has no room for it.
+    /// The same message, whose texts have one more owner.
     pub fn share(&self) -> Result<Message, AllocError>
         ensures { IfOk result (λ message. message ≡ self.now) }
     {
@@ -148,7 +147,7 @@ impl Message {
         })
     }
 
-    /// The same message at a place. Its texts are shared; the one error is that one has no room for another owner.
+    /// The same message at a place. Its texts are shared.
     pub fn at(&self, place: Place) -> Result<Message, AllocError>
         ensures { IfOk result (λ message. message ≡ at place self.now) }
     {

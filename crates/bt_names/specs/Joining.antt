@@ -20,8 +20,8 @@ abbrev pub dotted : Form → List ℕ → List ℕ
 dotted Whole out = out
 dotted Initials out = out ++ full_stop ∷ []
 
--- what goes before the token w and those after it, where out stands in front: its own separator, or a tie before the
--- last token and after a short output, or a space
+-- what goes before the token w and those after it, where out is what the group has given so far: its own separator, or
+-- a tie before the last token and after a short output, or a space
 abbrev pub sign_before : List ℕ → Token → List Token → ℕ
 sign_before out w rest = if is_separator w.before then w.before else (if length rest == 0 || is_short out then tie else space)
 

@@ -86,7 +86,7 @@ fn from_place(text: &[u8], start: usize) -> &[u8]
     text.get(start..).unwrap_or(&[])
 }
 
-/// The name that has so many names before it.
+/// The name with this number of names before it.
 #[tactic(auto, using(crate::proofs::ListingLemmas::naming))]
 fn name_behind(names: &[u8], before: usize) -> Option<&[u8]>
     requires { 0 < length names.now }

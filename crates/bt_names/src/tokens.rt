@@ -7,8 +7,8 @@ use bt_text::{Bytes, Sequence};
 pub struct Token {
     /// Its bytes.
     pub text: Bytes,
-    /// What parts it from the token before: a comma, `-`, `~`, a space for any white space, or 0 for the first token of a
-    /// name.
+    /// What parts it from the token before: a comma, `-`, `~`, a space for any white space, or 0 for the first token of
+    /// a name.
     pub before: u8,
 }
 

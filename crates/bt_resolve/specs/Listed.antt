@@ -50,7 +50,7 @@ abbrev pub listed_by : List (List ℕ) → Option ℕ → List Stored → List �
 listed_by keys None stored = cited_places keys stored ++ uncited_parents keys stored
 listed_by keys (Some before) stored = cited_places (take before keys) stored ++ others_than (cited_places (take before keys) stored) stored
 
--- The cited keys that have an entry, then the uncited entries in the order in which stored ones first refer to them. With
--- `*`: the keys before it, then all others in the order of the databases.
+-- The cited keys that have an entry, then the uncited entries in the order in which stored ones first refer to them.
+-- With `*`: the keys before it, then all others in the order of the databases.
 unfoldable pub listed : Asked → List Stored → List ℕ
 listed a stored = listed_by a.keys a.star stored

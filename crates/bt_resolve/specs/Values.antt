@@ -45,8 +45,8 @@ abbrev pub joined_or_empty : Option (List ℕ) → List ℕ
 joined_or_empty None = []
 joined_or_empty (Some text) = white_joined text
 
--- The value of a string or a preamble: the parts' texts joined, each run of white space one space. It is empty where the
--- texts join to more than 65,536 bytes.
+-- The value of a string or a preamble: the parts' texts joined, each run of white space one space. It is empty where
+-- the texts join to more than 65,536 bytes.
 unfoldable pub value : MacroTexts → List Part → List ℕ
 value macros parts = joined_or_empty (within_limit (joined_parts macros parts))
 

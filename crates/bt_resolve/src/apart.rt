@@ -6,7 +6,7 @@ ghost use Rattle.bt_text.specs.NameList.{are_apart};
 use bt_text::{ByName, Bytes};
 use std::alloc::{AllocError, Global};
 
-/// Whether no two of some names match. The one error is out of memory.
+/// Whether no two of some names match.
 pub fn are_apart(alloc: Global, names: &[Bytes]) -> Result<bool, AllocError>
     ensures { IfOk result (λ apart. apart ≡ are_apart names.now) }
 {

@@ -85,7 +85,7 @@ fn count_parents(
 }
 
 impl Family {
-    /// These entries. The one error is out of memory.
+    /// These entries.
     pub fn new(alloc: Global, store: Store) -> Result<Self, AllocError>
         ensures { IfOk result (λ family. family ≡ store) }
     {
@@ -105,14 +105,14 @@ impl Family {
         self.store.entries()
     }
 
-    /// The place of the entry of a key. The one error is out of memory.
+    /// The place of the entry of a key.
     pub fn place(&self, alloc: Global, key: &[u8]) -> Result<Option<usize>, AllocError>
         ensures { IfOk result (λ place. place ≡ place_of_key self.now key.now) }
     {
         self.store.place(alloc, key)
     }
 
-    /// Whether a key has an entry. The one error is out of memory.
+    /// Whether a key has an entry.
     pub fn has(&self, alloc: Global, key: &[u8]) -> Result<bool, AllocError>
         ensures { IfOk result (λ stored. stored ≡ is_stored self.now key.now) }
     {
@@ -136,7 +136,7 @@ impl Family {
         }
     }
 
-    /// The entry that an entry refers to. The one error is out of memory.
+    /// The entry that an entry refers to.
     pub fn parent_of(&self, alloc: Global, entry: &Stored) -> Result<Option<usize>, AllocError>
         ensures { IfOk result (λ parent. parent ≡ parent_of self.now entry.now) }
     {

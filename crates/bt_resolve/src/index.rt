@@ -41,7 +41,7 @@ fn place_table(alloc: Global, names: &[Bytes]) -> Result<ByName<usize>, AllocErr
 }
 
 impl<'a> Index<'a> {
-    /// The places of some names. The one error is out of memory.
+    /// The places of some names.
     pub fn new(alloc: Global, names: &'a [Bytes]) -> Result<Self, AllocError>
         ensures { IfOk result (λ index. index ≡ names.now) }
     {
@@ -49,7 +49,7 @@ impl<'a> Index<'a> {
         Ok(Index { names, places })
     }
 
-    /// The place of a name, if it is among the names. The one error is out of memory.
+    /// The place of a name, if it is among the names.
     pub fn place(&self, alloc: Global, name: &[u8]) -> Result<Option<usize>, AllocError>
         ensures { IfOk result (λ place. place ≡ place_of_name self.now name.now) }
     {

@@ -66,7 +66,7 @@ impl JoinedParts {
         }
     }
 
-    /// The text of one part. It is not copied. The one error is that it has no room for another owner.
+    /// The text of one part. It is not copied.
     pub fn of_text(text: &Shared<Bytes>) -> Result<Self, AllocError>
         ensures { IfOk result (λ part. part ≡ text.now) }
     {
@@ -75,7 +75,7 @@ impl JoinedParts {
         })
     }
 
-    /// What a macro stands for. It is not copied. The one error is that it has no room for another owner.
+    /// What a macro stands for. It is not copied.
     pub fn of_macro(text: &MacroText) -> Result<Self, AllocError>
         ensures { IfOk result (λ part. part ≡ text.now) }
     {
@@ -107,8 +107,7 @@ impl JoinedParts {
         Ok(())
     }
 
-    /// Puts the texts of more parts after those that are there. Nothing is copied where one of them is empty. The one
-    /// error is out of memory.
+    /// Puts the texts of more parts after those that are there. Nothing is copied where one of them is empty.
     pub fn append(&mut self, alloc: Global, more: JoinedParts) -> Result<(), AllocError>
         ensures { OnOk result (self.new ≡ self.old ++ more) }
     {
@@ -123,8 +122,7 @@ impl JoinedParts {
         }
     }
 
-    /// The text with each run of white space made one space. A text of one part that has no longer run is not copied. The
-    /// one error is out of memory.
+    /// The text with each run of white space made one space. A text of one part that has no longer run is not copied.
     pub fn into_value(self, alloc: Global) -> Result<Shared<Bytes>, AllocError>
         ensures { IfOk result (λ value. value ≡ white_joined self) }
     {

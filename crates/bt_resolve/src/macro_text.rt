@@ -27,7 +27,7 @@ impl Model for MacroText {
 }
 
 impl MacroText {
-    /// A text as a style gives it. The one error is out of memory.
+    /// A text as a style gives it.
     pub fn new(alloc: Global, text: &[u8]) -> Result<Self, AllocError>
         ensures { IfOk result (λ copy. copy ≡ text.now) }
     {
@@ -40,8 +40,7 @@ impl MacroText {
         Ok(MacroText { text, value })
     }
 
-    /// The text of a value, in which each run of white space is one space. It is not copied. The one error is that it has
-    /// no room for another owner.
+    /// The text of a value, in which each run of white space is one space. It is not copied.
     pub fn of_value(value: Shared<Bytes>) -> Result<Self, AllocError>
         requires { white_joined value ≡ value }
         ensures { IfOk result (λ text. text ≡ value) }
@@ -52,7 +51,7 @@ impl MacroText {
         })
     }
 
-    /// The same text for one more owner. The one error is that it has no room for another owner.
+    /// The same text for one more owner.
     pub fn share(&self) -> Result<Self, AllocError>
         ensures { IfOk result (λ same. same ≡ self.now) }
     {

@@ -98,7 +98,7 @@ pub fn spelled(
     }
 }
 
-/// Tells what is wrong with the entry that an entry refers to.
+/// Adds the message about the entry that an entry refers to, if there is one.
 fn tell_parent(
     alloc: Global,
     key: &[u8],
@@ -146,7 +146,7 @@ impl<'a> Teller<'a> {
         }
     }
 
-    /// Tells what is wrong with a reference of the entry of a key.
+    /// Adds the message about a reference of the entry of a key, if there is one.
     fn crossref(
         &self,
         key: &[u8],
@@ -166,7 +166,7 @@ impl<'a> Teller<'a> {
         }
     }
 
-    /// Tells what is wrong with the reference of an entry.
+    /// Adds the message about the reference of an entry, if there is one.
     fn entry(
         &self,
         entry: Option<&Stored>,
@@ -184,7 +184,7 @@ impl<'a> Teller<'a> {
         }
     }
 
-    /// Tells what is wrong with the reference of the entry of a place.
+    /// Adds the message about the reference of the entry at a place, if there is one.
     #[tactic(auto, unfolding(crate::specs::References::reference_messages))]
     fn reference(&self, place: usize, messages: &mut Sequence<Message>) -> Result<(), AllocError>
         ensures { OnOk result (messages.new ≡ messages.old
@@ -235,7 +235,7 @@ impl<'a> Teller<'a> {
         Ok(())
     }
 
-    /// Tells the messages of a list of entries, then those of the cited keys.
+    /// Adds the messages of a list of entries, then those of the cited keys.
     pub fn list(&self, places: &[usize], messages: &mut Sequence<Message>) -> Result<(), AllocError>
         ensures { OnOk result (messages.new ≡ messages.old
             ++ flat_map (reference_messages self.now.keys.now self.now.family.now) places.now

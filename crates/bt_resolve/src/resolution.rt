@@ -82,7 +82,7 @@ fn resolve_asked(
 }
 
 /// The list of entries that a style sees, the preamble, and all messages, from the items of the databases in their
-/// order. An uncited entry to which fewer than `min` entries refer isn't in the list. The one error is out of memory.
+/// order. An uncited entry to which fewer than `min` entries refer isn't in the list.
 #[tactic(auto, unfolding(crate::specs::Resolved::resolved))]
 pub fn resolve(
     alloc: Global,

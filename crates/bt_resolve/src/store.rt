@@ -53,21 +53,21 @@ impl Store {
         self.entries.values()
     }
 
-    /// The place of the entry of a key. The one error is out of memory.
+    /// The place of the entry of a key.
     pub fn place(&self, alloc: Global, key: &[u8]) -> Result<Option<usize>, AllocError>
         ensures { IfOk result (λ place. place ≡ place_of_key self.now key.now) }
     {
         self.entries.place(alloc, key)
     }
 
-    /// Whether a key has an entry. The one error is out of memory.
+    /// Whether a key has an entry.
     pub fn has(&self, alloc: Global, key: &[u8]) -> Result<bool, AllocError>
         ensures { IfOk result (λ stored. stored ≡ is_stored self.now key.now) }
     {
         self.entries.has(alloc, key)
     }
 
-    /// Whether an entry refers to a key. The one error is out of memory.
+    /// Whether an entry refers to a key.
     pub fn refers_to(&self, alloc: Global, key: &[u8]) -> Result<bool, AllocError>
         ensures { IfOk result (λ referred. referred ≡ is_referred_to self.now key.now) }
     {

@@ -22,7 +22,8 @@ style_text files root = named_text files (citations files root).style
 abbrev pub run_work : Option (List ℕ) → List Step → List File → List ℕ → ℕ → List Step
 run_work text earlier files root min = work_after text earlier (style_text files root) (trace files root min)
 
--- The report of a run after an earlier one: how many steps are its work, how many others it has, and what the work costs.
+-- The report of a run after an earlier one: how many steps are its work, how many others it has, and what the work
+-- costs.
 abbrev pub report_after : Option (List ℕ) → List Step → List File → List ℕ → ℕ → Report
 report_after text earlier files root min =
     record {

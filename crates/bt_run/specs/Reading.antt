@@ -137,7 +137,7 @@ all_read databases messages = databases_told 1 databases messages ++ filter (λ 
 
 -- The command
 
--- places of so many entries, in list order
+-- the places of this number of entries, in the order of the list
 abbrev pub list_order : List Entry → List ℕ
 list_order entries = range_with_len 0 (length entries)
 

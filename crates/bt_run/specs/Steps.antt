@@ -6,7 +6,8 @@ use Rattle.bt_style.specs.Reader.{style_of}
 use Rattle.bt_run.specs.declared.course.Step.{Step}
 use Rattle.bt_run.specs.Work.{IsStep, work_under}
 
--- All steps are those of the style of this text, if it could be read. (No cases: a ghost field's type must be seen to be a proposition.)
+-- All steps are those of the style of this text, if it could be read. (No cases: a ghost field's type must be seen to
+-- be a proposition.)
 abbrev pub StepsAre : Option (List ℕ) → List Step → Type 0
 StepsAre text steps = (t : List ℕ) (p : Program) → text ≡ Some t → style_of t ≡ Ok p → All (IsStep p) steps
 

@@ -99,7 +99,7 @@ fn count_line(alloc: Global, name: &[u8], count: u128) -> Result<Message, AllocE
     Message::of(alloc, Rank::CallCount, &[name, b" -- ", count])
 }
 
-/// The line of a function that was called so often.
+/// The line of a function with the number of its calls.
 fn row_told(alloc: Global, builtin: Builtin, count: u128) -> Result<Message, AllocError>
     ensures { IfOk result (λ message. message ≡ count_message (name_of builtin ++ codes " -- " ++ decimal count)) }
 {
@@ -122,7 +122,8 @@ fn tell_rows(
     Ok(())
 }
 
-/// Logs the counts of a run after its messages, function by function in the order of the table.
+/// Logs the counts of a run after its messages, function by function in the order of the table. After out of memory
+/// some of these lines may be there.
 pub fn tell_counts(alloc: Global, course: &mut Course) -> Result<(), AllocError>
     ensures { OnOk result (course.new ≡ with_counts course.old) }
 {

@@ -21,7 +21,7 @@ pub struct Database {
 }
 
 impl Database {
-    /// The database of a text, all of which is read. The one error is out of memory.
+    /// The database of a text, all of which is read.
     pub fn read(alloc: Global, text: Shared<Bytes>) -> Result<Database, AllocError>
         ensures { IfOk result (λ database. database.text ≡ text) }
     {
@@ -29,8 +29,7 @@ impl Database {
         Ok(Database { text, items })
     }
 
-    /// The same for one more owner; no part of it is copied. The one error is that a part has no room for another
-    /// owner.
+    /// The database for one more owner; no part of it is copied.
     pub fn share(&self) -> Result<Database, AllocError>
         ensures { IfOk result (λ same. same.text ≡ self.now.text) }
     {
@@ -41,8 +40,7 @@ impl Database {
     }
 
     /// The database of a text that is this one's with a splice. Only what the splice can have changed is read, from the
-    /// boundary before it to the first one after it that both texts have, and its bytes are counted. The one error is
-    /// out of memory.
+    /// boundary before it to the first one after it that both texts have, and its bytes are counted.
     pub fn spliced(
         &self,
         alloc: Global,
@@ -88,7 +86,8 @@ fn taken_or_read(
     Ok(database)
 }
 
-/// The databases of these names, in order. Those that weren't read before are read, and put after those that were.
+/// The databases of these names, in order. Those that weren't read before are read, and put after those that were;
+/// after out of memory these have what was read so far.
 pub fn databases_in(
     alloc: Global,
     files: &[File],

@@ -55,7 +55,7 @@ fn file_line(alloc: Global, number: usize, file: &Shared<Bytes>) -> Result<Messa
     )
 }
 
-/// Tells one message, if it is about the database of this number.
+/// Adds one message to the log, if it is about the database of this number.
 fn tell_if_about(
     log: &mut Sequence<Message>,
     number: usize,
@@ -87,7 +87,7 @@ fn tell_database(
     Ok(())
 }
 
-/// Tells one message, if it is about no database.
+/// Adds one message to the log, if it is about no database.
 fn tell_if_general(log: &mut Sequence<Message>, message: &Message) -> Result<(), AllocError>
     ensures { OnOk result (log.new ≡ log.old ++ filter (λ (m : MessageSeen). is_general m.place) (message.now ∷ [])) }
 {
@@ -97,7 +97,7 @@ fn tell_if_general(log: &mut Sequence<Message>, message: &Message) -> Result<(),
     Ok(())
 }
 
-/// Tells the messages that are about no database.
+/// Adds the messages that are about no database to the log.
 fn tell_general(log: &mut Sequence<Message>, messages: &[Message]) -> Result<(), AllocError>
     ensures { OnOk result (log.new ≡ log.old ++ filter (λ (m : MessageSeen). is_general m.place) messages.now) }
 {

@@ -32,7 +32,7 @@ fn definition_count(commands: &[Command]) -> usize
     count
 }
 
-/// The first ones, so many; all where there are fewer.
+/// The first `count` ones; all where there are fewer.
 fn first<T>(items: &[T], count: usize) -> &[T]
     ensures { result.now ≡ take count items.now }
 {
@@ -43,7 +43,7 @@ fn first<T>(items: &[T], count: usize) -> &[T]
     }
 }
 
-/// The same texts again.
+/// A copy of some texts.
 fn copied_texts(alloc: Global, texts: &[Bytes]) -> Result<Sequence<Bytes>, AllocError>
     ensures { IfOk result (λ copies. copies ≡ texts.now) }
 {

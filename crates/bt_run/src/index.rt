@@ -57,7 +57,7 @@ impl Index {
         Ok(())
     }
 
-    /// The places of these steps. The one error is out of memory.
+    /// The places of these steps.
     pub fn of(alloc: Global, steps: &[Shared<Step>]) -> Result<Index, AllocError>
         ensures { IfOk result (λ index. IsIndex steps.now index) }
     {
@@ -71,8 +71,7 @@ impl Index {
         Ok(index)
     }
 
-    /// The places at which a step of this command may stand, if its input has the same key. The one error is out of
-    /// memory.
+    /// The places at which a step of this command may stand, if its input has the same key.
     pub fn places(
         &self,
         alloc: Global,

@@ -30,7 +30,7 @@ impl Readings {
         }
     }
 
-    /// The same for one more owner; no text or reading is copied. The one error is out of memory.
+    /// The readings for one more owner; no text or reading is copied.
     pub fn share(&self, alloc: Global) -> Result<Readings, AllocError> {
         let mut styles = Sequence::new(alloc);
         'styles: for style in self.styles.as_slice() {
@@ -47,7 +47,8 @@ impl Readings {
         })
     }
 
-    /// The style that a text spells, or its first fault. It is read where it wasn't before.
+    /// The style that a text spells, or its first fault. It is read where it wasn't before. After out of memory what is
+    /// known is as before, or has this style too.
     pub fn style(
         &mut self,
         alloc: Global,
@@ -59,7 +60,7 @@ impl Readings {
         known.style()
     }
 
-    /// Those readings whose text is still one of these files'. The one error is out of memory.
+    /// Those readings whose text is still one of these files'.
     pub fn present(&self, alloc: Global, files: &[File]) -> Result<Readings, AllocError> {
         Ok(Readings {
             aux_texts: self.aux_texts.present(alloc, files)?,

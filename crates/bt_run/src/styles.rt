@@ -34,8 +34,7 @@ impl ReadStyle {
         Ok(ReadStyle { text, style })
     }
 
-    /// The same for one more owner; no part of it is copied. The one error is that a part has no room for another
-    /// owner.
+    /// What was read, for one more owner; no part of it is copied.
     pub fn share(&self) -> Result<ReadStyle, AllocError>
         ensures { IfOk result (λ same. same.text ≡ self.now.text) }
     {
@@ -67,7 +66,8 @@ fn style_among<'a>(styles: &'a [ReadStyle], text: &[u8]) -> Option<&'a ReadStyle
     styles.iter().find(|known| known.text.as_slice() == text)
 }
 
-/// The style of a text: the one that was read, else it is read and put after those that were.
+/// The style of a text: the one that was read, else it is read and put after those that were. After out of memory
+/// these are as before, or have it too.
 pub fn taken_or_read(
     alloc: Global,
     styles: &mut Sequence<ReadStyle>,

@@ -14,8 +14,8 @@ FieldsAreApart = (text : List ℕ) (p : Program) → style_of text ≡ Ok p → 
 abbrev pub AreFound : {T : Type 0} → (List ℕ → Option T) → (ℕ → T) → List (List ℕ) → Type 0
 AreFound look_up make names = (n : ℕ) (name : List ℕ) → slice_get names n ≡ Some name → look_up name ≡ Some (make n)
 
--- Each name stands for what was declared by it. So no two fields, variables and functions have one name, and none has that
--- of a built-in function; no two macros have one name.
+-- Each name stands for what was declared by it. So no two fields, variables and functions have one name, and none has
+-- that of a built-in function; no two macros have one name.
 pub record NamesAreFound (p : Program) : Type 0 where
   pub fields : AreFound (target_named p) targets.Field p.fields
   pub entry_numbers : AreFound (target_named p) targets.EntryNumber p.entry_numbers

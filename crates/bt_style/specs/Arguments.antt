@@ -1,4 +1,5 @@
--- The arguments of commands. A literal has no place in them but as a macro's text; elsewhere its quote makes a word that is no name.
+-- The arguments of commands. A literal has no place in them but as a macro's text; elsewhere its quote makes a word
+-- that is no name.
 use Rattle.std.specs.Prelude.{ℕ, List, Result, Ok, codes}
 use Rattle.bt_style.specs.declared.fault.FaultKind.TheVariants.{UnclosedText, UnclosedBrace, StrayByte, MissingArgument}
 use Rattle.bt_style.specs.declared.fault.Fault.{Fault}

@@ -37,7 +37,8 @@ function_names p = map (λ f. f.name) p.functions
 abbrev pub macro_names : Program → List (List ℕ)
 macro_names p = map (λ m. m.name) p.macros
 
--- What a name in small letters stands for. Fields, variables, functions and built-in functions share one space of names.
+-- What a name in small letters stands for. Fields, variables, functions and built-in functions share one space of
+-- names.
 abbrev pub meanings : Program → List ℕ → List (Option Target)
 meanings p name =
     option_map targets.Builtin (builtin_named name) ∷

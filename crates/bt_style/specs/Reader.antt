@@ -18,7 +18,7 @@ command_word (Front Close line rest) = fault StrayByte line
 command_word (Front (Word word) line rest) = Ok (Some (word, line, rest))
 command_word (Front _ line rest) = fault UnknownCommand line
 
--- at most so many commands, from a stage on
+-- at most this number of commands, from a stage on
 unfoldable pub commands_at : ℕ → Stage → Program → Tokens → Result Program Fault
 commands_at zero stage p tokens = Ok p
 commands_at (suc most) stage p tokens = command_word tokens >>= λ found. elim found [

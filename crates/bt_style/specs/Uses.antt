@@ -8,7 +8,7 @@ use Rattle.bt_style.specs.Program.{Program, Definition}
 use Rattle.bt_style.specs.Reach.{body_names}
 use Rattle.bt_style.specs.Reader.{style_of}
 
--- what a name stands for is declared, where so many functions are defined
+-- what a name stands for is declared, where this number of functions is defined
 abbrev pub IsDeclared : Program → ℕ → Target → Type 0
 IsDeclared p functions (targets.Builtin b) = Unit {0}
 IsDeclared p functions (targets.Field n) = n < length p.fields

@@ -62,7 +62,7 @@ pub enum Builtin {
     Quote,
     /// `skip$`. Nothing.
     Skip,
-    /// `stack$`. All values: tells each in the log, from the top.
+    /// `stack$`. All values: logs each, from the top.
     Stack,
     /// `substring$`. A text, a start and a length: that part of the text.
     Substring,
@@ -72,11 +72,11 @@ pub enum Builtin {
     TextLength,
     /// `text.prefix$`. A text and a number: the text's first text characters.
     TextPrefix,
-    /// `top$`. A value: tells it in the log.
+    /// `top$`. A value: logs it.
     Top,
     /// `type$`. The entry's type, or nothing where it has no function.
     Type,
-    /// `warning$`. A text: tells it in the log as a warning.
+    /// `warning$`. A text: logs it as a warning.
     Warning,
     /// `while$`. Two functions: runs the lower one, and where it leaves a number above 0, the upper one, and so on.
     While,

@@ -15,7 +15,7 @@ use crate::fault::{FaultKind, StyleRefusal};
 use crate::style::Op;
 use std::alloc::Global;
 
-/// How many digits stand in front.
+/// How many digits the bytes begin with.
 fn digit_count(bytes: &[u8]) -> usize
     ensures { result ≡ length (take_while is_ascii_digit bytes.now) }
 {

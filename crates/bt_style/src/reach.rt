@@ -288,7 +288,7 @@ fn listed(
 impl Style {
     /// What is reached from a name: the name itself, each name that is called or quoted in the bodies of its functions,
     /// inner braces too, and, where `call.type$` is reached, the function of the entry's type (`type_function`, if it
-    /// has one) and `default.type`. A number without a function reaches nothing more. The one error is out of memory.
+    /// has one) and `default.type`. A number without a function reaches nothing more.
     pub fn reach(
         &self,
         alloc: Global,

@@ -26,7 +26,7 @@ fn ends_word(b: u8) -> bool
     is_white(b) || b == b'%' || b == b'{' || b == b'}'
 }
 
-/// How many bytes of a word stand in front.
+/// How many bytes of a word the bytes begin with.
 fn word_length(bytes: &[u8]) -> usize
     ensures { result ≡ length (before_first ends_word bytes.now) }
 {
@@ -78,7 +78,7 @@ fn literal(behind: &[u8], line: usize) -> (Token<'_>, usize)
     }
 }
 
-/// The piece in front: a token or none, and how many bytes it has.
+/// The piece that the text begins with: a token or none, and how many bytes it has.
 #[tactic(auto, unfolding(crate::specs::Token::piece_at))]
 pub fn piece(rest: &[u8], line: usize) -> (Option<Token<'_>>, usize)
     requires { 0 < length rest.now }

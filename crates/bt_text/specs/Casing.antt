@@ -34,7 +34,7 @@ changed_symbol mode (plain b) = changed_byte mode b ∷ []
 abbrev pub changed_block : Mode → List ℕ → List ℕ
 changed_block mode block = if begins_special block then flat_map (changed_symbol mode) (symbols block) else (if begins_group block then block else map (changed_byte mode) block)
 
--- Nothing stands in front, or white space and before it a colon.
+-- Whether a letter after this text begins a title: the text is empty, or ends in white space and before it a colon.
 abbrev pub begins_title : List ℕ → Bool
 begins_title [] = true
 begins_title (b ∷ t) = ends_in is_white (b ∷ t) && ends_in (λ c. c == colon) (trimmed_end (b ∷ t))

@@ -12,7 +12,7 @@ abbrev pub name_at_start : List ℕ → List ℕ
 name_at_start [] = []
 name_at_start (b ∷ t) = if is_digit b then [] else take_while is_name_byte (b ∷ t)
 
--- a whole name: one byte or more, name bytes alone, no digit in front
+-- a whole name: one byte or more, name bytes alone, and the first one no digit
 abbrev pub is_name : List ℕ → Bool
 is_name [] = false
 is_name (b ∷ t) = not (is_digit b) && list_all is_name_byte (b ∷ t)

@@ -7,7 +7,7 @@ abbrev pub text_at : List (ℕ × List ℕ) → ℕ → Option (List ℕ)
 text_at [] place = None
 text_at ((p, text) ∷ rest) place = if p == place then Some text else text_at rest place
 
--- the texts of so many places, the missing ones too
+-- the texts of all places below a count, the missing ones too
 abbrev pub all_texts : ℕ → List (ℕ × List ℕ) → List (Option (List ℕ))
 all_texts count present = map (text_at present) (range_with_len 0 count)
 

@@ -1,4 +1,5 @@
-//! Where a long text is broken into lines.
+//! Where a long text is broken into lines: at one of the places 3 (`first_break`) to 79 (`line_width`), or else after
+//! place 79.
 
 ghost use Rattle.std.specs.Prelude.{◌≡◌, ◌<◌, ◌≤◌, ◌++◌, length, None, IfOk, IfSome, OnOk, OnErr};
 ghost use Rattle.bt_text.specs.Breaking.{break_place, broken, line_unless_empty, near_break, run_end};

@@ -28,7 +28,7 @@ impl<V: Drop> ByName<V> {
         }
     }
 
-    /// The value of a name. The one error is out of memory.
+    /// The value of a name.
     pub fn get(&self, alloc: Global, name: &[u8]) -> Result<Option<&V>, AllocError>
         ensures { IfOk result (λ value. option_copied value ≡ known self.now name.now) }
     {
@@ -46,7 +46,7 @@ impl<V: Drop> ByName<V> {
         self.values.get(small)
     }
 
-    /// Whether a name has a value. The one error is out of memory.
+    /// Whether a name has a value.
     pub fn has(&self, alloc: Global, name: &[u8]) -> Result<bool, AllocError>
         ensures { IfOk result (λ there. there ≡ is_some (known self.now name.now)) }
     {
@@ -60,7 +60,7 @@ impl<V: Drop> ByName<V> {
         self.values.get_index_of(small)
     }
 
-    /// The place of a name in the order in which the names came. The one error is out of memory.
+    /// The place of a name in the order in which the names came.
     pub fn place(&self, alloc: Global, name: &[u8]) -> Result<Option<usize>, AllocError>
         ensures { IfOk result (λ place. place ≡ first_place (λ e. bytes_eq (folded name.now) e.0) (listed self.now)) }
     {

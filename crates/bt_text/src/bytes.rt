@@ -37,7 +37,7 @@ impl Bytes {
         Bytes { bytes }
     }
 
-    /// A copy of these bytes. The one error is out of memory.
+    /// A copy of these bytes.
     pub fn copied(alloc: Global, bytes: &[u8]) -> Result<Self, AllocError>
         ensures { IfOk result (λ text. text ≡ bytes.now) }
     {
@@ -46,7 +46,7 @@ impl Bytes {
         })
     }
 
-    /// The pieces in order, as one text. The one error is out of memory.
+    /// The pieces in order, as one text.
     pub fn of(alloc: Global, pieces: &[&[u8]]) -> Result<Self, AllocError>
         ensures { IfOk result (λ text. text ≡ joined (map (λ piece. piece.now) pieces.now)) }
     {

@@ -122,7 +122,7 @@ fn push_part(
     }
 }
 
-/// A text in the case of the mode. The one error is out of memory.
+/// A text in the case of the mode.
 #[tactic(auto, using(crate::proofs::CasingLemmas::changed_from_start))]
 pub fn change_case(alloc: Global, text: &[u8], mode: Mode) -> Result<Bytes, AllocError>
     ensures { IfOk result (λ changed. changed ≡ changed_case mode text.now) }

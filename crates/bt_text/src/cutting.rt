@@ -40,8 +40,7 @@ fn part(text: &[u8], start: i32, len: i32) -> &[u8]
     }
 }
 
-/// At most `len` bytes of a text: those from `start` on, counted from 1, or those up to `-start` from the end. The one
-/// error is out of memory.
+/// At most `len` bytes of a text: those from `start` on, counted from 1, or those up to `-start` from the end.
 pub fn substring(alloc: Global, text: &[u8], start: i32, len: i32) -> Result<Bytes, AllocError>
     ensures { IfOk result (λ part. part ≡ substring_of text.now start len) }
 {
@@ -112,7 +111,7 @@ fn first_characters(alloc: Global, text: &[u8], most: usize) -> Result<Vec<u8>, 
 }
 
 /// The beginning of a text with its first `most` text characters, or all of it if there are fewer, and a right brace
-/// for each brace left open. The one error is out of memory.
+/// for each brace left open.
 pub fn text_prefix(alloc: Global, text: &[u8], most: i32) -> Result<Bytes, AllocError>
     ensures { IfOk result (λ prefix. prefix ≡ text_prefix_of text.now most) }
 {

@@ -8,7 +8,7 @@ ghost use Rattle.bt_text.specs.Folding.{folded, is_same_folded};
 use crate::bytes::Bytes;
 use std::alloc::{AllocError, Global};
 
-/// A text with small letters for `A` to `Z`. The one error is out of memory.
+/// A text with small letters for `A` to `Z`.
 pub fn to_ascii_lowercase(alloc: Global, text: &[u8]) -> Result<Bytes, AllocError>
     ensures { IfOk result (λ small. small ≡ folded text.now) }
 {

@@ -87,7 +87,7 @@ impl Held {
         }
     }
 
-    /// The same line again. The one error is out of memory.
+    /// A copy of the line.
     pub fn copy(&self, alloc: Global) -> Result<Held, AllocError>
         ensures { IfOk result (λ held. held ≡ self.now) }
     {

@@ -42,14 +42,14 @@ impl NameList {
         self.spelled.values()
     }
 
-    /// Whether a name is among the names. The one error is out of memory.
+    /// Whether a name is among the names.
     pub fn has(&self, alloc: Global, name: &[u8]) -> Result<bool, AllocError>
         ensures { IfOk result (λ among. among ≡ has_name self.now name.now) }
     {
         self.spelled.has(alloc, name)
     }
 
-    /// The name that matches a name, as it was spelled first. The one error is out of memory.
+    /// The name that matches a name, as it was spelled first.
     pub fn find(&self, alloc: Global, name: &[u8]) -> Result<Option<&Bytes>, AllocError>
         ensures { IfOk result (λ found. option_copied found ≡ same_name name.now self.now) }
     {

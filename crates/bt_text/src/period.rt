@@ -29,7 +29,6 @@ fn ends_sentence(text: &[u8]) -> bool
 }
 
 /// The text with a full stop after it, unless it is empty or its last byte that is no right brace is `.`, `?` or `!`.
-/// The one error is out of memory.
 pub fn add_period(alloc: Global, text: &[u8]) -> Result<Bytes, AllocError>
     ensures { IfOk result (λ ended. ended ≡ with_period text.now) }
 {

@@ -58,7 +58,7 @@ fn purify_block(out: &mut Vec<u8>, block: &[u8]) -> Result<(), AllocError>
 }
 
 /// The letters and digits of a text, and a space for white space and separators. In special characters letters and
-/// digits alone are kept, and the letters that foreign control sequences stand for. The one error is out of memory.
+/// digits alone are kept, and the letters that foreign control sequences stand for.
 pub fn purify(alloc: Global, text: &[u8]) -> Result<Bytes, AllocError>
     ensures { IfOk result (λ kept. kept ≡ purified text.now) }
 {

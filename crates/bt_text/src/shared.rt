@@ -22,7 +22,7 @@ impl<T> Model for Shared<T> {
 }
 
 impl<T: Drop> Shared<T> {
-    /// The value, with one owner. The one error is out of memory.
+    /// The value, with one owner.
     pub fn new(alloc: Global, value: T) -> Result<Self, AllocError>
         ensures { IfOk result (λ shared. shared ≡ value) }
     {
@@ -31,7 +31,7 @@ impl<T: Drop> Shared<T> {
         })
     }
 
-    /// The same value for one more owner; it is not copied. The one error is that it has no room for another owner.
+    /// The same value for one more owner; it is not copied.
     pub fn share(&self) -> Result<Self, AllocError>
         ensures { IfOk result (λ shared. shared ≡ self.now) }
     {
@@ -55,14 +55,14 @@ impl<T> Deref for Shared<T> {
 }
 
 impl Shared<Bytes> {
-    /// A copy of these bytes, with one owner. The one error is out of memory.
+    /// A copy of these bytes, with one owner.
     pub fn copied(alloc: Global, bytes: &[u8]) -> Result<Self, AllocError>
         ensures { IfOk result (λ text. text ≡ bytes.now) }
     {
         Shared::new(alloc, Bytes::copied(alloc, bytes)?)
     }
 
-    /// The pieces in order, as one text with one owner. The one error is out of memory.
+    /// The pieces in order, as one text with one owner.
     pub fn of(alloc: Global, pieces: &[&[u8]]) -> Result<Self, AllocError>
         ensures { IfOk result (λ text. text ≡ joined (map (λ piece. piece.now) pieces.now)) }
     {

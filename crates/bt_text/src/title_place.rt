@@ -8,7 +8,7 @@ use crate::modes::Mode;
 pub struct TitlePlace {
     pub is_first: bool,
     pub is_behind_white: bool,
-    /// Whether the last byte in front that isn't white is a colon.
+    /// Whether the last byte before it that isn't white is a colon.
     pub is_behind_colon: bool,
 }
 

@@ -94,7 +94,7 @@ pub fn is_white_joined(text: &[u8]) -> bool
     true
 }
 
-/// A text with each run of white space made one space. The one error is out of memory.
+/// A text with each run of white space made one space.
 pub fn join_white(alloc: Global, text: &[u8]) -> Result<Bytes, AllocError>
     ensures { IfOk result (λ joined. joined ≡ white_joined text.now) }
 {

@@ -1,4 +1,4 @@
-//! Cases of the counted lines of `.aux` texts.
+//! Cases of the lines of `.aux` texts that count.
 
 use crate::spelling::{number, push_list, unspelled, word_at};
 use bt_bib::{AuxFault, AuxItem, Command, read_aux};
@@ -30,7 +30,7 @@ fn push_line(alloc: Global, out: &mut Bytes, item: &AuxItem) -> Result<(), Alloc
     out.append(fault_name(item.fault))
 }
 
-/// The answer of a case: the counted lines.
+/// The answer of a case: the lines that count.
 pub fn answer(alloc: Global, case: &str) -> Result<Bytes, AllocError> {
     let text = unspelled(alloc, word_at(case, 1))?;
     let items = read_aux(alloc, &text)?;

@@ -1,5 +1,5 @@
-//! Cases of databases: their items, each with its span, what was read of it, and its fault; and those of a text that was
-//! spliced, from the items that it had.
+//! Cases of databases: their items, each with its span, what was read of it, and its fault; and those of a text that
+//! was spliced, from the items that it had.
 
 use crate::spelling::{number, push_spelled, unspelled, word_at};
 use bt_bib::{Closing, Content, Fault, Field, Item, KeptItems, Part, Piece, Spot, What, read_bib};

@@ -22,7 +22,8 @@ fn files(alloc: Global, texts: &[(&str, &str)]) -> Result<Vec<File>, AllocError>
     Ok(files)
 }
 
-/// What is asked for by some files from a root on: how many keys, databases and names that are wanted, the status, and the log.
+/// What is asked for by some files from a root on: how many keys, databases and names that are wanted, the status, and
+/// the log.
 fn told(alloc: Global, root: &[u8], texts: &[(&str, &str)]) -> Result<Bytes, AllocError> {
     let files = files(alloc, texts)?;
     let citations = read_citations(alloc, files.as_slice(), root, &mut AuxTexts::new(alloc))?;

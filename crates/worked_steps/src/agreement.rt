@@ -66,8 +66,8 @@ const BASE: Recipe<'static> = Recipe {
     preamble: "pre",
 };
 
-/// What an input is made from whose entry's type has this function, and that differs in one thing; texts that differ have
-/// the same length.
+/// What an input is made from whose entry's type has this function, and that differs in one thing; texts that differ
+/// have the same length.
 fn recipe_of(function: Option<usize>, change: Change) -> Recipe<'static> {
     let base = Recipe { function, ..BASE };
     match change {

@@ -1,4 +1,5 @@
-//! Worked examples of steps: what the built-in functions do, and what comes of whole steps. The library itself is empty.
+//! Worked examples of steps: what the built-in functions do, and what comes of whole steps. The library itself is
+//! empty.
 #![tactic(auto)]
 
 #[cfg(test)]

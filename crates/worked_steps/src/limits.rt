@@ -8,7 +8,7 @@ use bt_text::{Bytes, Sequence};
 use std::alloc::{AllocError, Global};
 use std::test::Fail;
 
-/// So many zeros.
+/// This number of zeros.
 fn zeros<'a>(alloc: Global, count: usize) -> Result<Vec<Value<'a>>, AllocError> {
     let mut values = Vec::new(alloc);
     for _ in 0..count {
@@ -50,7 +50,7 @@ fn a_full_stack_takes_no_value(rt: HostRuntime) -> Result<(), Fail> {
     Ok(())
 }
 
-/// So many letters.
+/// This number of letters.
 fn letters(alloc: Global, count: usize) -> Result<Bytes, AllocError> {
     let mut letters = Vec::new(alloc);
     for _ in 0..count {
@@ -59,7 +59,7 @@ fn letters(alloc: Global, count: usize) -> Result<Bytes, AllocError> {
     Ok(Bytes::from_vec(letters))
 }
 
-/// A call over two texts of so many letters.
+/// A call over two texts with these numbers of letters.
 fn call_over_texts(
     state: &mut State,
     alloc: Global,
@@ -72,7 +72,7 @@ fn call_over_texts(
     call(state, alloc, builtin)
 }
 
-/// Whether a call over two texts of so many letters stops the run, and how many errors were reported.
+/// Whether a call over two texts with these numbers of letters stops the run, and how many errors were reported.
 fn called_over_texts(
     alloc: Global,
     builtin: Builtin,
@@ -103,14 +103,14 @@ fn texts_have_a_limit(rt: HostRuntime) -> Result<(), Fail> {
     Ok(())
 }
 
-/// Writes a letter after so many held ones.
+/// Writes a letter where this number of letters is held.
 fn write_behind(state: &mut State, alloc: Global, held: usize) -> Result<Flow, AllocError> {
     state.write(alloc, letters(alloc, held)?.as_slice())?;
     state.push_text(Text::Own(letters(alloc, 1)?))?;
     call(state, alloc, Builtin::Write)
 }
 
-/// Whether writing a letter after so many held ones stops the run, and how many bytes are held then.
+/// Whether writing a letter where this number is held stops the run, and how many bytes are held then.
 fn written_behind(alloc: Global, held: usize) -> Result<(Flow, usize), AllocError> {
     let mut state = state(alloc, None, Vec::new(alloc))?;
     let flow = write_behind(&mut state, alloc, held)?;

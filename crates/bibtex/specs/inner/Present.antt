@@ -1,4 +1,4 @@
--- What only helpers' contracts say, beside `Present`.
+-- The present texts of a session as a type, for clauses of helpers.
 use Rattle.std.specs.Prelude.{List}
 use Rattle.bt_job.specs.declared.files.File.{File}
 

@@ -1,4 +1,4 @@
--- What only helpers' contracts say, beside `Names`.
+-- What `format.name$` pushes, where of a name that is too long no more is known than that.
 use Rattle.bt_names.specs.declared.calls.Formatted.{Formatted}
 use Rattle.bt_names.specs.declared.calls.Formatted.TheVariants.{Text, Longer}
 use Rattle.bt_actions.specs.Item.{Txt}

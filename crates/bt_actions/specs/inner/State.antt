@@ -1,4 +1,4 @@
--- What only helpers' contracts say, beside `State`.
+-- An error that is reported where a value then goes on the stack, so only where there is room.
 use Rattle.std.specs.Prelude.{length, nat_lt, if◌then◌else◌}
 use Rattle.bt_actions.specs.declared.complaint.Complaint.{Complaint}
 use Rattle.bt_actions.specs.World.{World, say}

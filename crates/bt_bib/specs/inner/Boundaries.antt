@@ -1,9 +1,9 @@
--- What only helpers' contracts say, beside `Boundaries`.
+-- Pieces in the order of a text, and those of them that end below a place.
 use Rattle.std.specs.Prelude.{ℕ, nat_lt, List, [], ◌∷◌, if◌then◌else◌}
 use Rattle.bt_bib.specs.declared.item.Piece.{Piece}
 use Rattle.bt_bib.specs.Boundaries.{end_of, Rises}
 
--- the pieces in front that end below a place
+-- of pieces whose ends rise, those that end below a place
 abbrev pub below : ℕ → List Piece → List Piece
 below limit [] = []
 below limit (p ∷ ps) = if nat_lt (end_of p).place limit then p ∷ below limit ps else []

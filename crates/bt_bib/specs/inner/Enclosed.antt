@@ -1,4 +1,4 @@
--- What only helpers' contracts say, beside `Enclosed`.
+-- What each byte between braces or quotes does to the count of open braces.
 use Rattle.std.specs.Prelude.{ℕ, ◌+◌, ◌-◌, ◌≤◌, Bool, ◌&&◌, ◌||◌, ◌==◌, not, Result, Ok, if◌then◌else◌}
 use Rattle.bt_text.specs.ByteTests.{left_brace, right_brace}
 use Rattle.bt_bib.specs.declared.enclosed.Turn.{Turn}
@@ -11,7 +11,7 @@ use Rattle.bt_bib.specs.Enclosed.{enclosed}
 abbrev pub enclosed_end : ℕ → Here → Result Here Stop
 enclosed_end close h = enclosed close h >>= λ x. Ok x.1
 
--- what a byte does where so many braces are open
+-- what a byte does where `depth` braces are open
 abbrev pub turn : ℕ → ℕ → ℕ → Turn
 turn close depth b =
     if b == close && depth == 0 then turns.Closes
@@ -23,7 +23,7 @@ turn close depth b =
 abbrev pub is_plain : ℕ → ℕ → Bool
 is_plain close b = not (b == close || b == left_brace || b == right_brace)
 
--- It opens no more than so many.
+-- It leaves no more braces open than that.
 abbrev pub IsNear : ℕ → Turn → Type 0
 IsNear most turns.Closes = Unit {0}
 IsNear most turns.Breaks = Unit {0}

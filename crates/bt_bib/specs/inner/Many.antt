@@ -1,4 +1,4 @@
--- What only helpers' contracts say, beside `Many`.
+-- What a loop has read, together with what is read after it.
 use Rattle.std.specs.Prelude.{List, ◌++◌, Result}
 use Rattle.bt_bib.specs.Spot.{Here}
 use Rattle.bt_bib.specs.Stop.{Stop}

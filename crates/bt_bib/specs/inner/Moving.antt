@@ -1,4 +1,4 @@
--- What only helpers' contracts say, beside `Moving`.
+-- Places and lines after one spot, as they are after another.
 use Rattle.std.specs.Prelude.{◌+◌, ◌-◌, List, map, Option}
 use Rattle.bt_bib.specs.declared.spot.Spot.{Spot}
 use Rattle.bt_bib.specs.declared.item.Part.{Part}

@@ -1,4 +1,4 @@
--- What only helpers' contracts say, beside `Pieces`.
+-- An item of the code with the place after it, which may be a fault's.
 use Rattle.std.specs.Prelude.{◌≡◌, ℕ, Option, Some, None, Result, Ok, Err}
 use Rattle.bt_bib.specs.declared.spot.Spot.{Spot}
 use Rattle.bt_bib.specs.declared.item.Closing.{Closing}

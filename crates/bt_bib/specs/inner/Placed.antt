@@ -1,4 +1,4 @@
--- What only helpers' contracts say, beside `Placed`.
+-- Where a piece begins.
 use Rattle.std.specs.Prelude.{◌≤◌}
 use Rattle.bt_bib.specs.declared.spot.Spot.{Spot}
 use Rattle.bt_bib.specs.declared.item.Piece.{Piece}

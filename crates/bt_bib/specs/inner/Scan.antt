@@ -1,4 +1,4 @@
--- What only helpers' contracts say, beside `Scan`.
+-- Which bytes a class of the code has.
 use Rattle.std.specs.Prelude.{ℕ, Bool}
 use Rattle.bt_text.specs.ByteTests.{is_white, is_digit}
 use Rattle.bt_text.specs.NameBytes.{is_name_byte}

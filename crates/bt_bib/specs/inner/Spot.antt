@@ -1,4 +1,4 @@
--- What only helpers' contracts say, beside `Spot`.
+-- Spots that lie in a text.
 use Rattle.std.specs.Prelude.{ℕ, ◌+◌, ◌≤◌, List, length}
 use Rattle.bt_bib.specs.declared.spot.Spot.{Spot}
 

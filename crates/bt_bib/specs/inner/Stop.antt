@@ -1,4 +1,4 @@
--- What only helpers' contracts say, beside `Stop`.
+-- Readers of the code beside those of the definitions: both stop in the same places, unless memory ran out.
 use Rattle.std.specs.Prelude.{◌≡◌, List, Result, Ok, Err, IfOk}
 use Rattle.std.specs.declared.alloc.AllocError.{AllocError}
 use Rattle.bt_bib.specs.declared.spot.Spot.{Spot}

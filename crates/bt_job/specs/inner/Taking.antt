@@ -1,5 +1,5 @@
--- What a counted line comes to at the code's steps: what it adds to what is asked for, and its error or the file that
--- it opens.
+-- What a line that counts comes to at the code's steps: what it adds to what is asked for, and its error or the file
+-- that it opens.
 use Rattle.std.specs.Prelude.{ℕ, Bool, true, false, List, [], ◌∷◌, ◌++◌, length, codes, Option, Some, None, if◌then◌else◌}
 use Rattle.std.specs.Str.{bytes_eq}
 use Rattle.bt_text.specs.NameList.{same_name}
@@ -138,7 +138,7 @@ command_met Database r = record r { database_met = true }
 command_met Style r = record r { style_met = true }
 command_met Nested r = r
 
--- a counted line
+-- a line that counts
 unfoldable pub item_taken : List File → AuxItem → Progress → Progress × Outcome
 item_taken files item r =
     if is_second item.command r then (r, Wrong (second_words item.command))

@@ -1,4 +1,4 @@
--- What only helpers' contracts say, beside `Footprint`.
+-- Whether a place is among some.
 use Rattle.std.specs.Prelude.{ℕ, Bool, List, nat_eq}
 use Rattle.std.specs.List.{list_any}
 

@@ -1,4 +1,4 @@
--- What only helpers' contracts say, beside `Cutting`.
+-- The sections of a text, one after another, and where a token begins.
 use Rattle.std.specs.Prelude.{ℕ, ◌==◌, Bool, false, not, ◌||◌, List, [], ◌∷◌, drop}
 use Rattle.std.specs.List.{slice_split}
 use Rattle.bt_text.specs.Blocks.{blocks}

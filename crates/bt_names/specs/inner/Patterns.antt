@@ -1,4 +1,4 @@
--- What only helpers' contracts say, beside `Patterns`.
+-- The place of the letter of a group.
 use Rattle.std.specs.Prelude.{◌≡◌, ℕ, ◌<◌, true, List, length, slice_index}
 use Rattle.bt_text.specs.ByteTests.{is_letter}
 use Rattle.bt_text.specs.Depth.{depth_at}

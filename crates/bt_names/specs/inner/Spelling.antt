@@ -1,4 +1,4 @@
--- What only helpers' contracts say, beside `Spelling`.
+-- The parts of a name by their initials.
 use Rattle.std.specs.Prelude.{map}
 use Rattle.bt_names.specs.declared.tokens.Parts.{Parts}
 use Rattle.bt_names.specs.Spelling.{by_initial}

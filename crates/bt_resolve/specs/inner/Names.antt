@@ -1,4 +1,4 @@
--- What only helpers' contracts say, beside `Names`.
+-- Places of names, counted from a place of the list on.
 use Rattle.std.specs.Prelude.{ℕ, ◌+◌, List, drop, Option, option_map}
 use Rattle.bt_resolve.specs.Names.{place_of_name}
 

@@ -1,4 +1,4 @@
--- What only helpers' contracts say, beside `Values`.
+-- A text with one part more, within the limit.
 use Rattle.std.specs.Prelude.{ℕ, List, ◌++◌, Option}
 use Rattle.bt_resolve.specs.Values.{within_limit}
 

@@ -1,4 +1,4 @@
--- What only helpers' contracts say, beside `Warnings`.
+-- The line of an item, by where the item stands.
 use Rattle.std.specs.Prelude.{ℕ, ◌+◌}
 use Rattle.bt_resolve.specs.declared.message.Place.{Place}
 use Rattle.bt_resolve.specs.declared.message.Origin.{Origin}

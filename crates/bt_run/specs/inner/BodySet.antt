@@ -1,5 +1,5 @@
--- Two bodies are equal in at most one way, so that a ghost field may say what a style was read as. antt finds this of a data
--- type that stands alone; elements and bodies, which contain each other, are stored in one.
+-- Two bodies are equal in at most one way, so that a ghost field may say what a style was read as. antt finds this of a
+-- data type that stands alone; elements and bodies, which contain each other, are stored in one.
 use Rattle.std.specs.Prelude.{◌≡◌, ℕ, ℤ, pos, List}
 use Rattle.std.proofs.Common.{refl, sym, ap, ◌∙◌}
 use Rattle.std.proofs.Math.IntN.{ℤ_set}

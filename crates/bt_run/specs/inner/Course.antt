@@ -1,4 +1,4 @@
--- What only helpers' contracts say, beside `Course`.
+-- What is put back into a run after a step.
 use Rattle.std.specs.Prelude.{ℕ, List, ◌++◌, slice_set, slice_index_or, Option, Some, None}
 use Rattle.bt_actions.specs.declared.entry.Variables.{Variables}
 use Rattle.bt_actions.specs.declared.entry.Entry.{Entry}
@@ -16,8 +16,8 @@ abbrev pub variables_back : Option ℕ → Option Variables → List Entry → L
 variables_back None v entries = entries
 variables_back (Some n) v entries = slice_set entries n (with_variables v (slice_index_or entries n no_entry))
 
--- What an outcome leaves of a run: the entry's variables are replaced, and its lines go to the end. The log and the trace
--- are not touched.
+-- What an outcome leaves of a run: the entry's variables are replaced, and its lines go to the end. The log and the
+-- trace are not touched.
 abbrev pub put_back : Option ℕ → Outcome → Course → Course
 put_back x o r =
     record r {

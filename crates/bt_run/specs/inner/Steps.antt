@@ -1,4 +1,4 @@
--- What only helpers' contracts say, beside `Steps`.
+-- The steps of an earlier run, and what a run over them has taken of them, where the style's text may have changed.
 use Rattle.std.specs.Prelude.{◌≡◌, ◌≤◌, ℕ, List, [], Option, Some, None, length, bytes_eq, if◌then◌else◌}
 use Rattle.bt_run.specs.declared.course.Step.{Step}
 use Rattle.bt_run.specs.declared.reuse.Reuse.{Reuse}

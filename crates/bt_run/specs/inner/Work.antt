@@ -1,4 +1,4 @@
--- What only helpers' contracts say, beside `Work`.
+-- What a run over earlier steps knows and keeps to.
 use Rattle.std.specs.Prelude.{◌≡◌, ◌↔◌, ◌<◌, ◌≤◌, ◌+◌, ◌*◌, ℕ, List, [], ◌∷◌, Some, All, Contains, length, slice_get}
 use Rattle.std.specs.Option.{ForSome}
 use Rattle.bt_style.specs.declared.style.Target.{Target}

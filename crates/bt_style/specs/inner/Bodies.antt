@@ -1,4 +1,4 @@
--- What only helpers' contracts say, beside `Bodies`.
+-- The elements before each open brace, as the code keeps them.
 use Rattle.std.specs.Prelude.{List, map, reverse, Vec}
 use Rattle.std.specs.declared.alloc.Global.{Global}
 use Rattle.bt_style.specs.declared.style.Op.{Op}

@@ -1,4 +1,4 @@
--- What only helpers' contracts say, beside `Draft`.
+-- What a name that is declared next stands for.
 use Rattle.std.specs.Prelude.{length}
 use Rattle.bt_style.specs.declared.style.Target.{Target}
 use Rattle.bt_style.specs.declared.style.Target.TheVariants as targets

@@ -1,4 +1,4 @@
--- What only helpers' contracts say, beside `Names`.
+-- A table that has at each name what a function gives.
 use Rattle.std.specs.Prelude.{◌≡◌, ℕ, List, Option}
 use Rattle.bt_text.specs.declared.by_name.ByName.{ByName}
 use Rattle.bt_text.specs.ByName.{at_small}

@@ -1,4 +1,4 @@
--- What only helpers' contracts say, beside `Numbers`.
+-- The number of a name, by its list.
 use Rattle.std.specs.Prelude.{ℕ, Option}
 use Rattle.bt_style.specs.declared.style.Target.{Target}
 use Rattle.bt_style.specs.declared.names.Names.{Names}

@@ -1,4 +1,4 @@
--- What only helpers' contracts say, beside `Reach`.
+-- What the code keeps while it looks for the names that are reached.
 use Rattle.std.specs.Prelude.{◌≡◌, ℕ, ◌+◌, List, [], ◌∷◌, ◌++◌}
 use Rattle.std.specs.HashSet.{HashSet, contains}
 use Rattle.std.proofs.Common.{Bor}
