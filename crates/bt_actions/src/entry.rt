@@ -2,14 +2,14 @@
 
 ghost use Rattle.std.specs.Prelude.{◌≡◌, IfOk};
 
-use bt_text::{Bytes, Sequence, Shared, SparseTexts};
+use bt_text::{Bytes, Sequence, Shared, SparseTexts, Values};
 use std::alloc::{AllocError, Global};
 
 /// The values of variables: the numbers and the texts, each by the number of its variable.
 #[derive(Debug, Drop)]
 pub struct Variables {
-    pub numbers: Sequence<i32>,
-    pub texts: Sequence<Shared<Bytes>>,
+    pub numbers: Values<i32>,
+    pub texts: Values<Shared<Bytes>>,
 }
 
 /// The same texts for one more owner; none of them is copied. The one error is out of memory.
@@ -29,13 +29,14 @@ pub fn share_texts(
 impl Variables {
     ghost use Rattle.std.specs.Prelude.{◌≡◌, IfOk};
 
-    /// The same variables, which can be changed, with the same texts. The one error is out of memory.
+    /// The same variables, which can be changed. Texts are shared, and where there are many variables all but a few of
+    /// them. The one error is out of memory.
     pub fn copy(&self, alloc: Global) -> Result<Variables, AllocError>
         ensures { IfOk result (λ copy. copy ≡ self.now) }
     {
         Ok(Variables {
-            numbers: Sequence::from_vec(Vec::from_slice(alloc, self.numbers.as_slice())?),
-            texts: share_texts(alloc, self.texts.as_slice())?,
+            numbers: self.numbers.copied(alloc)?,
+            texts: self.texts.copied(alloc)?,
         })
     }
 }

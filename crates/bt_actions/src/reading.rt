@@ -13,24 +13,26 @@ use crate::entry::Entry;
 use crate::short_text::Text;
 use crate::state::{Flow, State};
 use crate::value::Value;
-use bt_text::{Bytes, Shared};
+use bt_text::{Bytes, Shared, Values};
 use std::alloc::AllocError;
 
 /// The number at a place, or 0.
-fn number_at(numbers: &[i32], n: usize) -> i32
+fn number_at(numbers: &Values<i32>, n: usize) -> i32
     ensures { result ≡ slice_index_or numbers.now n (pos 0) }
 {
-    if n < numbers.len() { numbers[n] } else { 0 }
+    match numbers.get(n) {
+        Some(number) => *number,
+        None => 0,
+    }
 }
 
 /// The text at a place, shared with the variable, or the empty text.
-fn text_at<'a>(texts: &[Shared<Bytes>], n: usize) -> Result<Text<'a>, AllocError>
+fn text_at<'a>(texts: &Values<Shared<Bytes>>, n: usize) -> Result<Text<'a>, AllocError>
     ensures { IfOk result (λ text. bytes_of text ≡ slice_index_or texts.now n []) }
 {
-    if n < texts.len() {
-        Ok(Text::Shared(texts[n].share()?))
-    } else {
-        Ok(Text::Lent(b""))
+    match texts.get(n) {
+        Some(text) => Ok(Text::Shared(text.share()?)),
+        None => Ok(Text::Lent(b"")),
     }
 }
 
@@ -56,7 +58,7 @@ pub fn call_entry_number(state: &mut State, n: usize) -> Result<Flow, AllocError
     match &state.current {
         None => state.push_zero_in_error(Complaint::NoEntry),
         Some(current) => {
-            let number = number_at(current.variables.present().numbers.as_slice(), n);
+            let number = number_at(&current.variables.present().numbers, n);
             state.push_number(number)
         }
     }
@@ -70,7 +72,7 @@ pub fn call_entry_text(state: &mut State, n: usize) -> Result<Flow, AllocError>
     match &state.current {
         None => state.push_text_in_error(Complaint::NoEntry, Text::Lent(b"")),
         Some(current) => {
-            let text = text_at(current.variables.present().texts.as_slice(), n)?;
+            let text = text_at(&current.variables.present().texts, n)?;
             state.push_text(text)
         }
     }
@@ -81,7 +83,7 @@ pub fn call_global_number(state: &mut State, n: usize) -> Result<Flow, AllocErro
     ensures world { IfOk result (Acts (global_number n) state.old state.new) }
     ensures tally { state.new.tally ≡ state.old.tally }
 {
-    let number = number_at(state.globals.present().numbers.as_slice(), n);
+    let number = number_at(&state.globals.present().numbers, n);
     state.push_number(number)
 }
 
@@ -90,7 +92,7 @@ pub fn call_global_text(state: &mut State, n: usize) -> Result<Flow, AllocError>
     ensures world { IfOk result (Acts (global_text n) state.old state.new) }
     ensures tally { state.new.tally ≡ state.old.tally }
 {
-    let text = text_at(state.globals.present().texts.as_slice(), n)?;
+    let text = text_at(&state.globals.present().texts, n)?;
     state.push_text(text)
 }
 

@@ -33,24 +33,6 @@ impl<'a> Model for StepVariables<'a> {
     ghost view = { λ variables. variables_of variables.holder };
 }
 
-/// Gives the number variable at a place a value, if there is one.
-fn put_number(variables: &mut Variables, n: usize, number: i32)
-    ensures { variables.new ≡ record variables.old { numbers = slice_set variables.old.numbers n number } }
-{
-    if n < variables.numbers.len() {
-        variables.numbers.set(n, number);
-    }
-}
-
-/// Gives the text variable at a place a value, if there is one.
-fn put_text(variables: &mut Variables, n: usize, text: Shared<Bytes>)
-    ensures { variables.new ≡ record variables.old { texts = slice_set variables.old.texts n text } }
-{
-    if n < variables.texts.len() {
-        variables.texts.set(n, text);
-    }
-}
-
 impl<'a> StepVariables<'a> {
     ghost use Rattle.std.specs.Prelude.{◌≡◌, IfOk, OnOk, slice_set};
 
@@ -89,10 +71,10 @@ impl<'a> StepVariables<'a> {
         match &mut self.holder {
             Holder::Given(variables) => {
                 let mut own = variables.copy(alloc)?;
-                put_number(&mut own, n, number);
+                own.numbers.set(alloc, n, number)?;
                 self.holder = Holder::Own(own);
             }
-            Holder::Own(variables) => put_number(variables, n, number),
+            Holder::Own(variables) => variables.numbers.set(alloc, n, number)?,
         }
         Ok(())
     }
@@ -109,10 +91,10 @@ impl<'a> StepVariables<'a> {
         match &mut self.holder {
             Holder::Given(variables) => {
                 let mut own = variables.copy(alloc)?;
-                put_text(&mut own, n, text);
+                own.texts.set(alloc, n, text)?;
                 self.holder = Holder::Own(own);
             }
-            Holder::Own(variables) => put_text(variables, n, text),
+            Holder::Own(variables) => variables.texts.set(alloc, n, text)?,
         }
         Ok(())
     }

@@ -16,17 +16,6 @@ use Rattle.bt_machine.proofs.Truths.{and_both}
 use Rattle.bt_machine.proofs.Comparing.{variables_equal}
 use Rattle.bt_machine.proofs.Agreeing.{agreeing_inputs, agreeing_reach, rest_stays}
 
--- texts that are equal at each place
-pub texts_equal : (m : ℕ) (xs ys : List (List ℕ)) → length xs ≡ length ys → length xs ≤ m → ((n : ℕ) → n < m → same_text_at n xs ys ≡ true) → xs ≡ ys
-texts_equal m [] [] l b h = refl
-texts_equal m [] (y ∷ ys) l b h = absurd (omega (arith, l))
-texts_equal m (x ∷ xs) [] l b h = absurd (omega (arith, l))
-texts_equal zero (x ∷ xs) (y ∷ ys) l b h = absurd (omega (arith, b))
-texts_equal (suc m) (x ∷ xs) (y ∷ ys) l b h =
-    let first = (bytes_eq-Decides x y).0 (h 0 (omega arith)) in
-    let rest = texts_equal m xs ys (omega (arith, l)) (omega (arith, b)) (λ n k. h (suc n) (omega (arith, k))) in
-    λ j. first j ∷ rest j
-
 -- variables that have all that was left
 pub has_left : (ns ts : List ℕ) (v b : Variables) (c : Bool) → c ≡ (same_counts v b && same_variables ns ts v b) → c ≡ true → b ≡ blend_variables (among ns) (among ts) v b
 has_left ns ts v b c e h =

@@ -1,51 +1,27 @@
 //! What a step leaves that need not be carried out again, since an earlier one agrees with it.
 
-ghost use Rattle.std.specs.Prelude.{◌≡◌, ◌&&◌, IsTrue, IfOk, option_map, length};
+ghost use Rattle.std.specs.Prelude.{◌≡◌, ◌&&◌, IsTrue, IfOk, option_map};
 ghost use Rattle.bt_style.specs.Reach.{is_among, keeps_held};
 ghost use Rattle.bt_machine.specs.Agreement.{IsNextOutcome, outcome_over, own_over};
 ghost use Rattle.bt_machine.specs.Comparison.{same_counts, same_variables};
 ghost use Rattle.bt_machine.specs.Footprint.{blend_globals, pick};
 ghost use Rattle.bt_machine.specs.inner.Putting.{blend_at};
 
-use crate::agreement::{same_counts, same_text_at, same_variables};
+use crate::agreement::{same_counts, same_variables};
 use crate::input::Input;
 use crate::outcome::Outcome;
 use crate::putting::{Places, reached_globals, reached_owns, variables_over};
 use bt_actions::{Variables, share_texts};
 use bt_log::Message;
 use bt_style::Reach;
-use bt_text::{Bytes, Held, Sequence, Shared};
+use bt_text::{Held, Sequence, Shared};
 use std::alloc::{AllocError, Global};
-
-/// Whether texts are equal, of which there are as many.
-fn equal_texts(old: &[Shared<Bytes>], new: &[Shared<Bytes>]) -> bool
-    requires { length old.now ≡ length new.now }
-    ensures { IsTrue result → old.now ≡ new.now }
-{
-    'places: for place in 0..old.len() {
-        if !same_text_at(old, new, place) {
-            return false;
-        }
-    }
-    true
-}
-
-/// Whether numbers are equal.
-fn equal_numbers(old: &[i32], new: &[i32]) -> bool
-    ensures { IsTrue result → old.now ≡ new.now }
-{
-    old == new
-}
 
 /// Whether all variables are equal.
 pub fn equal_variables(old: &Variables, new: &Variables) -> bool
     ensures { IsTrue result → old.now ≡ new.now }
 {
-    if !same_counts(old, new) {
-        return false;
-    }
-    equal_numbers(old.numbers.as_slice(), new.numbers.as_slice())
-        && equal_texts(old.texts.as_slice(), new.texts.as_slice())
+    same_counts(old, new) && old.numbers.is_same(&new.numbers) && old.texts.is_same(&new.texts)
 }
 
 /// Whether others' variables are as many, and have all that was left at some places.

@@ -26,7 +26,7 @@ use bt_log::{Message, lines_bytes, log_bytes, status, terse_bytes};
 use bt_machine::Meter;
 use bt_resolve::Cites;
 use bt_style::{Fault, StyleRefusal, fields_are_apart};
-use bt_text::{Bytes, Sequence, Shared};
+use bt_text::{Bytes, Sequence, Shared, Values};
 use std::alloc::{AllocError, Global};
 
 /// What a run shows.
@@ -64,8 +64,8 @@ fn no_variables(alloc: Global) -> Variables
     ensures { result ≡ no_variables }
 {
     Variables {
-        numbers: Sequence::new(alloc),
-        texts: Sequence::new(alloc),
+        numbers: Values::new(alloc),
+        texts: Values::new(alloc),
     }
 }
 

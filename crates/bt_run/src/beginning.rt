@@ -9,7 +9,7 @@ use crate::declaring::empty_texts;
 use bt_actions::Variables;
 use bt_log::{Message, Place, Rank};
 use bt_style::{Fault, Style};
-use bt_text::{Bytes, Held, Sequence, Shared};
+use bt_text::{Bytes, Held, Sequence, Shared, Values};
 use std::alloc::{AllocError, Global};
 
 /// The value of a global number at the start.
@@ -26,14 +26,14 @@ fn first_number(name: &[u8]) -> i32
 }
 
 /// The values of the global numbers at the start.
-fn first_numbers(alloc: Global, names: &[Bytes]) -> Result<Sequence<i32>, AllocError>
+fn first_numbers(alloc: Global, names: &[Bytes]) -> Result<Values<i32>, AllocError>
     ensures { IfOk result (λ numbers. numbers ≡ map first_number names.now) }
 {
-    let mut numbers = Sequence::new(alloc);
+    let mut numbers = Vec::new(alloc);
     'names: for name in names {
         numbers.push(first_number(name.as_slice()))?;
     }
-    Ok(numbers)
+    Values::from_vec(alloc, numbers)
 }
 
 /// The globals at the start, as many as the style declares.

@@ -8,7 +8,7 @@ ghost use Rattle.bt_run.specs.Reading.{is_definition, known_macro, declared_befo
 use bt_actions::Variables;
 use bt_resolve::{Declared, Macro};
 use bt_style::{Action, Command, Function, Style};
-use bt_text::{Bytes, Sequence, Shared};
+use bt_text::{Bytes, Sequence, Shared, Values};
 use std::alloc::{AllocError, Global};
 
 /// Whether a command defines a function.
@@ -94,26 +94,26 @@ pub fn declared_before(alloc: Global, style: &Style, number: usize) -> Result<De
 }
 
 /// A number that is 0 for each name.
-fn zeros(alloc: Global, names: &[Bytes]) -> Result<Sequence<i32>, AllocError>
+fn zeros(alloc: Global, names: &[Bytes]) -> Result<Values<i32>, AllocError>
     ensures { IfOk result (λ numbers. numbers ≡ map (λ name. pos 0) names.now) }
 {
-    let mut numbers = Sequence::new(alloc);
+    let mut numbers = Vec::new(alloc);
     'names: for _name in names {
         numbers.push(0)?;
     }
-    Ok(numbers)
+    Values::from_vec(alloc, numbers)
 }
 
 /// An empty text for each name.
-pub fn empty_texts(alloc: Global, names: &[Bytes]) -> Result<Sequence<Shared<Bytes>>, AllocError>
+pub fn empty_texts(alloc: Global, names: &[Bytes]) -> Result<Values<Shared<Bytes>>, AllocError>
     ensures { IfOk result (λ texts. texts ≡ map (λ name. []) names.now) }
 {
     let empty = Shared::new(alloc, Bytes::new(alloc))?;
-    let mut texts = Sequence::new(alloc);
+    let mut texts = Vec::new(alloc);
     'names: for _name in names {
         texts.push(empty.share()?)?;
     }
-    Ok(texts)
+    Values::from_vec(alloc, texts)
 }
 
 /// The variables of these names at the start: numbers that are 0, and empty texts.

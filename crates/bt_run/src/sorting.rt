@@ -12,7 +12,7 @@ use std::alloc::{AllocError, Global};
 fn sort_key(entry: &Entry) -> &[u8]
     ensures { result.now ≡ sort_key entry.now }
 {
-    match entry.variables.texts.as_slice().first() {
+    match entry.variables.texts.get(0) {
         Some(key) => key.as_slice(),
         None => b"",
     }

@@ -6,6 +6,7 @@ pub mod JoinLemmas
 pub mod CuttingLemmas
 pub mod PeriodLemmas
 pub mod CasingLemmas
+pub mod ChunkLemmas
 pub mod TitlePlaceLemmas
 pub mod WidthsLemmas
 pub mod BreakingLemmas

@@ -1,3 +1,4 @@
 -- What only helpers, loops and proofs need: no part of the meaning.
 pub mod TitlePlace
 pub mod Merging
+pub mod Chunks

@@ -27,3 +27,5 @@ mod styles;
 mod tables_of_names;
 #[cfg(test)]
 mod text_functions;
+#[cfg(test)]
+mod values;

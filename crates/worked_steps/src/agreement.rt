@@ -7,7 +7,7 @@ ghost use Rattle.bt_machine.specs.Agreement.{IsFootprint};
 use crate::stepping::style;
 use bt_machine::{Entry, Input, Meter, Outcome, Variables, activate, agrees, left_over};
 use bt_style::{Reach, Style, Target};
-use bt_text::{Bytes, Held, Sequence, Shared, SparseTexts};
+use bt_text::{Bytes, Held, Sequence, Shared, SparseTexts, Values};
 use std::alloc::{AllocError, Global};
 use std::test::Fail;
 
@@ -139,9 +139,8 @@ fn fields(alloc: Global, recipe: Recipe<'_>) -> Result<SparseTexts, AllocError> 
 
 /// Some numbers and a text.
 fn variables(alloc: Global, numbers: &[i32], text: &str) -> Result<Shared<Variables>, AllocError> {
-    let mut texts = Sequence::new(alloc);
-    texts.push(shared(alloc, text)?)?;
-    let numbers = Sequence::from_vec(Vec::from_slice(alloc, numbers)?);
+    let texts = Values::from_vec(alloc, vec![in alloc; shared(alloc, text)?]?)?;
+    let numbers = Values::from_vec(alloc, Vec::from_slice(alloc, numbers)?)?;
     Shared::new(alloc, Variables { numbers, texts })
 }
 
@@ -289,10 +288,10 @@ fn reused(alloc: Global, style: &Style, old: &Input, new: &Input) -> Result<Opti
 /// The first of the global numbers and texts, and the entry's number.
 fn first_values(alloc: Global, outcome: &Outcome) -> Result<(i32, Bytes, i32), Fail> {
     let globals = &outcome.globals;
-    let count = globals.numbers.as_slice().first().ok_or("no number")?;
-    let all = globals.texts.as_slice().first().ok_or("no text")?;
+    let count = globals.numbers.get(0).ok_or("no number")?;
+    let all = globals.texts.get(0).ok_or("no text")?;
     let own = outcome.variables.as_ref().ok_or("no variables")?;
-    let number = own.numbers.as_slice().first().ok_or("no number")?;
+    let number = own.numbers.get(0).ok_or("no number")?;
     Ok((*count, Bytes::copied(alloc, all.as_slice())?, *number))
 }
 

@@ -6,7 +6,7 @@ use bt_actions::{
 };
 use bt_log::{Message, Rank};
 use bt_style::{Builtin, Function, Style, Target};
-use bt_text::{Bytes, Held, Sequence, Shared, SparseTexts};
+use bt_text::{Bytes, Held, Sequence, Shared, SparseTexts, Values};
 use std::alloc::{AllocError, Global};
 use std::test::Fail;
 
@@ -80,11 +80,11 @@ fn texts(alloc: Global, names: &[&str]) -> Result<Sequence<Bytes>, AllocError> {
 }
 
 fn variables(alloc: Global, number: i32, text: &str) -> Result<Variables, AllocError> {
-    let mut numbers = Sequence::new(alloc);
-    numbers.push(number)?;
-    let mut texts = Sequence::new(alloc);
-    texts.push(Shared::<Bytes>::copied(alloc, text.as_bytes())?)?;
-    Ok(Variables { numbers, texts })
+    let text = Shared::<Bytes>::copied(alloc, text.as_bytes())?;
+    Ok(Variables {
+        numbers: Values::from_vec(alloc, vec![in alloc; number]?)?,
+        texts: Values::from_vec(alloc, vec![in alloc; text]?)?,
+    })
 }
 
 /// A style with a name of each kind.

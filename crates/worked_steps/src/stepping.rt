@@ -3,7 +3,7 @@
 use bt_log::Rank;
 use bt_machine::{Entry, Input, Meter, Outcome, Variables, activate};
 use bt_style::{Builtin, Function, Op, Style, Target};
-use bt_text::{Bytes, Held, Sequence, Shared, SparseTexts};
+use bt_text::{Bytes, Held, Sequence, Shared, SparseTexts, Values};
 use std::alloc::{AllocError, Global};
 use std::mem;
 use std::test::Fail;
@@ -106,11 +106,11 @@ pub fn style(alloc: Global, functions: &[(&str, &str)]) -> Result<Style, Fail> {
 }
 
 fn variables(alloc: Global, number: i32, text: &[u8]) -> Result<Variables, AllocError> {
-    let mut numbers = Sequence::new(alloc);
-    numbers.push(number)?;
-    let mut texts = Sequence::new(alloc);
-    texts.push(Shared::<Bytes>::copied(alloc, text)?)?;
-    Ok(Variables { numbers, texts })
+    let text = Shared::<Bytes>::copied(alloc, text)?;
+    Ok(Variables {
+        numbers: Values::from_vec(alloc, vec![in alloc; number]?)?,
+        texts: Values::from_vec(alloc, vec![in alloc; text]?)?,
+    })
 }
 
 /// The entry `key`, a book with a title and without a year.

@@ -228,9 +228,12 @@ fn calls_are_counted_and_values_stay(rt: HostRuntime) -> Result<(), Fail> {
         assert_eq!(rt; outcome.calls[builtin.place()], *count);
     }
     let own = outcome.variables.ok_or("no variables")?;
-    assert_eq!(rt; own.numbers.as_slice(), [7].as_slice());
+    assert_eq!(rt; own.numbers.to_vec(alloc)?.as_slice(), [7].as_slice());
     assert_eq!(rt; own.texts.len(), 1);
-    assert_eq!(rt; outcome.globals.numbers.as_slice(), [8].as_slice());
+    assert_eq!(rt;
+        outcome.globals.numbers.to_vec(alloc)?.as_slice(),
+        [8].as_slice()
+    );
     Ok(())
 }
 

@@ -10,4 +10,4 @@ put_numbers-requires c =
 
 pub returns : goal.returns
 returns c =
-    c.put_numbers.ensures ∙ ap (λ (l : List _). blend (among c.args.places.now) c.args.left.now l) c.in_ok-numbers.ensures ∙ blend_again (among c.args.places.now) c.args.left.now c.args.base.now
+    c.in_ok-put_numbers.ensures ∙ ap (λ (l : List _). blend (among c.args.places.now) c.args.left.now l) c.in_ok-numbers.ensures ∙ blend_again (among c.args.places.now) c.args.left.now c.args.base.now

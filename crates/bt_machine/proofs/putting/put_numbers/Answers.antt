@@ -6,4 +6,4 @@ pub returns : goal.returns
 returns c =
     let k = c.places in
     let a = c.args in
-    all_put (pos 0) k.place-index a.places.now a.left.now a.base.now k.base c.places-test.false k.invariant.same c.requires
+    all_put (pos 0) k.place-index a.places.now a.left.now a.base.now k.base c.places-test.false k.invariant c.requires

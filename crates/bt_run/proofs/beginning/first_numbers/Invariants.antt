@@ -3,4 +3,4 @@ use Rattle.bt_run.specs.Meaning.{first_number}
 use Rattle.bt_run.proofs.beginning.first_numbers.Given as goal
 
 abbrev pub invariant-names : goal.invariant-names
-invariant-names l = l.numbers ≡ map first_number (take l.name-index l.names)
+invariant-names l = l.numbers.items ≡ map first_number (take l.name-index l.names)

@@ -1,0 +1,64 @@
+//! What lists of values are made of.
+
+ghost use Rattle.std.specs.Prelude.{◌≡◌, IsTrue, IfOk};
+
+use crate::bytes::Bytes;
+use crate::shared::Shared;
+use std::alloc::{AllocError, Global};
+
+/// A value of which lists can be copied and compared.
+pub trait Element: Drop + Sized {
+    /// The same values once more. The one error is out of memory.
+    fn copied(alloc: Global, items: &[Self]) -> Result<Vec<Self>, AllocError>
+        ensures { IfOk result (λ same. same.items ≡ items.now) };
+
+    /// Whether two lists of values are the same.
+    fn are_same(items: &[Self], others: &[Self]) -> bool
+        ensures { IsTrue result → items.now ≡ others.now };
+}
+
+impl Element for i32 {
+    fn copied(alloc: Global, items: &[i32]) -> Result<Vec<i32>, AllocError> {
+        Vec::from_slice(alloc, items)
+    }
+
+    fn are_same(items: &[i32], others: &[i32]) -> bool {
+        items == others
+    }
+}
+
+/// The same texts for one more owner; none of them is copied.
+fn shared(alloc: Global, texts: &[Shared<Bytes>]) -> Result<Vec<Shared<Bytes>>, AllocError>
+    ensures { IfOk result (λ same. same.items ≡ texts.now) }
+{
+    let mut same = Vec::with_capacity(alloc, texts.len())?;
+    'texts: for text in texts {
+        same.push(text.share()?)?;
+    }
+    Ok(same)
+}
+
+/// Whether two lists of texts are the same.
+fn same_texts(texts: &[Shared<Bytes>], others: &[Shared<Bytes>]) -> bool
+    ensures { IsTrue result → texts.now ≡ others.now }
+{
+    if texts.len() != others.len() {
+        return false;
+    }
+    'texts: for place in 0..texts.len() {
+        if texts[place].as_slice() != others[place].as_slice() {
+            return false;
+        }
+    }
+    true
+}
+
+impl Element for Shared<Bytes> {
+    fn copied(alloc: Global, items: &[Shared<Bytes>]) -> Result<Vec<Shared<Bytes>>, AllocError> {
+        shared(alloc, items)
+    }
+
+    fn are_same(items: &[Shared<Bytes>], others: &[Shared<Bytes>]) -> bool {
+        same_texts(items, others)
+    }
+}
