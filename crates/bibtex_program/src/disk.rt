@@ -18,6 +18,7 @@ pub struct Disk<'a, R> {
     alloc: Global,
     rt: &'a R,
     failures: u64,
+    reads: u64,
 }
 
 impl<'a, R: Files> Disk<'a, R> {
@@ -29,6 +30,7 @@ impl<'a, R: Files> Disk<'a, R> {
             alloc,
             rt,
             failures: 0,
+            reads: 0,
         }
     }
 }
@@ -36,9 +38,10 @@ impl<'a, R: Files> Disk<'a, R> {
 impl<R: Files> Folder for Disk<'_, R> {
     ghost use Rattle.bt_one_shot.specs.Folders.{Seen};
 
-    ghost seen = { λ d. record { held = None; looked_up = None; written = None; failures = d.failures } };
+    ghost seen = { λ d. record { held = None; looked_up = None; written = None; failures = d.failures; reads = d.reads } };
 
     fn read(&mut self, name: &[u8]) -> Found {
+        self.reads = self.reads.saturating_add(1);
         let Ok(path) = str::from_utf8(name) else {
             return Found::Missing;
         };

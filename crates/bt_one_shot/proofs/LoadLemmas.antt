@@ -1,7 +1,7 @@
 -- Files that are looked up one after another.
-use Rattle.std.proofs.Common.{◌≡◌, ◌∙◌, ap, sym, refl, subst, ◌<◌, ℕ, Bool, true, false, List, [], ◌∷◌, ◌++◌, length, take, get_or, map, append_assoc, append-nil, Option, None, Some}
+use Rattle.std.proofs.Common.{◌≡◌, ◌∙◌, ap, sym, refl, subst, arith, ◌+◌, ◌<◌, ℕ, Bool, true, false, List, [], ◌∷◌, ◌++◌, length, take, get_or, map, append_assoc, append-nil, Option, None, Some}
 use Rattle.std.proofs.lemmas.Grind.{flat_map-append}
-use Rattle.std.proofs.lemmas.List.{map-append}
+use Rattle.std.proofs.lemmas.List.{map-append, length-append}
 use Rattle.std.specs.List.{list_all}
 use Rattle.bibtex.specs.declared.state.State.{State}
 use Rattle.bibtex.specs.declared.edit.Refusal.{Refusal}
@@ -11,7 +11,7 @@ use Rattle.bibtex.specs.Applied.{refusal_of, changed, unless_refused}
 use Rattle.bt_serve.specs.Commands.{state_or, unless_wanting}
 use Rattle.bt_one_shot.specs.declared.folder.Found.{Found}
 use Rattle.bt_one_shot.specs.declared.folder.Found.TheVariants as found
-use Rattle.bt_one_shot.specs.Folders.{Contents, Seen, Gains, Finds, LooksUp, looked_up}
+use Rattle.bt_one_shot.specs.Folders.{Contents, Seen, Gains, LooksUp, looked_up}
 use Rattle.bt_one_shot.specs.Sinks.{Sunk}
 use Rattle.bt_one_shot.specs.inner.Sinks.{GoesOn}
 use Rattle.bt_one_shot.specs.Loading.{Reading, name_of, next, taken_found, after_file, after_files, refusal_line, refusal_lines, InOrder, all_looked_up}
@@ -32,13 +32,17 @@ gains_more {A} (Some u) (Some v) None xs ys p q = absurd q
 gains_more {A} (Some u) (Some v) (Some w) xs ys p q = q ∙ ap (λ t. t ++ ys) p ∙ append_assoc u xs ys
 
 -- Nothing was looked up.
-pub looks_none : (seen : Seen) → LooksUp seen seen []
-looks_none seen = record { held = refl; gained = gains_none seen.looked_up; written = refl; failures = refl }
+pub looks_none : (seen : Seen) → LooksUp seen seen 0 []
+looks_none seen = record { held = refl; counted = λ room. omega arith; gained = gains_none seen.looked_up; written = refl; failures = refl }
 
-pub looks_more : (a b c : Seen) (xs ys : List (List ℕ)) → LooksUp a b xs → LooksUp b c ys → LooksUp a c (xs ++ ys)
-looks_more a b c xs ys p q =
+pub looks_more : (a b c : Seen) (i j : ℕ) (xs ys : List (List ℕ)) → LooksUp a b i xs → LooksUp b c j ys → LooksUp a c (i + j) (xs ++ ys)
+looks_more a b c i j xs ys p q =
     record {
       held = q.held ∙ p.held;
+      counted = λ room.
+          let first = p.counted (omega arith) in
+          let second = q.counted (omega arith) in
+          omega arith;
       gained = gains_more a.looked_up b.looked_up c.looked_up xs ys p.gained q.gained;
       written = q.written ∙ p.written;
       failures = q.failures ∙ p.failures;
@@ -87,7 +91,9 @@ goes_more known s t u k l m a b c x y z p q =
       in_order = order_more a.held s k p.files q.files p.in_order then_others;
       is_behind = q.is_behind ∙ ap (λ v. after_files v q.files) p.is_behind ∙ sym (behind_more s p.files q.files);
       are_met = q.are_met ∙ ap (λ v. v ++ map name_of q.files) p.are_met ∙ append_assoc k (map name_of p.files) (map name_of q.files) ∙ ap (λ v. k ++ v) names;
-      looked_up = subst (LooksUp a c) (sym (flat_map-append (λ (r : Reading). looked_up r.name r.found) p.files q.files)) (looks_more a b c _ _ p.looked_up q.looked_up);
+      looked_up = subst (λ n. LooksUp a c n (all_looked_up (p.files ++ q.files))) (sym (length-append p.files q.files))
+          (subst (LooksUp a c (length p.files + length q.files)) (sym (flat_map-append (λ (r : Reading). looked_up r.name r.found) p.files q.files))
+          (looks_more a b c _ _ _ _ p.looked_up q.looked_up));
       tells = subst (GoesOn known x z) lines (goes_on_more known x y z _ _ p.tells q.tells);
     }
   where
@@ -109,7 +115,7 @@ goes_one known s t met name a b x y is l =
       in_order = (is, l.finds, tt);
       is_behind = l.is_behind;
       are_met = refl;
-      looked_up = subst (LooksUp a b) (sym (append-nil (looked_up name l.found))) l.looked_up;
+      looked_up = subst (LooksUp a b 1) (sym (append-nil (looked_up name l.found))) l.looked_up;
       tells = subst (GoesOn known x y) (sym (append-nil (refusal_line name (taken_found s name l.wants l.found)))) l.tells;
     }
 

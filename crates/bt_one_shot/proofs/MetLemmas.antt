@@ -1,5 +1,5 @@
 -- Names that are kept as texts of their own.
-use Rattle.std.proofs.Common.{◌≡◌, refl, ap, ℕ, Bool, false, List, [], ◌∷◌, ◌++◌, map}
+use Rattle.std.proofs.Common.{◌≡◌, refl, ap, ℕ, false, List, [], ◌∷◌, ◌++◌, map}
 use Rattle.std.specs.Prelude.{◌||◌, bytes_eq, Vec}
 use Rattle.std.specs.List.{list_any}
 use Rattle.std.proofs.lemmas.List.{map-append}

@@ -1,18 +1,18 @@
 -- What the parser finds in words, and what it is read as.
-use Rattle.std.proofs.Common.{◌≡◌, ◌∙◌, ap, sym, refl, subst, arith, ◌^◌, ℕ, Bool, true, false, List, [], Option, Some, None, Result, Ok, Err}
+use Rattle.std.proofs.Common.{◌≡◌, ◌∙◌, ap, sym, refl, subst, arith, ℕ, Bool, true, false, List, [], Option, Some, None, Result, Ok, Err}
 use Rattle.std.specs.Prelude.{option_map, unwrap_or, if◌then◌else◌}
 use Rattle.std.specs.Borrow.{Bor}
 use Rattle.std.specs.Str.Parse.{ParsesUnsigned, digits_value, without_leading_plus}
-use Rattle.clap.specs.Words.{App, Row, Text, found_of, one_text, first_value, first_of, one_of, rows_of, kind_of, is_simple, matches_of, ReadsOne}
+use Rattle.clap.specs.Words.{App, Row, Text, first_value, first_of, rows_of, is_simple, matches_of, ReadsOne}
 use Rattle.clap.specs.ValueTests.{is_unsigned_in}
 use Rattle.clap.specs.declared.builder.value_parser.ValueParser.TheVariants as vp
 use Rattle.clap.specs.Faults.{fault_of, is_simple_and_free}
 use Rattle.clap.specs.Kinds.{HasKind}
 use Rattle.clap.specs.declared.error.Error.{Error}
 use Rattle.clap.specs.declared.parser.matches.Found.{Found}
-use Rattle.clap.proofs.WalkLemmas.{first_value-rows, one_text-rows}
+use Rattle.clap.proofs.WalkLemmas.{first_value-rows}
 use Rattle.clap.proofs.ValueTestLemmas.{accepts-Accepts, Accepts-accepts}
-use Rattle.bt_one_shot.specs.Words.{command_line, faults_of, asked, asked_by, min_of, number_in}
+use Rattle.bt_one_shot.specs.Words.{command_line, faults_of, asked, asked_by, min_of}
 
 -- The command line
 

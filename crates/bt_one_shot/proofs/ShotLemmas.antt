@@ -1,12 +1,12 @@
 -- How a run ends.
-use Rattle.std.proofs.Common.{◌≡◌, ◌∙◌, ap, sym, refl, subst, inl, inr, ◌+◌, ℕ, Bool, true, false, List, [], ◌∷◌, ◌++◌, map, append-nil, codes, Option, None, Some}
-use Rattle.std.specs.Prelude.{fold, bytes_eq, if◌then◌else◌}
+use Rattle.std.proofs.Common.{◌≡◌, ◌∙◌, ap, refl, subst, inl, inr, ◌+◌, ℕ, Bool, true, false, List, [], ◌∷◌, ◌++◌, map, codes, Option, None, Some}
+use Rattle.std.specs.Prelude.{bytes_eq, if◌then◌else◌}
 use Rattle.bibtex.specs.declared.state.State.{State}
 use Rattle.bibtex.specs.Present.{no_texts, shown}
-use Rattle.bt_one_shot.specs.Folders.{Contents, Written, Seen, LooksUp, Holds, HoldsBut, Writes, Fails, WritesOne, with_file}
+use Rattle.bt_one_shot.specs.Folders.{Contents, Written, Seen, Holds, HoldsBut, Writes, Fails, WritesOne}
 use Rattle.bt_one_shot.specs.Sinks.{Sunk, Tells}
-use Rattle.bt_one_shot.specs.Loading.{name_of, next, after_files, refusal_lines, InOrder}
-use Rattle.bt_one_shot.specs.Shots.{exit_of, bbl_file, blg_file, unwritten_line, printed_log, Ends, Runs, Stops}
+use Rattle.bt_one_shot.specs.Loading.{name_of, next, after_files, refusal_lines}
+use Rattle.bt_one_shot.specs.Shots.{exit_of, blg_file, unwritten_line, printed_log, Ends, Runs, Stops}
 use Rattle.bt_one_shot.specs.inner.Progress.{Goes}
 use Rattle.bt_one_shot.proofs.TellLemmas.{tells_nothing}
 use Rattle.bt_one_shot.proofs.LoadLemmas.{gains_more, looks_none}
@@ -32,6 +32,7 @@ writes_both a b c f g p q =
       looked_up = q.looked_up ∙ p.looked_up;
       written = gains_more a.written b.written c.written (f ∷ []) (g ∷ []) p.written q.written;
       failures = q.failures ∙ p.failures;
+      reads = q.reads ∙ p.reads;
     }
 
 fails_behind : (a b c : Seen) (f : Written) (name : List ℕ) → Writes a b (f ∷ []) → Fails b c [] name → Fails a c (f ∷ []) name
@@ -41,6 +42,7 @@ fails_behind a b c f name p q =
       looked_up = q.looked_up ∙ p.looked_up;
       written = gains_more a.written b.written c.written (f ∷ []) [] p.written q.written;
       failures = q.failures ∙ ap (λ n. n + 1) p.failures;
+      reads = q.reads ∙ p.reads;
     }
 
 -- Ends

@@ -1,5 +1,5 @@
 -- What is reported on a sink, one text after another.
-use Rattle.std.proofs.Common.{◌≡◌, ◌⊎◌, inl, inr, true, ℕ, ◌+◌, List, [], ◌++◌, append_assoc, append-nil, ap, sym, ◌∙◌, subst, refl, arith, Option, None, Some, Result, Ok, Err, OnOk, OnErr}
+use Rattle.std.proofs.Common.{◌≡◌, inl, inr, true, ℕ, ◌+◌, List, [], ◌++◌, append_assoc, append-nil, ap, sym, ◌∙◌, subst, refl, arith, Option, None, Some, Result, Ok, Err, OnOk, OnErr}
 use Rattle.std.specs.Io.KnownBytes.{Appends}
 use Rattle.bt_serve.specs.Writes.{AppendsPart}
 use Rattle.bt_serve.proofs.WriteLemmas.{appends_more, part_behind}

@@ -1,5 +1,5 @@
 -- What is seen of a folder: what it holds, and what is read of it and written to it, where it tells.
-use Rattle.std.specs.Prelude.{◌≡◌, ◌≤◌, ◌+◌, ℕ, Bool, true, false, List, [], ◌∷◌, ◌++◌, length, take, fold, Option, None, Some, if◌then◌else◌, bytes_eq}
+use Rattle.std.specs.Prelude.{◌≡◌, ◌≤◌, ◌<◌, ◌+◌, ◌^◌, ℕ, Bool, true, false, List, [], ◌∷◌, ◌++◌, length, take, fold, Option, None, Some, if◌then◌else◌, bytes_eq}
 use Rattle.std.specs.Option.{option_map}
 use Rattle.bt_one_shot.specs.declared.folder.Found.{Found}
 use Rattle.bt_one_shot.specs.declared.folder.Found.TheVariants as found
@@ -23,6 +23,8 @@ pub record Seen : Type 0 where
   pub written : Option (List Written)
   -- how many writes failed
   pub failures : ℕ
+  -- how often it was read, as long as that is below 2^64
+  pub reads : ℕ
 
 -- a list that is reported has these elements more
 abbrev pub Gains : {A : Type 0} → Option (List A) → Option (List A) → List A → Type 0
@@ -55,9 +57,10 @@ looked_up name (found.Bytes bytes) = name ∷ []
 looked_up name found.Missing = name ∷ []
 looked_up name found.NoRoom = []
 
--- names were looked up, and nothing else was done
-pub record LooksUp (old new : Seen) (names : List (List ℕ)) : Type 0 where
+-- names were looked up by so many reads, and nothing else was done
+pub record LooksUp (old new : Seen) (count : ℕ) (names : List (List ℕ)) : Type 0 where
   pub held : new.held ≡ old.held
+  pub counted : old.reads + count < 2 ^ 64 → new.reads ≡ old.reads + count
   pub gained : Gains old.looked_up new.looked_up names
   pub written : new.written ≡ old.written
   pub failures : new.failures ≡ old.failures
@@ -86,6 +89,7 @@ pub record Writes (old new : Seen) (files : List Written) : Type 0 where
   pub looked_up : new.looked_up ≡ old.looked_up
   pub written : Gains old.written new.written files
   pub failures : new.failures ≡ old.failures
+  pub reads : new.reads ≡ old.reads
 
 -- files were written, then the write of one failed, and nothing else was done
 pub record Fails (old new : Seen) (files : List Written) (name : List ℕ) : Type 0 where
@@ -93,6 +97,7 @@ pub record Fails (old new : Seen) (files : List Written) (name : List ℕ) : Typ
   pub looked_up : new.looked_up ≡ old.looked_up
   pub written : Gains old.written new.written files
   pub failures : new.failures ≡ old.failures + 1
+  pub reads : new.reads ≡ old.reads
 
 -- a file was written, or its write failed
 abbrev pub WritesOne : Seen → Seen → Written → Bool → Type 0

@@ -1,5 +1,5 @@
 -- What the one-shot form does: what it looks up, what it leaves in the folder, what it tells, and its exit status.
-use Rattle.std.specs.Prelude.{◌≡◌, ◌⊎◌, ℕ, Bool, true, false, nat_le, List, [], ◌∷◌, ◌++◌, map, None, codes, if◌then◌else◌}
+use Rattle.std.specs.Prelude.{◌≡◌, ◌⊎◌, ℕ, Bool, true, false, nat_le, List, [], ◌∷◌, ◌++◌, length, map, None, codes, if◌then◌else◌}
 use Rattle.bibtex.specs.declared.state.State.{State}
 use Rattle.bibtex.specs.Present.{no_texts, shown}
 use Rattle.bt_one_shot.specs.Folders.{Written, Seen, LooksUp, Writes, Fails}
@@ -9,10 +9,10 @@ use Rattle.bt_one_shot.specs.Loading.{Reading, name_of, next, after_files, refus
 -- What is looked up
 
 -- Files of a job were looked up, one after another from a session without files on: each the first that was then wanted
--- and not looked up yet.
+-- and not looked up yet, by one read each.
 pub record Loads (root : List ℕ) (min : ℕ) (old new : Seen) (files : List Reading) : Type 0 where
   pub in_order : InOrder old.held (no_texts root min) [] files
-  pub looked_up : LooksUp old new (all_looked_up files)
+  pub looked_up : LooksUp old new (length files) (all_looked_up files)
 
 -- the state after them
 abbrev pub loaded : List ℕ → ℕ → List Reading → State

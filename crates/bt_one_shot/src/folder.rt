@@ -21,11 +21,11 @@ pub trait Folder {
     /// What it holds, and what was done with it so far, as far as it tells.
     ghost seen: { Self → Seen };
 
-    /// The file of a name.
+    /// The file of a name. Each read is counted, whatever is found.
     fn read(&mut self, name: &[u8]) -> Found
         ensures found { Finds (seen self.old).held name.now result }
         ensures within { IsWithin result }
-        ensures looks_up { LooksUp (seen self.old) (seen self.new) (looked_up name.now result) };
+        ensures looks_up { LooksUp (seen self.old) (seen self.new) 1 (looked_up name.now result) };
 
     /// Writes a file, and says whether it succeeded. Each write that fails raises the count of failures by one.
     fn write(&mut self, name: &[u8], bytes: &[u8]) -> bool

@@ -1,12 +1,12 @@
 -- From the turns of the loop to the edits of its input.
-use Rattle.std.proofs.Common.{◌≡◌, refl, ap, sym, ◌∙◌, subst, arith, ℕ, Bool, true, false, List, [], ◌∷◌, ◌++◌, length, append_assoc, append-nil, length-append, Ok, Err}
-use Rattle.std.specs.List.{AllByRecursion, flat_map}
+use Rattle.std.proofs.Common.{◌≡◌, ap, sym, ◌∙◌, subst, arith, ℕ, Bool, true, List, [], ◌∷◌, ◌++◌, length, append_assoc, append-nil, length-append, Ok, Err}
+use Rattle.std.specs.List.{flat_map}
 use Rattle.bibtex.specs.declared.state.State.{State}
 use Rattle.bt_serve.specs.declared.fault.ServeFault.{ServeFault}
 use Rattle.bt_serve.specs.declared.fault.ServeFault.TheVariants.{ReadFailed, WriteFailed, Truncated}
-use Rattle.bt_serve.specs.Commands.{Command, request_of, command_text, ends, state_after}
+use Rattle.bt_serve.specs.Commands.{Command, command_text, state_after}
 use Rattle.bt_serve.specs.Serves.{Ends}
-use Rattle.bt_serve.specs.Whole.{commands_of, commands_within, up_to_quit, AnswersAll, AnswersBefore, AnswersPart}
+use Rattle.bt_serve.specs.Whole.{commands_of, commands_within, up_to_quit, AnswersPart}
 use Rattle.bt_serve.specs.Edits.{LeadsBy, IsEdited}
 use Rattle.bt_serve.proofs.TurnLemmas.{state_more}
 use Rattle.bt_serve.proofs.ServedLemmas.{up_to_front, front_cut, ends_answers_all, ends_answers_before, ends_answers_part}

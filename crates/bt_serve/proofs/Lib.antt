@@ -8,3 +8,4 @@ pub mod ServedLemmas
 pub mod FaultLemmas
 pub mod EditLemmas
 pub mod EditedLemmas
+mod WholeRows

@@ -6,19 +6,37 @@ use Rattle.std.proofs.lemmas.Bool.Decides.{nat_tests}
 use Rattle.bt_serve.specs.Reads.{HasNoFeed}
 use Rattle.bt_serve.specs.Commands.{Command, request_of, bytes_behind, command_text}
 use Rattle.bt_serve.specs.Serves.{IsCommand, IsCut}
-use Rattle.bt_serve.specs.Whole.{Cut, Line, first_line, text_behind, with_first, command_at, commands_within, commands_of}
+use Rattle.bt_serve.specs.Whole.{Cut, Line, before_feed, behind_feed, first_line, text_behind, with_first, command_at, commands_within, commands_of}
+
+before_fed : (line t : List ℕ) → HasNoFeed line → before_feed (line ++ 10 ∷ t) ≡ line
+before_fed [] t f = refl
+before_fed (b ∷ line) t f =
+    let e : (b == 10) ≡ false = grind (arith, nat_tests, f.0) in
+    rw (e, before_fed line t f.1) refl
+
+behind_fed : (line t : List ℕ) → HasNoFeed line → behind_feed (line ++ 10 ∷ t) ≡ Some t
+behind_fed [] t f = refl
+behind_fed (b ∷ line) t f =
+    let e : (b == 10) ≡ false = grind (arith, nat_tests, f.0) in
+    rw e (behind_fed line t f.1)
 
 pub first_line_feed : (line t : List ℕ) → HasNoFeed line → first_line (line ++ 10 ∷ t) ≡ record { line = line; behind = Some t }
-first_line_feed [] t f = refl
-first_line_feed (b ∷ line) t f =
+first_line_feed line t f = rw (before_fed line t f, behind_fed line t f) refl
+
+before_end : (line : List ℕ) → HasNoFeed line → before_feed line ≡ line
+before_end [] f = refl
+before_end (b ∷ line) f =
     let e : (b == 10) ≡ false = grind (arith, nat_tests, f.0) in
-    rw (e, first_line_feed line t f.1) refl
+    rw (e, before_end line f.1) refl
+
+behind_end : (line : List ℕ) → HasNoFeed line → behind_feed line ≡ None
+behind_end [] f = refl
+behind_end (b ∷ line) f =
+    let e : (b == 10) ≡ false = grind (arith, nat_tests, f.0) in
+    rw e (behind_end line f.1)
 
 pub first_line_end : (line : List ℕ) → HasNoFeed line → first_line line ≡ record { line = line; behind = None }
-first_line_end [] f = refl
-first_line_end (b ∷ line) f =
-    let e : (b == 10) ≡ false = grind (arith, nat_tests, f.0) in
-    rw (e, first_line_end line f.1) refl
+first_line_end line f = rw (before_end line f, behind_end line f) refl
 
 within_step : (n : ℕ) (s : List ℕ) → 0 < length s → commands_within (suc n) s ≡ command_at (first_line s) s (commands_within n)
 within_step n [] h = absurd (omega arith)

@@ -15,10 +15,19 @@ pub record Line : Type 0 where
   pub line : List ℕ
   pub behind : Option (List ℕ)
 
+-- what stands before the first line feed of a text, or all of it
+abbrev pub before_feed : List ℕ → List ℕ
+before_feed [] = []
+before_feed (b ∷ t) = if b == 10 then [] else b ∷ before_feed t
+
+-- what stands after the first line feed of a text, where it has one
+abbrev pub behind_feed : List ℕ → Option (List ℕ)
+behind_feed [] = None
+behind_feed (b ∷ t) = if b == 10 then Some t else behind_feed t
+
 -- the first line of a text, and what stands after its line feed where it has one
 abbrev pub first_line : List ℕ → Line
-first_line [] = record { line = []; behind = None }
-first_line (b ∷ t) = if b == 10 then record { line = []; behind = Some t } else record { line = b ∷ (first_line t).line; behind = (first_line t).behind }
+first_line text = record { line = before_feed text; behind = behind_feed text }
 
 -- what follows a line, the last one of an input too
 abbrev pub text_behind : Line → List ℕ

@@ -22,12 +22,12 @@ pub trait Source {
     ghost reads_left: { Self → ℕ };
 
     /// Reads bytes into the buffer, and answers how many; 0 at the end. Each read lowers the bound on those that are
-    /// left; at 0 a read fails. A read that fails gives no byte, and raises the count of failures by one.
+    /// left by one; at 0 a read fails. A read that fails gives no byte, and raises the count of failures by one.
     fn read(&mut self, buffer: &mut [u8]) -> Result<usize, Failed>
         requires { failure_count self.old < 2 ^ 64 - 1 }
         ensures bound { IfOk result (λ n. n ≤ length buffer.new) }
         ensures bytes { ReadConsumes (remaining self.old) (remaining self.new) result buffer.new }
-        ensures lowers { reads_left self.new ≤ reads_left self.old - 1 }
+        ensures lowers { reads_left self.new ≡ reads_left self.old - 1 }
         ensures spent { reads_left self.old ≡ 0 → IsErr result }
         ensures ok { OnOk result (failure_count self.new ≡ failure_count self.old) }
         ensures err { OnErr result (failure_count self.new ≡ failure_count self.old + 1) };

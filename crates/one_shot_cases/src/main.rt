@@ -8,7 +8,7 @@ mod telling;
 
 use crate::memory::Memory;
 use crate::script::{Step, first_step};
-use crate::telling::{tell_options, tell_run};
+use crate::telling::{show_faults, tell_options, tell_run};
 use anyhow::Result;
 use std::alloc::{AllocError, Global};
 use std::io::{BufReader, Read};
@@ -46,6 +46,7 @@ fn main(rt: HostRuntime) -> Result<()> {
             Step::Out(room) => out = room,
             Step::Err(room) => err = room,
             Step::Options(words) => tell_options(&rt, &words_of(alloc, words)?)?,
+            Step::Faults(words) => show_faults(&rt, &words_of(alloc, words)?)?,
             Step::Run(words) => tell_run(&rt, &words_of(alloc, words)?, &mut folder, (out, err))?,
         }
         rest = behind;

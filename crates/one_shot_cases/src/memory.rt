@@ -41,6 +41,7 @@ pub struct Memory<'a> {
     looked_up: Sequence<Bytes>,
     put: Sequence<Put>,
     pub failures: u64,
+    reads: u64,
     /// The names that were asked for, a line each.
     pub read: Bytes,
 }
@@ -115,6 +116,7 @@ impl<'a> Memory<'a> {
             looked_up: Sequence::new(alloc),
             put: Sequence::new(alloc),
             failures: 0,
+            reads: 0,
             read: Bytes::new(alloc),
         }
     }
@@ -171,9 +173,10 @@ impl Folder for Memory<'_> {
     ghost use Rattle.bt_one_shot.specs.Folders.{Seen};
     ghost use Rattle.one_shot_cases.specs.Held.{held_in};
 
-    ghost seen = { λ m. record { held = Some (held_in m.given m.put); looked_up = Some m.looked_up; written = Some m.put; failures = m.failures } };
+    ghost seen = { λ m. record { held = Some (held_in m.given m.put); looked_up = Some m.looked_up; written = Some m.put; failures = m.failures; reads = m.reads } };
 
     fn read(&mut self, name: &[u8]) -> Found {
+        self.reads = self.reads.saturating_add(1);
         if note(&mut self.read, name).is_err() || has(self.tight.as_slice(), name) {
             return Found::NoRoom;
         }

@@ -28,6 +28,8 @@ pub enum Step<'a> {
     Options(Option<&'a str>),
     /// `run WORD|WORD|..`: runs the job that the words ask for.
     Run(Option<&'a str>),
+    /// `faults WORD|WORD|..`: shows the fault that the words have, and each other one.
+    Faults(Option<&'a str>),
 }
 
 /// The first line, and what is after it.
@@ -65,6 +67,7 @@ fn line_step<'a>(word: &str, rest: Option<&'a str>) -> Option<Step<'a>> {
         ("err", Some(count)) => Some(Step::Err(count.parse::<usize>().ok()?)),
         ("options", words) => Some(Step::Options(words)),
         ("run", words) => Some(Step::Run(words)),
+        ("faults", words) => Some(Step::Faults(words)),
         _ => None,
     }
 }

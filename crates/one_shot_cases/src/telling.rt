@@ -26,6 +26,17 @@ fn tell_fault(rt: &impl Print, fault: &OptionsFault) -> Result<()> {
     Ok(())
 }
 
+/// Shows the fault that words have, if they have one, and each fault that isn't the parser's.
+pub fn show_faults(rt: &HostRuntime, words: &[String]) -> Result<()> {
+    if let Err(fault) = parse_options(rt.alloc(), words) {
+        println!(rt; "{fault}")?;
+    }
+    for fault in [OptionsFault::BadJobName, OptionsFault::OutOfMemory] {
+        println!(rt; "{fault}")?;
+    }
+    Ok(())
+}
+
 /// Tells what words ask for.
 pub fn tell_options(rt: &HostRuntime, words: &[String]) -> Result<()> {
     match parse_options(rt.alloc(), words) {

@@ -7,8 +7,8 @@ mod script;
 use crate::channel::{Giver, Limits, Taker};
 use crate::script::{Step, first_step};
 use anyhow::Result;
-use bibtex::Session;
-use bt_serve::serve;
+use bibtex::{Refusal, Session};
+use bt_serve::{Failed, ServeFault, serve};
 use std::alloc::{AllocError, Global};
 use std::cell::Cell;
 use std::io::{BufReader, Read};
@@ -59,6 +59,29 @@ fn fail_writes(
     Ok(())
 }
 
+/// Shows each fault of the loop and each refusal of an edit.
+fn show_faults(rt: &HostRuntime) -> Result<()> {
+    println!(rt; "{Failed}")?;
+    for fault in [
+        ServeFault::ReadFailed,
+        ServeFault::WriteFailed,
+        ServeFault::Truncated,
+    ] {
+        println!(rt; "{fault}")?;
+    }
+    for refusal in [
+        Refusal::BadName,
+        Refusal::NoSuchFile,
+        Refusal::RangeOutside,
+        Refusal::FileTooLarge,
+        Refusal::TooManyFiles,
+        Refusal::OutOfMemory,
+    ] {
+        println!(rt; "{refusal}")?;
+    }
+    Ok(())
+}
+
 /// Answers an input as a step says.
 fn answer_as(rt: &HostRuntime, step: Step<'_>, input: &[u8], limits: Limits<'_>) -> Result<()> {
     match step {
@@ -72,6 +95,7 @@ fn answer_as(rt: &HostRuntime, step: Step<'_>, input: &[u8], limits: Limits<'_>)
             answer(rt, "read fails", input, limits)
         }
         Step::WriteFails(first, last) => fail_writes(rt, input, limits, first, last),
+        Step::Faults => show_faults(rt),
         _ => Ok(()),
     }
 }

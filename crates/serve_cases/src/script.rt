@@ -22,6 +22,8 @@ pub enum Step<'a> {
     /// `write_fails FIRST PLACE`: answers the input, where the write after so many bytes fails, for each number from
     /// the first up to the place.
     WriteFails(usize, usize),
+    /// `faults`: shows each fault and each refusal.
+    Faults,
 }
 
 /// The first line, and what is after it.
@@ -43,6 +45,7 @@ fn line_step<'a>(word: &str, rest: &'a str) -> Option<Step<'a>> {
         "most" => Some(Step::Most(number(rest)?)),
         "watch" => Some(Step::Watch(rest)),
         "serve" => Some(Step::Serve),
+        "faults" => Some(Step::Faults),
         "cut" => Some(Step::Cut(number(rest)?)),
         "read_fails" => Some(Step::ReadFails(number(rest)?)),
         "write_fails" => {

@@ -56,3 +56,15 @@ fn breaks_a_long_text(rt: HostRuntime) -> Result<(), Fail> {
     assert_eq!(rt; lines.len(), 862);
     Ok(())
 }
+
+#[test]
+fn faults_show_the_name_of_their_case(rt: HostRuntime) -> Result<(), Fail> {
+    let alloc = rt.alloc();
+    for (fault, want) in [
+        (HeldFault::TooLong, "TooLong"),
+        (HeldFault::OutOfMemory, "OutOfMemory"),
+    ] {
+        assert_eq!(rt; format!(in alloc; "{fault}")?.as_str(), want);
+    }
+    Ok(())
+}

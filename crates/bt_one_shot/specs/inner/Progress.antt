@@ -1,5 +1,5 @@
 -- How the look-ups of a job go on.
-use Rattle.std.specs.Prelude.{◌≡◌, ℕ, Bool, false, List, ◌++◌, map, Result, Ok, Err}
+use Rattle.std.specs.Prelude.{◌≡◌, ℕ, Bool, false, List, ◌++◌, length, map, Result, Ok, Err}
 use Rattle.bibtex.specs.declared.edit.Refusal.{Refusal}
 use Rattle.bibtex.specs.declared.state.State.{State}
 use Rattle.bt_one_shot.specs.declared.folder.Found.{Found}
@@ -20,7 +20,7 @@ pub record LooksUpName (known : ℕ) (s s' : State) (name : List ℕ) (old new :
   pub wants : Bool
   pub finds : Finds old.held name found
   pub is_behind : s' ≡ state_or s (taken_found s name wants found)
-  pub looked_up : LooksUp old new (looked_up name found)
+  pub looked_up : LooksUp old new 1 (looked_up name found)
   pub tells : GoesOn known err err' (refusal_line name (taken_found s name wants found))
 
 -- Files were looked up in order, from a state on for which these names were looked up before.
@@ -29,5 +29,5 @@ pub record Goes (known : ℕ) (s s' : State) (met met' : List (List ℕ)) (old n
   pub in_order : InOrder old.held s met files
   pub is_behind : s' ≡ after_files s files
   pub are_met : met' ≡ met ++ map name_of files
-  pub looked_up : LooksUp old new (all_looked_up files)
+  pub looked_up : LooksUp old new (length files) (all_looked_up files)
   pub tells : GoesOn known err err' (refusal_lines s files)

@@ -1,5 +1,4 @@
 use Rattle.std.proofs.Common.{◌≡◌, ◌∙◌, ap, sym, codes, ℕ, List, ◌++◌}
-use Rattle.bibtex.specs.declared.state.State.{State}
 use Rattle.bibtex.specs.Present.{no_texts}
 use Rattle.bt_serve.proofs.WriteLemmas.{on_err_any}
 use Rattle.bt_one_shot.proofs.LoadLemmas.{goes_root}

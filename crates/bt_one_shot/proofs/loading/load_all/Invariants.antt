@@ -1,4 +1,4 @@
-use Rattle.std.proofs.Common.{◌≡◌, ◌-◌, ◌^◌, length}
+use Rattle.std.proofs.Common.{◌-◌, ◌^◌, length}
 use Rattle.bt_one_shot.specs.Sinks.{sunk}
 use Rattle.bt_one_shot.specs.inner.Progress.{Goes}
 use Rattle.bt_one_shot.proofs.loading.load_all.Given as goal

@@ -1,4 +1,4 @@
-use Rattle.std.proofs.Common.{◌∙◌, ap, sym, rules, arith}
+use Rattle.std.proofs.Common.{◌∙◌, ap, sym, rules}
 use Rattle.bibtex.specs.declared.state.State.{State}
 use Rattle.bibtex.specs.Present.{shown}
 use Rattle.bt_one_shot.proofs.LoadLemmas.{goes_then}

@@ -1,4 +1,4 @@
-use Rattle.std.proofs.Common.{◌≡◌, ◌∙◌, ap, sym, codes, [], ℕ, List, Option, false, map}
+use Rattle.std.proofs.Common.{◌≡◌, ◌∙◌, ap, sym, codes, [], ℕ, List, Option, map}
 use Rattle.std.specs.Prelude.{string_bytes, unwrap_or}
 use Rattle.bibtex.specs.Present.{is_root_name}
 use Rattle.clap.specs.Words.{first_of, found_of, rows_of}
