@@ -1,0 +1,84 @@
+//! A database that is read again after a splice.
+
+ghost use Rattle.std.specs.Prelude.{◌≡◌, ◌≤◌, length, IfOk};
+ghost use Rattle.bt_bib.specs.Reading.{pieces_of};
+ghost use Rattle.bt_bib.specs.Splice.{IsSplice};
+
+use crate::attempt::Case;
+use bt_bib::{KeptItems, ReadMeter, Splice};
+use bt_text::Bytes;
+use std::alloc::{AllocError, Global};
+
+const DATABASE: &[u8] =
+    b"@string{m = \"M and\" # { N}}\n@preamble{\"pre\" # m}\n@misc{a, title = {A} # m, crossref = {p}}\n@book{B, title = {B}\n@misc{b, crossref = {P}, title = nix}\n@misc{p, title = {P}, note = {n}}\n@misc{A, title = {twice}}\n";
+
+/// The byte of the database that is spliced: the title of `a`.
+const BEGIN: usize = 66;
+
+/// The bytes that come in its place.
+const INSERTED: &[u8] = b"Q, R";
+
+/// A database as it was read, its text, a meter of what is read again, and what came of that.
+#[derive(Drop)]
+pub struct Rereading {
+    items: KeptItems,
+    text: Bytes,
+    meter: ReadMeter,
+    again: Option<KeptItems>,
+    ghost read: { items ≡ pieces_of text },
+}
+
+/// A text with its bytes from `begin` up to `end` replaced by others.
+fn spliced(
+    alloc: Global,
+    text: &[u8],
+    begin: usize,
+    end: usize,
+    bytes: &[u8],
+) -> Result<Bytes, AllocError>
+    requires order { begin ≤ end }
+    requires inside { end ≤ length text.now }
+    ensures { IfOk result (λ new. IsSplice text.now new begin end (length bytes.now)) }
+{
+    let mut new = Bytes::copied(alloc, &text[..begin])?;
+    new.append(bytes)?;
+    new.append(&text[end..])?;
+    Ok(new)
+}
+
+impl Case for Rereading {
+    fn begun(alloc: Global, _group: &str) -> Result<Self, AllocError> {
+        let text = Bytes::copied(alloc, DATABASE)?;
+        let items = KeptItems::read(alloc, text.as_slice())?;
+        Ok(Rereading {
+            items,
+            text,
+            meter: ReadMeter::new(),
+            again: None,
+        })
+    }
+
+    fn call(&mut self, alloc: Global, _name: &str) -> Result<(), AllocError> {
+        let (old, begin, end) = (self.text.as_slice(), BEGIN, BEGIN + 1);
+        if self.meter.value() > 1_000_000 || old.len() < end {
+            return Err(AllocError);
+        }
+        let new = spliced(alloc, old, begin, end, INSERTED)?;
+        let inserted = INSERTED.len();
+        let splice = Splice {
+            begin,
+            end,
+            inserted,
+        };
+        let again = self
+            .items
+            .respliced(alloc, old, new.as_slice(), splice, &mut self.meter)?;
+        self.again = Some(again);
+        Ok(())
+    }
+
+    fn seen(&self, alloc: Global) -> Result<Bytes, AllocError> {
+        let (items, count, again) = (&self.items, self.meter.value(), &self.again);
+        Ok(Bytes::from_vec(format!(in alloc; "{items:?} {count} {again:?}")?.into_bytes()))
+    }
+}

@@ -1,0 +1,147 @@
+//! Texts, lists, tables of names, and the held line: what grows.
+
+use crate::attempt::Case;
+use bt_text::{ByName, Bytes, Held, HeldFault, NameList, Sequence, Shared, SparseTexts};
+use std::alloc::{AllocError, Global};
+
+/// Longer than all that is there before it, and than a line.
+const LINE: &[u8] =
+    b"A Line of Some Words, longer than the text and the names that are there before it, and some more, so that the held line is broken where it is written, and once more";
+
+/// What grows, and what was found in it.
+#[derive(Drop)]
+pub struct Growing {
+    text: Bytes,
+    list: Sequence<Bytes>,
+    names: NameList,
+    values: ByName<usize>,
+    texts: SparseTexts,
+    held: Held,
+    lines: Sequence<Bytes>,
+    found: Option<Bytes>,
+}
+
+/// Puts a name at the end, if it isn't there.
+fn push_name(alloc: Global, names: &mut NameList, name: &[u8]) -> Result<(), AllocError> {
+    if names.find(alloc, name)?.is_none() {
+        names.push(alloc, name)?;
+    }
+    Ok(())
+}
+
+/// Out of memory, where a write of the held line says so.
+fn felt(answer: Result<(), HeldFault>) -> Result<(), AllocError> {
+    match answer {
+        Err(HeldFault::OutOfMemory) => Err(AllocError),
+        _ => Ok(()),
+    }
+}
+
+/// So many short texts.
+fn listed(alloc: Global, count: usize) -> Result<Sequence<Bytes>, AllocError> {
+    let mut list = Sequence::new(alloc);
+    for number in 0..count {
+        let text = format!(in alloc; "name {number}")?;
+        list.push(Bytes::from_vec(text.into_bytes()))?;
+    }
+    Ok(list)
+}
+
+fn names(alloc: Global) -> Result<NameList, AllocError> {
+    let mut names = NameList::new(alloc);
+    push_name(alloc, &mut names, b"Name 1")?;
+    Ok(names)
+}
+
+/// So many values that the table is full.
+fn values(alloc: Global) -> Result<ByName<usize>, AllocError> {
+    let mut values = ByName::new(alloc);
+    for name in ["a", "b", "c", "d", "e", "f", "g", "h", "i"] {
+        values.insert(alloc, name.as_bytes(), 1)?;
+    }
+    Ok(values)
+}
+
+fn texts(alloc: Global) -> Result<SparseTexts, AllocError> {
+    let mut texts = SparseTexts::new(alloc, 12);
+    texts.set(3, Some(Shared::<Bytes>::copied(alloc, b"text")?))?;
+    Ok(texts)
+}
+
+/// A line that holds a word.
+fn held(alloc: Global) -> Result<Held, AllocError> {
+    let mut held = Held::new(alloc);
+    felt(held.write(alloc, b"held ", &mut Sequence::new(alloc)))?;
+    Ok(held)
+}
+
+impl Growing {
+    /// Makes those calls that give a text.
+    fn given(&self, alloc: Global, name: &str) -> Result<Bytes, AllocError> {
+        match name {
+            "copy" => Bytes::copied(alloc, LINE),
+            "join" => Bytes::of(alloc, &[LINE, b" and ", LINE]),
+            "copy-held" => Bytes::copied(alloc, self.held.copy(alloc)?.bytes()),
+            "find-name" => Bytes::copied(
+                alloc,
+                match self.names.find(alloc, b"NAME 1")? {
+                    Some(name) => name.as_slice(),
+                    None => b"none",
+                },
+            ),
+            _ => Bytes::copied(
+                alloc,
+                match self.values.get(alloc, b"C")? {
+                    Some(_) => b"there",
+                    None => b"none",
+                },
+            ),
+        }
+    }
+}
+
+impl Case for Growing {
+    fn begun(alloc: Global, _group: &str) -> Result<Self, AllocError> {
+        Ok(Growing {
+            text: Bytes::copied(alloc, b"text")?,
+            list: listed(alloc, 4)?,
+            names: names(alloc)?,
+            values: values(alloc)?,
+            texts: texts(alloc)?,
+            held: held(alloc)?,
+            lines: Sequence::new(alloc),
+            found: None,
+        })
+    }
+
+    fn call(&mut self, alloc: Global, name: &str) -> Result<(), AllocError> {
+        match name {
+            "append" => self.text.append(LINE),
+            "push" => Ok(self.list.push(Bytes::new(alloc))?),
+            "append-list" => self.list.append(listed(alloc, 5)?),
+            "push-name" => push_name(alloc, &mut self.names, LINE),
+            "insert" => self.values.insert(alloc, LINE, 7),
+            "make-room" => self.values.make_room(),
+            "set" => self
+                .texts
+                .set(9, Some(Shared::<Bytes>::copied(alloc, LINE)?)),
+            "write" => felt(self.held.write(alloc, LINE, &mut self.lines)),
+            "write-a-word" => felt(self.held.write(alloc, b"word", &mut self.lines)),
+            "newline" => felt(self.held.newline(alloc, &mut self.lines)),
+            _ => {
+                self.found = Some(self.given(alloc, name)?);
+                Ok(())
+            }
+        }
+    }
+
+    fn seen(&self, alloc: Global) -> Result<Bytes, AllocError> {
+        let (text, list, names) = (&self.text, &self.list, self.names.as_slice());
+        let (values, texts, held) = (self.values.values(), &self.texts, &self.held);
+        let (lines, found) = (&self.lines, &self.found);
+        let words = format!(in alloc;
+            "{text:?} {list:?} {names:?} {values:?} {texts:?} {held:?} {lines:?} {found:?}"
+        )?;
+        Ok(Bytes::from_vec(words.into_bytes()))
+    }
+}

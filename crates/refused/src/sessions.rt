@@ -1,0 +1,154 @@
+//! A session: its beginning, its edits, and what it is asked.
+
+use crate::attempt::Case;
+use crate::texts::{EDITS, Text, texts_of};
+use bibtex::{Bytes, Change, Draft, Edit, Refusal, Report, Session, edit_all};
+use bt_log::{log_bytes, status, terse_bytes};
+use std::alloc::{AllocError, Global};
+
+/// A session, what its last edit answered, a log of its messages, and what it was asked.
+#[derive(Drop)]
+pub struct Edited {
+    session: Session,
+    answer: Option<Result<Report, Refusal>>,
+    log: Bytes,
+    asked: Option<[usize; 9]>,
+}
+
+/// The edit of a name.
+fn edit_of(name: &str) -> Edit<'static> {
+    for (known, edit) in EDITS {
+        if *known == name {
+            return *edit;
+        }
+    }
+    Edit::MinCrossrefs(1)
+}
+
+/// The answer of an edit, unless it is that memory ran out.
+fn told(answer: Result<Report, Refusal>) -> Result<Option<Result<Report, Refusal>>, AllocError> {
+    match answer {
+        Err(Refusal::OutOfMemory) => Err(AllocError),
+        answer => Ok(Some(answer)),
+    }
+}
+
+/// Carries out a list of one edit.
+fn listed(
+    alloc: Global,
+    session: &mut Session,
+) -> Result<Option<Result<Report, Refusal>>, AllocError> {
+    let answers = edit_all(alloc, session, &[Edit::Splice(b"x.bib", 18, 19, b"AA")])?;
+    match answers.first() {
+        Some(answer) => told(*answer),
+        None => Ok(None),
+    }
+}
+
+/// What a session answers without memory.
+fn asked(session: &Session) -> [usize; 9] {
+    [
+        session.bbl().len(),
+        session.blg().len(),
+        session.terse().len(),
+        session.wanted().len(),
+        session.messages().len(),
+        session.status() as usize,
+        status(session.messages()) as usize,
+        session
+            .refusal(Change::Splice(b"x.bib", 1, 100_000), 9)
+            .is_some() as usize,
+        session.file(b"x.bib").is_some() as usize,
+    ]
+}
+
+/// All that a session shows.
+fn shown(alloc: Global, session: &Session) -> Result<Bytes, AllocError> {
+    let mut seen = Bytes::new(alloc);
+    seen.append_all(&[
+        session.bbl(),
+        session.blg(),
+        session.terse(),
+        &[session.status()],
+    ])?;
+    for name in session.wanted() {
+        seen.append_all(&[name.as_slice(), b"\n"])?;
+    }
+    for name in ["job.aux", "two.aux", "n.aux", "s.bst", "x.bib", "y.bib"] {
+        if let Some(text) = session.file(name.as_bytes()) {
+            seen.append_all(&[name.as_bytes(), b"\n", text])?;
+        }
+    }
+    let messages = session.messages();
+    let words = format!(in alloc; "{messages:?}")?;
+    seen.append(words.as_bytes())?;
+    Ok(seen)
+}
+
+/// A session of these texts, which is run once.
+fn begun(alloc: Global, texts: &[Text]) -> Result<Session, AllocError> {
+    let Ok(mut draft) = Draft::new(alloc, b"job", 2) else {
+        return Err(AllocError);
+    };
+    for (name, text) in texts {
+        if draft.edit(Edit::Write(name, text)).is_err() {
+            return Err(AllocError);
+        }
+    }
+    Session::of(draft)
+}
+
+impl Case for Edited {
+    fn begun(alloc: Global, group: &str) -> Result<Self, AllocError> {
+        let session = begun(alloc, texts_of(group))?;
+        Ok(Edited {
+            session,
+            answer: None,
+            log: Bytes::new(alloc),
+            asked: None,
+        })
+    }
+
+    fn call(&mut self, alloc: Global, name: &str) -> Result<(), AllocError> {
+        match name {
+            "ask" => self.asked = Some(asked(&self.session)),
+            "log" => self.log = log_bytes(alloc, self.session.messages())?,
+            "terse" => self.log = terse_bytes(alloc, self.session.messages())?,
+            "list" => self.answer = listed(alloc, &mut self.session)?,
+            _ => self.answer = told(self.session.edit(edit_of(name)))?,
+        }
+        Ok(())
+    }
+
+    fn seen(&self, alloc: Global) -> Result<Bytes, AllocError> {
+        let mut seen = shown(alloc, &self.session)?;
+        let (answer, log, asked) = (&self.answer, &self.log, &self.asked);
+        let words = format!(in alloc; "{answer:?} {log:?} {asked:?}")?;
+        seen.append(words.as_bytes())?;
+        Ok(seen)
+    }
+}
+
+/// The beginning of a session.
+#[derive(Drop)]
+pub struct Beginning {
+    session: Option<Session>,
+}
+
+impl Case for Beginning {
+    fn begun(_alloc: Global, _group: &str) -> Result<Self, AllocError> {
+        Ok(Beginning { session: None })
+    }
+
+    fn call(&mut self, alloc: Global, name: &str) -> Result<(), AllocError> {
+        self.session = Some(begun(alloc, texts_of(name))?);
+        Ok(())
+    }
+
+    fn seen(&self, alloc: Global) -> Result<Bytes, AllocError> {
+        match &self.session {
+            Some(session) => shown(alloc, session),
+            None => Ok(Bytes::new(alloc)),
+        }
+    }
+}
