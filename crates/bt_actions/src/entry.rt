@@ -12,7 +12,7 @@ pub struct Variables {
     pub texts: Values<Shared<Bytes>>,
 }
 
-/// The same texts for one more owner; none of them is copied. The one error is out of memory.
+/// The same texts for one more owner; none of them is copied.
 pub fn share_texts(
     alloc: Global,
     texts: &[Shared<Bytes>],
@@ -30,7 +30,7 @@ impl Variables {
     ghost use Rattle.std.specs.Prelude.{◌≡◌, IfOk};
 
     /// The same variables, which can be changed. Texts are shared, and where there are many variables all but a few of
-    /// them. The one error is out of memory.
+    /// them.
     pub fn copy(&self, alloc: Global) -> Result<Variables, AllocError>
         ensures { IfOk result (λ copy. copy ≡ self.now) }
     {
@@ -57,8 +57,7 @@ pub struct Entry {
 impl Entry {
     ghost use Rattle.std.specs.Prelude.{◌≡◌, IfOk};
 
-    /// The same entry for one more owner; no part of it is copied. The one error is that a part has no room for another
-    /// owner.
+    /// The same entry for one more owner; no part of it is copied.
     pub fn share(&self) -> Result<Entry, AllocError>
         ensures { IfOk result (λ entry. entry ≡ self.now) }
     {

@@ -16,8 +16,8 @@ enum Holder<'a> {
     Own(Variables),
 }
 
-/// The variables of a step: those of its input, until it gives one a value. Contracts see the variables, and not who has
-/// them.
+/// The variables of a step: those of its input, until it gives one a value. Contracts see the variables, and not who
+/// has them.
 #[derive(Drop)]
 pub struct StepVariables<'a> {
     holder: Holder<'a>,
@@ -64,7 +64,7 @@ impl<'a> StepVariables<'a> {
         }
     }
 
-    /// Gives the number variable at a place a value, if there is one. The one error is out of memory.
+    /// Gives the number variable at a place a value, if there is one.
     pub fn set_number(&mut self, alloc: Global, n: usize, number: i32) -> Result<(), AllocError>
         ensures { OnOk result (self.new ≡ record self.old { numbers = slice_set self.old.numbers n number }) }
     {
@@ -79,7 +79,7 @@ impl<'a> StepVariables<'a> {
         Ok(())
     }
 
-    /// Gives the text variable at a place a value, if there is one. The one error is out of memory.
+    /// Gives the text variable at a place a value, if there is one.
     pub fn set_text(
         &mut self,
         alloc: Global,
@@ -99,8 +99,7 @@ impl<'a> StepVariables<'a> {
         Ok(())
     }
 
-    /// The variables for many owners: those of the input where the step gave none a value. The one error is out of
-    /// memory.
+    /// The variables for many owners: those of the input where the step gave none a value.
     pub fn into_shared(self, alloc: Global) -> Result<Shared<Variables>, AllocError>
         ensures { IfOk result (λ variables. variables ≡ self.entry) }
     {

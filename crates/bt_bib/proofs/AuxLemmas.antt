@@ -34,11 +34,11 @@ line_is_first text None found = sym (first_at (length text) text (λ j lt. found
 line_is_first text (Some k) found = sym (first_at k text (λ j lt. found.0.before j (omega arith) (omega arith)) (inr found.1) (omega (arith, found.0.high)))
 
 -- what stands after a byte
-abbrev pub behind : List ℕ → ℕ → List ℕ
-behind rest k = take (length rest - (k + 1)) (drop (k + 1) rest)
+abbrev pub rest_after : List ℕ → ℕ → List ℕ
+rest_after rest k = take (length rest - (k + 1)) (drop (k + 1) rest)
 
 -- what stands after a byte is shorter
-pub behind_shorter : (rest : List ℕ) (k : ℕ) → k < length rest → length (behind rest k) < length rest
+pub behind_shorter : (rest : List ℕ) (k : ℕ) → k < length rest → length (rest_after rest k) < length rest
 behind_shorter rest k lt = omega (arith, ap length (take_rest rest (k + 1)), length-drop (k + 1) rest)
 
 -- later lines stand after a counted one
@@ -66,7 +66,7 @@ lines_end n k text line front all x is end line_is all_is same =
 -- one line more
 pub line_added : (n k : ℕ) (text line : List ℕ) (front all x : List AuxItem) → k ≡ position_or_len is_line_end text → k < length text
     → line ≡ trimmed_end (take k text) → all ≡ front ++ if_counted n line (command_of line) [] → front ++ items_from n (slice_split is_line_end text) ≡ x
-    → all ++ items_from (n + 1) (slice_split is_line_end (behind text k)) ≡ x
+    → all ++ items_from (n + 1) (slice_split is_line_end (rest_after text k)) ≡ x
 line_added n k text line front all x is lt line_is all_is same =
     let t = trimmed_end (take k text) in
     let later = items_from (n + 1) (slice_split is_line_end (drop (k + 1) text)) in

@@ -3,20 +3,20 @@ use Rattle.std.specs.Prelude.{codes}
 use Rattle.std.proofs.Common.{◌≡◌, ℕ, suc, ◌+◌, ◌<◌, List, [], ◌∷◌, ◌++◌, length, drop, map, Option, Some, None, Result, Ok, Err, refl, sym, ap, subst, ◌∙◌, arith}
 use Rattle.std.proofs.lemmas.List.{drop_at, drop-drop}
 use Rattle.bt_bib.specs.declared.spot.Spot.{Spot}
-use Rattle.bt_bib.specs.declared.fault.What.TheVariants.{EntryType}
+use Rattle.bt_bib.specs.declared.fault.NameRole.TheVariants.{EntryType}
 use Rattle.bt_bib.specs.declared.item.Closing.{Closing}
 use Rattle.bt_bib.specs.declared.item.Content.{Content}
 use Rattle.bt_bib.specs.declared.item.Content.TheVariants as contents
 use Rattle.bt_bib.specs.declared.item.Piece.{Piece}
 use Rattle.bt_bib.specs.declared.keywords.Keyword.{Keyword}
 use Rattle.bt_bib.specs.declared.keywords.Keyword.TheVariants as keywords
-use Rattle.bt_bib.specs.Spot.{Here, at, here, behind}
+use Rattle.bt_bib.specs.Spot.{Here, at, here, after_byte}
 use Rattle.bt_bib.specs.Stop.{Stop}
-use Rattle.bt_bib.specs.Scan.{first, past, white}
+use Rattle.bt_bib.specs.Scan.{first, after_run, after_white}
 use Rattle.bt_bib.specs.Names.{word, name_ended}
 use Rattle.bt_bib.specs.Many.{all, many_by}
 use Rattle.bt_bib.specs.Keywords.{keyword_of}
-use Rattle.bt_bib.specs.Pieces.{item, opening, entry_item, entry_read, string_item, string_read, preamble_item, preamble_read, unread_entry, unread_string, item_opened, item_of_type, type_ended, type_read, piece, is_text, next_piece, next_piece_from}
+use Rattle.bt_bib.specs.Pieces.{ended_item, opening, entry_item, entry_read, string_item, string_read, preamble_item, preamble_read, unread_entry, unread_string, item_opened, item_of_type, type_ended, type_read, piece, is_text, next_piece, next_piece_from}
 use Rattle.bt_bib.specs.Reading.{next_one, pieces_from}
 use Rattle.bt_bib.specs.Moved.{moved, moved_piece}
 use Rattle.bt_bib.specs.Boundaries.{end_of, last_end}
@@ -28,19 +28,19 @@ use Rattle.bt_bib.proofs.FieldMoveLemmas.{SameRead, all_alike}
 use Rattle.bt_bib.proofs.PieceMoveLemmas.{next_piece_same}
 
 -- a piece says where it ends
-item_end : (s : Spot) (line : ℕ) (content : Content) (close : Option Closing) (r : Result Here Stop) → end_of (item s line content close r).0 ≡ (item s line content close r).1.spot
+item_end : (s : Spot) (line : ℕ) (content : Content) (close : Option Closing) (r : Result Here Stop) → end_of (ended_item s line content close r).0 ≡ (ended_item s line content close r).1.spot
 item_end s line content close (Ok e) = refl
 item_end s line content close (Err stop) = refl
 
 opened_end : (s : Spot) (unread : Content) (read : Closing → Here → Piece × Here) (r : Result (Closing × Here) Stop) → ((close : Closing) (e : Here) → end_of (read close e).0 ≡ (read close e).1.spot) → end_of (item_opened s unread read r).0 ≡ (item_opened s unread read r).1.spot
 opened_end s unread read (Err stop) k = refl
-opened_end s unread read (Ok o) k = k o.0 (white o.1)
+opened_end s unread read (Ok o) k = k o.0 (after_white o.1)
 
 typed_end : (keyword : Keyword) (s : Spot) (kind : List ℕ) (h : Here) → end_of (item_of_type keyword s kind h).0 ≡ (item_of_type keyword s kind h).1.spot
 typed_end keywords.Comment s kind h = refl
-typed_end keywords.String s kind h = opened_end s unread_string (string_item s) (opening (white h)) (λ close e. item_end s _ _ (Some close) (string_read close e).1)
-typed_end keywords.Preamble s kind h = opened_end s (contents.Preamble None) (preamble_item s) (opening (white h)) (λ close e. item_end s _ _ (Some close) (preamble_read close e).1)
-typed_end keywords.Entry s kind h = opened_end s (unread_entry (Some kind)) (entry_item s kind) (opening (white h)) (λ close e. item_end s _ _ (Some close) (entry_read kind close e).1)
+typed_end keywords.String s kind h = opened_end s unread_string (string_item s) (opening (after_white h)) (λ close e. item_end s _ _ (Some close) (string_read close e).1)
+typed_end keywords.Preamble s kind h = opened_end s (contents.Preamble None) (preamble_item s) (opening (after_white h)) (λ close e. item_end s _ _ (Some close) (preamble_read close e).1)
+typed_end keywords.Entry s kind h = opened_end s (unread_entry (Some kind)) (entry_item s kind) (opening (after_white h)) (λ close e. item_end s _ _ (Some close) (entry_read kind close e).1)
 
 type_ended_end : (s : Spot) (kind : List ℕ) (r : Result Here Stop) → end_of (type_ended s kind r).0 ≡ (type_ended s kind r).1.spot
 type_ended_end s kind (Err stop) = refl
@@ -52,7 +52,7 @@ type_read_end s (Ok w) = type_ended_end s w.0 (name_ended EntryType (codes "{(")
 
 pub piece_ends : (h : Here) → end_of (piece h).0 ≡ (piece h).1.spot
 unfolding piece
-piece_ends h = type_read_end h.spot (word EntryType (white (behind h)))
+piece_ends h = type_read_end h.spot (word EntryType (after_white (after_byte h)))
 
 abbrev pub EndsAt : Option Piece × Here → Type 0
 EndsAt (None, e) = Unit {0}
@@ -64,7 +64,7 @@ next_ends_from h (Some b) = piece_ends h
 
 pub next_ends : (h : Here) → EndsAt (next_piece h)
 unfolding next_piece
-next_ends h = next_ends_from (past is_text h) (first (past is_text h).rest)
+next_ends h = next_ends_from (after_run is_text h) (first (after_run is_text h).rest)
 
 -- the pieces are the next one and those after it
 abbrev pub pieces_by : Option Piece × Here → List Piece

@@ -6,11 +6,11 @@ use Rattle.std.proofs.lemmas.List.Sums.{sum_by-append, sum_by-cons}
 use Rattle.std.proofs.lemmas.Bool.{cases_eq, eq-eqb, ne_eqb, eqb-true, false≢true}
 use Rattle.bt_text.specs.ByteTests.{left_brace, right_brace}
 use Rattle.bt_bib.specs.declared.spot.Spot.{Spot}
-use Rattle.bt_bib.specs.declared.fault.Fault.TheVariants.{EndOfFile, UnbalancedBraces}
+use Rattle.bt_bib.specs.declared.fault.ItemFault.TheVariants.{EndOfFile, UnbalancedBraces}
 use Rattle.bt_bib.specs.declared.enclosed.Turn.{Turn}
 use Rattle.bt_bib.specs.declared.enclosed.Turn.TheVariants as turns
-use Rattle.bt_bib.specs.Spot.{Here, at, here, after, passed, beyond}
-use Rattle.bt_bib.specs.Scan.{first, past}
+use Rattle.bt_bib.specs.Spot.{Here, at, here, spot_after_byte, spot_after, after_bytes}
+use Rattle.bt_bib.specs.Scan.{first, after_run}
 use Rattle.bt_bib.specs.Stop.{Stop, ◌>>=◌}
 use Rattle.bt_bib.specs.Enclosed.{enclosed, enclosed_by, enclosed_text, ends_enclosed}
 use Rattle.bt_bib.specs.inner.Enclosed.{enclosed_end, turn, is_plain}
@@ -25,7 +25,7 @@ enclosed_run close depth s [] = Err (EndOfFile, at s [])
 enclosed_run close depth s (b ∷ rest) = elim (turn close depth b) [
   | turns.Closes ↦ Ok (at s (b ∷ rest))
   | turns.Breaks ↦ Err (UnbalancedBraces, at s (b ∷ rest))
-  | turns.Goes d ↦ enclosed_run close d (after b s) rest
+  | turns.Goes d ↦ enclosed_run close d (spot_after_byte b s) rest
 ]
 
 -- with the bytes up to there
@@ -83,23 +83,23 @@ turn_then h e goes (turns.Goes d) = refl
 
 -- what the definition answers where what is enclosed is text
 abbrev answer : ℕ → Here → List ℕ → Result (List ℕ × Here) Stop
-answer close h text = enclosed_by close text (beyond text h) (first (beyond text h).rest)
+answer close h text = enclosed_by close text (after_bytes text h) (first (after_bytes text h).rest)
 
 answer_if : (close : ℕ) (h : Here) (v : Bool) (x y : List ℕ) → answer close h (cond v x y) ≡ cond v (answer close h x) (answer close h y)
 answer_if close h true x y = refl
 answer_if close h false x y = refl
 
-beyond_front : (h : Here) (front rest : List ℕ) → h.rest ≡ front ++ rest → beyond front h ≡ at (passed front h.spot) rest
-beyond_front h front rest is = ap (λ r. at (passed front h.spot) r) (ap (drop (length front)) is ∙ drop_at front rest (length front) refl)
+beyond_front : (h : Here) (front rest : List ℕ) → h.rest ≡ front ++ rest → after_bytes front h ≡ at (spot_after front h.spot) rest
+beyond_front h front rest is = ap (λ r. at (spot_after front h.spot) r) (ap (drop (length front)) is ∙ drop_at front rest (length front) refl)
 
-between_front : (h : Here) (front rest : List ℕ) → h.rest ≡ front ++ rest → between h (at (passed front h.spot) rest) ≡ front
+between_front : (h : Here) (front rest : List ℕ) → h.rest ≡ front ++ rest → between h (at (spot_after front h.spot) rest) ≡ front
 between_front h front rest is =
     let n : h.spot.place + length front - h.spot.place ≡ length front = omega arith in
     ap (λ k. take k h.rest) n ∙ ap (take (length front)) is ∙ take_at front rest (length front) refl
 
-passed-more : (front : List ℕ) (b : ℕ) (s : Spot) → passed (front ++ b ∷ []) s ≡ after b (passed front s)
-passed-more [] b s = passed-cons b [] s ∙ passed-nil (after b s) ∙ ap (after b) (sym (passed-nil s))
-passed-more (x ∷ front) b s = passed-cons x (front ++ b ∷ []) s ∙ passed-more front b (after x s) ∙ ap (after b) (sym (passed-cons x front s))
+passed-more : (front : List ℕ) (b : ℕ) (s : Spot) → spot_after (front ++ b ∷ []) s ≡ spot_after_byte b (spot_after front s)
+passed-more [] b s = passed-cons b [] s ∙ passed-nil (spot_after_byte b s) ∙ ap (spot_after_byte b) (sym (passed-nil s))
+passed-more (x ∷ front) b s = passed-cons x (front ++ b ∷ []) s ∙ passed-more front b (spot_after_byte x s) ∙ ap (spot_after_byte b) (sym (passed-cons x front s))
 
 abbrev lefts : List ℕ → ℕ
 lefts t = count_by (λ b. b == left_brace) t
@@ -110,14 +110,14 @@ rights t = count_by (λ b. b == right_brace) t
 count-more : (test : ℕ → Bool) (front : List ℕ) (b : ℕ) → count_by test (front ++ b ∷ []) ≡ count_by test front + cond (test b) 1 0
 count-more test front b = sum_by-append (λ x. cond (test x) 1 0) front (b ∷ []) ∙ ap (λ n. count_by test front + n) (omega (arith, sum_by-cons (λ x. cond (test x) 1 0) b []))
 
-enclosed_walks : (close d : ℕ) (h : Here) (front rest : List ℕ) → h.rest ≡ front ++ rest → lefts front ≡ rights front + d → answer close h (enclosed_text close front rest) ≡ taken h (enclosed_run close d (passed front h.spot) rest)
+enclosed_walks : (close d : ℕ) (h : Here) (front rest : List ℕ) → h.rest ≡ front ++ rest → lefts front ≡ rights front + d → answer close h (enclosed_text close front rest) ≡ taken h (enclosed_run close d (spot_after front h.spot) rest)
 unfolding enclosed_run
 enclosed_walks close d h front [] is count = ap (λ e. enclosed_by close front e (first e.rest)) (beyond_front h front [] is)
 enclosed_walks close d h front (b ∷ rest) is count =
     let here_is = beyond_front h front (b ∷ rest) is in
-    let e = at (passed front h.spot) (b ∷ rest) in
+    let e = at (spot_after front h.spot) (b ∷ rest) in
     let later = answer close h (enclosed_text close (front ++ b ∷ []) rest) in
-    let goes : ℕ → Result Here Stop = λ d. enclosed_run close d (after b (passed front h.spot)) rest in
+    let goes : ℕ → Result Here Stop = λ d. enclosed_run close d (spot_after_byte b (spot_after front h.spot)) rest in
     let stop : answer close h front ≡ cond (b == close) (taken h (Ok e)) (taken h (Err (UnbalancedBraces, e))) =
     ap (λ x. enclosed_by close front x (first x.rest)) here_is ∙ ap (λ t. cond (b == close) (Ok (t, e)) (Err (UnbalancedBraces, e))) (sym (between_front h front (b ∷ rest) is)) in
     let on : (d : ℕ) → lefts front + cond (b == left_brace) 1 0 ≡ rights front + cond (b == right_brace) 1 0 + d → later ≡ taken h (goes d) = λ d more.
@@ -154,7 +154,7 @@ enclosed_stopped close h stop is = enclosed_is_taken close h ∙ ap (taken h) is
 pub enclosed_cons : (close d : ℕ) (s : Spot) (b : ℕ) (rest : List ℕ) (t : Turn) → t ≡ turn close d b → enclosed_run close d s (b ∷ rest) ≡ elim t [
   | turns.Closes ↦ Ok (at s (b ∷ rest))
   | turns.Breaks ↦ Err (UnbalancedBraces, at s (b ∷ rest))
-  | turns.Goes e ↦ enclosed_run close e (after b s) rest
+  | turns.Goes e ↦ enclosed_run close e (spot_after_byte b s) rest
 ]
 unfolding enclosed_run
 enclosed_cons close d s b rest t e = rw e refl
@@ -173,7 +173,7 @@ enclosed_breaks close d text s lt h =
     let e = drop_more text s.place 0 lt in
     ap (enclosed_run close d s) e ∙ enclosed_cons close d s (get_or text s.place 0) (drop (s.place + 1) text) turns.Breaks h ∙ ap (λ r. Err (UnbalancedBraces, at s r)) (sym e)
 
-pub enclosed_goes : (close d n : ℕ) (text : List ℕ) (s : Spot) → s.place < length text → turns.Goes n ≡ turn close d (get_or text s.place 0) → enclosed_run close n (after (get_or text s.place 0) s) (drop (s.place + 1) text) ≡ enclosed_run close d s (drop s.place text)
+pub enclosed_goes : (close d n : ℕ) (text : List ℕ) (s : Spot) → s.place < length text → turns.Goes n ≡ turn close d (get_or text s.place 0) → enclosed_run close n (spot_after_byte (get_or text s.place 0) s) (drop (s.place + 1) text) ≡ enclosed_run close d s (drop s.place text)
 enclosed_goes close d n text s lt h =
     let e = drop_more text s.place 0 lt in
     sym (ap (enclosed_run close d s) e ∙ enclosed_cons close d s (get_or text s.place 0) (drop (s.place + 1) text) (turns.Goes n) h)
@@ -190,20 +190,20 @@ plain_turn false z true r d h = absurd (false≢true h)
 plain_turn false z false true d h = absurd (false≢true h)
 plain_turn false z false false d h = refl
 
-plain_goes : (close d : ℕ) (s : Spot) (b : ℕ) (rest : List ℕ) → is_plain close b ≡ true → enclosed_run close d s (b ∷ rest) ≡ enclosed_run close d (after b s) rest
+plain_goes : (close d : ℕ) (s : Spot) (b : ℕ) (rest : List ℕ) → is_plain close b ≡ true → enclosed_run close d s (b ∷ rest) ≡ enclosed_run close d (spot_after_byte b s) rest
 plain_goes close d s b rest h = enclosed_cons close d s b rest (turns.Goes d) (sym (plain_turn (b == close) (d == 0) (b == left_brace) (b == right_brace) d h))
 
 abbrev run_at : ℕ → ℕ → Here → Result Here Stop
 run_at close d h = enclosed_run close d h.spot h.rest
 
-plain_by : (v : Bool) (close d : ℕ) (s : Spot) (b : ℕ) (rest : List ℕ) (far : Here) → is_plain close b ≡ v → run_at close d far ≡ enclosed_run close d (after b s) rest → run_at close d (cond v far (at s (b ∷ rest))) ≡ enclosed_run close d s (b ∷ rest)
+plain_by : (v : Bool) (close d : ℕ) (s : Spot) (b : ℕ) (rest : List ℕ) (far : Here) → is_plain close b ≡ v → run_at close d far ≡ enclosed_run close d (spot_after_byte b s) rest → run_at close d (cond v far (at s (b ∷ rest))) ≡ enclosed_run close d s (b ∷ rest)
 plain_by true close d s b rest far h e = e ∙ sym (plain_goes close d s b rest h)
 plain_by false close d s b rest far h e = refl
 
 plain_run : (close d : ℕ) (s : Spot) (rest : List ℕ) → run_at close d (past_run (is_plain close) s rest) ≡ enclosed_run close d s rest
 unfolding past_run
 plain_run close d s [] = refl
-plain_run close d s (b ∷ rest) = plain_by (is_plain close b) close d s b rest (past_run (is_plain close) (after b s) rest) refl (plain_run close d (after b s) rest)
+plain_run close d s (b ∷ rest) = plain_by (is_plain close b) close d s b rest (past_run (is_plain close) (spot_after_byte b s) rest) refl (plain_run close d (spot_after_byte b s) rest)
 
-pub enclosed_jumps : (close d : ℕ) (text : List ℕ) (s end : Spot) → here text end ≡ past (is_plain close) (here text s) → enclosed_run close d end (drop end.place text) ≡ enclosed_run close d s (drop s.place text)
+pub enclosed_jumps : (close d : ℕ) (text : List ℕ) (s end : Spot) → here text end ≡ after_run (is_plain close) (here text s) → enclosed_run close d end (drop end.place text) ≡ enclosed_run close d s (drop s.place text)
 enclosed_jumps close d text s end is = ap (run_at close d) (is ∙ past_is_run (is_plain close) s (drop s.place text)) ∙ plain_run close d s (drop s.place text)

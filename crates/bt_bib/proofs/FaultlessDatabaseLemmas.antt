@@ -9,8 +9,8 @@ use Rattle.bt_bib.specs.declared.item.Item.{Item}
 use Rattle.bt_bib.specs.declared.item.Piece.{Piece}
 use Rattle.bt_bib.specs.declared.item.Piece.TheVariants as pieces
 use Rattle.bt_bib.specs.declared.keywords.Keyword.TheVariants as keywords
-use Rattle.bt_bib.specs.Spot.{Here, at, here, start, after}
-use Rattle.bt_bib.specs.Scan.{first, past}
+use Rattle.bt_bib.specs.Spot.{Here, at, here, start, spot_after_byte}
+use Rattle.bt_bib.specs.Scan.{first, after_run}
 use Rattle.bt_bib.specs.Pieces.{piece, is_text, next_piece, next_piece_from}
 use Rattle.bt_bib.specs.Boundaries.{start_of, end_of, last_end}
 use Rattle.bt_bib.specs.Reading.{pieces_from, pieces_of}
@@ -57,7 +57,7 @@ unfolding pieces_of next_piece
 faultless_items_are_spelled text front back i is faultless =
     let s = last_end start front in
     let g = here text s in
-    let a = past is_text g in
+    let a = after_run is_text g in
     item_at text a.spot a.rest i back (here_reached text s a (past_reaches is_text g)) (past_stops is_text g) (sym (pieces_step g) ∙ sym (rest_law text start front (pieces.Item i ∷ back) is)) faultless
 
 -- From here to the text's end stand these pieces.
@@ -66,7 +66,7 @@ record Spells (ps : List Piece) (h : Here) : Type 0 where
   last : end.rest ≡ []
   stands : Stands (DatabaseOf ps) h end
 
-stands_skipped : (h : Here) → Stands Skipped h (past is_text h)
+stands_skipped : (h : Here) → Stands Skipped h (after_run is_text h)
 stands_skipped h = stands_run is_text Skipped h (run_all is_text h.rest)
 
 none_first : (r : List ℕ) → first r ≡ None → r ≡ []
@@ -95,7 +95,7 @@ behind_text a (pieces.Comment start end, k) ps stands faultless rest h skipped =
     record { end = last; last = rest.last; stands = stands_both Skipped (Commented start end A) h a last skipped whole }
 
 shorter : (s : Spot) (b : ℕ) (bs : List ℕ) → (let a = at s (b ∷ bs) in length (piece a).1.rest < length a.rest)
-shorter s b bs = (let a = at s (b ∷ bs) in omega (arith, reaches_rest (at (after b s) bs) (piece a).1 (piece_reaches a)))
+shorter s b bs = (let a = at s (b ∷ bs) in omega (arith, reaches_rest (at (spot_after_byte b s) bs) (piece a).1 (piece_reaches a)))
 
 spells_by : (h : Here) (s : Spot) (r : List ℕ) → (let a = at s r in Stands Skipped h a → Stops is_text r → length r ≤ length h.rest → All IsFaultless (pieces_by (next_piece_from a (first r))) → ((k : Here) → length k.rest < length h.rest → All IsFaultless (pieces_from k) → Spells (pieces_from k) k) → Spells (pieces_by (next_piece_from a (first r))) h)
 spells_by h s [] skipped stop le all later = record { end = at s []; last = refl; stands = skipped }
@@ -109,7 +109,7 @@ spells : (n : ℕ) (h : Here) → length h.rest < n → All IsFaultless (pieces_
 unfolding next_piece
 spells zero h lt all = absurd (omega arith)
 spells (suc n) h lt all =
-    let a = past is_text h in
+    let a = after_run is_text h in
     let step : pieces_from h ≡ pieces_by (next_piece_from a (first a.rest)) = pieces_step h in
     subst (λ ps. Spells ps h) (sym step) (spells_by h a.spot a.rest (stands_skipped h) (past_stops is_text h) (reaches_rest h a (past_reaches is_text h)) (subst (All IsFaultless) step all) (λ k less all. spells n k (omega arith) all))
 

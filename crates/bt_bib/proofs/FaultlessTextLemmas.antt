@@ -8,13 +8,13 @@ use Rattle.std.proofs.lemmas.Bool.{eqb-true}
 use Rattle.bt_text.specs.ByteTests.{is_white, is_digit, left_brace, right_brace}
 use Rattle.bt_text.specs.NameBytes.{is_name_byte, is_name}
 use Rattle.bt_bib.specs.declared.spot.Spot.{Spot}
-use Rattle.bt_bib.specs.declared.fault.Fault.{Fault}
-use Rattle.bt_bib.specs.declared.fault.What.{What}
-use Rattle.bt_bib.specs.declared.fault.Fault.TheVariants.{BadNameEnd, MissingName, UnbalancedBraces}
+use Rattle.bt_bib.specs.declared.fault.ItemFault.{ItemFault}
+use Rattle.bt_bib.specs.declared.fault.NameRole.{NameRole}
+use Rattle.bt_bib.specs.declared.fault.ItemFault.TheVariants.{BadNameEnd, MissingName, UnbalancedBraces}
 use Rattle.bt_bib.specs.declared.enclosed.Turn.{Turn}
 use Rattle.bt_bib.specs.declared.enclosed.Turn.TheVariants as turns
-use Rattle.bt_bib.specs.Spot.{Here, at, after, passed, behind}
-use Rattle.bt_bib.specs.Scan.{first, run, past, white, sign}
+use Rattle.bt_bib.specs.Spot.{Here, at, spot_after_byte, spot_after, after_byte}
+use Rattle.bt_bib.specs.Scan.{first, run, after_run, after_white, sign}
 use Rattle.bt_bib.specs.Stop.{Stop, ◌>>=◌}
 use Rattle.bt_bib.specs.Names.{word, name_ended, name}
 use Rattle.bt_bib.specs.Enclosed.{enclosed}
@@ -48,7 +48,7 @@ stands_both A B h m k a b = record {
   text = a.text ++ b.text;
   spelled = Both a.spelled (subst (λ s. B s b.text) a.spot b.spelled);
   rest = a.rest ∙ ap (λ r. a.text ++ r) b.rest ∙ sym (append_assoc a.text b.text k.rest);
-  spot = b.spot ∙ ap (passed b.text) a.spot ∙ sym (passed-append a.text b.text h.spot);
+  spot = b.spot ∙ ap (spot_after b.text) a.spot ∙ sym (passed-append a.text b.text h.spot);
 }
 
 pub stands_spaced : (A B : Spelling) (h m n k : Here) → Stands A h m → Stands White m n → Stands B n k → Stands (A ⋯ B) h k
@@ -70,34 +70,34 @@ pub run_all : (test : ℕ → Bool) (r : List ℕ) → list_all test (take_while
 run_all test [] = refl
 run_all test (b ∷ bs) = subst (λ l. list_all test l ≡ true) (sym (take_while-cons test b bs)) (run_all_by (test b) test b (take_while test bs) refl (run_all test bs))
 
-pub stands_run : (test : ℕ → Bool) (A : Spelling) (h : Here) → A h.spot (run test h) → Stands A h (past test h)
+pub stands_run : (test : ℕ → Bool) (A : Spelling) (h : Here) → A h.spot (run test h) → Stands A h (after_run test h)
 stands_run test A h a =
     let n = length (take_while test h.rest) in
     record { text = run test h; spelled = a; rest = sym (take-append-drop n h.rest) ∙ ap (λ t. t ++ drop n h.rest) (sym (front_taken test h.rest)); spot = refl }
 
-pub stands_white : (h : Here) → Stands White h (white h)
+pub stands_white : (h : Here) → Stands White h (after_white h)
 stands_white h = stands_run is_white White h (run_all is_white h.rest)
 
 -- Signs
 
-stands_sign_at : (b : ℕ) (s : Spot) (r : List ℕ) → first r ≡ Some b → Stands (Sign b) (at s r) (behind (at s r))
+stands_sign_at : (b : ℕ) (s : Spot) (r : List ℕ) → first r ≡ Some b → Stands (Sign b) (at s r) (after_byte (at s r))
 stands_sign_at b s [] is = absurd (cc is)
 stands_sign_at b s (c ∷ cs) is =
     let same : c ≡ b = cc is in
     record { text = c ∷ []; spelled = subst (λ b. Sign b s (c ∷ [])) same (Written tt); rest = refl; spot = sign_passed c s }
 
-pub stands_sign : (b : ℕ) (h : Here) → first h.rest ≡ Some b → Stands (Sign b) h (behind h)
+pub stands_sign : (b : ℕ) (h : Here) → first h.rest ≡ Some b → Stands (Sign b) h (after_byte h)
 stands_sign b h is = stands_sign_at b h.spot h.rest is
 
-read_sign_at : (b : ℕ) (fault : Fault) (s : Spot) (r : List ℕ) (k : Here) → sign b fault (at s r) ≡ Ok k → Stands (Sign b) (at s r) k
+read_sign_at : (b : ℕ) (fault : ItemFault) (s : Spot) (r : List ℕ) (k : Here) → sign b fault (at s r) ≡ Ok k → Stands (Sign b) (at s r) k
 unfolding sign
 read_sign_at b fault s [] k is = absurd (cc is)
 read_sign_at b fault s (c ∷ cs) k is =
     let h = at s (c ∷ cs) in
-    let t = if_ok (c == b) (behind h) k (fault, h) is in
+    let t = if_ok (c == b) (after_byte h) k (fault, h) is in
     subst (Stands (Sign b) h) t.1 (stands_sign b h (ap (λ c. Some c) (eqb-true c b t.0)))
 
-pub read_sign : (b : ℕ) (fault : Fault) (h k : Here) → sign b fault h ≡ Ok k → Stands (Sign b) h k
+pub read_sign : (b : ℕ) (fault : ItemFault) (h k : Here) → sign b fault h ≡ Ok k → Stands (Sign b) h k
 read_sign b fault h k is = read_sign_at b fault h.spot h.rest k is
 
 -- Names
@@ -109,21 +109,21 @@ name_run b bs is =
     let whole : take_while is_name_byte (b ∷ bs) ≡ b ∷ rest = take_while-cons is_name_byte b bs ∙ ap (λ v. cond v (b ∷ rest) []) byte in
     subst (λ l. is_name l ≡ true) (sym whole) (and_both (not (is_digit b)) (list_all is_name_byte (b ∷ rest)) (and_second (is_name_byte b) (not (is_digit b)) is) (and_both (is_name_byte b) (list_all is_name_byte rest) byte (run_all is_name_byte bs)))
 
-read_word_at : (what : What) (s : Spot) (r n : List ℕ) (k : Here) → word what (at s r) ≡ Ok (n, k) → Stands (NameOf n) (at s r) k
+read_word_at : (what : NameRole) (s : Spot) (r n : List ℕ) (k : Here) → word what (at s r) ≡ Ok (n, k) → Stands (NameOf n) (at s r) k
 unfolding word
 read_word_at what s [] n k is = absurd (cc is)
 read_word_at what s (b ∷ bs) n k is =
     let h = at s (b ∷ bs) in
-    let found : List ℕ × Here = (run is_name_byte h, past is_name_byte h) in
-    let wanted : List ℕ × Here = (n, k) in
-    let t = if_ok (is_name_byte b && not (is_digit b)) found wanted (MissingName what, h) is in
+    let found : List ℕ × Here = (run is_name_byte h, after_run is_name_byte h) in
+    let expected : List ℕ × Here = (n, k) in
+    let t = if_ok (is_name_byte b && not (is_digit b)) found expected (MissingName what, h) is in
     let Named : List ℕ × Here → Type 0 = λ x. Stands (NameOf x.0) h x.1 in
     subst Named t.1 (stands_run is_name_byte (NameOf (run is_name_byte h)) h (Written (name_run b bs t.0)))
 
-pub read_word : (what : What) (h : Here) (n : List ℕ) (k : Here) → word what h ≡ Ok (n, k) → Stands (NameOf n) h k
+pub read_word : (what : NameRole) (h : Here) (n : List ℕ) (k : Here) → word what h ≡ Ok (n, k) → Stands (NameOf n) h k
 read_word what h n k is = read_word_at what h.spot h.rest n k is
 
-read_ended_at : (what : What) (signs : List ℕ) (s : Spot) (r : List ℕ) (k : Here) → name_ended what signs (at s r) ≡ Ok k → (at s r ≡ k) × MayEndName signs r
+read_ended_at : (what : NameRole) (signs : List ℕ) (s : Spot) (r : List ℕ) (k : Here) → name_ended what signs (at s r) ≡ Ok k → (at s r ≡ k) × MayEndName signs r
 unfolding name_ended
 read_ended_at what signs s [] k is = (ok_same (at s []) k is, tt)
 read_ended_at what signs s (b ∷ bs) k is =
@@ -131,18 +131,18 @@ read_ended_at what signs s (b ∷ bs) k is =
     let t = if_ok (is_white b || list_any (λ sign. sign == b) signs) h k (BadNameEnd what b, h) is in
     (t.1, t.0)
 
-pub read_ended : (what : What) (signs : List ℕ) (h k : Here) → name_ended what signs h ≡ Ok k → (h ≡ k) × MayEndName signs h.rest
+pub read_ended : (what : NameRole) (signs : List ℕ) (h k : Here) → name_ended what signs h ≡ Ok k → (h ≡ k) × MayEndName signs h.rest
 read_ended what signs h k is = read_ended_at what signs h.spot h.rest k is
 
-pub read_name : (what : What) (signs : List ℕ) (h : Here) (n : List ℕ) (k : Here) → name what signs h ≡ Ok (n, k) → Stands (NameOf n) h k
+pub read_name : (what : NameRole) (signs : List ℕ) (h : Here) (n : List ℕ) (k : Here) → name what signs h ≡ Ok (n, k) → Stands (NameOf n) h k
 unfolding name
 read_name what signs h n k is =
-    let wanted : List ℕ × Here = (n, k) in
-    let w = bind_ok (word what h) (λ w. name_ended what signs w.1 >>= λ end. Ok (w.0, end)) wanted is in
-    let e = bind_ok (name_ended what signs w.0.1) (λ end. Ok (w.0.0, end)) wanted w.2 in
+    let expected : List ℕ × Here = (n, k) in
+    let w = bind_ok (word what h) (λ w. name_ended what signs w.1 >>= λ end. Ok (w.0, end)) expected is in
+    let e = bind_ok (name_ended what signs w.0.1) (λ end. Ok (w.0.0, end)) expected w.2 in
     let found : List ℕ × Here = (w.0.0, e.0) in
     let Named : List ℕ × Here → Type 0 = λ x. Stands (NameOf x.0) h x.1 in
-    subst Named (ok_same found wanted e.2) (subst (Stands (NameOf w.0.0) h) (read_ended what signs w.0.1 e.0 e.1).0 (read_word what h w.0.0 w.0.1 w.1))
+    subst Named (ok_same found expected e.2) (subst (Stands (NameOf w.0.0) h) (read_ended what signs w.0.1 e.0 e.1).0 (read_word what h w.0.0 w.0.1 w.1))
 
 -- Enclosed texts
 
@@ -209,15 +209,15 @@ record Found (close d : ℕ) (s : Spot) (r : List ℕ) (e : Here) : Type 0 where
   text : List ℕ
   unwinds : Unwinds close d text
   rest : r ≡ text ++ e.rest
-  spot : e.spot ≡ passed text s
+  spot : e.spot ≡ spot_after text s
   closes : first e.rest ≡ Some close
 
 abbrev what_follows : ℕ → Spot → ℕ → List ℕ → Turn → Result Here Stop
 what_follows close s b bs turns.Closes = Ok (at s (b ∷ bs))
 what_follows close s b bs turns.Breaks = Err (UnbalancedBraces, at s (b ∷ bs))
-what_follows close s b bs (turns.Goes n) = enclosed_run close n (after b s) bs
+what_follows close s b bs (turns.Goes n) = enclosed_run close n (spot_after_byte b s) bs
 
-found_by : (close d : ℕ) (s : Spot) (b : ℕ) (bs : List ℕ) (e : Here) (t : Turn) → t ≡ turn close d b → what_follows close s b bs t ≡ Ok e → ((n : ℕ) → enclosed_run close n (after b s) bs ≡ Ok e → Found close n (after b s) bs e) → Found close d s (b ∷ bs) e
+found_by : (close d : ℕ) (s : Spot) (b : ℕ) (bs : List ℕ) (e : Here) (t : Turn) → t ≡ turn close d b → what_follows close s b bs t ≡ Ok e → ((n : ℕ) → enclosed_run close n (spot_after_byte b s) bs ≡ Ok e → Found close n (spot_after_byte b s) bs e) → Found close d s (b ∷ bs) e
 found_by close d s b bs e turns.Closes turned is later =
     let c = closes_at close d b turned in
     subst (Found close d s (b ∷ bs)) (ok_same (at s (b ∷ bs)) e is) (record { text = []; unwinds = subst (λ d. Unwinds close d []) (sym c.0) Nothing; rest = refl; spot = sym (passed-nil s); closes = ap (λ b. Some b) c.1 })
@@ -229,19 +229,19 @@ found_by close d s b bs e (turns.Goes n) turned is later =
 found : (close d : ℕ) (s : Spot) (r : List ℕ) (e : Here) → enclosed_run close d s r ≡ Ok e → Found close d s r e
 unfolding enclosed_run
 found close d s [] e is = absurd (cc is)
-found close d s (b ∷ bs) e is = found_by close d s b bs e (turn close d b) refl is (λ n. found close n (after b s) bs e)
+found close d s (b ∷ bs) e is = found_by close d s b bs e (turn close d b) refl is (λ n. found close n (spot_after_byte b s) bs e)
 
-pub between_is : (h e : Here) (text : List ℕ) → h.rest ≡ text ++ e.rest → e.spot ≡ passed text h.spot → between h e ≡ text
+pub between_is : (h e : Here) (text : List ℕ) → h.rest ≡ text ++ e.rest → e.spot ≡ spot_after text h.spot → between h e ≡ text
 between_is h e text rest spot =
     let size : e.spot.place - h.spot.place ≡ length text = omega (arith, ap (λ (s : Spot). s.place) spot) in
     ap (λ n. take n h.rest) size ∙ ap (take (length text)) rest ∙ take_at text e.rest (length text) refl
 
 pub read_enclosed : (close : ℕ) (h : Here) (text : List ℕ) (e : Here) → enclosed close h ≡ Ok (text, e) → Stands (Bytes text (IsEnclosed close text)) h e × (first e.rest ≡ Some close)
 read_enclosed close h text e is =
-    let wanted : List ℕ × Here = (text, e) in
-    let r = bind_ok (enclosed_run close 0 h.spot h.rest) (λ e. Ok (between h e, e)) wanted (sym (enclosed_is_run close h) ∙ is) in
+    let expected : List ℕ × Here = (text, e) in
+    let r = bind_ok (enclosed_run close 0 h.spot h.rest) (λ e. Ok (between h e, e)) expected (sym (enclosed_is_run close h) ∙ is) in
     let f = found close 0 h.spot h.rest r.0 r.1 in
-    let same : (between h r.0, r.0) ≡ wanted = ok_same (between h r.0, r.0) wanted r.2 in
+    let same : (between h r.0, r.0) ≡ expected = ok_same (between h r.0, r.0) expected r.2 in
     let this : f.text ≡ text = sym (between_is h r.0 f.text f.rest f.spot) ∙ ap (λ (x : List ℕ × Here). x.0) same in
     let end : r.0 ≡ e = ap (λ (x : List ℕ × Here). x.1) same in
     let there : Stands (Bytes f.text (IsEnclosed close f.text)) h r.0 = record { text = f.text; spelled = Written f.unwinds; rest = f.rest; spot = f.spot } in

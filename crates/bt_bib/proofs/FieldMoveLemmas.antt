@@ -3,17 +3,17 @@ use Rattle.std.specs.Prelude.{◌==◌}
 use Rattle.std.proofs.Common.{◌≡◌, ℕ, zero, suc, ◌+◌, ◌<◌, List, [], ◌∷◌, ◌++◌, length, map, Option, Some, None, Result, Ok, Err, refl, sym, ap, subst, ◌∙◌, arith}
 use Rattle.std.proofs.lemmas.List.{map-append}
 use Rattle.bt_bib.specs.declared.spot.Spot.{Spot}
-use Rattle.bt_bib.specs.declared.fault.What.TheVariants.{FieldName}
-use Rattle.bt_bib.specs.declared.fault.Fault.TheVariants.{EndOfFile, ExpectedEquals, ExpectedCommaOrClose}
+use Rattle.bt_bib.specs.declared.fault.NameRole.TheVariants.{FieldName}
+use Rattle.bt_bib.specs.declared.fault.ItemFault.TheVariants.{EndOfFile, ExpectedEquals, ExpectedCommaOrClose}
 use Rattle.bt_bib.specs.declared.item.Closing.{Closing}
 use Rattle.bt_bib.specs.declared.item.Part.{Part}
 use Rattle.bt_bib.specs.declared.item.Field.{Field}
-use Rattle.bt_bib.specs.Spot.{Here, behind}
+use Rattle.bt_bib.specs.Spot.{Here, after_byte}
 use Rattle.bt_bib.specs.Stop.{Stop, ◌>>=◌}
-use Rattle.bt_bib.specs.Scan.{first, white, sign, closing_sign}
+use Rattle.bt_bib.specs.Scan.{first, after_white, sign, closing_sign}
 use Rattle.bt_bib.specs.Names.{name}
 use Rattle.bt_bib.specs.Many.{all, many_by, collected}
-use Rattle.bt_bib.specs.Values.{part, joined, joined_from, value}
+use Rattle.bt_bib.specs.Values.{part, next_part, joined_from, value}
 use Rattle.bt_bib.specs.Fields.{field, field_or_close, next_field, next_field_from, name_ends}
 use Rattle.bt_bib.specs.Moved.{moved_part, moved_field, moved_option}
 use Rattle.bt_bib.proofs.ReachLemmas.{reaches_self, reaches_place, Advances, Moves, advances_bind, advances_ok, advances_white, moves_bind, sign_moves, part_advances, joined_advances, joined_advances_from, value_advances, field_or_close_advances, next_field_advances_from, many_moves}
@@ -60,8 +60,8 @@ collected_alike m limit f front (xs, Ok e) y s = record { alike = λ lt. (let t 
 collected_alike m limit f front (xs, Err e) y s = record { alike = λ lt. (let t = s.alike lt in (t.0, ap (collected (map f front)) t.1, t.2)) }
 
 -- after one byte, white space and one after the other
-white_alike : {A : Type 0} (m : Spot) (limit : ℕ) (f : A → A) (h k : Here) (r : Here → Result (A × Here) Stop) → Alike m limit h k → ((e : Here) → Advances e (r e)) → ((e g : Here) → Alike m limit e g → Same m limit f (r e) (r g)) → Same m limit f (r (white h)) (r (white k))
-white_alike m limit f h k r a adv same = same_when m limit f (white h) (r (white h)) (r (white k)) (adv (white h)) (λ lt. same (white h) (white k) (alike_past m limit _ h k a lt))
+white_alike : {A : Type 0} (m : Spot) (limit : ℕ) (f : A → A) (h k : Here) (r : Here → Result (A × Here) Stop) → Alike m limit h k → ((e : Here) → Advances e (r e)) → ((e g : Here) → Alike m limit e g → Same m limit f (r e) (r g)) → Same m limit f (r (after_white h)) (r (after_white k))
+white_alike m limit f h k r a adv same = same_when m limit f (after_white h) (r (after_white h)) (r (after_white k)) (adv (after_white h)) (λ lt. same (after_white h) (after_white k) (alike_past m limit _ h k a lt))
 
 joined_same_from : (m : Spot) (limit : ℕ) (close : Closing) (h k : Here) (o : Option ℕ) → h.spot.place < limit → Alike m limit h k → Same m limit (moved_option (moved_part m)) (joined_from close h o) (joined_from close k o)
 joined_same_from m limit close h k None lt a = same_ok m limit (moved_option (moved_part m)) None None h k refl (λ _. a)
@@ -69,65 +69,65 @@ joined_same_from m limit close h k (Some b) lt a =
     let f = moved_option (moved_part m) in
     let read : Here → Result (Option Part × Here) Stop = λ e. part close e >>= λ x. Ok (Some x.0, x.1) in
     let adv : (e : Here) → Advances e (read e) = λ e. advances_bind e (part close e) (λ x. Ok (Some x.0, x.1)) (part_advances close e) (λ x. advances_ok x.1 x.1 (Some x.0) (reaches_self x.1)) in
-    let next = white_alike m limit f (behind h) (behind k) read (alike_behind m limit h k lt a) adv (λ e g c. same_bind m limit (moved_part m) f (part close e) (part close g) (λ x. Ok (Some x.0, x.1)) (λ x. Ok (Some x.0, x.1)) (part_same m limit close e g c) (λ x. advances_ok x.1 x.1 (Some x.0) (reaches_self x.1)) (λ x p q d is. same_ok m limit f (Some x) (Some (moved_part m x)) p q refl (λ _. d))) in
+    let next = white_alike m limit f (after_byte h) (after_byte k) read (alike_behind m limit h k lt a) adv (λ e g c. same_bind m limit (moved_part m) f (part close e) (part close g) (λ x. Ok (Some x.0, x.1)) (λ x. Ok (Some x.0, x.1)) (part_same m limit close e g c) (λ x. advances_ok x.1 x.1 (Some x.0) (reaches_self x.1)) (λ x p q d is. same_ok m limit f (Some x) (Some (moved_part m x)) p q refl (λ _. d))) in
     same_if m limit f (b == 35) _ _ _ _ next (same_ok m limit f None None h k refl (λ _. a))
 
-pub joined_same : (m : Spot) (limit : ℕ) (close : Closing) (h k : Here) → Alike m limit h k → Same m limit (moved_option (moved_part m)) (joined close h) (joined close k)
-unfolding joined
+pub joined_same : (m : Spot) (limit : ℕ) (close : Closing) (h k : Here) → Alike m limit h k → Same m limit (moved_option (moved_part m)) (next_part close h) (next_part close k)
+unfolding next_part
 joined_same m limit close h k a = same_when m limit (moved_option (moved_part m)) h (joined_from close h (first h.rest)) (joined_from close k (first k.rest)) (joined_advances_from close h (first h.rest)) (λ lt.
     subst (λ o. Same m limit (moved_option (moved_part m)) (joined_from close h (first h.rest)) (joined_from close k o)) (sym (alike_first m limit h k lt a)) (joined_same_from m limit close h k (first h.rest) lt a))
 
-value_rest_advances : (close : Closing) (x : Part × Here) → Advances x.1 (collected (x.0 ∷ []) (all (joined close) x.1))
-value_rest_advances close x = moves_bind x.1 (all (joined close) x.1).1 (λ e. Ok ((x.0 ∷ []) ++ (all (joined close) x.1).0, e)) (many_moves (joined close) (joined_advances close) (suc (length x.1.rest)) x.1) (λ e. advances_ok e e ((x.0 ∷ []) ++ (all (joined close) x.1).0) (reaches_self e))
+value_rest_advances : (close : Closing) (x : Part × Here) → Advances x.1 (collected (x.0 ∷ []) (all (next_part close) x.1))
+value_rest_advances close x = moves_bind x.1 (all (next_part close) x.1).1 (λ e. Ok ((x.0 ∷ []) ++ (all (next_part close) x.1).0, e)) (many_moves (next_part close) (joined_advances close) (suc (length x.1.rest)) x.1) (λ e. advances_ok e e ((x.0 ∷ []) ++ (all (next_part close) x.1).0) (reaches_self e))
 
 pub value_same : (m : Spot) (limit : ℕ) (close : Closing) (h k : Here) → Alike m limit h k → Same m limit (map (moved_part m)) (value close h) (value close k)
 unfolding value
-value_same m limit close h k a = same_bind m limit (moved_part m) (map (moved_part m)) (part close h) (part close k) (λ x. collected (x.0 ∷ []) (all (joined close) x.1)) (λ x. collected (x.0 ∷ []) (all (joined close) x.1)) (part_same m limit close h k a) (value_rest_advances close) (λ x e g c is.
-    collected_alike m limit (moved_part m) (x ∷ []) (all (joined close) e) (all (joined close) g) (all_alike m limit (moved_part m) (joined close) (joined_less close) (joined_advances close) (joined_same m limit close) e g c))
+value_same m limit close h k a = same_bind m limit (moved_part m) (map (moved_part m)) (part close h) (part close k) (λ x. collected (x.0 ∷ []) (all (next_part close) x.1)) (λ x. collected (x.0 ∷ []) (all (next_part close) x.1)) (part_same m limit close h k a) (value_rest_advances close) (λ x e g c is.
+    collected_alike m limit (moved_part m) (x ∷ []) (all (next_part close) e) (all (next_part close) g) (all_alike m limit (moved_part m) (next_part close) (joined_less close) (joined_advances close) (joined_same m limit close) e g c))
 
 -- the parts of a field's reading
 abbrev valued : Closing → List ℕ → ℕ → Here → Result (Field × Here) Stop
 valued close n line e = value close e >>= λ v. Ok (record { name = n; line = line; value = v.0 }, v.1)
 
 abbrev equalled : Closing → List ℕ → ℕ → Here → Result (Field × Here) Stop
-equalled close n line e = sign 61 ExpectedEquals e >>= λ q. valued close n line (white q)
+equalled close n line e = sign 61 ExpectedEquals e >>= λ q. valued close n line (after_white q)
 
 valued_advances : (close : Closing) (n : List ℕ) (line : ℕ) (e : Here) → Advances e (valued close n line e)
 valued_advances close n line e = advances_bind e (value close e) (λ v. Ok (record { name = n; line = line; value = v.0 }, v.1)) (value_advances close e) (λ v. advances_ok v.1 v.1 _ (reaches_self v.1))
 
 equalled_advances : (close : Closing) (n : List ℕ) (line : ℕ) (e : Here) → Advances e (equalled close n line e)
-equalled_advances close n line e = moves_bind e (sign 61 ExpectedEquals e) (λ q. valued close n line (white q)) (sign_moves 61 ExpectedEquals e) (λ q. advances_white q _ (valued_advances close n line (white q)))
+equalled_advances close n line e = moves_bind e (sign 61 ExpectedEquals e) (λ q. valued close n line (after_white q)) (sign_moves 61 ExpectedEquals e) (λ q. advances_white q _ (valued_advances close n line (after_white q)))
 
 valued_same : (m : Spot) (limit : ℕ) (close : Closing) (n : List ℕ) (line : ℕ) (h k : Here) → Alike m limit h k → Same m limit (moved_field m) (valued close n line h) (valued close n (line + m.line) k)
 valued_same m limit close n line h k a = same_bind m limit (map (moved_part m)) (moved_field m) (value close h) (value close k) (λ v. Ok (record { name = n; line = line; value = v.0 }, v.1)) (λ v. Ok (record { name = n; line = line + m.line; value = v.0 }, v.1)) (value_same m limit close h k a) (λ v. advances_ok v.1 v.1 _ (reaches_self v.1)) (λ v e g c is.
     same_ok m limit (moved_field m) (record { name = n; line = line; value = v }) (record { name = n; line = line + m.line; value = map (moved_part m) v }) e g refl (λ _. c))
 
 equalled_same : (m : Spot) (limit : ℕ) (close : Closing) (n : List ℕ) (line : ℕ) (h k : Here) → Alike m limit h k → Same m limit (moved_field m) (equalled close n line h) (equalled close n (line + m.line) k)
-equalled_same m limit close n line h k a = find_bind m limit (moved_field m) (sign 61 ExpectedEquals h) (sign 61 ExpectedEquals k) (λ q. valued close n line (white q)) (λ q. valued close n (line + m.line) (white q)) (sign_same m limit 61 ExpectedEquals h k a) (λ q. advances_white q _ (valued_advances close n line (white q))) (λ q g c is.
-    same_when m limit (moved_field m) (white q) (valued close n line (white q)) (valued close n (line + m.line) (white g)) (valued_advances close n line (white q)) (λ lt. valued_same m limit close n line (white q) (white g) (alike_past m limit _ q g c lt)))
+equalled_same m limit close n line h k a = find_bind m limit (moved_field m) (sign 61 ExpectedEquals h) (sign 61 ExpectedEquals k) (λ q. valued close n line (after_white q)) (λ q. valued close n (line + m.line) (after_white q)) (sign_same m limit 61 ExpectedEquals h k a) (λ q. advances_white q _ (valued_advances close n line (after_white q))) (λ q g c is.
+    same_when m limit (moved_field m) (after_white q) (valued close n line (after_white q)) (valued close n (line + m.line) (after_white g)) (valued_advances close n line (after_white q)) (λ lt. valued_same m limit close n line (after_white q) (after_white g) (alike_past m limit _ q g c lt)))
 
 pub field_same : (m : Spot) (limit : ℕ) (close : Closing) (h k : Here) → Alike m limit h k → Same m limit (moved_field m) (field close h) (field close k)
 unfolding field
-field_same m limit close h k a = same_bind m limit same_value (moved_field m) (name FieldName name_ends h) (name FieldName name_ends k) (λ n. equalled close n.0 h.spot.line (white n.1)) (λ n. equalled close n.0 k.spot.line (white n.1)) (name_same m limit FieldName name_ends h k a) (λ n. advances_white n.1 _ (equalled_advances close n.0 h.spot.line (white n.1))) (λ n e g c is.
-    subst (λ line. Same m limit (moved_field m) (equalled close n h.spot.line (white e)) (equalled close n line (white g))) (sym (ap (λ (s : Spot). s.line) a.spot)) (same_when m limit (moved_field m) (white e) (equalled close n h.spot.line (white e)) (equalled close n (h.spot.line + m.line) (white g)) (equalled_advances close n h.spot.line (white e)) (λ lt. equalled_same m limit close n h.spot.line (white e) (white g) (alike_past m limit _ e g c lt))))
+field_same m limit close h k a = same_bind m limit same_value (moved_field m) (name FieldName name_ends h) (name FieldName name_ends k) (λ n. equalled close n.0 h.spot.line (after_white n.1)) (λ n. equalled close n.0 k.spot.line (after_white n.1)) (name_same m limit FieldName name_ends h k a) (λ n. advances_white n.1 _ (equalled_advances close n.0 h.spot.line (after_white n.1))) (λ n e g c is.
+    subst (λ line. Same m limit (moved_field m) (equalled close n h.spot.line (after_white e)) (equalled close n line (after_white g))) (sym (ap (λ (s : Spot). s.line) a.spot)) (same_when m limit (moved_field m) (after_white e) (equalled close n h.spot.line (after_white e)) (equalled close n (h.spot.line + m.line) (after_white g)) (equalled_advances close n h.spot.line (after_white e)) (λ lt. equalled_same m limit close n h.spot.line (after_white e) (after_white g) (alike_past m limit _ e g c lt))))
 
 field_or_close_same : (m : Spot) (limit : ℕ) (close : Closing) (h k : Here) (o : Option ℕ) → h.spot.place < limit → Alike m limit h k → Same m limit (moved_option (moved_field m)) (field_or_close close h o) (field_or_close close k o)
 field_or_close_same m limit close h k None lt a = same_err m limit (moved_option (moved_field m)) EndOfFile h k (λ _. a)
 field_or_close_same m limit close h k (Some b) lt a =
     let f = moved_option (moved_field m) in
     let next = same_bind m limit (moved_field m) f (field close h) (field close k) (λ x. Ok (Some x.0, x.1)) (λ x. Ok (Some x.0, x.1)) (field_same m limit close h k a) (λ x. advances_ok x.1 x.1 (Some x.0) (reaches_self x.1)) (λ x e g c is. same_ok m limit f (Some x) (Some (moved_field m x)) e g refl (λ _. c)) in
-    same_if m limit f (b == closing_sign close) _ _ _ _ (same_ok m limit f None None (behind h) (behind k) refl (λ _. alike_behind m limit h k lt a)) next
+    same_if m limit f (b == closing_sign close) _ _ _ _ (same_ok m limit f None None (after_byte h) (after_byte k) refl (λ _. alike_behind m limit h k lt a)) next
 
 next_field_same_from : (m : Spot) (limit : ℕ) (close : Closing) (h k : Here) (o : Option ℕ) → h.spot.place < limit → Alike m limit h k → Same m limit (moved_option (moved_field m)) (next_field_from close h o) (next_field_from close k o)
 next_field_same_from m limit close h k None lt a = same_err m limit (moved_option (moved_field m)) EndOfFile h k (λ _. a)
 next_field_same_from m limit close h k (Some b) lt a =
     let f = moved_option (moved_field m) in
-    let w = white (behind h) in
-    let v = white (behind k) in
+    let w = after_white (after_byte h) in
+    let v = after_white (after_byte k) in
     let comma = same_when m limit f w (field_or_close close w (first w.rest)) (field_or_close close v (first v.rest)) (field_or_close_advances close w (first w.rest)) (λ below.
-    let c = alike_past m limit _ (behind h) (behind k) (alike_behind m limit h k lt a) below in
+    let c = alike_past m limit _ (after_byte h) (after_byte k) (alike_behind m limit h k lt a) below in
     subst (λ o. Same m limit f (field_or_close close w (first w.rest)) (field_or_close close v o)) (sym (alike_first m limit w v below c)) (field_or_close_same m limit close w v (first w.rest) below c)) in
-    same_if m limit f (b == closing_sign close) _ _ _ _ (same_ok m limit f None None (behind h) (behind k) refl (λ _. alike_behind m limit h k lt a)) (same_if m limit f (b == 44) _ _ _ _ comma (same_err m limit f ExpectedCommaOrClose h k (λ _. a)))
+    same_if m limit f (b == closing_sign close) _ _ _ _ (same_ok m limit f None None (after_byte h) (after_byte k) refl (λ _. alike_behind m limit h k lt a)) (same_if m limit f (b == 44) _ _ _ _ comma (same_err m limit f ExpectedCommaOrClose h k (λ _. a)))
 
 pub next_field_same : (m : Spot) (limit : ℕ) (close : Closing) (h k : Here) → Alike m limit h k → Same m limit (moved_option (moved_field m)) (next_field close h) (next_field close k)
 unfolding next_field

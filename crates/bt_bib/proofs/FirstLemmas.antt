@@ -10,16 +10,16 @@ use Rattle.bt_text.specs.ByteTests.{is_white, is_digit}
 use Rattle.bt_text.specs.NameBytes.{is_name_byte}
 use Rattle.bt_text.specs.Folding.{is_same_folded, folded}
 use Rattle.bt_bib.specs.declared.spot.Spot.{Spot}
-use Rattle.bt_bib.specs.declared.fault.Fault.{Fault}
-use Rattle.bt_bib.specs.declared.fault.Fault.TheVariants.{MissingName, BadNameEnd}
-use Rattle.bt_bib.specs.declared.fault.What.TheVariants.{EntryType}
+use Rattle.bt_bib.specs.declared.fault.ItemFault.{ItemFault}
+use Rattle.bt_bib.specs.declared.fault.ItemFault.TheVariants.{MissingName, BadNameEnd}
+use Rattle.bt_bib.specs.declared.fault.NameRole.TheVariants.{EntryType}
 use Rattle.bt_bib.specs.declared.item.Item.{Item}
 use Rattle.bt_bib.specs.declared.item.Piece.{Piece}
 use Rattle.bt_bib.specs.declared.item.Piece.TheVariants as pieces
 use Rattle.bt_bib.specs.declared.keywords.Keyword.TheVariants as keywords
-use Rattle.bt_bib.specs.Spot.{Here, at, here, start, after}
+use Rattle.bt_bib.specs.Spot.{Here, at, here, start, spot_after_byte}
 use Rattle.bt_bib.specs.Stop.{Stop}
-use Rattle.bt_bib.specs.Scan.{first, run, past, white}
+use Rattle.bt_bib.specs.Scan.{first, run, after_run, after_white}
 use Rattle.bt_bib.specs.Names.{word, word_from, name_ended}
 use Rattle.bt_bib.specs.Keywords.{keyword_of}
 use Rattle.bt_bib.specs.Pieces.{opening, item_of_type, type_ended, type_read, piece, is_text, next_piece, next_piece_from, entry_item, item_opened, unread_entry}
@@ -43,10 +43,10 @@ not_true : (v : Bool) → (v ≡ true → ⊥) → v ≡ false
 not_true true no_way = absurd (no_way refl)
 not_true false no_way = refl
 
-unlike : (kind wanted : List ℕ) → length wanted < length kind → is_same_folded kind wanted ≡ false
-unlike kind wanted lt = not_true (is_same_folded kind wanted) (λ is.
-    let same : map to_ascii_lowercase kind ≡ map to_ascii_lowercase wanted = (bytes_eq-Decides (folded kind) (folded wanted)).0 is in
-    omega (arith, ap length same, length-map kind to_ascii_lowercase, length-map wanted to_ascii_lowercase))
+unlike : (kind expected : List ℕ) → length expected < length kind → is_same_folded kind expected ≡ false
+unlike kind expected lt = not_true (is_same_folded kind expected) (λ is.
+    let same : map to_ascii_lowercase kind ≡ map to_ascii_lowercase expected = (bytes_eq-Decides (folded kind) (folded expected)).0 is in
+    omega (arith, ap length same, length-map kind to_ascii_lowercase, length-map expected to_ascii_lowercase))
 
 long_type : (kind : List ℕ) → 9 ≤ length kind → keyword_of kind ≡ keywords.Entry
 long_type kind le =
@@ -61,7 +61,7 @@ empty_braces = 123 ∷ 125 ∷ []
 
 entry_typed : (s : Spot) (kind : List ℕ) (t : Spot) → IsWhole (item_of_type keywords.Entry s kind (at t empty_braces))
 unfolding opening
-entry_typed s kind t = subst (λ k. IsWhole (item_opened s (unread_entry (Some kind)) (entry_item s kind) (opening k))) (sym (past_none is_white t empty_braces (unwhite 123 (125 ∷ []) refl))) (entry_ends s kind (after 123 t))
+entry_typed s kind t = subst (λ k. IsWhole (item_opened s (unread_entry (Some kind)) (entry_item s kind) (opening k))) (sym (past_none is_white t empty_braces (unwhite 123 (125 ∷ []) refl))) (entry_ends s kind (spot_after_byte 123 t))
 
 type_closed : (s : Spot) (kind : List ℕ) (t : Spot) → keyword_of kind ≡ keywords.Entry → IsWhole (type_ended s kind (name_ended EntryType (codes "{(") (at t empty_braces)))
 unfolding name_ended
@@ -76,7 +76,7 @@ type_missing s h =
       more = more;
       bytes = refl;
       begins = λ le. unwhite 97 empty_braces refl;
-      whole = subst (λ k. IsWhole (type_read s (word EntryType k))) (sym (cut_here h h more (omega arith))) (subst (λ k. IsWhole (type_read s (Ok (kind, k)))) (sym (past_one is_name_byte h.spot 97 empty_braces refl (record { byte = 123; rest = 125 ∷ []; is = refl; fits = refl }))) (type_closed s kind (after 97 h.spot) refl));
+      whole = subst (λ k. IsWhole (type_read s (word EntryType k))) (sym (cut_here h h more (omega arith))) (subst (λ k. IsWhole (type_read s (Ok (kind, k)))) (sym (past_one is_name_byte h.spot 97 empty_braces refl (record { byte = 123; rest = 125 ∷ []; is = refl; fits = refl }))) (type_closed s kind (spot_after_byte 97 h.spot) refl));
     }
 
 -- Nine letters more, and `{}`: so long a type is none of the words of the format, and `@comment` begins an entry too.
@@ -84,23 +84,23 @@ abbrev letters : List ℕ
 letters = 97 ∷ 97 ∷ 97 ∷ 97 ∷ 97 ∷ 97 ∷ 97 ∷ 97 ∷ 97 ∷ empty_braces
 
 abbrev nine : Spot → Spot
-nine s = after 97 (after 97 (after 97 (after 97 (after 97 (after 97 (after 97 (after 97 (after 97 s))))))))
+nine s = spot_after_byte 97 (spot_after_byte 97 (spot_after_byte 97 (spot_after_byte 97 (spot_after_byte 97 (spot_after_byte 97 (spot_after_byte 97 (spot_after_byte 97 (spot_after_byte 97 s))))))))
 
 past_letters : (s : Spot) → past_run is_name_byte s letters ≡ at (nine s) empty_braces
 unfolding past_run
 past_letters s = refl
 
-type_longer : (s u : Spot) (b : ℕ) (bs : List ℕ) → (is_name_byte b && not (is_digit b)) ≡ true → (let h = at u (b ∷ bs) in let k = past is_name_byte h in IsWhole (type_read s (word EntryType (cut h k letters))))
+type_longer : (s u : Spot) (b : ℕ) (bs : List ℕ) → (is_name_byte b && not (is_digit b)) ≡ true → (let h = at u (b ∷ bs) in let k = after_run is_name_byte h in IsWhole (type_read s (word EntryType (cut h k letters))))
 unfolding word
 type_longer s u b bs is =
     let h = at u (b ∷ bs) in
-    let k = past is_name_byte h in
+    let k = after_run is_name_byte h in
     let way = past_behind is_name_byte u b bs (and_first (is_name_byte b) (not (is_digit b)) is) in
-    let lt : u.place < k.spot.place = omega (arith, reaches_place (at (after b u) bs) k way) in
+    let lt : u.place < k.spot.place = omega (arith, reaches_place (at (spot_after_byte b u) bs) k way) in
     let longer = cut h k letters in
     let kind : List ℕ = run is_name_byte longer in
-    let end : past is_name_byte longer ≡ at (nine k.spot) empty_braces = past_longer is_name_byte h letters ∙ past_letters k.spot in
-    let found : word EntryType longer ≡ Ok (kind, at (nine k.spot) empty_braces) = ap (word_from EntryType longer) (first_cut h k letters lt (past_reaches is_name_byte h)) ∙ ap (λ v. cond v (Ok (kind, past is_name_byte longer)) (Err (MissingName EntryType, longer))) is ∙ ap (λ e. Ok (kind, e)) end in
+    let end : after_run is_name_byte longer ≡ at (nine k.spot) empty_braces = past_longer is_name_byte h letters ∙ past_letters k.spot in
+    let found : word EntryType longer ≡ Ok (kind, at (nine k.spot) empty_braces) = ap (word_from EntryType longer) (first_cut h k letters lt (past_reaches is_name_byte h)) ∙ ap (λ v. cond v (Ok (kind, after_run is_name_byte longer)) (Err (MissingName EntryType, longer))) is ∙ ap (λ e. Ok (kind, e)) end in
     let long : 9 ≤ length kind = omega (arith, ap (λ (e : Here). e.spot.place) end) in
     subst (λ r. IsWhole (type_read s r)) (sym found) (type_closed s kind (nine k.spot) (long_type kind long))
 
@@ -130,15 +130,15 @@ unfolding name_ended
 ended_mended s h kind t [] lt is whole = goes_on s h (at t []) kind lt is (λ e more way next. (let le : e.spot.place ≤ t.place = omega (arith, reaches_sum (at t []) e way) in ended_here EntryType type_signs (at t []) e more le (next le)))
 ended_mended s h kind t (c ∷ cs) lt is whole = ended_mended_by s h kind t c cs (is_white c || list_any (λ sign. sign == c) type_signs) refl lt is whole
 
-type_by : (s u : Spot) (b : ℕ) (bs : List ℕ) (v : Bool) → (is_name_byte b && not (is_digit b)) ≡ v → (let h = at u (b ∷ bs) in Mended NotWhite h (type_read s (cond v (Ok (run is_name_byte h, past is_name_byte h)) (Err (MissingName EntryType, h)))) (λ e more. type_read s (word EntryType (cut h e more))))
+type_by : (s u : Spot) (b : ℕ) (bs : List ℕ) (v : Bool) → (is_name_byte b && not (is_digit b)) ≡ v → (let h = at u (b ∷ bs) in Mended NotWhite h (type_read s (cond v (Ok (run is_name_byte h, after_run is_name_byte h)) (Err (MissingName EntryType, h)))) (λ e more. type_read s (word EntryType (cut h e more))))
 unfolding word
 type_by s u b bs true is =
     let h = at u (b ∷ bs) in
-    let k = past is_name_byte h in
+    let k = after_run is_name_byte h in
     let kind : List ℕ = run is_name_byte h in
     let way = past_behind is_name_byte u b bs (and_first (is_name_byte b) (not (is_digit b)) is) in
     let found : word EntryType h ≡ Ok (kind, k) = ap (λ v. cond v (Ok (kind, k)) (Err (MissingName EntryType, h))) is in
-    ended_mended s h kind k.spot k.rest (omega (arith, reaches_place (at (after b u) bs) k way)) found (type_longer s u b bs is)
+    ended_mended s h kind k.spot k.rest (omega (arith, reaches_place (at (spot_after_byte b u) bs) k way)) found (type_longer s u b bs is)
 type_by s u b bs false is = record { by = λ f fault. type_missing s (at u (b ∷ bs)) }
 
 type_mended : (s u : Spot) (r : List ℕ) → Mended NotWhite (at u r) (type_read s (word EntryType (at u r))) (λ e more. type_read s (word EntryType (cut (at u r) e more)))
@@ -150,11 +150,11 @@ piece_mended : (u : Spot) (b : ℕ) (bs : List ℕ) → (let h = at u (b ∷ bs)
 unfolding piece
 piece_mended u b bs =
     let h = at u (b ∷ bs) in
-    let g = at (after b u) bs in
-    let w = white g in
+    let g = at (spot_after_byte b u) bs in
+    let w = after_white g in
     let read : Here → Piece × Here = λ k. type_read u (word EntryType k) in
     let way = type_read_reaches w u (word EntryType w) (word_advances EntryType w) in
-    mended_as Never NotWhite h g g (piece h) (λ e more. piece (cut h e more)) (λ e more. read (white (cut g e more))) (omega arith) (reaches_then g w (read w).1 (white_reaches g) way) (λ e more way. ap (λ k. read (white k)) (behind_cut u b bs e more (omega (arith, reaches_place g e way)))) (mended_past NotWhite is_white g (read w) read (λ b is. is) way (type_mended u w.spot w.rest))
+    mended_as Never NotWhite h g g (piece h) (λ e more. piece (cut h e more)) (λ e more. read (after_white (cut g e more))) (omega arith) (reaches_then g w (read w).1 (white_reaches g) way) (λ e more way. ap (λ k. read (after_white k)) (behind_cut u b bs e more (omega (arith, reaches_place g e way)))) (mended_past NotWhite is_white g (read w) read (λ b is. is) way (type_mended u w.spot w.rest))
 
 -- From a boundary on a faulty item is read; after a cut at its fault's place some bytes make it whole.
 record Mending (g : Here) (i : Item) : Type 0 where
@@ -175,7 +175,7 @@ pieces_none s = pieces_step (at s [])
 none_left : (e : Here) → e.rest ≡ [] → pieces_from e ≡ []
 none_left e is = ap (λ r. pieces_from (at e.spot r)) is ∙ pieces_none e.spot
 
-mends_item : (S : ℕ → Type 0) (h : Here) (x : Piece × Here) (y : Here → List ℕ → Piece × Here) (i : Item) (f : Fault) → x.0 ≡ pieces.Item i → i.fault ≡ Some f → Mended S h x y → Mends S h x.1 (y x.1)
+mends_item : (S : ℕ → Type 0) (h : Here) (x : Piece × Here) (y : Here → List ℕ → Piece × Here) (i : Item) (f : ItemFault) → x.0 ≡ pieces.Item i → i.fault ≡ Some f → Mended S h x y → Mends S h x.1 (y x.1)
 mends_item S h (pieces.Comment s t, e) y i f is fault m = absurd cc
 mends_item S h (pieces.Item j, e) y i f is fault m =
     let same : j ≡ i = cc is in
@@ -194,7 +194,7 @@ alone s (pieces.Item i, e) starts whole = record { whole = i; start = starts; fa
 pieces_are : (k : Here) (x : Piece × Here) (ps : List Piece) → next_piece k ≡ (Some x.0, x.1) → pieces_by (Some x.0, x.1) ≡ ps → pieces_from k ≡ ps
 pieces_are k x ps next is = pieces_step k ∙ ap pieces_by next ∙ is
 
-mending_at : (g : Here) (u : Spot) (r : List ℕ) (i : Item) (f : Fault) (back : List Piece) → past is_text g ≡ at u r → pieces_by (next_piece_from (at u r) (first r)) ≡ pieces.Item i ∷ back → i.fault ≡ Some f → Mending g i
+mending_at : (g : Here) (u : Spot) (r : List ℕ) (i : Item) (f : ItemFault) (back : List Piece) → after_run is_text g ≡ at u r → pieces_by (next_piece_from (at u r) (first r)) ≡ pieces.Item i ∷ back → i.fault ≡ Some f → Mending g i
 unfolding next_piece
 mending_at g u [] i f back at_sign is fault = absurd (cc is)
 mending_at g u (b ∷ bs) i f back at_sign is fault =
@@ -204,11 +204,11 @@ mending_at g u (b ∷ bs) i f back at_sign is fault =
     let m = mends_item Never h p (λ e more. piece (cut h e more)) i f one fault (piece_mended u b bs) in
     let e = p.1 in
     let ahead = piece_reaches h in
-    let lt : u.place < e.spot.place = omega (arith, reaches_place (at (after b u) bs) e ahead) in
-    let inner = reaches_then h (at (after b u) bs) e (one_on u b bs) ahead in
+    let lt : u.place < e.spot.place = omega (arith, reaches_place (at (spot_after_byte b u) bs) e ahead) in
+    let inner = reaches_then h (at (spot_after_byte b u) bs) e (one_on u b bs) ahead in
     let to_sign : Reaches g h = subst (λ k. Reaches g k) at_sign (past_reaches is_text g) in
     let q = cut h e m.more in
-    let found : past is_text (cut g e m.more) ≡ q = past_cut is_text g e m.more (subst (λ k. Reaches k e) (sym at_sign) inner) (λ le. absurd (omega (arith, ap (λ (k : Here). k.spot.place) at_sign))) ∙ ap (λ k. cut k e m.more) at_sign in
+    let found : after_run is_text (cut g e m.more) ≡ q = past_cut is_text g e m.more (subst (λ k. Reaches k e) (sym at_sign) inner) (λ le. absurd (omega (arith, ap (λ (k : Here). k.spot.place) at_sign))) ∙ ap (λ k. cut k e m.more) at_sign in
     let next : next_piece (cut g e m.more) ≡ (Some (piece q).0, (piece q).1) = ap (λ (k : Here). next_piece_from k (first k.rest)) found ∙ ap (next_piece_from q) (first_cut h e m.more lt inner) in
     let starts : u ≡ i.start = sym (piece_starts h) ∙ ap start_of one in
     let a = alone i.start (piece q) (subst (λ v. start_of (piece q).0 ≡ v) starts (piece_starts q)) m.whole in
@@ -224,9 +224,9 @@ mending_at g u (b ∷ bs) i f back at_sign is fault =
       read = pieces_are (cut g e m.more) (piece q) (pieces.Item a.whole ∷ []) next a.read;
     }
 
-mending : (g : Here) (i : Item) (f : Fault) (back : List Piece) → pieces_from g ≡ pieces.Item i ∷ back → i.fault ≡ Some f → Mending g i
+mending : (g : Here) (i : Item) (f : ItemFault) (back : List Piece) → pieces_from g ≡ pieces.Item i ∷ back → i.fault ≡ Some f → Mending g i
 unfolding next_piece
-mending g i f back is fault = (let h = past is_text g in mending_at g h.spot h.rest i f back refl (sym (pieces_step g) ∙ is) fault)
+mending g i f back is fault = (let h = after_run is_text g in mending_at g h.spot h.rest i f back refl (sym (pieces_step g) ∙ is) fault)
 
 -- the pieces before one are those that end before the place after its beginning
 before : (n place : ℕ) (front : List Piece) (p : Piece) (back : List Piece) → Rises n place (front ++ p ∷ back) → place ≤ (start_of p).place
@@ -266,12 +266,12 @@ fault_is_first text front back i f is fault =
     let same : take limit new ≡ take limit text = take-append-le limit (take n text) m.more (omega (arith, length-take-le n text span.1, span.0)) ∙ take-take limit n text (omega (arith, span.0)) in
     let agree : take (limit - 0) text ≡ take (limit - 0) new = ap (λ k. take k text) all ∙ sym same ∙ ap (λ k. take k new) (sym all) in
     let kept : below limit (pieces_of text) ≡ front = ap (below limit) is ∙ front_kept (length text) 0 front p back rises in
-    let behind : here new a ≡ cut g m.end m.more = ap (λ k. here (take k text ++ m.more) a) (sym place) ∙ here_cut text a m.end m.more (reaches_place g m.end m.way) (omega (arith, span.1)) in
+    let after_byte : here new a ≡ cut g m.end m.more = ap (λ k. here (take k text ++ m.more) a) (sym place) ∙ here_cut text a m.end m.more (reaches_place g m.end m.way) (omega (arith, span.1)) in
     record {
       rest = m.more;
       bytes = m.bytes;
       whole = m.whole;
       start = m.start;
       faultless = m.faultless;
-      read = kept_law text new start limit agree ∙ ap (λ ps. ps ++ pieces_from (here new (last_end start ps))) kept ∙ ap (λ k. front ++ pieces_from k) behind ∙ ap (λ ps. front ++ ps) m.read;
+      read = kept_law text new start limit agree ∙ ap (λ ps. ps ++ pieces_from (here new (last_end start ps))) kept ∙ ap (λ k. front ++ pieces_from k) after_byte ∙ ap (λ ps. front ++ ps) m.read;
     }

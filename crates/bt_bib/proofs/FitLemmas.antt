@@ -7,7 +7,7 @@ use Rattle.std.proofs.lemmas.Bool.{false≢true}
 use Rattle.bt_bib.specs.declared.spot.Spot.{Spot}
 use Rattle.bt_bib.specs.Spot.{Here, at}
 use Rattle.bt_bib.specs.Stop.{Stop, ◌>>=◌}
-use Rattle.bt_bib.specs.Scan.{past}
+use Rattle.bt_bib.specs.Scan.{after_run}
 use Rattle.bt_bib.specs.Laws.{is_byte}
 use Rattle.bt_bib.proofs.ReachLemmas.{Reaches, reaches_place, reaches_then, past_reaches, Advances}
 use Rattle.bt_bib.proofs.CutLemmas.{cut, Begins, begins_as, Next, past_cut}
@@ -79,10 +79,10 @@ fits_as S T P h g k (Err x) y z lt a same f =
     }
 
 -- after a run of bytes
-pub fits_past : {A : Type 0} (S P : ℕ → Type 0) (test : ℕ → Bool) (h : Here) (x : Result (A × Here) Stop) (f : Here → Result (A × Here) Stop) → ((b : ℕ) → S b → test b ≡ false) → ((b : ℕ) → P b → test b ≡ false) → Advances (past test h) x → Fits S P (past test h) x (λ e more. f (cut (past test h) e more)) → Fits S P h x (λ e more. f (past test (cut h e more)))
+pub fits_past : {A : Type 0} (S P : ℕ → Type 0) (test : ℕ → Bool) (h : Here) (x : Result (A × Here) Stop) (f : Here → Result (A × Here) Stop) → ((b : ℕ) → S b → test b ≡ false) → ((b : ℕ) → P b → test b ≡ false) → Advances (after_run test h) x → Fits S P (after_run test h) x (λ e more. f (cut (after_run test h) e more)) → Fits S P h x (λ e more. f (after_run test (cut h e more)))
 fits_past S P test h (Ok x) f s p a fits = record {
   by = λ e more way next.
-      ap f (past_cut test h e more (reaches_then (past test h) x.1 e a.ahead way) (λ le. begins_as p (next (omega (arith, reaches_place (past test h) x.1 a.ahead))))) ∙ fits.by e more way next;
+      ap f (past_cut test h e more (reaches_then (after_run test h) x.1 e a.ahead way) (λ le. begins_as p (next (omega (arith, reaches_place (after_run test h) x.1 a.ahead))))) ∙ fits.by e more way next;
 }
 fits_past S P test h (Err x) f s p a fits =
     let c = fits.by in
@@ -90,7 +90,7 @@ fits_past S P test h (Err x) f s p a fits =
       by = record {
         more = c.more;
         bytes = c.bytes;
-        begins = λ tail b le. c.begins tail b (omega (arith, reaches_place h (past test h) (past_reaches test h)));
+        begins = λ tail b le. c.begins tail b (omega (arith, reaches_place h (after_run test h) (past_reaches test h)));
         reads = λ tail b.
             let r = c.reads tail b in
             record { value = r.value; spot = r.spot; is = ap f (past_cut test h x.1 (c.more ++ tail) a.ahead (λ le. begins_as s (c.begins tail b le))) ∙ r.is };

@@ -7,15 +7,15 @@ use Rattle.bt_text.specs.NameBytes.{is_name_byte}
 use Rattle.bt_bib.specs.declared.spot.Spot.{Spot}
 use Rattle.bt_bib.specs.declared.enclosed.Turn.{Turn}
 use Rattle.bt_bib.specs.declared.enclosed.Turn.TheVariants as turns
-use Rattle.bt_bib.specs.declared.fault.What.TheVariants.{FieldPart}
-use Rattle.bt_bib.specs.declared.fault.Fault.TheVariants.{UnbalancedBraces, MissingPart}
+use Rattle.bt_bib.specs.declared.fault.NameRole.TheVariants.{FieldPart}
+use Rattle.bt_bib.specs.declared.fault.ItemFault.TheVariants.{UnbalancedBraces, MissingPart}
 use Rattle.bt_bib.specs.declared.item.Closing.{Closing}
 use Rattle.bt_bib.specs.declared.item.Closing.TheVariants.{Brace, Parenthesis}
 use Rattle.bt_bib.specs.declared.item.Part.{Part}
 use Rattle.bt_bib.specs.declared.item.Part.TheVariants.{Text, Macro}
-use Rattle.bt_bib.specs.Spot.{Here, at, after, behind}
+use Rattle.bt_bib.specs.Spot.{Here, at, spot_after_byte, after_byte}
 use Rattle.bt_bib.specs.Stop.{Stop, ◌>>=◌}
-use Rattle.bt_bib.specs.Scan.{first, run, past, white, closing_sign}
+use Rattle.bt_bib.specs.Scan.{first, run, after_run, after_white, closing_sign}
 use Rattle.bt_bib.specs.Enclosed.{enclosed}
 use Rattle.bt_bib.specs.inner.Enclosed.{turn}
 use Rattle.bt_bib.specs.Names.{name}
@@ -58,11 +58,11 @@ unwind : (c d : ℕ) (s : Spot) (tail : List ℕ) → IsShut c → (t : Spot) ×
 unfolding rights
 unwind c zero s tail shut = (s, enclosed_cons c 0 s c tail turns.Closes (sym shut.shuts))
 unwind c (suc d) s tail shut =
-    let u = unwind c d (after 125 s) tail shut in
+    let u = unwind c d (spot_after_byte 125 s) tail shut in
     (u.0, enclosed_cons c (suc d) s 125 (rights d ++ c ∷ tail) (turns.Goes d) (sym (shut.rises d)) ∙ u.1)
 
 abbrev EnclosesBy : ℕ → Result Here Stop → (Here → List ℕ → Result Here Stop) → Type 0
-EnclosesBy c (Ok k) y = (e : Here) (more : List ℕ) → Reaches (behind k) e → (y e more ≡ Ok (cut k e more)) × (behind (cut k e more) ≡ cut (behind k) e more)
+EnclosesBy c (Ok k) y = (e : Here) (more : List ℕ) → Reaches (after_byte k) e → (y e more ≡ Ok (cut k e more)) × (after_byte (cut k e more) ≡ cut (after_byte k) e more)
 EnclosesBy c (Err x) y = (more : List ℕ) × AreBytes (more ++ c ∷ []) × ((tail : List ℕ) → (t : Spot) × (y x.1 (more ++ c ∷ tail) ≡ Ok (at t (c ∷ tail))))
 
 -- The closing sign is found where it was, or some bytes before it complete what is enclosed.
@@ -73,7 +73,7 @@ encloses_as : (c : ℕ) (s : Spot) (g : Here) (x : Result Here Stop) (y z : Here
 encloses_as c s g (Ok k) y z lt m same f = record {
   by = λ e more way.
       let r = f.by e more way in
-      (same e more (omega (arith, reaches_place g k m.ahead, reaches_place k (behind k) (behind_reaches k), reaches_place (behind k) e way)) ∙ r.0, r.1);
+      (same e more (omega (arith, reaches_place g k m.ahead, reaches_place k (after_byte k) (behind_reaches k), reaches_place (after_byte k) e way)) ∙ r.0, r.1);
 }
 encloses_as c s g (Err x) y z lt m same f = record {
   by = (f.by.0, f.by.1, λ tail. (let r = f.by.2 tail in (r.0, same x.1 (f.by.0 ++ c ∷ tail) (omega (arith, reaches_place g x.1 m.ahead)) ∙ r.1)));
@@ -82,35 +82,35 @@ encloses_as c s g (Err x) y z lt m same f = record {
 encloses_none : (c d : ℕ) (s : Spot) (r : List ℕ) → IsShut c → (more : List ℕ) × AreBytes (more ++ c ∷ []) × ((tail : List ℕ) → (t : Spot) × (enclosed_run c d s (cut (at s r) (at s r) (more ++ c ∷ tail)).rest ≡ Ok (at t (c ∷ tail))))
 encloses_none c d s r shut = (rights d, bytes_append (rights d) (c ∷ []) (rights_bytes d) shut.byte, λ tail. (let u = unwind c d s tail shut in (u.0, ap (λ (k : Here). enclosed_run c d s k.rest) (cut_here (at s r) (at s r) (rights d ++ c ∷ tail) (omega arith)) ∙ u.1)))
 
-encloses_by : (c d : ℕ) (s : Spot) (b : ℕ) (bs : List ℕ) (t : Turn) → IsShut c → t ≡ turn c d b → ((n : ℕ) → Encloses c (enclosed_run c n (after b s) bs) (λ e more. enclosed_run c n (after b s) (cut (at (after b s) bs) e more).rest)) → Encloses c (elim t [
+encloses_by : (c d : ℕ) (s : Spot) (b : ℕ) (bs : List ℕ) (t : Turn) → IsShut c → t ≡ turn c d b → ((n : ℕ) → Encloses c (enclosed_run c n (spot_after_byte b s) bs) (λ e more. enclosed_run c n (spot_after_byte b s) (cut (at (spot_after_byte b s) bs) e more).rest)) → Encloses c (elim t [
   | turns.Closes ↦ Ok (at s (b ∷ bs))
   | turns.Breaks ↦ Err (UnbalancedBraces, at s (b ∷ bs))
-  | turns.Goes n ↦ enclosed_run c n (after b s) bs
+  | turns.Goes n ↦ enclosed_run c n (spot_after_byte b s) bs
 ]) (λ e more. enclosed_run c d s (cut (at s (b ∷ bs)) e more).rest)
 encloses_by c d s b bs turns.Closes shut is step = record {
   by = λ e more way.
-      let lt : s.place < e.spot.place = omega (arith, reaches_place (at (after b s) bs) e way) in
+      let lt : s.place < e.spot.place = omega (arith, reaches_place (at (spot_after_byte b s) bs) e way) in
       let one = cut_cons s b bs e more lt in
-      (ap (λ (k : Here). enclosed_run c d s k.rest) one ∙ enclosed_cons c d s b (cut (at (after b s) bs) e more).rest turns.Closes is ∙ ap (λ k. Ok k) (sym one), behind_cut s b bs e more lt);
+      (ap (λ (k : Here). enclosed_run c d s k.rest) one ∙ enclosed_cons c d s b (cut (at (spot_after_byte b s) bs) e more).rest turns.Closes is ∙ ap (λ k. Ok k) (sym one), behind_cut s b bs e more lt);
 }
 encloses_by c d s b bs turns.Breaks shut is step = record { by = encloses_none c d s (b ∷ bs) shut }
-encloses_by c d s b bs (turns.Goes n) shut is step = encloses_as c s (at (after b s) bs) (enclosed_run c n (after b s) bs) (λ e more. enclosed_run c d s (cut (at s (b ∷ bs)) e more).rest) (λ e more. enclosed_run c n (after b s) (cut (at (after b s) bs) e more).rest) (omega arith) (enclosed_moves_run c n (after b s) bs) (λ e more lt.
-    ap (λ (k : Here). enclosed_run c d s k.rest) (cut_cons s b bs e more lt) ∙ enclosed_cons c d s b (cut (at (after b s) bs) e more).rest (turns.Goes n) is) (step n)
+encloses_by c d s b bs (turns.Goes n) shut is step = encloses_as c s (at (spot_after_byte b s) bs) (enclosed_run c n (spot_after_byte b s) bs) (λ e more. enclosed_run c d s (cut (at s (b ∷ bs)) e more).rest) (λ e more. enclosed_run c n (spot_after_byte b s) (cut (at (spot_after_byte b s) bs) e more).rest) (omega arith) (enclosed_moves_run c n (spot_after_byte b s) bs) (λ e more lt.
+    ap (λ (k : Here). enclosed_run c d s k.rest) (cut_cons s b bs e more lt) ∙ enclosed_cons c d s b (cut (at (spot_after_byte b s) bs) e more).rest (turns.Goes n) is) (step n)
 
 enclosed_fits : (c d : ℕ) (s : Spot) (r : List ℕ) → IsShut c → Encloses c (enclosed_run c d s r) (λ e more. enclosed_run c d s (cut (at s r) e more).rest)
 unfolding enclosed_run
 enclosed_fits c d s [] shut = record { by = encloses_none c d s [] shut }
-enclosed_fits c d s (b ∷ bs) shut = encloses_by c d s b bs (turn c d b) shut refl (λ n. enclosed_fits c n (after b s) bs shut)
+enclosed_fits c d s (b ∷ bs) shut = encloses_by c d s b bs (turn c d b) shut refl (λ n. enclosed_fits c n (spot_after_byte b s) bs shut)
 
 -- after a brace or quote, what it encloses and the closing sign
 abbrev pub shut : ℕ → Here → Result (Part × Here) Stop
-shut c h = enclosed c h >>= λ x. Ok (Text x.0, behind x.1)
+shut c h = enclosed c h >>= λ x. Ok (Text x.0, after_byte x.1)
 
 abbrev shut_from : Here → Result Here Stop → Result (Part × Here) Stop
-shut_from h r = taken h r >>= λ x. Ok (Text x.0, behind x.1)
+shut_from h r = taken h r >>= λ x. Ok (Text x.0, after_byte x.1)
 
 shut_is : (c : ℕ) (h : Here) → shut c h ≡ shut_from h (enclosed_run c 0 h.spot h.rest)
-shut_is c h = ap (λ (r : Result (List ℕ × Here) Stop). r >>= λ x. Ok (Text x.0, behind x.1)) (enclosed_is_run c h)
+shut_is c h = ap (λ (r : Result (List ℕ × Here) Stop). r >>= λ x. Ok (Text x.0, after_byte x.1)) (enclosed_is_run c h)
 
 begins_any : (front : List ℕ) (c : ℕ) (tail : List ℕ) → Begins Any ((front ++ c ∷ []) ++ tail)
 begins_any [] c tail = record { byte = c; rest = tail; is = refl; fits = tt }
@@ -120,7 +120,7 @@ shut_fits_by : (P : ℕ → Type 0) (c : ℕ) (h : Here) (r : Result Here Stop) 
 shut_fits_by P c h (Ok k) y m f = record {
   by = λ e more way next.
       let r = f.by e more way in
-      ap (shut_from (cut h e more)) r.0 ∙ ap (λ t. Ok (Text t, behind (cut k e more))) (between_cut h k e more m.ahead (reaches_then k (behind k) e (behind_reaches k) way)) ∙ ap (λ u. Ok (Text (between h k), u)) r.1;
+      ap (shut_from (cut h e more)) r.0 ∙ ap (λ t. Ok (Text t, after_byte (cut k e more))) (between_cut h k e more m.ahead (reaches_then k (after_byte k) e (behind_reaches k) way)) ∙ ap (λ u. Ok (Text (between h k), u)) r.1;
 }
 shut_fits_by P c h (Err x) y m f = record {
   by = record {
@@ -132,7 +132,7 @@ shut_fits_by P c h (Err x) y m f = record {
         let all : List ℕ = f.by.0 ++ c ∷ tail in
         record {
           value = Text (between (cut h x.1 all) (at r.0 (c ∷ tail)));
-          spot = after c r.0;
+          spot = spot_after_byte c r.0;
           is = ap (λ m. shut_from (cut h x.1 m) (y x.1 m)) (append_assoc f.by.0 (c ∷ []) tail) ∙ ap (shut_from (cut h x.1 all)) r.1;
         };
   };
@@ -147,20 +147,20 @@ shut_fits P c h is =
 
 -- a byte that ends a value: a comma or the sign that closes the item
 pub record Quiet (close : Closing) (b : ℕ) : Type 0 where
-  pub white : is_white b ≡ false
+  pub after_white : is_white b ≡ false
   pub digit : is_digit b ≡ false
   pub sharp : (b == 35) ≡ false
   pub name : EndsName (part_ends close) b
 
 pub quiet_comma : (close : Closing) → Quiet close 44
-quiet_comma close = record { white = refl; digit = refl; sharp = refl; name = record { bare = refl; ends = refl } }
+quiet_comma close = record { after_white = refl; digit = refl; sharp = refl; name = record { bare = refl; ends = refl } }
 
 pub quiet_close : (close : Closing) → Quiet close (closing_sign close)
-quiet_close Brace = record { white = refl; digit = refl; sharp = refl; name = record { bare = refl; ends = refl } }
-quiet_close Parenthesis = record { white = refl; digit = refl; sharp = refl; name = record { bare = refl; ends = refl } }
+quiet_close Brace = record { after_white = refl; digit = refl; sharp = refl; name = record { bare = refl; ends = refl } }
+quiet_close Parenthesis = record { after_white = refl; digit = refl; sharp = refl; name = record { bare = refl; ends = refl } }
 
 pub digit_reads : (close : Closing) (s : Spot) (tail : List ℕ) → Begins (Quiet close) tail → Reads tail (raw_part close (at s (49 ∷ tail)))
-digit_reads close s tail b = record { value = Text (run is_digit (at s (49 ∷ tail))); spot = after 49 s; is = ap (λ k. Ok (Text (run is_digit (at s (49 ∷ tail))), k)) (past_one is_digit s 49 tail refl (begins_as (λ c q. q.digit) b)) }
+digit_reads close s tail b = record { value = Text (run is_digit (at s (49 ∷ tail))); spot = spot_after_byte 49 s; is = ap (λ k. Ok (Text (run is_digit (at s (49 ∷ tail))), k)) (past_one is_digit s 49 tail refl (begins_as (λ c q. q.digit) b)) }
 
 part_missing : (close : Closing) (h : Here) → Completes (Is 49) (Quiet close) h h (λ more. raw_part close (cut h h more))
 part_missing close h = record {
@@ -188,17 +188,17 @@ raw_part_fits_run close s (b ∷ bs) =
     let S = Is 49 in
     let P = Quiet close in
     let h = at s (b ∷ bs) in
-    let g = at (after b s) bs in
+    let g = at (spot_after_byte b s) bs in
     let y : Here → List ℕ → Result (Part × Here) Stop = λ e more. raw_part close (cut h e more) in
     let lt : s.place < s.place + 1 = omega arith in
     let peek : (e : Here) (more : List ℕ) → Reaches g e → y e more ≡ part_from close (cut h e more) (Some b) = λ e more way. ap (part_from close (cut h e more)) (first_cut h e more (omega (arith, reaches_place g e way)) (reaches_then h g e (one_on s b bs) way)) in
-    let digits : Here → Result (Part × Here) Stop = λ k. Ok (Text (run is_digit k), past is_digit k) in
-    let shut_at : (c : ℕ) → IsShut c → ((e : Here) (more : List ℕ) → Reaches g e → y e more ≡ shut c (behind (cut h e more))) → Fits S P h (shut c g) y = λ c is same.
-    fits_as S Any P h g g (shut c g) y (λ e more. shut c (cut g e more)) lt (advances_bind g (enclosed c g) (λ x. Ok (Text x.0, behind x.1)) (enclosed_advances c g) (λ x. advances_ok x.1 (behind x.1) (Text x.0) (behind_reaches x.1))) (λ e more way. same e more way ∙ ap (shut c) (behind_cut s b bs e more (omega (arith, reaches_place g e way)))) (shut_fits P c g is) in
+    let digits : Here → Result (Part × Here) Stop = λ k. Ok (Text (run is_digit k), after_run is_digit k) in
+    let shut_at : (c : ℕ) → IsShut c → ((e : Here) (more : List ℕ) → Reaches g e → y e more ≡ shut c (after_byte (cut h e more))) → Fits S P h (shut c g) y = λ c is same.
+    fits_as S Any P h g g (shut c g) y (λ e more. shut c (cut g e more)) lt (advances_bind g (enclosed c g) (λ x. Ok (Text x.0, after_byte x.1)) (enclosed_advances c g) (λ x. advances_ok x.1 (after_byte x.1) (Text x.0) (behind_reaches x.1))) (λ e more way. same e more way ∙ ap (shut c) (behind_cut s b bs e more (omega (arith, reaches_place g e way)))) (shut_fits P c g is) in
     fits_if S P h (b == left_brace) (shut 125 g) _ y (λ is. shut_at 125 braces_shut (λ e more way. peek e more way ∙ rw is refl)) (λ not_left.
     fits_if S P h (b == 34) (shut 34 g) _ y (λ is. shut_at 34 quotes_shut (λ e more way. peek e more way ∙ rw (not_left, is) refl)) (λ not_quote.
     fits_if S P h (is_digit b) (digits h) _ y (λ is.
-    fits_as S Never P h g h (digits h) y (λ e more. digits (cut h e more)) lt (advances_ok g (past is_digit h) (Text (run is_digit h)) (past_behind is_digit s b bs is)) (λ e more way. peek e more way ∙ rw (not_left, not_quote, is) refl) (run_fits is_digit P (λ n. Text n) h (λ c q. q.digit))) (λ not_digit.
+    fits_as S Never P h g h (digits h) y (λ e more. digits (cut h e more)) lt (advances_ok g (after_run is_digit h) (Text (run is_digit h)) (past_behind is_digit s b bs is)) (λ e more way. peek e more way ∙ rw (not_left, not_quote, is) refl) (run_fits is_digit P (λ n. Text n) h (λ c q. q.digit))) (λ not_digit.
     fits_if S P h (is_name_byte b) (macro close h) (Err (MissingPart, h)) y (λ is.
     fits_as S (Is 97) P h g h (macro close h) y (λ e more. macro close (cut h e more)) lt (advances_bind g (name FieldPart (part_ends close) h) (λ n. Ok (Macro n.0 h.spot.line, n.1)) (name_ahead FieldPart (part_ends close) s b bs is not_digit) (λ n. advances_ok n.1 n.1 (Macro n.0 h.spot.line) (reaches_self n.1))) (λ e more way. peek e more way ∙ rw (not_left, not_quote, not_digit, is) refl) (macro_fits close h)) (λ not_name. record { by = part_missing close h }))))
 
@@ -206,5 +206,5 @@ pub part_fits : (close : Closing) (h : Here) → Fits (Is 49) (Quiet close) h (p
 unfolding part
 part_fits close h =
     let Q = Quiet close in
-    fits_bind (Is 49) Q Never Q h (raw_part close h) (λ e more. raw_part close (cut h e more)) (λ x. Ok (x.0, white x.1)) (raw_part_advances_from close h (first h.rest)) (λ x. advances_ok x.1 (white x.1) x.0 (white_reaches x.1)) (λ a k is le b t. absurd t) (λ b t. absurd t) (λ a b g is le c q. q)
-    (record { word = []; bytes = refl; begins = λ tail b. b; reads = λ a s tail b. record { value = a; spot = s; is = ap (λ k. Ok (a, k)) (past_none is_white s tail (begins_as (λ c q. q.white) b)) } }) (raw_part_fits_run close h.spot h.rest) (λ a k. fits_ok Never Q k (white k) a _ (λ e more way next. ap (λ w. Ok (a, w)) (past_cut is_white k e more way (λ le. begins_as (λ c q. q.white) (next le)))))
+    fits_bind (Is 49) Q Never Q h (raw_part close h) (λ e more. raw_part close (cut h e more)) (λ x. Ok (x.0, after_white x.1)) (raw_part_advances_from close h (first h.rest)) (λ x. advances_ok x.1 (after_white x.1) x.0 (white_reaches x.1)) (λ a k is le b t. absurd t) (λ b t. absurd t) (λ a b g is le c q. q)
+    (record { word = []; bytes = refl; begins = λ tail b. b; reads = λ a s tail b. record { value = a; spot = s; is = ap (λ k. Ok (a, k)) (past_none is_white s tail (begins_as (λ c q. q.after_white) b)) } }) (raw_part_fits_run close h.spot h.rest) (λ a k. fits_ok Never Q k (after_white k) a _ (λ e more way next. ap (λ w. Ok (a, w)) (past_cut is_white k e more way (λ le. begins_as (λ c q. q.after_white) (next le)))))

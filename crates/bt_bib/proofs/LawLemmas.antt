@@ -7,13 +7,13 @@ use Rattle.bt_bib.specs.declared.spot.Spot.{Spot}
 use Rattle.bt_bib.specs.declared.item.Piece.{Piece}
 use Rattle.bt_bib.specs.declared.item.Piece.TheVariants as pieces
 use Rattle.bt_bib.specs.Spot.{at, here, start}
-use Rattle.bt_bib.specs.Values.{joined}
+use Rattle.bt_bib.specs.Values.{next_part}
 use Rattle.bt_bib.specs.Fields.{next_field}
 use Rattle.bt_bib.specs.Reading.{next_one, pieces_from, pieces_of}
 use Rattle.bt_bib.specs.Moved.{moved}
 use Rattle.bt_bib.specs.Boundaries.{last_end, Rises}
 use Rattle.bt_bib.specs.inner.Boundaries.{end_place, below}
-use Rattle.bt_bib.specs.Laws.{offset, RestIsMoved, BoundaryStays, FaultIsFinal, AnyReserveServes}
+use Rattle.bt_bib.specs.Laws.{offset, RestIsMoved, BoundaryStays, FaultIsFinal, AnyBoundServes}
 use Rattle.bt_bib.proofs.RunLemmas.{same_spot}
 use Rattle.bt_bib.proofs.ReachLemmas.{Reaches}
 use Rattle.bt_bib.proofs.ManyLemmas.{many_same}
@@ -35,8 +35,8 @@ unfolding pieces_of
 rest_is_moved text front back is =
     let a = last_end start front in
     let rest = drop a.place text in
-    let behind : moved (offset a) start ≡ a = from_offset a (line_least text a (rest_reached text start front back is)) in
-    rest_law text start front back is ∙ ap (λ s. pieces_from (at s rest)) (sym behind) ∙ moved_law (offset a) start rest
+    let after_byte : moved (offset a) start ≡ a = from_offset a (line_least text a (rest_reached text start front back is)) in
+    rest_law text start front back is ∙ ap (λ s. pieces_from (at s rest)) (sym after_byte) ∙ moved_law (offset a) start rest
 
 -- a boundary below a place is among the pieces that end below it
 any_append : (k : ℕ) (xs ys : List ℕ) → one_of k xs ≡ true → one_of k (xs ++ ys) ≡ true
@@ -100,7 +100,7 @@ fault_is_final text other front back i f is fault same =
     let kept_is : kept ≡ front ++ p ∷ below limit back = ap (below limit) is ∙ below_front (length text) 0 front p back (subst (Rises (length text) 0) is (spans_rise text)) in
     (below limit back ++ rest, law ∙ ap (λ l. l ++ rest) kept_is ∙ append_cons front p (below limit back) rest)
 
-pub any_reserve_serves : AnyReserveServes
-any_reserve_serves close reserve h lt =
+pub any_bound_serves : AnyBoundServes
+any_bound_serves close reserve h lt =
     let enough : length h.rest < suc (length h.rest) = omega arith in
-    (many_same (joined close) (joined_less close) reserve (suc (length h.rest)) h lt enough, many_same (next_field close) (next_field_less close) reserve (suc (length h.rest)) h lt enough, many_same next_one next_piece_less reserve (suc (length h.rest)) h lt enough)
+    (many_same (next_part close) (joined_less close) reserve (suc (length h.rest)) h lt enough, many_same (next_field close) (next_field_less close) reserve (suc (length h.rest)) h lt enough, many_same next_one next_piece_less reserve (suc (length h.rest)) h lt enough)

@@ -6,8 +6,8 @@ use Rattle.std.proofs.lemmas.List.Elements.{All-from_recursion}
 use Rattle.bt_text.specs.ByteTests.{is_digit, left_brace, right_brace}
 use Rattle.bt_text.specs.NameBytes.{is_name_byte}
 use Rattle.bt_bib.specs.declared.spot.Spot.{Spot}
-use Rattle.bt_bib.specs.declared.fault.What.TheVariants.{EntryType, StringName, FieldName, FieldPart}
-use Rattle.bt_bib.specs.declared.fault.Fault.TheVariants.{ExpectedEquals}
+use Rattle.bt_bib.specs.declared.fault.NameRole.TheVariants.{EntryType, StringName, FieldName, FieldPart}
+use Rattle.bt_bib.specs.declared.fault.ItemFault.TheVariants.{ExpectedEquals}
 use Rattle.bt_bib.specs.declared.item.Closing.{Closing}
 use Rattle.bt_bib.specs.declared.item.Part.{Part}
 use Rattle.bt_bib.specs.declared.item.Part.TheVariants.{Text, Macro}
@@ -18,16 +18,16 @@ use Rattle.bt_bib.specs.declared.item.Piece.{Piece}
 use Rattle.bt_bib.specs.declared.item.Piece.TheVariants as pieces
 use Rattle.bt_bib.specs.declared.keywords.Keyword.{Keyword}
 use Rattle.bt_bib.specs.declared.keywords.Keyword.TheVariants as keywords
-use Rattle.bt_bib.specs.Spot.{Here, here, start, behind}
+use Rattle.bt_bib.specs.Spot.{Here, here, start, after_byte}
 use Rattle.bt_bib.specs.Stop.{Stop, ◌>>=◌, value_read}
-use Rattle.bt_bib.specs.Scan.{first, run, past, white, sign, closing_sign, is_key_byte}
+use Rattle.bt_bib.specs.Scan.{first, run, after_run, after_white, sign, closing_sign, is_key_byte}
 use Rattle.bt_bib.specs.Enclosed.{enclosed}
 use Rattle.bt_bib.specs.Names.{word, name_ended, name}
 use Rattle.bt_bib.specs.Many.{many, many_by, all, collected}
-use Rattle.bt_bib.specs.Values.{raw_part, part_from, part, part_ends, joined, joined_from, value}
+use Rattle.bt_bib.specs.Values.{raw_part, part_from, part, part_ends, next_part, joined_from, value}
 use Rattle.bt_bib.specs.Fields.{field, field_or_close, next_field, next_field_from, name_ends}
 use Rattle.bt_bib.specs.Keywords.{keyword_of}
-use Rattle.bt_bib.specs.Pieces.{item, opening, closed, entry_item, entry_read, string_item, string_read, name_line, preamble_item, preamble_read, unread_entry, unread_string, item_opened, item_of_type, type_ended, type_read, piece, is_text, next_piece, next_piece_from}
+use Rattle.bt_bib.specs.Pieces.{ended_item, opening, after_closing, entry_item, entry_read, string_item, string_read, name_line, preamble_item, preamble_read, unread_entry, unread_string, item_opened, item_of_type, type_ended, type_read, piece, is_text, next_piece, next_piece_from}
 use Rattle.bt_bib.specs.Reading.{next_one, pieces_of, bib_items}
 use Rattle.bt_bib.specs.Items.{items_of}
 use Rattle.bt_bib.specs.Laws.{PartLiesIn, ValueLiesIn, FieldLiesIn, ContentLiesIn, LinesLieIn, LinesLieInside}
@@ -89,23 +89,23 @@ lies_from : {A : Type 0} (P : ℕ → ℕ → A → Type 0) → ((a b c d : ℕ)
 lies_from P wider h e (Ok x) reach p = wider h.spot.line e.spot.line x.1.spot.line x.1.spot.line (line_le h e reach) (omega arith) x.0 p
 lies_from P wider h e (Err x) reach p = tt
 
-shut_by : (h : Here) (r : Result (List ℕ × Here) Stop) → Lies PartLiesIn h (r >>= λ x. Ok (Text x.0, behind x.1))
+shut_by : (h : Here) (r : Result (List ℕ × Here) Stop) → Lies PartLiesIn h (r >>= λ x. Ok (Text x.0, after_byte x.1))
 shut_by h (Ok x) = tt
 shut_by h (Err stop) = tt
 
-shut_lies : (close : ℕ) (h e : Here) → Lies PartLiesIn h (enclosed close e >>= λ x. Ok (Text x.0, behind x.1))
+shut_lies : (close : ℕ) (h e : Here) → Lies PartLiesIn h (enclosed close e >>= λ x. Ok (Text x.0, after_byte x.1))
 shut_lies close h e = shut_by h (enclosed close e)
 
 raw_part_lies : (close : Closing) (h : Here) (o : Option ℕ) → Lies PartLiesIn h (part_from close h o)
 raw_part_lies close h None = tt
 raw_part_lies close h (Some b) =
-    lies_if PartLiesIn h (b == left_brace) _ _ (shut_lies right_brace h (behind h)) (lies_if PartLiesIn h (b == 34) _ _ (shut_lies 34 h (behind h))
-    (lies_if PartLiesIn h (is_digit b) (Ok (Text (run is_digit h), past is_digit h)) _ tt
+    lies_if PartLiesIn h (b == left_brace) _ _ (shut_lies right_brace h (after_byte h)) (lies_if PartLiesIn h (b == 34) _ _ (shut_lies 34 h (after_byte h))
+    (lies_if PartLiesIn h (is_digit b) (Ok (Text (run is_digit h), after_run is_digit h)) _ tt
     (lies_if PartLiesIn h (is_name_byte b) _ _ (lies_bind Any PartLiesIn h (name FieldPart (part_ends close) h) (λ n. Ok (Macro n.0 h.spot.line, n.1)) (name_advances FieldPart (part_ends close) h) (any_lies h (name FieldPart (part_ends close) h)) (λ n e reach _. (omega arith, line_le h e reach))) tt)))
 
 part_lies : (close : Closing) (h : Here) → Lies PartLiesIn h (part close h)
 unfolding part
-part_lies close h = lies_bind PartLiesIn PartLiesIn h (raw_part close h) (λ x. Ok (x.0, white x.1)) (raw_part_advances_from close h (first h.rest)) (raw_part_lies close h (first h.rest)) (λ x e reach p. wider_part h.spot.line h.spot.line e.spot.line (white e).spot.line (omega arith) (line_le e (white e) (white_reaches e)) x p)
+part_lies close h = lies_bind PartLiesIn PartLiesIn h (raw_part close h) (λ x. Ok (x.0, after_white x.1)) (raw_part_advances_from close h (first h.rest)) (raw_part_lies close h (first h.rest)) (λ x e reach p. wider_part h.spot.line h.spot.line e.spot.line (after_white e).spot.line (omega arith) (line_le e (after_white e) (white_reaches e)) x p)
 
 wider_some : (a b c d : ℕ) → a ≤ b → c ≤ d → (x : Option Part) → SomeIn PartLiesIn b c x → SomeIn PartLiesIn a d x
 wider_some a b c d p q None h = tt
@@ -116,10 +116,10 @@ some_part close h e reach = lies_from (SomeIn PartLiesIn) wider_some h e (part c
 
 joined_lies_from : (close : Closing) (h : Here) (o : Option ℕ) → Lies (SomeIn PartLiesIn) h (joined_from close h o)
 joined_lies_from close h None = tt
-joined_lies_from close h (Some b) = lies_if (SomeIn PartLiesIn) h (b == 35) _ _ (some_part close h (white (behind h)) (reaches_then h (behind h) (white (behind h)) (behind_reaches h) (white_reaches (behind h)))) tt
+joined_lies_from close h (Some b) = lies_if (SomeIn PartLiesIn) h (b == 35) _ _ (some_part close h (after_white (after_byte h)) (reaches_then h (after_byte h) (after_white (after_byte h)) (behind_reaches h) (white_reaches (after_byte h)))) tt
 
-joined_lies : (close : Closing) (h : Here) → Lies (SomeIn PartLiesIn) h (joined close h)
-unfolding joined
+joined_lies : (close : Closing) (h : Here) → Lies (SomeIn PartLiesIn) h (next_part close h)
+unfolding next_part
 joined_lies close h = joined_lies_from close h (first h.rest)
 
 -- where a reading ends
@@ -153,11 +153,11 @@ one_collected low high a xs (Err e) h is p q = tt
 
 value_lies : (close : Closing) (h : Here) → Lies (AllIn PartLiesIn) h (value close h)
 unfolding value
-value_lies close h = lies_bind PartLiesIn (AllIn PartLiesIn) h (part close h) (λ x. collected (x.0 ∷ []) (all (joined close) x.1)) (part_advances close h) (part_lies close h) (λ x e reach p.
-    let rest = all (joined close) e in
+value_lies close h = lies_bind PartLiesIn (AllIn PartLiesIn) h (part close h) (λ x. collected (x.0 ∷ []) (all (next_part close) x.1)) (part_advances close h) (part_lies close h) (λ x e reach p.
+    let rest = all (next_part close) e in
     let end = end_line rest.1 in
-    let ahead = moves_line e rest.1 (many_moves (joined close) (joined_advances close) (suc (length e.rest)) e) in
-    let lies = many_lies PartLiesIn wider_part (joined close) (joined_advances close) (joined_lies close) (suc (length e.rest)) e in
+    let ahead = moves_line e rest.1 (many_moves (next_part close) (joined_advances close) (suc (length e.rest)) e) in
+    let lies = many_lies PartLiesIn wider_part (next_part close) (joined_advances close) (joined_lies close) (suc (length e.rest)) e in
     one_collected h.spot.line end x rest.0 rest.1 h refl (wider_part h.spot.line h.spot.line e.spot.line end (omega arith) ahead x p) (all_weaker (PartLiesIn e.spot.line end) (PartLiesIn h.spot.line end) (wider_part h.spot.line e.spot.line end end (line_le h e reach) (omega arith)) rest.0 lies))
 
 wider_parts : (a b c d : ℕ) → a ≤ b → c ≤ d → (xs : List Part) → AllIn PartLiesIn b c xs → AllIn PartLiesIn a d xs
@@ -166,10 +166,10 @@ wider_parts a b c d p q xs h = all_weaker (PartLiesIn b c) (PartLiesIn a d) (wid
 field_lies : (close : Closing) (h : Here) → Lies FieldIn h (field close h)
 unfolding field
 field_lies close h =
-    lies_bind Any FieldIn h (name FieldName name_ends h) (λ x. sign 61 ExpectedEquals (white x.1) >>= λ q. value close (white q) >>= λ v. Ok (record { name = x.0; line = h.spot.line; value = v.0 }, v.1)) (name_advances FieldName name_ends h) (any_lies h (name FieldName name_ends h)) (λ x e reach _.
-    lies_find FieldIn h (white e) (sign 61 ExpectedEquals (white e)) (λ q. value close (white q) >>= λ v. Ok (record { name = x; line = h.spot.line; value = v.0 }, v.1)) (sign_moves 61 ExpectedEquals (white e)) (λ q along.
-    let w = white q in
-    let to_w = reaches_then h e w reach (reaches_then e (white e) w (white_reaches e) (reaches_then (white e) q w along (white_reaches q))) in
+    lies_bind Any FieldIn h (name FieldName name_ends h) (λ x. sign 61 ExpectedEquals (after_white x.1) >>= λ q. value close (after_white q) >>= λ v. Ok (record { name = x.0; line = h.spot.line; value = v.0 }, v.1)) (name_advances FieldName name_ends h) (any_lies h (name FieldName name_ends h)) (λ x e reach _.
+    lies_find FieldIn h (after_white e) (sign 61 ExpectedEquals (after_white e)) (λ q. value close (after_white q) >>= λ v. Ok (record { name = x; line = h.spot.line; value = v.0 }, v.1)) (sign_moves 61 ExpectedEquals (after_white e)) (λ q along.
+    let w = after_white q in
+    let to_w = reaches_then h e w reach (reaches_then e (after_white e) w (white_reaches e) (reaches_then (after_white e) q w along (white_reaches q))) in
     lies_bind (AllIn PartLiesIn) FieldIn h (value close w) (λ v. Ok (record { name = x; line = h.spot.line; value = v.0 }, v.1)) (record { ahead = (advances_from h w (value close w) to_w (value_advances close w)).ahead }) (lies_from (AllIn PartLiesIn) wider_parts h w (value close w) to_w (value_lies close w)) (λ v g further p. (omega arith, line_le h g further, p))))
 
 wider_some_field : (a b c d : ℕ) → a ≤ b → c ≤ d → (x : Option Field) → SomeIn FieldIn b c x → SomeIn FieldIn a d x
@@ -181,13 +181,13 @@ some_field close h e reach = lies_from (SomeIn FieldIn) wider_some_field h e (fi
 
 field_or_close_lies : (close : Closing) (h e : Here) (o : Option ℕ) → Reaches h e → Lies (SomeIn FieldIn) h (field_or_close close e o)
 field_or_close_lies close h e None reach = tt
-field_or_close_lies close h e (Some b) reach = lies_if (SomeIn FieldIn) h (b == closing_sign close) (Ok (None, behind e)) _ tt (some_field close h e reach)
+field_or_close_lies close h e (Some b) reach = lies_if (SomeIn FieldIn) h (b == closing_sign close) (Ok (None, after_byte e)) _ tt (some_field close h e reach)
 
 next_field_lies_from : (close : Closing) (h : Here) (o : Option ℕ) → Lies (SomeIn FieldIn) h (next_field_from close h o)
 next_field_lies_from close h None = tt
 next_field_lies_from close h (Some b) =
-    let w = white (behind h) in
-    lies_if (SomeIn FieldIn) h (b == closing_sign close) (Ok (None, behind h)) _ tt (lies_if (SomeIn FieldIn) h (b == 44) _ _ (field_or_close_lies close h w (first w.rest) (reaches_then h (behind h) w (behind_reaches h) (white_reaches (behind h)))) tt)
+    let w = after_white (after_byte h) in
+    lies_if (SomeIn FieldIn) h (b == closing_sign close) (Ok (None, after_byte h)) _ tt (lies_if (SomeIn FieldIn) h (b == 44) _ _ (field_or_close_lies close h w (first w.rest) (reaches_then h (after_byte h) w (behind_reaches h) (white_reaches (after_byte h)))) tt)
 
 next_field_lies : (close : Closing) (h : Here) → Lies (SomeIn FieldIn) h (next_field close h)
 unfolding next_field
@@ -205,14 +205,14 @@ abbrev PieceLies : Piece → Type 0
 PieceLies (pieces.Comment s e) = Unit {0}
 PieceLies (pieces.Item i) = LinesLieIn i
 
-item_lies : (s : Spot) (line : ℕ) (content : Content) (close : Option Closing) (r : Result Here Stop) → s.line ≤ line → line ≤ end_line r → ContentLiesIn line (end_line r) content → PieceLies (item s line content close r).0
+item_lies : (s : Spot) (line : ℕ) (content : Content) (close : Option Closing) (r : Result Here Stop) → s.line ≤ line → line ≤ end_line r → ContentLiesIn line (end_line r) content → PieceLies (ended_item s line content close r).0
 item_lies s line content close (Ok e) p q h = record { line = (p, q); content = h }
 item_lies s line content close (Err stop) p q h = record { line = (p, q); content = h }
 
 entry_lies : (s : Spot) (kind : List ℕ) (close : Closing) (h : Here) → s.line ≤ h.spot.line → PieceLies (entry_item s kind close h).0
 entry_lies s kind close h le =
-    let e = past (is_key_byte close) h in
-    let w = white e in
+    let e = after_run (is_key_byte close) h in
+    let w = after_white e in
     let read = entry_read kind close h in
     let fields = all (next_field close) w in
     let end = end_line fields.1 in
@@ -221,20 +221,20 @@ entry_lies s kind close h le =
     item_lies s h.spot.line (contents.Entry read.0) (Some close) read.1 le (moves_line h read.1 (entry_moves kind close h)) (all_fields h.spot.line end fields.0 (all_weaker (FieldIn w.spot.line end) (FieldIn h.spot.line end) (wider_field h.spot.line w.spot.line end end low (omega arith)) fields.0 lies))
 
 -- a value that is closed after it
-given_lies : (close : Closing) (low : ℕ) (h : Here) (r : Result (List Part × Here) Stop) → low ≤ h.spot.line → Lies (AllIn PartLiesIn) h r → SomeIn (AllIn PartLiesIn) low (end_line (r >>= λ v. closed close v.1)) (value_read r)
+given_lies : (close : Closing) (low : ℕ) (h : Here) (r : Result (List Part × Here) Stop) → low ≤ h.spot.line → Lies (AllIn PartLiesIn) h r → SomeIn (AllIn PartLiesIn) low (end_line (r >>= λ v. after_closing close v.1)) (value_read r)
 given_lies close low h (Err stop) le p = tt
-given_lies close low h (Ok v) le p = wider_parts low h.spot.line v.1.spot.line (end_line (closed close v.1)) le (moves_line v.1 (closed close v.1) (closed_moves close v.1)) v.0 p
+given_lies close low h (Ok v) le p = wider_parts low h.spot.line v.1.spot.line (end_line (after_closing close v.1)) le (moves_line v.1 (after_closing close v.1) (closed_moves close v.1)) v.0 p
 
 valued_lies : (close : Closing) (h : Here) → Lies (AllIn PartLiesIn) h (valued close h)
 valued_lies close h =
-    lies_bind Any (AllIn PartLiesIn) h (name StringName name_ends h) (λ n. equalled close (white n.1)) (name_advances StringName name_ends h) (any_lies h (name StringName name_ends h)) (λ n e reach _.
-    lies_find (AllIn PartLiesIn) h (white e) (sign 61 ExpectedEquals (white e)) (λ q. value close (white q)) (sign_moves 61 ExpectedEquals (white e)) (λ q along.
-    let w = white q in
-    let to_w = reaches_then h e w reach (reaches_then e (white e) w (white_reaches e) (reaches_then (white e) q w along (white_reaches q))) in
+    lies_bind Any (AllIn PartLiesIn) h (name StringName name_ends h) (λ n. equalled close (after_white n.1)) (name_advances StringName name_ends h) (any_lies h (name StringName name_ends h)) (λ n e reach _.
+    lies_find (AllIn PartLiesIn) h (after_white e) (sign 61 ExpectedEquals (after_white e)) (λ q. value close (after_white q)) (sign_moves 61 ExpectedEquals (after_white e)) (λ q along.
+    let w = after_white q in
+    let to_w = reaches_then h e w reach (reaches_then e (after_white e) w (white_reaches e) (reaches_then (after_white e) q w along (white_reaches q))) in
     lies_from (AllIn PartLiesIn) wider_parts h w (value close w) to_w (value_lies close w)))
 
 -- Without a name there is no value.
-no_name : (close : Closing) (low : ℕ) (x : Result (List ℕ × Here) Stop) (k : List ℕ × Here → Result (List Part × Here) Stop) (h : Here) → low ≤ h.spot.line → Lies (AllIn PartLiesIn) h (x >>= k) → SomeIn (AllIn PartLiesIn) (name_line (value_read x) h.spot.line low) (end_line (x >>= k >>= λ v. closed close v.1)) (value_read (x >>= k))
+no_name : (close : Closing) (low : ℕ) (x : Result (List ℕ × Here) Stop) (k : List ℕ × Here → Result (List Part × Here) Stop) (h : Here) → low ≤ h.spot.line → Lies (AllIn PartLiesIn) h (x >>= k) → SomeIn (AllIn PartLiesIn) (name_line (value_read x) h.spot.line low) (end_line (x >>= k >>= λ v. after_closing close v.1)) (value_read (x >>= k))
 no_name close low (Err stop) k h le p = tt
 no_name close low (Ok n) k h le p = given_lies close h.spot.line h (k n) (omega arith) p
 
@@ -252,7 +252,7 @@ string_lies s close h le =
     let line = name_line read.0.name h.spot.line s.line in
     let low = name_line_low s.line h.spot.line read.0.name le in
     let high = name_line_high s.line h.spot.line (end_line read.1) read.0.name le (moves_line h read.1 (string_moves close h)) in
-    item_lies s line (contents.Define read.0) (Some close) read.1 low high (all_parts line (end_line read.1) read.0.value (no_name close s.line (name StringName name_ends h) (λ n. equalled close (white n.1)) h le (valued_lies close h)))
+    item_lies s line (contents.Define read.0) (Some close) read.1 low high (all_parts line (end_line read.1) read.0.value (no_name close s.line (name StringName name_ends h) (λ n. equalled close (after_white n.1)) h le (valued_lies close h)))
 
 preamble_lies : (s : Spot) (close : Closing) (h : Here) → s.line ≤ h.spot.line → PieceLies (preamble_item s close h).0
 preamble_lies s close h le =
@@ -264,18 +264,18 @@ no_fields : (low high : ℕ) → All (FieldLiesIn low high) []
 no_fields low high = All-from_recursion (FieldLiesIn low high) [] tt
 
 -- before the opening sign
-unread_lies : (s : Spot) (content : Content) (stop : Stop) → s.line ≤ stop.1.spot.line → ContentLiesIn s.line stop.1.spot.line content → PieceLies (item s s.line content None (Err stop)).0
+unread_lies : (s : Spot) (content : Content) (stop : Stop) → s.line ≤ stop.1.spot.line → ContentLiesIn s.line stop.1.spot.line content → PieceLies (ended_item s s.line content None (Err stop)).0
 unread_lies s content stop le h = item_lies s s.line content None (Err stop) (omega arith) le h
 
 opened_lies : (s : Spot) (unread : Content) (read : Closing → Here → Piece × Here) (h : Here) (r : Result (Closing × Here) Stop) → s.line ≤ h.spot.line → ((high : ℕ) → ContentLiesIn s.line high unread) → Advances h r → ((close : Closing) (e : Here) → s.line ≤ e.spot.line → PieceLies (read close e).0) → PieceLies (item_opened s unread read r).0
 opened_lies s unread read h (Err stop) le u a k = unread_lies s unread stop (omega (arith, line_le h stop.1 a.ahead)) (u stop.1.spot.line)
-opened_lies s unread read h (Ok o) le u a k = k o.0 (white o.1) (omega (arith, line_le h o.1 a.ahead, line_le o.1 (white o.1) (white_reaches o.1)))
+opened_lies s unread read h (Ok o) le u a k = k o.0 (after_white o.1) (omega (arith, line_le h o.1 a.ahead, line_le o.1 (after_white o.1) (white_reaches o.1)))
 
 typed_lies : (keyword : Keyword) (s : Spot) (kind : List ℕ) (h : Here) → s.line ≤ h.spot.line → PieceLies (item_of_type keyword s kind h).0
 typed_lies keywords.Comment s kind h le = tt
-typed_lies keywords.String s kind h le = opened_lies s unread_string (string_item s) (white h) (opening (white h)) (omega (arith, line_le h (white h) (white_reaches h))) (λ _. tt) (opening_advances (white h)) (string_lies s)
-typed_lies keywords.Preamble s kind h le = opened_lies s (contents.Preamble None) (preamble_item s) (white h) (opening (white h)) (omega (arith, line_le h (white h) (white_reaches h))) (λ _. tt) (opening_advances (white h)) (preamble_lies s)
-typed_lies keywords.Entry s kind h le = opened_lies s (unread_entry (Some kind)) (entry_item s kind) (white h) (opening (white h)) (omega (arith, line_le h (white h) (white_reaches h))) (no_fields s.line) (opening_advances (white h)) (entry_lies s kind)
+typed_lies keywords.String s kind h le = opened_lies s unread_string (string_item s) (after_white h) (opening (after_white h)) (omega (arith, line_le h (after_white h) (white_reaches h))) (λ _. tt) (opening_advances (after_white h)) (string_lies s)
+typed_lies keywords.Preamble s kind h le = opened_lies s (contents.Preamble None) (preamble_item s) (after_white h) (opening (after_white h)) (omega (arith, line_le h (after_white h) (white_reaches h))) (λ _. tt) (opening_advances (after_white h)) (preamble_lies s)
+typed_lies keywords.Entry s kind h le = opened_lies s (unread_entry (Some kind)) (entry_item s kind) (after_white h) (opening (after_white h)) (omega (arith, line_le h (after_white h) (white_reaches h))) (no_fields s.line) (opening_advances (after_white h)) (entry_lies s kind)
 
 type_ended_lies : (s : Spot) (kind : List ℕ) (h : Here) (r : Result Here Stop) → s.line ≤ h.spot.line → Moves h r → PieceLies (type_ended s kind r).0
 type_ended_lies s kind h (Err stop) le m = unread_lies s (unread_entry (Some kind)) stop (omega (arith, line_le h stop.1 m.ahead)) (no_fields s.line stop.1.spot.line)
@@ -288,8 +288,8 @@ type_read_lies s h (Ok w) le a = type_ended_lies s w.0 w.1 (name_ended EntryType
 piece_lies : (h : Here) → PieceLies (piece h).0
 unfolding piece
 piece_lies h =
-    let w = white (behind h) in
-    type_read_lies h.spot w (word EntryType w) (omega (arith, line_le h (behind h) (behind_reaches h), line_le (behind h) w (white_reaches (behind h)))) (word_advances EntryType w)
+    let w = after_white (after_byte h) in
+    type_read_lies h.spot w (word EntryType w) (omega (arith, line_le h (after_byte h) (behind_reaches h), line_le (after_byte h) w (white_reaches (after_byte h)))) (word_advances EntryType w)
 
 abbrev PieceAnywhere : ℕ → ℕ → Piece → Type 0
 PieceAnywhere low high p = PieceLies p
@@ -300,7 +300,7 @@ next_lies_from h g (Some b) = piece_lies g
 
 next_lies : (h : Here) → Lies (SomeIn PieceAnywhere) h (next_one h)
 unfolding next_piece
-next_lies h = next_lies_from h (past is_text h) (first (past is_text h).rest)
+next_lies h = next_lies_from h (after_run is_text h) (first (after_run is_text h).rest)
 
 items_lie : (ps : List Piece) → AllByRecursion PieceLies ps → AllByRecursion LinesLieIn (items_of ps)
 items_lie [] h = tt

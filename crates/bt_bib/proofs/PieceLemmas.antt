@@ -3,8 +3,8 @@ use Rattle.std.specs.Prelude.{codes, ◌==◌}
 use Rattle.std.proofs.Common.{ℕ, suc, ◌≤◌, List, [], ◌∷◌, length, Option, Some, None, Result, Ok, Err, arith}
 use Rattle.bt_text.specs.ByteTests.{left_brace}
 use Rattle.bt_bib.specs.declared.spot.Spot.{Spot}
-use Rattle.bt_bib.specs.declared.fault.Fault.TheVariants.{ExpectedOpen, ExpectedEquals, ExpectedCommaOrClose}
-use Rattle.bt_bib.specs.declared.fault.What.TheVariants.{EntryType, StringName}
+use Rattle.bt_bib.specs.declared.fault.ItemFault.TheVariants.{ExpectedOpen, ExpectedEquals, ExpectedCommaOrClose}
+use Rattle.bt_bib.specs.declared.fault.NameRole.TheVariants.{EntryType, StringName}
 use Rattle.bt_bib.specs.declared.item.Closing.{Closing}
 use Rattle.bt_bib.specs.declared.item.Closing.TheVariants.{Brace, Parenthesis}
 use Rattle.bt_bib.specs.declared.item.Content.{Content}
@@ -13,32 +13,32 @@ use Rattle.bt_bib.specs.declared.item.Part.{Part}
 use Rattle.bt_bib.specs.declared.item.Piece.{Piece}
 use Rattle.bt_bib.specs.declared.keywords.Keyword.{Keyword}
 use Rattle.bt_bib.specs.declared.keywords.Keyword.TheVariants as keywords
-use Rattle.bt_bib.specs.Spot.{Here, at, after, behind}
+use Rattle.bt_bib.specs.Spot.{Here, at, spot_after_byte, after_byte}
 use Rattle.bt_bib.specs.Stop.{Stop, ◌>>=◌}
-use Rattle.bt_bib.specs.Scan.{first, past, white, sign, closing_sign, is_key_byte}
+use Rattle.bt_bib.specs.Scan.{first, after_run, after_white, sign, closing_sign, is_key_byte}
 use Rattle.bt_bib.specs.Names.{word, name_ended, name}
 use Rattle.bt_bib.specs.Many.{all}
 use Rattle.bt_bib.specs.Values.{value}
 use Rattle.bt_bib.specs.Fields.{next_field, name_ends}
 use Rattle.bt_bib.specs.Keywords.{keyword_of}
-use Rattle.bt_bib.specs.Pieces.{item, opening, opening_from, closed, entry_item, entry_read, string_item, string_read, preamble_item, preamble_read, unread_entry, unread_string, item_opened, item_of_type, type_ended, type_read, piece, is_text, next_piece, next_piece_from}
+use Rattle.bt_bib.specs.Pieces.{ended_item, opening, opening_from, after_closing, entry_item, entry_read, string_item, string_read, preamble_item, preamble_read, unread_entry, unread_string, item_opened, item_of_type, type_ended, type_read, piece, is_text, next_piece, next_piece_from}
 use Rattle.bt_bib.specs.Reading.{next_one}
 use Rattle.bt_bib.proofs.ReachLemmas.{Reaches, reaches_then, reaches_self, reaches_rest, behind_reaches, white_reaches, past_reaches, Advances, advances_ok, advances_err, advances_if, moves_bind, advances_bind, advances_white, Moves, moves_from, sign_moves, word_advances, ended_moves, name_advances, value_advances, next_field_advances, many_moves}
 use Rattle.bt_bib.proofs.ManyLemmas.{IsLess}
 
-pub item_reaches : (h : Here) (start : Spot) (line : ℕ) (content : Content) (close : Option Closing) (r : Result Here Stop) → Moves h r → Reaches h (item start line content close r).1
+pub item_reaches : (h : Here) (start : Spot) (line : ℕ) (content : Content) (close : Option Closing) (r : Result Here Stop) → Moves h r → Reaches h (ended_item start line content close r).1
 item_reaches h start line content close (Ok e) m = m.ahead
 item_reaches h start line content close (Err stop) m = m.ahead
 
 pub opening_advances_from : (h : Here) (o : Option ℕ) → Advances h (opening_from h o)
 opening_advances_from h None = search (advances_err, reaches_self)
-opening_advances_from h (Some b) = advances_if h (b == left_brace) _ _ (advances_ok h (behind h) Brace (behind_reaches h)) (advances_if h (b == 40) _ _ (advances_ok h (behind h) Parenthesis (behind_reaches h)) (advances_err h h ExpectedOpen (reaches_self h)))
+opening_advances_from h (Some b) = advances_if h (b == left_brace) _ _ (advances_ok h (after_byte h) Brace (behind_reaches h)) (advances_if h (b == 40) _ _ (advances_ok h (after_byte h) Parenthesis (behind_reaches h)) (advances_err h h ExpectedOpen (reaches_self h)))
 
 pub opening_advances : (h : Here) → Advances h (opening h)
 unfolding opening
 opening_advances h = opening_advances_from h (first h.rest)
 
-pub closed_moves : (close : Closing) (h : Here) → Moves h (closed close h)
+pub closed_moves : (close : Closing) (h : Here) → Moves h (after_closing close h)
 closed_moves close h = sign_moves (closing_sign close) ExpectedCommaOrClose h
 
 -- one reader after another, to a place
@@ -48,30 +48,30 @@ moves_behind h (Err stop) f a k = record { ahead = a.ahead }
 
 pub entry_moves : (kind : List ℕ) (close : Closing) (h : Here) → Moves h (entry_read kind close h).1
 entry_moves kind close h =
-    let e = past (is_key_byte close) h in
-    let w = white e in
+    let e = after_run (is_key_byte close) h in
+    let w = after_white e in
     let fields = all (next_field close) w in
     moves_from h e fields.1 (past_reaches (is_key_byte close) h) (moves_from e w fields.1 (white_reaches e) (many_moves (next_field close) (next_field_advances close) (suc (length w.rest)) w))
 
 -- `= value`
 abbrev pub equalled : Closing → Here → Result (List Part × Here) Stop
-equalled close h = sign 61 ExpectedEquals h >>= λ equals. value close (white equals)
+equalled close h = sign 61 ExpectedEquals h >>= λ equals. value close (after_white equals)
 
 pub equalled_advances : (close : Closing) (h : Here) → Advances h (equalled close h)
-equalled_advances close h = moves_bind h (sign 61 ExpectedEquals h) (λ equals. value close (white equals)) (sign_moves 61 ExpectedEquals h) (λ q. advances_white q _ (value_advances close (white q)))
+equalled_advances close h = moves_bind h (sign 61 ExpectedEquals h) (λ equals. value close (after_white equals)) (sign_moves 61 ExpectedEquals h) (λ q. advances_white q _ (value_advances close (after_white q)))
 
 -- the value of a string
 abbrev pub valued : Closing → Here → Result (List Part × Here) Stop
-valued close h = name StringName name_ends h >>= λ n. equalled close (white n.1)
+valued close h = name StringName name_ends h >>= λ n. equalled close (after_white n.1)
 
 pub valued_advances : (close : Closing) (h : Here) → Advances h (valued close h)
-valued_advances close h = advances_bind h (name StringName name_ends h) (λ n. equalled close (white n.1)) (name_advances StringName name_ends h) (λ n. advances_white n.1 _ (equalled_advances close (white n.1)))
+valued_advances close h = advances_bind h (name StringName name_ends h) (λ n. equalled close (after_white n.1)) (name_advances StringName name_ends h) (λ n. advances_white n.1 _ (equalled_advances close (after_white n.1)))
 
 pub string_moves : (close : Closing) (h : Here) → Moves h (string_read close h).1
-string_moves close h = moves_behind h (valued close h) (λ v. closed close v.1) (valued_advances close h) (λ v. closed_moves close v.1)
+string_moves close h = moves_behind h (valued close h) (λ v. after_closing close v.1) (valued_advances close h) (λ v. closed_moves close v.1)
 
 pub preamble_moves : (close : Closing) (h : Here) → Moves h (preamble_read close h).1
-preamble_moves close h = moves_behind h (value close h) (λ v. closed close v.1) (value_advances close h) (λ v. closed_moves close v.1)
+preamble_moves close h = moves_behind h (value close h) (λ v. after_closing close v.1) (value_advances close h) (λ v. closed_moves close v.1)
 
 pub entry_reaches : (start : Spot) (kind : List ℕ) (close : Closing) (h : Here) → Reaches h (entry_item start kind close h).1
 entry_reaches start kind close h = (let read = entry_read kind close h in item_reaches h start h.spot.line (contents.Entry read.0) (Some close) read.1 (entry_moves kind close h))
@@ -84,14 +84,14 @@ preamble_reaches start close h = (let read = preamble_read close h in item_reach
 
 pub opened_reaches : (h : Here) (start : Spot) (unread : Content) (read : Closing → Here → Piece × Here) (r : Result (Closing × Here) Stop) → Advances h r → ((close : Closing) (e : Here) → Reaches e (read close e).1) → Reaches h (item_opened start unread read r).1
 opened_reaches h start unread read (Err stop) a k = a.ahead
-opened_reaches h start unread read (Ok o) a k = reaches_then h o.1 _ a.ahead (reaches_then o.1 (white o.1) _ (white_reaches o.1) (k o.0 (white o.1)))
+opened_reaches h start unread read (Ok o) a k = reaches_then h o.1 _ a.ahead (reaches_then o.1 (after_white o.1) _ (white_reaches o.1) (k o.0 (after_white o.1)))
 
 -- after the type
 pub typed_reaches : (keyword : Keyword) (start : Spot) (kind : List ℕ) (h : Here) → Reaches h (item_of_type keyword start kind h).1
 typed_reaches keywords.Comment start kind h = reaches_self h
-typed_reaches keywords.String start kind h = reaches_then h (white h) _ (white_reaches h) (opened_reaches (white h) start unread_string (string_item start) (opening (white h)) (opening_advances (white h)) (string_reaches start))
-typed_reaches keywords.Preamble start kind h = reaches_then h (white h) _ (white_reaches h) (opened_reaches (white h) start (contents.Preamble None) (preamble_item start) (opening (white h)) (opening_advances (white h)) (preamble_reaches start))
-typed_reaches keywords.Entry start kind h = reaches_then h (white h) _ (white_reaches h) (opened_reaches (white h) start (unread_entry (Some kind)) (entry_item start kind) (opening (white h)) (opening_advances (white h)) (entry_reaches start kind))
+typed_reaches keywords.String start kind h = reaches_then h (after_white h) _ (white_reaches h) (opened_reaches (after_white h) start unread_string (string_item start) (opening (after_white h)) (opening_advances (after_white h)) (string_reaches start))
+typed_reaches keywords.Preamble start kind h = reaches_then h (after_white h) _ (white_reaches h) (opened_reaches (after_white h) start (contents.Preamble None) (preamble_item start) (opening (after_white h)) (opening_advances (after_white h)) (preamble_reaches start))
+typed_reaches keywords.Entry start kind h = reaches_then h (after_white h) _ (white_reaches h) (opened_reaches (after_white h) start (unread_entry (Some kind)) (entry_item start kind) (opening (after_white h)) (opening_advances (after_white h)) (entry_reaches start kind))
 
 pub type_ended_reaches : (h : Here) (start : Spot) (kind : List ℕ) (r : Result Here Stop) → Moves h r → Reaches h (type_ended start kind r).1
 type_ended_reaches h start kind (Err stop) m = m.ahead
@@ -101,22 +101,22 @@ pub type_read_reaches : (h : Here) (start : Spot) (r : Result (List ℕ × Here)
 type_read_reaches h start (Err stop) a = a.ahead
 type_read_reaches h start (Ok w) a = reaches_then h w.1 _ a.ahead (type_ended_reaches w.1 start w.0 (name_ended EntryType (codes "{(") w.1) (ended_moves EntryType (codes "{(") w.1))
 
-pub piece_reaches : (h : Here) → Reaches (behind h) (piece h).1
+pub piece_reaches : (h : Here) → Reaches (after_byte h) (piece h).1
 unfolding piece
-piece_reaches h = reaches_then (behind h) (white (behind h)) _ (white_reaches (behind h)) (type_read_reaches (white (behind h)) h.spot (word EntryType (white (behind h))) (word_advances EntryType (white (behind h))))
+piece_reaches h = reaches_then (after_byte h) (after_white (after_byte h)) _ (white_reaches (after_byte h)) (type_read_reaches (after_white (after_byte h)) h.spot (word EntryType (after_white (after_byte h))) (word_advances EntryType (after_white (after_byte h))))
 
 pub next_piece_reaches_from : (h : Here) (o : Option ℕ) → Reaches h (next_piece_from h o).1
 next_piece_reaches_from h None = reaches_self h
-next_piece_reaches_from h (Some b) = reaches_then h (behind h) _ (behind_reaches h) (piece_reaches h)
+next_piece_reaches_from h (Some b) = reaches_then h (after_byte h) _ (behind_reaches h) (piece_reaches h)
 
 pub next_piece_reaches : (h : Here) → Reaches h (next_piece h).1
 unfolding next_piece
-next_piece_reaches h = reaches_then h (past is_text h) _ (past_reaches is_text h) (next_piece_reaches_from (past is_text h) (first (past is_text h).rest))
+next_piece_reaches h = reaches_then h (after_run is_text h) _ (past_reaches is_text h) (next_piece_reaches_from (after_run is_text h) (first (after_run is_text h).rest))
 
 next_piece_less_run : (h : Here) (s : Spot) (r : List ℕ) → length r ≤ length h.rest → IsLess h (Ok (next_piece_from (at s r) (first r)))
 next_piece_less_run h s [] le = tt
-next_piece_less_run h s (b ∷ bs) le = omega (arith, reaches_rest (at (after b s) bs) (piece (at s (b ∷ bs))).1 (piece_reaches (at s (b ∷ bs))))
+next_piece_less_run h s (b ∷ bs) le = omega (arith, reaches_rest (at (spot_after_byte b s) bs) (piece (at s (b ∷ bs))).1 (piece_reaches (at s (b ∷ bs))))
 
 pub next_piece_less : (h : Here) → IsLess h (next_one h)
 unfolding next_piece
-next_piece_less h = next_piece_less_run h (past is_text h).spot (past is_text h).rest (reaches_rest h (past is_text h) (past_reaches is_text h))
+next_piece_less h = next_piece_less_run h (after_run is_text h).spot (after_run is_text h).rest (reaches_rest h (after_run is_text h) (past_reaches is_text h))

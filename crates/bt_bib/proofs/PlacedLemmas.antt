@@ -12,7 +12,7 @@ use Rattle.bt_bib.specs.declared.item.Content.{Content}
 use Rattle.bt_bib.specs.declared.item.Content.TheVariants as contents
 use Rattle.bt_bib.specs.declared.item.Piece.{Piece}
 use Rattle.bt_bib.specs.declared.item.Piece.TheVariants as pieces
-use Rattle.bt_bib.specs.Spot.{Here, at, here, start, behind}
+use Rattle.bt_bib.specs.Spot.{Here, at, here, start, after_byte}
 use Rattle.bt_bib.specs.inner.Spot.{IsIn, IsAhead}
 use Rattle.bt_bib.specs.Pieces.{piece}
 use Rattle.bt_bib.specs.Reading.{pieces_from, pieces_of}
@@ -21,7 +21,7 @@ use Rattle.bt_bib.specs.Boundaries.{start_of, end_of, last_end}
 use Rattle.bt_bib.specs.Moving.{FitsPart, FitsSpot, FitsValue, FitsField, FitsContent, FitsPiece}
 use Rattle.bt_bib.specs.inner.Moving.{rebased, rebased_part, rebased_value, rebased_field, rebased_content, rebased_piece}
 use Rattle.bt_bib.specs.Placed.{IsPlaced}
-use Rattle.bt_bib.specs.inner.Placed.{BeginsBehind}
+use Rattle.bt_bib.specs.inner.Placed.{BeginsAfter}
 use Rattle.bt_bib.proofs.RunLemmas.{same_spot}
 use Rattle.bt_bib.proofs.ReachLemmas.{Reaches, reaches_then, behind_reaches}
 use Rattle.bt_bib.proofs.PieceLemmas.{piece_reaches}
@@ -130,7 +130,7 @@ fits_again a b s le (pieces.Item i) h = record {
 }
 
 -- where it begins, seen from what it shows
-begins : (a s e : Spot) (p : Piece) → IsPlaced s e p → BeginsBehind a (moved_piece s p) → Behind a s
+begins : (a s e : Spot) (p : Piece) → IsPlaced s e p → BeginsAfter a (moved_piece s p) → Behind a s
 begins a s e p is le = subst (Behind a) (sym (placed_start s e p is)) le
 
 -- what a piece's place and end fit
@@ -149,7 +149,7 @@ pub placed_end_fits : (a b s e : Spot) (p : Piece) → IsPlaced s e p → FitsPi
 placed_end_fits a b s e p is h = subst (FitsSpot a b) (sym (placed_end s e p is)) (end_fits a b (moved_piece s p) h)
 
 -- a piece that is taken over
-pub taken_over : (a b s e t u : Spot) (p q : Piece) → IsPlaced s e p → FitsPiece a b (moved_piece s p) → BeginsBehind a (moved_piece s p) → t ≡ rebased a b s → u ≡ rebased a b e → q ≡ p → IsPlaced t u q
+pub taken_over : (a b s e t u : Spot) (p q : Piece) → IsPlaced s e p → FitsPiece a b (moved_piece s p) → BeginsAfter a (moved_piece s p) → t ≡ rebased a b s → u ≡ rebased a b e → q ≡ p → IsPlaced t u q
 taken_over a b s e t u p q is fits le is_start is_end same =
     let back = begins a s e p is le in
     let start : start_of q ≡ nowhere = ap start_of same ∙ is.begins in
@@ -157,7 +157,7 @@ taken_over a b s e t u p q is fits le is_start is_end same =
     let there : FitsPiece nowhere t p = subst (λ x. FitsPiece nowhere x p) (sym is_start) (fits_again a b s back p fits) in
     record { begins = start; ends = ends; fits = subst (λ x. FitsPiece nowhere t x) (sym same) there }
 
-pub shown_over : (a b s e t : Spot) (p q : Piece) → IsPlaced s e p → BeginsBehind a (moved_piece s p) → t ≡ rebased a b s → q ≡ p → moved_piece t q ≡ rebased_piece a b (moved_piece s p)
+pub shown_over : (a b s e t : Spot) (p q : Piece) → IsPlaced s e p → BeginsAfter a (moved_piece s p) → t ≡ rebased a b s → q ≡ p → moved_piece t q ≡ rebased_piece a b (moved_piece s p)
 shown_over a b s e t p q is le is_start same = ap (moved_piece t) same ∙ ap (λ x. moved_piece x p) is_start ∙ sym (piece_again a b s (begins a s e p is le) p)
 
 -- a piece that is read from its `@` on
@@ -177,7 +177,7 @@ read_apart text s e p lt i is =
     let rest = drop s.place text in
     let h = here rest nowhere in
     let k = here text s in
-    let reached : Reaches k (piece k).1 = reaches_then k (behind k) (piece k).1 (behind_reaches k) (piece_reaches k) in
+    let reached : Reaches k (piece k).1 = reaches_then k (after_byte k) (piece k).1 (behind_reaches k) (piece_reaches k) in
     let limit = e.place + 1 in
     let a : Alike s limit h k = record { spot = sym (from_nowhere s); rest = refl } in
     let at_end : (piece h).1.spot ≡ e = ap (λ (x : Piece × Here). x.1.spot) is in
@@ -200,16 +200,16 @@ every : {A : Type 0} (P : A → Type 0) → ((x : A) → P x) → (xs : List A) 
 every P k [] = tt
 every P k (x ∷ xs) = (k x, every P k xs)
 
-moved_behind : (a : Spot) (p : Piece) → BeginsBehind a (moved_piece a p)
+moved_behind : (a : Spot) (p : Piece) → BeginsAfter a (moved_piece a p)
 moved_behind a p = subst (Behind a) (sym (start_moved a p)) (omega arith, omega arith)
 
-all_behind : (a : Spot) (ps : List Piece) → All (λ p. BeginsBehind a (moved_piece a p)) ps
-all_behind a ps = All-from_recursion (λ p. BeginsBehind a (moved_piece a p)) ps (every (λ p. BeginsBehind a (moved_piece a p)) (moved_behind a) ps)
+all_behind : (a : Spot) (ps : List Piece) → All (λ p. BeginsAfter a (moved_piece a p)) ps
+all_behind a ps = All-from_recursion (λ p. BeginsAfter a (moved_piece a p)) ps (every (λ p. BeginsAfter a (moved_piece a p)) (moved_behind a) ps)
 
-pub behind_nowhere : (ps : List Piece) → All (BeginsBehind nowhere) ps
-behind_nowhere ps = All-from_recursion (BeginsBehind nowhere) ps (every (BeginsBehind nowhere) (λ p. (omega arith, omega arith)) ps)
+pub behind_nowhere : (ps : List Piece) → All (BeginsAfter nowhere) ps
+behind_nowhere ps = All-from_recursion (BeginsAfter nowhere) ps (every (BeginsAfter nowhere) (λ p. (omega arith, omega arith)) ps)
 
-pub rest_behind : (text : List ℕ) (ps : List Piece) (count : ℕ) (a : Spot) → ps ≡ pieces_of text → a ≡ last_end start (take count ps) → All (BeginsBehind a) (drop count ps)
+pub rest_behind : (text : List ℕ) (ps : List Piece) (count : ℕ) (a : Spot) → ps ≡ pieces_of text → a ≡ last_end start (take count ps) → All (BeginsAfter a) (drop count ps)
 unfolding pieces_of
 rest_behind text ps count a is last =
     let front = take count ps in
@@ -217,4 +217,4 @@ rest_behind text ps count a is last =
     let parts : pieces_from (here text start) ≡ front ++ drop count ps = sym is ∙ sym (take-append-drop count ps) in
     let rest : drop count ps ≡ pieces_from (here text a) = rest_law text start front (drop count ps) parts ∙ ap (λ s. pieces_from (here text s)) (sym last) in
     let own : pieces_from (here text a) ≡ map (moved_piece a) (pieces_from (at nowhere r)) = ap (λ s. pieces_from (at s r)) (sym (from_nowhere a)) ∙ moved_law a nowhere r in
-    subst (All (BeginsBehind a)) (sym (rest ∙ own)) (All-map (BeginsBehind a) (moved_piece a) (pieces_from (at nowhere r)) (all_behind a (pieces_from (at nowhere r))))
+    subst (All (BeginsAfter a)) (sym (rest ∙ own)) (All-map (BeginsAfter a) (moved_piece a) (pieces_from (at nowhere r)) (all_behind a (pieces_from (at nowhere r))))

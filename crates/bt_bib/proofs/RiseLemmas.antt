@@ -6,19 +6,19 @@ use Rattle.std.proofs.Common.{◌≡◌, ℕ, zero, suc, ◌+◌, ◌-◌, ◌<�
 use Rattle.std.proofs.Math.Nat.{max-eq_left, max-eq_right, min-eq_left}
 use Rattle.std.proofs.lemmas.Bool.{lt-ltb, le-ltb, ltb-true, ltb-false, ne_eqb, false≢true}
 use Rattle.bt_bib.specs.declared.spot.Spot.{Spot}
-use Rattle.bt_bib.specs.declared.fault.What.TheVariants.{EntryType}
+use Rattle.bt_bib.specs.declared.fault.NameRole.TheVariants.{EntryType}
 use Rattle.bt_bib.specs.declared.item.Closing.{Closing}
 use Rattle.bt_bib.specs.declared.item.Content.{Content}
 use Rattle.bt_bib.specs.declared.item.Content.TheVariants as contents
 use Rattle.bt_bib.specs.declared.item.Piece.{Piece}
 use Rattle.bt_bib.specs.declared.keywords.Keyword.{Keyword}
 use Rattle.bt_bib.specs.declared.keywords.Keyword.TheVariants as keywords
-use Rattle.bt_bib.specs.Spot.{Here, at, here, start, behind}
+use Rattle.bt_bib.specs.Spot.{Here, at, here, start, after_byte}
 use Rattle.bt_bib.specs.Stop.{Stop}
-use Rattle.bt_bib.specs.Scan.{first, past, white}
+use Rattle.bt_bib.specs.Scan.{first, after_run, after_white}
 use Rattle.bt_bib.specs.Names.{word, name_ended}
 use Rattle.bt_bib.specs.Keywords.{keyword_of}
-use Rattle.bt_bib.specs.Pieces.{item, opening, entry_item, entry_read, string_item, string_read, preamble_item, preamble_read, unread_entry, unread_string, item_opened, item_of_type, type_ended, type_read, piece, is_text, next_piece, next_piece_from}
+use Rattle.bt_bib.specs.Pieces.{ended_item, opening, entry_item, entry_read, string_item, string_read, preamble_item, preamble_read, unread_entry, unread_string, item_opened, item_of_type, type_ended, type_read, piece, is_text, next_piece, next_piece_from}
 use Rattle.bt_bib.specs.Reading.{pieces_from, pieces_of}
 use Rattle.bt_bib.specs.Boundaries.{start_of, end_of, last_end, boundaries, Rises}
 use Rattle.bt_bib.specs.inner.Boundaries.{end_place, below}
@@ -29,19 +29,19 @@ use Rattle.bt_bib.proofs.PieceLemmas.{piece_reaches, next_piece_less, next_piece
 use Rattle.bt_bib.proofs.BoundaryLemmas.{EndsAt, next_ends, pieces_by, pieces_step}
 
 -- a piece says where it begins
-item_start : (s : Spot) (line : ℕ) (content : Content) (close : Option Closing) (r : Result Here Stop) → start_of (item s line content close r).0 ≡ s
+item_start : (s : Spot) (line : ℕ) (content : Content) (close : Option Closing) (r : Result Here Stop) → start_of (ended_item s line content close r).0 ≡ s
 item_start s line content close (Ok e) = refl
 item_start s line content close (Err stop) = refl
 
 opened_start : (s : Spot) (unread : Content) (read : Closing → Here → Piece × Here) (r : Result (Closing × Here) Stop) → ((close : Closing) (e : Here) → start_of (read close e).0 ≡ s) → start_of (item_opened s unread read r).0 ≡ s
 opened_start s unread read (Err stop) k = refl
-opened_start s unread read (Ok o) k = k o.0 (white o.1)
+opened_start s unread read (Ok o) k = k o.0 (after_white o.1)
 
 typed_start : (keyword : Keyword) (s : Spot) (kind : List ℕ) (h : Here) → start_of (item_of_type keyword s kind h).0 ≡ s
 typed_start keywords.Comment s kind h = refl
-typed_start keywords.String s kind h = opened_start s unread_string (string_item s) (opening (white h)) (λ close e. item_start s _ _ (Some close) (string_read close e).1)
-typed_start keywords.Preamble s kind h = opened_start s (contents.Preamble None) (preamble_item s) (opening (white h)) (λ close e. item_start s _ _ (Some close) (preamble_read close e).1)
-typed_start keywords.Entry s kind h = opened_start s (unread_entry (Some kind)) (entry_item s kind) (opening (white h)) (λ close e. item_start s _ _ (Some close) (entry_read kind close e).1)
+typed_start keywords.String s kind h = opened_start s unread_string (string_item s) (opening (after_white h)) (λ close e. item_start s _ _ (Some close) (string_read close e).1)
+typed_start keywords.Preamble s kind h = opened_start s (contents.Preamble None) (preamble_item s) (opening (after_white h)) (λ close e. item_start s _ _ (Some close) (preamble_read close e).1)
+typed_start keywords.Entry s kind h = opened_start s (unread_entry (Some kind)) (entry_item s kind) (opening (after_white h)) (λ close e. item_start s _ _ (Some close) (entry_read kind close e).1)
 
 type_ended_start : (s : Spot) (kind : List ℕ) (r : Result Here Stop) → start_of (type_ended s kind r).0 ≡ s
 type_ended_start s kind (Err stop) = refl
@@ -53,7 +53,7 @@ type_read_start s (Ok w) = type_ended_start s w.0 (name_ended EntryType (codes "
 
 pub piece_starts : (h : Here) → start_of (piece h).0 ≡ h.spot
 unfolding piece
-piece_starts h = type_read_start h.spot (word EntryType (white (behind h)))
+piece_starts h = type_read_start h.spot (word EntryType (after_white (after_byte h)))
 
 -- the next piece lies after the place from which it was sought
 abbrev SpanAhead : Here → Option Piece × Here → Type 0
@@ -64,7 +64,7 @@ span_at : (h g : Here) (r : List ℕ) → h.spot.place ≤ g.spot.place → g.re
 span_at h g [] le is = tt
 span_at h g (b ∷ r) le is =
     let starts : (start_of (piece g).0).place ≡ g.spot.place = ap (λ (s : Spot). s.place) (piece_starts g) in
-    let one : g.spot.place < (piece (at g.spot (b ∷ r))).1.spot.place = omega (arith, reaches_place (behind (at g.spot (b ∷ r))) (piece (at g.spot (b ∷ r))).1 (piece_reaches (at g.spot (b ∷ r)))) in
+    let one : g.spot.place < (piece (at g.spot (b ∷ r))).1.spot.place = omega (arith, reaches_place (after_byte (at g.spot (b ∷ r))) (piece (at g.spot (b ∷ r))).1 (piece_reaches (at g.spot (b ∷ r)))) in
     let further : g.spot.place < (piece g).1.spot.place = subst (λ (x : List ℕ). g.spot.place < (piece (at g.spot x)).1.spot.place) (sym is) one in (
       omega (arith, starts),
       omega (arith, starts, further),
@@ -72,7 +72,7 @@ span_at h g (b ∷ r) le is =
 
 span_ahead : (h : Here) → SpanAhead h (next_piece h)
 unfolding next_piece
-span_ahead h = span_at h (past is_text h) (past is_text h).rest (reaches_place h (past is_text h) (past_reaches is_text h)) refl
+span_ahead h = span_at h (after_run is_text h) (after_run is_text h).rest (reaches_place h (after_run is_text h) (past_reaches is_text h)) refl
 
 rises_by : (h : Here) (x : Option Piece × Here) → EndsAt x → Reaches h x.1 → IsLess h (Ok x) → SpanAhead h x → ((e : Here) → length e.rest < length h.rest → Rises (e.spot.place + length e.rest) e.spot.place (pieces_from e)) → Rises (h.spot.place + length h.rest) h.spot.place (pieces_by x)
 rises_by h (None, e) ends r less span step = omega arith

@@ -5,13 +5,13 @@ use Rattle.std.proofs.Common.{◌≡◌, ℕ, ◌+◌, ◌-◌, ◌<◌, ◌≤�
 use Rattle.std.proofs.lemmas.List.{drop_more, drop_all}
 use Rattle.std.proofs.lemmas.List.Sums.{sum_by-cons, take_while-cons}
 use Rattle.bt_bib.specs.declared.spot.Spot.{Spot}
-use Rattle.bt_bib.specs.Spot.{Here, at, here, after, passed, beyond, is_line_end}
-use Rattle.bt_bib.specs.Scan.{past, run}
+use Rattle.bt_bib.specs.Spot.{Here, at, here, spot_after_byte, spot_after, after_bytes, is_line_end}
+use Rattle.bt_bib.specs.Scan.{after_run, run}
 
 -- after the longest run of bytes that pass a test, a byte at a time
 unfoldable pub past_run : (ℕ → Bool) → Spot → List ℕ → Here
 past_run test s [] = at s []
-past_run test s (b ∷ rest) = cond (test b) (past_run test (after b s) rest) (at s (b ∷ rest))
+past_run test s (b ∷ rest) = cond (test b) (past_run test (spot_after_byte b s) rest) (at s (b ∷ rest))
 
 abbrev one : ℕ → ℕ
 one b = cond (is_line_end b) 1 0
@@ -23,26 +23,26 @@ one_more : (v : Bool) (l n : ℕ) → cond v (l + 1) l + n ≡ l + (cond v 1 0 +
 one_more true l n = omega arith
 one_more false l n = omega arith
 
-pub passed-nil : (s : Spot) → passed [] s ≡ s
+pub passed-nil : (s : Spot) → spot_after [] s ≡ s
 passed-nil s = same_spot _ _ _ _ (omega arith) (omega arith)
 
-pub passed-cons : (b : ℕ) (front : List ℕ) (s : Spot) → passed (b ∷ front) s ≡ passed front (after b s)
+pub passed-cons : (b : ℕ) (front : List ℕ) (s : Spot) → spot_after (b ∷ front) s ≡ spot_after front (spot_after_byte b s)
 passed-cons b front s = same_spot _ _ _ _ (omega arith) (ap (λ n. s.line + n) (sum_by-cons one b front) ∙ sym (one_more (is_line_end b) s.line (count_by is_line_end front)))
 
-pub beyond-cons : (b : ℕ) (front : List ℕ) (s : Spot) (rest : List ℕ) → beyond (b ∷ front) (at s (b ∷ rest)) ≡ beyond front (at (after b s) rest)
-beyond-cons b front s rest = ap (λ u. at u (drop (length front) rest)) (passed-cons b front s)
+pub after_bytes-cons : (b : ℕ) (front : List ℕ) (s : Spot) (rest : List ℕ) → after_bytes (b ∷ front) (at s (b ∷ rest)) ≡ after_bytes front (at (spot_after_byte b s) rest)
+after_bytes-cons b front s rest = ap (λ u. at u (drop (length front) rest)) (passed-cons b front s)
 
 -- the definition is that walk
-run_by : (v : Bool) (test : ℕ → Bool) (s : Spot) (b : ℕ) (rest : List ℕ) → beyond (take_while test rest) (at (after b s) rest) ≡ past_run test (after b s) rest → beyond (cond v (b ∷ take_while test rest) []) (at s (b ∷ rest)) ≡ cond v (past_run test (after b s) rest) (at s (b ∷ rest))
-run_by true test s b rest e = beyond-cons b (take_while test rest) s rest ∙ e
+run_by : (v : Bool) (test : ℕ → Bool) (s : Spot) (b : ℕ) (rest : List ℕ) → after_bytes (take_while test rest) (at (spot_after_byte b s) rest) ≡ past_run test (spot_after_byte b s) rest → after_bytes (cond v (b ∷ take_while test rest) []) (at s (b ∷ rest)) ≡ cond v (past_run test (spot_after_byte b s) rest) (at s (b ∷ rest))
+run_by true test s b rest e = after_bytes-cons b (take_while test rest) s rest ∙ e
 run_by false test s b rest e = ap (λ u. at u (b ∷ rest)) (passed-nil s)
 
-pub past_is_run : (test : ℕ → Bool) (s : Spot) (rest : List ℕ) → past test (at s rest) ≡ past_run test s rest
+pub past_is_run : (test : ℕ → Bool) (s : Spot) (rest : List ℕ) → after_run test (at s rest) ≡ past_run test s rest
 unfolding past_run
 past_is_run test s [] = ap (λ u. at u []) (passed-nil s)
-past_is_run test s (b ∷ rest) = ap (λ front. beyond front (at s (b ∷ rest))) (take_while-cons test b rest) ∙ run_by (test b) test s b rest (past_is_run test (after b s) rest)
+past_is_run test s (b ∷ rest) = ap (λ front. after_bytes front (at s (b ∷ rest))) (take_while-cons test b rest) ∙ run_by (test b) test s b rest (past_is_run test (spot_after_byte b s) rest)
 
-pub run_more : (test : ℕ → Bool) (s : Spot) (b : ℕ) (rest : List ℕ) → test b ≡ true → past_run test s (b ∷ rest) ≡ past_run test (after b s) rest
+pub run_more : (test : ℕ → Bool) (s : Spot) (b : ℕ) (rest : List ℕ) → test b ≡ true → past_run test s (b ∷ rest) ≡ past_run test (spot_after_byte b s) rest
 unfolding past_run
 run_more test s b rest h = rw h refl
 
@@ -55,17 +55,17 @@ unfolding past_run
 run_end test s = refl
 
 -- a loop over the bytes
-pub past_more : (test : ℕ → Bool) (text : List ℕ) (s : Spot) → s.place < length text → test (get_or text s.place 0) ≡ true → past test (here text (after (get_or text s.place 0) s)) ≡ past test (here text s)
+pub past_more : (test : ℕ → Bool) (text : List ℕ) (s : Spot) → s.place < length text → test (get_or text s.place 0) ≡ true → after_run test (here text (spot_after_byte (get_or text s.place 0) s)) ≡ after_run test (here text s)
 past_more test text s lt h =
     let b = get_or text s.place 0 in
-    past_is_run test (after b s) (drop (s.place + 1) text) ∙ sym (past_is_run test s (drop s.place text) ∙ ap (past_run test s) (drop_more text s.place 0 lt) ∙ run_more test s b (drop (s.place + 1) text) h)
+    past_is_run test (spot_after_byte b s) (drop (s.place + 1) text) ∙ sym (past_is_run test s (drop s.place text) ∙ ap (past_run test s) (drop_more text s.place 0 lt) ∙ run_more test s b (drop (s.place + 1) text) h)
 
-pub past_stop : (test : ℕ → Bool) (text : List ℕ) (s : Spot) → s.place < length text → test (get_or text s.place 0) ≡ false → here text s ≡ past test (here text s)
+pub past_stop : (test : ℕ → Bool) (text : List ℕ) (s : Spot) → s.place < length text → test (get_or text s.place 0) ≡ false → here text s ≡ after_run test (here text s)
 past_stop test text s lt h =
     let e = drop_more text s.place 0 lt in
     sym (past_is_run test s (drop s.place text) ∙ ap (past_run test s) e ∙ run_stop test s (get_or text s.place 0) (drop (s.place + 1) text) h ∙ ap (at s) (sym e))
 
-pub past_end : (test : ℕ → Bool) (text : List ℕ) (s : Spot) → length text ≤ s.place → here text s ≡ past test (here text s)
+pub past_end : (test : ℕ → Bool) (text : List ℕ) (s : Spot) → length text ≤ s.place → here text s ≡ after_run test (here text s)
 past_end test text s le =
     let e = drop_all s.place text le in
     sym (past_is_run test s (drop s.place text) ∙ ap (past_run test s) e ∙ run_end test s ∙ ap (at s) (sym e))
@@ -79,9 +79,9 @@ pub front_taken : (test : ℕ → Bool) (rest : List ℕ) → take_while test re
 front_taken test [] = refl
 front_taken test (b ∷ rest) = subst (λ (l : List ℕ). l ≡ take (length l) (b ∷ rest)) (sym (take_while-cons test b rest)) (front_by (test b) b (take_while test rest) rest (front_taken test rest))
 
-pub run_is_between : (test : ℕ → Bool) (h : Here) → run test h ≡ take ((past test h).spot.place - h.spot.place) h.rest
+pub run_is_between : (test : ℕ → Bool) (h : Here) → run test h ≡ take ((after_run test h).spot.place - h.spot.place) h.rest
 run_is_between test h = front_taken test h.rest ∙ ap (λ n. take n h.rest) (omega arith)
 
 -- the same of a text, up to a spot that is known
-pub run_taken : (test : ℕ → Bool) (text : List ℕ) (from end : Spot) → here text end ≡ past test (here text from) → take (end.place - from.place) (drop from.place text) ≡ run test (here text from)
+pub run_taken : (test : ℕ → Bool) (text : List ℕ) (from end : Spot) → here text end ≡ after_run test (here text from) → take (end.place - from.place) (drop from.place text) ≡ run test (here text from)
 run_taken test text from end is = ap (λ (h : Here). take (h.spot.place - from.place) (drop from.place text)) is ∙ sym (run_is_between test (here text from))

@@ -6,15 +6,15 @@ use Rattle.bt_text.specs.NameBytes.{is_name_byte}
 use Rattle.bt_bib.specs.declared.spot.Spot.{Spot}
 use Rattle.bt_bib.specs.declared.enclosed.Turn.{Turn}
 use Rattle.bt_bib.specs.declared.enclosed.Turn.TheVariants as turns
-use Rattle.bt_bib.specs.declared.fault.What.{What}
-use Rattle.bt_bib.specs.declared.fault.What.TheVariants.{FieldPart}
-use Rattle.bt_bib.specs.declared.fault.Fault.{Fault}
-use Rattle.bt_bib.specs.declared.fault.Fault.TheVariants.{EndOfFile, MissingName, BadNameEnd, UnbalancedBraces, MissingPart}
+use Rattle.bt_bib.specs.declared.fault.NameRole.{NameRole}
+use Rattle.bt_bib.specs.declared.fault.NameRole.TheVariants.{FieldPart}
+use Rattle.bt_bib.specs.declared.fault.ItemFault.{ItemFault}
+use Rattle.bt_bib.specs.declared.fault.ItemFault.TheVariants.{EndOfFile, MissingName, BadNameEnd, UnbalancedBraces, MissingPart}
 use Rattle.bt_bib.specs.declared.item.Closing.{Closing}
 use Rattle.bt_bib.specs.declared.item.Part.TheVariants.{Text, Macro}
-use Rattle.bt_bib.specs.Spot.{Here, at, after, behind}
+use Rattle.bt_bib.specs.Spot.{Here, at, spot_after_byte, after_byte}
 use Rattle.bt_bib.specs.Stop.{Stop, ◌>>=◌}
-use Rattle.bt_bib.specs.Scan.{first, run, past, white, sign, sign_from}
+use Rattle.bt_bib.specs.Scan.{first, run, after_run, after_white, sign, sign_from}
 use Rattle.bt_bib.specs.Enclosed.{enclosed}
 use Rattle.bt_bib.specs.inner.Enclosed.{turn}
 use Rattle.bt_bib.specs.Names.{word, word_from, name_ended, ended_from, name}
@@ -42,13 +42,13 @@ pub record SameFind (m : Spot) (limit : ℕ) (x y : Result Here Stop) : Type 0 w
 pub same_ok : {A : Type 0} (m : Spot) (limit : ℕ) (f : A → A) (a b : A) (h k : Here) → b ≡ f a → (h.spot.place < limit → Alike m limit h k) → Same m limit f (Ok (a, h)) (Ok (b, k))
 same_ok m limit f a b h k e al = record { alike = λ lt. (k, ap (λ x. Ok (x, k)) e, al lt) }
 
-pub same_err : {A : Type 0} (m : Spot) (limit : ℕ) (f : A → A) (fault : Fault) (h k : Here) → (h.spot.place < limit → Alike m limit h k) → Same m limit f (Err (fault, h)) (Err (fault, k))
+pub same_err : {A : Type 0} (m : Spot) (limit : ℕ) (f : A → A) (fault : ItemFault) (h k : Here) → (h.spot.place < limit → Alike m limit h k) → Same m limit f (Err (fault, h)) (Err (fault, k))
 same_err m limit f fault h k al = record { alike = λ lt. (k, refl, al lt) }
 
 pub find_ok : (m : Spot) (limit : ℕ) (h k : Here) → (h.spot.place < limit → Alike m limit h k) → SameFind m limit (Ok h) (Ok k)
 find_ok m limit h k al = record { alike = λ lt. (k, refl, al lt) }
 
-pub find_err : (m : Spot) (limit : ℕ) (fault : Fault) (h k : Here) → (h.spot.place < limit → Alike m limit h k) → SameFind m limit (Err (fault, h)) (Err (fault, k))
+pub find_err : (m : Spot) (limit : ℕ) (fault : ItemFault) (h k : Here) → (h.spot.place < limit → Alike m limit h k) → SameFind m limit (Err (fault, h)) (Err (fault, k))
 find_err m limit fault h k al = record { alike = λ lt. (k, refl, al lt) }
 
 -- what holds where the start is below the limit
@@ -94,12 +94,12 @@ enclosed_same_run m limit close d s t (b ∷ bs) (c ∷ cs) lt a =
     let way : Spot → ℕ → List ℕ → Turn → Result Here Stop = λ u x xs w. elim w [
       | turns.Closes ↦ Ok (at u (x ∷ xs))
       | turns.Breaks ↦ Err (UnbalancedBraces, at u (x ∷ xs))
-      | turns.Goes e ↦ enclosed_run close e (after x u) xs
+      | turns.Goes e ↦ enclosed_run close e (spot_after_byte x u) xs
     ] in
     let both : (w : Turn) → SameFind m limit (way s b bs w) (way t c cs w) = λ w. elim w as (λ w. SameFind m limit (way s b bs w) (way t c cs w)) [
       | turns.Closes ↦ find_ok m limit (at s (b ∷ bs)) (at t (c ∷ cs)) (λ _. a)
       | turns.Breaks ↦ find_err m limit UnbalancedBraces (at s (b ∷ bs)) (at t (c ∷ cs)) (λ _. a)
-      | turns.Goes e ↦ find_when m limit (at (after b s) bs) (enclosed_run close e (after b s) bs) (enclosed_run close e (after c t) cs) (enclosed_moves_run close e (after b s) bs) (λ below. enclosed_same_run m limit close e (after b s) (after c t) bs cs below next.1)
+      | turns.Goes e ↦ find_when m limit (at (spot_after_byte b s) bs) (enclosed_run close e (spot_after_byte b s) bs) (enclosed_run close e (spot_after_byte c t) cs) (enclosed_moves_run close e (spot_after_byte b s) bs) (λ below. enclosed_same_run m limit close e (spot_after_byte b s) (spot_after_byte c t) bs cs below next.1)
     ] in
     subst (λ x. SameFind m limit (way s b bs (turn close d b)) (way t c cs (turn close d x))) next.0 (both (turn close d b))
 
@@ -123,58 +123,58 @@ enclosed_same m limit close h k a = same_when m limit same_value h (enclosed clo
     let one = taken_same m limit close h k a (enclosed_same_run m limit close 0 h.spot k.spot h.rest k.rest lt a) in
     subst (λ r. Same m limit same_value r (enclosed close k)) (sym (enclosed_is_run close h)) (subst (λ q. Same m limit same_value (enclosed_run close 0 h.spot h.rest >>= λ e. Ok (between h e, e)) q) (sym (enclosed_is_run close k)) one))
 
-word_same_from : (m : Spot) (limit : ℕ) (what : What) (h k : Here) (o : Option ℕ) → Alike m limit h k → Same m limit same_value (word_from what h o) (word_from what k o)
+word_same_from : (m : Spot) (limit : ℕ) (what : NameRole) (h k : Here) (o : Option ℕ) → Alike m limit h k → Same m limit same_value (word_from what h o) (word_from what k o)
 word_same_from m limit what h k None a = same_err m limit same_value EndOfFile h k (λ _. a)
 word_same_from m limit what h k (Some b) a =
-    let e = past is_name_byte h in
-    let f = past is_name_byte k in
+    let e = after_run is_name_byte h in
+    let f = after_run is_name_byte k in
     let inner = same_when m limit same_value e (Ok (run is_name_byte h, e)) (Ok (run is_name_byte k, f)) (advances_ok e e (run is_name_byte h) (reaches_self e)) (λ lt.
     same_ok m limit same_value (run is_name_byte h) (run is_name_byte k) e f (alike_run m limit is_name_byte h k a lt) (λ _. alike_past m limit is_name_byte h k a lt)) in
     same_if m limit same_value _ _ _ _ _ inner (same_err m limit same_value (MissingName what) h k (λ _. a))
 
-pub word_same : (m : Spot) (limit : ℕ) (what : What) (h k : Here) → Alike m limit h k → Same m limit same_value (word what h) (word what k)
+pub word_same : (m : Spot) (limit : ℕ) (what : NameRole) (h k : Here) → Alike m limit h k → Same m limit same_value (word what h) (word what k)
 unfolding word
 word_same m limit what h k a = same_when m limit same_value h (word_from what h (first h.rest)) (word_from what k (first k.rest)) (word_advances_from what h (first h.rest)) (λ lt.
     subst (λ o. Same m limit same_value (word_from what h (first h.rest)) (word_from what k o)) (sym (alike_first m limit h k lt a)) (word_same_from m limit what h k (first h.rest) a))
 
-ended_same_from : (m : Spot) (limit : ℕ) (what : What) (signs : List ℕ) (h k : Here) (o : Option ℕ) → Alike m limit h k → SameFind m limit (ended_from what signs h o) (ended_from what signs k o)
+ended_same_from : (m : Spot) (limit : ℕ) (what : NameRole) (signs : List ℕ) (h k : Here) (o : Option ℕ) → Alike m limit h k → SameFind m limit (ended_from what signs h o) (ended_from what signs k o)
 ended_same_from m limit what signs h k None a = find_ok m limit h k (λ _. a)
 ended_same_from m limit what signs h k (Some b) a = find_if m limit _ _ _ _ _ (find_ok m limit h k (λ _. a)) (find_err m limit (BadNameEnd what b) h k (λ _. a))
 
-pub ended_same : (m : Spot) (limit : ℕ) (what : What) (signs : List ℕ) (h k : Here) → Alike m limit h k → SameFind m limit (name_ended what signs h) (name_ended what signs k)
+pub ended_same : (m : Spot) (limit : ℕ) (what : NameRole) (signs : List ℕ) (h k : Here) → Alike m limit h k → SameFind m limit (name_ended what signs h) (name_ended what signs k)
 unfolding name_ended
 ended_same m limit what signs h k a = find_when m limit h (ended_from what signs h (first h.rest)) (ended_from what signs k (first k.rest)) (ended_moves_from what signs h (first h.rest)) (λ lt.
     subst (λ o. SameFind m limit (ended_from what signs h (first h.rest)) (ended_from what signs k o)) (sym (alike_first m limit h k lt a)) (ended_same_from m limit what signs h k (first h.rest) a))
 
-pub name_same : (m : Spot) (limit : ℕ) (what : What) (signs : List ℕ) (h k : Here) → Alike m limit h k → Same m limit same_value (name what signs h) (name what signs k)
+pub name_same : (m : Spot) (limit : ℕ) (what : NameRole) (signs : List ℕ) (h k : Here) → Alike m limit h k → Same m limit same_value (name what signs h) (name what signs k)
 unfolding name
 name_same m limit what signs h k a = same_bind m limit same_value same_value (word what h) (word what k) (λ w. name_ended what signs w.1 >>= λ end. Ok (w.0, end)) (λ w. name_ended what signs w.1 >>= λ end. Ok (w.0, end)) (word_same m limit what h k a) (λ w. moves_bind w.1 (name_ended what signs w.1) (λ end. Ok (w.0, end)) (ended_moves what signs w.1) (λ e. advances_ok e e w.0 (reaches_self e))) (λ w e g c is.
     find_bind m limit same_value (name_ended what signs e) (name_ended what signs g) (λ end. Ok (w, end)) (λ end. Ok (w, end)) (ended_same m limit what signs e g c) (λ x. advances_ok x x w (reaches_self x)) (λ x y d found.
     same_ok m limit same_value w w x y refl (λ _. d)))
 
-sign_same_from : (m : Spot) (limit c : ℕ) (fault : Fault) (h k : Here) (o : Option ℕ) → h.spot.place < limit → Alike m limit h k → SameFind m limit (sign_from c fault h o) (sign_from c fault k o)
+sign_same_from : (m : Spot) (limit c : ℕ) (fault : ItemFault) (h k : Here) (o : Option ℕ) → h.spot.place < limit → Alike m limit h k → SameFind m limit (sign_from c fault h o) (sign_from c fault k o)
 sign_same_from m limit c fault h k None lt a = find_err m limit EndOfFile h k (λ _. a)
-sign_same_from m limit c fault h k (Some b) lt a = find_if m limit (b == c) _ _ _ _ (find_ok m limit (behind h) (behind k) (λ _. alike_behind m limit h k lt a)) (find_err m limit fault h k (λ _. a))
+sign_same_from m limit c fault h k (Some b) lt a = find_if m limit (b == c) _ _ _ _ (find_ok m limit (after_byte h) (after_byte k) (λ _. alike_behind m limit h k lt a)) (find_err m limit fault h k (λ _. a))
 
-pub sign_same : (m : Spot) (limit c : ℕ) (fault : Fault) (h k : Here) → Alike m limit h k → SameFind m limit (sign c fault h) (sign c fault k)
+pub sign_same : (m : Spot) (limit c : ℕ) (fault : ItemFault) (h k : Here) → Alike m limit h k → SameFind m limit (sign c fault h) (sign c fault k)
 unfolding sign
 sign_same m limit c fault h k a = find_when m limit h (sign_from c fault h (first h.rest)) (sign_from c fault k (first k.rest)) (sign_moves_from c fault h (first h.rest)) (λ lt.
     subst (λ o. SameFind m limit (sign_from c fault h (first h.rest)) (sign_from c fault k o)) (sym (alike_first m limit h k lt a)) (sign_same_from m limit c fault h k (first h.rest) lt a))
 
 -- what stands in braces or quotes, after the byte that opens it
-shut_same : (m : Spot) (limit close : ℕ) (h k : Here) → Alike m limit h k → Same m limit (moved_part m) (enclosed close h >>= λ x. Ok (Text x.0, behind x.1)) (enclosed close k >>= λ x. Ok (Text x.0, behind x.1))
+shut_same : (m : Spot) (limit close : ℕ) (h k : Here) → Alike m limit h k → Same m limit (moved_part m) (enclosed close h >>= λ x. Ok (Text x.0, after_byte x.1)) (enclosed close k >>= λ x. Ok (Text x.0, after_byte x.1))
 shut_same m limit close h k a =
-    same_bind m limit same_value (moved_part m) (enclosed close h) (enclosed close k) (λ x. Ok (Text x.0, behind x.1)) (λ x. Ok (Text x.0, behind x.1)) (enclosed_same m limit close h k a) (λ x. advances_ok x.1 (behind x.1) (Text x.0) (behind_reaches x.1)) (λ t e f b is.
-    same_when m limit (moved_part m) e (Ok (Text t, behind e)) (Ok (Text t, behind f)) (advances_ok e (behind e) (Text t) (behind_reaches e)) (λ below.
-    same_ok m limit (moved_part m) (Text t) (Text t) (behind e) (behind f) refl (λ _. alike_behind m limit e f below b)))
+    same_bind m limit same_value (moved_part m) (enclosed close h) (enclosed close k) (λ x. Ok (Text x.0, after_byte x.1)) (λ x. Ok (Text x.0, after_byte x.1)) (enclosed_same m limit close h k a) (λ x. advances_ok x.1 (after_byte x.1) (Text x.0) (behind_reaches x.1)) (λ t e f b is.
+    same_when m limit (moved_part m) e (Ok (Text t, after_byte e)) (Ok (Text t, after_byte f)) (advances_ok e (after_byte e) (Text t) (behind_reaches e)) (λ below.
+    same_ok m limit (moved_part m) (Text t) (Text t) (after_byte e) (after_byte f) refl (λ _. alike_behind m limit e f below b)))
 
 raw_part_same_from : (m : Spot) (limit : ℕ) (close : Closing) (h k : Here) (o : Option ℕ) → h.spot.place < limit → Alike m limit h k → Same m limit (moved_part m) (part_from close h o) (part_from close k o)
 raw_part_same_from m limit close h k None lt a = same_err m limit (moved_part m) EndOfFile h k (λ _. a)
 raw_part_same_from m limit close h k (Some b) lt a =
     let f = moved_part m in
-    let shut : (c : ℕ) → Same m limit f (enclosed c (behind h) >>= λ x. Ok (Text x.0, behind x.1)) (enclosed c (behind k) >>= λ x. Ok (Text x.0, behind x.1)) = λ c. shut_same m limit c (behind h) (behind k) (alike_behind m limit h k lt a) in
-    let digits = same_when m limit f (past is_digit h) (Ok (Text (run is_digit h), past is_digit h)) (Ok (Text (run is_digit k), past is_digit k)) (advances_ok (past is_digit h) (past is_digit h) (Text (run is_digit h)) (reaches_self (past is_digit h))) (λ below.
-    same_ok m limit f (Text (run is_digit h)) (Text (run is_digit k)) (past is_digit h) (past is_digit k) (ap (λ t. Text t) (alike_run m limit is_digit h k a below)) (λ _. alike_past m limit is_digit h k a below)) in
+    let shut : (c : ℕ) → Same m limit f (enclosed c (after_byte h) >>= λ x. Ok (Text x.0, after_byte x.1)) (enclosed c (after_byte k) >>= λ x. Ok (Text x.0, after_byte x.1)) = λ c. shut_same m limit c (after_byte h) (after_byte k) (alike_behind m limit h k lt a) in
+    let digits = same_when m limit f (after_run is_digit h) (Ok (Text (run is_digit h), after_run is_digit h)) (Ok (Text (run is_digit k), after_run is_digit k)) (advances_ok (after_run is_digit h) (after_run is_digit h) (Text (run is_digit h)) (reaches_self (after_run is_digit h))) (λ below.
+    same_ok m limit f (Text (run is_digit h)) (Text (run is_digit k)) (after_run is_digit h) (after_run is_digit k) (ap (λ t. Text t) (alike_run m limit is_digit h k a below)) (λ _. alike_past m limit is_digit h k a below)) in
     let macro = same_bind m limit same_value f (name FieldPart (part_ends close) h) (name FieldPart (part_ends close) k) (λ n. Ok (Macro n.0 h.spot.line, n.1)) (λ n. Ok (Macro n.0 k.spot.line, n.1)) (name_same m limit FieldPart (part_ends close) h k a) (λ n. advances_ok n.1 n.1 (Macro n.0 h.spot.line) (reaches_self n.1)) (λ n e g c is.
     same_ok m limit f (Macro n h.spot.line) (Macro n k.spot.line) e g (ap (λ (s : Spot). Macro n s.line) a.spot) (λ _. c)) in
     same_if m limit f (b == left_brace) _ _ _ _ (shut right_brace) (same_if m limit f (b == 34) _ _ _ _ (shut 34) (same_if m limit f (is_digit b) _ _ _ _ digits (same_if m limit f (is_name_byte b) _ _ _ _ macro (same_err m limit f MissingPart h k (λ _. a)))))
@@ -187,5 +187,5 @@ pub part_same : (m : Spot) (limit : ℕ) (close : Closing) (h k : Here) → Alik
 unfolding part
 part_same m limit close h k a =
     let f = moved_part m in
-    same_bind m limit f f (raw_part close h) (raw_part close k) (λ x. Ok (x.0, white x.1)) (λ x. Ok (x.0, white x.1)) (raw_part_same m limit close h k a) (λ x. advances_ok x.1 (white x.1) x.0 (white_reaches x.1)) (λ x e g c is.
-    same_ok m limit f x (f x) (white e) (white g) refl (λ below. alike_past m limit is_white e g c below))
+    same_bind m limit f f (raw_part close h) (raw_part close k) (λ x. Ok (x.0, after_white x.1)) (λ x. Ok (x.0, after_white x.1)) (raw_part_same m limit close h k a) (λ x. advances_ok x.1 (after_white x.1) x.0 (white_reaches x.1)) (λ x e g c is.
+    same_ok m limit f x (f x) (after_white e) (after_white g) refl (λ below. alike_past m limit is_white e g c below))

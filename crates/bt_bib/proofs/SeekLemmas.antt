@@ -7,8 +7,8 @@ use Rattle.std.proofs.lemmas.List.{drop-drop, drop_all, drop_more}
 use Rattle.memchr.specs.Find.{IsFirstByte}
 use Rattle.std.proofs.Common.{Option, Some, None, ◌≡◌, ℕ, zero, suc, ◌+◌, ◌<◌, ◌≤◌, Bool, true, false, cond, List, [], ◌∷◌, length, take, drop, get_or, refl, sym, ap, subst, ◌∙◌, arith, ◌⊎◌, inl, inr}
 use Rattle.bt_bib.specs.declared.spot.Spot.{Spot}
-use Rattle.bt_bib.specs.Spot.{at, here, passed}
-use Rattle.bt_bib.specs.Scan.{past}
+use Rattle.bt_bib.specs.Spot.{at, here, spot_after}
+use Rattle.bt_bib.specs.Scan.{after_run}
 
 missed : (v : Bool) → (v ≡ true → ⊥) → not v ≡ true
 missed true n = absurd (n refl)
@@ -32,12 +32,12 @@ run_found hit bs None n found is = run_to hit n bs (λ j lt. found j (omega arit
 run_found hit bs (Some k) n found is = run_to hit n bs (λ j lt. found.0.before j (omega arith) (omega arith)) (omega (arith, found.0.high)) (inr (ap (λ i. hit (get_or bs i 0)) is ∙ found.1))
 
 -- a jump over so many bytes of a text, which a search in the slice `hay` has found
-pub jumps : (hit : ℕ → Bool) (text hay : List ℕ) (s end : Spot) (r : Option ℕ) (n : ℕ) → hay ≡ drop s.place text → IsFirstByte hit hay r → n ≡ unwrap_or r (length hay) → end ≡ passed (take n (drop s.place text)) s → here text end ≡ past (λ b. not (hit b)) (here text s)
+pub jumps : (hit : ℕ → Bool) (text hay : List ℕ) (s end : Spot) (r : Option ℕ) (n : ℕ) → hay ≡ drop s.place text → IsFirstByte hit hay r → n ≡ unwrap_or r (length hay) → end ≡ spot_after (take n (drop s.place text)) s → here text end ≡ after_run (λ b. not (hit b)) (here text s)
 jumps hit text hay s end r n same found is ends =
     let rest = drop s.place text in
     let front = take_while (λ b. not (hit b)) rest in
     let run : front ≡ take n rest = run_found hit rest r n (subst (λ (x : List ℕ). IsFirstByte hit x r) same found) (is ∙ ap (λ (x : List ℕ). unwrap_or r (length x)) same) in
-    ap (here text) (ends ∙ ap (λ t. passed t s) (sym run)) ∙ ap (at (passed front s)) (sym (drop-drop (length front) s.place text))
+    ap (here text) (ends ∙ ap (λ t. spot_after t s) (sym run)) ∙ ap (at (spot_after front s)) (sym (drop-drop (length front) s.place text))
 
 -- as many hits as after a place before which there is none
 count_behind : (hit : ℕ → Bool) (k : ℕ) (bs : List ℕ) → ((j : ℕ) → j < k → hit (get_or bs j 0) ≡ true → ⊥) → k ≤ length bs → count_by hit bs ≡ count_by hit (drop k bs)

@@ -7,8 +7,8 @@ use Rattle.std.proofs.lemmas.List.Sums.{count_by-le-length}
 use Rattle.bt_text.specs.ByteTests.{is_digit, left_brace, right_brace}
 use Rattle.bt_text.specs.NameBytes.{is_name_byte}
 use Rattle.bt_bib.specs.declared.spot.Spot.{Spot}
-use Rattle.bt_bib.specs.declared.fault.What.TheVariants.{EntryType, StringName, FieldName, FieldPart}
-use Rattle.bt_bib.specs.declared.fault.Fault.TheVariants.{ExpectedEquals}
+use Rattle.bt_bib.specs.declared.fault.NameRole.TheVariants.{EntryType, StringName, FieldName, FieldPart}
+use Rattle.bt_bib.specs.declared.fault.ItemFault.TheVariants.{ExpectedEquals}
 use Rattle.bt_bib.specs.declared.item.Closing.{Closing}
 use Rattle.bt_bib.specs.declared.item.Part.{Part}
 use Rattle.bt_bib.specs.declared.item.Part.TheVariants.{Text, Macro}
@@ -19,16 +19,16 @@ use Rattle.bt_bib.specs.declared.item.Piece.{Piece}
 use Rattle.bt_bib.specs.declared.item.Piece.TheVariants as pieces
 use Rattle.bt_bib.specs.declared.keywords.Keyword.{Keyword}
 use Rattle.bt_bib.specs.declared.keywords.Keyword.TheVariants as keywords
-use Rattle.bt_bib.specs.Spot.{Here, here, start, is_line_end, behind}
+use Rattle.bt_bib.specs.Spot.{Here, here, start, is_line_end, after_byte}
 use Rattle.bt_bib.specs.Stop.{Stop, ◌>>=◌, value_read}
-use Rattle.bt_bib.specs.Scan.{first, run, past, white, sign, closing_sign, is_key_byte}
+use Rattle.bt_bib.specs.Scan.{first, run, after_run, after_white, sign, closing_sign, is_key_byte}
 use Rattle.bt_bib.specs.Enclosed.{enclosed}
 use Rattle.bt_bib.specs.Names.{word, name_ended, name}
 use Rattle.bt_bib.specs.Many.{many, many_by, all, collected}
-use Rattle.bt_bib.specs.Values.{raw_part, part_from, part, part_ends, joined, joined_from, value}
+use Rattle.bt_bib.specs.Values.{raw_part, part_from, part, part_ends, next_part, joined_from, value}
 use Rattle.bt_bib.specs.Fields.{field, field_or_close, next_field, next_field_from, name_ends}
 use Rattle.bt_bib.specs.Keywords.{keyword_of}
-use Rattle.bt_bib.specs.Pieces.{item, opening, entry_item, entry_read, string_item, string_read, name_line, preamble_item, preamble_read, unread_entry, unread_string, item_opened, item_of_type, type_ended, type_read, piece, is_text, next_piece, next_piece_from}
+use Rattle.bt_bib.specs.Pieces.{ended_item, opening, entry_item, entry_read, string_item, string_read, name_line, preamble_item, preamble_read, unread_entry, unread_string, item_opened, item_of_type, type_ended, type_read, piece, is_text, next_piece, next_piece_from}
 use Rattle.bt_bib.specs.Reading.{next_one, pieces_of}
 use Rattle.bt_bib.specs.Moving.{FitsPart, FitsSpot, FitsValue, FitsField, FitsContent, FitsPiece}
 use Rattle.bt_bib.specs.inner.Moving.{rebased, rebased_value, rebased_content, rebased_part, rebased_field, rebased_piece}
@@ -98,31 +98,31 @@ any_ok : {A : Type 0} (r : Result (A × Here) Stop) → OkIs Any r
 any_ok (Ok x) = tt
 any_ok (Err x) = tt
 
-shut_small : (n close : ℕ) (h : Here) → Bound n h → OkIs (SmallPart n) (enclosed close h >>= λ x. Ok (Text x.0, behind x.1))
-shut_small n close h b = small_bind n Any (SmallPart n) h (enclosed close h) (λ x. Ok (Text x.0, behind x.1)) b (enclosed_advances close h) (any_ok (enclosed close h)) (λ t e _ _. tt)
+shut_small : (n close : ℕ) (h : Here) → Bound n h → OkIs (SmallPart n) (enclosed close h >>= λ x. Ok (Text x.0, after_byte x.1))
+shut_small n close h b = small_bind n Any (SmallPart n) h (enclosed close h) (λ x. Ok (Text x.0, after_byte x.1)) b (enclosed_advances close h) (any_ok (enclosed close h)) (λ t e _ _. tt)
 
 raw_part_small : (n : ℕ) (close : Closing) (h : Here) (o : Option ℕ) → Bound n h → OkIs (SmallPart n) (part_from close h o)
 raw_part_small n close h None b = tt
 raw_part_small n close h (Some c) b =
     let P = SmallPart n in
-    let next = bound n h (behind h) (behind_reaches h) b in
-    small_if P (c == left_brace) _ _ (shut_small n right_brace (behind h) next) (small_if P (c == 34) _ _ (shut_small n 34 (behind h) next)
-    (small_if P (is_digit c) (Ok (Text (run is_digit h), past is_digit h)) _ tt
+    let next = bound n h (after_byte h) (behind_reaches h) b in
+    small_if P (c == left_brace) _ _ (shut_small n right_brace (after_byte h) next) (small_if P (c == 34) _ _ (shut_small n 34 (after_byte h) next)
+    (small_if P (is_digit c) (Ok (Text (run is_digit h), after_run is_digit h)) _ tt
     (small_if P (is_name_byte c) _ _ (small_bind n Any P h (name FieldPart (part_ends close) h) (λ x. Ok (Macro x.0 h.spot.line, x.1)) b (name_advances FieldPart (part_ends close) h) (any_ok (name FieldPart (part_ends close) h)) (λ x e _ _. (small_spot n h b).1)) tt)))
 
 part_small : (n : ℕ) (close : Closing) (h : Here) → Bound n h → OkIs (SmallPart n) (part close h)
 unfolding part
-part_small n close h b = small_bind n (SmallPart n) (SmallPart n) h (raw_part close h) (λ x. Ok (x.0, white x.1)) b (raw_part_advances_from close h (first h.rest)) (raw_part_small n close h (first h.rest) b) (λ x e _ p. p)
+part_small n close h b = small_bind n (SmallPart n) (SmallPart n) h (raw_part close h) (λ x. Ok (x.0, after_white x.1)) b (raw_part_advances_from close h (first h.rest)) (raw_part_small n close h (first h.rest) b) (λ x e _ p. p)
 
 joined_small_from : (n : ℕ) (close : Closing) (h : Here) (o : Option ℕ) → Bound n h → OkIs (SomeIs (SmallPart n)) (joined_from close h o)
 joined_small_from n close h None b = tt
 joined_small_from n close h (Some c) b =
-    let w = white (behind h) in
-    let bw = bound n (behind h) w (white_reaches (behind h)) (bound n h (behind h) (behind_reaches h) b) in
+    let w = after_white (after_byte h) in
+    let bw = bound n (after_byte h) w (white_reaches (after_byte h)) (bound n h (after_byte h) (behind_reaches h) b) in
     small_if (SomeIs (SmallPart n)) (c == 35) _ _ (small_bind n (SmallPart n) (SomeIs (SmallPart n)) w (part close w) (λ x. Ok (Some x.0, x.1)) bw (part_advances close w) (part_small n close w bw) (λ x e _ p. p)) tt
 
-joined_small : (n : ℕ) (close : Closing) (h : Here) → Bound n h → OkIs (SomeIs (SmallPart n)) (joined close h)
-unfolding joined
+joined_small : (n : ℕ) (close : Closing) (h : Here) → Bound n h → OkIs (SomeIs (SmallPart n)) (next_part close h)
+unfolding next_part
 joined_small n close h b = joined_small_from n close h (first h.rest) b
 
 by_small : {A : Type 0} (n : ℕ) (P : A → Type 0) (later : Here → List A × Result Here Stop) (h : Here) (r : Result (Option A × Here) Stop) → Bound n h → Advances h r → OkIs (SomeIs P) r → ((e : Here) → Bound n e → AllByRecursion P (later e).0) → AllByRecursion P (many_by later r).0
@@ -141,38 +141,38 @@ one_collected P a xs (Err e) p q = tt
 
 value_small : (n : ℕ) (close : Closing) (h : Here) → Bound n h → OkIs (AllByRecursion (SmallPart n)) (value close h)
 unfolding value
-value_small n close h b = small_bind n (SmallPart n) (AllByRecursion (SmallPart n)) h (part close h) (λ x. collected (x.0 ∷ []) (all (joined close) x.1)) b (part_advances close h) (part_small n close h b) (λ x e be p. one_collected (SmallPart n) x (all (joined close) e).0 (all (joined close) e).1 p (many_small n (SmallPart n) (joined close) (joined_advances close) (joined_small n close) (suc (length e.rest)) e be))
+value_small n close h b = small_bind n (SmallPart n) (AllByRecursion (SmallPart n)) h (part close h) (λ x. collected (x.0 ∷ []) (all (next_part close) x.1)) b (part_advances close h) (part_small n close h b) (λ x e be p. one_collected (SmallPart n) x (all (next_part close) e).0 (all (next_part close) e).1 p (many_small n (SmallPart n) (next_part close) (joined_advances close) (joined_small n close) (suc (length e.rest)) e be))
 
 field_small : (n : ℕ) (close : Closing) (h : Here) → Bound n h → OkIs (SmallField n) (field close h)
 unfolding field
 field_small n close h b =
-    small_bind n Any (SmallField n) h (name FieldName name_ends h) (λ x. sign 61 ExpectedEquals (white x.1) >>= λ q. value close (white q) >>= λ v. Ok (record { name = x.0; line = h.spot.line; value = v.0 }, v.1)) b (name_advances FieldName name_ends h) (any_ok (name FieldName name_ends h)) (λ x e be _.
-    small_find n (SmallField n) (white e) (sign 61 ExpectedEquals (white e)) (λ q. value close (white q) >>= λ v. Ok (record { name = x; line = h.spot.line; value = v.0 }, v.1)) (bound n e (white e) (white_reaches e) be) (sign_moves 61 ExpectedEquals (white e)) (λ q bq.
-    let bw = bound n q (white q) (white_reaches q) bq in
-    small_bind n (AllByRecursion (SmallPart n)) (SmallField n) (white q) (value close (white q)) (λ v. Ok (record { name = x; line = h.spot.line; value = v.0 }, v.1)) bw (value_advances close (white q)) (value_small n close (white q) bw) (λ v g _ p. ((small_spot n h b).1, p))))
+    small_bind n Any (SmallField n) h (name FieldName name_ends h) (λ x. sign 61 ExpectedEquals (after_white x.1) >>= λ q. value close (after_white q) >>= λ v. Ok (record { name = x.0; line = h.spot.line; value = v.0 }, v.1)) b (name_advances FieldName name_ends h) (any_ok (name FieldName name_ends h)) (λ x e be _.
+    small_find n (SmallField n) (after_white e) (sign 61 ExpectedEquals (after_white e)) (λ q. value close (after_white q) >>= λ v. Ok (record { name = x; line = h.spot.line; value = v.0 }, v.1)) (bound n e (after_white e) (white_reaches e) be) (sign_moves 61 ExpectedEquals (after_white e)) (λ q bq.
+    let bw = bound n q (after_white q) (white_reaches q) bq in
+    small_bind n (AllByRecursion (SmallPart n)) (SmallField n) (after_white q) (value close (after_white q)) (λ v. Ok (record { name = x; line = h.spot.line; value = v.0 }, v.1)) bw (value_advances close (after_white q)) (value_small n close (after_white q) bw) (λ v g _ p. ((small_spot n h b).1, p))))
 
 field_or_close_small : (n : ℕ) (close : Closing) (h : Here) (o : Option ℕ) → Bound n h → OkIs (SomeIs (SmallField n)) (field_or_close close h o)
 field_or_close_small n close h None b = tt
-field_or_close_small n close h (Some c) b = small_if (SomeIs (SmallField n)) (c == closing_sign close) (Ok (None, behind h)) _ tt (small_bind n (SmallField n) (SomeIs (SmallField n)) h (field close h) (λ x. Ok (Some x.0, x.1)) b (field_advances close h) (field_small n close h b) (λ x e _ p. p))
+field_or_close_small n close h (Some c) b = small_if (SomeIs (SmallField n)) (c == closing_sign close) (Ok (None, after_byte h)) _ tt (small_bind n (SmallField n) (SomeIs (SmallField n)) h (field close h) (λ x. Ok (Some x.0, x.1)) b (field_advances close h) (field_small n close h b) (λ x e _ p. p))
 
 next_field_small_from : (n : ℕ) (close : Closing) (h : Here) (o : Option ℕ) → Bound n h → OkIs (SomeIs (SmallField n)) (next_field_from close h o)
 next_field_small_from n close h None b = tt
 next_field_small_from n close h (Some c) b =
-    let w = white (behind h) in
-    small_if (SomeIs (SmallField n)) (c == closing_sign close) (Ok (None, behind h)) _ tt (small_if (SomeIs (SmallField n)) (c == 44) _ _ (field_or_close_small n close w (first w.rest) (bound n (behind h) w (white_reaches (behind h)) (bound n h (behind h) (behind_reaches h) b))) tt)
+    let w = after_white (after_byte h) in
+    small_if (SomeIs (SmallField n)) (c == closing_sign close) (Ok (None, after_byte h)) _ tt (small_if (SomeIs (SmallField n)) (c == 44) _ _ (field_or_close_small n close w (first w.rest) (bound n (after_byte h) w (white_reaches (after_byte h)) (bound n h (after_byte h) (behind_reaches h) b))) tt)
 
 next_field_small : (n : ℕ) (close : Closing) (h : Here) → Bound n h → OkIs (SomeIs (SmallField n)) (next_field close h)
 unfolding next_field
 next_field_small n close h b = next_field_small_from n close h (first h.rest) b
 
-item_small : (n : ℕ) (s : Spot) (line : ℕ) (content : Content) (close : Option Closing) (h : Here) (r : Result Here Stop) → SmallSpot n s → line ≤ n → SmallContent n content → Bound n h → Moves h r → SmallPiece n (item s line content close r).0
+item_small : (n : ℕ) (s : Spot) (line : ℕ) (content : Content) (close : Option Closing) (h : Here) (r : Result Here Stop) → SmallSpot n s → line ≤ n → SmallContent n content → Bound n h → Moves h r → SmallPiece n (ended_item s line content close r).0
 item_small n s line content close h (Ok e) p q f b m = (p, small_spot n e (bound n h e m.ahead b), q, f)
 item_small n s line content close h (Err x) p q f b m = (p, small_spot n x.1 (bound n h x.1 m.ahead b), q, f)
 
 entry_small : (n : ℕ) (s : Spot) (kind : List ℕ) (close : Closing) (h : Here) → SmallSpot n s → Bound n h → SmallPiece n (entry_item s kind close h).0
 entry_small n s kind close h p b =
-    let e = past (is_key_byte close) h in
-    let w = white e in
+    let e = after_run (is_key_byte close) h in
+    let w = after_white e in
     let bw = bound n e w (white_reaches e) (bound n h e (past_reaches (is_key_byte close) h) b) in
     let read = entry_read kind close h in
     item_small n s h.spot.line (contents.Entry read.0) (Some close) h read.1 p (small_spot n h b).1 (many_small n (SmallField n) (next_field close) (next_field_advances close) (next_field_small n close) (suc (length w.rest)) w bw) b (entry_moves kind close h)
@@ -184,8 +184,8 @@ given_small n (Err x) p = tt
 valued_small : (n : ℕ) (close : Closing) (h : Here) → Bound n h → OkIs (AllByRecursion (SmallPart n)) (valued close h)
 valued_small n close h b =
     let P = AllByRecursion (SmallPart n) in
-    small_bind n Any P h (name StringName name_ends h) (λ x. equalled close (white x.1)) b (name_advances StringName name_ends h) (any_ok (name StringName name_ends h)) (λ x e be _.
-    small_find n P (white e) (sign 61 ExpectedEquals (white e)) (λ q. value close (white q)) (bound n e (white e) (white_reaches e) be) (sign_moves 61 ExpectedEquals (white e)) (λ q bq. value_small n close (white q) (bound n q (white q) (white_reaches q) bq)))
+    small_bind n Any P h (name StringName name_ends h) (λ x. equalled close (after_white x.1)) b (name_advances StringName name_ends h) (any_ok (name StringName name_ends h)) (λ x e be _.
+    small_find n P (after_white e) (sign 61 ExpectedEquals (after_white e)) (λ q. value close (after_white q)) (bound n e (after_white e) (white_reaches e) be) (sign_moves 61 ExpectedEquals (after_white e)) (λ q bq. value_small n close (after_white q) (bound n q (after_white q) (white_reaches q) bq)))
 
 line_small : (n line other : ℕ) (name : Option (List ℕ)) → line ≤ n → other ≤ n → name_line name line other ≤ n
 line_small n line other (Some name) p q = p
@@ -203,13 +203,13 @@ preamble_small n s close h p b =
 
 opened_small : (n : ℕ) (s : Spot) (unread : Content) (read : Closing → Here → Piece × Here) (h : Here) (r : Result (Closing × Here) Stop) → SmallSpot n s → SmallContent n unread → Bound n h → Advances h r → ((close : Closing) (e : Here) → Bound n e → SmallPiece n (read close e).0) → SmallPiece n (item_opened s unread read r).0
 opened_small n s unread read h (Err x) p u b a k = (p, small_spot n x.1 (bound n h x.1 a.ahead b), p.1, u)
-opened_small n s unread read h (Ok o) p u b a k = k o.0 (white o.1) (bound n o.1 (white o.1) (white_reaches o.1) (bound n h o.1 a.ahead b))
+opened_small n s unread read h (Ok o) p u b a k = k o.0 (after_white o.1) (bound n o.1 (after_white o.1) (white_reaches o.1) (bound n h o.1 a.ahead b))
 
 typed_small : (n : ℕ) (keyword : Keyword) (s : Spot) (kind : List ℕ) (h : Here) → SmallSpot n s → Bound n h → SmallPiece n (item_of_type keyword s kind h).0
 typed_small n keywords.Comment s kind h p b = (p, small_spot n h b)
-typed_small n keywords.String s kind h p b = opened_small n s unread_string (string_item s) (white h) (opening (white h)) p tt (bound n h (white h) (white_reaches h) b) (opening_advances (white h)) (λ close e be. string_small n s close e p be)
-typed_small n keywords.Preamble s kind h p b = opened_small n s (contents.Preamble None) (preamble_item s) (white h) (opening (white h)) p tt (bound n h (white h) (white_reaches h) b) (opening_advances (white h)) (λ close e be. preamble_small n s close e p be)
-typed_small n keywords.Entry s kind h p b = opened_small n s (unread_entry (Some kind)) (entry_item s kind) (white h) (opening (white h)) p tt (bound n h (white h) (white_reaches h) b) (opening_advances (white h)) (λ close e be. entry_small n s kind close e p be)
+typed_small n keywords.String s kind h p b = opened_small n s unread_string (string_item s) (after_white h) (opening (after_white h)) p tt (bound n h (after_white h) (white_reaches h) b) (opening_advances (after_white h)) (λ close e be. string_small n s close e p be)
+typed_small n keywords.Preamble s kind h p b = opened_small n s (contents.Preamble None) (preamble_item s) (after_white h) (opening (after_white h)) p tt (bound n h (after_white h) (white_reaches h) b) (opening_advances (after_white h)) (λ close e be. preamble_small n s close e p be)
+typed_small n keywords.Entry s kind h p b = opened_small n s (unread_entry (Some kind)) (entry_item s kind) (after_white h) (opening (after_white h)) p tt (bound n h (after_white h) (white_reaches h) b) (opening_advances (after_white h)) (λ close e be. entry_small n s kind close e p be)
 
 type_ended_small : (n : ℕ) (s : Spot) (kind : List ℕ) (h : Here) (r : Result Here Stop) → SmallSpot n s → Bound n h → Moves h r → SmallPiece n (type_ended s kind r).0
 type_ended_small n s kind h (Err x) p b m = (p, small_spot n x.1 (bound n h x.1 m.ahead b), p.1, tt)
@@ -222,8 +222,8 @@ type_read_small n s h (Ok w) p b a = type_ended_small n s w.0 w.1 (name_ended En
 pub piece_small : (n : ℕ) (h : Here) → Bound n h → SmallPiece n (piece h).0
 unfolding piece
 piece_small n h b =
-    let w = white (behind h) in
-    type_read_small n h.spot w (word EntryType w) (small_spot n h b) (bound n (behind h) w (white_reaches (behind h)) (bound n h (behind h) (behind_reaches h) b)) (word_advances EntryType w)
+    let w = after_white (after_byte h) in
+    type_read_small n h.spot w (word EntryType w) (small_spot n h b) (bound n (after_byte h) w (white_reaches (after_byte h)) (bound n h (after_byte h) (behind_reaches h) b)) (word_advances EntryType w)
 
 next_piece_small_from : (n : ℕ) (h : Here) (o : Option ℕ) → Bound n h → SomeIs (SmallPiece n) (next_piece_from h o).0
 next_piece_small_from n h None b = tt
@@ -231,7 +231,7 @@ next_piece_small_from n h (Some c) b = piece_small n h b
 
 next_piece_small : (n : ℕ) (h : Here) → Bound n h → OkIs (SomeIs (SmallPiece n)) (Ok (next_piece h))
 unfolding next_piece
-next_piece_small n h b = next_piece_small_from n (past is_text h) (first (past is_text h).rest) (bound n h (past is_text h) (past_reaches is_text h) b)
+next_piece_small n h b = next_piece_small_from n (after_run is_text h) (first (after_run is_text h).rest) (bound n h (after_run is_text h) (past_reaches is_text h) b)
 
 -- each number in a text's pieces is at most its length and one
 pub pieces_small : (text : List ℕ) → AllByRecursion (SmallPiece (length text + 1)) (pieces_of text)

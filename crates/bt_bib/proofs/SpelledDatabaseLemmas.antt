@@ -3,13 +3,13 @@ use Rattle.std.proofs.Common.{◌≡◌, ℕ, List, [], ◌∷◌, ◌++◌, Som
 use Rattle.std.proofs.lemmas.List.{append-nil}
 use Rattle.bt_text.specs.ByteTests.{is_white}
 use Rattle.bt_bib.specs.declared.spot.Spot.{Spot}
-use Rattle.bt_bib.specs.declared.fault.What.TheVariants.{EntryType}
+use Rattle.bt_bib.specs.declared.fault.NameRole.TheVariants.{EntryType}
 use Rattle.bt_bib.specs.declared.item.Item.{Item}
 use Rattle.bt_bib.specs.declared.item.Piece.{Piece}
 use Rattle.bt_bib.specs.declared.item.Piece.TheVariants as pieces
 use Rattle.bt_bib.specs.declared.keywords.Keyword.TheVariants as keywords
-use Rattle.bt_bib.specs.Spot.{Here, at, here, start, passed}
-use Rattle.bt_bib.specs.Scan.{first, past}
+use Rattle.bt_bib.specs.Spot.{Here, at, here, start, spot_after}
+use Rattle.bt_bib.specs.Scan.{first, after_run}
 use Rattle.bt_bib.specs.Names.{word}
 use Rattle.bt_bib.specs.Pieces.{type_read, piece, is_text, next_piece, next_piece_from}
 use Rattle.bt_bib.specs.Reading.{pieces_from, pieces_of}
@@ -33,8 +33,8 @@ item_starts i s text (AnEntry x) = at_sign_starts _ s text x
 item_starts i s text (AString x) = at_sign_starts _ s text x
 item_starts i s text (APreamble x) = at_sign_starts _ s text x
 
-skipped_to : (h k : Here) → Stands Skipped h k → Stops is_text k.rest → past is_text h ≡ k
-skipped_to h k x stop = standing Skipped (λ h k. Stops is_text k.rest → past is_text h ≡ k) (λ s text rest all stop. past_to is_text s text rest all stop) h k x stop
+skipped_to : (h k : Here) → Stands Skipped h k → Stops is_text k.rest → after_run is_text h ≡ k
+skipped_to h k x stop = standing Skipped (λ h k. Stops is_text k.rest → after_run is_text h ≡ k) (λ s text rest all stop. past_to is_text s text rest all stop) h k x stop
 
 next_to : (h k : Here) → Stands Skipped h k → Begins IsAtSign k.rest → pieces_from h ≡ pieces_by (Some (piece k).0, (piece k).1)
 unfolding next_piece
@@ -57,11 +57,11 @@ comment_to start end A h k ends x =
     let two = split W E one.0 k one.2 in
     let kind = two.front.text in
     let mid = two.mid in
-    let behind = two.back in
+    let after_byte = two.back in
     let spelled : Stands (Bytes kind (IsWord keywords.Comment kind)) one.0 mid = record { text = kind; spelled = Written two.front.spelled; rest = two.front.rest; spot = two.front.spot } in
-    let rest : mid.rest ≡ behind.text = behind.rest ∙ ap (λ r. behind.text ++ r) ends ∙ append-nil behind.text in
-    let typed : piece h ≡ (pieces.Comment h.spot mid.spot, mid) = ap (λ q. type_read h.spot (word EntryType q)) one.1 ∙ typed_by keywords.Comment kind h.spot one.0 mid spelled (subst (MayEndName type_signs) (sym rest) behind.spelled.1.0) in
-    (mid, typed ∙ ap (λ s. (pieces.Comment s mid.spot, mid)) (sym x.spelled.0) ∙ ap (λ s. (pieces.Comment start s, mid)) (sym behind.spelled.0), record { text = behind.text; spelled = behind.spelled.1.1; rest = behind.rest; spot = behind.spot })
+    let rest : mid.rest ≡ after_byte.text = after_byte.rest ∙ ap (λ r. after_byte.text ++ r) ends ∙ append-nil after_byte.text in
+    let typed : piece h ≡ (pieces.Comment h.spot mid.spot, mid) = ap (λ q. type_read h.spot (word EntryType q)) one.1 ∙ typed_by keywords.Comment kind h.spot one.0 mid spelled (subst (MayEndName type_signs) (sym rest) after_byte.spelled.1.0) in
+    (mid, typed ∙ ap (λ s. (pieces.Comment s mid.spot, mid)) (sym x.spelled.0) ∙ ap (λ s. (pieces.Comment start s, mid)) (sym after_byte.spelled.0), record { text = after_byte.text; spelled = after_byte.spelled.1.1; rest = after_byte.rest; spot = after_byte.spot })
 
 database_to : (ps : List Piece) (h k : Here) → k.rest ≡ [] → Stands (DatabaseOf ps) h k → pieces_from h ≡ ps
 database_to [] h k end x = none_to h k x end
@@ -78,4 +78,4 @@ database_to (pieces.Comment start end ∷ ps) h k ends x =
 
 pub spelled_databases_are_read : SpelledDatabasesAreRead
 unfolding pieces_of
-spelled_databases_are_read ps text x = database_to ps (here text start) (at (passed text start) []) refl (record { text = text; spelled = x; rest = sym (append-nil text); spot = refl })
+spelled_databases_are_read ps text x = database_to ps (here text start) (at (spot_after text start) []) refl (record { text = text; spelled = x; rest = sym (append-nil text); spot = refl })

@@ -6,15 +6,15 @@ use Rattle.std.proofs.lemmas.List.{append-nil}
 use Rattle.bt_text.specs.ByteTests.{is_white}
 use Rattle.bt_text.specs.NameBytes.{is_name_byte}
 use Rattle.bt_bib.specs.declared.spot.Spot.{Spot}
-use Rattle.bt_bib.specs.declared.fault.What.{What}
-use Rattle.bt_bib.specs.declared.fault.What.TheVariants.{FieldName}
-use Rattle.bt_bib.specs.declared.fault.Fault.TheVariants.{ExpectedEquals}
+use Rattle.bt_bib.specs.declared.fault.NameRole.{NameRole}
+use Rattle.bt_bib.specs.declared.fault.NameRole.TheVariants.{FieldName}
+use Rattle.bt_bib.specs.declared.fault.ItemFault.TheVariants.{ExpectedEquals}
 use Rattle.bt_bib.specs.declared.item.Closing.{Closing}
 use Rattle.bt_bib.specs.declared.item.Closing.TheVariants.{Brace, Parenthesis}
 use Rattle.bt_bib.specs.declared.item.Part.{Part}
 use Rattle.bt_bib.specs.declared.item.Field.{Field}
-use Rattle.bt_bib.specs.Spot.{Here, at, passed, behind}
-use Rattle.bt_bib.specs.Scan.{first, white, sign, closing_sign}
+use Rattle.bt_bib.specs.Spot.{Here, at, spot_after, after_byte}
+use Rattle.bt_bib.specs.Scan.{first, after_white, sign, closing_sign}
 use Rattle.bt_bib.specs.Stop.{Stop, ◌>>=◌}
 use Rattle.bt_bib.specs.Names.{name}
 use Rattle.bt_bib.specs.Many.{all}
@@ -31,16 +31,16 @@ use Rattle.bt_bib.proofs.SpellingLemmas.{Stands, stands_at, split, either, on_li
 use Rattle.bt_bib.proofs.SpelledValueLemmas.{name_unwhite, name_starts, value_starts, value_to}
 
 -- `name =`, and what stands after it
-pub record Equated (what : What) (n : List ℕ) (V : Spelling) (h k : Here) : Type 0 where
+pub record Equated (what : NameRole) (n : List ℕ) (V : Spelling) (h k : Here) : Type 0 where
   pub end : Here
   pub equals : Here
   pub inside : Here
   pub named : name what name_ends h ≡ Ok (n, end)
-  pub sign : sign 61 ExpectedEquals (white end) ≡ Ok equals
-  pub white : white equals ≡ inside
+  pub sign : sign 61 ExpectedEquals (after_white end) ≡ Ok equals
+  pub after_white : after_white equals ≡ inside
   pub stands : Stands V inside k
 
-pub equated : (what : What) (n : List ℕ) (V : Spelling) (h k : Here) → Starts (Fails is_white) V → Stands (NameOf n ⋯ Sign 61 ⋯ V) h k → Equated what n V h k
+pub equated : (what : NameRole) (n : List ℕ) (V : Spelling) (h k : Here) → Starts (Fails is_white) V → Stands (NameOf n ⋯ Sign 61 ⋯ V) h k → Equated what n V h k
 equated what n V h k starts x =
     let one = split (NameOf n) (White ▸ Sign 61 ⋯ V) h k x in
     let two = split White (Sign 61 ⋯ V) one.mid k one.back in
@@ -54,7 +54,7 @@ equated what n V h k starts x =
       inside = four.mid;
       named = name_to what name_ends n h one.mid refl one.front (ends_from name_ends one.mid.rest (white_front (MayEnd name_ends) (may_white name_ends) one.mid two.mid two.front (begins_as (may_one name_ends) ends)));
       sign = ap (sign 61 ExpectedEquals) (white_to one.mid two.mid two.front (begins_as (one_fails is_white name_ends refl) ends)) ∙ sign_to 61 ExpectedEquals two.mid three.mid three.front;
-      white = white_to three.mid four.mid four.front (begins_here (Fails is_white) V starts four.mid k four.back);
+      after_white = white_to three.mid four.mid four.front (begins_here (Fails is_white) V starts four.mid k four.back);
       stands = four.back;
     }
 
@@ -63,7 +63,7 @@ abbrev pub with_value : ℕ → List ℕ → List Part × Here → Result (Field
 with_value line n v = Ok (record { name = n; line = line; value = v.0 }, v.1)
 
 abbrev equal_value : Closing → ℕ → List ℕ → Here → Result (Field × Here) Stop
-equal_value close line n equals = value close (white equals) >>= with_value line n
+equal_value close line n equals = value close (after_white equals) >>= with_value line n
 
 pub field_to : (close : Closing) (f : Field) (h m k : Here) → Stands (FieldOf f) h m → Stands White m k → Begins (IsOne (value_ends close)) k.rest → field close h ≡ Ok (f, k)
 unfolding field
@@ -71,16 +71,16 @@ field_to close f h m k x w b =
     let on = on_line f.line (NameOf f.name ⋯ Sign 61 ⋯ ValueOf f.value) h m x in
     let e = equated FieldName f.name (ValueOf f.value) h m (value_starts f.value) on.1 in
     let line = h.spot.line in
-    ap (λ (r : Result (List ℕ × Here) Stop). r >>= λ n. sign 61 ExpectedEquals (white n.1) >>= equal_value close line n.0) e.named
+    ap (λ (r : Result (List ℕ × Here) Stop). r >>= λ n. sign 61 ExpectedEquals (after_white n.1) >>= equal_value close line n.0) e.named
     ∙ ap (λ (r : Result Here Stop). r >>= equal_value close line f.name) e.sign
-    ∙ ap (λ q. value close q >>= with_value line f.name) e.white
+    ∙ ap (λ q. value close q >>= with_value line f.name) e.after_white
     ∙ ap (λ (r : Result (List Part × Here) Stop). r >>= with_value line f.name) (value_to close f.value e.inside m k e.stands w b)
     ∙ ap (λ l. Ok (record { name = f.name; line = l; value = f.value }, k)) (sym on.0)
 
 pub spelled_fields_are_read : SpelledFieldsAreRead
 spelled_fields_are_read close f s text rest a b =
     let h = at s (text ++ rest) in
-    let k = at (passed text s) rest in
+    let k = at (spot_after text s) rest in
     let x = split (FieldOf f) White h k (stands_at (FieldOf f ▸ White) s text rest a) in
     field_to close f h x.mid k x.front x.back (one_begins (value_ends close) rest b)
 
@@ -116,10 +116,10 @@ fields_start close (f ∷ fs) = comma_starts close (White ▸ FieldOf f ⋯ Fiel
 abbrev pub one_field : Closing → Here → Result (Option Field × Here) Stop
 one_field close w = field close w >>= λ x. Ok (Some x.0, x.1)
 
-close_read : (close : Closing) (w : Here) → field_or_close close w (Some (closing_sign close)) ≡ Ok (None, behind w)
-close_read close w = ap (λ v. cond v (Ok (None, behind w)) (one_field close w)) (eq-eqb (closing_sign close) (closing_sign close) refl)
+close_read : (close : Closing) (w : Here) → field_or_close close w (Some (closing_sign close)) ≡ Ok (None, after_byte w)
+close_read close w = ap (λ v. cond v (Ok (None, after_byte w)) (one_field close w)) (eq-eqb (closing_sign close) (closing_sign close) refl)
 
-last_from : (close : Closing) (h : Here) → next_field_from close h (Some (closing_sign close)) ≡ Ok (None, behind h)
+last_from : (close : Closing) (h : Here) → next_field_from close h (Some (closing_sign close)) ≡ Ok (None, after_byte h)
 last_from Brace h = refl
 last_from Parenthesis h = refl
 
@@ -127,17 +127,17 @@ last_read : (close : Closing) (h k : Here) → Stands (Sign (closing_sign close)
 unfolding next_field
 last_read close h k x =
     let one = sign_stands (closing_sign close) h k x in
-    ap (next_field_from close h) one.first ∙ last_from close h ∙ ap (λ q. Ok (None, q)) one.behind
+    ap (next_field_from close h) one.first ∙ last_from close h ∙ ap (λ q. Ok (None, q)) one.after_byte
 
 -- after a comma and white space
 comma_read : (close : Closing) (h a w : Here) → Stands (Sign 44) h a → Stands White a w → Begins (Fails is_white) w.rest → next_field close h ≡ field_or_close close w (first w.rest)
 unfolding next_field
 comma_read close h a w x space b =
     let one = sign_stands 44 h a x in
-    let inner : Here → Result (Option Field × Here) Stop = λ q. (let w = white q in field_or_close close w (first w.rest)) in
+    let inner : Here → Result (Option Field × Here) Stop = λ q. (let w = after_white q in field_or_close close w (first w.rest)) in
     ap (next_field_from close h) one.first
-    ∙ ap (λ v. cond v (Ok (None, behind h)) (inner (behind h))) (comma_apart close)
-    ∙ ap inner one.behind ∙ ap (λ w. field_or_close close w (first w.rest)) (white_to a w space b)
+    ∙ ap (λ v. cond v (Ok (None, after_byte h)) (inner (after_byte h))) (comma_apart close)
+    ∙ ap inner one.after_byte ∙ ap (λ w. field_or_close close w (first w.rest)) (white_to a w space b)
 
 end_read : (close : Closing) (h k : Here) → Stands (Sign 44 ⋯ Sign (closing_sign close)) h k → next_field close h ≡ Ok (None, k)
 end_read close h k x =
@@ -147,7 +147,7 @@ end_read close h k x =
     let w = two.mid in
     let closes = sign_stands (closing_sign close) w k two.back in
     let starts : Begins (IsOne (value_ends close)) w.rest = begins_here (IsOne (value_ends close)) last (close_starts close) w k two.back in
-    comma_read close h one.mid w one.front two.front (begins_as (one_fails is_white (value_ends close) (ends_unwhite close)) starts) ∙ ap (field_or_close close w) closes.first ∙ close_read close w ∙ ap (λ q. Ok (None, q)) closes.behind
+    comma_read close h one.mid w one.front two.front (begins_as (one_fails is_white (value_ends close) (ends_unwhite close)) starts) ∙ ap (field_or_close close w) closes.first ∙ close_read close w ∙ ap (λ q. Ok (None, q)) closes.after_byte
 
 no_sign : (close : Closing) (b : ℕ) → is_name_byte b ≡ true → (b == closing_sign close) ≡ false
 no_sign close b is = other is_name_byte (closing_sign close) b (sign_no_name close) is
@@ -156,7 +156,7 @@ field_starts : (P : ℕ → Type 0) → ((b : ℕ) → is_name_byte b ≡ true �
 field_starts P of_name f s text x = starts_both P (NameOf f.name) (White ▸ Sign 61 ⋯ ValueOf f.value) (name_starts P (λ b d is. of_name b is) f.name) s text x.1
 
 field_at : (close : Closing) (s : Spot) (rest : List ℕ) → Begins (Fails (λ b. b == closing_sign close)) rest → field_or_close close (at s rest) (first rest) ≡ one_field close (at s rest)
-field_at close s rest b = subst (λ r. field_or_close close (at s r) (first r) ≡ one_field close (at s r)) (sym b.is) (ap (λ v. cond v (Ok (None, behind (at s (b.byte ∷ b.rest)))) (one_field close (at s (b.byte ∷ b.rest)))) b.fits)
+field_at close s rest b = subst (λ r. field_or_close close (at s r) (first r) ≡ one_field close (at s r)) (sym b.is) (ap (λ v. cond v (Ok (None, after_byte (at s (b.byte ∷ b.rest)))) (one_field close (at s (b.byte ∷ b.rest)))) b.fits)
 
 pub fields_to : (close : Closing) (fs front : List Field) (h k : Here) → Stands (FieldsOf close fs) h k → gathered front (all (next_field close) h) ≡ (front ++ fs, Ok k)
 fields_to close [] front h k x =

@@ -6,7 +6,7 @@ use Rattle.std.proofs.lemmas.Bool.{eq-eqb, ne_eqb, false≢true}
 use Rattle.bt_text.specs.ByteTests.{is_brace, left_brace, right_brace}
 use Rattle.bt_bib.specs.declared.spot.Spot.{Spot}
 use Rattle.bt_bib.specs.declared.enclosed.Turn.TheVariants as turns
-use Rattle.bt_bib.specs.Spot.{at, after, passed}
+use Rattle.bt_bib.specs.Spot.{at, spot_after_byte, spot_after}
 use Rattle.bt_bib.specs.inner.Enclosed.{turn}
 use Rattle.bt_bib.specs.Spelling.{IsEnclosed, Nothing, Byte, Group}
 use Rattle.bt_bib.specs.SpelledLaws.{EnclosedTextsAreRead}
@@ -50,44 +50,44 @@ down close d =
 shuts : (close : ℕ) → turn close 0 close ≡ turns.Closes
 shuts close = rw (eq-eqb close close refl) refl
 
-behind_group : (inner rest : List ℕ) (s : Spot) → passed rest (after right_brace (passed inner (after left_brace s))) ≡ passed (left_brace ∷ inner ++ right_brace ∷ rest) s
+behind_group : (inner rest : List ℕ) (s : Spot) → spot_after rest (spot_after_byte right_brace (spot_after inner (spot_after_byte left_brace s))) ≡ spot_after (left_brace ∷ inner ++ right_brace ∷ rest) s
 behind_group inner rest s =
-    sym (passed-cons left_brace (inner ++ right_brace ∷ rest) s ∙ passed-append inner (right_brace ∷ rest) (after left_brace s) ∙ passed-cons right_brace rest (passed inner (after left_brace s)))
+    sym (passed-cons left_brace (inner ++ right_brace ∷ rest) s ∙ passed-append inner (right_brace ∷ rest) (spot_after_byte left_brace s) ∙ passed-cons right_brace rest (spot_after inner (spot_after_byte left_brace s)))
 
 -- Between braces each text is passed that braces may enclose.
-deep : (close d c : ℕ) (s : Spot) (text rest : List ℕ) → IsEnclosed c text → enclosed_run close (suc d) s (text ++ rest) ≡ enclosed_run close (suc d) (passed text s) rest
+deep : (close d c : ℕ) (s : Spot) (text rest : List ℕ) → IsEnclosed c text → enclosed_run close (suc d) s (text ++ rest) ≡ enclosed_run close (suc d) (spot_after text s) rest
 deep close d c s text rest Nothing = ap (λ s. enclosed_run close (suc d) s rest) (sym (passed-nil s))
 deep close d c s text rest (Byte {b = b} {rest = bs} bare apart more) =
-    enclosed_cons close (suc d) s b (bs ++ rest) (turns.Goes (suc d)) (sym (same_deep close d b bare)) ∙ deep close d c (after b s) bs rest more ∙ ap (λ s. enclosed_run close (suc d) s rest) (sym (passed-cons b bs s))
+    enclosed_cons close (suc d) s b (bs ++ rest) (turns.Goes (suc d)) (sym (same_deep close d b bare)) ∙ deep close d c (spot_after_byte b s) bs rest more ∙ ap (λ s. enclosed_run close (suc d) s rest) (sym (passed-cons b bs s))
 deep close d c s text rest (Group {inner = i} {rest = u} inner more) =
-    let t = after left_brace s in
-    let last = passed i t in
+    let t = spot_after_byte left_brace s in
+    let last = spot_after i t in
     enclosed_cons close (suc d) s left_brace (i ++ right_brace ∷ u ++ rest) (turns.Goes (suc (suc d))) (sym (up_deep close d))
     ∙ ap (enclosed_run close (suc (suc d)) t) (append_assoc i (right_brace ∷ u) rest)
     ∙ deep close (suc d) right_brace t i (right_brace ∷ (u ++ rest)) inner
     ∙ enclosed_cons close (suc (suc d)) last right_brace (u ++ rest) (turns.Goes (suc d)) (sym (down close (suc d)))
-    ∙ deep close d c (after right_brace last) u rest more
+    ∙ deep close d c (spot_after_byte right_brace last) u rest more
     ∙ ap (λ s. enclosed_run close (suc d) s rest) (behind_group i u s)
 
-flat : (close : ℕ) (s : Spot) (text rest : List ℕ) → (close == left_brace) ≡ false → IsEnclosed close text → enclosed_run close 0 s (text ++ rest) ≡ enclosed_run close 0 (passed text s) rest
+flat : (close : ℕ) (s : Spot) (text rest : List ℕ) → (close == left_brace) ≡ false → IsEnclosed close text → enclosed_run close 0 s (text ++ rest) ≡ enclosed_run close 0 (spot_after text s) rest
 flat close s text rest other Nothing = ap (λ s. enclosed_run close 0 s rest) (sym (passed-nil s))
 flat close s text rest other (Byte {b = b} {rest = bs} bare apart more) =
-    enclosed_cons close 0 s b (bs ++ rest) (turns.Goes 0) (sym (same_flat close b bare apart)) ∙ flat close (after b s) bs rest other more ∙ ap (λ s. enclosed_run close 0 s rest) (sym (passed-cons b bs s))
+    enclosed_cons close 0 s b (bs ++ rest) (turns.Goes 0) (sym (same_flat close b bare apart)) ∙ flat close (spot_after_byte b s) bs rest other more ∙ ap (λ s. enclosed_run close 0 s rest) (sym (passed-cons b bs s))
 flat close s text rest other (Group {inner = i} {rest = u} inner more) =
-    let t = after left_brace s in
-    let last = passed i t in
+    let t = spot_after_byte left_brace s in
+    let last = spot_after i t in
     enclosed_cons close 0 s left_brace (i ++ right_brace ∷ u ++ rest) (turns.Goes 1) (sym (up_flat close other))
     ∙ ap (enclosed_run close 1 t) (append_assoc i (right_brace ∷ u) rest)
     ∙ deep close 0 right_brace t i (right_brace ∷ (u ++ rest)) inner
     ∙ enclosed_cons close 1 last right_brace (u ++ rest) (turns.Goes 0) (sym (down close 0))
-    ∙ flat close (after right_brace last) u rest other more
+    ∙ flat close (spot_after_byte right_brace last) u rest other more
     ∙ ap (λ s. enclosed_run close 0 s rest) (behind_group i u s)
 
 pub enclosed_texts_are_read : EnclosedTextsAreRead
 enclosed_texts_are_read close s text rest other is =
     let h = at s (text ++ close ∷ rest) in
-    let e = at (passed text s) (close ∷ rest) in
+    let e = at (spot_after text s) (close ∷ rest) in
     let size : s.place + length text - s.place ≡ length text = omega arith in
     enclosed_is_run close h
-    ∙ ap (taken h) (flat close s text (close ∷ rest) other is ∙ enclosed_cons close 0 (passed text s) close rest turns.Closes (sym (shuts close)))
+    ∙ ap (taken h) (flat close s text (close ∷ rest) other is ∙ enclosed_cons close 0 (spot_after text s) close rest turns.Closes (sym (shuts close)))
     ∙ ap (λ (t : List ℕ). Ok (t, e)) (ap (λ n. take n (text ++ close ∷ rest)) size ∙ take_at text (close ∷ rest) (length text) refl)

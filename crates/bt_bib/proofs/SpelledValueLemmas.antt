@@ -6,18 +6,18 @@ use Rattle.std.proofs.lemmas.Bool.{false≢true}
 use Rattle.bt_text.specs.ByteTests.{is_white, is_digit, left_brace, right_brace}
 use Rattle.bt_text.specs.NameBytes.{is_name_byte, is_name}
 use Rattle.bt_bib.specs.declared.spot.Spot.{Spot}
-use Rattle.bt_bib.specs.declared.fault.What.TheVariants.{FieldPart}
+use Rattle.bt_bib.specs.declared.fault.NameRole.TheVariants.{FieldPart}
 use Rattle.bt_bib.specs.declared.item.Closing.{Closing}
 use Rattle.bt_bib.specs.declared.item.Closing.TheVariants.{Brace, Parenthesis}
 use Rattle.bt_bib.specs.declared.item.Part.{Part}
 use Rattle.bt_bib.specs.declared.item.Part.TheVariants.{Text, Macro}
-use Rattle.bt_bib.specs.Spot.{Here, at, after, passed, behind}
-use Rattle.bt_bib.specs.Scan.{first, run, past, white, closing_sign}
+use Rattle.bt_bib.specs.Spot.{Here, at, spot_after_byte, spot_after, after_byte}
+use Rattle.bt_bib.specs.Scan.{first, run, after_run, after_white, closing_sign}
 use Rattle.bt_bib.specs.Stop.{Stop, ◌>>=◌}
 use Rattle.bt_bib.specs.Enclosed.{enclosed}
 use Rattle.bt_bib.specs.Names.{name}
 use Rattle.bt_bib.specs.Many.{all, collected}
-use Rattle.bt_bib.specs.Values.{part, part_ends, part_from, raw_part, joined, joined_from, value}
+use Rattle.bt_bib.specs.Values.{part, part_ends, part_from, raw_part, next_part, joined_from, value}
 use Rattle.bt_bib.specs.Spelling.{Spelling, ◌▸◌, ◌or◌, ◌⋯◌, Bytes, Written, White, Sign, IsEnclosed, MayEndName}
 use Rattle.bt_bib.specs.Spelled.{NameOf, Enclosed, is_number, PartOf, PartsOf, ValueOf}
 use Rattle.bt_bib.specs.SpelledLaws.{SpelledPartsAreRead, SpelledValuesAreRead, value_ends}
@@ -48,18 +48,18 @@ stops_digits close (b ∷ rest) h = or_cases (is_white b) (list_any (λ sign. si
 
 -- Texts between signs
 
-enclosed_at : (closing : ℕ) (text : List ℕ) → (closing == left_brace) ≡ false → (s : Spot) (t rest : List ℕ) → Bytes text (IsEnclosed closing text) s t → (tail : List ℕ) → rest ≡ closing ∷ tail → enclosed closing (at s (t ++ rest)) ≡ Ok (text, at (passed t s) rest)
+enclosed_at : (closing : ℕ) (text : List ℕ) → (closing == left_brace) ≡ false → (s : Spot) (t rest : List ℕ) → Bytes text (IsEnclosed closing text) s t → (tail : List ℕ) → rest ≡ closing ∷ tail → enclosed closing (at s (t ++ rest)) ≡ Ok (text, at (spot_after t s) rest)
 enclosed_at closing text other s t rest (Written is) tail e =
-    ap (λ r. enclosed closing (at s (text ++ r))) e ∙ enclosed_texts_are_read closing s text tail other is ∙ ap (λ r. Ok (text, at (passed text s) r)) (sym e)
+    ap (λ r. enclosed closing (at s (text ++ r))) e ∙ enclosed_texts_are_read closing s text tail other is ∙ ap (λ r. Ok (text, at (spot_after text s) r)) (sym e)
 
 -- a part whose text was read, after its closing sign
 abbrev pub text_part : List ℕ × Here → Result (Part × Here) Stop
-text_part x = Ok (Text x.0, behind x.1)
+text_part x = Ok (Text x.0, after_byte x.1)
 
 -- a text with its signs
 record Shut (opening closing : ℕ) (text : List ℕ) (h k : Here) : Type 0 where
   opens : first h.rest ≡ Some opening
-  reads : (enclosed closing (behind h) >>= text_part) ≡ Ok (Text text, k)
+  reads : (enclosed closing (after_byte h) >>= text_part) ≡ Ok (Text text, k)
 
 shut_to : (opening closing : ℕ) (text : List ℕ) (h k : Here) → (closing == left_brace) ≡ false → Stands (Enclosed opening closing text) h k → Shut opening closing text h k
 shut_to opening closing text h k apart x =
@@ -71,7 +71,7 @@ shut_to opening closing text h k apart x =
     let read : enclosed closing one.mid ≡ Ok (text, two.mid) = standing inside (λ h k. (tail : List ℕ) → k.rest ≡ closing ∷ tail → enclosed closing h ≡ Ok (text, k)) (enclosed_at closing text apart) one.mid two.mid two.front k.rest closes.is in
     record {
       opens = opens.first;
-      reads = ap (λ q. enclosed closing q >>= text_part) opens.behind ∙ ap (λ (r : Result (List ℕ × Here) Stop). r >>= text_part) read ∙ ap (λ q. Ok (Text text, q)) closes.behind;
+      reads = ap (λ q. enclosed closing q >>= text_part) opens.after_byte ∙ ap (λ (r : Result (List ℕ × Here) Stop). r >>= text_part) read ∙ ap (λ q. Ok (Text text, q)) closes.after_byte;
     }
 
 -- Numbers and macro names
@@ -82,14 +82,14 @@ third a b c w x y z p q r = ap (λ v. cond v w (cond b x (cond c y z))) p ∙ ap
 fourth : {X : Type 0} (a b c d : Bool) (v w x y z : X) → a ≡ false → b ≡ false → c ≡ false → d ≡ true → cond a v (cond b w (cond c x (cond d y z))) ≡ y
 fourth a b c d v w x y z p q r s = ap (λ u. cond u v (cond b w (cond c x (cond d y z)))) p ∙ third b c d w x y z q r s
 
-number_at : (close : Closing) (text : List ℕ) (s : Spot) (t rest : List ℕ) → Bytes text (is_number text ≡ true) s t → MayEndName (part_ends close) rest → raw_part close (at s (t ++ rest)) ≡ Ok (Text text, at (passed t s) rest)
+number_at : (close : Closing) (text : List ℕ) (s : Spot) (t rest : List ℕ) → Bytes text (is_number text ≡ true) s t → MayEndName (part_ends close) rest → raw_part close (at s (t ++ rest)) ≡ Ok (Text text, at (spot_after t s) rest)
 number_at close [] s t rest (Written is) ends = absurd (false≢true is)
 number_at close (b ∷ bs) s t rest (Written is) ends =
     let h = at s (b ∷ bs ++ rest) in
     let stop = stops_digits close rest ends in
     let digit : is_digit b ≡ true = and_first (is_digit b) (list_all is_digit bs) is in
-    third (b == left_brace) (b == 34) (is_digit b) _ _ (Ok (Text (run is_digit h), past is_digit h)) _ (other is_digit left_brace b refl digit) (other is_digit 34 b refl digit) digit
-    ∙ ap (λ t. Ok (Text t, past is_digit h)) (run_is is_digit (b ∷ bs) rest is stop) ∙ ap (λ k. Ok (Text (b ∷ bs), k)) (past_to is_digit s (b ∷ bs) rest is stop)
+    third (b == left_brace) (b == 34) (is_digit b) _ _ (Ok (Text (run is_digit h), after_run is_digit h)) _ (other is_digit left_brace b refl digit) (other is_digit 34 b refl digit) digit
+    ∙ ap (λ t. Ok (Text t, after_run is_digit h)) (run_is is_digit (b ∷ bs) rest is stop) ∙ ap (λ k. Ok (Text (b ∷ bs), k)) (past_to is_digit s (b ∷ bs) rest is stop)
 
 pub starts_name : (b : ℕ) (text : List ℕ) → is_name (b ∷ text) ≡ true → (is_digit b ≡ false) × (is_name_byte b ≡ true)
 starts_name b text is =
@@ -97,7 +97,7 @@ starts_name b text is =
     let named : is_name_byte b ≡ true = and_first (is_name_byte b) (list_all is_name_byte text) all in
     (passes_one (is_digit b) (not (is_digit b)) (λ e. ap not e) (and_first (not (is_digit b)) (list_all is_name_byte (b ∷ text)) is), named)
 
-macro_at : (close : Closing) (n : List ℕ) (s : Spot) (t rest : List ℕ) → NameOf n s t → MayEndName (part_ends close) rest → raw_part close (at s (t ++ rest)) ≡ Ok (Macro n s.line, at (passed t s) rest)
+macro_at : (close : Closing) (n : List ℕ) (s : Spot) (t rest : List ℕ) → NameOf n s t → MayEndName (part_ends close) rest → raw_part close (at s (t ++ rest)) ≡ Ok (Macro n s.line, at (spot_after t s) rest)
 macro_at close [] s t rest (Written is) ends = absurd (false≢true is)
 macro_at close (b ∷ bs) s t rest (Written is) ends =
     let h = at s (b ∷ bs ++ rest) in
@@ -124,12 +124,12 @@ unfolding part
 part_to close p h m k x w b =
     let signs = part_ends close in
     let ends : MayEndName signs m.rest = ends_from signs m.rest (white_front (MayEnd signs) (may_white signs) m k w (begins_as (may_one signs) b)) in
-    ap (λ (r : Result (Part × Here) Stop). r >>= λ x. Ok (x.0, white x.1)) (raw_to close p h m x ends) ∙ ap (λ q. Ok (p, q)) (white_to m k w (begins_as (one_fails is_white signs (ends_unwhite close)) b))
+    ap (λ (r : Result (Part × Here) Stop). r >>= λ x. Ok (x.0, after_white x.1)) (raw_to close p h m x ends) ∙ ap (λ q. Ok (p, q)) (white_to m k w (begins_as (one_fails is_white signs (ends_unwhite close)) b))
 
 pub spelled_parts_are_read : SpelledPartsAreRead
 spelled_parts_are_read close p s text rest a b =
     let h = at s (text ++ rest) in
-    let k = at (passed text s) rest in
+    let k = at (spot_after text s) rest in
     let x = split (PartOf p) White h k (stands_at (PartOf p ▸ White) s text rest a) in
     part_to close p h x.mid k x.front x.back (one_begins (part_ends close) rest b)
 
@@ -168,14 +168,14 @@ value_starts (p ∷ ps) = parts_start p ps
 
 -- the parts from here on after some others
 abbrev pub parts_from : Closing → List Part → Here → Result (List Part × Here) Stop
-parts_from close front h = collected front (all (joined close) h)
+parts_from close front h = collected front (all (next_part close) h)
 
-pub one_more : (close : Closing) (front : List Part) (h : Here) (r : Result (Part × Here) Stop) → joined close h ≡ (r >>= λ x. Ok (Some x.0, x.1)) → parts_from close front h ≡ (r >>= λ x. parts_from close (front ++ x.0 ∷ []) x.1)
-one_more close front h (Ok (p, k)) is = ap read_out (sym (gathers_more (joined close) (joined_less close) front p h k is))
-one_more close front h (Err stop) is = ap read_out (gathers_err (joined close) (joined_less close) front h stop is)
+pub one_more : (close : Closing) (front : List Part) (h : Here) (r : Result (Part × Here) Stop) → next_part close h ≡ (r >>= λ x. Ok (Some x.0, x.1)) → parts_from close front h ≡ (r >>= λ x. parts_from close (front ++ x.0 ∷ []) x.1)
+one_more close front h (Ok (p, k)) is = ap read_out (sym (gathers_more (next_part close) (joined_less close) front p h k is))
+one_more close front h (Err stop) is = ap read_out (gathers_err (next_part close) (joined_less close) front h stop is)
 
-joined_at : (close : Closing) (h : Here) → first h.rest ≡ Some 35 → joined close h ≡ (part close (white (behind h)) >>= λ x. Ok (Some x.0, x.1))
-unfolding joined
+joined_at : (close : Closing) (h : Here) → first h.rest ≡ Some 35 → next_part close h ≡ (part close (after_white (after_byte h)) >>= λ x. Ok (Some x.0, x.1))
+unfolding next_part
 joined_at close h is = ap (joined_from close h) is
 
 abbrev pub another : Closing → Here → Result (Option Part × Here) Stop
@@ -185,12 +185,12 @@ unsharp : (close : Closing) → FailsAll (λ b. b == 35) (value_ends close)
 unsharp Brace = refl
 unsharp Parenthesis = refl
 
-no_more_at : (close : Closing) (s : Spot) (rest : List ℕ) → Begins (IsOne (value_ends close)) rest → joined close (at s rest) ≡ Ok (None, at s rest)
-unfolding joined
-no_more_at close s rest b = subst (λ r. joined close (at s r) ≡ Ok (None, at s r)) (sym b.is) (ap (λ v. cond v (another close (white (at (after b.byte s) b.rest))) (Ok (None, at s (b.byte ∷ b.rest)))) (one_fails (λ b. b == 35) (value_ends close) (unsharp close) b.byte b.fits))
+no_more_at : (close : Closing) (s : Spot) (rest : List ℕ) → Begins (IsOne (value_ends close)) rest → next_part close (at s rest) ≡ Ok (None, at s rest)
+unfolding next_part
+no_more_at close s rest b = subst (λ r. next_part close (at s r) ≡ Ok (None, at s r)) (sym b.is) (ap (λ v. cond v (another close (after_white (at (spot_after_byte b.byte s) b.rest))) (Ok (None, at s (b.byte ∷ b.rest)))) (one_fails (λ b. b == 35) (value_ends close) (unsharp close) b.byte b.fits))
 
 no_more : (close : Closing) (front : List Part) (h : Here) → Begins (IsOne (value_ends close)) h.rest → parts_from close front h ≡ Ok (front, h)
-no_more close front h b = ap read_out (gathers_none (joined close) (joined_less close) front h h (no_more_at close h.spot h.rest b))
+no_more close front h b = ap read_out (gathers_none (next_part close) (joined_less close) front h h (no_more_at close h.spot h.rest b))
 
 -- what ends a value ends a part
 part_ends_so : (close : Closing) (b : ℕ) → IsOne (value_ends close) b → IsOne (part_ends close) b
@@ -213,8 +213,8 @@ parts_to close p (q ∷ ps) front h m k x w b =
     let longer = front ++ p ∷ [] in
     let ends : Begins (IsOne (part_ends close)) two.mid.rest = record { byte = 35; rest = three.mid.rest; is = sharp.is; fits = refl } in
     ap (λ (r : Result (Part × Here) Stop). r >>= next front) (part_to close p h one.mid two.mid one.front two.front ends)
-    ∙ one_more close longer two.mid (part close (white (behind two.mid))) (joined_at close two.mid sharp.first)
-    ∙ ap (λ k. part close (white k) >>= next longer) sharp.behind
+    ∙ one_more close longer two.mid (part close (after_white (after_byte two.mid))) (joined_at close two.mid sharp.first)
+    ∙ ap (λ k. part close (after_white k) >>= next longer) sharp.after_byte
     ∙ ap (λ k. part close k >>= next longer) (white_to three.mid four.mid four.front (begins_here (Fails is_white) others (parts_start q ps) four.mid m four.back))
     ∙ parts_to close q ps longer four.mid m k four.back w b
     ∙ ap (λ l. Ok (l, k)) (append_assoc front (p ∷ []) (q ∷ ps))
@@ -228,6 +228,6 @@ value_to close (p ∷ ps) h m k x w b = parts_to close p ps [] h m k x w b
 pub spelled_values_are_read : SpelledValuesAreRead
 spelled_values_are_read close ps s text rest a b =
     let h = at s (text ++ rest) in
-    let k = at (passed text s) rest in
+    let k = at (spot_after text s) rest in
     let x = split (ValueOf ps) White h k (stands_at (ValueOf ps ▸ White) s text rest a) in
     value_to close ps h x.mid k x.front x.back (one_begins (value_ends close) rest b)

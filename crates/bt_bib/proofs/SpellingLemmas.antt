@@ -7,11 +7,11 @@ use Rattle.std.proofs.lemmas.List.Sums.{take_while-cons}
 use Rattle.bt_text.specs.ByteTests.{is_white, is_digit}
 use Rattle.bt_text.specs.NameBytes.{is_name_byte, is_name}
 use Rattle.bt_bib.specs.declared.spot.Spot.{Spot}
-use Rattle.bt_bib.specs.declared.fault.Fault.{Fault}
-use Rattle.bt_bib.specs.declared.fault.What.{What}
-use Rattle.bt_bib.specs.declared.fault.Fault.TheVariants.{BadNameEnd, MissingName}
-use Rattle.bt_bib.specs.Spot.{Here, at, after, passed, behind}
-use Rattle.bt_bib.specs.Scan.{first, run, past, white, sign}
+use Rattle.bt_bib.specs.declared.fault.ItemFault.{ItemFault}
+use Rattle.bt_bib.specs.declared.fault.NameRole.{NameRole}
+use Rattle.bt_bib.specs.declared.fault.ItemFault.TheVariants.{BadNameEnd, MissingName}
+use Rattle.bt_bib.specs.Spot.{Here, at, spot_after_byte, spot_after, after_byte}
+use Rattle.bt_bib.specs.Scan.{first, run, after_run, after_white, sign}
 use Rattle.bt_bib.specs.Stop.{Stop, ◌>>=◌}
 use Rattle.bt_bib.specs.Names.{word, name_ended, name}
 use Rattle.bt_bib.specs.Spelling.{Spelling, ◌▸◌, Both, ◌or◌, This, That, Bytes, Written, White, Sign, OnLine, BeginsBy, MayEndName}
@@ -25,13 +25,13 @@ pub record Stands (A : Spelling) (h k : Here) : Type 0 where
   pub text : List ℕ
   pub spelled : A h.spot text
   pub rest : h.rest ≡ text ++ k.rest
-  pub spot : k.spot ≡ passed text h.spot
+  pub spot : k.spot ≡ spot_after text h.spot
 
-pub stands_at : (A : Spelling) (s : Spot) (text rest : List ℕ) → A s text → Stands A (at s (text ++ rest)) (at (passed text s) rest)
+pub stands_at : (A : Spelling) (s : Spot) (text rest : List ℕ) → A s text → Stands A (at s (text ++ rest)) (at (spot_after text s) rest)
 stands_at A s text rest a = record { text = text; spelled = a; rest = refl; spot = refl }
 
 -- what holds of each such text before any others
-pub standing : (A : Spelling) (P : Here → Here → Type 0) → ((s : Spot) (text rest : List ℕ) → A s text → P (at s (text ++ rest)) (at (passed text s) rest)) → (h k : Here) → Stands A h k → P h k
+pub standing : (A : Spelling) (P : Here → Here → Type 0) → ((s : Spot) (text rest : List ℕ) → A s text → P (at s (text ++ rest)) (at (spot_after text s) rest)) → (h k : Here) → Stands A h k → P h k
 standing A P f h k x =
     let on_text : List ℕ → Type 0 = λ r. P (at h.spot r) k in
     let on_spot : Spot → Type 0 = λ s. P (at h.spot (x.text ++ k.rest)) (at s k.rest) in
@@ -43,9 +43,9 @@ pub record Split (A B : Spelling) (h k : Here) : Type 0 where
   pub front : Stands A h mid
   pub back : Stands B mid k
 
-split_at : (A B : Spelling) (s : Spot) (text rest : List ℕ) → (A ▸ B) s text → Split A B (at s (text ++ rest)) (at (passed text s) rest)
+split_at : (A B : Spelling) (s : Spot) (text rest : List ℕ) → (A ▸ B) s text → Split A B (at s (text ++ rest)) (at (spot_after text s) rest)
 split_at A B s text rest (Both {front = t} {back = u} a b) = record {
-  mid = at (passed t s) (u ++ rest);
+  mid = at (spot_after t s) (u ++ rest);
   front = record { text = t; spelled = a; rest = append_assoc t u rest; spot = refl };
   back = record { text = u; spelled = b; rest = refl; spot = passed-append t u s };
 }
@@ -69,8 +69,8 @@ begins_on text rest b = record { byte = b.byte; rest = b.rest ++ rest; is = ap (
 pub starts_both : (P : ℕ → Type 0) (A B : Spelling) → Starts P A → Starts P (A ▸ B)
 starts_both P A B k s text (Both {front = t} {back = u} a b) = begins_on t u (k s t a)
 
-white_by : (P : ℕ → Type 0) (A : Spelling) → ((b : ℕ) → is_white b ≡ true → P b) → Starts P A → (s : Spot) (w text : List ℕ) → White s w → A (passed w s) text → Begins P (w ++ text)
-white_by P A of_white k s [] text w a = k (passed [] s) text a
+white_by : (P : ℕ → Type 0) (A : Spelling) → ((b : ℕ) → is_white b ≡ true → P b) → Starts P A → (s : Spot) (w text : List ℕ) → White s w → A (spot_after w s) text → Begins P (w ++ text)
+white_by P A of_white k s [] text w a = k (spot_after [] s) text a
 white_by P A of_white k s (b ∷ bs) text w a = record { byte = b; rest = bs ++ text; is = refl; fits = of_white b (and_first (is_white b) (list_all is_white bs) w) }
 
 pub starts_white : (P : ℕ → Type 0) (A : Spelling) → ((b : ℕ) → is_white b ≡ true → P b) → Starts P A → Starts P (White ▸ A)
@@ -98,7 +98,7 @@ white_front P of_white h k x b = standing White (λ h k. Begins P k.rest → Beg
 pub on_line : (line : ℕ) (A : Spelling) (h k : Here) → Stands (OnLine line A) h k → (line ≡ h.spot.line) × Stands A h k
 on_line line A h k x = (x.spelled.0, record { text = x.text; spelled = x.spelled.1; rest = x.rest; spot = x.spot })
 
-either_at : {X : Type 0} (A B : Spelling) (s : Spot) (rest : List ℕ) (k : Here) (text : List ℕ) → (A or B) s text → rest ≡ text ++ k.rest → k.spot ≡ passed text s → (Stands A (at s rest) k → X) → (Stands B (at s rest) k → X) → X
+either_at : {X : Type 0} (A B : Spelling) (s : Spot) (rest : List ℕ) (k : Here) (text : List ℕ) → (A or B) s text → rest ≡ text ++ k.rest → k.spot ≡ spot_after text s → (Stands A (at s rest) k → X) → (Stands B (at s rest) k → X) → X
 either_at A B s rest k text (This a) r e f g = f (record { text = text; spelled = a; rest = r; spot = e })
 either_at A B s rest k text (That b) r e f g = g (record { text = text; spelled = b; rest = r; spot = e })
 
@@ -179,14 +179,14 @@ pub one_begins : (signs rest : List ℕ) → BeginsBy signs rest → Begins (IsO
 one_begins signs [] h = absurd h
 one_begins signs (b ∷ rest) h = record { byte = b; rest = rest; is = refl; fits = h }
 
-run_to : (test : ℕ → Bool) (s : Spot) (text rest : List ℕ) → list_all test text ≡ true → Stops test rest → past_run test s (text ++ rest) ≡ at (passed text s) rest
+run_to : (test : ℕ → Bool) (s : Spot) (text rest : List ℕ) → list_all test text ≡ true → Stops test rest → past_run test s (text ++ rest) ≡ at (spot_after text s) rest
 unfolding past_run
 run_to test s [] [] all stop = ap (λ u. at u []) (sym (passed-nil s))
 run_to test s [] (b ∷ rest) all stop = run_stop test s b rest stop ∙ ap (λ u. at u (b ∷ rest)) (sym (passed-nil s))
 run_to test s (b ∷ text) rest all stop =
-    run_more test s b (text ++ rest) (and_first (test b) (list_all test text) all) ∙ run_to test (after b s) text rest (and_second (test b) (list_all test text) all) stop ∙ ap (λ u. at u rest) (sym (passed-cons b text s))
+    run_more test s b (text ++ rest) (and_first (test b) (list_all test text) all) ∙ run_to test (spot_after_byte b s) text rest (and_second (test b) (list_all test text) all) stop ∙ ap (λ u. at u rest) (sym (passed-cons b text s))
 
-pub past_to : (test : ℕ → Bool) (s : Spot) (text rest : List ℕ) → list_all test text ≡ true → Stops test rest → past test (at s (text ++ rest)) ≡ at (passed text s) rest
+pub past_to : (test : ℕ → Bool) (s : Spot) (text rest : List ℕ) → list_all test text ≡ true → Stops test rest → after_run test (at s (text ++ rest)) ≡ at (spot_after text s) rest
 past_to test s text rest all stop = past_is_run test s (text ++ rest) ∙ run_to test s text rest all stop
 
 pub run_is : (test : ℕ → Bool) (text rest : List ℕ) → list_all test text ≡ true → Stops test rest → take_while test (text ++ rest) ≡ text
@@ -195,35 +195,35 @@ run_is test [] (b ∷ rest) all stop = take_while-cons test b rest ∙ ap (λ v.
 run_is test (b ∷ text) rest all stop =
     take_while-cons test b (text ++ rest) ∙ ap (λ v. cond v (b ∷ take_while test (text ++ rest)) []) (and_first (test b) (list_all test text) all) ∙ ap (λ (l : List ℕ). b ∷ l) (run_is test text rest (and_second (test b) (list_all test text) all) stop)
 
-pub white_to : (h k : Here) → Stands White h k → Begins (Fails is_white) k.rest → white h ≡ k
-white_to h k x stop = standing White (λ h k. Begins (Fails is_white) k.rest → white h ≡ k) (λ s text rest all stop. past_to is_white s text rest all (stops_from is_white rest stop)) h k x stop
+pub white_to : (h k : Here) → Stands White h k → Begins (Fails is_white) k.rest → after_white h ≡ k
+white_to h k x stop = standing White (λ h k. Begins (Fails is_white) k.rest → after_white h ≡ k) (λ s text rest all stop. past_to is_white s text rest all (stops_from is_white rest stop)) h k x stop
 
 -- Signs
 
-pub sign_passed : (b : ℕ) (s : Spot) → after b s ≡ passed (b ∷ []) s
-sign_passed b s = sym (passed-cons b [] s ∙ passed-nil (after b s))
+pub sign_passed : (b : ℕ) (s : Spot) → spot_after_byte b s ≡ spot_after (b ∷ []) s
+sign_passed b s = sym (passed-cons b [] s ∙ passed-nil (spot_after_byte b s))
 
 -- the sign stands here, and after it what follows
 pub record OneStands (b : ℕ) (h k : Here) : Type 0 where
   pub is : h.rest ≡ b ∷ k.rest
   pub first : first h.rest ≡ Some b
-  pub behind : behind h ≡ k
+  pub after_byte : after_byte h ≡ k
 
-sign_at : (b : ℕ) (s : Spot) (text rest : List ℕ) → Sign b s text → OneStands b (at s (text ++ rest)) (at (passed text s) rest)
-sign_at b s text rest (Written u) = record { is = refl; first = refl; behind = ap (λ s. at s rest) (sign_passed b s) }
+sign_at : (b : ℕ) (s : Spot) (text rest : List ℕ) → Sign b s text → OneStands b (at s (text ++ rest)) (at (spot_after text s) rest)
+sign_at b s text rest (Written u) = record { is = refl; first = refl; after_byte = ap (λ s. at s rest) (sign_passed b s) }
 
 pub sign_stands : (b : ℕ) (h k : Here) → Stands (Sign b) h k → OneStands b h k
 sign_stands b h k x = standing (Sign b) (OneStands b) (sign_at b) h k x
 
-sign_by : (b : ℕ) (fault : Fault) (s : Spot) (rest : List ℕ) → sign b fault (at s (b ∷ rest)) ≡ Ok (at (after b s) rest)
+sign_by : (b : ℕ) (fault : ItemFault) (s : Spot) (rest : List ℕ) → sign b fault (at s (b ∷ rest)) ≡ Ok (at (spot_after_byte b s) rest)
 unfolding sign
-sign_by b fault s rest = ap (λ v. cond v (Ok (at (after b s) rest)) (Err (fault, at s (b ∷ rest)))) (eq-eqb b b refl)
+sign_by b fault s rest = ap (λ v. cond v (Ok (at (spot_after_byte b s) rest)) (Err (fault, at s (b ∷ rest)))) (eq-eqb b b refl)
 
-pub sign_to : (b : ℕ) (fault : Fault) (h k : Here) → Stands (Sign b) h k → sign b fault h ≡ Ok k
+pub sign_to : (b : ℕ) (fault : ItemFault) (h k : Here) → Stands (Sign b) h k → sign b fault h ≡ Ok k
 sign_to b fault h k x =
     let one = sign_stands b h k x in
     let here_is : h ≡ at h.spot (b ∷ k.rest) = ap (at h.spot) one.is in
-    ap (sign b fault) here_is ∙ sign_by b fault h.spot k.rest ∙ ap (λ k. Ok k) (ap behind (sym here_is) ∙ one.behind)
+    ap (sign b fault) here_is ∙ sign_by b fault h.spot k.rest ∙ ap (λ k. Ok k) (ap after_byte (sym here_is) ∙ one.after_byte)
 
 -- Names
 
@@ -232,15 +232,15 @@ first_of_name b text is =
     let all = and_second (not (is_digit b)) (list_all is_name_byte (b ∷ text)) is in
     ap (λ v. v && not (is_digit b)) (and_first (is_name_byte b) (list_all is_name_byte text) all) ∙ and_first (not (is_digit b)) (list_all is_name_byte (b ∷ text)) is
 
-pub word_to : (what : What) (s : Spot) (text rest : List ℕ) → is_name text ≡ true → Stops is_name_byte rest → word what (at s (text ++ rest)) ≡ Ok (text, at (passed text s) rest)
+pub word_to : (what : NameRole) (s : Spot) (text rest : List ℕ) → is_name text ≡ true → Stops is_name_byte rest → word what (at s (text ++ rest)) ≡ Ok (text, at (spot_after text s) rest)
 unfolding word
 word_to what s [] rest is stop = absurd (false≢true is)
 word_to what s (b ∷ text) rest is stop =
     let h = at s (b ∷ text ++ rest) in
     let all = and_second (not (is_digit b)) (list_all is_name_byte (b ∷ text)) is in
-    ap (λ v. cond v (Ok (run is_name_byte h, past is_name_byte h)) (Err (MissingName what, h))) (first_of_name b text is) ∙ ap (λ t. Ok (t, past is_name_byte h)) (run_is is_name_byte (b ∷ text) rest all stop) ∙ ap (λ k. Ok (b ∷ text, k)) (past_to is_name_byte s (b ∷ text) rest all stop)
+    ap (λ v. cond v (Ok (run is_name_byte h, after_run is_name_byte h)) (Err (MissingName what, h))) (first_of_name b text is) ∙ ap (λ t. Ok (t, after_run is_name_byte h)) (run_is is_name_byte (b ∷ text) rest all stop) ∙ ap (λ k. Ok (b ∷ text, k)) (past_to is_name_byte s (b ∷ text) rest all stop)
 
-pub ended_to : (what : What) (signs : List ℕ) (s : Spot) (rest : List ℕ) → MayEndName signs rest → name_ended what signs (at s rest) ≡ Ok (at s rest)
+pub ended_to : (what : NameRole) (signs : List ℕ) (s : Spot) (rest : List ℕ) → MayEndName signs rest → name_ended what signs (at s rest) ≡ Ok (at s rest)
 unfolding name_ended
 ended_to what signs s [] h = refl
 ended_to what signs s (b ∷ rest) h = ap (λ v. cond v (Ok (at s (b ∷ rest))) (Err (BadNameEnd what b, at s (b ∷ rest)))) h
@@ -256,10 +256,10 @@ bare signs (b ∷ rest) all h = or_cases (is_white b) (list_any (λ sign. sign =
 abbrev pub NameAt : List ℕ → Spelling
 NameAt text = Bytes text (is_name text ≡ true)
 
-pub name_at : (what : What) (signs text : List ℕ) → AreBare signs → (s : Spot) (t rest : List ℕ) → NameAt text s t → MayEndName signs rest → name what signs (at s (t ++ rest)) ≡ Ok (text, at (passed t s) rest)
+pub name_at : (what : NameRole) (signs text : List ℕ) → AreBare signs → (s : Spot) (t rest : List ℕ) → NameAt text s t → MayEndName signs rest → name what signs (at s (t ++ rest)) ≡ Ok (text, at (spot_after t s) rest)
 unfolding name
 name_at what signs text all s t rest (Written is) ends =
-    ap (λ (r : Result (List ℕ × Here) Stop). r >>= λ w. name_ended what signs w.1 >>= λ end. Ok (w.0, end)) (word_to what s text rest is (bare signs rest all ends)) ∙ ap (λ (r : Result Here Stop). r >>= λ end. Ok (text, end)) (ended_to what signs (passed text s) rest ends)
+    ap (λ (r : Result (List ℕ × Here) Stop). r >>= λ w. name_ended what signs w.1 >>= λ end. Ok (w.0, end)) (word_to what s text rest is (bare signs rest all ends)) ∙ ap (λ (r : Result Here Stop). r >>= λ end. Ok (text, end)) (ended_to what signs (spot_after text s) rest ends)
 
-pub name_to : (what : What) (signs text : List ℕ) (h k : Here) → AreBare signs → Stands (NameAt text) h k → MayEndName signs k.rest → name what signs h ≡ Ok (text, k)
+pub name_to : (what : NameRole) (signs text : List ℕ) (h k : Here) → AreBare signs → Stands (NameAt text) h k → MayEndName signs k.rest → name what signs h ≡ Ok (text, k)
 name_to what signs text h k all x ends = standing (NameAt text) (λ h k. MayEndName signs k.rest → name what signs h ≡ Ok (text, k)) (name_at what signs text all) h k x ends

@@ -4,7 +4,7 @@ use Rattle.bt_bib.specs.Scan.{sign}
 use Rattle.bt_bib.specs.Enclosed.{enclosed}
 use Rattle.bt_bib.specs.Names.{word, name_ended, name}
 use Rattle.bt_bib.specs.Many.{many}
-use Rattle.bt_bib.specs.Values.{part, joined, value}
+use Rattle.bt_bib.specs.Values.{part, next_part, value}
 use Rattle.bt_bib.specs.Fields.{field, next_field}
 use Rattle.bt_bib.specs.Pieces.{opening, piece, next_piece}
 use Rattle.bt_bib.specs.Reading.{pieces_of}
@@ -29,21 +29,21 @@ two_entries : length two ≡ 44
 two_entries = refl
 
 in_the_second : reread 40 41 (codes "C") ≡ (21, 43, 22)
-unfolding sign enclosed word name_ended name many part joined value field next_field opening piece next_piece pieces_of
+unfolding sign enclosed word name_ended name many part next_part value field next_field opening piece next_piece pieces_of
 in_the_second = refl
 
 in_the_first : reread 18 19 (codes "C") ≡ (0, 21, 21)
-unfolding sign enclosed word name_ended name many part joined value field next_field opening piece next_piece pieces_of
+unfolding sign enclosed word name_ended name many part next_part value field next_field opening piece next_piece pieces_of
 in_the_first = refl
 
 the_last_brace_of_the_first : reread 20 21 [] ≡ (0, 42, 42)
-unfolding sign enclosed word name_ended name many part joined value field next_field opening piece next_piece pieces_of
+unfolding sign enclosed word name_ended name many part next_part value field next_field opening piece next_piece pieces_of
 the_last_brace_of_the_first = refl
 
 both_braces_of_the_first : reread 19 21 [] ≡ (0, 42, 42)
-unfolding sign enclosed word name_ended name many part joined value field next_field opening piece next_piece pieces_of
+unfolding sign enclosed word name_ended name many part next_part value field next_field opening piece next_piece pieces_of
 both_braces_of_the_first = refl
 
 in_front_of_both : reread 0 0 (codes "\n\n") ≡ (0, 23, 23)
-unfolding sign enclosed word name_ended name many part joined value field next_field opening piece next_piece pieces_of
+unfolding sign enclosed word name_ended name many part next_part value field next_field opening piece next_piece pieces_of
 in_front_of_both = refl

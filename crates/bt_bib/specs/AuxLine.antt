@@ -15,15 +15,15 @@ abbrev pub is_line_end : ℕ → Bool
 is_line_end b = b == 10
 
 -- what a line that counts begins with
-abbrev pub word : Command → List ℕ
-word Citation = codes "\\citation{"
-word Database = codes "\\bibdata{"
-word Style = codes "\\bibstyle{"
-word Nested = codes "\\@input{"
+abbrev pub opening_of : Command → List ℕ
+opening_of Citation = codes "\\citation{"
+opening_of Database = codes "\\bibdata{"
+opening_of Style = codes "\\bibstyle{"
+opening_of Nested = codes "\\@input{"
 
 -- whether a line begins with a command
 abbrev pub begins : Command → List ℕ → Bool
-begins c line = starts_with eqb line (word c)
+begins c line = starts_with eqb line (opening_of c)
 
 -- the command of a line that counts
 abbrev pub command_of : List ℕ → Option Command
@@ -44,7 +44,7 @@ parting Nested = Whole
 -- a line that counts
 abbrev pub item : ℕ → List ℕ → Command → AuxItem
 item n line c =
-    let rest = drop (length (word c)) line in
+    let rest = drop (length (opening_of c)) line in
     record { line = n; command = c; parts = argument_parts (parting c) rest; fault = fault_of rest }
 
 -- a line before later ones, if it counts

@@ -1,8 +1,8 @@
 -- What braces and quotes enclose.
 use Rattle.std.specs.Prelude.{ℕ, Bool, ◌&&◌, ◌||◌, ◌==◌, List, [], ◌∷◌, ◌++◌, count_by, Option, Some, None, Result, Ok, Err, if◌then◌else◌}
 use Rattle.bt_text.specs.ByteTests.{left_brace, right_brace}
-use Rattle.bt_bib.specs.declared.fault.Fault.TheVariants.{EndOfFile, UnbalancedBraces}
-use Rattle.bt_bib.specs.Spot.{Here, beyond}
+use Rattle.bt_bib.specs.declared.fault.ItemFault.TheVariants.{EndOfFile, UnbalancedBraces}
+use Rattle.bt_bib.specs.Spot.{Here, after_bytes}
 use Rattle.bt_bib.specs.Scan.{first}
 use Rattle.bt_bib.specs.Stop.{Stop}
 
@@ -25,4 +25,4 @@ enclosed_by close text end (Some b) = if b == close then Ok (text, end) else Err
 
 -- what stands before the byte that closes it, and that byte; a right brace that has no left one is a fault
 unfoldable pub enclosed : ℕ → Here → Result (List ℕ × Here) Stop
-enclosed close h = (let text = enclosed_text close [] h.rest in enclosed_by close text (beyond text h) (first (beyond text h).rest))
+enclosed close h = (let text = enclosed_text close [] h.rest in enclosed_by close text (after_bytes text h) (first (after_bytes text h).rest))

@@ -1,11 +1,11 @@
 -- The fields of an entry: `, field = value` any number of times, with a comma before the end allowed.
 use Rattle.std.specs.Prelude.{ℕ, ◌==◌, List, [], ◌∷◌, Option, Some, None, Result, Ok, Err, if◌then◌else◌}
-use Rattle.bt_bib.specs.declared.fault.Fault.TheVariants.{EndOfFile, ExpectedCommaOrClose, ExpectedEquals}
-use Rattle.bt_bib.specs.declared.fault.What.TheVariants.{FieldName}
+use Rattle.bt_bib.specs.declared.fault.ItemFault.TheVariants.{EndOfFile, ExpectedCommaOrClose, ExpectedEquals}
+use Rattle.bt_bib.specs.declared.fault.NameRole.TheVariants.{FieldName}
 use Rattle.bt_bib.specs.declared.item.Closing.{Closing}
 use Rattle.bt_bib.specs.declared.item.Field.{Field}
-use Rattle.bt_bib.specs.Spot.{Here, behind}
-use Rattle.bt_bib.specs.Scan.{first, white, sign, closing_sign}
+use Rattle.bt_bib.specs.Spot.{Here, after_byte}
+use Rattle.bt_bib.specs.Scan.{first, after_white, sign, closing_sign}
 use Rattle.bt_bib.specs.Stop.{Stop, ◌>>=◌}
 use Rattle.bt_bib.specs.Names.{name}
 use Rattle.bt_bib.specs.Values.{value}
@@ -18,20 +18,20 @@ name_ends = 61 ∷ []
 unfoldable pub field : Closing → Here → Result (Field × Here) Stop
 field close h =
     name FieldName name_ends h >>= λ n.
-    sign 61 ExpectedEquals (white n.1) >>= λ equals.
-    value close (white equals) >>= λ v.
+    sign 61 ExpectedEquals (after_white n.1) >>= λ equals.
+    value close (after_white equals) >>= λ v.
     Ok (record { name = n.0; line = h.spot.line; value = v.0 }, v.1)
 
 -- after a comma: a field, or the end of the entry
 abbrev pub field_or_close : Closing → Here → Option ℕ → Result (Option Field × Here) Stop
 field_or_close close h None = Err (EndOfFile, h)
-field_or_close close h (Some b) = if b == closing_sign close then Ok (None, behind h) else (field close h >>= λ x. Ok (Some x.0, x.1))
+field_or_close close h (Some b) = if b == closing_sign close then Ok (None, after_byte h) else (field close h >>= λ x. Ok (Some x.0, x.1))
 
 abbrev pub next_field_from : Closing → Here → Option ℕ → Result (Option Field × Here) Stop
 next_field_from close h None = Err (EndOfFile, h)
 next_field_from close h (Some b) =
-    if b == closing_sign close then Ok (None, behind h)
-    else if b == 44 then (let w = white (behind h) in field_or_close close w (first w.rest))
+    if b == closing_sign close then Ok (None, after_byte h)
+    else if b == 44 then (let w = after_white (after_byte h) in field_or_close close w (first w.rest))
     else Err (ExpectedCommaOrClose, h)
 
 -- another field after a comma, or the end of the entry

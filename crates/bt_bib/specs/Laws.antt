@@ -2,7 +2,7 @@
 use Rattle.std.specs.Prelude.{◌≡◌, ℕ, ◌+◌, ◌-◌, ◌<◌, ◌≤◌, nat_lt, Bool, List, [], ◌∷◌, ◌++◌, length, take, drop, map, true, Option, Some, None, All}
 use Rattle.std.specs.List.{list_all}
 use Rattle.bt_bib.specs.declared.spot.Spot.{Spot}
-use Rattle.bt_bib.specs.declared.fault.Fault.{Fault}
+use Rattle.bt_bib.specs.declared.fault.ItemFault.{ItemFault}
 use Rattle.bt_bib.specs.declared.item.Closing.{Closing}
 use Rattle.bt_bib.specs.declared.item.Part.{Part}
 use Rattle.bt_bib.specs.declared.item.Part.TheVariants.{Text, Macro}
@@ -14,7 +14,7 @@ use Rattle.bt_bib.specs.declared.item.Piece.{Piece}
 use Rattle.bt_bib.specs.declared.item.Piece.TheVariants as pieces
 use Rattle.bt_bib.specs.Spot.{Here, start}
 use Rattle.bt_bib.specs.Many.{many, all}
-use Rattle.bt_bib.specs.Values.{joined}
+use Rattle.bt_bib.specs.Values.{next_part}
 use Rattle.bt_bib.specs.Fields.{next_field}
 use Rattle.bt_bib.specs.Reading.{next_one, pieces_of, bib_items}
 use Rattle.bt_bib.specs.Moved.{moved_piece}
@@ -36,7 +36,7 @@ BoundaryStays = (old new : List ℕ) (begin end inserted place : ℕ) → IsSpli
 -- With the byte at the fault's place, or the text's end there, no well-formed item begins: each text that agrees up to
 -- that byte has the same items up to this one, and this one with the same fault.
 abbrev pub FaultIsFinal : Type 0
-FaultIsFinal = (text other : List ℕ) (front back : List Piece) (i : Item) (f : Fault) → pieces_of text ≡ front ++ pieces.Item i ∷ back → i.fault ≡ Some f → take (i.end.place + 1) other ≡ take (i.end.place + 1) text → (rest : List Piece) × (pieces_of other ≡ front ++ pieces.Item i ∷ rest)
+FaultIsFinal = (text other : List ℕ) (front back : List Piece) (i : Item) (f : ItemFault) → pieces_of text ≡ front ++ pieces.Item i ∷ back → i.fault ≡ Some f → take (i.end.place + 1) other ≡ take (i.end.place + 1) text → (rest : List Piece) × (pieces_of other ≡ front ++ pieces.Item i ∷ rest)
 
 -- a number that a byte can be
 abbrev pub is_byte : ℕ → Bool
@@ -53,7 +53,7 @@ pub record Completion (text : List ℕ) (front : List Piece) (i : Item) : Type 0
   pub read : pieces_of (take i.end.place text ++ rest) ≡ front ++ pieces.Item whole ∷ []
 
 abbrev pub FaultIsFirst : Type 0
-FaultIsFirst = (text : List ℕ) (front back : List Piece) (i : Item) (f : Fault) → pieces_of text ≡ front ++ pieces.Item i ∷ back → i.fault ≡ Some f → Completion text front i
+FaultIsFirst = (text : List ℕ) (front back : List Piece) (i : Item) (f : ItemFault) → pieces_of text ≡ front ++ pieces.Item i ∷ back → i.fault ≡ Some f → Completion text front i
 
 -- Each line of a value lies from one line to another.
 abbrev pub PartLiesIn : ℕ → ℕ → Part → Type 0
@@ -87,5 +87,5 @@ LinesLieInside = (text : List ℕ) → All LinesLieIn (bib_items text)
 
 -- Any number of readings above that of the bytes serves as well as the one that the definitions take: it is never
 -- reached.
-abbrev pub AnyReserveServes : Type 0
-AnyReserveServes = (close : Closing) (reserve : ℕ) (h : Here) → length h.rest < reserve → (many (joined close) reserve h ≡ all (joined close) h) × (many (next_field close) reserve h ≡ all (next_field close) h) × (many next_one reserve h ≡ all next_one h)
+abbrev pub AnyBoundServes : Type 0
+AnyBoundServes = (close : Closing) (reserve : ℕ) (h : Here) → length h.rest < reserve → (many (next_part close) reserve h ≡ all (next_part close) h) × (many (next_field close) reserve h ≡ all (next_field close) h) × (many next_one reserve h ≡ all next_one h)

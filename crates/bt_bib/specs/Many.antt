@@ -1,6 +1,6 @@
 -- Any number of readings, one after the other.
 use Rattle.std.specs.Prelude.{ℕ, zero, suc, List, [], ◌∷◌, ◌++◌, length, Option, Some, None, Result, Ok, Err}
-use Rattle.bt_bib.specs.declared.fault.Fault.TheVariants.{EndOfFile}
+use Rattle.bt_bib.specs.declared.fault.ItemFault.TheVariants.{EndOfFile}
 use Rattle.bt_bib.specs.Spot.{Here}
 use Rattle.bt_bib.specs.Stop.{Stop, ◌>>=◌}
 

@@ -3,28 +3,28 @@ use Rattle.std.specs.Prelude.{ℕ, ◌&&◌, ◌||◌, not, ◌==◌, List, Opti
 use Rattle.std.specs.List.{list_any}
 use Rattle.bt_text.specs.ByteTests.{is_white, is_digit}
 use Rattle.bt_text.specs.NameBytes.{is_name_byte}
-use Rattle.bt_bib.specs.declared.fault.What.{What}
-use Rattle.bt_bib.specs.declared.fault.Fault.TheVariants.{EndOfFile, MissingName, BadNameEnd}
+use Rattle.bt_bib.specs.declared.fault.NameRole.{NameRole}
+use Rattle.bt_bib.specs.declared.fault.ItemFault.TheVariants.{EndOfFile, MissingName, BadNameEnd}
 use Rattle.bt_bib.specs.Spot.{Here}
-use Rattle.bt_bib.specs.Scan.{first, run, past}
+use Rattle.bt_bib.specs.Scan.{first, run, after_run}
 use Rattle.bt_bib.specs.Stop.{Stop, ◌>>=◌}
 
-abbrev pub word_from : What → Here → Option ℕ → Result (List ℕ × Here) Stop
+abbrev pub word_from : NameRole → Here → Option ℕ → Result (List ℕ × Here) Stop
 word_from what h None = Err (EndOfFile, h)
-word_from what h (Some b) = if is_name_byte b && not (is_digit b) then Ok (run is_name_byte h, past is_name_byte h) else Err (MissingName what, h)
+word_from what h (Some b) = if is_name_byte b && not (is_digit b) then Ok (run is_name_byte h, after_run is_name_byte h) else Err (MissingName what, h)
 
 -- the longest run of name bytes, which doesn't begin with a digit
-unfoldable pub word : What → Here → Result (List ℕ × Here) Stop
+unfoldable pub word : NameRole → Here → Result (List ℕ × Here) Stop
 word what h = word_from what h (first h.rest)
 
-abbrev pub ended_from : What → List ℕ → Here → Option ℕ → Result Here Stop
+abbrev pub ended_from : NameRole → List ℕ → Here → Option ℕ → Result Here Stop
 ended_from what signs h None = Ok h
 ended_from what signs h (Some b) = if is_white b || list_any (λ sign. sign == b) signs then Ok h else Err (BadNameEnd what b, h)
 
 -- After a name stands white space, the text's end or one of some signs.
-unfoldable pub name_ended : What → List ℕ → Here → Result Here Stop
+unfoldable pub name_ended : NameRole → List ℕ → Here → Result Here Stop
 name_ended what signs h = ended_from what signs h (first h.rest)
 
 -- a name that ends as it must
-unfoldable pub name : What → List ℕ → Here → Result (List ℕ × Here) Stop
+unfoldable pub name : NameRole → List ℕ → Here → Result (List ℕ × Here) Stop
 name what signs h = word what h >>= λ w. name_ended what signs w.1 >>= λ end. Ok (w.0, end)

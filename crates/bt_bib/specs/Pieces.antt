@@ -11,8 +11,8 @@
 use Rattle.std.specs.Prelude.{ℕ, ◌==◌, Bool, not, List, [], codes, Option, Some, None, Result, Ok, Err, if◌then◌else◌}
 use Rattle.bt_text.specs.ByteTests.{left_brace}
 use Rattle.bt_bib.specs.declared.spot.Spot.{Spot}
-use Rattle.bt_bib.specs.declared.fault.Fault.TheVariants.{EndOfFile, ExpectedOpen, ExpectedEquals, ExpectedCommaOrClose}
-use Rattle.bt_bib.specs.declared.fault.What.TheVariants.{EntryType, StringName}
+use Rattle.bt_bib.specs.declared.fault.ItemFault.TheVariants.{EndOfFile, ExpectedOpen, ExpectedEquals, ExpectedCommaOrClose}
+use Rattle.bt_bib.specs.declared.fault.NameRole.TheVariants.{EntryType, StringName}
 use Rattle.bt_bib.specs.declared.item.Closing.{Closing}
 use Rattle.bt_bib.specs.declared.item.Closing.TheVariants.{Brace, Parenthesis}
 use Rattle.bt_bib.specs.declared.item.Content.{Content}
@@ -24,8 +24,8 @@ use Rattle.bt_bib.specs.declared.item.Piece.{Piece}
 use Rattle.bt_bib.specs.declared.item.Piece.TheVariants as pieces
 use Rattle.bt_bib.specs.declared.keywords.Keyword.{Keyword}
 use Rattle.bt_bib.specs.declared.keywords.Keyword.TheVariants as keywords
-use Rattle.bt_bib.specs.Spot.{Here, behind}
-use Rattle.bt_bib.specs.Scan.{first, run, past, white, sign, closing_sign, is_key_byte}
+use Rattle.bt_bib.specs.Spot.{Here, after_byte}
+use Rattle.bt_bib.specs.Scan.{first, run, after_run, after_white, sign, closing_sign, is_key_byte}
 use Rattle.bt_bib.specs.Stop.{Stop, ◌>>=◌, value_read}
 use Rattle.bt_bib.specs.Names.{word, name_ended, name}
 use Rattle.bt_bib.specs.Many.{all}
@@ -34,19 +34,19 @@ use Rattle.bt_bib.specs.Fields.{next_field, name_ends}
 use Rattle.bt_bib.specs.Keywords.{keyword_of}
 
 -- an item that ends well, or at a fault
-abbrev pub item : Spot → ℕ → Content → Option Closing → Result Here Stop → Piece × Here
-item start line content close (Ok end) = (pieces.Item (record { start = start; end = end.spot; line = line; content = content; close = close; fault = None }), end)
-item start line content close (Err stop) = (pieces.Item (record { start = start; end = stop.1.spot; line = line; content = content; close = close; fault = Some stop.0 }), stop.1)
+abbrev pub ended_item : Spot → ℕ → Content → Option Closing → Result Here Stop → Piece × Here
+ended_item start line content close (Ok end) = (pieces.Item (record { start = start; end = end.spot; line = line; content = content; close = close; fault = None }), end)
+ended_item start line content close (Err stop) = (pieces.Item (record { start = start; end = stop.1.spot; line = line; content = content; close = close; fault = Some stop.0 }), stop.1)
 
 -- an item whose fault stands before its opening sign
 abbrev pub unopened : Spot → Content → Stop → Piece × Here
-unopened start content stop = item start start.line content None (Err stop)
+unopened start content stop = ended_item start start.line content None (Err stop)
 
 abbrev pub opening_from : Here → Option ℕ → Result (Closing × Here) Stop
 opening_from h None = Err (EndOfFile, h)
 opening_from h (Some b) =
-    if b == left_brace then Ok (Brace, behind h)
-    else if b == 40 then Ok (Parenthesis, behind h)
+    if b == left_brace then Ok (Brace, after_byte h)
+    else if b == 40 then Ok (Parenthesis, after_byte h)
     else Err (ExpectedOpen, h)
 
 -- how an item is closed that is opened here
@@ -54,24 +54,24 @@ unfoldable pub opening : Here → Result (Closing × Here) Stop
 opening h = opening_from h (first h.rest)
 
 -- after the closing sign
-abbrev pub closed : Closing → Here → Result Here Stop
-closed close h = sign (closing_sign close) ExpectedCommaOrClose h
+abbrev pub after_closing : Closing → Here → Result Here Stop
+after_closing close h = sign (closing_sign close) ExpectedCommaOrClose h
 
 -- `key , field = value , .. }`, from the key on
 abbrev pub entry_read : List ℕ → Closing → Here → Entry × Result Here Stop
 entry_read kind close h =
-    let fields = all (next_field close) (white (past (is_key_byte close) h)) in
+    let fields = all (next_field close) (after_white (after_run (is_key_byte close) h)) in
     (record { kind = Some kind; key = Some (run (is_key_byte close) h); fields = fields.0 }, fields.1)
 
 abbrev pub entry_item : Spot → List ℕ → Closing → Here → Piece × Here
-entry_item start kind close h = (let read = entry_read kind close h in item start h.spot.line (contents.Entry read.0) (Some close) read.1)
+entry_item start kind close h = (let read = entry_read kind close h in ended_item start h.spot.line (contents.Entry read.0) (Some close) read.1)
 
 -- `name = value }`, from the name on
 abbrev pub string_read : Closing → Here → Definition × Result Here Stop
 string_read close h =
     let named = name StringName name_ends h in
-    let valued = named >>= λ n. sign 61 ExpectedEquals (white n.1) >>= λ equals. value close (white equals) in
-    (record { name = value_read named; value = value_read valued }, valued >>= λ v. closed close v.1)
+    let valued = named >>= λ n. sign 61 ExpectedEquals (after_white n.1) >>= λ equals. value close (after_white equals) in
+    (record { name = value_read named; value = value_read valued }, valued >>= λ v. after_closing close v.1)
 
 -- the line of a name that was read, else another
 abbrev pub name_line : Option (List ℕ) → ℕ → ℕ → ℕ
@@ -79,14 +79,14 @@ name_line (Some name) line other = line
 name_line None line other = other
 
 abbrev pub string_item : Spot → Closing → Here → Piece × Here
-string_item start close h = (let read = string_read close h in item start (name_line read.0.name h.spot.line start.line) (contents.Define read.0) (Some close) read.1)
+string_item start close h = (let read = string_read close h in ended_item start (name_line read.0.name h.spot.line start.line) (contents.Define read.0) (Some close) read.1)
 
 -- `value }`, from the value on
 abbrev pub preamble_read : Closing → Here → Option (List Part) × Result Here Stop
-preamble_read close h = (let valued = value close h in (value_read valued, valued >>= λ v. closed close v.1))
+preamble_read close h = (let valued = value close h in (value_read valued, valued >>= λ v. after_closing close v.1))
 
 abbrev pub preamble_item : Spot → Closing → Here → Piece × Here
-preamble_item start close h = (let read = preamble_read close h in item start start.line (contents.Preamble read.0) (Some close) read.1)
+preamble_item start close h = (let read = preamble_read close h in ended_item start start.line (contents.Preamble read.0) (Some close) read.1)
 
 -- an entry of which at most the type was read
 abbrev pub unread_entry : Option (List ℕ) → Content
@@ -98,14 +98,14 @@ unread_string = contents.Define (record { name = None; value = None })
 -- an item that is read on after its opening sign and white space
 abbrev pub item_opened : Spot → Content → (Closing → Here → Piece × Here) → Result (Closing × Here) Stop → Piece × Here
 item_opened start unread read (Err stop) = unopened start unread stop
-item_opened start unread read (Ok o) = read o.0 (white o.1)
+item_opened start unread read (Ok o) = read o.0 (after_white o.1)
 
 -- what a type begins, from the place after it on
 abbrev pub item_of_type : Keyword → Spot → List ℕ → Here → Piece × Here
 item_of_type keywords.Comment start kind h = (pieces.Comment start h.spot, h)
-item_of_type keywords.String start kind h = item_opened start unread_string (string_item start) (opening (white h))
-item_of_type keywords.Preamble start kind h = item_opened start (contents.Preamble None) (preamble_item start) (opening (white h))
-item_of_type keywords.Entry start kind h = item_opened start (unread_entry (Some kind)) (entry_item start kind) (opening (white h))
+item_of_type keywords.String start kind h = item_opened start unread_string (string_item start) (opening (after_white h))
+item_of_type keywords.Preamble start kind h = item_opened start (contents.Preamble None) (preamble_item start) (opening (after_white h))
+item_of_type keywords.Entry start kind h = item_opened start (unread_entry (Some kind)) (entry_item start kind) (opening (after_white h))
 
 abbrev pub type_ended : Spot → List ℕ → Result Here Stop → Piece × Here
 type_ended start kind (Err stop) = unopened start (unread_entry (Some kind)) stop
@@ -117,7 +117,7 @@ type_read start (Ok w) = type_ended start w.0 (name_ended EntryType (codes "{(")
 
 -- a comment word or an item, from its `@` on
 unfoldable pub piece : Here → Piece × Here
-piece h = type_read h.spot (word EntryType (white (behind h)))
+piece h = type_read h.spot (word EntryType (after_white (after_byte h)))
 
 abbrev pub is_text : ℕ → Bool
 is_text b = not (b == 64)
@@ -128,4 +128,4 @@ next_piece_from h (Some b) = (let p = piece h in (Some p.0, p.1))
 
 -- the next `@` with what it begins, or none
 unfoldable pub next_piece : Here → Option Piece × Here
-next_piece h = (let at_sign = past is_text h in next_piece_from at_sign (first at_sign.rest))
+next_piece h = (let at_sign = after_run is_text h in next_piece_from at_sign (first at_sign.rest))

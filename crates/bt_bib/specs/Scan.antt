@@ -2,11 +2,11 @@
 use Rattle.std.specs.Prelude.{ℕ, Bool, ◌||◌, not, ◌==◌, List, [], ◌∷◌, Option, Some, None, Result, Ok, Err, if◌then◌else◌}
 use Rattle.std.specs.List.{take_while}
 use Rattle.bt_text.specs.ByteTests.{is_white, right_brace}
-use Rattle.bt_bib.specs.declared.fault.Fault.{Fault}
-use Rattle.bt_bib.specs.declared.fault.Fault.TheVariants.{EndOfFile}
+use Rattle.bt_bib.specs.declared.fault.ItemFault.{ItemFault}
+use Rattle.bt_bib.specs.declared.fault.ItemFault.TheVariants.{EndOfFile}
 use Rattle.bt_bib.specs.declared.item.Closing.{Closing}
 use Rattle.bt_bib.specs.declared.item.Closing.TheVariants.{Brace, Parenthesis}
-use Rattle.bt_bib.specs.Spot.{Here, beyond, behind}
+use Rattle.bt_bib.specs.Spot.{Here, after_bytes, after_byte}
 use Rattle.bt_bib.specs.Stop.{Stop}
 
 -- the byte that closes
@@ -29,17 +29,17 @@ abbrev pub run : (ℕ → Bool) → Here → List ℕ
 run test h = take_while test h.rest
 
 -- after that run
-abbrev pub past : (ℕ → Bool) → Here → Here
-past test h = beyond (run test h) h
+abbrev pub after_run : (ℕ → Bool) → Here → Here
+after_run test h = after_bytes (run test h) h
 
 -- after the white space
-abbrev pub white : Here → Here
-white h = past is_white h
+abbrev pub after_white : Here → Here
+after_white h = after_run is_white h
 
-abbrev pub sign_from : ℕ → Fault → Here → Option ℕ → Result Here Stop
-sign_from wanted fault h None = Err (EndOfFile, h)
-sign_from wanted fault h (Some b) = if b == wanted then Ok (behind h) else Err (fault, h)
+abbrev pub sign_from : ℕ → ItemFault → Here → Option ℕ → Result Here Stop
+sign_from expected fault h None = Err (EndOfFile, h)
+sign_from expected fault h (Some b) = if b == expected then Ok (after_byte h) else Err (fault, h)
 
 -- after a byte that must stand here
-unfoldable pub sign : ℕ → Fault → Here → Result Here Stop
-sign wanted fault h = sign_from wanted fault h (first h.rest)
+unfoldable pub sign : ℕ → ItemFault → Here → Result Here Stop
+sign expected fault h = sign_from expected fault h (first h.rest)

@@ -30,7 +30,7 @@ use Rattle.bt_bib.specs.declared.item.Piece.{Piece}
 use Rattle.bt_bib.specs.declared.item.Piece.TheVariants as pieces
 use Rattle.bt_bib.specs.declared.keywords.Keyword.{Keyword}
 use Rattle.bt_bib.specs.declared.keywords.Keyword.TheVariants as keywords
-use Rattle.bt_bib.specs.Spot.{passed}
+use Rattle.bt_bib.specs.Spot.{spot_after}
 use Rattle.bt_bib.specs.Scan.{closing_sign, is_key_byte}
 use Rattle.bt_bib.specs.Keywords.{keyword_of}
 use Rattle.bt_bib.specs.Pieces.{is_text}
@@ -123,7 +123,7 @@ Head keyword word close A = Sign at_sign ⋯ Bytes word (IsWord keyword word) �
 -- an item without a fault that this text is, where it stands here
 abbrev pub whole : Spot → List ℕ → ℕ → Content → Closing → Item
 whole s text line content close =
-    record { start = s; end = passed text s; line = line; content = content; close = Some close; fault = None }
+    record { start = s; end = spot_after text s; line = line; content = content; close = Some close; fault = None }
 
 -- an item: its line is that of the key, of the name that a string defines, or of the `@` of a preamble
 pub data ItemOf : Item → Spot → List ℕ → Type 0 where

@@ -8,7 +8,7 @@ use Rattle.bt_bib.specs.declared.item.Field.{Field}
 use Rattle.bt_bib.specs.declared.item.Item.{Item}
 use Rattle.bt_bib.specs.declared.item.Piece.{Piece}
 use Rattle.bt_bib.specs.declared.item.Piece.TheVariants as pieces
-use Rattle.bt_bib.specs.Spot.{at, passed, start}
+use Rattle.bt_bib.specs.Spot.{at, spot_after, start}
 use Rattle.bt_bib.specs.Scan.{closing_sign}
 use Rattle.bt_bib.specs.Enclosed.{enclosed}
 use Rattle.bt_bib.specs.Values.{part, part_ends, value}
@@ -22,13 +22,13 @@ use Rattle.bt_bib.specs.Spelled.{PartOf, ValueOf, FieldOf, ItemOf, DatabaseOf}
 abbrev pub EnclosedTextsAreRead : Type 0
 EnclosedTextsAreRead = (close : ℕ) (s : Spot) (text rest : List ℕ) →
     (close == left_brace) ≡ false → IsEnclosed close text →
-    enclosed close (at s (text ++ close ∷ rest)) ≡ Ok (text, at (passed text s) (close ∷ rest))
+    enclosed close (at s (text ++ close ∷ rest)) ≡ Ok (text, at (spot_after text s) (close ∷ rest))
 
 -- A part and the white space after it, before a `#`, a comma or the closing sign, are read as that part.
 abbrev pub SpelledPartsAreRead : Type 0
 SpelledPartsAreRead = (close : Closing) (p : Part) (s : Spot) (text rest : List ℕ) →
     (PartOf p ▸ White) s text → BeginsBy (part_ends close) rest →
-    part close (at s (text ++ rest)) ≡ Ok (p, at (passed text s) rest)
+    part close (at s (text ++ rest)) ≡ Ok (p, at (spot_after text s) rest)
 
 -- what may end a value or a field: a comma or the closing sign
 abbrev pub value_ends : Closing → List ℕ
@@ -37,17 +37,17 @@ value_ends close = 44 ∷ closing_sign close ∷ []
 abbrev pub SpelledValuesAreRead : Type 0
 SpelledValuesAreRead = (close : Closing) (ps : List Part) (s : Spot) (text rest : List ℕ) →
     (ValueOf ps ▸ White) s text → BeginsBy (value_ends close) rest →
-    value close (at s (text ++ rest)) ≡ Ok (ps, at (passed text s) rest)
+    value close (at s (text ++ rest)) ≡ Ok (ps, at (spot_after text s) rest)
 
 abbrev pub SpelledFieldsAreRead : Type 0
 SpelledFieldsAreRead = (close : Closing) (f : Field) (s : Spot) (text rest : List ℕ) →
     (FieldOf f ▸ White) s text → BeginsBy (value_ends close) rest →
-    field close (at s (text ++ rest)) ≡ Ok (f, at (passed text s) rest)
+    field close (at s (text ++ rest)) ≡ Ok (f, at (spot_after text s) rest)
 
 -- An item is read as it is spelled, whatever stands after it.
 abbrev pub SpelledItemsAreRead : Type 0
 SpelledItemsAreRead = (i : Item) (s : Spot) (text rest : List ℕ) → ItemOf i s text →
-    piece (at s (text ++ rest)) ≡ (pieces.Item i, at (passed text s) rest)
+    piece (at s (text ++ rest)) ≡ (pieces.Item i, at (spot_after text s) rest)
 
 -- So is a whole database.
 abbrev pub SpelledDatabasesAreRead : Type 0

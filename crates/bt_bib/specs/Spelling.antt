@@ -3,7 +3,7 @@ use Rattle.std.specs.Prelude.{◌≡◌, ℕ, true, false, ◌||◌, ◌==◌, L
 use Rattle.std.specs.List.{list_all, list_any}
 use Rattle.bt_text.specs.ByteTests.{is_white, is_brace, left_brace, right_brace}
 use Rattle.bt_bib.specs.declared.spot.Spot.{Spot}
-use Rattle.bt_bib.specs.Spot.{passed}
+use Rattle.bt_bib.specs.Spot.{spot_after}
 
 -- the texts that spell something where they stand at a spot
 abbrev pub Spelling : Type 1
@@ -12,7 +12,7 @@ Spelling = Spot → List ℕ → Type 0
 infixr 60 ◌▸◌
 -- one, and right after it the other
 pub data ◌▸◌ (A B : Spelling) : Spot → List ℕ → Type 0 where
-  Both : {s : Spot} {front back : List ℕ} → A s front → B (passed front s) back → (A ▸ B) s (front ++ back)
+  Both : {s : Spot} {front back : List ℕ} → A s front → B (spot_after front s) back → (A ▸ B) s (front ++ back)
 
 infixr 55 ◌or◌
 -- one or the other

@@ -9,12 +9,12 @@ abbrev pub is_line_end : ℕ → Bool
 is_line_end b = b == 10
 
 -- the spot after a byte
-abbrev pub after : ℕ → Spot → Spot
-after b s = record { place = s.place + 1; line = if is_line_end b then s.line + 1 else s.line }
+abbrev pub spot_after_byte : ℕ → Spot → Spot
+spot_after_byte b s = record { place = s.place + 1; line = if is_line_end b then s.line + 1 else s.line }
 
 -- the spot after some bytes
-abbrev pub passed : List ℕ → Spot → Spot
-passed front s = record { place = s.place + length front; line = s.line + count_by is_line_end front }
+abbrev pub spot_after : List ℕ → Spot → Spot
+spot_after front s = record { place = s.place + length front; line = s.line + count_by is_line_end front }
 
 -- a spot of a text, and the bytes from there on
 pub record Here : Type 0 where
@@ -28,13 +28,13 @@ abbrev pub here : List ℕ → Spot → Here
 here text s = at s (drop s.place text)
 
 -- after some bytes that stand here
-abbrev pub beyond : List ℕ → Here → Here
-beyond front h = at (passed front h.spot) (drop (length front) h.rest)
+abbrev pub after_bytes : List ℕ → Here → Here
+after_bytes front h = at (spot_after front h.spot) (drop (length front) h.rest)
 
-abbrev pub behind_first : Spot → List ℕ → Here
-behind_first s [] = at s []
-behind_first s (b ∷ rest) = at (after b s) rest
+abbrev pub after_first_byte : Spot → List ℕ → Here
+after_first_byte s [] = at s []
+after_first_byte s (b ∷ rest) = at (spot_after_byte b s) rest
 
 -- after one byte
-abbrev pub behind : Here → Here
-behind h = behind_first h.spot h.rest
+abbrev pub after_byte : Here → Here
+after_byte h = after_first_byte h.spot h.rest

@@ -1,11 +1,11 @@
 -- Readers of a text: each gives what it read with what stands after it, or stops at a fault.
 use Rattle.std.specs.Prelude.{Result, Ok, Err, Option, Some, None}
-use Rattle.bt_bib.specs.declared.fault.Fault.{Fault}
+use Rattle.bt_bib.specs.declared.fault.ItemFault.{ItemFault}
 use Rattle.bt_bib.specs.Spot.{Here}
 
 -- a fault, and where it stands
 abbrev pub Stop : Type 0
-Stop = Fault × Here
+Stop = ItemFault × Here
 
 infixl 10 ◌>>=◌
 -- one reader after the other

@@ -3,13 +3,13 @@
 use Rattle.std.specs.Prelude.{ℕ, ◌==◌, List, [], ◌∷◌, Option, Some, None, Result, Ok, Err, if◌then◌else◌}
 use Rattle.bt_text.specs.ByteTests.{is_digit, left_brace, right_brace}
 use Rattle.bt_text.specs.NameBytes.{is_name_byte}
-use Rattle.bt_bib.specs.declared.fault.Fault.TheVariants.{EndOfFile, MissingPart}
-use Rattle.bt_bib.specs.declared.fault.What.TheVariants.{FieldPart}
+use Rattle.bt_bib.specs.declared.fault.ItemFault.TheVariants.{EndOfFile, MissingPart}
+use Rattle.bt_bib.specs.declared.fault.NameRole.TheVariants.{FieldPart}
 use Rattle.bt_bib.specs.declared.item.Closing.{Closing}
 use Rattle.bt_bib.specs.declared.item.Part.{Part}
 use Rattle.bt_bib.specs.declared.item.Part.TheVariants.{Text, Macro}
-use Rattle.bt_bib.specs.Spot.{Here, behind}
-use Rattle.bt_bib.specs.Scan.{first, run, past, white, closing_sign}
+use Rattle.bt_bib.specs.Spot.{Here, after_byte}
+use Rattle.bt_bib.specs.Scan.{first, run, after_run, after_white, closing_sign}
 use Rattle.bt_bib.specs.Enclosed.{enclosed}
 use Rattle.bt_bib.specs.Stop.{Stop, ◌>>=◌}
 use Rattle.bt_bib.specs.Names.{name}
@@ -22,9 +22,9 @@ part_ends close = 44 ∷ 35 ∷ closing_sign close ∷ []
 abbrev pub part_from : Closing → Here → Option ℕ → Result (Part × Here) Stop
 part_from close h None = Err (EndOfFile, h)
 part_from close h (Some b) =
-    if b == left_brace then (enclosed right_brace (behind h) >>= λ x. Ok (Text x.0, behind x.1))
-    else if b == 34 then (enclosed 34 (behind h) >>= λ x. Ok (Text x.0, behind x.1))
-    else if is_digit b then Ok (Text (run is_digit h), past is_digit h)
+    if b == left_brace then (enclosed right_brace (after_byte h) >>= λ x. Ok (Text x.0, after_byte x.1))
+    else if b == 34 then (enclosed 34 (after_byte h) >>= λ x. Ok (Text x.0, after_byte x.1))
+    else if is_digit b then Ok (Text (run is_digit h), after_run is_digit h)
     else if is_name_byte b then (name FieldPart (part_ends close) h >>= λ n. Ok (Macro n.0 h.spot.line, n.1))
     else Err (MissingPart, h)
 
@@ -34,16 +34,16 @@ raw_part close h = part_from close h (first h.rest)
 
 -- a part, and the white space after it
 unfoldable pub part : Closing → Here → Result (Part × Here) Stop
-part close h = raw_part close h >>= λ x. Ok (x.0, white x.1)
+part close h = raw_part close h >>= λ x. Ok (x.0, after_white x.1)
 
 abbrev pub joined_from : Closing → Here → Option ℕ → Result (Option Part × Here) Stop
 joined_from close h None = Ok (None, h)
-joined_from close h (Some b) = if b == 35 then (part close (white (behind h)) >>= λ x. Ok (Some x.0, x.1)) else Ok (None, h)
+joined_from close h (Some b) = if b == 35 then (part close (after_white (after_byte h)) >>= λ x. Ok (Some x.0, x.1)) else Ok (None, h)
 
 -- another part after a `#`, or none
-unfoldable pub joined : Closing → Here → Result (Option Part × Here) Stop
-joined close h = joined_from close h (first h.rest)
+unfoldable pub next_part : Closing → Here → Result (Option Part × Here) Stop
+next_part close h = joined_from close h (first h.rest)
 
 -- a value, and the white space after it
 unfoldable pub value : Closing → Here → Result (List Part × Here) Stop
-value close h = part close h >>= λ x. collected (x.0 ∷ []) (all (joined close) x.1)
+value close h = part close h >>= λ x. collected (x.0 ∷ []) (all (next_part close) x.1)

@@ -86,10 +86,10 @@ fn copied(alloc: Global, parts: &[&[u8]]) -> Result<Sequence<Bytes>, AllocError>
 }
 
 /// What is wrong, by what ends the argument and stands after it.
-fn fault_at(behind: &[u8]) -> Option<AuxFault>
-    ensures { result ≡ fault_at behind.now }
+fn fault_at(rest_after: &[u8]) -> Option<AuxFault>
+    ensures { result ≡ fault_at rest_after.now }
 {
-    match behind.split_first() {
+    match rest_after.split_first() {
         None => Some(AuxFault::NoBrace),
         Some((end, stuff)) => {
             if is_white(*end) {
@@ -111,8 +111,8 @@ pub fn read_argument(
 ) -> Result<(Sequence<Bytes>, Option<AuxFault>), AllocError>
     ensures { IfOk result (λ read. read ≡ (argument_parts parting rest.now, fault_of rest.now)) }
 {
-    let (argument, behind) = rest.split_at(inside_len(rest));
-    let fault = fault_at(behind);
+    let (argument, rest_after) = rest.split_at(inside_len(rest));
+    let fault = fault_at(rest_after);
     let parts = parts_in(alloc, argument, parting)?;
     Ok((copied(alloc, kept(fault, parts.as_slice()))?, fault))
 }

@@ -2,7 +2,7 @@
 
 ghost use Rattle.std.specs.Prelude.{◌≡◌, ◌≤◌, ◌<◌, ◌+◌, ◌^◌, [], ◌++◌, length, IfOk, OnOk, IfSome};
 ghost use Rattle.std.specs.List.{position_or_len, suffix_len};
-ghost use Rattle.bt_bib.specs.AuxLine.{is_line_end, command_of, word, parting, item, if_counted, aux_lines};
+ghost use Rattle.bt_bib.specs.AuxLine.{is_line_end, command_of, opening_of, parting, item, if_counted, aux_lines};
 
 use crate::aux_argument::{AuxFault, Parting, read_argument};
 use bt_text::{Bytes, Sequence, trim_end};
@@ -25,7 +25,7 @@ pub enum Command {
 impl Command {
     /// What a line of the command begins with.
     pub fn word(self) -> &'static [u8]
-        ensures { result.now ≡ word self }
+        ensures { result.now ≡ opening_of self }
     {
         match self {
             Command::Citation => b"\\citation{",
@@ -68,7 +68,7 @@ fn line_len(text: &[u8]) -> usize
 /// The command of a line that counts.
 fn command_of(line: &[u8]) -> Option<Command>
     ensures value { result ≡ command_of line.now }
-    ensures within { IfSome result (λ command. length (word command) ≤ length line.now) }
+    ensures within { IfSome result (λ command. length (opening_of command) ≤ length line.now) }
 {
     if line.starts_with(b"\\citation{") {
         Some(Command::Citation)
@@ -85,7 +85,7 @@ fn command_of(line: &[u8]) -> Option<Command>
 
 /// A line that counts.
 fn item(alloc: Global, number: usize, line: &[u8], command: Command) -> Result<AuxItem, AllocError>
-    requires { length (word command) ≤ length line.now }
+    requires { length (opening_of command) ≤ length line.now }
     ensures { IfOk result (λ found. found ≡ item number line.now command) }
 {
     let rest = &line[command.word().len()..];

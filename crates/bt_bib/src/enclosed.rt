@@ -3,15 +3,15 @@
 ghost use Rattle.std.specs.Prelude.{◌≡◌, ◌<◌, ◌+◌, ◌^◌};
 ghost use Rattle.bt_bib.specs.Spot.{here};
 ghost use Rattle.bt_bib.specs.inner.Spot.{IsAhead, IsIn};
-ghost use Rattle.bt_bib.specs.Scan.{past};
+ghost use Rattle.bt_bib.specs.Scan.{after_run};
 ghost use Rattle.bt_bib.specs.Enclosed.{enclosed};
 ghost use Rattle.bt_bib.specs.inner.Enclosed.{enclosed_end, is_plain, turn, IsNear};
 ghost use Rattle.bt_bib.specs.inner.Stop.{Finds, Gives};
 
-use crate::fault::Fault;
+use crate::fault::ItemFault;
 use crate::reader::Reader;
 use crate::spot::Spot;
-use crate::stop::Halt;
+use crate::stop::ReadStop;
 use bt_text::{Bytes, Shared};
 use memchr::memchr3;
 
@@ -60,7 +60,7 @@ impl Reader<'_> {
     /// The next brace or closing sign, or the text's end.
     fn past_plain(&self, from: Spot, close: u8) -> Spot
         requires { IsIn self.now.text.now from }
-        ensures value { here self.now.text.now result ≡ past (is_plain close) (here self.now.text.now from) }
+        ensures value { here self.now.text.now result ≡ after_run (is_plain close) (here self.now.text.now from) }
         ensures inside { IsAhead self.now.text.now from result }
     {
         if from.place < self.text.len() && !is_plain(close, self.text[from.place]) {
@@ -72,7 +72,7 @@ impl Reader<'_> {
     }
 
     /// The byte that closes what stands here.
-    fn enclosed_end(&self, from: Spot, close: u8) -> Result<Spot, Halt>
+    fn enclosed_end(&self, from: Spot, close: u8) -> Result<Spot, ReadStop>
         requires { IsIn self.now.text.now from }
         ensures { Finds self.now.text.now from result (enclosed_end close (here self.now.text.now from)) }
     {
@@ -82,17 +82,17 @@ impl Reader<'_> {
             let byte = self.text[at.place];
             match Turn::of(close, depth, byte) {
                 Turn::Closes => return Ok(at),
-                Turn::Breaks => return Err(Halt::Stopped(Fault::UnbalancedBraces, at)),
+                Turn::Breaks => return Err(ReadStop::Stopped(ItemFault::UnbalancedBraces, at)),
                 Turn::Goes(next) => depth = next,
             }
             at = self.past_plain(at.after(byte), close);
         }
-        Err(Halt::Stopped(Fault::EndOfFile, at))
+        Err(ReadStop::Stopped(ItemFault::EndOfFile, at))
     }
 
     /// What stands from here up to the byte that closes it, and that byte's place.
     #[tactic(auto, using(crate::proofs::EnclosedLemmas::enclosed_found, crate::proofs::EnclosedLemmas::enclosed_stopped))]
-    pub fn enclosed(&self, from: Spot, close: u8) -> Result<(Shared<Bytes>, Spot), Halt>
+    pub fn enclosed(&self, from: Spot, close: u8) -> Result<(Shared<Bytes>, Spot), ReadStop>
         requires { IsIn self.now.text.now from }
         ensures { Gives self.now.text.now from result (enclosed close (here self.now.text.now from)) }
     {

@@ -2,7 +2,7 @@
 
 /// What a name stands for.
 #[derive(Clone, Copy, Debug, PartialEq, Eq)]
-pub enum What {
+pub enum NameRole {
     /// The word after `@`.
     EntryType,
     /// The name that `@string` gives a value.
@@ -15,13 +15,13 @@ pub enum What {
 
 /// What is wrong at the first place where no rule goes on: that place is the end of the item.
 #[derive(Clone, Copy, Debug, PartialEq, Eq)]
-pub enum Fault {
+pub enum ItemFault {
     /// The text ends inside the item.
     EndOfFile,
     /// No name stands where one must. A field part that is missing is `MissingPart`.
-    MissingName(What),
+    MissingName(NameRole),
     /// This byte stands right after a name, and may not.
-    BadNameEnd(What, u8),
+    BadNameEnd(NameRole, u8),
     /// Neither `{` nor `(` stands after the type.
     ExpectedOpen,
     /// Neither a comma nor the closing sign stands after a key or a value (in a string or preamble: no closing sign).

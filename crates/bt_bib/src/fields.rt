@@ -7,51 +7,51 @@ ghost use Rattle.bt_bib.specs.Many.{all};
 ghost use Rattle.bt_bib.specs.inner.Many.{gathered};
 ghost use Rattle.bt_bib.specs.Fields.{field, next_field};
 
-use crate::fault::{Fault, What};
+use crate::fault::{ItemFault, NameRole};
 use crate::item::{Closing, Field};
 use crate::reader::Reader;
 use crate::spot::Spot;
-use crate::stop::Halt;
+use crate::stop::ReadStop;
 use bt_text::Sequence;
 
 impl Reader<'_> {
     /// A field, and the white space after it.
     #[tactic(auto, unfolding(crate::specs::Fields::field))]
-    fn field(&self, from: Spot, close: Closing) -> Result<(Field, Spot), Halt>
+    fn field(&self, from: Spot, close: Closing) -> Result<(Field, Spot), ReadStop>
         requires { IsIn self.now.text.now from }
         ensures { Gives self.now.text.now from result (field close (here self.now.text.now from)) }
     {
-        let (name, end) = self.name(from, What::FieldName, b"=")?;
-        let equals = self.sign(self.white(end), b'=', Fault::ExpectedEquals)?;
-        let (value, end) = self.value(self.white(equals), close)?;
+        let (name, end) = self.name(from, NameRole::FieldName, b"=")?;
+        let equals = self.sign(self.after_white(end), b'=', ItemFault::ExpectedEquals)?;
+        let (value, end) = self.value(self.after_white(equals), close)?;
         let line = from.line;
         Ok((Field { name, line, value }, end))
     }
 
     /// Another field after a comma, or the end of the entry.
     #[tactic(auto, unfolding(crate::specs::Fields::next_field))]
-    fn next_field(&self, from: Spot, close: Closing) -> Result<(Option<Field>, Spot), Halt>
+    fn next_field(&self, from: Spot, close: Closing) -> Result<(Option<Field>, Spot), ReadStop>
         requires { IsIn self.now.text.now from }
         ensures { Gives self.now.text.now from result (next_field close (here self.now.text.now from)) }
     {
         let Some(byte) = self.peek(from) else {
-            return Err(Halt::Stopped(Fault::EndOfFile, from));
+            return Err(ReadStop::Stopped(ItemFault::EndOfFile, from));
         };
         if byte == close.sign() {
-            Ok((None, self.behind(from)))
+            Ok((None, self.after_byte(from)))
         } else if byte == b',' {
-            let at = self.white(self.behind(from));
+            let at = self.after_white(self.after_byte(from));
             let Some(byte) = self.peek(at) else {
-                return Err(Halt::Stopped(Fault::EndOfFile, at));
+                return Err(ReadStop::Stopped(ItemFault::EndOfFile, at));
             };
             if byte == close.sign() {
-                Ok((None, self.behind(at)))
+                Ok((None, self.after_byte(at)))
             } else {
                 let (field, end) = self.field(at, close)?;
                 Ok((Some(field), end))
             }
         } else {
-            Err(Halt::Stopped(Fault::ExpectedCommaOrClose, from))
+            Err(ReadStop::Stopped(ItemFault::ExpectedCommaOrClose, from))
         }
     }
 
@@ -62,7 +62,7 @@ impl Reader<'_> {
         from: Spot,
         close: Closing,
         fields: &mut Sequence<Field>,
-    ) -> Result<Spot, Halt>
+    ) -> Result<Spot, ReadStop>
         requires { IsIn self.now.text.now from }
         ensures { Fills self.now.text.now from result fields.new (gathered fields.old (all (next_field close) (here self.now.text.now from))) }
     {

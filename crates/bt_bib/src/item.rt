@@ -1,6 +1,6 @@
 //! The items of a database, and what is read of them.
 
-use crate::fault::Fault;
+use crate::fault::ItemFault;
 use crate::spot::Spot;
 use bt_text::{Bytes, Sequence, Shared};
 
@@ -78,7 +78,7 @@ pub struct Item {
     /// How it is closed; none where no opening sign was read.
     pub close: Option<Closing>,
     /// What is wrong with it, if anything is.
-    pub fault: Option<Fault>,
+    pub fault: Option<ItemFault>,
 }
 
 /// What begins with an `@`.

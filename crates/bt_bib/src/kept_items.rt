@@ -3,7 +3,7 @@
 ghost use Rattle.std.specs.Prelude.{◌≡◌, [], ◌++◌, ◌∷◌, map, All, IfOk, OnOk, OnErr};
 ghost use Rattle.bt_bib.specs.Moving.{FitsPiece};
 ghost use Rattle.bt_bib.specs.inner.Moving.{rebased_piece};
-ghost use Rattle.bt_bib.specs.inner.Placed.{BeginsBehind};
+ghost use Rattle.bt_bib.specs.inner.Placed.{BeginsAfter};
 ghost use Rattle.bt_bib.specs.Reading.{pieces_of};
 
 use crate::placed::PlacedPiece;
@@ -76,7 +76,7 @@ impl KeptItems {
         b: Spot,
     ) -> Result<KeptItems, AllocError>
         requires fits { All (FitsPiece a b) others.now }
-        requires behind { All (BeginsBehind a) others.now }
+        requires after_byte { All (BeginsAfter a) others.now }
         ensures { IfOk result (λ all. all ≡ self ++ map (rebased_piece a b) others.now) }
     {
         let mut items = self;

@@ -1,6 +1,6 @@
 //! Laws of the items of a text. The functions do nothing: what they promise is about the definitions alone.
 
-ghost use Rattle.bt_bib.specs.Laws.{AnyReserveServes, BoundaryStays, FaultIsFinal, FaultIsFirst};
+ghost use Rattle.bt_bib.specs.Laws.{AnyBoundServes, BoundaryStays, FaultIsFinal, FaultIsFirst};
 ghost use Rattle.bt_bib.specs.Laws.{LinesLieInside, RestIsMoved, SpansRise};
 ghost use Rattle.bt_bib.specs.SpelledLaws.{EnclosedTextsAreRead, SpelledPartsAreRead, SpelledValuesAreRead};
 ghost use Rattle.bt_bib.specs.SpelledLaws.{SpelledFieldsAreRead, SpelledItemsAreRead, SpelledDatabasesAreRead};
@@ -78,6 +78,6 @@ pub fn faultless_databases_are_spelled()
 {}
 
 /// Any number of readings above that of the bytes left serves the definitions as well: it is never reached.
-pub fn any_reserve_serves()
-    ensures { AnyReserveServes }
+pub fn any_bound_serves()
+    ensures { AnyBoundServes }
 {}

@@ -28,12 +28,12 @@ mod values;
 
 pub use aux_argument::AuxFault;
 pub use aux_line::{AuxItem, Command, read_aux};
-pub use fault::{Fault, What};
+pub use fault::{ItemFault, NameRole};
 pub use item::{Closing, Content, Definition, Entry, Field, Item, Part, Piece};
 pub use items::Items;
 pub use kept_items::KeptItems;
 pub use laws::{
-    any_reserve_serves, boundary_stays, enclosed_texts_are_read, fault_is_final, fault_is_first,
+    any_bound_serves, boundary_stays, enclosed_texts_are_read, fault_is_final, fault_is_first,
     faultless_databases_are_spelled, faultless_items_are_spelled, lines_lie_inside, rest_is_moved,
     spans_rise, spelled_databases_are_read, spelled_fields_are_read, spelled_items_are_read,
     spelled_parts_are_read, spelled_values_are_read,

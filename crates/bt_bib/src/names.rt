@@ -7,11 +7,11 @@ ghost use Rattle.bt_bib.specs.inner.Spot.{IsIn};
 ghost use Rattle.bt_bib.specs.inner.Stop.{Finds, Gives};
 ghost use Rattle.bt_bib.specs.Names.{name_ended, name, word};
 
-use crate::fault::{Fault, What};
+use crate::fault::{ItemFault, NameRole};
 use crate::reader::Reader;
 use crate::scan::Class;
 use crate::spot::Spot;
-use crate::stop::Halt;
+use crate::stop::ReadStop;
 use bt_text::{Bytes, Shared, is_digit, is_name_byte, is_white};
 
 /// Whether a byte is one of some signs.
@@ -24,25 +24,25 @@ fn is_one_of(signs: &[u8], byte: u8) -> bool
 impl Reader<'_> {
     /// The longest run of name bytes, which doesn't begin with a digit.
     #[tactic(auto, unfolding(crate::specs::Names::word))]
-    pub fn word(&self, from: Spot, what: What) -> Result<(Shared<Bytes>, Spot), Halt>
+    pub fn word(&self, from: Spot, what: NameRole) -> Result<(Shared<Bytes>, Spot), ReadStop>
         requires { IsIn self.now.text.now from }
         ensures { Gives self.now.text.now from result (word what (here self.now.text.now from)) }
     {
         let Some(byte) = self.peek(from) else {
-            return Err(Halt::Stopped(Fault::EndOfFile, from));
+            return Err(ReadStop::Stopped(ItemFault::EndOfFile, from));
         };
         if is_name_byte(byte) && !is_digit(byte) {
-            let end = self.past(from, Class::Name);
+            let end = self.after_run(from, Class::Name);
             let name = self.name_of(&self.text[from.place..end.place])?;
             Ok((name, end))
         } else {
-            Err(Halt::Stopped(Fault::MissingName(what), from))
+            Err(ReadStop::Stopped(ItemFault::MissingName(what), from))
         }
     }
 
     /// This place, where white space, the text's end or one of some signs stands.
     #[tactic(auto, unfolding(crate::specs::Names::name_ended))]
-    pub fn ended(&self, from: Spot, what: What, signs: &[u8]) -> Result<Spot, Halt>
+    pub fn ended(&self, from: Spot, what: NameRole, signs: &[u8]) -> Result<Spot, ReadStop>
         requires { IsIn self.now.text.now from }
         ensures { Finds self.now.text.now from result (name_ended what signs.now (here self.now.text.now from)) }
     {
@@ -52,13 +52,18 @@ impl Reader<'_> {
         if is_white(byte) || is_one_of(signs, byte) {
             Ok(from)
         } else {
-            Err(Halt::Stopped(Fault::BadNameEnd(what, byte), from))
+            Err(ReadStop::Stopped(ItemFault::BadNameEnd(what, byte), from))
         }
     }
 
     /// A name after which white space, the text's end or one of some signs stands.
     #[tactic(auto, unfolding(crate::specs::Names::name))]
-    pub fn name(&self, from: Spot, what: What, signs: &[u8]) -> Result<(Shared<Bytes>, Spot), Halt>
+    pub fn name(
+        &self,
+        from: Spot,
+        what: NameRole,
+        signs: &[u8],
+    ) -> Result<(Shared<Bytes>, Spot), ReadStop>
         requires { IsIn self.now.text.now from }
         ensures { Gives self.now.text.now from result (name what signs.now (here self.now.text.now from)) }
     {

@@ -5,16 +5,16 @@ ghost use Rattle.bt_bib.specs.Spot.{here};
 ghost use Rattle.bt_bib.specs.inner.Spot.{IsIn};
 ghost use Rattle.bt_bib.specs.inner.Stop.{Fills, Finds, Gives, Makes};
 ghost use Rattle.bt_bib.specs.Keywords.{keyword_of};
-ghost use Rattle.bt_bib.specs.Pieces.{closed, entry_item, opening, piece, preamble_item, preamble_read, string_item, string_read, item_of_type, unread_entry, unread_string};
+ghost use Rattle.bt_bib.specs.Pieces.{after_closing, entry_item, opening, piece, preamble_item, preamble_read, string_item, string_read, item_of_type, unread_entry, unread_string};
 ghost use Rattle.bt_bib.specs.inner.Pieces.{IsItem};
 
-use crate::fault::{Fault, What};
+use crate::fault::{ItemFault, NameRole};
 use crate::item::{Closing, Content, Definition, Entry, Item, Part, Piece};
 use crate::keywords::Keyword;
 use crate::reader::Reader;
 use crate::scan::Class;
 use crate::spot::Spot;
-use crate::stop::Halt;
+use crate::stop::ReadStop;
 use bt_text::{Bytes, Sequence, Shared};
 use std::alloc::{AllocError, Global};
 
@@ -24,15 +24,15 @@ fn item(
     line: usize,
     content: Content,
     close: Option<Closing>,
-    end: Result<Spot, Halt>,
+    end: Result<Spot, ReadStop>,
 ) -> Result<(Piece, Spot), AllocError>
     ensures { IfOk result (IsItem start line content close end) }
 {
     let (end, fault) = match end {
         Ok(end) => (end, None),
         Err(halt) => match halt {
-            Halt::Stopped(fault, end) => (end, Some(fault)),
-            Halt::Memory => return Err(AllocError),
+            ReadStop::Stopped(fault, end) => (end, Some(fault)),
+            ReadStop::Memory => return Err(AllocError),
         },
     };
     let item = Item {
@@ -47,7 +47,7 @@ fn item(
 }
 
 /// An item whose fault stands before its opening sign.
-fn unopened(start: Spot, content: Content, halt: Halt) -> Result<(Piece, Spot), AllocError>
+fn unopened(start: Spot, content: Content, halt: ReadStop) -> Result<(Piece, Spot), AllocError>
     ensures { IfOk result (IsItem start start.line content None (Err halt)) }
 {
     item(start, start.line, content, None, Err(halt))
@@ -67,28 +67,28 @@ fn unread_entry(alloc: Global, kind: Option<Shared<Bytes>>) -> Content
 impl Reader<'_> {
     /// How an item is closed that is opened here.
     #[tactic(auto, unfolding(crate::specs::Pieces::opening))]
-    fn opening(&self, from: Spot) -> Result<(Closing, Spot), Halt>
+    fn opening(&self, from: Spot) -> Result<(Closing, Spot), ReadStop>
         requires { IsIn self.now.text.now from }
         ensures { Gives self.now.text.now from result (opening (here self.now.text.now from)) }
     {
         let Some(byte) = self.peek(from) else {
-            return Err(Halt::Stopped(Fault::EndOfFile, from));
+            return Err(ReadStop::Stopped(ItemFault::EndOfFile, from));
         };
         if byte == b'{' {
-            Ok((Closing::Brace, self.behind(from)))
+            Ok((Closing::Brace, self.after_byte(from)))
         } else if byte == b'(' {
-            Ok((Closing::Parenthesis, self.behind(from)))
+            Ok((Closing::Parenthesis, self.after_byte(from)))
         } else {
-            Err(Halt::Stopped(Fault::ExpectedOpen, from))
+            Err(ReadStop::Stopped(ItemFault::ExpectedOpen, from))
         }
     }
 
     /// The place after the closing sign.
-    fn closed(&self, from: Spot, close: Closing) -> Result<Spot, Halt>
+    fn after_closing(&self, from: Spot, close: Closing) -> Result<Spot, ReadStop>
         requires { IsIn self.now.text.now from }
-        ensures { Finds self.now.text.now from result (closed close (here self.now.text.now from)) }
+        ensures { Finds self.now.text.now from result (after_closing close (here self.now.text.now from)) }
     {
-        self.sign(from, close.sign(), Fault::ExpectedCommaOrClose)
+        self.sign(from, close.sign(), ItemFault::ExpectedCommaOrClose)
     }
 
     /// An entry from its key on.
@@ -104,7 +104,7 @@ impl Reader<'_> {
     {
         let (key, end) = self.run(from, Class::Key(close))?;
         let mut found = Sequence::new(self.alloc);
-        let end = self.fields(self.white(end), close, &mut found);
+        let end = self.fields(self.after_white(end), close, &mut found);
         let entry = Entry {
             kind: Some(kind),
             key: Some(key),
@@ -114,17 +114,22 @@ impl Reader<'_> {
     }
 
     /// Reads a string from its name on into `found`, up to its end or its fault.
-    fn read_string(&self, from: Spot, close: Closing, found: &mut Definition) -> Result<Spot, Halt>
+    fn read_string(
+        &self,
+        from: Spot,
+        close: Closing,
+        found: &mut Definition,
+    ) -> Result<Spot, ReadStop>
         requires at { IsIn self.now.text.now from }
         requires unread { Content.Define found.old ≡ unread_string }
         ensures { Fills self.now.text.now from result found.new (string_read close (here self.now.text.now from)) }
     {
-        let (name, end) = self.name(from, What::StringName, b"=")?;
+        let (name, end) = self.name(from, NameRole::StringName, b"=")?;
         found.name = Some(name);
-        let equals = self.sign(self.white(end), b'=', Fault::ExpectedEquals)?;
-        let (value, end) = self.value(self.white(equals), close)?;
+        let equals = self.sign(self.after_white(end), b'=', ItemFault::ExpectedEquals)?;
+        let (value, end) = self.value(self.after_white(equals), close)?;
         found.value = Some(value);
-        self.closed(end, close)
+        self.after_closing(end, close)
     }
 
     /// A string from its name on.
@@ -155,14 +160,14 @@ impl Reader<'_> {
         from: Spot,
         close: Closing,
         found: &mut Option<Sequence<Part>>,
-    ) -> Result<Spot, Halt>
+    ) -> Result<Spot, ReadStop>
         requires at { IsIn self.now.text.now from }
         requires unread { found.old ≡ None }
         ensures { Fills self.now.text.now from result found.new (preamble_read close (here self.now.text.now from)) }
     {
         let (value, end) = self.value(from, close)?;
         *found = Some(value);
-        self.closed(end, close)
+        self.after_closing(end, close)
     }
 
     /// A preamble from its value on.
@@ -191,7 +196,7 @@ impl Reader<'_> {
         requires { IsIn self.now.text.now from }
         ensures { Makes self.now.text.now from result (item_of_type Keyword.String start [] (here self.now.text.now from)) }
     {
-        match self.opening(self.white(from)) {
+        match self.opening(self.after_white(from)) {
             Err(halt) => {
                 let unread = Definition {
                     name: None,
@@ -199,7 +204,7 @@ impl Reader<'_> {
                 };
                 unopened(start, Content::Define(unread), halt)
             }
-            Ok(opened) => self.string_item(start, opened.0, self.white(opened.1)),
+            Ok(opened) => self.string_item(start, opened.0, self.after_white(opened.1)),
         }
     }
 
@@ -208,9 +213,9 @@ impl Reader<'_> {
         requires { IsIn self.now.text.now from }
         ensures { Makes self.now.text.now from result (item_of_type Keyword.Preamble start [] (here self.now.text.now from)) }
     {
-        match self.opening(self.white(from)) {
+        match self.opening(self.after_white(from)) {
             Err(halt) => unopened(start, Content::Preamble(None), halt),
-            Ok(opened) => self.preamble_item(start, opened.0, self.white(opened.1)),
+            Ok(opened) => self.preamble_item(start, opened.0, self.after_white(opened.1)),
         }
     }
 
@@ -224,9 +229,9 @@ impl Reader<'_> {
         requires { IsIn self.now.text.now from }
         ensures { Makes self.now.text.now from result (item_of_type Keyword.Entry start kind (here self.now.text.now from)) }
     {
-        match self.opening(self.white(from)) {
+        match self.opening(self.after_white(from)) {
             Err(halt) => unopened(start, unread_entry(self.alloc, Some(kind)), halt),
-            Ok(opened) => self.entry_item(start, kind, opened.0, self.white(opened.1)),
+            Ok(opened) => self.entry_item(start, kind, opened.0, self.after_white(opened.1)),
         }
     }
 
@@ -254,12 +259,12 @@ impl Reader<'_> {
         requires { IsIn self.now.text.now start }
         ensures { Makes self.now.text.now start result (piece (here self.now.text.now start)) }
     {
-        let from = self.white(self.behind(start));
-        let (kind, end) = match self.word(from, What::EntryType) {
+        let from = self.after_white(self.after_byte(start));
+        let (kind, end) = match self.word(from, NameRole::EntryType) {
             Ok(read) => read,
             Err(halt) => return unopened(start, unread_entry(self.alloc, None), halt),
         };
-        match self.ended(end, What::EntryType, b"{(") {
+        match self.ended(end, NameRole::EntryType, b"{(") {
             Ok(end) => self.typed(start, kind, end),
             Err(halt) => unopened(start, unread_entry(self.alloc, Some(kind)), halt),
         }

@@ -6,7 +6,7 @@ ghost use Rattle.bt_bib.specs.Moved.{moved_piece, nowhere};
 ghost use Rattle.bt_bib.specs.Moving.{FitsPiece};
 ghost use Rattle.bt_bib.specs.inner.Moving.{rebased_piece};
 ghost use Rattle.bt_bib.specs.Placed.{IsPlaced};
-ghost use Rattle.bt_bib.specs.inner.Placed.{BeginsBehind};
+ghost use Rattle.bt_bib.specs.inner.Placed.{BeginsAfter};
 
 use crate::item::Piece;
 use crate::moving::rebased;
@@ -71,7 +71,7 @@ impl PlacedPiece {
     /// The same piece for one more owner, where the text from `a` on stands from `b` on.
     pub(crate) fn rebased(&self, a: Spot, b: Spot) -> Result<Self, AllocError>
         requires fits { FitsPiece a b self.now }
-        requires behind { BeginsBehind a self.now }
+        requires after_byte { BeginsAfter a self.now }
         ensures { IfOk result (λ moved. moved ≡ rebased_piece a b self.now) }
     {
         Ok(PlacedPiece {

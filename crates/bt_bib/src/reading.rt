@@ -4,7 +4,7 @@ ghost use Rattle.std.specs.Prelude.{◌≡◌, ◌==◌, IfOk};
 ghost use Rattle.bt_bib.specs.Spot.{here};
 ghost use Rattle.bt_bib.specs.inner.Spot.{IsAhead, IsIn};
 ghost use Rattle.bt_bib.specs.inner.Stop.{Makes};
-ghost use Rattle.bt_bib.specs.Scan.{past};
+ghost use Rattle.bt_bib.specs.Scan.{after_run};
 ghost use Rattle.bt_bib.specs.Pieces.{is_text, next_piece, piece};
 ghost use Rattle.bt_bib.specs.Reading.{pieces_from, pieces_of};
 
@@ -22,7 +22,7 @@ impl Reader<'_> {
     /// The next `@`, or the text's end.
     fn seek(&self, from: Spot) -> Spot
         requires { IsIn self.now.text.now from }
-        ensures value { here self.now.text.now result ≡ past is_text (here self.now.text.now from) }
+        ensures value { here self.now.text.now result ≡ after_run is_text (here self.now.text.now from) }
         ensures inside { IsAhead self.now.text.now from result }
     {
         let rest = &self.text[from.place..];

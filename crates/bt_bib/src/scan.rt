@@ -1,17 +1,17 @@
 //! Scans of a text: runs of bytes and signs.
 
 ghost use Rattle.std.specs.Prelude.{◌≡◌, ◌<◌, ◌≤◌, ◌+◌, ◌-◌, ◌^◌, count_by, drop, length, take, IfOk};
-ghost use Rattle.bt_bib.specs.Spot.{after, behind, here, is_line_end, passed};
+ghost use Rattle.bt_bib.specs.Spot.{spot_after_byte, after_byte, here, is_line_end, spot_after};
 ghost use Rattle.bt_bib.specs.inner.Spot.{IsAhead, IsIn};
-ghost use Rattle.bt_bib.specs.Scan.{closing_sign, first, is_key_byte, past, run, sign, white};
+ghost use Rattle.bt_bib.specs.Scan.{closing_sign, first, is_key_byte, after_run, run, sign, after_white};
 ghost use Rattle.bt_bib.specs.inner.Scan.{has};
 ghost use Rattle.bt_bib.specs.inner.Stop.{Finds, Makes};
 
-use crate::fault::Fault;
+use crate::fault::ItemFault;
 use crate::item::Closing;
 use crate::reader::Reader;
 use crate::spot::Spot;
-use crate::stop::Halt;
+use crate::stop::ReadStop;
 use bt_text::{Bytes, Shared, is_digit, is_name_byte, is_white};
 use memchr::memchr;
 use std::alloc::AllocError;
@@ -84,9 +84,9 @@ impl Reader<'_> {
     }
 
     /// The place after one byte, or this one at the end.
-    pub fn behind(&self, at: Spot) -> Spot
+    pub fn after_byte(&self, at: Spot) -> Spot
         requires { IsIn self.now.text.now at }
-        ensures value { here self.now.text.now result ≡ behind (here self.now.text.now at) }
+        ensures value { here self.now.text.now result ≡ after_byte (here self.now.text.now at) }
         ensures inside { IsAhead self.now.text.now at result }
     {
         if at.place < self.text.len() {
@@ -100,7 +100,7 @@ impl Reader<'_> {
     pub fn ahead(&self, from: Spot, count: usize) -> Spot
         requires at { IsIn self.now.text.now from }
         requires within { from.place + count ≤ length self.now.text.now }
-        ensures value { result ≡ passed (take count (drop from.place self.now.text.now)) from }
+        ensures value { result ≡ spot_after (take count (drop from.place self.now.text.now)) from }
         ensures inside { IsAhead self.now.text.now from result }
     {
         let end = from.place + count;
@@ -112,9 +112,9 @@ impl Reader<'_> {
     }
 
     /// The place after the longest run of bytes of a class.
-    pub fn past(&self, from: Spot, class: Class) -> Spot
+    pub fn after_run(&self, from: Spot, class: Class) -> Spot
         requires { IsIn self.now.text.now from }
-        ensures value { here self.now.text.now result ≡ past (has class) (here self.now.text.now from) }
+        ensures value { here self.now.text.now result ≡ after_run (has class) (here self.now.text.now from) }
         ensures inside { IsAhead self.now.text.now from result }
     {
         let mut at = from;
@@ -125,21 +125,21 @@ impl Reader<'_> {
     }
 
     /// The place after the white space.
-    pub fn white(&self, from: Spot) -> Spot
+    pub fn after_white(&self, from: Spot) -> Spot
         requires { IsIn self.now.text.now from }
-        ensures value { here self.now.text.now result ≡ white (here self.now.text.now from) }
+        ensures value { here self.now.text.now result ≡ after_white (here self.now.text.now from) }
         ensures inside { IsAhead self.now.text.now from result }
     {
-        self.past(from, Class::White)
+        self.after_run(from, Class::White)
     }
 
     /// The longest run of bytes of a class.
     #[tactic(auto, using(crate::proofs::RunLemmas::run_taken))]
     pub fn run(&self, from: Spot, class: Class) -> Result<(Shared<Bytes>, Spot), AllocError>
         requires { IsIn self.now.text.now from }
-        ensures { Makes self.now.text.now from result (run (has class) (here self.now.text.now from), past (has class) (here self.now.text.now from)) }
+        ensures { Makes self.now.text.now from result (run (has class) (here self.now.text.now from), after_run (has class) (here self.now.text.now from)) }
     {
-        let end = self.past(from, class);
+        let end = self.after_run(from, class);
         Ok((
             Shared::<Bytes>::copied(self.alloc, &self.text[from.place..end.place])?,
             end,
@@ -148,17 +148,17 @@ impl Reader<'_> {
 
     /// The place after a byte that must stand here. Another byte is this fault.
     #[tactic(auto, unfolding(crate::specs::Scan::sign))]
-    pub fn sign(&self, from: Spot, wanted: u8, fault: Fault) -> Result<Spot, Halt>
+    pub fn sign(&self, from: Spot, expected: u8, fault: ItemFault) -> Result<Spot, ReadStop>
         requires { IsIn self.now.text.now from }
-        ensures { Finds self.now.text.now from result (sign wanted fault (here self.now.text.now from)) }
+        ensures { Finds self.now.text.now from result (sign expected fault (here self.now.text.now from)) }
     {
         let Some(byte) = self.peek(from) else {
-            return Err(Halt::Stopped(Fault::EndOfFile, from));
+            return Err(ReadStop::Stopped(ItemFault::EndOfFile, from));
         };
-        if byte == wanted {
-            Ok(self.behind(from))
+        if byte == expected {
+            Ok(self.after_byte(from))
         } else {
-            Err(Halt::Stopped(fault, from))
+            Err(ReadStop::Stopped(fault, from))
         }
     }
 }

@@ -1,7 +1,7 @@
 //! A place of a text, with its line.
 
 ghost use Rattle.std.specs.Prelude.{◌≡◌, ◌+◌, ◌<◌, ◌^◌};
-ghost use Rattle.bt_bib.specs.Spot.{after, start};
+ghost use Rattle.bt_bib.specs.Spot.{spot_after_byte, start};
 
 /// A place of a text: how many bytes stand before it, and its line, which is 1 plus the number of line feeds among
 /// them. The text's end is a place too.
@@ -24,7 +24,7 @@ impl Spot {
     pub(crate) fn after(self, byte: u8) -> Spot
         requires place { self.place + 1 < 2 ^ 64 }
         requires line { self.line + 1 < 2 ^ 64 }
-        ensures { result ≡ after byte self }
+        ensures { result ≡ spot_after_byte byte self }
     {
         let line = if byte == b'\n' {
             self.line + 1

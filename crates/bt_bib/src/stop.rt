@@ -1,33 +1,33 @@
 //! Why a reader gives no value.
 
 ghost use Rattle.std.specs.Prelude.{◌≡◌};
-ghost use Rattle.bt_bib.specs.declared.stop.Halt.TheVariants.{Memory};
+ghost use Rattle.bt_bib.specs.declared.stop.ReadStop.TheVariants.{Memory};
 
-use crate::fault::Fault;
+use crate::fault::ItemFault;
 use crate::spot::Spot;
 use std::alloc::{AllocError, AllocFailed};
 
 /// Why a reader gives no value.
 #[derive(Debug, Drop)]
-pub enum Halt {
+pub enum ReadStop {
     /// There is no memory left.
     Memory,
     /// No rule goes on at this place.
-    Stopped(Fault, Spot),
+    Stopped(ItemFault, Spot),
 }
 
-impl From<AllocError> for Halt {
+impl From<AllocError> for ReadStop {
     ghost from_gives = { λ _ halt. halt ≡ Memory };
 
-    fn from(_error: AllocError) -> Halt {
-        Halt::Memory
+    fn from(_error: AllocError) -> ReadStop {
+        ReadStop::Memory
     }
 }
 
-impl<T: Drop> From<AllocFailed<T>> for Halt {
+impl<T: Drop> From<AllocFailed<T>> for ReadStop {
     ghost from_gives = { λ _ halt. halt ≡ Memory };
 
-    fn from(_error: AllocFailed<T>) -> Halt {
-        Halt::Memory
+    fn from(_error: AllocFailed<T>) -> ReadStop {
+        ReadStop::Memory
     }
 }

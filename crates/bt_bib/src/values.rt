@@ -4,64 +4,64 @@ ghost use Rattle.bt_bib.specs.Spot.{here};
 ghost use Rattle.bt_bib.specs.inner.Spot.{IsIn};
 ghost use Rattle.bt_bib.specs.inner.Stop.{Gives};
 ghost use Rattle.bt_bib.specs.Many.{all, collected};
-ghost use Rattle.bt_bib.specs.Values.{joined, part, raw_part, value};
+ghost use Rattle.bt_bib.specs.Values.{next_part, part, raw_part, value};
 
-use crate::fault::{Fault, What};
+use crate::fault::{ItemFault, NameRole};
 use crate::item::{Closing, Part};
 use crate::reader::Reader;
 use crate::scan::Class;
 use crate::spot::Spot;
-use crate::stop::Halt;
+use crate::stop::ReadStop;
 use bt_text::{Sequence, is_digit, is_name_byte};
 
 impl Reader<'_> {
     /// A part of a value.
-    fn raw_part(&self, from: Spot, close: Closing) -> Result<(Part, Spot), Halt>
+    fn raw_part(&self, from: Spot, close: Closing) -> Result<(Part, Spot), ReadStop>
         requires { IsIn self.now.text.now from }
         ensures { Gives self.now.text.now from result (raw_part close (here self.now.text.now from)) }
     {
         let Some(byte) = self.peek(from) else {
-            return Err(Halt::Stopped(Fault::EndOfFile, from));
+            return Err(ReadStop::Stopped(ItemFault::EndOfFile, from));
         };
         if byte == b'{' {
-            let (found, end) = self.enclosed(self.behind(from), b'}')?;
-            Ok((Part::Text(found), self.behind(end)))
+            let (found, end) = self.enclosed(self.after_byte(from), b'}')?;
+            Ok((Part::Text(found), self.after_byte(end)))
         } else if byte == b'"' {
-            let (found, end) = self.enclosed(self.behind(from), b'"')?;
-            Ok((Part::Text(found), self.behind(end)))
+            let (found, end) = self.enclosed(self.after_byte(from), b'"')?;
+            Ok((Part::Text(found), self.after_byte(end)))
         } else if is_digit(byte) {
             let (found, end) = self.run(from, Class::Digit)?;
             Ok((Part::Text(found), end))
         } else if is_name_byte(byte) {
             let signs = [b',', b'#', close.sign()];
-            let (found, end) = self.name(from, What::FieldPart, &signs)?;
+            let (found, end) = self.name(from, NameRole::FieldPart, &signs)?;
             Ok((Part::Macro(found, from.line), end))
         } else {
-            Err(Halt::Stopped(Fault::MissingPart, from))
+            Err(ReadStop::Stopped(ItemFault::MissingPart, from))
         }
     }
 
     /// A part of a value, and the white space after it.
     #[tactic(auto, unfolding(crate::specs::Values::part))]
-    fn part(&self, from: Spot, close: Closing) -> Result<(Part, Spot), Halt>
+    fn part(&self, from: Spot, close: Closing) -> Result<(Part, Spot), ReadStop>
         requires { IsIn self.now.text.now from }
         ensures { Gives self.now.text.now from result (part close (here self.now.text.now from)) }
     {
         let (part, end) = self.raw_part(from, close)?;
-        Ok((part, self.white(end)))
+        Ok((part, self.after_white(end)))
     }
 
     /// Another part after a `#`, or none.
-    #[tactic(auto, unfolding(crate::specs::Values::joined))]
-    fn joined(&self, from: Spot, close: Closing) -> Result<(Option<Part>, Spot), Halt>
+    #[tactic(auto, unfolding(crate::specs::Values::next_part))]
+    fn next_part(&self, from: Spot, close: Closing) -> Result<(Option<Part>, Spot), ReadStop>
         requires { IsIn self.now.text.now from }
-        ensures { Gives self.now.text.now from result (joined close (here self.now.text.now from)) }
+        ensures { Gives self.now.text.now from result (next_part close (here self.now.text.now from)) }
     {
         let Some(byte) = self.peek(from) else {
             return Ok((None, from));
         };
         if byte == b'#' {
-            let (part, end) = self.part(self.white(self.behind(from)), close)?;
+            let (part, end) = self.part(self.after_white(self.after_byte(from)), close)?;
             Ok((Some(part), end))
         } else {
             Ok((None, from))
@@ -74,14 +74,14 @@ impl Reader<'_> {
         from: Spot,
         close: Closing,
         parts: Sequence<Part>,
-    ) -> Result<(Sequence<Part>, Spot), Halt>
+    ) -> Result<(Sequence<Part>, Spot), ReadStop>
         requires { IsIn self.now.text.now from }
-        ensures { Gives self.now.text.now from result (collected parts (all (joined close) (here self.now.text.now from))) }
+        ensures { Gives self.now.text.now from result (collected parts (all (next_part close) (here self.now.text.now from))) }
     {
         let mut parts = parts;
         let mut at = from;
         'parts: loop {
-            let (next, end) = self.joined(at, close)?;
+            let (next, end) = self.next_part(at, close)?;
             match next {
                 None => return Ok((parts, end)),
                 Some(part) => parts.push(part)?,
@@ -92,7 +92,7 @@ impl Reader<'_> {
 
     /// A value, and the white space after it.
     #[tactic(auto, unfolding(crate::specs::Values::value))]
-    pub fn value(&self, from: Spot, close: Closing) -> Result<(Sequence<Part>, Spot), Halt>
+    pub fn value(&self, from: Spot, close: Closing) -> Result<(Sequence<Part>, Spot), ReadStop>
         requires { IsIn self.now.text.now from }
         ensures { Gives self.now.text.now from result (value close (here self.now.text.now from)) }
     {

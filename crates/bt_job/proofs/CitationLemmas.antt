@@ -13,7 +13,7 @@ use Rattle.bt_job.specs.declared.citations.Citations.{Citations}
 use Rattle.bt_job.specs.declared.progress.Progress.{Progress}
 use Rattle.bt_job.specs.Naming.{is_among, text_of, with_name}
 use Rattle.bt_job.specs.Lines.{JobLine, lines_in, lines_of, first_with, cited, read_on, line_count, read_all, job_lines}
-use Rattle.bt_job.specs.Citations.{is_star, keys_of, star_of, databases, styles, messages, file_line, lack, lacks, told_missing, asked_by, asked_from, citations}
+use Rattle.bt_job.specs.Citations.{is_star, keys_of, star_of, databases, styles, messages, file_line, missing_of, lacks, told_missing, asked_by, asked_from, citations}
 use Rattle.bt_job.specs.inner.Taking.{told, meeting}
 use Rattle.bt_job.specs.inner.Nesting.{file_taken, nothing_met, is_empty, missing_one, ended, rooted, asked_for}
 use Rattle.bt_job.proofs.NameLemmas.{bytes_differ}
@@ -75,14 +75,14 @@ lack_told root command nothing true false r = ap (λ l. record r { log = l }) (s
 not_empty : {A : Type 0} (x : A) (xs : List A) → is_empty (x ∷ xs) ≡ false
 not_empty x xs = let one : length (x ∷ xs) ≡ suc (length xs) = refl in grind (arith, one)
 
-lack_is : (o : Option JobLine) (names : List (List ℕ)) (command nothing : List ℕ) → cond (not (is_some o)) (command ∷ []) (cond (is_empty names) (nothing ∷ []) []) ≡ lack o names command nothing
+lack_is : (o : Option JobLine) (names : List (List ℕ)) (command nothing : List ℕ) → cond (not (is_some o)) (command ∷ []) (cond (is_empty names) (nothing ∷ []) []) ≡ missing_of o names command nothing
 lack_is None names command nothing = refl
 lack_is (Some line) [] command nothing = refl
 lack_is (Some line) (n ∷ ns) command nothing = ap (λ b. cond b (nothing ∷ []) []) (not_empty n ns)
 
 -- a lack, by what it is reported from
 lack_by : (root command nothing : List ℕ) (met none : Bool) (o : Option JobLine) (names : List (List ℕ)) (r : Progress) → met ≡ is_some o → none ≡ is_empty names
-    → missing_one met none command nothing root r ≡ logged r (map (told_missing root) (lack o names command nothing))
+    → missing_one met none command nothing root r ≡ logged r (map (told_missing root) (missing_of o names command nothing))
 lack_by root command nothing met none o names r is_met is_none =
     lack_told root command nothing met none r
     ∙ ap (λ ls. logged r (map (told_missing root) ls)) (ap₂ (λ m e. cond (not m) (command ∷ []) (cond e (nothing ∷ []) [])) is_met is_none ∙ lack_is o names command nothing)
@@ -121,9 +121,9 @@ no_name (n ∷ ns) = sym (not_empty n ns)
 end_told : (files : List File) (root : List ℕ) (lines : List JobLine) (r : Progress) → Holds files root lines r → ended root r ≡ record r { log = messages files root lines ++ map (told_missing root) (lacks files lines) }
 unfolding ended
 end_told files root lines r h =
-    let a = lack (first_with Citation lines) (cited lines) (codes "\\citation commands") (codes "cite keys") in
-    let b = lack (first_with Database lines) (databases files lines) (codes "\\bibdata command") (codes "database files") in
-    let c = lack (first_with Style lines) (styles files lines) (codes "\\bibstyle command") (codes "style file") in
+    let a = missing_of (first_with Citation lines) (cited lines) (codes "\\citation commands") (codes "cite keys") in
+    let b = missing_of (first_with Database lines) (databases files lines) (codes "\\bibdata command") (codes "database files") in
+    let c = missing_of (first_with Style lines) (styles files lines) (codes "\\bibstyle command") (codes "style file") in
     let say : List (List ℕ) → List Message = map (told_missing root) in
     let first = lack_by root (codes "\\citation commands") (codes "cite keys") r.citation_met (is_empty r.keys && is_none r.star) (first_with Citation lines) (cited lines) r h.citation
     (ap₂ (λ k s. is_empty k && is_none s) h.are_keys h.is_star ∙ nothing_cited (cited lines)) in

@@ -11,7 +11,7 @@ use Rattle.bt_job.specs.declared.progress.Progress.{Progress}
 use Rattle.bt_job.specs.declared.progress.Outcome.TheVariants.{Taken}
 use Rattle.bt_job.specs.Naming.{is_among, with_ending, with_name}
 use Rattle.bt_job.specs.Faults.{LineFault, SecondCommand, IllEnded, style_fault, input_fault, right_parts}
-use Rattle.bt_job.specs.Lines.{JobLine, lines_of, first_with, style_names, input_names, argument_fault, once, line_fault, lines_opened}
+use Rattle.bt_job.specs.Lines.{JobLine, lines_of, first_with, style_names, input_names, argument_fault, unless_second, line_fault, lines_opened}
 use Rattle.bt_job.specs.Citations.{keys_of, star_of, missed, messages}
 use Rattle.bt_job.specs.inner.Taking.{named, going_on, item_taken}
 use Rattle.bt_job.proofs.PartLemmas.{end_outcome, right_wrong, right_more, first_wrong, first_more}
@@ -30,7 +30,7 @@ second_style files root lines r level file n parts end first h e =
     let line = line_at level file n Style parts end in
     let again = again_first Style lines line first refl e in
     let f = SecondCommand (codes "\\bibstyle") in
-    let wrong : line_fault files root lines line ≡ Some f = fault_of_line files root lines line ∙ ap (λ o. once (codes "\\bibstyle") o (argument_fault (style_fault files) [] (style_names parts) end)) e in
+    let wrong : line_fault files root lines line ≡ Some f = fault_of_line files root lines line ∙ ap (λ o. unless_second (codes "\\bibstyle") o (argument_fault (style_fault files) [] (style_names parts) end)) e in
     subst (Steps files root lines line) (sym (item_is files line.item r true (h.bibstyle ∙ ap is_some e))) (
       record {
         are_keys = h.are_keys ∙ ap keys_of (sym (same_cited lines line refl));
@@ -82,7 +82,7 @@ styled_by files root lines r level file n part None h e fault here =
     let line = line_at level file n Style (part ∷ []) None in
     let name = with_ending (codes ".bst") part in
     let right : line_fault files root lines line ≡ None =
-    fault_of_line files root lines line ∙ ap (λ o. once (codes "\\bibstyle") o (argument_fault (style_fault files) [] (name ∷ []) None)) e
+    fault_of_line files root lines line ∙ ap (λ o. unless_second (codes "\\bibstyle") o (argument_fault (style_fault files) [] (name ∷ []) None)) e
     ∙ ap (λ o. option_or o None) (first_more (style_fault files) [] name [] fault) in
     subst (λ x. Steps files root lines line (going_on (λ q. (q, Taken)) x)) (sym here) (
       styled_holds files root lines r level file n (part ∷ []) None None (Some name) r.wanted _ h e (sym (ap (λ ns. slice_get ns 0) (right_more (style_fault files) [] name [] fault)))
@@ -93,7 +93,7 @@ styled_by files root lines r level file n part (Some f) h e fault here =
     let line = line_at level file n Style (part ∷ []) None in
     let name = with_ending (codes ".bst") part in
     let wrong : line_fault files root lines line ≡ Some f =
-    fault_of_line files root lines line ∙ ap (λ o. once (codes "\\bibstyle") o (argument_fault (style_fault files) [] (name ∷ []) None)) e
+    fault_of_line files root lines line ∙ ap (λ o. unless_second (codes "\\bibstyle") o (argument_fault (style_fault files) [] (name ∷ []) None)) e
     ∙ ap (λ o. option_or o None) (first_wrong (style_fault files) [] name [] f fault) in
     subst (λ x. Steps files root lines line (going_on (λ q. (q, Taken)) x)) (sym here) (
       styled_holds files root lines r level file n (part ∷ []) None (Some f) r.style _ _ h e (no_style files root lines r h e ∙ sym (ap (λ ns. slice_get ns 0) (right_wrong (style_fault files) [] name [] f fault)))
@@ -107,7 +107,7 @@ style_steps files root lines r level file n parts end (Some first) h whole e = s
 style_steps files root lines r level file n [] None None h whole e = absurd whole
 style_steps files root lines r level file n [] (Some f) None h whole e =
     let line = line_at level file n Style [] (Some f) in
-    let wrong : line_fault files root lines line ≡ Some (IllEnded f) = fault_of_line files root lines line ∙ ap (λ o. once (codes "\\bibstyle") o (Some (IllEnded f))) e in
+    let wrong : line_fault files root lines line ≡ Some (IllEnded f) = fault_of_line files root lines line ∙ ap (λ o. unless_second (codes "\\bibstyle") o (Some (IllEnded f))) e in
     subst (Steps files root lines line) (sym (item_is files line.item r false (h.bibstyle ∙ ap is_some e) ∙ ap (λ x. (record r { style_met = true }, x)) (end_outcome (Some f)))) (
       styled_holds files root lines r level file n [] (Some f) (Some (IllEnded f)) r.style r.wanted _ h e (no_style files root lines r h e) (spoken files root lines line r.log (Some (IllEnded f)) h.is_log wrong) wrong refl,
       opens_wrong files root lines line (IllEnded f) wrong,

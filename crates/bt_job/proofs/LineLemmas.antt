@@ -19,7 +19,7 @@ use Rattle.bt_job.specs.declared.progress.Outcome.TheVariants.{Taken, Wrong, Ope
 use Rattle.bt_job.specs.Naming.{is_among, text_of, with_name, each_once}
 use Rattle.bt_job.specs.Faults.{LineFault, SecondStar, OtherSpelling, IllEnded, words, key_fault, spelling_fault, right_parts}
 use Rattle.bt_job.specs.Lines.{JobLine, lines_of, has_command, first_with, cited, input_names, argument_fault, command_fault, line_fault, lines_opened, opened_by}
-use Rattle.bt_job.specs.Citations.{keys_of, star_of, databases, styles, missed, along, wanted, file_line, told_of, messages}
+use Rattle.bt_job.specs.Citations.{keys_of, star_of, databases, styles, missed, along, wanted, file_line, line_messages, messages}
 use Rattle.bt_job.specs.inner.Taking.{told, logged_at}
 use Rattle.bt_job.proofs.PartLemmas.{first_wrong, first_more}
 use Rattle.bt_job.proofs.FileLemmas.{is_base, is_input}
@@ -94,11 +94,11 @@ along-append f before (l ∷ ls) line =
     ∙ sym (append_assoc (f before l) (along f (before ++ l ∷ []) ls) (f (before ++ l ∷ ls) line))
 
 pub more_messages : (files : List File) (root : List ℕ) (lines : List JobLine) (line : JobLine) (o : Option LineFault) → line_fault files root lines line ≡ o
-    → messages files root (lines ++ line ∷ []) ≡ messages files root lines ++ told_of line o
+    → messages files root (lines ++ line ∷ []) ≡ messages files root lines ++ line_messages line o
 more_messages files root lines line o is =
     ap (λ ms. plain FileLine (file_line 0 root) ∷ ms)
-    (along-append (λ before l. told_of l (line_fault files root before l)) [] lines line
-    ∙ ap (λ x. along (λ before l. told_of l (line_fault files root before l)) [] lines ++ told_of line x) is)
+    (along-append (λ before l. line_messages l (line_fault files root before l)) [] lines line
+    ∙ ap (λ x. along (λ before l. line_messages l (line_fault files root before l)) [] lines ++ line_messages line x) is)
 
 pub more_wanted : (files : List File) (root : List ℕ) (lines : List JobLine) (line : JobLine) (o : Option LineFault) → line_fault files root lines line ≡ o
     → wanted files root (lines ++ line ∷ []) ≡ fold with_name (wanted files root lines) (missed o)

@@ -12,8 +12,8 @@ use Rattle.bt_job.specs.declared.progress.Progress.{Progress}
 use Rattle.bt_job.specs.declared.progress.Outcome.TheVariants.{Wrong}
 use Rattle.bt_job.specs.Naming.{is_among, is_file_name, with_name}
 use Rattle.bt_job.specs.Faults.{LineFault, SecondCommand, key_fault, database_fault, style_fault, right_parts}
-use Rattle.bt_job.specs.Lines.{JobLine, has_command, first_with, line_parts, cited, database_names, style_names, argument_fault, once, line_fault}
-use Rattle.bt_job.specs.Citations.{keys_of, star_of, missed, wanted, told_of, messages}
+use Rattle.bt_job.specs.Lines.{JobLine, has_command, first_with, line_parts, cited, database_names, style_names, argument_fault, unless_second, line_fault}
+use Rattle.bt_job.specs.Citations.{keys_of, star_of, missed, wanted, line_messages, messages}
 use Rattle.bt_job.specs.inner.Taking.{parts_taken, is_second, second_words, command_met, item_taken}
 use Rattle.bt_job.proofs.CitedLemmas.{cited_to, all_cited}
 use Rattle.bt_job.proofs.EndingLemmas.{base_ends, aux_not_base}
@@ -42,15 +42,15 @@ pub now_first : (command : Command) (lines : List JobLine) (line : JobLine) → 
 now_first command lines line is e = new_first command lines line is ∙ ap (λ o. option_or o (Some line)) e
 
 -- messages and wanted names of a line without a fault that says nothing
-pub silent : (files : List File) (root : List ℕ) (lines : List JobLine) (line : JobLine) (log : List Message) → log ≡ messages files root lines → line_fault files root lines line ≡ None → told_of line None ≡ []
+pub silent : (files : List File) (root : List ℕ) (lines : List JobLine) (line : JobLine) (log : List Message) → log ≡ messages files root lines → line_fault files root lines line ≡ None → line_messages line None ≡ []
     → log ≡ messages files root (lines ++ line ∷ [])
 silent files root lines line log is e none =
     is ∙ sym (more_messages files root lines line None e ∙ ap (λ ms. messages files root lines ++ ms) none ∙ append-nil (messages files root lines))
 
 -- messages with those of a line
 pub spoken : (files : List File) (root : List ℕ) (lines : List JobLine) (line : JobLine) (log : List Message) (o : Option LineFault) → log ≡ messages files root lines → line_fault files root lines line ≡ o
-    → log ++ told_of line o ≡ messages files root (lines ++ line ∷ [])
-spoken files root lines line log o is e = ap (λ ms. ms ++ told_of line o) is ∙ sym (more_messages files root lines line o e)
+    → log ++ line_messages line o ≡ messages files root (lines ++ line ∷ [])
+spoken files root lines line log o is e = ap (λ ms. ms ++ line_messages line o) is ∙ sym (more_messages files root lines line o e)
 
 -- wanted names with those of a line
 pub sought : (files : List File) (root : List ℕ) (lines : List JobLine) (line : JobLine) (names : List (List ℕ)) (o : Option LineFault) → names ≡ wanted files root lines → line_fault files root lines line ≡ o
@@ -117,7 +117,7 @@ second_database files root lines r level file n parts end first h e =
     let line = line_at level file n Database parts end in
     let again = again_first Database lines line first refl e in
     let f = SecondCommand (codes "\\bibdata") in
-    let wrong : line_fault files root lines line ≡ Some f = fault_of_line files root lines line ∙ ap (λ o. once (codes "\\bibdata") o (argument_fault (database_fault files) [] (database_names parts) end)) e in
+    let wrong : line_fault files root lines line ≡ Some f = fault_of_line files root lines line ∙ ap (λ o. unless_second (codes "\\bibdata") o (argument_fault (database_fault files) [] (database_names parts) end)) e in
     subst (Steps files root lines line) (sym (item_is files line.item r true (h.database ∙ ap is_some e))) (
       record {
         are_keys = h.are_keys ∙ ap keys_of (sym (same_cited lines line refl));
@@ -184,4 +184,4 @@ database_steps files root lines r level file n parts end None h e =
     let b = all_based files end parts [] (record r { database_met = true }) base_ends (λ m k. h.bases m k unmet) in
     subst (Steps files root lines line) (sym (item_is files line.item r false unmet ∙ b.is))
     (based_by files root lines r level file n parts end (argument_fault (database_fault files) [] (database_names parts) end) b.met h e b.keeps
-    (fault_of_line files root lines line ∙ ap (λ o. once (codes "\\bibdata") o (argument_fault (database_fault files) [] (database_names parts) end)) e))
+    (fault_of_line files root lines line ∙ ap (λ o. unless_second (codes "\\bibdata") o (argument_fault (database_fault files) [] (database_names parts) end)) e))

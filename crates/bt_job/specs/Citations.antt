@@ -64,36 +64,36 @@ file_line level file =
     else codes "A level-" ++ decimal level ++ codes " auxiliary file: " ++ file
 
 -- what the log says of a command without a fault, in a file of this level
-abbrev pub news : ℕ → Command → List (List ℕ) → List (List ℕ)
-news level Citation parts = []
-news level Database parts = []
-news level Style parts = map (λ name. codes "The style file: " ++ name) (style_names parts)
-news level Nested parts = map (file_line (level + 1)) parts
+abbrev pub file_lines_of : ℕ → Command → List (List ℕ) → List (List ℕ)
+file_lines_of level Citation parts = []
+file_lines_of level Database parts = []
+file_lines_of level Style parts = map (λ name. codes "The style file: " ++ name) (style_names parts)
+file_lines_of level Nested parts = map (file_line (level + 1)) parts
 
 -- the messages of a line that has this fault
-abbrev pub told_of : JobLine → Option LineFault → List Message
-told_of line (Some fault) =
+abbrev pub line_messages : JobLine → Option LineFault → List Message
+line_messages line (Some fault) =
     skipping (words fault) (Line line.file line.item.line None) (codes "command") ∷ []
-told_of line None = map (plain FileLine) (news line.level line.item.command line.item.parts)
+line_messages line None = map (plain FileLine) (file_lines_of line.level line.item.command line.item.parts)
 
 -- the messages of all lines, under that of the root file
 abbrev pub messages : List File → List ℕ → List JobLine → List Message
 messages files root lines =
     plain FileLine (file_line 0 root)
-    ∷ along (λ before line. told_of line (line_fault files root before line)) [] lines
+    ∷ along (λ before line. line_messages line (line_fault files root before line)) [] lines
 
 -- what is missing of a command, where this is its first line and it named these
-abbrev pub lack : Option JobLine → List (List ℕ) → List ℕ → List ℕ → List (List ℕ)
-lack None names command nothing = command ∷ []
-lack (Some line) [] command nothing = nothing ∷ []
-lack (Some line) (name ∷ names) command nothing = []
+abbrev pub missing_of : Option JobLine → List (List ℕ) → List ℕ → List ℕ → List (List ℕ)
+missing_of None names command nothing = command ∷ []
+missing_of (Some line) [] command nothing = nothing ∷ []
+missing_of (Some line) (name ∷ names) command nothing = []
 
 -- what is missing at the end
 abbrev pub lacks : List File → List JobLine → List (List ℕ)
 lacks files lines =
-    lack (first_with Citation lines) (cited lines) (codes "\\citation commands") (codes "cite keys")
-    ++ lack (first_with Database lines) (databases files lines) (codes "\\bibdata command") (codes "database files")
-    ++ lack (first_with Style lines) (styles files lines) (codes "\\bibstyle command") (codes "style file")
+    missing_of (first_with Citation lines) (cited lines) (codes "\\citation commands") (codes "cite keys")
+    ++ missing_of (first_with Database lines) (databases files lines) (codes "\\bibdata command") (codes "database files")
+    ++ missing_of (first_with Style lines) (styles files lines) (codes "\\bibstyle command") (codes "style file")
 
 abbrev pub told_missing : List ℕ → List ℕ → Message
 told_missing root what = at (WholeFile root) (plain Error (codes "I found no " ++ what))

@@ -74,19 +74,19 @@ abbrev pub argument_fault : PartFault → List (List ℕ) → List (List ℕ) �
 argument_fault fault before names end = option_or (first_fault fault before names) (option_map IllEnded end)
 
 -- a command of this name that may stand once, and where it stood before
-abbrev pub once : List ℕ → Option JobLine → Option LineFault → Option LineFault
-once command None fault = fault
-once command (Some line) fault = Some (SecondCommand command)
+abbrev pub unless_second : List ℕ → Option JobLine → Option LineFault → Option LineFault
+unless_second command None fault = fault
+unless_second command (Some line) fault = Some (SecondCommand command)
 
 -- What is wrong with a line of a command, if something is, where these lines stand before it.
 abbrev pub command_fault :
     List File → List ℕ → List JobLine → Command → List (List ℕ) → Option AuxFault → Option LineFault
 command_fault files root before Citation parts end = argument_fault key_fault (cited before) parts end
 command_fault files root before Database parts end =
-    once (codes "\\bibdata") (first_with Database before)
+    unless_second (codes "\\bibdata") (first_with Database before)
     (argument_fault (database_fault files) [] (database_names parts) end)
 command_fault files root before Style parts end =
-    once (codes "\\bibstyle") (first_with Style before)
+    unless_second (codes "\\bibstyle") (first_with Style before)
     (argument_fault (style_fault files) [] (style_names parts) end)
 command_fault files root before Nested parts end =
     argument_fault (input_fault files) (root ∷ input_names before) parts end

@@ -1,7 +1,7 @@
 //! What a line that counts comes to.
 
 ghost use Rattle.std.specs.Prelude.{◌≡◌, ◌++◌, codes, IfOk};
-ghost use Rattle.bt_job.specs.inner.Taking.{told, cited_all, cited_key, cited_part, file_kind, file_found, looked_up, named, part_taken, fault_words};
+ghost use Rattle.bt_job.specs.inner.Taking.{told, cited_all, cited_key, cited_part, file_kind, file_found, looked_up, named, part_taken, argument_words};
 ghost use Rattle.bt_job.specs.inner.Taking.{fault_outcome, is_second, second_words, command_met, item_taken};
 
 use crate::files::File;
@@ -46,8 +46,8 @@ fn not_opened(alloc: Global, kind: &[u8], name: &[u8]) -> Result<Bytes, AllocErr
     Bytes::of(alloc, &[b"I couldn't open ", kind, b" file ", name])
 }
 
-fn fault_words(fault: AuxFault) -> &'static [u8]
-    ensures { result.now ≡ fault_words fault }
+fn argument_words(fault: AuxFault) -> &'static [u8]
+    ensures { result.now ≡ argument_words fault }
 {
     match fault {
         AuxFault::NoBrace => b"No \"}\"",
@@ -61,7 +61,7 @@ fn fault_outcome(alloc: Global, fault: Option<AuxFault>) -> Result<Outcome, Allo
 {
     match fault {
         None => Ok(Outcome::Taken),
-        Some(fault) => Ok(Outcome::Wrong(Bytes::copied(alloc, fault_words(fault))?)),
+        Some(fault) => Ok(Outcome::Wrong(Bytes::copied(alloc, argument_words(fault))?)),
     }
 }
 

@@ -47,8 +47,8 @@ fn left_at(
     Ok(Shared::new(alloc, variables_over(alloc, left, base, places)?)?)
 }
 
-/// The variables after a step that comes to those at some places. The earlier step's are shared where it had the present
-/// ones before it.
+/// The variables after a step that comes to those at some places. The earlier step's are shared where it had the
+/// present ones before it.
 fn variables_after(
     alloc: Global,
     old: &Variables,
@@ -152,9 +152,9 @@ fn over(
 }
 
 /// What a step leaves, from what an earlier step left (`left`) on an input that agrees with its own in all that it may
-/// come to: the reached values of the earlier outcome, and all else as its own input has it. Lines are shared. So are the
-/// globals, and the entry's variables, where the earlier step had the same ones before it or left no others than the
-/// present ones; else they are a copy of the present ones, with the reached ones put in. The one error is out of memory.
+/// come to: the reached values of the earlier outcome, and all else as its own input has it. Lines are shared. So are
+/// the globals, and the entry's variables, where the earlier step had the same ones before it or left no others than
+/// the present ones; else they are a copy of the present ones, with the reached ones put in.
 pub fn left_over(
     alloc: Global,
     old: &Input,

@@ -7,7 +7,7 @@ use Rattle.std.proofs.lemmas.List.Concat.{flat_map-append}
 use Rattle.std.proofs.lemmas.List.Sums.{sum_by-append}
 use Rattle.std.proofs.lemmas.Bool.{cases_Bool}
 use Rattle.bt_text.specs.Blocks.{begins_special}
-use Rattle.bt_text.specs.Depth.{depth_behind}
+use Rattle.bt_text.specs.Depth.{depth_after}
 use Rattle.bt_text.specs.Pieces.{Piece, block_pieces, brace, other, single, special, is_character}
 use Rattle.bt_text.specs.Length.{text_length_of}
 use Rattle.bt_text.proofs.BlockLemmas.{blocks_from, blocks_from_first, blocks_from_start}
@@ -23,7 +23,7 @@ pushed true b bs = bs ++ (b ∷ []) ∷ []
 pushed false b bs = onto_last b bs
 
 blocks_one : (d b : ℕ) → blocks_from d (b ∷ []) ≡ (b ∷ []) ∷ []
-blocks_one d b = by_test (eqb (depth_behind d b) 0)
+blocks_one d b = by_test (eqb (depth_after d b) 0)
   where
     by_test : (x : Bool) → cond x ((b ∷ []) ∷ []) ((b ∷ []) ∷ []) ≡ (b ∷ []) ∷ []
     by_test true = refl
@@ -48,14 +48,14 @@ push_more (suc e) c b true s bs = rw eqb-suc-zero refl
 push_more (suc e) c b false s [] = rw eqb-suc-zero refl
 push_more (suc e) c b false s (t ∷ bs) = rw eqb-suc-zero refl
 
-blocks_push_from : (d : ℕ) (t : List ℕ) (b : ℕ) → blocks_from d (t ++ b ∷ []) ≡ pushed (eqb (fold depth_behind d t) 0) b (blocks_from d t)
+blocks_push_from : (d : ℕ) (t : List ℕ) (b : ℕ) → blocks_from d (t ++ b ∷ []) ≡ pushed (eqb (fold depth_after d t) 0) b (blocks_from d t)
 blocks_push_from d [] b = blocks_one d b ∙ sym (push_none (eqb d 0) b)
 blocks_push_from d (c ∷ []) b =
-    let e = depth_behind d c in
+    let e = depth_after d c in
     ap (first_with e c) (blocks_one e b) ∙ push_one e c b
 blocks_push_from d (c ∷ a ∷ t) b =
-    let e = depth_behind d c in
-    let x = eqb (fold depth_behind e (a ∷ t)) 0 in
+    let e = depth_after d c in
+    let x = eqb (fold depth_after e (a ∷ t)) 0 in
     let first = blocks_from_first e a t in
     ap (first_with e c) (blocks_push_from e (a ∷ t) b ∙ ap (pushed x b) first) ∙ push_more e c b x _ _ ∙ ap (λ bs. pushed x b (first_with e c bs)) (sym first)
 
@@ -96,7 +96,7 @@ pushed_more false b bs = last_more b bs
 
 pub text_length_push : (t : List ℕ) (b : ℕ) → text_length_of t ≤ text_length_of (t ++ b ∷ [])
 text_length_push t b =
-    let x = eqb (fold depth_behind 0 t) 0 in
+    let x = eqb (fold depth_after 0 t) 0 in
     let before = ap all_characters (blocks_from_start t) in
     let behind = ap all_characters (blocks_from_start (t ++ b ∷ []) ∙ blocks_push_from 0 t b) in
     omega (arith, before, behind, pushed_more x b (blocks_from 0 t))

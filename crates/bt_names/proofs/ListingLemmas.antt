@@ -8,8 +8,8 @@ use Rattle.std.proofs.lemmas.List.{drop_more}
 use Rattle.std.proofs.lemmas.List.Elements.{filter-append}
 use Rattle.bt_text.proofs.BlockLemmas.{depth_take}
 use Rattle.bt_text.specs.ByteTests.{is_white}
-use Rattle.bt_text.specs.Depth.{depth, depth_behind}
-use Rattle.bt_names.specs.Listing.{begins_with_and, has_and_at, is_behind_white, places_of_and, texts_between, names_of}
+use Rattle.bt_text.specs.Depth.{depth, depth_after}
+use Rattle.bt_names.specs.Listing.{begins_with_and, has_and_at, follows_white, places_of_and, texts_between, names_of}
 
 abbrev pub and_places_below : List ℕ → ℕ → List ℕ
 and_places_below t n = filter (λ i. eqb (depth (take i t)) 0 && has_and_at t i) (range_with_len 0 n)
@@ -96,7 +96,7 @@ pub ruleset naming = (depth_take, names_from_more, names_from_end, names_from_st
 
 pub ruleset counting = (depth_take, and_places_more, length-names)
 
-pub depth_behind_most : (d b : ℕ) → depth_behind d b ≤ d + 1
+pub depth_behind_most : (d b : ℕ) → depth_after d b ≤ d + 1
 depth_behind_most d b = by_test (eqb b 123) (eqb b 125)
   where
     by_test : (x y : Bool) → cond x (d + 1) (cond y (d - 1) d) ≤ d + 1
@@ -116,4 +116,4 @@ no_and b (n ∷ d ∷ w ∷ t) h = and_left _ (is_white w) (and_left (eqb (to_as
 
 pub no_and_at : (t : List ℕ) (i : ℕ) → i < length t → (eqb (get_or t i 0) 97 || eqb (get_or t i 0) 65) ≡ false → has_and_at t i ≡ false
 unfolding has_and_at
-no_and_at t i lt h = and_right (is_behind_white t i) (begins_with_and (drop i t)) (ap begins_with_and (drop_more t i 0 lt) ∙ no_and (get_or t i 0) (drop (i + 1) t) h)
+no_and_at t i lt h = and_right (follows_white t i) (begins_with_and (drop i t)) (ap begins_with_and (drop_more t i 0 lt) ∙ no_and (get_or t i 0) (drop (i + 1) t) h)

@@ -7,7 +7,7 @@ use Rattle.std.proofs.lemmas.Bool.Decides.{nat_tests}
 use Rattle.bt_text.specs.ByteTests.{is_letter}
 use Rattle.bt_text.specs.Blocks.{blocks}
 use Rattle.std.specs.Char.{to_ascii_lowercase}
-use Rattle.bt_text.specs.Depth.{depth, depth_behind}
+use Rattle.bt_text.specs.Depth.{depth, depth_after}
 use Rattle.bt_text.proofs.BlockLemmas.{depth_take}
 use Rattle.bt_names.specs.Patterns.{block_fault, fault_of_blocks, first_place, is_doubled_at, letter_fault, letter_places, names_part, letters_from, moved_by, or_else, pattern_fault}
 use Rattle.bt_names.specs.inner.Patterns.{IsLetterPlace}
@@ -37,16 +37,16 @@ letters_found t i d h g e =
 pub ruleset letters = (depth_take, letters_more, letters_end, letters_found)
 
 -- A letter is no brace, so the depth stays.
-letter_flat : (b : ℕ) → is_letter b ≡ true → depth_behind 0 b ≡ 0
+letter_flat : (b : ℕ) → is_letter b ≡ true → depth_after 0 b ≡ 0
 letter_flat b h = by_braces (cases_Bool (eqb b 123)) (cases_Bool (eqb b 125))
   where
-    by_braces : (eqb b 123 ≡ true) ⊎ (eqb b 123 ≡ false) → (eqb b 125 ≡ true) ⊎ (eqb b 125 ≡ false) → depth_behind 0 b ≡ 0
+    by_braces : (eqb b 123 ≡ true) ⊎ (eqb b 123 ≡ false) → (eqb b 125 ≡ true) ⊎ (eqb b 125 ≡ false) → depth_after 0 b ≡ 0
     by_braces (inl e) _ = absurd (true≢false (sym h ∙ ap is_letter (eqb-true b 123 e)))
     by_braces (inr e) (inl f) = absurd (true≢false (sym h ∙ ap is_letter (eqb-true b 125 f)))
     by_braces (inr e) (inr f) = ap (λ (x : Bool). cond {A = ℕ} x 1 (cond {A = ℕ} (eqb b 125) 0 0)) e ∙ ap (λ (x : Bool). cond {A = ℕ} x 0 0) f
 
 pub letter_behind : (t : List ℕ) (i : ℕ) → IsLetterPlace t i → depth (take (i + 1) t) ≡ 0
-letter_behind t i h = depth_take t i h.within ∙ ap (λ d. depth_behind d (get_or t i 0)) h.flat ∙ letter_flat (get_or t i 0) h.letter
+letter_behind t i h = depth_take t i h.within ∙ ap (λ d. depth_after d (get_or t i 0)) h.flat ∙ letter_flat (get_or t i 0) h.letter
 
 pub letter_here : (t : List ℕ) (i : ℕ) → IsLetterPlace t i → letters_from t i ≡ i ∷ letters_from t (i + 1)
 letter_here t i h = letters_more t i h.within ∙ cond-true (is_letter (get_or t i 0) && eqb (depth (take i t)) 0) (i ∷ letters_from t (i + 1)) (letters_from t (i + 1)) (and_from (is_letter (get_or t i 0)) (eqb (depth (take i t)) 0) h.letter (eq-eqb (depth (take i t)) 0 h.flat))

@@ -7,7 +7,7 @@ use Rattle.std.proofs.lemmas.List.Splits.{length-slice_split}
 use Rattle.std.proofs.lemmas.Bool.{true≢false, cases_Bool, eqb-true}
 use Rattle.bt_text.specs.Blocks.{blocks}
 use Rattle.bt_names.specs.declared.tokens.Token.{Token}
-use Rattle.bt_names.specs.Cutting.{is_single, kept_blocks, runs, sections, tokens, lead_behind, is_comma}
+use Rattle.bt_names.specs.Cutting.{is_single, kept_blocks, runs, sections, tokens, lead_after, is_comma}
 use Rattle.bt_names.specs.inner.Cutting.{sections_from, first_section, other_sections}
 use Rattle.bt_names.specs.declared.tokens.Parts.{Parts}
 use Rattle.bt_names.specs.Splitting.{parts_of, parts_of_sections, split_at_two, with_commas, without_comma}
@@ -54,21 +54,21 @@ sections_kept name kept e = ap (slice_split is_comma) (sym e) ∙ sections_is ke
 pub parts_of_one : (name kept : List ℕ) → blocks kept ≡ kept_blocks name → other_sections kept ≡ [] → parts_of name ≡ Some (without_comma (tokens 0 (runs (first_section kept))))
 parts_of_one name kept e f = ap parts_of_sections (sections_kept name kept e ∙ ap (λ ss. first_section kept ∷ ss) f)
 
-pub parts_of_two : (name kept rest : List ℕ) (front second : List Token) → blocks kept ≡ kept_blocks name → other_sections kept ≡ sections_from rest → other_sections rest ≡ [] → front ≡ tokens 0 (runs (first_section kept)) → second ≡ tokens (lead_behind front) (runs (first_section rest)) → parts_of name ≡ Some (with_commas front [] second)
+pub parts_of_two : (name kept rest : List ℕ) (front second : List Token) → blocks kept ≡ kept_blocks name → other_sections kept ≡ sections_from rest → other_sections rest ≡ [] → front ≡ tokens 0 (runs (first_section kept)) → second ≡ tokens (lead_after front) (runs (first_section rest)) → parts_of name ≡ Some (with_commas front [] second)
 parts_of_two name kept rest front second e f g h k =
-    ap parts_of_sections (sections_kept name kept e ∙ ap (λ ss. first_section kept ∷ ss) (f ∙ sections_is rest ∙ ap (λ ss. first_section rest ∷ ss) g)) ∙ ap (λ ws. Some (with_commas ws [] (tokens (lead_behind ws) (runs (first_section rest))))) (sym h) ∙ ap (λ ws. Some (with_commas front [] ws)) (sym k)
+    ap parts_of_sections (sections_kept name kept e ∙ ap (λ ss. first_section kept ∷ ss) (f ∙ sections_is rest ∙ ap (λ ss. first_section rest ∷ ss) g)) ∙ ap (λ ws. Some (with_commas ws [] (tokens (lead_after ws) (runs (first_section rest))))) (sym h) ∙ ap (λ ws. Some (with_commas front [] ws)) (sym k)
 
 last_section : (ss : List (List (List ℕ))) → length ss ≡ 0 → ss ≡ []
 last_section [] h = refl
 last_section (s ∷ ss) h = absurd (omega arith)
 
-pub parts_of_three : (name kept rest behind : List ℕ) (front second third : List Token) → count_by is_comma (blocks name) ≤ 2 → blocks kept ≡ kept_blocks name → other_sections kept ≡ sections_from rest → other_sections rest ≡ sections_from behind → front ≡ tokens 0 (runs (first_section kept)) → second ≡ tokens (lead_behind front) (runs (first_section rest)) → third ≡ tokens (lead_behind (front ++ second)) (runs (first_section behind)) → parts_of name ≡ Some (with_commas front second third)
+pub parts_of_three : (name kept rest behind : List ℕ) (front second third : List Token) → count_by is_comma (blocks name) ≤ 2 → blocks kept ≡ kept_blocks name → other_sections kept ≡ sections_from rest → other_sections rest ≡ sections_from behind → front ≡ tokens 0 (runs (first_section kept)) → second ≡ tokens (lead_after front) (runs (first_section rest)) → third ≡ tokens (lead_after (front ++ second)) (runs (first_section behind)) → parts_of name ≡ Some (with_commas front second third)
 parts_of_three name kept rest behind front second third few e f g h k m =
     let three : sections name ≡ first_section kept ∷ first_section rest ∷ first_section behind ∷ other_sections behind = sections_kept name kept e ∙ ap (λ ss. first_section kept ∷ ss) (f ∙ sections_is rest ∙ ap (λ ss. first_section rest ∷ ss) (g ∙ sections_is behind)) in
     let none : other_sections behind ≡ [] = last_section (other_sections behind) (omega (arith, few, length-sections name, ap length three)) in
-    ap parts_of_sections (three ∙ ap (λ ss. first_section kept ∷ first_section rest ∷ first_section behind ∷ ss) none) ∙ ap (λ ws. Some (with_commas ws (tokens (lead_behind ws) (runs (first_section rest))) (tokens (lead_behind (ws ++ tokens (lead_behind ws) (runs (first_section rest)))) (runs (first_section behind))))) (sym h) ∙ ap (λ ws. Some (with_commas front ws (tokens (lead_behind (front ++ ws)) (runs (first_section behind))))) (sym k) ∙ ap (λ ws. Some (with_commas front second ws)) (sym m)
+    ap parts_of_sections (three ∙ ap (λ ss. first_section kept ∷ first_section rest ∷ first_section behind ∷ ss) none) ∙ ap (λ ws. Some (with_commas ws (tokens (lead_after ws) (runs (first_section rest))) (tokens (lead_after (ws ++ tokens (lead_after ws) (runs (first_section rest)))) (runs (first_section behind))))) (sym h) ∙ ap (λ ws. Some (with_commas front ws (tokens (lead_after (front ++ ws)) (runs (first_section behind))))) (sym k) ∙ ap (λ ws. Some (with_commas front second ws)) (sym m)
 
-pub lead_two : (front second : List Token) → eqb (length front) 0 ≡ false → 44 ≡ lead_behind (front ++ second)
+pub lead_two : (front second : List Token) → eqb (length front) 0 ≡ false → 44 ≡ lead_after (front ++ second)
 lead_two [] second h = absurd (true≢false h)
 lead_two (w ∷ ws) second h = refl
 

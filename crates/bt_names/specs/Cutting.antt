@@ -57,9 +57,9 @@ tokens lead [] = []
 tokens lead (r ∷ rs) = record { text = r.text; before = lead } ∷ map (λ s. record { text = s.text; before = sign_of s.gap }) rs
 
 -- Before the first token of a section stands a comma, where tokens stand before that.
-abbrev pub lead_behind : List Token → ℕ
-lead_behind [] = 0
-lead_behind (w ∷ ws) = comma
+abbrev pub lead_after : List Token → ℕ
+lead_after [] = 0
+lead_after (w ∷ ws) = comma
 
 abbrev pub first_or_none : {X : Type 0} → List (List X) → List X
 first_or_none [] = []

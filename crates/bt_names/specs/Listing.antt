@@ -11,12 +11,12 @@ begins_with_and (a ∷ n ∷ d ∷ w ∷ t) = is_same_folded (a ∷ n ∷ d ∷ 
 begins_with_and _ = false
 
 -- white space stands directly before place i
-abbrev pub is_behind_white : List ℕ → ℕ → Bool
-is_behind_white t i = nat_lt 0 i && is_white (slice_index t (i - 1))
+abbrev pub follows_white : List ℕ → ℕ → Bool
+follows_white t i = nat_lt 0 i && is_white (slice_index t (i - 1))
 
 -- a separator stands at place i: `and` with white space on both sides
 unfoldable pub has_and_at : List ℕ → ℕ → Bool
-has_and_at t i = is_behind_white t i && begins_with_and (drop i t)
+has_and_at t i = follows_white t i && begins_with_and (drop i t)
 
 -- the places of depth 0 at which a separator stands
 abbrev pub places_of_and : List ℕ → List ℕ

@@ -4,7 +4,7 @@ use Rattle.std.specs.List.{position_or_len, suffix_len}
 use Rattle.bt_text.specs.ByteTests.{hyphen}
 use Rattle.bt_names.specs.declared.tokens.Token.{Token}
 use Rattle.bt_names.specs.declared.tokens.Parts.{Parts}
-use Rattle.bt_names.specs.Cutting.{sections, runs, tokens, lead_behind}
+use Rattle.bt_names.specs.Cutting.{sections, runs, tokens, lead_after}
 use Rattle.bt_names.specs.Vons.{is_von}
 
 -- The last token is never of the von part.
@@ -39,7 +39,7 @@ with_commas ws jr first = record { first = first; von = take (von_end ws) ws; la
 
 -- the tokens of a section, after those of the sections before it
 abbrev pub section_tokens : List Token → List (List ℕ) → List Token
-section_tokens earlier section = tokens (lead_behind earlier) (runs section)
+section_tokens earlier section = tokens (lead_after earlier) (runs section)
 
 -- With more than two commas a name has no parts.
 abbrev pub parts_of_sections : List (List (List ℕ)) → Option Parts

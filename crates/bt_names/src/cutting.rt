@@ -7,7 +7,7 @@ ghost use Rattle.bt_names.specs.Cutting.{is_comma, is_parting, kept_blocks, runs
 ghost use Rattle.bt_names.specs.inner.Cutting.{begins_token, first_section, other_sections, sections_from};
 
 use crate::lent::LentToken;
-use bt_text::{block_len, depth_behind, is_separator, is_white};
+use bt_text::{block_len, depth_after, is_separator, is_white};
 use std::alloc::{AllocError, Global};
 
 /// Whether a block is a comma.
@@ -128,7 +128,7 @@ pub fn tokens_before_comma<'a>(
 }
 
 /// What stands after the first comma at depth 0.
-pub fn behind_comma(text: &[u8]) -> Option<&[u8]>
+pub fn after_comma(text: &[u8]) -> Option<&[u8]>
     ensures some { IfSome result (λ rest. other_sections text.now ≡ sections_from rest.now) }
     ensures none { IfNone result (other_sections text.now ≡ []) }
 {

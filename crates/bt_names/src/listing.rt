@@ -1,9 +1,9 @@
 //! The names that a text lists.
 
 ghost use Rattle.std.specs.Prelude.{◌≡◌, ◌<◌, ◌≤◌, ◌-◌, ◌==◌, ◌&&◌, ◌||◌, length, drop, slice_index, slice_range, slice_get, IfSome, IfNone, Some, None};
-ghost use Rattle.bt_names.specs.Listing.{begins_with_and, has_and_at, is_behind_white, name_at, names_of};
+ghost use Rattle.bt_names.specs.Listing.{begins_with_and, has_and_at, follows_white, name_at, names_of};
 
-use bt_text::{depth_behind, eq_ignore_ascii_case, is_white};
+use bt_text::{depth_after, eq_ignore_ascii_case, is_white};
 
 /// Whether a text begins with `and` in any case, and white space directly after it.
 fn begins_with_and(text: &[u8]) -> bool
@@ -16,9 +16,9 @@ fn begins_with_and(text: &[u8]) -> bool
 }
 
 /// Whether white space stands directly before a place.
-fn is_behind_white(text: &[u8], place: usize) -> bool
+fn follows_white(text: &[u8], place: usize) -> bool
     requires { place < length text.now }
-    ensures { result ≡ is_behind_white text.now place }
+    ensures { result ≡ follows_white text.now place }
 {
     0 < place && is_white(text[place - 1])
 }
@@ -30,7 +30,7 @@ fn has_and_at(text: &[u8], place: usize) -> bool
     ensures { result ≡ has_and_at text.now place }
 {
     let (_, rest) = text.split_at(place);
-    is_behind_white(text, place) && begins_with_and(rest)
+    follows_white(text, place) && begins_with_and(rest)
 }
 
 /// Whether a byte is the first letter of a separator.
@@ -66,7 +66,7 @@ pub fn count(names: &[u8]) -> usize
         if separates(names, place, depth) {
             count += 1;
         }
-        depth = depth_behind(depth, *byte);
+        depth = depth_after(depth, *byte);
     }
     count
 }
@@ -88,7 +88,7 @@ fn from_place(text: &[u8], start: usize) -> &[u8]
 
 /// The name with this number of names before it.
 #[tactic(auto, using(crate::proofs::ListingLemmas::naming))]
-fn name_behind(names: &[u8], before: usize) -> Option<&[u8]>
+fn name_after(names: &[u8], before: usize) -> Option<&[u8]>
     requires { 0 < length names.now }
     ensures some { IfSome result (λ name. slice_get (names_of names.now) before ≡ Some name.now) }
     ensures none { IfNone result (slice_get (names_of names.now) before ≡ None) }
@@ -104,7 +104,7 @@ fn name_behind(names: &[u8], before: usize) -> Option<&[u8]>
             left -= 1;
             start = place + 3;
         }
-        depth = depth_behind(depth, *byte);
+        depth = depth_after(depth, *byte);
     }
     if left == 0 {
         Some(from_place(names, start))
@@ -122,6 +122,6 @@ pub fn name_at(names: &[u8], n: i32) -> Option<&[u8]>
     if n <= 0 || names.is_empty() {
         None
     } else {
-        name_behind(names, n as usize - 1)
+        name_after(names, n as usize - 1)
     }
 }

@@ -4,7 +4,7 @@ ghost use Rattle.std.specs.Prelude.{◌≡◌, IfOk, false};
 ghost use Rattle.bt_text.specs.Blocks.{blocks};
 ghost use Rattle.bt_names.specs.Cutting.{kept_blocks};
 
-use bt_text::{Bytes, depth_behind};
+use bt_text::{Bytes, depth_after};
 use std::alloc::{AllocError, Global};
 use std::marker::Model;
 
@@ -17,7 +17,7 @@ fn has_stray_brace(name: &[u8]) -> bool
         if *byte == b'}' && depth == 0 {
             return true;
         }
-        depth = depth_behind(depth, *byte);
+        depth = depth_after(depth, *byte);
     }
     false
 }
@@ -32,7 +32,7 @@ fn without_stray_braces(alloc: Global, name: &[u8]) -> Result<Bytes, AllocError>
         if *byte != b'}' || 0 < depth {
             kept.push(*byte)?;
         }
-        depth = depth_behind(depth, *byte);
+        depth = depth_after(depth, *byte);
     }
     Ok(Bytes::from_vec(kept))
 }

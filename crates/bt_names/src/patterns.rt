@@ -6,7 +6,7 @@ ghost use Rattle.bt_text.specs.Depth.{depth_at};
 ghost use Rattle.bt_names.specs.Patterns.{block_fault, first_place, inside_group, is_doubled_at, letter_end, letter_fault, letter_places, letters_from, names_part, pattern_fault};
 ghost use Rattle.bt_names.specs.inner.Patterns.{IsLetterPlace};
 
-use bt_text::{block_len, depth_behind, depth_of, is_letter};
+use bt_text::{block_len, depth_after, depth_of, is_letter};
 
 /// Whether a block is a group.
 pub fn begins_group(block: &[u8]) -> bool
@@ -43,7 +43,7 @@ pub fn next_letter(text: &[u8], start: usize) -> Option<usize>
         if depth == 0 && is_letter(text[place]) {
             return Some(place);
         }
-        depth = depth_behind(depth, text[place]);
+        depth = depth_after(depth, text[place]);
         place += 1;
     }
     None

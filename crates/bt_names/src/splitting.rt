@@ -4,11 +4,11 @@ ghost use Rattle.std.specs.Prelude.{◌≡◌, ◌≤◌, ◌-◌, ◌++◌, ◌
 ghost use Rattle.std.specs.List.{position_or_len, suffix_len};
 ghost use Rattle.bt_text.specs.Blocks.{blocks};
 ghost use Rattle.bt_text.specs.ByteTests.{hyphen};
-ghost use Rattle.bt_names.specs.Cutting.{is_comma, lead_behind};
+ghost use Rattle.bt_names.specs.Cutting.{is_comma, lead_after};
 ghost use Rattle.bt_names.specs.Vons.{is_von};
 ghost use Rattle.bt_names.specs.Splitting.{all_but_last, last_start, parts_of, split_at_two, von_end, von_start, with_commas, without_comma};
 
-use crate::cutting::{behind_comma, tokens_before_comma};
+use crate::cutting::{after_comma, tokens_before_comma};
 use crate::lent::{LentParts, LentToken};
 use crate::name::Name;
 use crate::vons::is_von;
@@ -31,7 +31,7 @@ fn tokens_before_von(tokens: &[LentToken]) -> usize
 }
 
 /// How many tokens stand after the last von token.
-fn tokens_behind_von(tokens: &[LentToken]) -> usize
+fn tokens_after_von(tokens: &[LentToken]) -> usize
     ensures within { result ≤ length tokens.now }
     ensures len { result ≡ suffix_len (λ w. not (is_von w)) tokens.now }
 {
@@ -74,7 +74,7 @@ fn von_end(tokens: &[LentToken]) -> usize
     ensures place { result ≡ von_end tokens.now }
 {
     let front = all_but_last(tokens);
-    front.len() - tokens_behind_von(front)
+    front.len() - tokens_after_von(front)
 }
 
 /// Where the last name begins if there are no von tokens.
@@ -194,18 +194,18 @@ impl<'a> Sections<'a> {
 }
 
 /// What stands before the first token after others and a comma.
-fn lead_behind(tokens: &[LentToken]) -> u8
-    ensures { result ≡ lead_behind tokens.now }
+fn lead_after(tokens: &[LentToken]) -> u8
+    ensures { result ≡ lead_after tokens.now }
 {
     if tokens.is_empty() { 0 } else { b',' }
 }
 
 /// What stands before the first token after two sections.
-fn lead_behind_two(front: &[LentToken], second: &[LentToken]) -> u8
-    ensures { result ≡ lead_behind (front.now ++ second.now) }
+fn lead_after_two(front: &[LentToken], second: &[LentToken]) -> u8
+    ensures { result ≡ lead_after (front.now ++ second.now) }
 {
     if front.is_empty() {
-        lead_behind(second)
+        lead_after(second)
     } else {
         b','
     }
@@ -218,14 +218,14 @@ pub fn sections_of<'a>(alloc: Global, name: &'a Name) -> Result<Sections<'a>, Al
 {
     let kept = name.kept();
     let front = tokens_before_comma(alloc, kept, 0)?;
-    match behind_comma(kept) {
+    match after_comma(kept) {
         None => Ok(Sections::whole(alloc, front)),
         Some(rest) => {
-            let second = tokens_before_comma(alloc, rest, lead_behind(&front))?;
-            match behind_comma(rest) {
+            let second = tokens_before_comma(alloc, rest, lead_after(&front))?;
+            match after_comma(rest) {
                 None => Ok(Sections::cut(front, Vec::new(alloc), second)),
                 Some(rest) => {
-                    let third = tokens_before_comma(alloc, rest, lead_behind_two(&front, &second))?;
+                    let third = tokens_before_comma(alloc, rest, lead_after_two(&front, &second))?;
                     Ok(Sections::cut(front, second, third))
                 }
             }

@@ -8,13 +8,13 @@ use Rattle.bibtex.specs.declared.edit.Refusal.{Refusal}
 use Rattle.bibtex.specs.Present.{no_texts, shown}
 use Rattle.bibtex.specs.Changes.{write}
 use Rattle.bibtex.specs.Applied.{refusal_of, changed, unless_refused}
-use Rattle.bt_serve.specs.Commands.{state_or, unless_wanting}
+use Rattle.bt_serve.specs.Commands.{state_or, unless_out_of_memory}
 use Rattle.bt_one_shot.specs.declared.folder.Found.{Found}
 use Rattle.bt_one_shot.specs.declared.folder.Found.TheVariants as found
 use Rattle.bt_one_shot.specs.Folders.{Contents, Seen, Gains, LooksUp, looked_up}
 use Rattle.bt_one_shot.specs.Sinks.{Sunk}
 use Rattle.bt_one_shot.specs.inner.Sinks.{GoesOn}
-use Rattle.bt_one_shot.specs.Loading.{Reading, name_of, next, taken_found, after_file, after_files, refusal_line, refusal_lines, InOrder, all_looked_up}
+use Rattle.bt_one_shot.specs.Loading.{LookedUp, name_of, next, taken_found, after_file, after_files, refusal_line, refusal_lines, InOrder, all_looked_up}
 use Rattle.bt_one_shot.specs.inner.Progress.{LooksUpName, Goes}
 use Rattle.bt_one_shot.proofs.TellLemmas.{goes_on_none, goes_on_more}
 use Rattle.bt_one_shot.proofs.WantLemmas.{is_met, new_here}
@@ -50,17 +50,17 @@ looks_more a b c i j xs ys p q =
 
 -- Files, one after another
 
-behind_more : (s : State) (xs ys : List Reading) → after_files s (xs ++ ys) ≡ after_files (after_files s xs) ys
+behind_more : (s : State) (xs ys : List LookedUp) → after_files s (xs ++ ys) ≡ after_files (after_files s xs) ys
 behind_more s [] ys = refl
 behind_more s (x ∷ xs) ys = behind_more (after_file s x) xs ys
 
-lines_more : (s : State) (xs ys : List Reading) → refusal_lines s (xs ++ ys) ≡ refusal_lines s xs ++ refusal_lines (after_files s xs) ys
+lines_more : (s : State) (xs ys : List LookedUp) → refusal_lines s (xs ++ ys) ≡ refusal_lines s xs ++ refusal_lines (after_files s xs) ys
 lines_more s [] ys = refl
 lines_more s (x ∷ xs) ys =
-    ap (λ t. refusal_line x.name (taken_found s x.name x.wants x.found) ++ t) (lines_more (after_file s x) xs ys)
-    ∙ sym (append_assoc (refusal_line x.name (taken_found s x.name x.wants x.found)) _ _)
+    ap (λ t. refusal_line x.name (taken_found s x.name x.ran_out x.found) ++ t) (lines_more (after_file s x) xs ys)
+    ∙ sym (append_assoc (refusal_line x.name (taken_found s x.name x.ran_out x.found)) _ _)
 
-order_more : (held : Option Contents) (s : State) (met : List (List ℕ)) (xs ys : List Reading) → InOrder held s met xs →
+order_more : (held : Option Contents) (s : State) (met : List (List ℕ)) (xs ys : List LookedUp) → InOrder held s met xs →
     InOrder held (after_files s xs) (met ++ map name_of xs) ys → InOrder held s met (xs ++ ys)
 order_more held s met [] ys p q = subst (λ m. InOrder held s m ys) (append-nil met) q
 order_more held s met (x ∷ xs) ys p q = (
@@ -71,81 +71,81 @@ order_more held s met (x ∷ xs) ys p q = (
 )
 
 -- Nothing was looked up.
-pub goes_none : (known : ℕ) (s : State) (met : List (List ℕ)) (seen : Seen) (err : Sunk) → Goes known s s met met seen seen err err
-goes_none known s met seen err =
+pub goes_none : (failures_before : ℕ) (s : State) (met : List (List ℕ)) (seen : Seen) (err : Sunk) → Goes failures_before s s met met seen seen err err
+goes_none failures_before s met seen err =
     record {
       files = [];
       in_order = tt;
-      is_behind = refl;
+      is_after = refl;
       are_met = sym (append-nil met);
       looked_up = looks_none seen;
-      tells = goes_on_none known err;
+      tells = goes_on_none failures_before err;
     }
 
 -- Some files, and then others.
-pub goes_more : (known : ℕ) (s t u : State) (k l m : List (List ℕ)) (a b c : Seen) (x y z : Sunk) →
-    Goes known s t k l a b x y → Goes known t u l m b c y z → Goes known s u k m a c x z
-goes_more known s t u k l m a b c x y z p q =
+pub goes_more : (failures_before : ℕ) (s t u : State) (k l m : List (List ℕ)) (a b c : Seen) (x y z : Sunk) →
+    Goes failures_before s t k l a b x y → Goes failures_before t u l m b c y z → Goes failures_before s u k m a c x z
+goes_more failures_before s t u k l m a b c x y z p q =
     record {
       files = p.files ++ q.files;
       in_order = order_more a.held s k p.files q.files p.in_order then_others;
-      is_behind = q.is_behind ∙ ap (λ v. after_files v q.files) p.is_behind ∙ sym (behind_more s p.files q.files);
+      is_after = q.is_after ∙ ap (λ v. after_files v q.files) p.is_after ∙ sym (behind_more s p.files q.files);
       are_met = q.are_met ∙ ap (λ v. v ++ map name_of q.files) p.are_met ∙ append_assoc k (map name_of p.files) (map name_of q.files) ∙ ap (λ v. k ++ v) names;
       looked_up = subst (λ n. LooksUp a c n (all_looked_up (p.files ++ q.files))) (sym (length-append p.files q.files))
-          (subst (LooksUp a c (length p.files + length q.files)) (sym (flat_map-append (λ (r : Reading). looked_up r.name r.found) p.files q.files))
+          (subst (LooksUp a c (length p.files + length q.files)) (sym (flat_map-append (λ (r : LookedUp). looked_up r.name r.found) p.files q.files))
           (looks_more a b c _ _ _ _ p.looked_up q.looked_up));
-      tells = subst (GoesOn known x z) lines (goes_on_more known x y z _ _ p.tells q.tells);
+      tells = subst (GoesOn failures_before x z) lines (goes_on_more failures_before x y z _ _ p.tells q.tells);
     }
   where
     then_others : InOrder a.held (after_files s p.files) (k ++ map name_of p.files) q.files
-    then_others = rw (← p.is_behind, ← p.are_met, ← p.looked_up.held) q.in_order
+    then_others = rw (← p.is_after, ← p.are_met, ← p.looked_up.held) q.in_order
 
     names : map name_of p.files ++ map name_of q.files ≡ map name_of (p.files ++ q.files)
     names = sym (map-append name_of p.files q.files)
 
     lines : refusal_lines s p.files ++ refusal_lines t q.files ≡ refusal_lines s (p.files ++ q.files)
-    lines = ap (λ v. refusal_lines s p.files ++ refusal_lines v q.files) p.is_behind ∙ sym (lines_more s p.files q.files)
+    lines = ap (λ v. refusal_lines s p.files ++ refusal_lines v q.files) p.is_after ∙ sym (lines_more s p.files q.files)
 
 -- The next file.
-pub goes_one : (known : ℕ) (s t : State) (met : List (List ℕ)) (name : List ℕ) (a b : Seen) (x y : Sunk) →
-    next s met ≡ Some name → LooksUpName known s t name a b x y → Goes known s t met (met ++ name ∷ []) a b x y
-goes_one known s t met name a b x y is l =
+pub goes_one : (failures_before : ℕ) (s t : State) (met : List (List ℕ)) (name : List ℕ) (a b : Seen) (x y : Sunk) →
+    next s met ≡ Some name → LooksUpName failures_before s t name a b x y → Goes failures_before s t met (met ++ name ∷ []) a b x y
+goes_one failures_before s t met name a b x y is l =
     record {
-      files = record { name = name; found = l.found; wants = l.wants } ∷ [];
+      files = record { name = name; found = l.found; ran_out = l.ran_out } ∷ [];
       in_order = (is, l.finds, tt);
-      is_behind = l.is_behind;
+      is_after = l.is_after;
       are_met = refl;
       looked_up = subst (LooksUp a b 1) (sym (append-nil (looked_up name l.found))) l.looked_up;
-      tells = subst (GoesOn known x y) (sym (append-nil (refusal_line name (taken_found s name l.wants l.found)))) l.tells;
+      tells = subst (GoesOn failures_before x y) (sym (append-nil (refusal_line name (taken_found s name l.ran_out l.found)))) l.tells;
     }
 
 -- The next file, after others.
-pub goes_then : (known : ℕ) (s t u : State) (k l l' : List (List ℕ)) (name : List ℕ) (a b c : Seen) (x y z : Sunk) (w : List (List ℕ)) (i : ℕ) (d : List ℕ) →
-    Goes known s t k l a b x y → w ≡ (shown t).wanted → i < length w → get_or w i d ≡ name → list_all (is_met l) (take i w) ≡ true → is_met l name ≡ false →
-    l' ≡ l ++ name ∷ [] → LooksUpName known t u name b c y z → Goes known s u k l' a c x z
-goes_then known s t u k l l' name a b c x y z w i d before is lt here front fresh more looks =
-    goes_more known s t u k l l' a b c x y z before
-    (rw more (goes_one known t u l name b c y z (rw (← is) (new_here l name w i d lt here front fresh)) looks))
+pub goes_then : (failures_before : ℕ) (s t u : State) (k l l' : List (List ℕ)) (name : List ℕ) (a b c : Seen) (x y z : Sunk) (w : List (List ℕ)) (i : ℕ) (d : List ℕ) →
+    Goes failures_before s t k l a b x y → w ≡ (shown t).wanted → i < length w → get_or w i d ≡ name → list_all (is_met l) (take i w) ≡ true → is_met l name ≡ false →
+    l' ≡ l ++ name ∷ [] → LooksUpName failures_before t u name b c y z → Goes failures_before s u k l' a c x z
+goes_then failures_before s t u k l l' name a b c x y z w i d before is lt here front fresh more looks =
+    goes_more failures_before s t u k l l' a b c x y z before
+    (rw more (goes_one failures_before t u l name b c y z (rw (← is) (new_here l name w i d lt here front fresh)) looks))
 
 -- The root stays
 
-made_root : (wants : Bool) (refusal : Option Refusal) (made s : State) → made.root ≡ s.root → (state_or s (unless_wanting wants (unless_refused refusal made))).root ≡ s.root
+made_root : (ran_out : Bool) (refusal : Option Refusal) (made s : State) → made.root ≡ s.root → (state_or s (unless_out_of_memory ran_out (unless_refused refusal made))).root ≡ s.root
 made_root true None made s is = refl
 made_root true (Some refusal) made s is = refl
 made_root false None made s is = is
 made_root false (Some refusal) made s is = refl
 
-found_root : (s : State) (name : List ℕ) (wants : Bool) (found : Found) → (state_or s (taken_found s name wants found)).root ≡ s.root
-found_root s name wants (found.Bytes text) = made_root wants (refusal_of (write name) (length text) s) (changed (write name) text s) s refl
-found_root s name wants found.Missing = refl
-found_root s name wants found.NoRoom = refl
+found_root : (s : State) (name : List ℕ) (ran_out : Bool) (found : Found) → (state_or s (taken_found s name ran_out found)).root ≡ s.root
+found_root s name ran_out (found.Bytes text) = made_root ran_out (refusal_of (write name) (length text) s) (changed (write name) text s) s refl
+found_root s name ran_out found.Missing = refl
+found_root s name ran_out found.NoRoom = refl
 
-root_behind : (s : State) (files : List Reading) → (after_files s files).root ≡ s.root
+root_behind : (s : State) (files : List LookedUp) → (after_files s files).root ≡ s.root
 root_behind s [] = refl
-root_behind s (r ∷ rs) = root_behind (after_file s r) rs ∙ found_root s r.name r.wants r.found
+root_behind s (r ∷ rs) = root_behind (after_file s r) rs ∙ found_root s r.name r.ran_out r.found
 
 -- after all files that were looked up
-pub goes_root : (known : ℕ) (s t session : State) (met met' : List (List ℕ)) (a b : Seen) (x y : Sunk) (root : List ℕ) (min : ℕ) →
-    s ≡ no_texts root min → Goes known s t met met' a b x y → session ≡ t → session.root ≡ root
-goes_root known s t session met met' a b x y root min is goes same =
-    ap (λ (u : State). u.root) (same ∙ goes.is_behind) ∙ root_behind s goes.files ∙ ap (λ (u : State). u.root) is
+pub goes_root : (failures_before : ℕ) (s t session : State) (met met' : List (List ℕ)) (a b : Seen) (x y : Sunk) (root : List ℕ) (min : ℕ) →
+    s ≡ no_texts root min → Goes failures_before s t met met' a b x y → session ≡ t → session.root ≡ root
+goes_root failures_before s t session met met' a b x y root min is goes same =
+    ap (λ (u : State). u.root) (same ∙ goes.is_after) ∙ root_behind s goes.files ∙ ap (λ (u : State). u.root) is

@@ -95,9 +95,9 @@ stops_at_once root min a out err =
     record { files = []; loads = record { in_order = tt; looked_up = looks_none a }; unprinted = refl; tells = tells_nothing err }
 
 -- Some files were looked up.
-pub stops_behind : (root : List ℕ) (min known : ℕ) (s t : State) (met met' : List (List ℕ)) (a b : Seen) (out err err' : Sunk) →
-    s ≡ no_texts root min → met ≡ [] → err.failures ≡ known → Goes known s t met met' a b err err' → Stops root min a b out out err err'
-stops_behind root min known s t met met' a b out err err' is none few goes =
+pub stops_behind : (root : List ℕ) (min failures_before : ℕ) (s t : State) (met met' : List (List ℕ)) (a b : Seen) (out err err' : Sunk) →
+    s ≡ no_texts root min → met ≡ [] → err.failures ≡ failures_before → Goes failures_before s t met met' a b err err' → Stops root min a b out out err err'
+stops_behind root min failures_before s t met met' a b out err err' is none few goes =
     record {
       files = goes.files;
       loads = record { in_order = rw (← is, ← none) goes.in_order; looked_up = goes.looked_up };
@@ -106,12 +106,12 @@ stops_behind root min known s t met met' a b out err err' is none few goes =
     }
 
 -- All were, and the run ends.
-pub runs_behind : (root : List ℕ) (min known : ℕ) (terse : Bool) (s t session : State) (met met' : List (List ℕ)) (a b c : Seen) (out out' err err' err'' : Sunk) (log : List ℕ) (exit : ℕ) →
-    s ≡ no_texts root min → met ≡ [] → err.failures ≡ known → session ≡ t → log ≡ printed_log terse session →
-    Goes known s t met met' a b err err' → next t met' ≡ None →
-    ((first : Sunk) (text : List ℕ) → first.failures ≡ known → Tells first err' text → Ends session log b c out out' (λ more. Tells first err'' (text ++ more)) exit) →
+pub runs_behind : (root : List ℕ) (min failures_before : ℕ) (terse : Bool) (s t session : State) (met met' : List (List ℕ)) (a b c : Seen) (out out' err err' err'' : Sunk) (log : List ℕ) (exit : ℕ) →
+    s ≡ no_texts root min → met ≡ [] → err.failures ≡ failures_before → session ≡ t → log ≡ printed_log terse session →
+    Goes failures_before s t met met' a b err err' → next t met' ≡ None →
+    ((first : Sunk) (text : List ℕ) → first.failures ≡ failures_before → Tells first err' text → Ends session log b c out out' (λ more. Tells first err'' (text ++ more)) exit) →
     Runs root min terse a c out out' err err'' exit
-runs_behind root min known terse s t session met met' a b c out out' err err' err'' log exit is none few same is_log goes all ends =
+runs_behind root min failures_before terse s t session met met' a b c out out' err err' err'' log exit is none few same is_log goes all ends =
     record {
       files = goes.files;
       between = b;
@@ -123,7 +123,7 @@ runs_behind root min known terse s t session met met' a b c out out' err err' er
     }
   where
     is_loaded : t ≡ after_files (no_texts root min) goes.files
-    is_loaded = goes.is_behind ∙ ap (λ u. after_files u goes.files) is
+    is_loaded = goes.is_after ∙ ap (λ u. after_files u goes.files) is
 
     are_met : met' ≡ map name_of goes.files
     are_met = goes.are_met ∙ ap (λ m. m ++ map name_of goes.files) none

@@ -29,11 +29,11 @@ appends_nothing (Some u) = sym (append-nil u)
 pub tells_nothing : (sink : Sunk) → Tells sink sink []
 tells_nothing sink = inl (appends_nothing sink.contents, refl, λ before. before)
 
-pub goes_on_none : (known : ℕ) (old : Sunk) → GoesOn known old old []
-goes_on_none known old = λ first text is told. subst (Tells first old) (sym (append-nil text)) told
+pub goes_on_none : (failures_before : ℕ) (old : Sunk) → GoesOn failures_before old old []
+goes_on_none failures_before old = λ first text is told. subst (Tells first old) (sym (append-nil text)) told
 
-pub goes_on_more : (known : ℕ) (a b c : Sunk) (s t : List ℕ) → GoesOn known a b s → GoesOn known b c t → GoesOn known a c (s ++ t)
-goes_on_more known a b c s t p q = λ first text is told. subst (Tells first c) (append_assoc text s t) (q first (text ++ s) is (p first text is told))
+pub goes_on_more : (failures_before : ℕ) (a b c : Sunk) (s t : List ℕ) → GoesOn failures_before a b s → GoesOn failures_before b c t → GoesOn failures_before a c (s ++ t)
+goes_on_more failures_before a b c s t p q = λ first text is told. subst (Tells first c) (append_assoc text s t) (q first (text ++ s) is (p first text is told))
 
 -- A text that was said, and nothing else.
 pub printed : {T E : Type 0} (old new : Sunk) (text : List ℕ) (result : Result T E) →

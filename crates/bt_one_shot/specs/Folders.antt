@@ -1,4 +1,4 @@
--- What is seen of a folder: what it holds, and what is read of it and written to it, where it tells.
+-- What is seen of a folder: what it holds, and what is read of it and written to it, where it shows that.
 use Rattle.std.specs.Prelude.{◌≡◌, ◌≤◌, ◌<◌, ◌+◌, ◌^◌, ℕ, Bool, true, false, List, [], ◌∷◌, ◌++◌, length, take, fold, Option, None, Some, if◌then◌else◌, bytes_eq}
 use Rattle.std.specs.Option.{option_map}
 use Rattle.bt_one_shot.specs.declared.folder.Found.{Found}
@@ -15,11 +15,11 @@ pub record Written : Type 0 where
 
 -- what is seen of a folder
 pub record Seen : Type 0 where
-  -- what it holds, where it tells
+  -- what it holds, where it shows that
   pub held : Option Contents
-  -- the names that were looked up, the first first, where it tells
+  -- the names that were looked up, the first first, where it shows them
   pub looked_up : Option (List (List ℕ))
-  -- the files that were written, the first first, where it tells
+  -- the files that were written, the first first, where it shows them
   pub written : Option (List Written)
   -- how many writes failed
   pub failures : ℕ
@@ -45,7 +45,7 @@ Finds (Some held) name (found.Bytes bytes) = option_map (take most_read) (held n
 Finds (Some held) name found.Missing = held name ≡ None
 Finds (Some held) name found.NoRoom = Unit {0}
 
--- at most so many bytes are found
+-- no more bytes are found than are read of a file
 abbrev pub IsWithin : Found → Type 0
 IsWithin (found.Bytes bytes) = length bytes ≤ most_read
 IsWithin found.Missing = Unit {0}

@@ -7,18 +7,18 @@ use Rattle.bibtex.specs.declared.state.State.{State}
 use Rattle.bibtex.specs.Present.{shown}
 use Rattle.bibtex.specs.Changes.{write}
 use Rattle.bibtex.specs.Applied.{outcome}
-use Rattle.bt_serve.specs.Commands.{code_of, state_or, unless_wanting}
+use Rattle.bt_serve.specs.Commands.{code_of, state_or, unless_out_of_memory}
 use Rattle.bt_one_shot.specs.declared.folder.Found.{Found}
 use Rattle.bt_one_shot.specs.declared.folder.Found.TheVariants as found
 use Rattle.bt_one_shot.specs.Folders.{Contents, Finds, looked_up}
 
 -- a file that was looked up: its name, what was found, and whether there was no room to take that in
-pub record Reading : Type 0 where
+pub record LookedUp : Type 0 where
   pub name : List ℕ
   pub found : Found
-  pub wants : Bool
+  pub ran_out : Bool
 
-abbrev pub name_of : Reading → List ℕ
+abbrev pub name_of : LookedUp → List ℕ
 name_of r = r.name
 
 -- the name that is looked up next: the first that is wanted and wasn't looked up yet
@@ -27,40 +27,40 @@ next s met = find (λ name. not (list_any (bytes_eq name) met)) (shown s).wanted
 
 -- what becomes of a state by what was found under a name: a text is written under it
 abbrev pub taken_found : State → List ℕ → Bool → Found → Result State Refusal
-taken_found s name wants (found.Bytes text) = unless_wanting wants (outcome (write name) text s)
-taken_found s name wants found.Missing = Ok s
-taken_found s name wants found.NoRoom = Err OutOfMemory
+taken_found s name ran_out (found.Bytes text) = unless_out_of_memory ran_out (outcome (write name) text s)
+taken_found s name ran_out found.Missing = Ok s
+taken_found s name ran_out found.NoRoom = Err OutOfMemory
 
 -- what becomes of a state by a file, or why that is refused
-abbrev pub taken : State → Reading → Result State Refusal
-taken s r = taken_found s r.name r.wants r.found
+abbrev pub taken : State → LookedUp → Result State Refusal
+taken s r = taken_found s r.name r.ran_out r.found
 
 -- the state after a file; one that is refused counts as missing
-abbrev pub after_file : State → Reading → State
+abbrev pub after_file : State → LookedUp → State
 after_file s r = state_or s (taken s r)
 
 -- the state after files
-abbrev pub after_files : State → List Reading → State
+abbrev pub after_files : State → List LookedUp → State
 after_files s [] = s
 after_files s (r ∷ rs) = after_files (after_file s r) rs
 
--- the line that tells why a file is refused
+-- the line that says why a file is refused
 abbrev pub refusal_line : List ℕ → Result State Refusal → List ℕ
 refusal_line name (Ok s) = []
 refusal_line name (Err refusal) =
     codes "bibtex: refused " ++ (decimal (code_of refusal) ++ (codes " " ++ (name ++ codes "\n")))
 
--- the lines that tell which files are refused
-abbrev pub refusal_lines : State → List Reading → List ℕ
+-- the lines that say which files are refused
+abbrev pub refusal_lines : State → List LookedUp → List ℕ
 refusal_lines s [] = []
 refusal_lines s (r ∷ rs) = refusal_line r.name (taken s r) ++ refusal_lines (after_file s r) rs
 
 -- Each of the files was the next one when it was looked up, and what was found is what the folder holds.
-abbrev pub InOrder : Option Contents → State → List (List ℕ) → List Reading → Type 0
+abbrev pub InOrder : Option Contents → State → List (List ℕ) → List LookedUp → Type 0
 InOrder held s met [] = Unit {0}
 InOrder held s met (r ∷ rs) =
     (next s met ≡ Some r.name) × Finds held r.name r.found × InOrder held (after_file s r) (met ++ r.name ∷ []) rs
 
 -- the names that were looked up for files
-abbrev pub all_looked_up : List Reading → List (List ℕ)
-all_looked_up rs = flat_map (λ (r : Reading). looked_up r.name r.found) rs
+abbrev pub all_looked_up : List LookedUp → List (List ℕ)
+all_looked_up rs = flat_map (λ (r : LookedUp). looked_up r.name r.found) rs

@@ -2,13 +2,13 @@
 use Rattle.std.specs.Prelude.{◌≡◌, ℕ, false, List, []}
 use Rattle.bibtex.specs.Present.{is_root_name}
 use Rattle.clap.specs.Words.{kind_of, IsAmong}
-use Rattle.bt_one_shot.specs.Words.{Asked, asked, faults_of}
+use Rattle.bt_one_shot.specs.Words.{Invocation, asked, faults_of}
 use Rattle.bt_one_shot.specs.declared.options.Options.{Options}
 use Rattle.bt_one_shot.specs.declared.options.OptionsFault.{OptionsFault}
 use Rattle.bt_one_shot.specs.declared.options.OptionsFault.TheVariants.{Parser, BadJobName, OutOfMemory}
 
 -- the options that the program has in hand
-abbrev pub asked_of : Options → Asked
+abbrev pub asked_of : Options → Invocation
 asked_of o = record { root = o.root; min = o.min; terse = o.terse; resident = o.resident }
 
 -- The fault that words have: one that the parser finds, help among them; or, where it finds none, a job's name that is

@@ -1,25 +1,26 @@
--- What the one-shot form does: what it looks up, what it leaves in the folder, what it tells, and its exit status.
+-- What the one-shot form does: what it looks up, what it leaves in the folder, what it prints and reports, and its exit
+-- status.
 use Rattle.std.specs.Prelude.{◌≡◌, ◌⊎◌, ℕ, Bool, true, false, nat_le, List, [], ◌∷◌, ◌++◌, length, map, None, codes, if◌then◌else◌}
 use Rattle.bibtex.specs.declared.state.State.{State}
 use Rattle.bibtex.specs.Present.{no_texts, shown}
 use Rattle.bt_one_shot.specs.Folders.{Written, Seen, LooksUp, Writes, Fails}
 use Rattle.bt_one_shot.specs.Sinks.{Sunk, Tells}
-use Rattle.bt_one_shot.specs.Loading.{Reading, name_of, next, after_files, refusal_lines, InOrder, all_looked_up}
+use Rattle.bt_one_shot.specs.Loading.{LookedUp, name_of, next, after_files, refusal_lines, InOrder, all_looked_up}
 
 -- What is looked up
 
 -- Files of a job were looked up, one after another from a session without files on: each the first that was then wanted
 -- and not looked up yet, by one read each.
-pub record Loads (root : List ℕ) (min : ℕ) (old new : Seen) (files : List Reading) : Type 0 where
+pub record Loads (root : List ℕ) (min : ℕ) (old new : Seen) (files : List LookedUp) : Type 0 where
   pub in_order : InOrder old.held (no_texts root min) [] files
   pub looked_up : LooksUp old new (length files) (all_looked_up files)
 
 -- the state after them
-abbrev pub loaded : List ℕ → ℕ → List Reading → State
+abbrev pub loaded : List ℕ → ℕ → List LookedUp → State
 loaded root min files = after_files (no_texts root min) files
 
 -- the lines that tell which of them are refused
-abbrev pub refusals_told : List ℕ → ℕ → List Reading → List ℕ
+abbrev pub refusals_told : List ℕ → ℕ → List LookedUp → List ℕ
 refusals_told root min files = refusal_lines (no_texts root min) files
 
 -- What is left
@@ -68,7 +69,7 @@ Ends s log old new out out' IsTold exit =
 
 -- A job is run: its files are looked up until it wants no new one, and the run ends with the state after them.
 pub record Runs (root : List ℕ) (min : ℕ) (terse : Bool) (old new : Seen) (out out' err err' : Sunk) (exit : ℕ) : Type 0 where
-  pub files : List Reading
+  pub files : List LookedUp
   pub between : Seen
   pub loads : Loads root min old between files
   pub are_all : next (loaded root min files) (map name_of files) ≡ None
@@ -76,7 +77,7 @@ pub record Runs (root : List ℕ) (min : ℕ) (terse : Bool) (old new : Seen) (o
 
 -- There is no room to go on. Some of its files were looked up, and nothing is written or printed.
 pub record Stops (root : List ℕ) (min : ℕ) (old new : Seen) (out out' err err' : Sunk) : Type 0 where
-  pub files : List Reading
+  pub files : List LookedUp
   pub loads : Loads root min old new files
   pub unprinted : out' ≡ out
   pub tells : Tells err err' (refusals_told root min files)

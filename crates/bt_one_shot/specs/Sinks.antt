@@ -3,7 +3,8 @@ use Rattle.std.specs.Prelude.{◌≡◌, ◌⊎◌, ◌+◌, ℕ, Bool, true, Li
 use Rattle.std.specs.Io.KnownBytes.{Appends}
 use Rattle.bt_serve.specs.Writes.{AppendsPart}
 
--- what is seen of a sink: what was written to it, where it tells, how often it failed, and whether all was handed on
+-- what is seen of a sink: what was written to it, where it shows that, how often it failed, and whether all was handed
+-- on
 pub record Sunk : Type 0 where
   pub contents : Option (List ℕ)
   pub failures : ℕ

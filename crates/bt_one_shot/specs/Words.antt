@@ -63,14 +63,14 @@ is_set None = false
 is_set (Some text) = bytes_eq text (codes "true")
 
 -- what words ask for
-pub record Asked : Type 0 where
+pub record Invocation : Type 0 where
   pub root : List ℕ
   pub min : ℕ
   pub terse : Bool
   pub resident : Bool
 
 -- by what the parser found in them
-abbrev pub asked_by : List Row → Asked
+abbrev pub asked_by : List Row → Invocation
 asked_by rows =
     record {
       root = without_aux (unwrap_or (first_of (codes "JOB") rows) []);
@@ -80,5 +80,5 @@ asked_by rows =
     }
 
 -- what these words ask for, where the parser takes them
-unfoldable pub asked : List Text → Asked
+unfoldable pub asked : List Text → Invocation
 asked words = asked_by (matches_of command_line words)

@@ -18,10 +18,10 @@ pub trait Folder {
     ghost use Rattle.std.specs.Prelude.{◌≡◌, ◌<◌, ◌-◌, ◌^◌};
     ghost use Rattle.bt_one_shot.specs.Folders.{Seen, Finds, IsWithin, LooksUp, WritesOne, looked_up};
 
-    /// What it holds, and what was done with it so far, as far as it tells.
+    /// What it holds, and what was done with it so far, as far as it shows that.
     ghost seen: { Self → Seen };
 
-    /// The file of a name. Each read is counted, whatever is found.
+    /// Looks up a file; at most 1,048,577 bytes of it are read. Each read is counted, whatever is found.
     fn read(&mut self, name: &[u8]) -> Found
         ensures found { Finds (seen self.old).held name.now result }
         ensures within { IsWithin result }

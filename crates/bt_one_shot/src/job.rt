@@ -7,7 +7,7 @@ ghost use Rattle.bt_one_shot.specs.Shots.{exit_of, printed_log, Ends, Runs, Stop
 
 use crate::folder::Folder;
 use crate::loading::{load_all, tell};
-use crate::met::Met;
+use crate::met::NamesMet;
 use crate::options::Options;
 use bibtex::{Draft, Session};
 use bt_serve::{Sink, say};
@@ -61,14 +61,14 @@ fn write_out<F: Folder, O: Sink, E: Sink>(
     folder: &mut F,
     out: &mut O,
     err: &mut E,
-    known: u64,
+    failures_before: u64,
 ) -> u8
     requires bbl { outputs.now.bbl.now ≡ outputs.now.session.now.root ++ codes ".bbl" }
     requires blg { outputs.now.blg.now ≡ outputs.now.session.now.root ++ codes ".blg" }
     requires folder { (F.seen folder.old).failures < 2 ^ 64 - 1 }
     requires out { O.failure_count out.old < 2 ^ 64 - 1 }
-    requires err { known < 2 ^ 64 - 1 }
-    ensures { (first : Sunk) (text : List ℕ) → first.failures ≡ known → Tells first
+    requires err { failures_before < 2 ^ 64 - 1 }
+    ensures { (first : Sunk) (text : List ℕ) → first.failures ≡ failures_before → Tells first
         (sunk (E.contents err.old) (E.failure_count err.old) (E.is_flushed err.old)) text →
         Ends outputs.now.session.now outputs.now.log.now (F.seen folder.old) (F.seen folder.new)
         (sunk (O.contents out.old) (O.failure_count out.old) (O.is_flushed out.old))
@@ -83,11 +83,11 @@ fn write_out<F: Folder, O: Sink, E: Sink>(
         log,
     } = *outputs;
     if !folder.write(bbl, session.bbl()) {
-        tell(err, known, &[b"bibtex: can't write ", bbl, b"\n"]);
+        tell(err, failures_before, &[b"bibtex: can't write ", bbl, b"\n"]);
         return UNWRITTEN;
     }
     if !folder.write(blg, session.blg()) {
-        tell(err, known, &[b"bibtex: can't write ", blg, b"\n"]);
+        tell(err, failures_before, &[b"bibtex: can't write ", blg, b"\n"]);
         return UNWRITTEN;
     }
     print_log(out, log);
@@ -127,9 +127,9 @@ pub fn one_shot<F: Folder, O: Sink, E: Sink>(
     let Ok(mut draft) = Draft::new(alloc, root, options.min) else {
         return Err(AllocError);
     };
-    let known = err.failures();
-    let mut met = Met::new(alloc);
-    load_all(alloc, &mut draft, &mut met, folder, err, known)?;
+    let failures_before = err.failures();
+    let mut met = NamesMet::new(alloc);
+    load_all(alloc, &mut draft, &mut met, folder, err, failures_before)?;
     let session = Session::of(draft)?;
     let bbl = Bytes::of(alloc, &[root, b".bbl"])?;
     let blg = Bytes::of(alloc, &[root, b".blg"])?;
@@ -139,7 +139,7 @@ pub fn one_shot<F: Folder, O: Sink, E: Sink>(
         blg: blg.as_slice(),
         log: printed_log(&session, options.terse),
     };
-    let status = write_out(&outputs, folder, out, err, known);
+    let status = write_out(&outputs, folder, out, err, failures_before);
     // A program that has run its job ends: what the session kept goes with it, at once.
     forget(session);
     Ok(status)

@@ -8,40 +8,44 @@ ghost use Rattle.bt_one_shot.specs.Loading.{next, refusal_line};
 ghost use Rattle.bt_one_shot.specs.inner.Progress.{TakesIn, LooksUpName, Goes};
 
 use crate::folder::{Folder, Found};
-use crate::met::Met;
+use crate::met::NamesMet;
 use bibtex::{Draft, Edit, Refusal};
 use bt_serve::{Sink, code_of, say};
 use bt_text::Bytes;
 use itoa::Buffer;
 use std::alloc::{AllocError, Global};
 
-/// Writes pieces of a line to a sink that failed so often before, unless it failed since.
-pub fn tell<E: Sink>(err: &mut E, known: u64, pieces: &[&[u8]])
-    requires { known < 2 ^ 64 - 1 }
-    ensures { GoesOn known (sunk (E.contents err.old) (E.failure_count err.old) (E.is_flushed err.old))
+/// Writes pieces of a line to a sink, unless it failed since its failures were counted. A failure is left out.
+pub fn tell<E: Sink>(err: &mut E, failures_before: u64, pieces: &[&[u8]])
+    requires { failures_before < 2 ^ 64 - 1 }
+    ensures { GoesOn failures_before (sunk (E.contents err.old) (E.failure_count err.old) (E.is_flushed err.old))
         (sunk (E.contents err.new) (E.failure_count err.new) (E.is_flushed err.new))
         (flat_map (λ piece. piece.now) pieces.now) }
 {
-    if err.failures() == known {
+    if err.failures() == failures_before {
         let _ = say(err, pieces);
     }
 }
 
 /// Reports that a file was refused.
-fn tell_refused<E: Sink>(err: &mut E, known: u64, refusal: Refusal, name: &[u8])
-    requires { known < 2 ^ 64 - 1 }
-    ensures { GoesOn known (sunk (E.contents err.old) (E.failure_count err.old) (E.is_flushed err.old))
+fn tell_refused<E: Sink>(err: &mut E, failures_before: u64, refusal: Refusal, name: &[u8])
+    requires { failures_before < 2 ^ 64 - 1 }
+    ensures { GoesOn failures_before (sunk (E.contents err.old) (E.failure_count err.old) (E.is_flushed err.old))
         (sunk (E.contents err.new) (E.failure_count err.new) (E.is_flushed err.new))
         (refusal_line name.now (Err refusal)) }
 {
     let mut code = Buffer::new();
     let code = code.format(code_of(refusal)).as_bytes();
-    tell(err, known, &[b"bibtex: refused ", code, b" ", name, b"\n"]);
+    tell(
+        err,
+        failures_before,
+        &[b"bibtex: refused ", code, b" ", name, b"\n"],
+    );
 }
 
 /// Takes what was found under a name into a draft, and says whether it has changed; or says why it is refused.
 fn take_in(draft: &mut Draft, name: &[u8], found: Found) -> Result<bool, Refusal>
-    ensures { (wants : Bool) × TakesIn draft.old draft.new name.now wants found result }
+    ensures { (ran_out : Bool) × TakesIn draft.old draft.new name.now ran_out found result }
 {
     match found {
         Found::Bytes(text) => match draft.edit(Edit::Write(name, text.as_slice())) {
@@ -58,11 +62,11 @@ fn look_up<F: Folder, E: Sink>(
     draft: &mut Draft,
     folder: &mut F,
     err: &mut E,
-    known: u64,
+    failures_before: u64,
     name: &[u8],
 ) -> bool
-    requires { known < 2 ^ 64 - 1 }
-    ensures looks { LooksUpName known draft.old draft.new name.now (F.seen folder.old) (F.seen folder.new)
+    requires { failures_before < 2 ^ 64 - 1 }
+    ensures looks { LooksUpName failures_before draft.old draft.new name.now (F.seen folder.old) (F.seen folder.new)
         (sunk (E.contents err.old) (E.failure_count err.old) (E.is_flushed err.old))
         (sunk (E.contents err.new) (E.failure_count err.new) (E.is_flushed err.new)) }
     ensures unchanged { result ≡ false → draft.new ≡ draft.old }
@@ -71,7 +75,7 @@ fn look_up<F: Folder, E: Sink>(
     match take_in(draft, name, found) {
         Ok(changed) => changed,
         Err(refusal) => {
-            tell_refused(err, known, refusal, name);
+            tell_refused(err, failures_before, refusal, name);
             false
         }
     }
@@ -83,13 +87,13 @@ fn look_up<F: Folder, E: Sink>(
 fn look_up_wanted<F: Folder, E: Sink>(
     alloc: Global,
     draft: &mut Draft,
-    met: &mut Met,
+    met: &mut NamesMet,
     folder: &mut F,
     err: &mut E,
-    known: u64,
+    failures_before: u64,
 ) -> Result<bool, AllocError>
-    requires { known < 2 ^ 64 - 1 }
-    ensures goes { Goes known draft.old draft.new met.old met.new (F.seen folder.old) (F.seen folder.new)
+    requires { failures_before < 2 ^ 64 - 1 }
+    ensures goes { Goes failures_before draft.old draft.new met.old met.new (F.seen folder.old) (F.seen folder.new)
         (sunk (E.contents err.old) (E.failure_count err.old) (E.is_flushed err.old))
         (sunk (E.contents err.new) (E.failure_count err.new) (E.is_flushed err.new)) }
     ensures end { result ≡ Ok false → next draft.new met.new ≡ None }
@@ -100,7 +104,7 @@ fn look_up_wanted<F: Folder, E: Sink>(
         let name = name.as_slice();
         if !met.has(name) {
             met.put(alloc, name)?;
-            if look_up(draft, folder, err, known, name) {
+            if look_up(draft, folder, err, failures_before, name) {
                 return Ok(true);
             }
         }
@@ -109,22 +113,23 @@ fn look_up_wanted<F: Folder, E: Sink>(
 }
 
 /// Looks up each file that a draft wants, once each and in the order in which its run looks for them, until it wants no
-/// new one. A file that is refused is reported on `err`, and counts as missing. The one error is out of memory.
+/// new one. A file that is refused is reported on `err`, and counts as missing. After out of memory those
+/// are taken in that were looked up before.
 #[tactic(auto, using(crate::proofs::LoadLemmas::goes_none, crate::proofs::LoadLemmas::goes_more))]
 pub fn load_all<F: Folder, E: Sink>(
     alloc: Global,
     draft: &mut Draft,
-    met: &mut Met,
+    met: &mut NamesMet,
     folder: &mut F,
     err: &mut E,
-    known: u64,
+    failures_before: u64,
 ) -> Result<(), AllocError>
-    requires { known < 2 ^ 64 - 1 }
-    ensures goes { Goes known draft.old draft.new met.old met.new (F.seen folder.old) (F.seen folder.new)
+    requires { failures_before < 2 ^ 64 - 1 }
+    ensures goes { Goes failures_before draft.old draft.new met.old met.new (F.seen folder.old) (F.seen folder.new)
         (sunk (E.contents err.old) (E.failure_count err.old) (E.is_flushed err.old))
         (sunk (E.contents err.new) (E.failure_count err.new) (E.is_flushed err.new)) }
     ensures end { OnOk result (next draft.new met.new ≡ None) }
 {
-    'rounds: while look_up_wanted(alloc, draft, met, folder, err, known)? {}
+    'rounds: while look_up_wanted(alloc, draft, met, folder, err, failures_before)? {}
     Ok(())
 }

@@ -9,11 +9,11 @@ use std::marker::Model;
 
 /// Names, each once, in the order in which they were noted. Contracts see the list of them.
 #[derive(Drop)]
-pub struct Met {
+pub struct NamesMet {
     names: IndexSet<Vec<u8>>,
 }
 
-impl Model for Met {
+impl Model for NamesMet {
     ghost use Rattle.std.specs.Prelude.{List, ℕ, map};
 
     ghost Value = { List (List ℕ) };
@@ -21,12 +21,12 @@ impl Model for Met {
     ghost view = { λ m. map (λ name. name.items) m.names.keys };
 }
 
-impl Met {
+impl NamesMet {
     /// No names.
-    pub fn new(alloc: Global) -> Met
+    pub fn new(alloc: Global) -> NamesMet
         ensures { result ≡ [] }
     {
-        Met {
+        NamesMet {
             names: IndexSet::new(alloc),
         }
     }
@@ -39,7 +39,7 @@ impl Met {
         self.names.len() > 0 && self.names.contains(name)
     }
 
-    /// Puts a new name after the others. The one error is out of memory.
+    /// Puts a new name after the others. After out of memory the names are as before.
     pub fn put(&mut self, alloc: Global, name: &[u8]) -> Result<(), AllocError>
         requires { list_any (bytes_eq name.now) self.old ≡ false }
         ensures ok { OnOk result (self.new ≡ self.old ++ name.now ∷ []) }

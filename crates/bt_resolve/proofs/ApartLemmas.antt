@@ -13,7 +13,7 @@ use Rattle.bt_resolve.specs.declared.stored.Stored.{Stored}
 use Rattle.bt_text.specs.NameList.{has_name, are_apart}
 use Rattle.bt_resolve.specs.Names.{place_of_name}
 use Rattle.bt_resolve.specs.Listed.{place_of_key, parents, is_cited, is_cited_at, is_among, firsts, cited_places, uncited_parents, others_than, listed_by, listed}
-use Rattle.bt_resolve.specs.Inherited.{key_spelled, entry_seen, entry_at, entries_seen, is_left_out, values_behind}
+use Rattle.bt_resolve.specs.Inherited.{key_spelled, entry_seen, entry_at, entries_seen, is_left_out, values_after}
 use Rattle.bt_resolve.specs.Laws.{KeysApart, EntriesApart}
 use Rattle.bt_resolve.specs.Resolved.{resolved, stored_entries, asked}
 use Rattle.bt_resolve.proofs.FieldLemmas.{same_at, same_back, has_alike, some_zero, some_suc, before_suc, value_or, or_false, and_true}
@@ -296,7 +296,7 @@ unfolding entries_seen listed
 seen_apart a min ss stored cited =
     let places = listed_by a.keys a.star ss in
     let kept = filter (λ p. not (is_left_out a min ss p)) places in
-    ap (λ (ks : Keys). are_apart ks) (keys_of a min ss (values_behind ss (reverse places)) kept)
+    ap (λ (ks : Keys). are_apart ks) (keys_of a min ss (values_after ss (reverse places)) kept)
     ∙ keys_apart a.keys ss stored kept (distinct_filter (λ p. not (is_left_out a min ss p)) places (distinct_listed a.keys a.star ss cited))
 
 pub entries_apart : EntriesApart

@@ -8,7 +8,7 @@ use Rattle.std.proofs.lemmas.Bool.Decides.{Decides-eqb}
 use Rattle.bt_resolve.specs.declared.asked.Asked.{Asked}
 use Rattle.bt_resolve.specs.declared.stored.Stored.{Stored}
 use Rattle.bt_resolve.specs.Listed.{listed}
-use Rattle.bt_resolve.specs.Inherited.{inherited, values_of, parent_at, inherits, values_behind, entries_by, entries_seen}
+use Rattle.bt_resolve.specs.Inherited.{inherited, values_of, parent_at, inherits, values_after, entries_by, entries_seen}
 use Rattle.bt_resolve.specs.inner.Inheriting.{inherits_from, inherits_at, all_inherit, values_read}
 
 abbrev Values : Type 0
@@ -44,25 +44,25 @@ at_test stored vs q k true is =
 at_test stored vs q k false is =
     other_place vs q k (parent_at stored q) (λ (same : k ≡ q). let yes_is : (q == k) ≡ true = (Decides-eqb q k).1 (sym same) in let wrong : true ≡ false = sym yes_is ∙ is in cc)
 
-values_next : (stored : List Stored) (vs : List Values) (before : List ℕ) (q : ℕ) → ((k : ℕ) → get_or vs k [] ≡ values_behind stored before k) → (k : ℕ) → get_or (inherits_at stored vs q) k [] ≡ values_behind stored (q ∷ before) k
-unfolding values_behind
+values_next : (stored : List Stored) (vs : List Values) (before : List ℕ) (q : ℕ) → ((k : ℕ) → get_or vs k [] ≡ values_after stored before k) → (k : ℕ) → get_or (inherits_at stored vs q) k [] ≡ values_after stored (q ∷ before) k
+unfolding values_after
 values_next stored vs before q h k =
     at_test stored vs q k (q == k) refl ∙ ap (λ (now : ℕ → Values). inherits (q == k) (parent_at stored k) now k) (fun_ext h)
 
-pub values_then : (stored : List Stored) (places before : List ℕ) (vs : List Values) → ((k : ℕ) → get_or vs k [] ≡ values_behind stored before k) → (k : ℕ) → get_or (all_inherit stored vs places) k [] ≡ values_behind stored (reverse places ++ before) k
+pub values_then : (stored : List Stored) (places before : List ℕ) (vs : List Values) → ((k : ℕ) → get_or vs k [] ≡ values_after stored before k) → (k : ℕ) → get_or (all_inherit stored vs places) k [] ≡ values_after stored (reverse places ++ before) k
 values_then stored [] before vs h k = h k
 values_then stored (p ∷ ps) before vs h k =
     values_then stored ps (p ∷ before) (inherits_at stored vs p) (values_next stored vs before p h) k
-    ∙ ap (λ (behind : List ℕ). values_behind stored behind k) (sym (behind_place p ps before))
+    ∙ ap (λ (behind : List ℕ). values_after stored behind k) (sym (behind_place p ps before))
 
 values_first : (stored : List Stored) (k : ℕ) → get_or (values_read stored) k [] ≡ values_of (slice_get stored k)
 values_first [] k = refl
 values_first (s ∷ ss) zero = refl
 values_first (s ∷ ss) (suc k) = values_first ss k
 
-pub values_are : (stored : List Stored) (places : List ℕ) → (λ k. get_or (all_inherit stored (values_read stored) places) k []) ≡ values_behind stored (reverse places)
-unfolding values_behind
-values_are stored places = fun_ext (λ k. values_then stored places [] (values_read stored) (values_first stored) k ∙ ap (λ (behind : List ℕ). values_behind stored behind k) (append-nil (reverse places)))
+pub values_are : (stored : List Stored) (places : List ℕ) → (λ k. get_or (all_inherit stored (values_read stored) places) k []) ≡ values_after stored (reverse places)
+unfolding values_after
+values_are stored places = fun_ext (λ k. values_then stored places [] (values_read stored) (values_first stored) k ∙ ap (λ (behind : List ℕ). values_after stored behind k) (append-nil (reverse places)))
 
 pub entries_are : (a : Asked) (min : ℕ) (stored : List Stored) (places : List ℕ) (values : List Values) → places ≡ listed a stored → values ≡ all_inherit stored (values_read stored) places →
     entries_by a min stored (λ k. get_or values k []) places ≡ entries_seen a min stored
@@ -70,4 +70,4 @@ unfolding entries_seen
 entries_are a min stored places values listed_is values_is =
     ap (λ (vs : List Values). entries_by a min stored (λ k. get_or vs k []) places) values_is
     ∙ ap (λ (now : ℕ → Values). entries_by a min stored now places) (values_are stored places)
-    ∙ ap (λ (ps : List ℕ). entries_by a min stored (values_behind stored (reverse ps)) ps) listed_is
+    ∙ ap (λ (ps : List ℕ). entries_by a min stored (values_after stored (reverse ps)) ps) listed_is

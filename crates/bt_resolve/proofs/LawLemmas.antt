@@ -15,7 +15,7 @@ use Rattle.bt_resolve.specs.Macros.{macro_before}
 use Rattle.bt_resolve.specs.Values.{MacroTexts}
 use Rattle.bt_resolve.specs.Stored.{stored_of, is_wanted, is_stored, with_entry, with_item, stored_among}
 use Rattle.bt_resolve.specs.Listed.{place_of_key, parent_of, is_cited_at, is_among, firsts, cited_places, parents, uncited_parents, listed_by, listed}
-use Rattle.bt_resolve.specs.Inherited.{inherits, values_behind}
+use Rattle.bt_resolve.specs.Inherited.{inherits, values_after}
 use Rattle.bt_resolve.specs.Resolved.{resolved, stored_entries, all_items}
 use Rattle.bt_resolve.proofs.FieldLemmas.{or_false}
 use Rattle.bt_resolve.specs.Laws.{MessagesForEachMin, ListedAreStored, WantedInTurn, StoredAreWanted, KeysApart, StoredKeysApart, NothingInherited}
@@ -178,9 +178,9 @@ without_parent true now p = refl
 without_parent false now p = refl
 
 pub values_stay : NothingInherited
-unfolding values_behind
+unfolding values_after
 values_stay stored alone [] p = refl
 values_stay stored alone (q ∷ before) p =
-    ap (λ (parent : Option ℕ). inherits (q == p) parent (values_behind stored before) p) (alone_at stored stored alone p)
-    ∙ without_parent (q == p) (values_behind stored before) p
+    ap (λ (parent : Option ℕ). inherits (q == p) parent (values_after stored before) p) (alone_at stored stored alone p)
+    ∙ without_parent (q == p) (values_after stored before) p
     ∙ values_stay stored alone before p

@@ -1,7 +1,7 @@
 -- What moving an item leaves as it is.
 use Rattle.std.proofs.Common.{◌≡◌, refl, sym, ap, ◌∙◌, ℕ, List, [], ◌∷◌, ◌++◌, Option, Some}
-use Rattle.bt_bib.specs.declared.fault.Fault.{Fault}
-use Rattle.bt_bib.specs.declared.fault.Fault.TheVariants.{EndOfFile, MissingName, BadNameEnd, ExpectedOpen, ExpectedCommaOrClose, ExpectedEquals, UnbalancedBraces, MissingPart}
+use Rattle.bt_bib.specs.declared.fault.ItemFault.{ItemFault}
+use Rattle.bt_bib.specs.declared.fault.ItemFault.TheVariants.{EndOfFile, MissingName, BadNameEnd, ExpectedOpen, ExpectedCommaOrClose, ExpectedEquals, UnbalancedBraces, MissingPart}
 use Rattle.bt_bib.specs.declared.item.Closing.{Closing}
 use Rattle.bt_bib.specs.declared.item.Content.{Content}
 use Rattle.bt_bib.specs.declared.item.Content.TheVariants as contents
@@ -17,7 +17,7 @@ same_unclosed m (contents.Entry e) close = refl
 same_unclosed m (contents.Define d) close = refl
 same_unclosed m (contents.Preamble parts) close = refl
 
-same_words : (m : Spot) (c : Content) (close : Option Closing) (fault : Fault) → fault_words (moved_content m c) close fault ≡ fault_words c close fault
+same_words : (m : Spot) (c : Content) (close : Option Closing) (fault : ItemFault) → fault_words (moved_content m c) close fault ≡ fault_words c close fault
 unfolding fault_words
 same_words m c close EndOfFile = refl
 same_words m c close (MissingName what) = refl
@@ -38,13 +38,13 @@ same_key m (contents.Entry e) = refl
 same_key m (contents.Define d) = refl
 same_key m (contents.Preamble parts) = refl
 
-same_error : (m : Spot) (database : ℕ) (end : Spot) (c : Content) (close : Option Closing) (fault : Fault) →
+same_error : (m : Spot) (database : ℕ) (end : Spot) (c : Content) (close : Option Closing) (fault : ItemFault) →
     fault_error database end (moved_content m c) close fault ≡ fault_error database end c close fault
 same_error m database end c close fault = λ j.
     record (skipping (same_words m c close fault j) (DatabaseLine database end.line (Some end.place)) (same_dropped m c j)) { entry = same_key m c j }
 
-pub told_moved : (m : Spot) (database : ℕ) (end : Spot) (c : Content) (close : Option Closing) (o : Option Fault) (fault : Fault) (old new : List Message) (e : Message) →
+pub told_moved : (m : Spot) (database : ℕ) (end : Spot) (c : Content) (close : Option Closing) (o : Option ItemFault) (fault : ItemFault) (old new : List Message) (e : Message) →
     o ≡ Some fault → new ≡ old ++ e ∷ [] → e ≡ fault_error database end c close fault → new ≡ old ++ fault_messages database end (moved_content m c) close o
 told_moved m database end c close o fault old new e is_fault is_new is_error =
     is_new ∙ ap (λ (x : Message). old ++ x ∷ []) (is_error ∙ sym (same_error m database end c close fault))
-    ∙ ap (λ (p : Option Fault). old ++ fault_messages database end (moved_content m c) close p) (sym is_fault)
+    ∙ ap (λ (p : Option ItemFault). old ++ fault_messages database end (moved_content m c) close p) (sym is_fault)

@@ -1,9 +1,9 @@
 -- The words of the errors of items.
 use Rattle.std.specs.Prelude.{ℕ, List, [], ◌∷◌, ◌++◌, codes, Option, Some, None}
-use Rattle.bt_bib.specs.declared.fault.Fault.{Fault}
-use Rattle.bt_bib.specs.declared.fault.Fault.TheVariants.{EndOfFile, MissingName, BadNameEnd, ExpectedOpen, ExpectedCommaOrClose, ExpectedEquals, UnbalancedBraces, MissingPart}
-use Rattle.bt_bib.specs.declared.fault.What.{What}
-use Rattle.bt_bib.specs.declared.fault.What.TheVariants.{EntryType, StringName, FieldName, FieldPart}
+use Rattle.bt_bib.specs.declared.fault.ItemFault.{ItemFault}
+use Rattle.bt_bib.specs.declared.fault.ItemFault.TheVariants.{EndOfFile, MissingName, BadNameEnd, ExpectedOpen, ExpectedCommaOrClose, ExpectedEquals, UnbalancedBraces, MissingPart}
+use Rattle.bt_bib.specs.declared.fault.NameRole.{NameRole}
+use Rattle.bt_bib.specs.declared.fault.NameRole.TheVariants.{EntryType, StringName, FieldName, FieldPart}
 use Rattle.bt_bib.specs.declared.item.Closing.{Closing}
 use Rattle.bt_bib.specs.declared.item.Closing.TheVariants.{Brace, Parenthesis}
 use Rattle.bt_bib.specs.declared.item.Content.{Content}
@@ -20,7 +20,7 @@ dropped_name (contents.Entry e) = codes "entry"
 dropped_name (contents.Define d) = codes "command"
 dropped_name (contents.Preamble parts) = codes "command"
 
-abbrev pub what_name : What → List ℕ
+abbrev pub what_name : NameRole → List ℕ
 what_name EntryType = codes "an entry type"
 what_name StringName = codes "a string name"
 what_name FieldName = codes "a field name"
@@ -43,7 +43,7 @@ unclosed (contents.Entry e) close = unclosed_entry (sign_of close ∷ [])
 unclosed (contents.Define d) close = unclosed_command (codes "string") (sign_of close ∷ [])
 unclosed (contents.Preamble parts) close = unclosed_command (codes "preamble") (sign_of close ∷ [])
 
-unfoldable pub fault_words : Content → Option Closing → Fault → List ℕ
+unfoldable pub fault_words : Content → Option Closing → ItemFault → List ℕ
 fault_words content close EndOfFile = codes "Illegal end of database file"
 fault_words content close (MissingName what) = codes "You're missing " ++ what_name what
 fault_words content close (BadNameEnd what byte) = codes "\"" ++ (byte ∷ []) ++ codes "\" immediately follows " ++ what_name what
@@ -60,12 +60,12 @@ key_of (contents.Define d) = None
 key_of (contents.Preamble parts) = None
 
 -- the error of a fault at a place of a database
-abbrev pub fault_error : ℕ → Spot → Content → Option Closing → Fault → Message
+abbrev pub fault_error : ℕ → Spot → Content → Option Closing → ItemFault → Message
 fault_error database end content close fault =
     record (skipping (fault_words content close fault) (DatabaseLine database end.line (Some end.place)) (dropped_name content)) { entry = key_of content }
 
 -- the error of an item with a fault, at the fault's place
-abbrev pub fault_messages : ℕ → Spot → Content → Option Closing → Option Fault → List Message
+abbrev pub fault_messages : ℕ → Spot → Content → Option Closing → Option ItemFault → List Message
 fault_messages database end content close None = []
 fault_messages database end content close (Some fault) = fault_error database end content close fault ∷ []
 

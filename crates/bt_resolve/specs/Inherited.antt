@@ -31,9 +31,9 @@ inherits true (Some parent) now p = inherited (now p) (now parent)
 
 -- The values of an entry once some entries of the list have inherited, each from its parent as that then was. They are
 -- given from the last one back.
-unfoldable pub values_behind : List Stored → List ℕ → ℕ → List (Option (List ℕ))
-values_behind stored [] p = values_of (slice_get stored p)
-values_behind stored (q ∷ before) p = inherits (q == p) (parent_at stored p) (values_behind stored before) p
+unfoldable pub values_after : List Stored → List ℕ → ℕ → List (Option (List ℕ))
+values_after stored [] p = values_of (slice_get stored p)
+values_after stored (q ∷ before) p = inherits (q == p) (parent_at stored p) (values_after stored before) p
 
 abbrev pub is_place : ℕ → Option ℕ → Bool
 is_place p None = false
@@ -81,4 +81,4 @@ entries_by a min stored values places = filter_map (entry_at a min stored values
 
 -- the entries that the style sees, in the order of the list
 unfoldable pub entries_seen : Asked → ℕ → List Stored → List Entry
-entries_seen a min stored = entries_by a min stored (values_behind stored (reverse (listed a stored))) (listed a stored)
+entries_seen a min stored = entries_by a min stored (values_after stored (reverse (listed a stored))) (listed a stored)

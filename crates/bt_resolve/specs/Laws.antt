@@ -13,7 +13,7 @@ use Rattle.bt_resolve.specs.declared.stored.Stored.{Stored}
 use Rattle.std.specs.Prelude.{slice_get}
 use Rattle.bt_resolve.specs.Stored.{is_wanted}
 use Rattle.bt_resolve.specs.Listed.{listed}
-use Rattle.bt_resolve.specs.Inherited.{values_of, values_behind}
+use Rattle.bt_resolve.specs.Inherited.{values_of, values_after}
 use Rattle.bt_resolve.specs.Resolved.{resolved, stored_entries}
 
 -- the messages are the same for each least number of references
@@ -43,7 +43,7 @@ StoredKeysApart = (a : Asked) (macros : List Macro) (databases : List (List Item
 
 -- where no entry refers to another, each has the values that were read
 abbrev pub NothingInherited : Type 0
-NothingInherited = (stored : List Stored) → AllByRecursion (λ (s : Stored). s.crossref ≡ None) stored → (before : List ℕ) (p : ℕ) → values_behind stored before p ≡ values_of (slice_get stored p)
+NothingInherited = (stored : List Stored) → AllByRecursion (λ (s : Stored). s.crossref ≡ None) stored → (before : List ℕ) (p : ℕ) → values_after stored before p ≡ values_of (slice_get stored p)
 
 -- where no two cited keys match, no two entries of the list have keys that match
 abbrev pub EntriesApart : Type 0

@@ -1,6 +1,6 @@
 -- What macros stand for, and the items that define them.
 use Rattle.std.specs.Prelude.{ℕ, List, [], ◌∷◌, Option, Some, None}
-use Rattle.bt_bib.specs.declared.fault.Fault.{Fault}
+use Rattle.bt_bib.specs.declared.fault.ItemFault.{ItemFault}
 use Rattle.bt_bib.specs.declared.item.Part.{Part}
 use Rattle.bt_bib.specs.declared.item.Content.{Content}
 use Rattle.bt_bib.specs.declared.item.Content.TheVariants as contents
@@ -15,7 +15,7 @@ style_macro [] = no_value
 style_macro (m ∷ macros) = with_value m.name m.value (style_macro macros)
 
 -- what counts of an item's value: nothing where the item has a fault
-abbrev pub faultless : {A : Type 0} → Option Fault → Option A → Option A
+abbrev pub faultless : {A : Type 0} → Option ItemFault → Option A → Option A
 faultless None value = value
 faultless (Some fault) value = None
 
@@ -25,7 +25,7 @@ with_string None parts macros = macros
 with_string (Some name) None macros = macros
 with_string (Some name) (Some parts) macros = with_value name (value (others (Some name) macros) parts) macros
 
-abbrev pub with_content : Option Fault → Content → MacroTexts → MacroTexts
+abbrev pub with_content : Option ItemFault → Content → MacroTexts → MacroTexts
 with_content fault (contents.Define d) macros = with_string d.name (faultless fault d.value) macros
 with_content fault (contents.Entry e) macros = macros
 with_content fault (contents.Preamble parts) macros = macros

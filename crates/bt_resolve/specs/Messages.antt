@@ -1,6 +1,6 @@
 -- The messages of the items, in their order.
 use Rattle.std.specs.Prelude.{ℕ, ◌+◌, List, [], ◌∷◌, ◌++◌, reverse, codes, Option, Some, None, if◌then◌else◌}
-use Rattle.bt_bib.specs.declared.fault.Fault.{Fault}
+use Rattle.bt_bib.specs.declared.fault.ItemFault.{ItemFault}
 use Rattle.bt_bib.specs.declared.item.Item.{Item}
 use Rattle.bt_bib.specs.declared.item.Part.{Part}
 use Rattle.bt_bib.specs.declared.item.Content.{Content}
@@ -45,7 +45,7 @@ abbrev pub preamble_messages : MacroTexts → Place → Option (List Part) → L
 preamble_messages macros place None = []
 preamble_messages macros place (Some parts) = value_warnings None macros place (codes "preamble") parts
 
-abbrev pub content_messages : Asked → MacroTexts → List Stored → Place → Option Fault → Content → List Message
+abbrev pub content_messages : Asked → MacroTexts → List Stored → Place → Option ItemFault → Content → List Message
 content_messages a macros stored place fault (contents.Entry e) = key_messages a macros stored place e e.key
 content_messages a macros stored place fault (contents.Define d) = string_messages macros place d.name (faultless fault d.value)
 content_messages a macros stored place fault (contents.Preamble parts) = preamble_messages macros place (faultless fault parts)
@@ -75,7 +75,7 @@ abbrev pub preamble_value : MacroTexts → Option (List Part) → List ℕ
 preamble_value macros None = []
 preamble_value macros (Some parts) = value macros parts
 
-abbrev pub preamble_of : MacroTexts → Option Fault → Content → List ℕ
+abbrev pub preamble_of : MacroTexts → Option ItemFault → Content → List ℕ
 preamble_of macros fault (contents.Preamble parts) = preamble_value macros (faultless fault parts)
 preamble_of macros fault (contents.Entry e) = []
 preamble_of macros fault (contents.Define d) = []

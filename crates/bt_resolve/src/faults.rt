@@ -6,7 +6,7 @@ ghost use Rattle.bt_bib.specs.Moving.{FitsSpot};
 ghost use Rattle.bt_resolve.specs.Faults.{dropped_name, fault_error, fault_messages, fault_words, key_of, repeated, sign_of, unclosed, unclosed_command, unclosed_entry, what_name};
 
 use crate::message::Origin;
-use bt_bib::{Closing, Content, Fault, Item, What};
+use bt_bib::{Closing, Content, Item, ItemFault, NameRole};
 use bt_log::{Message, Place};
 use bt_text::{Bytes, Sequence, Shared};
 use std::alloc::{AllocError, Global};
@@ -21,14 +21,14 @@ fn dropped_name(content: &Content) -> &'static [u8]
     }
 }
 
-fn what_name(what: What) -> &'static [u8]
+fn what_name(what: NameRole) -> &'static [u8]
     ensures { result.now ≡ what_name what }
 {
     match what {
-        What::EntryType => b"an entry type",
-        What::StringName => b"a string name",
-        What::FieldName => b"a field name",
-        What::FieldPart => b"a field part",
+        NameRole::EntryType => b"an entry type",
+        NameRole::StringName => b"a string name",
+        NameRole::FieldName => b"a field name",
+        NameRole::FieldPart => b"a field part",
     }
 }
 
@@ -86,19 +86,19 @@ fn fault_words(
     alloc: Global,
     content: &Content,
     close: Option<Closing>,
-    fault: Fault,
+    fault: ItemFault,
 ) -> Result<Bytes, AllocError>
     ensures { IfOk result (λ words. words ≡ fault_words content.now close fault) }
 {
     match fault {
-        Fault::EndOfFile => Bytes::copied(alloc, b"Illegal end of database file"),
-        Fault::MissingName(what) => missing(alloc, what_name(what)),
-        Fault::BadNameEnd(what, byte) => followed(alloc, &[byte], what_name(what)),
-        Fault::ExpectedOpen => Bytes::copied(alloc, b"I was expecting a `{' or a `('"),
-        Fault::ExpectedCommaOrClose => unclosed(alloc, content, close),
-        Fault::ExpectedEquals => Bytes::copied(alloc, b"I was expecting an `='"),
-        Fault::UnbalancedBraces => Bytes::copied(alloc, b"Unbalanced braces"),
-        Fault::MissingPart => Bytes::copied(alloc, b"You're missing a field part"),
+        ItemFault::EndOfFile => Bytes::copied(alloc, b"Illegal end of database file"),
+        ItemFault::MissingName(what) => missing(alloc, what_name(what)),
+        ItemFault::BadNameEnd(what, byte) => followed(alloc, &[byte], what_name(what)),
+        ItemFault::ExpectedOpen => Bytes::copied(alloc, b"I was expecting a `{' or a `('"),
+        ItemFault::ExpectedCommaOrClose => unclosed(alloc, content, close),
+        ItemFault::ExpectedEquals => Bytes::copied(alloc, b"I was expecting an `='"),
+        ItemFault::UnbalancedBraces => Bytes::copied(alloc, b"Unbalanced braces"),
+        ItemFault::MissingPart => Bytes::copied(alloc, b"You're missing a field part"),
     }
 }
 
@@ -120,7 +120,7 @@ fn fault_error(
     alloc: Global,
     origin: Origin,
     item: &Item,
-    fault: Fault,
+    fault: ItemFault,
 ) -> Result<Message, AllocError>
     requires { FitsSpot nowhere origin.start item.now.end }
     ensures { IfOk result (λ message. message ≡ fault_error origin.database (moved origin.start item.now.end)

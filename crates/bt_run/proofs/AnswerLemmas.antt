@@ -3,7 +3,7 @@ use Rattle.std.specs.Prelude.{unwrap_or, bytes_eq, Bool, true, false, if◌then�
 use Rattle.std.specs.Option.{ForSome}
 use Rattle.std.proofs.Common.{All, ◌≡◌, refl, sym, ap, ◌∙◌, ℕ, List, [], ◌∷◌, ◌++◌, Option, Some, None, Ok, Err, ◌≤◌, length, subst, arith}
 use Rattle.std.proofs.lemmas.Slice.Eq.{bytes_eq-Decides}
-use Rattle.bt_style.specs.declared.fault.Fault.{Fault}
+use Rattle.bt_style.specs.declared.fault.StyleFault.{StyleFault}
 use Rattle.bt_style.specs.declared.style.Style.{Style}
 use Rattle.bt_style.specs.Program.{Program, program_of}
 use Rattle.bt_style.specs.Reader.{style_of}
@@ -57,7 +57,7 @@ no_work_if : (b : Bool) (work : List Step) → work ≡ [] → (if b then work e
 no_work_if true work h = h
 no_work_if false work h = refl
 
-no_styled_work : (q : Result Program Fault) (earlier : List Step) → styled_work q earlier [] ≡ []
+no_styled_work : (q : Result Program StyleFault) (earlier : List Step) → styled_work q earlier [] ≡ []
 no_styled_work (Ok p) earlier = work_none p earlier
 no_styled_work (Err fault) earlier = refl
 
@@ -127,7 +127,7 @@ no_style files c min globals r is none named = is ∙ ap (λ g. run_begun g c.lo
 -- a style that is lent by its owner
 pub lent_style : (text : List ℕ) (own lent : Style) → style_of text ≡ Ok (program_of own) → lent ≡ own → style_of text ≡ Ok (program_of lent)
 lent_style text own lent read is =
-    let again : Style → Result Program Fault = λ s. Ok (program_of s) in
+    let again : Style → Result Program StyleFault = λ s. Ok (program_of s) in
     read ∙ ap again (sym is)
 
 -- a style that could be read
@@ -138,7 +138,7 @@ style_ran files c min style s1 s2 text databases p r is named same_databases sam
     ran ∙ ap (styled files c min style) (sym whole) ∙ ap (run_with files c min) (sym named)
 
 -- a style that could not
-pub style_refused : (files : List File) (c : Citations) (min : ℕ) (style s1 s2 text : List ℕ) (fault : Fault) (globals : Variables) (message : Message) (log : List Message) (r : Course) → r ≡ run_begun globals log → globals ≡ no_variables → log ≡ c.log ++ message ∷ [] → message ≡ fault_told s2 fault → c.style ≡ Some style → s2 ≡ style → style_of text ≡ Err fault → text ≡ unwrap_or (text_of files s1) [] → s1 ≡ style → r ≡ run_with files c min c.style
+pub style_refused : (files : List File) (c : Citations) (min : ℕ) (style s1 s2 text : List ℕ) (fault : StyleFault) (globals : Variables) (message : Message) (log : List Message) (r : Course) → r ≡ run_begun globals log → globals ≡ no_variables → log ≡ c.log ++ message ∷ [] → message ≡ fault_told s2 fault → c.style ≡ Some style → s2 ≡ style → style_of text ≡ Err fault → text ≡ unwrap_or (text_of files s1) [] → s1 ≡ style → r ≡ run_with files c min c.style
 style_refused files c min style s1 s2 text fault globals message log r is none is_log is_message named same2 read is_text same1 =
     let told : message ≡ fault_told style fault = is_message ∙ ap (λ s. fault_told s fault) same2 in
     let ran : r ≡ run_begun no_variables (c.log ++ fault_told style fault ∷ []) = is ∙ ap (λ g. run_begun g log) none ∙ ap (run_begun no_variables) (is_log ∙ ap (λ m. c.log ++ m ∷ []) told) in

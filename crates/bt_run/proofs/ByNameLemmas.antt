@@ -1,7 +1,7 @@
 -- What texts mean, and the steps of their run, depend on the text of each name alone.
 use Rattle.std.proofs.Common.{◌≡◌, ◌∙◌, ap, refl, ℕ, suc, List, [], ◌∷◌, map, Option, Some, None, Result, Ok, Err}
 use Rattle.std.specs.Prelude.{unwrap_or}
-use Rattle.bt_style.specs.declared.fault.Fault.{Fault}
+use Rattle.bt_style.specs.declared.fault.StyleFault.{StyleFault}
 use Rattle.bt_style.specs.declared.style.Command.{Command}
 use Rattle.bt_style.specs.declared.style.Action.{Action}
 use Rattle.bt_style.specs.declared.style.Action.TheVariants.{Entry, Execute, Function, Integers, Iterate, Macro, Read, Reverse, Sort, Strings}
@@ -63,7 +63,7 @@ commands_same files others same job number (c ∷ cs) r =
 
 -- Runs
 
-styled_same : (files others : List File) → HaveSameTexts files others → (c : Citations) (min : ℕ) (style : List ℕ) (read : Result Program Fault) →
+styled_same : (files others : List File) → HaveSameTexts files others → (c : Citations) (min : ℕ) (style : List ℕ) (read : Result Program StyleFault) →
     styled files c min style read ≡ styled others c min style read
 styled_same files others same c min style (Err fault) = refl
 styled_same files others same c min style (Ok p) =

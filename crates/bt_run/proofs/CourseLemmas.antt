@@ -17,7 +17,7 @@ use Rattle.bt_machine.specs.Place.{IsPlace, DependsOnInput, alone, cut, finish_b
 use Rattle.bt_log.specs.declared.message.Message.{Message}
 use Rattle.bt_run.specs.declared.course.Course.{Course}
 use Rattle.bt_run.specs.declared.course.Step.{Step}
-use Rattle.bt_run.specs.declared.course.Site.{Site}
+use Rattle.bt_run.specs.declared.course.CommandPlace.{CommandPlace}
 use Rattle.bt_run.specs.declared.earlier.Earlier.{Earlier}
 use Rattle.bt_run.specs.Course.{course_world, input_at, step_kept, left_by, stepped, all_told}
 use Rattle.bt_run.specs.inner.Course.{with_variables, variables_back, put_back}
@@ -37,7 +37,7 @@ abbrev own_left : Finish → Own
 own_left f = record { outcome = outcome_of f; cost = f.cost }
 
 -- what is left where the outcome of a step is put back
-abbrev left_back : Site → Target → Option ℕ → Course → Finish → Course
+abbrev left_back : CommandPlace → Target → Option ℕ → Course → Finish → Course
 left_back site t x r f =
     record (put_back x (outcome_of f) r) {
       log = r.log ++ all_told site.line site.style f.world.messages;
@@ -70,7 +70,7 @@ own_back_alone p law t r =
     λ j. record { outcome = record { globals = f.world.globals; variables = variables j; held = f.world.held; lines = lines j; messages = f.world.messages; stop = f.stopped; calls = f.calls }; cost = f.cost }
 
 -- a step in the world of all entries puts back what it leaves on its input
-pub step_back : (p : Program) → DependsOnInput p → (site : Site) (t : Target) (x : Option ℕ) (r : Course) → IsPlace x (course_world r) → stepped p site t x r ≡ left_back site t x r (step_in p (input_at t x (course_world r)))
+pub step_back : (p : Program) → DependsOnInput p → (site : CommandPlace) (t : Target) (x : Option ℕ) (r : Course) → IsPlace x (course_world r) → stepped p site t x r ≡ left_back site t x r (step_in p (input_at t x (course_world r)))
 step_back p law site t None r h =
     let w = course_world r in
     let f = alone_left p t None r in
@@ -86,7 +86,7 @@ step_back p law site t (Some n) r h =
     back ∙ (λ j. record { entries = variables_back (Some n) (entries j) r.entries; order = r.order; globals = f.world.globals; preamble = r.preamble; held = f.world.held; lines = r.lines ++ f.world.lines; log = r.log ++ all_told site.line site.style f.world.messages; trace = r.trace ++ step_kept site.command (input_at t (Some n) w) (own_part j) ∷ []; stopped = f.stopped })
 
 -- The same for a run's own way of putting an outcome back, piece by piece.
-pub step_taken : (p : Program) → DependsOnInput p → (site : Site) (t : Target) (x : Option ℕ) (r back : Course) (s : Step) (messages log : List Message) (steps : List Step) → IsPlace x (course_world r) → s.command ≡ site.command → s.input ≡ input_at t x (course_world r) → IsStep p s → back ≡ put_back x s.outcome r → messages ≡ all_told site.line site.style s.outcome.messages → log ≡ back.log ++ messages → steps ≡ back.trace ++ s ∷ [] → record back { log = log; trace = steps } ≡ stepped p site t x r
+pub step_taken : (p : Program) → DependsOnInput p → (site : CommandPlace) (t : Target) (x : Option ℕ) (r back : Course) (s : Step) (messages log : List Message) (steps : List Step) → IsPlace x (course_world r) → s.command ≡ site.command → s.input ≡ input_at t x (course_world r) → IsStep p s → back ≡ put_back x s.outcome r → messages ≡ all_told site.line site.style s.outcome.messages → log ≡ back.log ++ messages → steps ≡ back.trace ++ s ∷ [] → record back { log = log; trace = steps } ≡ stepped p site t x r
 step_taken p law site t x r back s messages log steps h is_command is_input own is_back are_told is_log are_steps =
     let i = input_at t x (course_world r) in
     let is_outcome = own.outcome ∙ ap (λ (j : Input). outcome_of (step_in p j)) is_input in

@@ -12,8 +12,8 @@ use Rattle.bt_job.specs.declared.files.File.{File}
 use Rattle.bt_job.specs.declared.citations.Citations.{Citations}
 use Rattle.bt_job.specs.Naming.{is_file_name, is_among, text_of, each_once}
 use Rattle.bt_job.specs.Faults.{LineFault, PartFault, WrongExtension, NoFileName, DatabaseTwice, FileTwice, NotThere, IllEnded, key_fault, database_fault, style_fault, input_fault, right_parts, first_fault}
-use Rattle.bt_job.specs.Lines.{JobLine, lines_in, lines_of, has_command, first_with, line_parts, cited, database_names, style_names, input_names, once, command_fault, line_fault, lines_opened, opened_by, read_on, line_count, job_lines}
-use Rattle.bt_job.specs.Citations.{keys_of, star_of, databases, styles, missed, along, told_of, file_line, lack, lacks, told_missing, asked_by, asked_from, citations}
+use Rattle.bt_job.specs.Lines.{JobLine, lines_in, lines_of, has_command, first_with, line_parts, cited, database_names, style_names, input_names, unless_second, command_fault, line_fault, lines_opened, opened_by, read_on, line_count, job_lines}
+use Rattle.bt_job.specs.Citations.{keys_of, star_of, databases, styles, missed, along, line_messages, file_line, missing_of, lacks, told_missing, asked_by, asked_from, citations}
 use Rattle.bt_job.proofs.BoundLemmas.{any_bound_serves, read_end, read_more, unopened_all}
 use Rattle.bt_log.specs.declared.message.Rank.TheVariants.{FileLine}
 use Rattle.bt_log.specs.Message.{plain}
@@ -55,10 +55,10 @@ command_same : (files others : List File) → HaveSameTexts files others → (ro
     command_fault files root before c parts end ≡ command_fault others root before c parts end
 command_same files others same root before Citation parts end = refl
 command_same files others same root before Database parts end =
-    ap (λ (o : Option LineFault). once (codes "\\bibdata") (first_with Database before) (option_or o (option_map IllEnded end)))
+    ap (λ (o : Option LineFault). unless_second (codes "\\bibdata") (first_with Database before) (option_or o (option_map IllEnded end)))
     (first_same (database_fault files) (database_fault others) (database_same files others same) [] (database_names parts))
 command_same files others same root before Style parts end =
-    ap (λ (o : Option LineFault). once (codes "\\bibstyle") (first_with Style before) (option_or o (option_map IllEnded end)))
+    ap (λ (o : Option LineFault). unless_second (codes "\\bibstyle") (first_with Style before) (option_or o (option_map IllEnded end)))
     (first_same (style_fault files) (style_fault others) (style_same files others same) [] (style_names parts))
 command_same files others same root before Nested parts end =
     ap (λ (o : Option LineFault). option_or o (option_map IllEnded end))
@@ -128,22 +128,22 @@ asked root lines names style news missing = record {
   databases = names;
   style = slice_get style 0;
   log = (plain FileLine (file_line 0 root) ∷ news) ++ map (told_missing root)
-      (lack (first_with Citation lines) (cited lines) (codes "\\citation commands") (codes "cite keys")
-      ++ lack (first_with Database lines) names (codes "\\bibdata command") (codes "database files")
-      ++ lack (first_with Style lines) style (codes "\\bibstyle command") (codes "style file"));
+      (missing_of (first_with Citation lines) (cited lines) (codes "\\citation commands") (codes "cite keys")
+      ++ missing_of (first_with Database lines) names (codes "\\bibdata command") (codes "database files")
+      ++ missing_of (first_with Style lines) style (codes "\\bibstyle command") (codes "style file"));
   wanted = each_once missing;
 }
 
 asked_same : (files others : List File) → HaveSameTexts files others → (root : List ℕ) (lines : List JobLine) → asked_by files root lines ≡ asked_by others root lines
 asked_same files others same root lines =
-    let news = λ (fs : List File). along (λ before line. told_of line (line_fault fs root before line)) [] lines in
+    let news = λ (fs : List File). along (λ before line. line_messages line (line_fault fs root before line)) [] lines in
     let missing = λ (fs : List File). along (λ before line. missed (line_fault fs root before line)) [] lines in
     ap (λ names. asked root lines names (styles files lines) (news files) (missing files))
     (right_same (database_fault files) (database_fault others) (database_same files others same) [] (database_names (line_parts (first_with Database lines))))
     ∙ ap (λ style. asked root lines (databases others lines) style (news files) (missing files))
     (right_same (style_fault files) (style_fault others) (style_same files others same) [] (style_names (line_parts (first_with Style lines))))
     ∙ ap (λ ms. asked root lines (databases others lines) (styles others lines) ms (missing files))
-    (along_same _ _ (λ before line. ap (told_of line) (fault_same files others same root before line)) [] lines)
+    (along_same _ _ (λ before line. ap (line_messages line) (fault_same files others same root before line)) [] lines)
     ∙ ap (λ ns. asked root lines (databases others lines) (styles others lines) (news others) ns)
     (along_same _ _ (λ before line. ap missed (fault_same files others same root before line)) [] lines)
 

@@ -24,10 +24,10 @@ use Rattle.bt_machine.proofs.Agreeing.{itself}
 use Rattle.bt_machine.proofs.Comparing.{compared_tells}
 use Rattle.bt_run.specs.declared.course.Step.{Step}
 use Rattle.bt_run.specs.declared.reuse.Reuse.{Reuse}
-use Rattle.bt_run.specs.declared.reuse.Known.{Known}
+use Rattle.bt_run.specs.declared.reuse.KnownReach.{KnownReach}
 use Rattle.bt_run.specs.Reached.{names_in}
 use Rattle.bt_run.specs.inner.Index.{IsIndex}
-use Rattle.bt_run.specs.Work.{key_in, IsStep, same_key, is_same, is_again, work_under}
+use Rattle.bt_run.specs.Work.{key_in, IsStep, same_key, agrees_with, was_done, work_under}
 use Rattle.bt_run.specs.inner.Work.{IsLike, IsKnown, step_now, IsCounted, IsNext}
 use Rattle.bt_run.proofs.ReachedLemmas.{footprint_named}
 
@@ -97,8 +97,8 @@ same_keys k l e = subst (λ (m : Option (List ℕ)). same_key k m ≡ true) e (k
 agreed : (names : List Target) (i j : Input) → agreement (reach_by names) i j ≡ true ↔ Agree (is_among names) i j
 agreed names i j = compared_tells (agreement (reach_by names) i j) (reach_by names) i j refl
 
-like_same : (p : Program) (command : ℕ) (names : List Target) (i : Input) (s : Step) (o : Outcome) (cost : ℕ) → IsFootprint p i names → IsStep p s → IsLike command names i s → is_same p (step_now command i o cost) s ≡ true
-unfolding is_same
+like_same : (p : Program) (command : ℕ) (names : List Target) (i : Input) (s : Step) (o : Outcome) (cost : ℕ) → IsFootprint p i names → IsStep p s → IsLike command names i s → agrees_with p (step_now command i o cost) s ≡ true
+unfolding agrees_with
 like_same p command names i s o cost reach own like =
     let all = names_in p i in
     let agree = subst (λ (k : Target → Bool). Agree k s.input i) (same_names p i names all reach (footprint_named p i)) like.agree in
@@ -107,8 +107,8 @@ like_same p command names i s o cost reach own like =
     (same_keys s.key (key_in i) (own.key ∙ key_same (is_among names) s.input i like.agree))
     ((agreed all s.input i).1 agree)
 
-same_like : (p : Program) (command : ℕ) (names : List Target) (i : Input) (s : Step) (o : Outcome) (cost : ℕ) → IsFootprint p i names → is_same p (step_now command i o cost) s ≡ true → IsLike command names i s
-unfolding is_same
+same_like : (p : Program) (command : ℕ) (names : List Target) (i : Input) (s : Step) (o : Outcome) (cost : ℕ) → IsFootprint p i names → agrees_with p (step_now command i o cost) s ≡ true → IsLike command names i s
+unfolding agrees_with
 same_like p command names i s o cost reach h =
     let all = names_in p i in
     let agree = (agreed all s.input i).0 (and_last (s.command == command) (same_key s.key (key_in i)) (agreement (reach_by all) s.input i) h) in
@@ -117,27 +117,27 @@ same_like p command names i s o cost reach h =
       agree = subst (λ (k : Target → Bool). Agree k s.input i) (same_names p i all names (footprint_named p i) reach) agree;
     }
 
-again : (p : Program) (earlier : List Step) (command : ℕ) (names : List Target) (i : Input) (s : Step) (o : Outcome) (cost : ℕ) → IsFootprint p i names → All (IsStep p) earlier → Contains earlier s → IsLike command names i s → is_again p earlier (step_now command i o cost) ≡ true
+again : (p : Program) (earlier : List Step) (command : ℕ) (names : List Target) (i : Input) (s : Step) (o : Outcome) (cost : ℕ) → IsFootprint p i names → All (IsStep p) earlier → Contains earlier s → IsLike command names i s → was_done p earlier (step_now command i o cost) ≡ true
 again p earlier command names i s o cost reach all among like =
     let t = step_now command i o cost in
-    list_any_at (is_same p t) earlier among.0 s among.1
-    (subst (λ (u : Step). is_same p t u ≡ true) (sym among.2) (like_same p command names i s o cost reach (step_of p earlier s all among) like))
+    list_any_at (agrees_with p t) earlier among.0 s among.1
+    (subst (λ (u : Step). agrees_with p t u ≡ true) (sym among.2) (like_same p command names i s o cost reach (step_of p earlier s all among) like))
 
-not_same : (p : Program) (command : ℕ) (names : List Target) (i : Input) (s : Step) (o : Outcome) (cost : ℕ) → IsFootprint p i names → (IsLike command names i s → ⊥) → is_same p (step_now command i o cost) s ≡ false
+not_same : (p : Program) (command : ℕ) (names : List Target) (i : Input) (s : Step) (o : Outcome) (cost : ℕ) → IsFootprint p i names → (IsLike command names i s → ⊥) → agrees_with p (step_now command i o cost) s ≡ false
 not_same p command names i s o cost reach none =
-    elim (cases_Bool (is_same p (step_now command i o cost) s)) [ inl y ↦ absurd (none (same_like p command names i s o cost reach y)) | inr n ↦ n ]
+    elim (cases_Bool (agrees_with p (step_now command i o cost) s)) [ inl y ↦ absurd (none (same_like p command names i s o cost reach y)) | inr n ↦ n ]
 
-not_again : (p : Program) (earlier : List Step) (command : ℕ) (names : List Target) (i : Input) (o : Outcome) (cost : ℕ) → IsFootprint p i names → All (λ s. IsLike command names i s → ⊥) earlier → is_again p earlier (step_now command i o cost) ≡ false
+not_again : (p : Program) (earlier : List Step) (command : ℕ) (names : List Target) (i : Input) (o : Outcome) (cost : ℕ) → IsFootprint p i names → All (λ s. IsLike command names i s → ⊥) earlier → was_done p earlier (step_now command i o cost) ≡ false
 not_again p earlier command names i o cost reach none =
-    list_any_none (is_same p (step_now command i o cost)) earlier (λ k d lt. not_same p command names i _ o cost reach (none k d lt))
+    list_any_none (agrees_with p (step_now command i o cost)) earlier (λ k d lt. not_same p command names i _ o cost reach (none k d lt))
 
 -- Work
 
-work_again : (p : Program) (earlier : List Step) (t : Step) → is_again p earlier t ≡ true → work_under p earlier (t ∷ []) ≡ []
+work_again : (p : Program) (earlier : List Step) (t : Step) → was_done p earlier t ≡ true → work_under p earlier (t ∷ []) ≡ []
 unfolding work_under
 work_again p earlier t h = rw h refl
 
-work_new : (p : Program) (earlier : List Step) (t : Step) → is_again p earlier t ≡ false → work_under p earlier (t ∷ []) ≡ t ∷ []
+work_new : (p : Program) (earlier : List Step) (t : Step) → was_done p earlier t ≡ false → work_under p earlier (t ∷ []) ≡ t ∷ []
 unfolding work_under
 work_new p earlier t h = rw h refl
 
@@ -147,7 +147,7 @@ work_none p earlier = refl
 
 pub work_append : (p : Program) (earlier ts us : List Step) → work_under p earlier (ts ++ us) ≡ work_under p earlier ts ++ work_under p earlier us
 unfolding work_under
-work_append p earlier ts us = filter-append (λ t. not (is_again p earlier t)) ts us
+work_append p earlier ts us = filter-append (λ t. not (was_done p earlier t)) ts us
 
 -- a run that has no earlier one is all work
 pub work_first : (p : Program) (ts : List Step) → work_under p [] ts ≡ ts
@@ -158,7 +158,7 @@ work_first p (t ∷ ts) = ap (λ us. t ∷ us) (work_first p ts)
 pub work_fewer : (p : Program) (earlier ts : List Step) → length (work_under p earlier ts) ≤ length ts
 unfolding work_under
 work_fewer p earlier ts =
-    let is_new : Step → Bool = λ t. not (is_again p earlier t) in
+    let is_new : Step → Bool = λ t. not (was_done p earlier t) in
     omega (arith, length-filter is_new ts, count_by-le-length is_new ts)
 
 -- How a step counts
@@ -174,8 +174,8 @@ ran_counted p earlier command names i o cost before after reach none ran ticks =
     record { ran = rw one (omega (arith, ran)); ticks = rw one (omega (arith, ticks)) }
 
 -- an earlier step itself, met again
-same_itself : (p : Program) (s : Step) → is_same p s s ≡ true
-unfolding is_same
+same_itself : (p : Program) (s : Step) → agrees_with p s s ≡ true
+unfolding agrees_with
 same_itself p s =
     let names = names_in p s.input in
     and_both (s.command == s.command) (same_key s.key s.key) (agreement (reach_by names) s.input s.input)
@@ -183,8 +183,8 @@ same_itself p s =
 
 pub met_again : (p : Program) (earlier : List Step) (s : Step) (before after : Reuse) → All (IsStep p) earlier → Contains earlier s → All (IsKnown p) before.known → ForSome before.lookup.index (IsIndex earlier) → after ≡ record before { next = after.next } → IsNext p earlier s before after
 met_again p earlier s before after all among known indexed is =
-    let same = subst (λ (t : Step). is_same p s t ≡ true) (sym among.2) (same_itself p s) in
-    let none = work_again p earlier s (list_any_at (is_same p s) earlier among.0 s among.1 same) in
+    let same = subst (λ (t : Step). agrees_with p s t ≡ true) (sym among.2) (same_itself p s) in
+    let none = work_again p earlier s (list_any_at (agrees_with p s) earlier among.0 s among.1 same) in
     rw is (record {
       step = step_of p earlier s all among;
       counted = record { ran = rw none (omega arith); ticks = rw none (omega arith) };
@@ -196,7 +196,7 @@ met_again p earlier s before after all among known indexed is =
     })
 
 -- what was worked out is the footprint of an input
-pub footprint_known : (p : Program) (i : Input) (k : Known) (names : List Target) → IsKnown p k → k.target ≡ i.target → k.function ≡ function_of i.entry → names ≡ k.reach.targets → IsFootprint p i names
+pub footprint_known : (p : Program) (i : Input) (k : KnownReach) (names : List Target) → IsKnown p k → k.target ≡ i.target → k.function ≡ function_of i.entry → names ≡ k.reach.targets → IsFootprint p i names
 footprint_known p i k names h target function is =
     let Reached : List Target → Option ℕ → Target → Type 0 = λ ts f start. (t : Target) → Contains ts t ↔ Reaches p f start t in
     subst (λ ts. Reached ts (function_of i.entry) i.target) (sym is) (subst (λ f. Reached k.reach.targets f i.target) function (subst (λ start. Reached k.reach.targets k.function start) target h))

@@ -6,7 +6,7 @@ use Rattle.bt_style.specs.declared.style.Action.{Action}
 use Rattle.bt_style.specs.declared.style.Action.TheVariants.{Entry, Execute, Function, Integers, Iterate, Macro, Read, Reverse, Sort, Strings}
 use Rattle.bt_style.specs.Program.{Program}
 use Rattle.bt_run.specs.declared.course.Course.{Course}
-use Rattle.bt_run.specs.declared.course.Site.{Site}
+use Rattle.bt_run.specs.declared.course.CommandPlace.{CommandPlace}
 use Rattle.bt_run.specs.Course.{stepped}
 use Rattle.bt_run.specs.Sorting.{key_at, sorted}
 use Rattle.bt_run.specs.Reading.{Job, list_order, read}
@@ -17,7 +17,7 @@ unless_stopped true r next = r
 unless_stopped false r next = next
 
 -- a step for the entry at each of these places in turn
-abbrev pub iterated : Program → Site → Target → List ℕ → Course → Course
+abbrev pub iterated : Program → CommandPlace → Target → List ℕ → Course → Course
 iterated p site t [] r = r
 iterated p site t (n ∷ ns) r = iterated p site t ns (unless_stopped r.stopped r (stepped p site t (Some n) r))
 
@@ -27,7 +27,7 @@ abbrev pub sorted_run : Course → Course
 sorted_run r = record r { order = sorted (key_at r.entries) (list_order r.entries) }
 
 -- where a command stands
-abbrev pub site_of : Job → ℕ → ℕ → Site
+abbrev pub site_of : Job → ℕ → ℕ → CommandPlace
 site_of job number line = record { style = job.style; command = number; line = line }
 
 -- What a command does; those that declare something did it when the style was read.

@@ -1,6 +1,6 @@
 -- What files mean: a run over them from scratch, which knows no edit and no earlier run.
 use Rattle.std.specs.Prelude.{ℕ, ℤ, pos, List, [], ◌∷◌, ◌++◌, map, codes, Option, Some, None, unwrap_or, false, Result, Ok, Err, bytes_eq, if◌then◌else◌}
-use Rattle.bt_style.specs.declared.fault.Fault.{Fault}
+use Rattle.bt_style.specs.declared.fault.StyleFault.{StyleFault}
 use Rattle.bt_style.specs.Program.{Program}
 use Rattle.bt_style.specs.Fault.{words_of}
 use Rattle.bt_style.specs.Reader.{style_of}
@@ -50,7 +50,7 @@ run_begun globals log =
     }
 
 -- the error of a style's fault
-abbrev pub fault_told : List ℕ → Fault → Message
+abbrev pub fault_told : List ℕ → StyleFault → Message
 fault_told file fault = at (Line file fault.line None) (plain Error (words_of fault.kind))
 
 -- what a run under a style reads
@@ -69,11 +69,11 @@ abbrev pub style_run : Job → List Message → Course
 style_run job log = with_counts (commands_from job 0 job.program.commands (run_begun (first_globals job.program) log))
 
 -- a run under a style of this name with a fault, which goes to the end of a log and ends the run
-abbrev pub faulty_run : List ℕ → Fault → List Message → Course
+abbrev pub faulty_run : List ℕ → StyleFault → List Message → Course
 faulty_run style fault log = run_begun no_variables (log ++ fault_told style fault ∷ [])
 
 -- what a style that can be read does, or its first fault
-abbrev pub styled : List File → Citations → ℕ → List ℕ → Result Program Fault → Course
+abbrev pub styled : List File → Citations → ℕ → List ℕ → Result Program StyleFault → Course
 styled files c min style (Err fault) = faulty_run style fault c.log
 styled files c min style (Ok p) = style_run (job_for files c min style p) c.log
 

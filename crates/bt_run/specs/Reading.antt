@@ -99,8 +99,8 @@ in_file file (Some (WholeFile other)) = Some (WholeFile other)
 in_file file (Some (Step style line)) = Some (Step style line)
 
 -- a message in the log, where it is one about a database in this file
-abbrev pub told_of : List ℕ → Message → Message
-told_of file m = record m { place = in_file file m.place }
+abbrev pub in_its_file : List ℕ → Message → Message
+in_its_file file m = record m { place = in_file file m.place }
 
 -- whether a message is about the database of a number
 abbrev pub is_about : ℕ → Option Place → Bool
@@ -124,7 +124,7 @@ file_line number file = plain FileLine (codes "Database file #" ++ decimal numbe
 
 -- a database of this number: its line, and the messages about it
 abbrev pub database_told : ℕ → List ℕ → List Message → List Message
-database_told number file messages = file_line number file ∷ map (told_of file) (filter (λ (m : Message). is_about number m.place) messages)
+database_told number file messages = file_line number file ∷ map (in_its_file file) (filter (λ (m : Message). is_about number m.place) messages)
 
 -- databases in order, numbered from here on
 abbrev pub databases_told : ℕ → List (List ℕ) → List Message → List Message

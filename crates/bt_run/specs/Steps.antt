@@ -1,6 +1,6 @@
 -- The steps of a run under the text of its style.
 use Rattle.std.specs.Prelude.{◌≡◌, ℕ, List, Option, Some, None, Result, Ok, Err, All, bytes_eq, if◌then◌else◌}
-use Rattle.bt_style.specs.declared.fault.Fault.{Fault}
+use Rattle.bt_style.specs.declared.fault.StyleFault.{StyleFault}
 use Rattle.bt_style.specs.Program.{Program}
 use Rattle.bt_style.specs.Reader.{style_of}
 use Rattle.bt_run.specs.declared.course.Step.{Step}
@@ -12,7 +12,7 @@ abbrev pub StepsAre : Option (List ℕ) → List Step → Type 0
 StepsAre text steps = (t : List ℕ) (p : Program) → text ≡ Some t → style_of t ≡ Ok p → All (IsStep p) steps
 
 -- the work of steps under a style that could be read; a style with a fault has no steps
-abbrev pub styled_work : Result Program Fault → List Step → List Step → List Step
+abbrev pub styled_work : Result Program StyleFault → List Step → List Step → List Step
 styled_work (Ok p) earlier steps = work_under p earlier steps
 styled_work (Err fault) earlier steps = steps
 

@@ -30,16 +30,16 @@ same_key (Some k) (Some l) = bytes_eq k l
 
 -- Whether an earlier step does what a later one would do: they are of the same command and key, and their inputs agree
 -- in all that the later one may come to.
-unfoldable pub is_same : Program → Step → Step → Bool
-is_same p t s = s.command == t.command && same_key s.key t.key && agreement (reach_by (names_in p t.input)) s.input t.input
+unfoldable pub agrees_with : Program → Step → Step → Bool
+agrees_with p t s = s.command == t.command && same_key s.key t.key && agreement (reach_by (names_in p t.input)) s.input t.input
 
 -- whether earlier steps have such a one
-abbrev pub is_again : Program → List Step → Step → Bool
-is_again p earlier t = list_any (is_same p t) earlier
+abbrev pub was_done : Program → List Step → Step → Bool
+was_done p earlier t = list_any (agrees_with p t) earlier
 
 -- the work of steps: those that earlier steps of the same style do not have
 unfoldable pub work_under : Program → List Step → List Step → List Step
-work_under p earlier steps = filter (λ t. not (is_again p earlier t)) steps
+work_under p earlier steps = filter (λ t. not (was_done p earlier t)) steps
 
 -- the cost of steps
 abbrev pub total_cost : List Step → ℕ

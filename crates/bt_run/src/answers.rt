@@ -1,4 +1,4 @@
-//! What files mean, computed from scratch.
+//! What the files mean, with the steps of an earlier run taken over.
 
 ghost use Rattle.std.specs.Prelude.{◌≡◌, ◌≤◌, [], None, length, IfOk};
 ghost use Rattle.std.specs.Option.{ForSome};
@@ -25,7 +25,7 @@ use bt_job::{Citations, File, read_citations};
 use bt_log::{Message, lines_bytes, log_bytes, status, terse_bytes};
 use bt_machine::Meter;
 use bt_resolve::Cites;
-use bt_style::{Fault, StyleRefusal, fields_are_apart};
+use bt_style::{StyleFault, StyleRefusal, fields_are_apart};
 use bt_text::{Bytes, Sequence, Shared, Values};
 use std::alloc::{AllocError, Global};
 
@@ -49,7 +49,7 @@ pub struct Answers {
 /// What a run took.
 #[derive(Clone, Copy, PartialEq, Eq, Debug)]
 pub struct Report {
-    /// The status of the run.
+    /// The status of the run: 0 clean, 1 warnings, 2 errors, 3 a fatal error.
     pub status: u8,
     /// How many steps were carried out.
     pub ran: u64,
@@ -98,7 +98,7 @@ fn carry_out_style(
 fn refuse_style(
     alloc: Global,
     name: &[u8],
-    fault: Fault,
+    fault: StyleFault,
     log: Sequence<Message>,
 ) -> Result<Course, AllocError>
     ensures { IfOk result (λ course. course ≡ faulty_run name.now fault log) }
@@ -177,7 +177,7 @@ fn run_with(
                 text: Some(text),
             })
         }
-        Err(StyleRefusal::Fault(fault)) => {
+        Err(StyleRefusal::StyleFault(fault)) => {
             let course = refuse_style(alloc, name, fault, log)?;
             Ok(Ran {
                 course,
@@ -220,7 +220,7 @@ pub struct Run {
 
 /// What the files mean from this root, the name of its file without `.aux`, with this min-crossrefs. Of the steps that
 /// are kept of an earlier run, those that agree are taken over where its style has the same text; all others are
-/// carried out, and reported. Texts that were read before aren't read again. The one error is out of memory.
+/// carried out, and reported. Texts that were read before aren't read again.
 #[tactic(auto, using(crate::proofs::AnswerLemmas::star_within))]
 pub fn answers_after(
     alloc: Global,

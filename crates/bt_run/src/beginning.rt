@@ -8,7 +8,7 @@ use crate::course::Course;
 use crate::declaring::empty_texts;
 use bt_actions::Variables;
 use bt_log::{Message, Place, Rank};
-use bt_style::{Fault, Style};
+use bt_style::{Style, StyleFault};
 use bt_text::{Bytes, Held, Sequence, Shared, Values};
 use std::alloc::{AllocError, Global};
 
@@ -68,7 +68,7 @@ pub fn begin(
 }
 
 /// The error of a style's fault.
-pub fn fault_told(alloc: Global, file: &[u8], fault: Fault) -> Result<Message, AllocError>
+pub fn fault_told(alloc: Global, file: &[u8], fault: StyleFault) -> Result<Message, AllocError>
     ensures { IfOk result (λ message. message ≡ fault_told file.now fault) }
 {
     let place = Place::Line {

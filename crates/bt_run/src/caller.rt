@@ -8,7 +8,7 @@ ghost use Rattle.bt_run.specs.inner.Earlier.{AreSame, IsMarked};
 ghost use Rattle.bt_run.specs.inner.Work.{IsConsistent, IsNext};
 ghost use Rattle.bt_run.specs.Commands.{iterated, unless_stopped};
 
-use crate::course::{Course, Site, Step};
+use crate::course::{CommandPlace, Course, Step};
 use crate::job::Job;
 use crate::reuse::Reuse;
 use crate::reusing::{Done, take_or_reuse};
@@ -51,13 +51,13 @@ fn is_same_entry(places: &[Option<usize>], step: usize, place: Option<usize>, sa
 
 /// A command that takes steps, in what a run reads.
 #[derive(Clone, Copy)]
-pub struct Caller<'a> {
+pub struct StepCommand<'a> {
     pub alloc: Global,
     pub job: Job<'a>,
-    pub site: &'a Site,
+    pub site: &'a CommandPlace,
 }
 
-impl<'a> Caller<'a> {
+impl<'a> StepCommand<'a> {
     /// The earlier step at a place, if it is one of this command and was given what a step is given now.
     fn given_again(
         self,
@@ -100,7 +100,7 @@ impl<'a> Caller<'a> {
         ensures next { IfOk result
             (λ s. IsNext (program_of self.entry.job.style.now) self.entry.job.earlier.steps.now s reuse.old reuse.new) }
     {
-        let Caller { alloc, job, site } = self;
+        let StepCommand { alloc, job, site } = self;
         // Its length fits 64 bits, so that the count of the steps that were carried out can't overflow.
         let _steps = course.trace.len();
         let key = key_of(&input)?;
@@ -223,7 +223,7 @@ impl<'a> Caller<'a> {
         Ok(())
     }
 
-    /// Takes a step for each entry in the present order.
+    /// Takes a step for each entry in the present order. After out of memory the steps before it are taken.
     pub fn iterate(
         self,
         target: Target,
@@ -240,7 +240,8 @@ impl<'a> Caller<'a> {
         self.run_for_each(target, places.as_slice(), course, reuse)
     }
 
-    /// Takes a step for each entry in the reverse of the present order.
+    /// Takes a step for each entry in the reverse of the present order. After out of memory the steps before it are
+    /// taken.
     pub fn reverse(
         self,
         target: Target,

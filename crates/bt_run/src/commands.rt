@@ -7,8 +7,8 @@ ghost use Rattle.bt_run.specs.Reading.{read};
 ghost use Rattle.bt_run.specs.Commands.{sorted_run, site_of, command as command_done, commands_from};
 ghost use Rattle.bt_run.specs.inner.JobView.{job_of};
 
-use crate::caller::Caller;
-use crate::course::{Course, Site};
+use crate::caller::StepCommand;
+use crate::course::{CommandPlace, Course};
 use crate::earlier::{no_places, same_entries};
 use crate::job::Job;
 use crate::reading::read;
@@ -48,10 +48,15 @@ fn read_beside(
 }
 
 /// Where a command stands.
-fn site_of(alloc: Global, job: Job<'_>, number: usize, line: usize) -> Result<Site, AllocError>
+fn site_of(
+    alloc: Global,
+    job: Job<'_>,
+    number: usize,
+    line: usize,
+) -> Result<CommandPlace, AllocError>
     ensures { IfOk result (λ site. site ≡ site_of (job_of job.entry) number line) }
 {
-    Ok(Site {
+    Ok(CommandPlace {
         style: Shared::<Bytes>::copied(alloc, job.name)?,
         command: number,
         line,
@@ -84,15 +89,15 @@ fn carry_out(
         | Action::Strings => Ok(()),
         Action::Execute(target) => {
             let site = &site_of(alloc, job, number, command.line)?;
-            Caller { alloc, job, site }.take_step(target, None, course, reuse)
+            StepCommand { alloc, job, site }.take_step(target, None, course, reuse)
         }
         Action::Iterate(target) => {
             let site = &site_of(alloc, job, number, command.line)?;
-            Caller { alloc, job, site }.iterate(target, course, reuse)
+            StepCommand { alloc, job, site }.iterate(target, course, reuse)
         }
         Action::Reverse(target) => {
             let site = &site_of(alloc, job, number, command.line)?;
-            Caller { alloc, job, site }.reverse(target, course, reuse)
+            StepCommand { alloc, job, site }.reverse(target, course, reuse)
         }
         Action::Read => {
             read_beside(alloc, job, number, course, reuse)?;
@@ -105,7 +110,8 @@ fn carry_out(
     }
 }
 
-/// Carries out a style's commands in order, up to a step that stops the run.
+/// Carries out a style's commands in order, up to a step that stops the run. After out of memory the course is that of
+/// the commands and steps before it; `answers_after` drops it.
 pub fn run_commands(
     alloc: Global,
     job: Job<'_>,

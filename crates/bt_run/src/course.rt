@@ -45,7 +45,7 @@ pub struct Course {
 
 /// The command that runs a step.
 #[derive(Debug, Drop)]
-pub struct Site {
+pub struct CommandPlace {
     /// The name of the style's file.
     pub style: Shared<Bytes>,
     /// The number of the command in the style, from 0.

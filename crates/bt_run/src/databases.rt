@@ -2,7 +2,7 @@
 
 ghost use Rattle.std.specs.Prelude.{◌≡◌, ◌++◌, ◌∷◌, [], map, filter, IfOk, OnOk};
 ghost use Rattle.bt_log.specs.declared.message.Message.{Message as MessageSeen};
-ghost use Rattle.bt_run.specs.Reading.{told_of, is_about, is_general, file_line, database_told, all_read};
+ghost use Rattle.bt_run.specs.Reading.{in_its_file, is_about, is_general, file_line, database_told, all_read};
 
 use bt_log::{Message, Place, Rank};
 use bt_text::{Bytes, Sequence, Shared};
@@ -10,8 +10,8 @@ use itoa::Buffer;
 use std::alloc::{AllocError, Global};
 
 /// A message in the log, where it is one about a database in this file.
-fn told_of(file: &Shared<Bytes>, message: &Message) -> Result<Message, AllocError>
-    ensures { IfOk result (λ told. told ≡ told_of file.now message.now) }
+fn in_its_file(file: &Shared<Bytes>, message: &Message) -> Result<Message, AllocError>
+    ensures { IfOk result (λ told. told ≡ in_its_file file.now message.now) }
 {
     let mut told = message.share()?;
     if let Some(Place::DatabaseLine { line, byte, .. }) = &message.place {
@@ -62,10 +62,10 @@ fn tell_if_about(
     file: &Shared<Bytes>,
     message: &Message,
 ) -> Result<(), AllocError>
-    ensures { OnOk result (log.new ≡ log.old ++ map (told_of file.now) (filter (λ (m : MessageSeen). is_about number m.place) (message.now ∷ []))) }
+    ensures { OnOk result (log.new ≡ log.old ++ map (in_its_file file.now) (filter (λ (m : MessageSeen). is_about number m.place) (message.now ∷ []))) }
 {
     if is_about(number, &message.place) {
-        log.push(told_of(file, message)?)?;
+        log.push(in_its_file(file, message)?)?;
     }
     Ok(())
 }

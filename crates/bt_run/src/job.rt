@@ -1,4 +1,4 @@
-//! What a run reads.
+//! What a run reads: the files, the citations, and the style.
 
 ghost use Rattle.std.specs.Prelude.{◌≡◌, ◌≤◌, [], All, length, unwrap_or, IfOk, IsTrue};
 ghost use Rattle.bt_style.specs.Program.{program_of};
@@ -32,7 +32,7 @@ pub struct Job<'a> {
     ghost star_within: { ForSome cites.now.star (λ before. before ≤ length cites.now.keys) },
 }
 
-/// The text of a name, shared with its file; the empty text where there is none. The one error is out of memory.
+/// The text of a name, shared with its file; the empty text where there is none.
 pub fn shared_text(alloc: Global, files: &[File], name: &[u8]) -> Result<Shared<Bytes>, AllocError>
     ensures { IfOk result (λ text. text ≡ unwrap_or (text_of files.now name.now) []) }
 {

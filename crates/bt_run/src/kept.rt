@@ -11,8 +11,8 @@ use bt_actions::Entry;
 use bt_text::{Bytes, Sequence, Shared};
 use std::alloc::Global;
 
-/// What is kept of an earlier run: the text of its style, if it had one, its steps with the places of their entries, and its
-/// entries.
+/// What is kept of an earlier run: the text of its style, if it had one, its steps with the places of their entries,
+/// and its entries.
 #[derive(Debug, Drop)]
 pub struct Kept {
     pub text: Option<Shared<Bytes>>,

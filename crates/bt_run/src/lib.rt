@@ -26,7 +26,7 @@ mod stepping;
 mod styles;
 
 pub use answers::{Answers, Report, Run, answers_after};
-pub use course::{Course, Site, Step};
+pub use course::{CommandPlace, Course, Step};
 pub use database::{Database, database_of};
 pub use kept::Kept;
 pub use laws::meaning_by_names;

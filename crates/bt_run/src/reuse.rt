@@ -8,7 +8,7 @@ use bt_text::{Sequence, Shared};
 
 /// What is reached from a name, with this function of the entry's type or none.
 #[derive(Debug, Drop)]
-pub struct Known {
+pub struct KnownReach {
     pub target: Target,
     pub function: Option<usize>,
     pub reach: Shared<Reach>,
@@ -23,11 +23,12 @@ pub struct Lookup {
     pub index: Option<Index>,
 }
 
-/// How many steps were carried out, and their ticks; steps that were taken over from the earlier run do not count. And
-/// what makes the next step quick.
+/// What a run counts and keeps while it goes over the steps of an earlier one.
 #[derive(Drop)]
 pub struct Reuse {
+    /// The ticks of the steps that were carried out.
     pub meter: Meter,
+    /// How many steps were carried out; those that were taken over don't count.
     pub ran: u128,
     /// The place after that of the earlier step that was met last.
     pub next: usize,
@@ -37,7 +38,7 @@ pub struct Reuse {
     pub same: Sequence<bool>,
     pub lookup: Lookup,
     /// What was worked out of the style so far, each once.
-    pub known: Sequence<Known>,
+    pub known: Sequence<KnownReach>,
     /// What was read, by earlier runs and this one.
     pub readings: Readings,
 }

@@ -12,13 +12,14 @@ ghost use Rattle.bt_run.specs.inner.Work.{IsLike, IsNoneAt, IsNone, IsMet, IsKno
 
 use crate::course::Step;
 use crate::index::Index;
-use crate::reuse::{Known, Lookup, Reuse};
+use crate::reuse::{KnownReach, Lookup, Reuse};
 use bt_machine::{Input, Outcome, activate, agreeing_inputs_have_one_step, agrees, left_over};
 use bt_style::{Reach, Style, Target};
 use bt_text::{Sequence, Shared};
 use std::alloc::{AllocError, Global};
 
-/// How often all earlier steps are gone over before an index of them is made, which takes much longer than to do it once.
+/// How often all earlier steps are gone over before an index of them is made, which takes much longer than to do it
+/// once.
 const SCANS: usize = 16;
 
 /// What a step left, and its cost.
@@ -43,7 +44,7 @@ pub fn is_same_function(one: Option<usize>, other: Option<usize>) -> bool
 
 /// What is known to be reached from a name with a type's function, if it was worked out.
 #[tactic(auto, using(bt_style::proofs::ReachLemmas::target_eq_sound))]
-fn find_known(known: &[Known], target: Target, function: Option<usize>) -> Option<&Known>
+fn find_known(known: &[KnownReach], target: Target, function: Option<usize>) -> Option<&KnownReach>
     ensures among { IfSome result (λ k. Contains known.now k.now) }
     ensures target { IfSome result (λ k. k.now.target ≡ target) }
     ensures function { IfSome result (λ k. k.now.function ≡ function) }
@@ -61,7 +62,7 @@ fn reach_of(
     alloc: Global,
     style: &Style,
     input: &Input,
-    known: &mut Sequence<Known>,
+    known: &mut Sequence<KnownReach>,
 ) -> Result<Shared<Reach>, AllocError>
     requires { All (IsKnown (program_of style.now)) known.old }
     ensures reach { IfOk result (λ reach. IsFootprint (program_of style.now) input.now reach.targets) }
@@ -75,7 +76,7 @@ fn reach_of(
     let found = style.reach(alloc, input.target, function)?;
     let reach = Shared::new(alloc, found)?;
     let kept = reach.share()?;
-    known.push(Known {
+    known.push(KnownReach {
         target: input.target,
         function,
         reach: kept,
@@ -174,8 +175,8 @@ fn index_of(
     }
 }
 
-/// The step that is met: mostly the one at the place to try next. To find another, all are gone over, and after a few times
-/// looked up.
+/// The step that is met: mostly the one at the place to try next. To find another, all are gone over, and after a few
+/// times looked up.
 fn meet<'a>(
     alloc: Global,
     style: &Style,
@@ -242,7 +243,7 @@ fn take_over(alloc: Global, step: &Step, input: &Input, reach: &Reach) -> Result
 }
 
 /// A step that is carried out.
-fn carry_out(
+fn carry_out_step(
     alloc: Global,
     style: &Style,
     input: &Input,
@@ -309,7 +310,7 @@ pub fn take_or_reuse(
         }
         None => {
             reuse.next = place_after(earlier, reuse.next, sought);
-            let ran = carry_out(alloc, style, input, reuse)?;
+            let ran = carry_out_step(alloc, style, input, reuse)?;
             Ok(ran)
         }
     }

@@ -61,8 +61,8 @@ fn equal_preambles(old: &[u8], new: &[u8]) -> bool
     new.len() <= PREAMBLE_BYTES && equal_bytes(old, new)
 }
 
-/// Whether an input is what a step is given now, for the entry at a place or for none, which may be known to be the same
-/// but for its variables.
+/// Whether an input is what a step is given now, for the entry at a place or for none, which may be known to be the
+/// same but for its variables.
 pub fn is_input(
     input: &Input,
     course: &Course,

@@ -10,7 +10,7 @@ ghost use Rattle.bt_log.specs.Message.{at};
 ghost use Rattle.bt_run.specs.Course.{course_world, input_at, all_told};
 ghost use Rattle.bt_run.specs.inner.Course.{variables_back, put_back};
 
-use crate::course::{Course, Site};
+use crate::course::{CommandPlace, Course};
 use bt_actions::{Entry, Variables};
 use bt_log::{Message, Place};
 use bt_machine::{Input, Outcome};
@@ -50,7 +50,7 @@ pub fn cut_out(
 }
 
 /// A step's message as the log has it.
-fn told(message: &Message, site: &Site) -> Result<Message, AllocError>
+fn told(message: &Message, site: &CommandPlace) -> Result<Message, AllocError>
     ensures { IfOk result (λ m. m ≡ at (places.Step site.now.style site.now.line) message.now) }
 {
     let place = Place::Step {
@@ -64,7 +64,7 @@ fn told(message: &Message, site: &Site) -> Result<Message, AllocError>
 pub fn all_told(
     alloc: Global,
     messages: &[Message],
-    site: &Site,
+    site: &CommandPlace,
 ) -> Result<Sequence<Message>, AllocError>
     ensures { IfOk result (λ ms. ms ≡ all_told site.now.line site.now.style messages.now) }
 {

@@ -9,7 +9,7 @@ ghost use Rattle.bt_run.specs.Styles.{read_as};
 ghost use Rattle.bt_run.specs.inner.BodySet.{bodies_set};
 
 use bt_job::File;
-use bt_style::{Fault, Style, StyleRefusal, read_style};
+use bt_style::{Style, StyleFault, StyleRefusal, read_style};
 use bt_text::{Bytes, Sequence, Shared};
 use std::alloc::{AllocError, Global};
 
@@ -17,7 +17,7 @@ use std::alloc::{AllocError, Global};
 #[derive(Debug, Drop)]
 pub struct ReadStyle {
     pub text: Shared<Bytes>,
-    pub style: Result<Shared<Style>, Fault>,
+    pub style: Result<Shared<Style>, StyleFault>,
     ghost read: { style_of text ≡ read_as style } by { Prim.hlevel (props, bodies_set) },
 }
 
@@ -28,7 +28,7 @@ impl ReadStyle {
     {
         let style = match read_style(alloc, text.as_slice()) {
             Ok(style) => Ok(Shared::new(alloc, style)?),
-            Err(StyleRefusal::Fault(fault)) => Err(fault),
+            Err(StyleRefusal::StyleFault(fault)) => Err(fault),
             Err(StyleRefusal::OutOfMemory) => return Err(AllocError),
         };
         Ok(ReadStyle { text, style })
@@ -54,7 +54,7 @@ impl ReadStyle {
     {
         match &self.style {
             Ok(style) => Ok(style.share()?),
-            Err(fault) => Err(StyleRefusal::Fault(*fault)),
+            Err(fault) => Err(StyleRefusal::StyleFault(*fault)),
         }
     }
 }

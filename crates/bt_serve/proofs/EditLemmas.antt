@@ -10,7 +10,7 @@ use Rattle.bibtex.specs.Present.{reported}
 use Rattle.bibtex.specs.Changes.{Change, write, splice, remove, root_name, min_crossrefs}
 use Rattle.bibtex.specs.Applied.{outcome, applied, IsAnswer}
 use Rattle.bibtex.specs.Headline.{after_answer, AnswersInTurn, after_answers}
-use Rattle.bt_serve.specs.Commands.{Request, Command, edit, bbl, blg, status, quit, unreadable, too_long, request_of, refused, edit_answer, state_or, unless_wanting, after, after_of, state_after, Wants, WantsInTurn}
+use Rattle.bt_serve.specs.Commands.{Request, Command, edit, bbl, blg, status, quit, unreadable, too_long, request_of, refused, edit_answer, state_or, unless_out_of_memory, after, after_of, state_after, MayRunOut, MayRunOutInTurn}
 use Rattle.bt_serve.specs.Edits.{edit_with, edit_in, edits_of, brought, AreSame, Leads, LeadsBy}
 
 -- What becomes of a state by an edit is by its change and its bytes alone.
@@ -46,7 +46,7 @@ one_answered e es answers a s t made is one =
     (a ∷ answers, (all.0, all.1, all.2), all.3)
 
 one_more : (e : Edit) (es : List Edit) (made : Result State Refusal) (m : Bool) (s t : State) → applied e s ≡ made →
-    Leads es (state_or s (unless_wanting m made)) t → Leads (e ∷ es) s t
+    Leads es (state_or s (unless_out_of_memory m made)) t → Leads (e ∷ es) s t
 one_more e es (Ok u) false s t is later = one_answered e es later.0 (Ok (reported s u)) s t (Ok u) is (tt, refl, later.1, later.2)
 one_more e es (Ok u) true s t is later = one_answered e es later.0 (Err OutOfMemory) s t (Ok u) is (refl, tt, later.1, later.2)
 one_more e es (Err refusal) false s t is later = one_answered e es later.0 (Err refusal) s t (Err refusal) is (refl, tt, later.1, later.2)
@@ -79,16 +79,16 @@ leads_by (c ∷ cs) (m ∷ ms) s len es is =
 
 -- An edit with this outcome was answered, as one that is or isn't wanting of memory, and the others lead to a state.
 record OneMade (es : List Edit) (s t : State) (made : Result State Refusal) : Type 0 where
-  wants : Bool
-  only : wants ≡ true → edit_answer s (unless_wanting wants made) ≡ refused OutOfMemory
-  later : Leads es (state_or s (unless_wanting wants made)) t
+  ran_out : Bool
+  only : ran_out ≡ true → edit_answer s (unless_out_of_memory ran_out made) ≡ refused OutOfMemory
+  later : Leads es (state_or s (unless_out_of_memory ran_out made)) t
 
 one_less : (es : List Edit) (answers : List (Result Report Refusal)) (a : Result Report Refusal) (made : Result State Refusal) (s t : State) →
     AnswersOne es answers a s t made → OneMade es s t made
-one_less es answers (Ok report) (Ok u) s t (is, reports, turns, end) = record { wants = false; only = λ same. absurd cc; later = (answers, turns, end) }
+one_less es answers (Ok report) (Ok u) s t (is, reports, turns, end) = record { ran_out = false; only = λ same. absurd cc; later = (answers, turns, end) }
 one_less es answers (Ok report) (Err refusal) s t (is, reports, turns, end) = absurd cc
-one_less es answers (Err refusal) (Ok u) s t (is, reports, turns, end) = record { wants = true; only = λ same. refl; later = (answers, turns, end) }
-one_less es answers (Err refusal) (Err other) s t (is, reports, turns, end) = record { wants = false; only = λ same. absurd cc; later = (answers, turns, end) }
+one_less es answers (Err refusal) (Ok u) s t (is, reports, turns, end) = record { ran_out = true; only = λ same. refl; later = (answers, turns, end) }
+one_less es answers (Err refusal) (Err other) s t (is, reports, turns, end) = record { ran_out = false; only = λ same. absurd cc; later = (answers, turns, end) }
 
 one_made : (e : Edit) (es : List Edit) (made : Result State Refusal) (s t : State) → applied e s ≡ made → Leads (e ∷ es) s t → OneMade es s t made
 one_made e es made s t is ([], turns, end) = absurd turns
@@ -96,15 +96,15 @@ one_made e es made s t is (a ∷ answers, turns, end) = one_less es answers a ma
 
 -- The same of any request.
 record OneDone (request : Request) (bytes : List ℕ) (rest : List Edit) (s t : State) : Type 0 where
-  wants : Bool
-  only : Wants wants s request bytes
+  ran_out : Bool
+  only : MayRunOut ran_out s request bytes
   others : List Edit
   same : AreSame others rest
-  later : Leads others (after_of wants s request bytes) t
+  later : Leads others (after_of ran_out s request bytes) t
 
 done_none : (request : Request) (bytes : List ℕ) (rest es : List Edit) (s t : State) → after_of false s request bytes ≡ s → AreSame es rest → Leads es s t → OneDone request bytes rest s t
 done_none request bytes rest es s t stays is leads =
-    record { wants = false; only = λ same. absurd cc; others = es; same = is; later = subst (λ (u : State). Leads es u t) (sym stays) leads }
+    record { ran_out = false; only = λ same. absurd cc; others = es; same = is; later = subst (λ (u : State). Leads es u t) (sym stays) leads }
 
 done_one : (request : Request) (bytes : List ℕ) (s t : State) (rest es : List Edit) → AreSame es (edit_in request bytes ++ rest) → Leads es s t → OneDone request bytes rest s t
 done_one (edit change n) bytes s t rest [] is leads = absurd cc
@@ -112,7 +112,7 @@ done_one (edit change n) bytes s t rest (e ∷ es) is leads =
     let same : brought e ≡ brought (edit_with change bytes) = cc in
     let others : map brought es ≡ map brought rest = cc in
     let one = one_made e es (outcome change bytes s) s t (applied_same e change bytes s same) leads in
-    record { wants = one.wants; only = one.only; others = es; same = others; later = one.later }
+    record { ran_out = one.ran_out; only = one.only; others = es; same = others; later = one.later }
 done_one bbl bytes s t rest es is leads = done_none bbl bytes rest es s t refl is leads
 done_one blg bytes s t rest es is leads = done_none blg bytes rest es s t refl is leads
 done_one status bytes s t rest es is leads = done_none status bytes rest es s t refl is leads
@@ -122,11 +122,11 @@ done_one too_long bytes s t rest es is leads = done_none too_long bytes rest es 
 
 -- A state that the edits of commands lead to is one after these commands.
 pub led_by : (cs : List Command) (s t : State) (es : List Edit) → AreSame es (edits_of cs) → Leads es s t →
-    (ms : List Bool) × (length ms ≡ length cs) × WantsInTurn ms cs s × (t ≡ state_after ms cs s)
+    (ms : List Bool) × (length ms ≡ length cs) × MayRunOutInTurn ms cs s × (t ≡ state_after ms cs s)
 led_by [] s t [] is ([], turns, end) = ([], refl, tt, end)
 led_by [] s t [] is (a ∷ answers, turns, end) = absurd turns
 led_by [] s t (e ∷ es) is leads = absurd cc
 led_by (c ∷ cs) s t es is leads =
     let one = done_one (request_of c.line) c.bytes s t (edits_of cs) es is leads in
-    let rest = led_by cs (after one.wants s c) t one.others one.same one.later in
-    (one.wants ∷ rest.0, omega (arith, rest.1), (one.only, rest.2), rest.3)
+    let rest = led_by cs (after one.ran_out s c) t one.others one.same one.later in
+    (one.ran_out ∷ rest.0, omega (arith, rest.1), (one.only, rest.2), rest.3)

@@ -18,7 +18,7 @@ to_state cs ms s t len is = subst (LeadsBy cs s) (sym is) (leads_by cs ms s len)
 
 -- the commands before one, and that one
 part_edited : (input said said' : List ℕ) (s t : State) → AnswersPart input said said' s t → IsEdited {A = Bool} (Err WriteFailed) input s t
-part_edited input said said' s t (front, c, others, ms, m, is, goes_on, len, part, edited, wants, want) = (
+part_edited input said said' s t (front, c, others, ms, m, is, goes_on, len, part, edited, ran_out, want) = (
   front ++ c ∷ [],
   others,
   is ∙ sym (append_assoc front (c ∷ []) others),

@@ -2,7 +2,7 @@
 use Rattle.std.proofs.Common.{◌≡◌, inl, inr, ℕ, zero, suc, ◌≤◌, List, [], ◌∷◌, ◌++◌, length, refl, ap, sym, ◌∙◌, subst, arith, append_assoc, append-nil, length-append, Bool, true, false, Ok, Err}
 use Rattle.std.specs.List.{AllByRecursion, flat_map}
 use Rattle.bibtex.specs.declared.state.State.{State}
-use Rattle.bt_serve.specs.Commands.{Command, request_of, command_text, ends, answer, after, answers_to, Wants}
+use Rattle.bt_serve.specs.Commands.{Command, request_of, command_text, ends, answer, after, answers_to, MayRunOut}
 use Rattle.bt_serve.specs.Serves.{IsCommand, Answered, Ends}
 use Rattle.bt_serve.specs.declared.fault.ServeFault.TheVariants.{WriteFailed, Truncated}
 use Rattle.bt_serve.specs.Whole.{Cut, commands_within, commands_of, up_to_quit, AnswersAll, AnswersBefore, AnswersPart}
@@ -40,7 +40,7 @@ up_to_alone c false e = rw e refl
 -- One more turn, where the commands up to quit are known.
 all_answered : (input mid said told said' : List ℕ) (state between state' : State) (cs : List Command) (ms : List Bool) (c : Command) (m : Bool) →
     Answered input mid said told state between cs ms → up_to_quit (commands_of input).commands ≡ cs ++ c ∷ [] →
-    said' ≡ told ++ answer m between c → state' ≡ after m between c → Wants m between (request_of c.line) c.bytes → AnswersAll input said said' state state'
+    said' ≡ told ++ answer m between c → state' ≡ after m between c → MayRunOut m between (request_of c.line) c.bytes → AnswersAll input said said' state state'
 all_answered input mid said told said' state between state' cs ms c m a e w f z =
     rw e (
       ms ++ m ∷ [],
@@ -77,7 +77,7 @@ ends_answers_before input rest said said' state state' (cs, ms, mid, told, betwe
 
 part_answered : (input mid said told said' : List ℕ) (state between state' : State) (cs : List Command) (ms : List Bool) (c : Command) (m : Bool) (others : List Command) →
     Answered input mid said told state between cs ms → (commands_of input).commands ≡ cs ++ c ∷ others →
-    (part more : List ℕ) → answer m between c ≡ part ++ more → said' ≡ told ++ part → state' ≡ after m between c → Wants m between (request_of c.line) c.bytes → AnswersPart input said said' state state'
+    (part more : List ℕ) → answer m between c ≡ part ++ more → said' ≡ told ++ part → state' ≡ after m between c → MayRunOut m between (request_of c.line) c.bytes → AnswersPart input said said' state state'
 part_answered input mid said told said' state between state' cs ms c m others a e part more q w f z = (
   cs,
   c,
@@ -90,7 +90,7 @@ part_answered input mid said told said' state between state' cs ms c m others a 
   (part, more, ap (λ u. answer m u c) (sym a.edited) ∙ q, w ∙ ap (λ u. u ++ part) a.written),
   f ∙ ap (λ u. after m u c) a.edited,
   a.wanting,
-  (let P : State → Type 0 = λ s. Wants m s (request_of c.line) c.bytes in subst P a.edited z),
+  (let P : State → Type 0 = λ s. MayRunOut m s (request_of c.line) c.bytes in subst P a.edited z),
 )
 
 pub ends_answers_part : (input rest said said' : List ℕ) (state state' : State) → Ends input rest said said' state state' (Err WriteFailed) → AnswersPart input said said' state state'

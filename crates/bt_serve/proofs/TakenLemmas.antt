@@ -6,7 +6,7 @@ use Rattle.bibtex.specs.declared.edit.Refusal.TheVariants.{OutOfMemory}
 use Rattle.bibtex.specs.declared.state.State.{State}
 use Rattle.bibtex.specs.Changes.{Change}
 use Rattle.bibtex.specs.Applied.{outcome, refusal_of, changed, unless_refused, IsAnswer}
-use Rattle.bt_serve.specs.Commands.{edit, edit_answer, state_or, unless_wanting, accepted, refused}
+use Rattle.bt_serve.specs.Commands.{edit, edit_answer, state_or, unless_out_of_memory, accepted, refused}
 use Rattle.bt_serve.specs.inner.Serves.{Takes, Does, taken_text}
 
 -- What answers an edit whose bytes found no room.
@@ -20,8 +20,8 @@ dropped change bytes n s refusal e h = rw (e, ← h) (dropped_at (refusal_of cha
 
 -- A refusal that the definitions give, or out of memory where they give none.
 refused_as : (change : Change) (bytes : List ℕ) (s : State) (r : Refusal) (made : Result State Refusal) → outcome change bytes s ≡ made → IsAnswer {A = Report} made (Err r) →
-    (wants : Bool) × (s ≡ state_or s (unless_wanting wants (outcome change bytes s))) × (refused r ≡ edit_answer s (unless_wanting wants (outcome change bytes s))) ×
-    (wants ≡ true → edit_answer s (unless_wanting wants (outcome change bytes s)) ≡ refused OutOfMemory)
+    (ran_out : Bool) × (s ≡ state_or s (unless_out_of_memory ran_out (outcome change bytes s))) × (refused r ≡ edit_answer s (unless_out_of_memory ran_out (outcome change bytes s))) ×
+    (ran_out ≡ true → edit_answer s (unless_out_of_memory ran_out (outcome change bytes s)) ≡ refused OutOfMemory)
 refused_as change bytes s r (Ok t) e i = (true, rw e refl, rw e (ap refused i), λ _. rw e refl)
 refused_as change bytes s r (Err q) e i = (false, rw e refl, rw e (let k : r ≡ q = cc in ap refused k), λ b. absurd (cc))
 
@@ -29,7 +29,7 @@ refused_as change bytes s r (Err q) e i = (false, rw e refl, rw e (let k : r ≡
 pub does_taken : (change : Change) (n : ℕ) (old new : Option (List ℕ)) (s s' : State) (taken : Result Report Refusal) (Written : List ℕ → Type 0) →
     Takes change n old new s s' (Ok taken) → Written (taken_text taken) → Does (edit change n) old new s s' Written
 does_taken change n old new s s' (Ok report) Written (bytes, size, consumes, made, is) w =
-    let text : accepted report ≡ edit_answer s (unless_wanting false (outcome change bytes s)) = rw made (ap accepted is) in
+    let text : accepted report ≡ edit_answer s (unless_out_of_memory false (outcome change bytes s)) = rw made (ap accepted is) in
     (false, bytes, size, consumes, rw made refl, subst Written text w, λ b. absurd (cc))
 does_taken change n old new s s' (Err r) Written (bytes, size, consumes, answer, same) w =
     let as_said = refused_as change bytes s r (outcome change bytes s) refl answer in

@@ -7,7 +7,7 @@ use Rattle.std.specs.Io.KnownBytes.{Consumes, Appends, IsAtEnd}
 use Rattle.bt_serve.proofs.ReadLemmas.{consumes_more}
 use Rattle.bt_serve.specs.Reads.{HasNoFeed}
 use Rattle.bibtex.specs.declared.state.State.{State}
-use Rattle.bt_serve.specs.Commands.{Request, Command, request_of, request_of_words, words_in_line, too_long, ends, answer, after, answers_to, state_after, command_text, Wants, WantsInTurn}
+use Rattle.bt_serve.specs.Commands.{Request, Command, request_of, request_of_words, words_in_line, too_long, ends, answer, after, answers_to, state_after, command_text, MayRunOut, MayRunOutInTurn}
 use Rattle.bt_serve.specs.Serves.{Answered, IsCommand, Turn, loop_ended}
 use Rattle.bt_serve.specs.inner.Serves.{Replies}
 use Rattle.bt_serve.specs.declared.fault.ServeFault.{ServeFault}
@@ -152,7 +152,7 @@ state_more (n ∷ ms) [] state m c e = absurd (omega arith)
 state_more (n ∷ ms) (d ∷ cs) state m c e = state_more ms cs (after n state d) m c (omega arith)
 
 wants_more : (ms : List Bool) (cs : List Command) (state : State) (m : Bool) (c : Command) → length ms ≡ length cs →
-    WantsInTurn ms cs state → Wants m (state_after ms cs state) (request_of c.line) c.bytes → WantsInTurn (ms ++ m ∷ []) (cs ++ c ∷ []) state
+    MayRunOutInTurn ms cs state → MayRunOut m (state_after ms cs state) (request_of c.line) c.bytes → MayRunOutInTurn (ms ++ m ∷ []) (cs ++ c ∷ []) state
 wants_more [] [] state m c e w h = (h, tt)
 wants_more [] (d ∷ cs) state m c e w h = absurd (omega arith)
 wants_more (n ∷ ms) [] state m c e w h = absurd (omega arith)
@@ -160,9 +160,9 @@ wants_more (n ∷ ms) (d ∷ cs) state m c e w h = (w.0, wants_more ms cs (after
 
 -- the same where the state between is known
 pub wants_behind : (ms : List Bool) (cs : List Command) (state between : State) (m : Bool) (c : Command) → length ms ≡ length cs →
-    between ≡ state_after ms cs state → WantsInTurn ms cs state → Wants m between (request_of c.line) c.bytes → WantsInTurn (ms ++ m ∷ []) (cs ++ c ∷ []) state
+    between ≡ state_after ms cs state → MayRunOutInTurn ms cs state → MayRunOut m between (request_of c.line) c.bytes → MayRunOutInTurn (ms ++ m ∷ []) (cs ++ c ∷ []) state
 wants_behind ms cs state between m c e b w h =
-    wants_more ms cs state m c e w (let P : State → Type 0 = λ s. Wants m s (request_of c.line) c.bytes in subst P b h)
+    wants_more ms cs state m c e w (let P : State → Type 0 = λ s. MayRunOut m s (request_of c.line) c.bytes in subst P b h)
 
 all_more : (P : Command → Type 0) (cs : List Command) (c : Command) → AllByRecursion P cs → P c → AllByRecursion P (cs ++ c ∷ [])
 all_more P [] c a p = (p, tt)

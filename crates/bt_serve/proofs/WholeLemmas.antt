@@ -4,9 +4,9 @@ use Rattle.std.specs.List.{AllByRecursion, flat_map}
 use Rattle.std.proofs.Math.Seq.{take-append_seam, drop-append_seam}
 use Rattle.std.proofs.lemmas.Bool.Decides.{nat_tests}
 use Rattle.bt_serve.specs.Reads.{HasNoFeed}
-use Rattle.bt_serve.specs.Commands.{Command, request_of, bytes_behind, command_text}
+use Rattle.bt_serve.specs.Commands.{Command, request_of, bytes_brought, command_text}
 use Rattle.bt_serve.specs.Serves.{IsCommand, IsCut}
-use Rattle.bt_serve.specs.Whole.{Cut, Line, before_feed, behind_feed, first_line, text_behind, with_first, command_at, commands_within, commands_of}
+use Rattle.bt_serve.specs.Whole.{Cut, Line, before_feed, behind_feed, first_line, text_after_line, with_first, command_at, commands_within, commands_of}
 
 before_fed : (line t : List ℕ) → HasNoFeed line → before_feed (line ++ 10 ∷ t) ≡ line
 before_fed [] t f = refl
@@ -20,7 +20,7 @@ behind_fed (b ∷ line) t f =
     let e : (b == 10) ≡ false = grind (arith, nat_tests, f.0) in
     rw e (behind_fed line t f.1)
 
-pub first_line_feed : (line t : List ℕ) → HasNoFeed line → first_line (line ++ 10 ∷ t) ≡ record { line = line; behind = Some t }
+pub first_line_feed : (line t : List ℕ) → HasNoFeed line → first_line (line ++ 10 ∷ t) ≡ record { line = line; after_feed = Some t }
 first_line_feed line t f = rw (before_fed line t f, behind_fed line t f) refl
 
 before_end : (line : List ℕ) → HasNoFeed line → before_feed line ≡ line
@@ -35,23 +35,23 @@ behind_end (b ∷ line) f =
     let e : (b == 10) ≡ false = grind (arith, nat_tests, f.0) in
     rw e (behind_end line f.1)
 
-pub first_line_end : (line : List ℕ) → HasNoFeed line → first_line line ≡ record { line = line; behind = None }
+pub first_line_end : (line : List ℕ) → HasNoFeed line → first_line line ≡ record { line = line; after_feed = None }
 first_line_end line f = rw (before_end line f, behind_end line f) refl
 
 within_step : (n : ℕ) (s : List ℕ) → 0 < length s → commands_within (suc n) s ≡ command_at (first_line s) s (commands_within n)
 within_step n [] h = absurd (omega arith)
 within_step n (b ∷ t) h = refl
 
-pub command_whole : (l : Line) (text bytes t : List ℕ) (others : List ℕ → Cut) → text_behind l ≡ bytes ++ t → length bytes ≡ bytes_behind (request_of l.line) →
+pub command_whole : (l : Line) (text bytes t : List ℕ) (others : List ℕ → Cut) → text_after_line l ≡ bytes ++ t → length bytes ≡ bytes_brought (request_of l.line) →
     command_at l text others ≡ with_first (record { line = l.line; bytes = bytes }) (others t)
 command_whole l text bytes t others e h =
     let le : nat_le (length bytes) (length (bytes ++ t)) ≡ true = rw length-append (grind (arith, nat_tests)) in
     rw (e, ← h, le, take-append_seam, drop-append_seam) refl
 
-command_short : (l : Line) (text bytes : List ℕ) (others : List ℕ → Cut) → text_behind l ≡ bytes → length bytes < bytes_behind (request_of l.line) →
+command_short : (l : Line) (text bytes : List ℕ) (others : List ℕ → Cut) → text_after_line l ≡ bytes → length bytes < bytes_brought (request_of l.line) →
     command_at l text others ≡ record { commands = []; rest = text }
 command_short l text bytes others e h =
-    let lt : nat_le (bytes_behind (request_of l.line)) (length bytes) ≡ false = grind (arith, nat_tests) in
+    let lt : nat_le (bytes_brought (request_of l.line)) (length bytes) ≡ false = grind (arith, nat_tests) in
     rw (e, lt) refl
 
 pub cut_first : (c : Command) (t : List ℕ) (n : ℕ) → IsCommand c → length (command_text c ++ t) ≤ suc n → commands_within (suc n) (command_text c ++ t) ≡ with_first c (commands_within n t)
@@ -60,7 +60,7 @@ cut_first c t n k h =
     let l = ap first_line e ∙ first_line_feed c.line (c.bytes ++ t) k.0 in
     within_step n (command_text c ++ t) (omega (arith, length-append (command_text c) t, length-append c.line (10 ∷ c.bytes))) ∙
     ap (λ (x : Line). command_at x (command_text c ++ t) (commands_within n)) l ∙
-    command_whole (record { line = c.line; behind = Some (c.bytes ++ t) }) (command_text c ++ t) c.bytes t (commands_within n) refl k.1
+    command_whole (record { line = c.line; after_feed = Some (c.bytes ++ t) }) (command_text c ++ t) c.bytes t (commands_within n) refl k.1
 
 -- whole commands, and then what is cut off of the rest
 cut_onto : (cs : List Command) (rest : List ℕ) (cut : Cut) (n : ℕ) → AllByRecursion IsCommand cs → length (flat_map command_text cs ++ rest) ≤ n →
@@ -90,10 +90,10 @@ short_left [] r k h = none_left k h
 short_left (b ∷ t) r zero h = absurd (omega arith)
 short_left (b ∷ t) (line, bytes, f, inl e, lt) (suc k) h =
     ap (λ (x : Line). command_at x (b ∷ t) (commands_within k)) (ap first_line e ∙ first_line_feed line bytes f) ∙
-    command_short (record { line = line; behind = Some bytes }) (b ∷ t) bytes (commands_within k) refl lt
+    command_short (record { line = line; after_feed = Some bytes }) (b ∷ t) bytes (commands_within k) refl lt
 short_left (b ∷ t) (line, bytes, f, inr e, lt) (suc k) h =
     ap (λ (x : Line). command_at x (b ∷ t) (commands_within k)) (ap first_line e.0 ∙ first_line_end line f) ∙
-    command_short (record { line = line; behind = None }) (b ∷ t) bytes (commands_within k) (sym e.1) lt
+    command_short (record { line = line; after_feed = None }) (b ∷ t) bytes (commands_within k) (sym e.1) lt
 
 pub cut_whole : (cs : List Command) → AllByRecursion IsCommand cs → commands_of (flat_map command_text cs) ≡ record { commands = cs; rest = [] }
 cut_whole cs a =
@@ -109,13 +109,13 @@ last_left c i some none k h =
     whole c.line k i.0 some (sym i.1 ∙ ap length none) h
     ∙ ap (λ (t : List ℕ). let x : Cut = record { commands = record { line = c.line; bytes = t } ∷ []; rest = [] } in x) (sym none)
   where
-    whole : (line : List ℕ) (k : ℕ) → HasNoFeed line → line ≢ [] → bytes_behind (request_of line) ≡ 0 → length line ≤ k →
+    whole : (line : List ℕ) (k : ℕ) → HasNoFeed line → line ≢ [] → bytes_brought (request_of line) ≡ 0 → length line ≤ k →
         commands_within k line ≡ record { commands = record { line = line; bytes = [] } ∷ []; rest = [] }
     whole [] k f n z h = absurd (n refl)
     whole (b ∷ t) zero f n z h = absurd (omega arith)
     whole (b ∷ t) (suc k) f n z h =
         ap (λ (x : Line). command_at x (b ∷ t) (commands_within k)) (first_line_end (b ∷ t) f)
-        ∙ command_whole (record { line = b ∷ t; behind = None }) (b ∷ t) [] [] (commands_within k) refl (sym z)
+        ∙ command_whole (record { line = b ∷ t; after_feed = None }) (b ∷ t) [] [] (commands_within k) refl (sym z)
         ∙ ap (with_first (record { line = b ∷ t; bytes = [] })) (none_left k (omega arith))
 
 pub cut_last : (cs : List Command) (c : Command) → AllByRecursion IsCommand cs → IsCommand c → c.line ≢ [] → c.bytes ≡ [] →

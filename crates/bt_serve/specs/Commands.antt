@@ -11,7 +11,7 @@ use Rattle.bibtex.specs.Applied.{outcome}
 
 -- what a line asks for
 pub data Request : Type 0 where
-  -- a change, which brings so many bytes
+  -- a change, which brings this number of bytes
   edit : Change → ℕ → Request
   bbl blg status quit unreadable too_long : Request
 
@@ -95,9 +95,9 @@ abbrev pub request_of : List ℕ → Request
 request_of line = if nat_lt 256 (length line) then too_long else request_of_words (words_in_line line)
 
 -- how many bytes follow a line
-abbrev pub bytes_behind : Request → ℕ
-bytes_behind (edit change n) = n
-bytes_behind _ = 0
+abbrev pub bytes_brought : Request → ℕ
+bytes_brought (edit change n) = n
+bytes_brought _ = 0
 
 -- What is answered
 
@@ -131,10 +131,10 @@ state_or old (Ok state) = state
 state_or old (Err refusal) = old
 
 -- what becomes of an edit whose outcome is this, where the truth value says whether it is out of memory
-abbrev pub unless_wanting : Bool → Result State Refusal → Result State Refusal
-unless_wanting false made = made
-unless_wanting true (Ok state) = Err OutOfMemory
-unless_wanting true (Err refusal) = Err refusal
+abbrev pub unless_out_of_memory : Bool → Result State Refusal → Result State Refusal
+unless_out_of_memory false made = made
+unless_out_of_memory true (Ok state) = Err OutOfMemory
+unless_out_of_memory true (Err refusal) = Err refusal
 
 -- a line of a word and a number
 abbrev pub number_line : List ℕ → ℕ → List ℕ
@@ -146,26 +146,26 @@ text_answer word text = word ++ (decimal (length text) ++ (codes "\n" ++ text))
 
 -- the answer to a request with these bytes
 abbrev pub answer_of : Bool → State → Request → List ℕ → List ℕ
-answer_of wants state (edit change n) bytes = edit_answer state (unless_wanting wants (outcome change bytes state))
-answer_of wants state bbl bytes = text_answer (codes "bbl ") (shown state).bbl
-answer_of wants state blg bytes = text_answer (codes "blg ") (shown state).blg
-answer_of wants state status bytes = number_line (codes "status ") (shown state).status
-answer_of wants state quit bytes = codes "bye\n"
-answer_of wants state unreadable bytes = codes "fault 1\n"
-answer_of wants state too_long bytes = codes "fault 2\n"
+answer_of ran_out state (edit change n) bytes = edit_answer state (unless_out_of_memory ran_out (outcome change bytes state))
+answer_of ran_out state bbl bytes = text_answer (codes "bbl ") (shown state).bbl
+answer_of ran_out state blg bytes = text_answer (codes "blg ") (shown state).blg
+answer_of ran_out state status bytes = number_line (codes "status ") (shown state).status
+answer_of ran_out state quit bytes = codes "bye\n"
+answer_of ran_out state unreadable bytes = codes "fault 1\n"
+answer_of ran_out state too_long bytes = codes "fault 2\n"
 
 -- the state after it
 abbrev pub after_of : Bool → State → Request → List ℕ → State
-after_of wants state (edit change n) bytes = state_or state (unless_wanting wants (outcome change bytes state))
-after_of wants state _ bytes = state
+after_of ran_out state (edit change n) bytes = state_or state (unless_out_of_memory ran_out (outcome change bytes state))
+after_of ran_out state _ bytes = state
 
 -- the answer to a command
 abbrev pub answer : Bool → State → Command → List ℕ
-answer wants state c = answer_of wants state (request_of c.line) c.bytes
+answer ran_out state c = answer_of ran_out state (request_of c.line) c.bytes
 
 -- the state after a command
 abbrev pub after : Bool → State → Command → State
-after wants state c = after_of wants state (request_of c.line) c.bytes
+after ran_out state c = after_of ran_out state (request_of c.line) c.bytes
 
 -- The answers to commands, one after another, where a list of truth values says which edits ran out of memory.
 abbrev pub answers_to : List Bool → List Command → State → List ℕ
@@ -180,14 +180,14 @@ state_after (m ∷ ms) [] state = state
 state_after (m ∷ ms) (c ∷ cs) state = state_after ms cs (after m state c)
 
 -- a truth value is true only at a request that is answered by the refusal as out of memory
-abbrev pub Wants : Bool → State → Request → List ℕ → Type 0
-Wants wants state request bytes = wants ≡ true → answer_of wants state request bytes ≡ refused OutOfMemory
+abbrev pub MayRunOut : Bool → State → Request → List ℕ → Type 0
+MayRunOut ran_out state request bytes = ran_out ≡ true → answer_of ran_out state request bytes ≡ refused OutOfMemory
 
 -- each of the truth values is true only there
-abbrev pub WantsInTurn : List Bool → List Command → State → Type 0
-WantsInTurn [] cs state = Unit {0}
-WantsInTurn (m ∷ ms) [] state = Unit {0}
-WantsInTurn (m ∷ ms) (c ∷ cs) state = Wants m state (request_of c.line) c.bytes × WantsInTurn ms cs (after m state c)
+abbrev pub MayRunOutInTurn : List Bool → List Command → State → Type 0
+MayRunOutInTurn [] cs state = Unit {0}
+MayRunOutInTurn (m ∷ ms) [] state = Unit {0}
+MayRunOutInTurn (m ∷ ms) (c ∷ cs) state = MayRunOut m state (request_of c.line) c.bytes × MayRunOutInTurn ms cs (after m state c)
 
 -- a command as it is spelled where a line feed ends its line
 abbrev pub command_text : Command → List ℕ

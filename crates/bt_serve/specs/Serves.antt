@@ -3,13 +3,13 @@ use Rattle.std.specs.Prelude.{◌≡◌, ℕ, ◌<◌, ◌++◌, ◌≢◌, ◌�
 use Rattle.std.specs.List.{AllByRecursion}
 use Rattle.bt_serve.specs.Reads.{HasNoFeed}
 use Rattle.bibtex.specs.declared.state.State.{State}
-use Rattle.bt_serve.specs.Commands.{bytes_behind, ends, request_of, Command, command_text, answer, after, answers_to, state_after, Wants, WantsInTurn}
+use Rattle.bt_serve.specs.Commands.{bytes_brought, ends, request_of, Command, command_text, answer, after, answers_to, state_after, MayRunOut, MayRunOutInTurn}
 use Rattle.bt_serve.specs.declared.fault.ServeFault.{ServeFault}
 use Rattle.bt_serve.specs.declared.fault.ServeFault.TheVariants.{ReadFailed, WriteFailed, Truncated}
 
 -- a line, and the bytes that it asks for
 abbrev pub IsCommand : Command → Type 0
-IsCommand c = HasNoFeed c.line × (length c.bytes ≡ bytes_behind (request_of c.line))
+IsCommand c = HasNoFeed c.line × (length c.bytes ≡ bytes_brought (request_of c.line))
 
 -- a command that stands at the end of an input, without a line feed
 abbrev pub IsLast : Command → List ℕ → List ℕ → Type 0
@@ -17,24 +17,24 @@ IsLast c input rest = (c.line ≢ []) × (c.bytes ≡ []) × (input ≡ c.line) 
 
 -- less than a whole command: a line without its end, or fewer bytes than the line asks for
 abbrev pub IsPartial : List ℕ → Type 0
-IsPartial text = HasNoFeed text ⊎ ((line : List ℕ) × (bytes : List ℕ) × HasNoFeed line × (text ≡ line ++ 10 ∷ bytes) × (length bytes < bytes_behind (request_of line)))
+IsPartial text = HasNoFeed text ⊎ ((line : List ℕ) × (bytes : List ℕ) × HasNoFeed line × (text ≡ line ++ 10 ∷ bytes) × (length bytes < bytes_brought (request_of line)))
 
 -- a whole input that ends inside the bytes that its last line asks for
 abbrev pub IsCut : List ℕ → Type 0
-IsCut text = (line : List ℕ) × (bytes : List ℕ) × HasNoFeed line × ((text ≡ line ++ 10 ∷ bytes) ⊎ ((text ≡ line) × (bytes ≡ []))) × (length bytes < bytes_behind (request_of line))
+IsCut text = (line : List ℕ) × (bytes : List ℕ) × HasNoFeed line × ((text ≡ line ++ 10 ∷ bytes) ⊎ ((text ≡ line) × (bytes ≡ []))) × (length bytes < bytes_brought (request_of line))
 
 -- One turn of the loop: what it reads of the input, what is written then, and the state then. `Ok true` ends the loop.
 abbrev pub Turn : List ℕ → List ℕ → List ℕ → List ℕ → State → State → Result Bool ServeFault → Type 0
 Turn input rest said said' state state' (Ok false) =
-    (c : Command) × (wants : Bool) × IsCommand c × (input ≡ command_text c ++ rest) × (false ≡ ends (request_of c.line)) ×
-    (said' ≡ said ++ answer wants state c) × (state' ≡ after wants state c) × Wants wants state (request_of c.line) c.bytes
+    (c : Command) × (ran_out : Bool) × IsCommand c × (input ≡ command_text c ++ rest) × (false ≡ ends (request_of c.line)) ×
+    (said' ≡ said ++ answer ran_out state c) × (state' ≡ after ran_out state c) × MayRunOut ran_out state (request_of c.line) c.bytes
 Turn input rest said said' state state' (Ok true) =
     ((input ≡ []) × (rest ≡ []) × (said' ≡ said) × (state' ≡ state)) ⊎
-    ((c : Command) × (wants : Bool) × IsCommand c × (((input ≡ command_text c ++ rest) × (true ≡ ends (request_of c.line))) ⊎ IsLast c input rest) ×
-    (said' ≡ said ++ answer wants state c) × (state' ≡ after wants state c) × Wants wants state (request_of c.line) c.bytes)
+    ((c : Command) × (ran_out : Bool) × IsCommand c × (((input ≡ command_text c ++ rest) × (true ≡ ends (request_of c.line))) ⊎ IsLast c input rest) ×
+    (said' ≡ said ++ answer ran_out state c) × (state' ≡ after ran_out state c) × MayRunOut ran_out state (request_of c.line) c.bytes)
 Turn input rest said said' state state' (Err WriteFailed) =
-    (c : Command) × (wants : Bool) × IsCommand c × ((input ≡ command_text c ++ rest) ⊎ IsLast c input rest) ×
-    ((part : List ℕ) × (more : List ℕ) × (answer wants state c ≡ part ++ more) × (said' ≡ said ++ part)) × (state' ≡ after wants state c) × Wants wants state (request_of c.line) c.bytes
+    (c : Command) × (ran_out : Bool) × IsCommand c × ((input ≡ command_text c ++ rest) ⊎ IsLast c input rest) ×
+    ((part : List ℕ) × (more : List ℕ) × (answer ran_out state c ≡ part ++ more) × (said' ≡ said ++ part)) × (state' ≡ after ran_out state c) × MayRunOut ran_out state (request_of c.line) c.bytes
 Turn input rest said said' state state' (Err ReadFailed) =
     (read : List ℕ) × (input ≡ read ++ rest) × IsPartial read × (said' ≡ said) × (state' ≡ state)
 Turn input rest said said' state state' (Err Truncated) = IsCut input × (rest ≡ []) × (said' ≡ said) × (state' ≡ state)
@@ -47,7 +47,7 @@ pub record Answered (input rest said said' : List ℕ) (state state' : State) (c
   pub read : input ≡ flat_map command_text cs ++ rest
   pub written : said' ≡ said ++ answers_to ms cs state
   pub edited : state' ≡ state_after ms cs state
-  pub wanting : WantsInTurn ms cs state
+  pub wanting : MayRunOutInTurn ms cs state
 
 -- Whole commands were answered, and then the last turn was this one.
 abbrev pub Ends : List ℕ → List ℕ → List ℕ → List ℕ → State → State → Result Bool ServeFault → Type 0

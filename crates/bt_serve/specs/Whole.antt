@@ -3,7 +3,7 @@ use Rattle.std.specs.Prelude.{◌≡◌, ℕ, zero, suc, nat_le, ◌==◌, Bool,
 use Rattle.std.specs.List.{AllByRecursion}
 use Rattle.bt_serve.specs.Serves.{IsCut}
 use Rattle.bibtex.specs.declared.state.State.{State}
-use Rattle.bt_serve.specs.Commands.{Command, request_of, bytes_behind, ends, answer, after, answers_to, state_after, Wants, WantsInTurn}
+use Rattle.bt_serve.specs.Commands.{Command, request_of, bytes_brought, ends, answer, after, answers_to, state_after, MayRunOut, MayRunOutInTurn}
 
 -- an input's commands, and what is left when they are cut off
 pub record Cut : Type 0 where
@@ -13,7 +13,7 @@ pub record Cut : Type 0 where
 -- a line, and what stands after its line feed where it has one
 pub record Line : Type 0 where
   pub line : List ℕ
-  pub behind : Option (List ℕ)
+  pub after_feed : Option (List ℕ)
 
 -- what stands before the first line feed of a text, or all of it
 abbrev pub before_feed : List ℕ → List ℕ
@@ -27,25 +27,25 @@ behind_feed (b ∷ t) = if b == 10 then Some t else behind_feed t
 
 -- the first line of a text, and what stands after its line feed where it has one
 abbrev pub first_line : List ℕ → Line
-first_line text = record { line = before_feed text; behind = behind_feed text }
+first_line text = record { line = before_feed text; after_feed = behind_feed text }
 
 -- what follows a line, the last one of an input too
-abbrev pub text_behind : Line → List ℕ
-text_behind l = elim l.behind [ Some t ↦ t | None ↦ [] ]
+abbrev pub text_after_line : Line → List ℕ
+text_after_line l = elim l.after_feed [ Some t ↦ t | None ↦ [] ]
 
--- one more command in front
+-- the commands with one more before them
 abbrev pub with_first : Command → Cut → Cut
 with_first c cut = record { commands = c ∷ cut.commands; rest = cut.rest }
 
 -- the command of a line, and then those of what stands after it; or nothing, where its bytes are cut short
 abbrev pub command_at : Line → List ℕ → (List ℕ → Cut) → Cut
 command_at l text others =
-    let count = bytes_behind (request_of l.line) in
-    let more = text_behind l in
+    let count = bytes_brought (request_of l.line) in
+    let more = text_after_line l in
     if nat_le count (length more) then with_first (record { line = l.line; bytes = take count more }) (others (drop count more))
     else record { commands = []; rest = text }
 
--- the commands of an input of at most so many bytes
+-- the commands of an input of at most this number of bytes
 abbrev pub commands_within : ℕ → List ℕ → Cut
 commands_within n [] = record { commands = []; rest = [] }
 commands_within zero (b ∷ t) = record { commands = []; rest = b ∷ t }
@@ -67,14 +67,14 @@ abbrev pub AnswersAll : List ℕ → List ℕ → List ℕ → State → State �
 AnswersAll input said said' state state' =
     (ms : List Bool) × (length ms ≡ length (up_to_quit (commands_of input).commands)) ×
     (said' ≡ said ++ answers_to ms (up_to_quit (commands_of input).commands) state) × (state' ≡ state_after ms (up_to_quit (commands_of input).commands) state) ×
-    WantsInTurn ms (up_to_quit (commands_of input).commands) state
+    MayRunOutInTurn ms (up_to_quit (commands_of input).commands) state
 
 -- All commands of an input were answered, none ends the loop, and after them the input is cut short.
 abbrev pub AnswersBefore : List ℕ → List ℕ → List ℕ → State → State → Type 0
 AnswersBefore input said said' state state' =
     (ms : List Bool) × (length ms ≡ length (commands_of input).commands) ×
     (said' ≡ said ++ answers_to ms (commands_of input).commands state) × (state' ≡ state_after ms (commands_of input).commands state) ×
-    WantsInTurn ms (commands_of input).commands state ×
+    MayRunOutInTurn ms (commands_of input).commands state ×
     AllByRecursion (λ c. false ≡ ends (request_of c.line)) (commands_of input).commands × IsCut (commands_of input).rest
 
 -- The commands before one were answered, a beginning of its answer was written, and the state are those after it.
@@ -84,4 +84,4 @@ AnswersPart input said said' state state' =
     ((commands_of input).commands ≡ front ++ c ∷ others) × AllByRecursion (λ d. false ≡ ends (request_of d.line)) front × (length ms ≡ length front) ×
     ((part : List ℕ) × (more : List ℕ) × (answer m (state_after ms front state) c ≡ part ++ more) × (said' ≡ said ++ answers_to ms front state ++ part)) ×
     (state' ≡ after m (state_after ms front state) c) ×
-    WantsInTurn ms front state × Wants m (state_after ms front state) (request_of c.line) c.bytes
+    MayRunOutInTurn ms front state × MayRunOut m (state_after ms front state) (request_of c.line) c.bytes

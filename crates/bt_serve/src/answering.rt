@@ -13,7 +13,7 @@ ghost use Rattle.bt_serve.specs.Faults.{HandsOn};
 use crate::command::Request;
 use crate::fault::ServeFault;
 use crate::reading::{drop_bytes, read_bytes};
-use crate::streams::{Failed, Sink, Source};
+use crate::streams::{Sink, Source, StreamFailed};
 use crate::writing::say;
 use bibtex::{Change, FILE_BYTES, Refusal, Report, Session};
 use itoa::Buffer;
@@ -49,7 +49,7 @@ fn take_edit<S: Source>(
     }
 }
 
-/// Room for the bytes of an edit, if there may be so many.
+/// Room for `count` bytes of an edit, if an edit may bring that many.
 fn room(alloc: Global, count: usize) -> Result<Vec<u8>, AllocError>
     ensures { IfOk result (λ bytes. length bytes.items ≡ count) }
 {
@@ -115,7 +115,7 @@ pub fn answer_request<S: Source, K: Sink>(
 }
 
 /// Reports that an edit was accepted, with its report.
-fn say_accepted<K: Sink>(sink: &mut K, report: Report) -> Result<(), Failed>
+fn say_accepted<K: Sink>(sink: &mut K, report: Report) -> Result<(), StreamFailed>
     requires { K.failure_count sink.old < 2 ^ 64 - 1 }
     ensures all { OnOk result (Appends (K.contents sink.old) (K.contents sink.new) (accepted report)) }
     ensures part { OnErr result (AppendsPart (K.contents sink.old) (K.contents sink.new) (accepted report)) }
@@ -137,8 +137,8 @@ fn say_accepted<K: Sink>(sink: &mut K, report: Report) -> Result<(), Failed>
     )
 }
 
-/// Tells why an edit was refused.
-fn say_refused<K: Sink>(sink: &mut K, refusal: Refusal) -> Result<(), Failed>
+/// Writes why an edit was refused.
+fn say_refused<K: Sink>(sink: &mut K, refusal: Refusal) -> Result<(), StreamFailed>
     requires { K.failure_count sink.old < 2 ^ 64 - 1 }
     ensures all { OnOk result (Appends (K.contents sink.old) (K.contents sink.new) (refused refusal)) }
     ensures part { OnErr result (AppendsPart (K.contents sink.old) (K.contents sink.new) (refused refusal)) }
@@ -151,8 +151,8 @@ fn say_refused<K: Sink>(sink: &mut K, refusal: Refusal) -> Result<(), Failed>
     say(sink, &[b"refused ", code, b"\n"])
 }
 
-/// Tells how an edit ended.
-fn say_taken<K: Sink>(sink: &mut K, taken: Result<Report, Refusal>) -> Result<(), Failed>
+/// Writes how an edit ended.
+fn say_taken<K: Sink>(sink: &mut K, taken: Result<Report, Refusal>) -> Result<(), StreamFailed>
     requires { K.failure_count sink.old < 2 ^ 64 - 1 }
     ensures all { OnOk result (Appends (K.contents sink.old) (K.contents sink.new) (taken_text taken)) }
     ensures part { OnErr result (AppendsPart (K.contents sink.old) (K.contents sink.new) (taken_text taken)) }
@@ -166,8 +166,8 @@ fn say_taken<K: Sink>(sink: &mut K, taken: Result<Report, Refusal>) -> Result<()
     }
 }
 
-/// Tells a status.
-fn say_status<K: Sink>(sink: &mut K, status: u8) -> Result<(), Failed>
+/// Writes a status.
+fn say_status<K: Sink>(sink: &mut K, status: u8) -> Result<(), StreamFailed>
     requires { K.failure_count sink.old < 2 ^ 64 - 1 }
     ensures all { OnOk result (Appends (K.contents sink.old) (K.contents sink.new) (number_line (codes "status ") status)) }
     ensures part { OnErr result (AppendsPart (K.contents sink.old) (K.contents sink.new) (number_line (codes "status ") status)) }
@@ -180,8 +180,8 @@ fn say_status<K: Sink>(sink: &mut K, status: u8) -> Result<(), Failed>
     say(sink, &[b"status ", number, b"\n"])
 }
 
-/// Tells a text, after a word and the number of its bytes.
-fn say_text<K: Sink>(sink: &mut K, word: &[u8], text: &[u8]) -> Result<(), Failed>
+/// Writes a text, after a word and the number of its bytes.
+fn say_text<K: Sink>(sink: &mut K, word: &[u8], text: &[u8]) -> Result<(), StreamFailed>
     requires { K.failure_count sink.old < 2 ^ 64 - 1 }
     ensures all { OnOk result (Appends (K.contents sink.old) (K.contents sink.new) (text_answer word.now text.now)) }
     ensures part { OnErr result (AppendsPart (K.contents sink.old) (K.contents sink.new) (text_answer word.now text.now)) }
@@ -195,7 +195,11 @@ fn say_text<K: Sink>(sink: &mut K, word: &[u8], text: &[u8]) -> Result<(), Faile
 }
 
 /// Answers a request that changes nothing, and says whether it was the last one.
-fn say_shown<K: Sink>(sink: &mut K, session: &Session, request: Request<'_>) -> Result<bool, Failed>
+fn say_shown<K: Sink>(
+    sink: &mut K,
+    session: &Session,
+    request: Request<'_>,
+) -> Result<bool, StreamFailed>
     requires few { K.failure_count sink.old < 2 ^ 64 - 1 }
     requires shown { IsShown (request_seen request) }
     ensures all { OnOk result (Appends (K.contents sink.old) (K.contents sink.new) (answer_of false session.now (request_seen request.entry) [])) }
@@ -234,7 +238,7 @@ fn say_shown<K: Sink>(sink: &mut K, session: &Session, request: Request<'_>) -> 
     }
 }
 
-/// The number of a refusal, as an answer tells it.
+/// The number of a refusal, as an answer has it.
 pub fn code_of(refusal: Refusal) -> u8
     ensures { result ≡ code_of refusal }
 {

@@ -92,6 +92,7 @@ fn named_request<'a>(word: &[u8], argument: &'a [u8]) -> Request<'a>
     }
 }
 
+/// What `remove` asks for, with what follows the word.
 fn remove_request(name: &[u8]) -> Request<'_>
     ensures { request_seen result ≡ remove_of name.now }
 {
@@ -102,6 +103,7 @@ fn remove_request(name: &[u8]) -> Request<'_>
     }
 }
 
+/// What `root` asks for, with what follows the word.
 fn root_request(name: &[u8]) -> Request<'_>
     ensures { request_seen result ≡ root_of name.now }
 {
@@ -112,6 +114,7 @@ fn root_request(name: &[u8]) -> Request<'_>
     }
 }
 
+/// What `min` asks for, with this number or none.
 fn min_request<'a>(min: Option<usize>) -> Request<'a>
     ensures { request_seen result ≡ min_of min }
 {
@@ -121,6 +124,7 @@ fn min_request<'a>(min: Option<usize>) -> Request<'a>
     }
 }
 
+/// What `write` asks for, with this name and this number or none.
 fn write_request(name: &[u8], count: Option<usize>) -> Request<'_>
     ensures { request_seen result ≡ write_of name.now count }
 {
@@ -130,6 +134,7 @@ fn write_request(name: &[u8], count: Option<usize>) -> Request<'_>
     }
 }
 
+/// What `splice` asks for, with this name and three numbers, each of which may be missing.
 fn splice_request(
     name: &[u8],
     start: Option<usize>,
@@ -159,6 +164,7 @@ fn next_word(text: &[u8]) -> (&[u8], Option<&[u8]>)
     }
 }
 
+/// The place of the first space.
 fn first_space(text: &[u8]) -> Option<usize>
     ensures { result ≡ position (λ b. b == 32) text.now }
 {

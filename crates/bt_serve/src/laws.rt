@@ -3,7 +3,7 @@ ghost use Rattle.std.specs.Prelude.{◌≡◌, ◌≢◌, ℕ, Bool, List, [], �
 ghost use Rattle.std.specs.List.{AllByRecursion, flat_map};
 ghost use Rattle.bibtex.specs.declared.edit.Edit.{Edit};
 ghost use Rattle.bibtex.specs.declared.state.State.{State};
-ghost use Rattle.bt_serve.specs.Commands.{Command, command_text, state_after, WantsInTurn};
+ghost use Rattle.bt_serve.specs.Commands.{Command, command_text, state_after, MayRunOutInTurn};
 ghost use Rattle.bt_serve.specs.Serves.{IsCommand, IsCut};
 ghost use Rattle.bt_serve.specs.Whole.{commands_of};
 ghost use Rattle.bt_serve.specs.Edits.{edits_of, AreSame, Leads, LeadsBy};
@@ -23,5 +23,5 @@ pub fn commands_of_joined()
 pub fn edits_of_commands()
     ensures leads { (cs : List Command) (ms : List Bool) (state : State) → length ms ≡ length cs → LeadsBy cs state (state_after ms cs state) }
     ensures only { (cs : List Command) (es : List Edit) (state state' : State) → AreSame es (edits_of cs) → Leads es state state' →
-        (ms : List Bool) × (length ms ≡ length cs) × WantsInTurn ms cs state × (state' ≡ state_after ms cs state) }
+        (ms : List Bool) × (length ms ≡ length cs) × MayRunOutInTurn ms cs state × (state' ≡ state_after ms cs state) }
 {}

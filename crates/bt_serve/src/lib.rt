@@ -14,7 +14,7 @@ mod writing;
 pub use answering::code_of;
 pub use fault::ServeFault;
 pub use laws::{commands_of_joined, edits_of_commands};
-pub use streams::{Failed, Sink, Source};
+pub use streams::{Sink, Source, StreamFailed};
 pub use turns::serve;
 pub use wrapped::{ReaderSource, WriterSink};
 pub use writing::{say, write_all};

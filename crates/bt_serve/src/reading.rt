@@ -5,21 +5,21 @@ ghost use Rattle.std.specs.Io.KnownBytes.{Consumes, Keeps};
 ghost use Rattle.bt_serve.specs.Reads.{HasNoFeed};
 ghost use Rattle.bt_serve.specs.inner.Reads.{ReadsByte, ReadsLine, ReadsPart, SkipsLine, ReadsAll, ReadsBelow, DropsAll};
 
-use crate::streams::{Failed, Source};
+use crate::streams::{Source, StreamFailed};
 
 /// What a line is followed by.
 #[derive(Clone, Copy)]
 pub enum LineEnd {
-    /// A line of so many bytes, and a line feed.
+    /// A line of this number of bytes, and a line feed.
     Feed(usize),
-    /// A line of so many bytes, and the end of the input.
+    /// A line of this number of bytes, and the end of the input.
     End(usize),
     /// More bytes than fit.
     None,
 }
 
 /// The next byte; nothing at the end.
-fn read_byte<S: Source>(source: &mut S) -> Result<Option<u8>, Failed>
+fn read_byte<S: Source>(source: &mut S) -> Result<Option<u8>, StreamFailed>
     requires { S.failure_count source.old < 2 ^ 64 - 1 }
     ensures bytes { MatchResult result (ReadsByte (S.remaining source.old) (S.remaining source.new))
         (λ _. Keeps (S.remaining source.old) (S.remaining source.new)) }
@@ -35,8 +35,9 @@ fn read_byte<S: Source>(source: &mut S) -> Result<Option<u8>, Failed>
     }
 }
 
-/// Reads a line into the buffer. Its line feed is read and isn't stored.
-pub fn read_line<S: Source>(source: &mut S, buffer: &mut [u8]) -> Result<LineEnd, Failed>
+/// Reads a line into the buffer. Its line feed is read and isn't stored. After a failure the buffer has what was read
+/// of the line.
+pub fn read_line<S: Source>(source: &mut S, buffer: &mut [u8]) -> Result<LineEnd, StreamFailed>
     requires { S.failure_count source.old < 2 ^ 64 - 1 }
     ensures line { IfOk result (ReadsLine (S.remaining source.old) (S.remaining source.new) buffer.new) }
     ensures part { OnErr result (ReadsPart (S.remaining source.old) (S.remaining source.new)) }
@@ -55,7 +56,7 @@ pub fn read_line<S: Source>(source: &mut S, buffer: &mut [u8]) -> Result<LineEnd
 }
 
 /// Reads on to the end of the line, and says whether it has a line feed.
-pub fn skip_line<S: Source>(source: &mut S) -> Result<bool, Failed>
+pub fn skip_line<S: Source>(source: &mut S) -> Result<bool, StreamFailed>
     requires { S.failure_count source.old < 2 ^ 64 - 1 }
     ensures line { IfOk result (SkipsLine (S.remaining source.old) (S.remaining source.new)) }
     ensures part { OnErr result (ReadsPart (S.remaining source.old) (S.remaining source.new)) }
@@ -71,8 +72,8 @@ pub fn skip_line<S: Source>(source: &mut S) -> Result<bool, Failed>
     Ok(false)
 }
 
-/// Fills the buffer, and says whether the input was long enough.
-pub fn read_bytes<S: Source>(source: &mut S, buffer: &mut [u8]) -> Result<bool, Failed>
+/// Fills the buffer, and says whether the input was long enough. After a failure the buffer has what was read.
+pub fn read_bytes<S: Source>(source: &mut S, buffer: &mut [u8]) -> Result<bool, StreamFailed>
     requires { S.failure_count source.old < 2 ^ 64 - 1 }
     ensures all { IfOk result (ReadsAll (S.remaining source.old) (S.remaining source.new) buffer.new) }
     ensures part { OnErr result (ReadsBelow (S.remaining source.old) (S.remaining source.new) (length buffer.old)) }
@@ -90,8 +91,8 @@ pub fn read_bytes<S: Source>(source: &mut S, buffer: &mut [u8]) -> Result<bool, 
     Ok(true)
 }
 
-/// Reads so many bytes and drops them, and says whether the input was long enough.
-pub fn drop_bytes<S: Source>(source: &mut S, count: usize) -> Result<bool, Failed>
+/// Reads `count` bytes and drops them, and says whether the input was long enough.
+pub fn drop_bytes<S: Source>(source: &mut S, count: usize) -> Result<bool, StreamFailed>
     requires { S.failure_count source.old < 2 ^ 64 - 1 }
     ensures all { IfOk result (DropsAll (S.remaining source.old) (S.remaining source.new) count) }
     ensures part { OnErr result (ReadsBelow (S.remaining source.old) (S.remaining source.new) count) }
@@ -100,12 +101,12 @@ pub fn drop_bytes<S: Source>(source: &mut S, count: usize) -> Result<bool, Faile
     ensures err { OnErr result (S.failure_count source.new ≡ S.failure_count source.old + 1) }
 {
     let mut buffer = [0; 1024];
-    let mut wanted = count;
-    'pieces: while wanted > 0 {
-        let part = wanted.min(1024);
+    let mut to_drop = count;
+    'pieces: while to_drop > 0 {
+        let part = to_drop.min(1024);
         match source.read(&mut buffer[..part])? {
             0 => return Ok(false),
-            count => wanted -= count,
+            count => to_drop -= count,
         }
     }
     Ok(true)

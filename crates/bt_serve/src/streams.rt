@@ -8,11 +8,11 @@ use thiserror::Error;
 /// A read or a write that failed.
 #[derive(Clone, Copy, Debug, PartialEq, Eq, Error)]
 #[error("Failed")]
-pub struct Failed;
+pub struct StreamFailed;
 
 /// What bytes are read from.
 pub trait Source {
-    /// The bytes that it has left to give, where it tells.
+    /// The bytes that it has left to give, where it shows them.
     ghost remaining: { Self → Option (List ℕ) };
 
     /// How often it failed.
@@ -23,7 +23,7 @@ pub trait Source {
 
     /// Reads bytes into the buffer, and answers how many; 0 at the end. Each read lowers the bound on those that are
     /// left by one; at 0 a read fails. A read that fails gives no byte, and raises the count of failures by one.
-    fn read(&mut self, buffer: &mut [u8]) -> Result<usize, Failed>
+    fn read(&mut self, buffer: &mut [u8]) -> Result<usize, StreamFailed>
         requires { failure_count self.old < 2 ^ 64 - 1 }
         ensures bound { IfOk result (λ n. n ≤ length buffer.new) }
         ensures bytes { ReadConsumes (remaining self.old) (remaining self.new) result buffer.new }
@@ -43,7 +43,7 @@ pub trait Source {
 
 /// What bytes are written to.
 pub trait Sink {
-    /// The bytes that were written to it, where it tells.
+    /// The bytes that were written to it, where it shows them.
     ghost contents: { Self → Option (List ℕ) };
 
     /// How often it failed.
@@ -54,7 +54,7 @@ pub trait Sink {
 
     /// Takes some of the bytes, and answers how many. To take none is a failure, and each failure raises their count by
     /// one.
-    fn write(&mut self, bytes: &[u8]) -> Result<usize, Failed>
+    fn write(&mut self, bytes: &[u8]) -> Result<usize, StreamFailed>
         requires { failure_count self.old < 2 ^ 64 - 1 }
         ensures some { IfOk result (λ n. 0 < n) }
         ensures bound { IfOk result (λ n. n ≤ length bytes.now) }
@@ -63,8 +63,8 @@ pub trait Sink {
         ensures ok { OnOk result (failure_count self.new ≡ failure_count self.old) }
         ensures err { OnErr result (failure_count self.new ≡ failure_count self.old + 1) };
 
-    /// Hands on what was written.
-    fn flush(&mut self) -> Result<(), Failed>
+    /// Hands on what was written. After a failure some of it may be handed on.
+    fn flush(&mut self) -> Result<(), StreamFailed>
         requires { failure_count self.old < 2 ^ 64 - 1 }
         ensures bytes { Keeps (contents self.old) (contents self.new) }
         ensures flushed { OnOk result (is_flushed self.new ≡ true) }

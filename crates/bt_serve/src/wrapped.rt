@@ -2,7 +2,7 @@
 
 ghost use Rattle.std.specs.Prelude.{◌≡◌, ◌-◌, ◌^◌, length, true, false};
 
-use crate::streams::{Failed, Sink, Source};
+use crate::streams::{Sink, Source, StreamFailed};
 use std::io::{Read, Write};
 
 /// A reader as a source, which can be read 2^64 - 1 times. A read that is interrupted is a failure.
@@ -35,17 +35,17 @@ impl<R: Read + Drop> Source for ReaderSource<R> {
 
     ghost reads_left = { λ s. s.left };
 
-    fn read(&mut self, buffer: &mut [u8]) -> Result<usize, Failed> {
+    fn read(&mut self, buffer: &mut [u8]) -> Result<usize, StreamFailed> {
         if self.left == 0 {
             self.failures += 1;
-            return Err(Failed);
+            return Err(StreamFailed);
         }
         self.left -= 1;
         match self.reader.read(buffer) {
             Ok(count) => Ok(count),
             Err(_) => {
                 self.failures += 1;
-                Err(Failed)
+                Err(StreamFailed)
             }
         }
     }
@@ -90,18 +90,18 @@ impl<W: Write + Drop> Sink for WriterSink<W> {
     ghost is_flushed = { λ s. s.flushed };
 
     #[tactic(auto, using(crate::proofs::WriteLemmas::keeps_none))]
-    fn write(&mut self, bytes: &[u8]) -> Result<usize, Failed> {
+    fn write(&mut self, bytes: &[u8]) -> Result<usize, StreamFailed> {
         self.flushed = false;
         match self.writer.write(bytes) {
             Ok(0) | Err(_) => {
                 self.failures += 1;
-                Err(Failed)
+                Err(StreamFailed)
             }
             Ok(count) => Ok(count),
         }
     }
 
-    fn flush(&mut self) -> Result<(), Failed> {
+    fn flush(&mut self) -> Result<(), StreamFailed> {
         match self.writer.flush() {
             Ok(()) => {
                 self.flushed = true;
@@ -109,7 +109,7 @@ impl<W: Write + Drop> Sink for WriterSink<W> {
             }
             Err(_) => {
                 self.failures += 1;
-                Err(Failed)
+                Err(StreamFailed)
             }
         }
     }

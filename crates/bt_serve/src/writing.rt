@@ -5,10 +5,10 @@ ghost use Rattle.std.specs.List.{flat_map};
 ghost use Rattle.std.specs.Io.KnownBytes.{Appends};
 ghost use Rattle.bt_serve.specs.Writes.{AppendsPart};
 
-use crate::streams::{Failed, Sink};
+use crate::streams::{Sink, StreamFailed};
 
-/// Writes all the bytes, and hands nothing on.
-pub fn write_all<K: Sink>(sink: &mut K, bytes: &[u8]) -> Result<(), Failed>
+/// Writes all the bytes, and hands nothing on. After a failure a beginning of them is written.
+pub fn write_all<K: Sink>(sink: &mut K, bytes: &[u8]) -> Result<(), StreamFailed>
     requires { K.failure_count sink.old < 2 ^ 64 - 1 }
     ensures all { OnOk result (Appends (K.contents sink.old) (K.contents sink.new) bytes.now) }
     ensures part { OnErr result (AppendsPart (K.contents sink.old) (K.contents sink.new) bytes.now) }
@@ -23,7 +23,7 @@ pub fn write_all<K: Sink>(sink: &mut K, bytes: &[u8]) -> Result<(), Failed>
 }
 
 /// Writes pieces one after another.
-fn write_pieces<K: Sink>(sink: &mut K, pieces: &[&[u8]]) -> Result<(), Failed>
+fn write_pieces<K: Sink>(sink: &mut K, pieces: &[&[u8]]) -> Result<(), StreamFailed>
     requires { K.failure_count sink.old < 2 ^ 64 - 1 }
     ensures all { OnOk result (Appends (K.contents sink.old) (K.contents sink.new)
         (flat_map (λ piece. piece.now) pieces.now)) }
@@ -38,8 +38,8 @@ fn write_pieces<K: Sink>(sink: &mut K, pieces: &[&[u8]]) -> Result<(), Failed>
     Ok(())
 }
 
-/// Writes the pieces of an answer one after another, and hands them on.
-pub fn say<K: Sink>(sink: &mut K, pieces: &[&[u8]]) -> Result<(), Failed>
+/// Writes the pieces of an answer one after another, and hands them on. After a failure a beginning of them is written.
+pub fn say<K: Sink>(sink: &mut K, pieces: &[&[u8]]) -> Result<(), StreamFailed>
     requires { K.failure_count sink.old < 2 ^ 64 - 1 }
     ensures all { OnOk result (Appends (K.contents sink.old) (K.contents sink.new)
         (flat_map (λ piece. piece.now) pieces.now)) }

@@ -7,7 +7,7 @@ use Rattle.std.specs.Option.{option_map, is_some}
 use Rattle.std.proofs.lemmas.List.Folds.{list_any-append}
 use Rattle.std.proofs.lemmas.Str.Ascii.{lowercase-lowercase}
 use Rattle.bt_text.specs.Folding.{folded, is_same_folded}
-use Rattle.bt_style.specs.declared.fault.Fault.{Fault}
+use Rattle.bt_style.specs.declared.fault.StyleFault.{StyleFault}
 use Rattle.bt_style.specs.declared.names.Names.{Names}
 use Rattle.bt_style.specs.declared.names.Names.TheVariants.{Fields, EntryNumbers, EntryTexts, GlobalNumbers, GlobalTexts}
 use Rattle.bt_style.specs.declared.style.Target.TheVariants as targets
@@ -112,7 +112,7 @@ named_good EntryTexts name p g e free = same_fields p (with_name EntryTexts name
 named_good GlobalNumbers name p g e free = same_fields p (with_name GlobalNumbers name p) refl g
 named_good GlobalTexts name p g e free = same_fields p (with_name GlobalTexts name p) refl g
 
-new_is : (a b : Bool) (x name : List ℕ) (e f : Fault) → ◌≡◌ {A = Result (List ℕ) Fault} (cond (not a) (Err e) (cond b (Err f) (Ok x))) (Ok name) → (x ≡ name) × (b ≡ false)
+new_is : (a b : Bool) (x name : List ℕ) (e f : StyleFault) → ◌≡◌ {A = Result (List ℕ) StyleFault} (cond (not a) (Err e) (cond b (Err f) (Ok x))) (Ok name) → (x ≡ name) × (b ≡ false)
 new_is true true x name e f h = cc
 new_is true false x name e f h = (ok_same x name h, refl)
 new_is false b x name e f h = cc

@@ -5,7 +5,7 @@ use Rattle.std.proofs.Common.{◌≡◌, ap, sym, refl, subst, ℕ, suc, ◌<◌
 use Rattle.std.proofs.lemmas.List.Elements.{All-nil, All-cons, All-append}
 use Rattle.std.proofs.lemmas.List.{length-map}
 use Rattle.bt_text.specs.Folding.{folded}
-use Rattle.bt_style.specs.declared.fault.Fault.{Fault}
+use Rattle.bt_style.specs.declared.fault.StyleFault.{StyleFault}
 use Rattle.bt_style.specs.declared.style.Target.{Target}
 use Rattle.bt_style.specs.declared.style.Target.TheVariants as targets
 use Rattle.bt_style.specs.Program.{Program, Definition}
@@ -97,11 +97,11 @@ quoted_within : (p : Program) (bytes : List ℕ) (line : ℕ) (e : Element) → 
 unfolding quoted_at
 quoted_within p bytes line e h = quoted_by (length bytes == 0) _ h
   where
-    quoted_by : (v : Bool) (f : Fault) → cond v (Err f) (target_of p bytes line >>= λ t. Ok (Quoted t)) ≡ Ok e → Within p e
+    quoted_by : (v : Bool) (f : StyleFault) → cond v (Err f) (target_of p bytes line >>= λ t. Ok (Quoted t)) ≡ Ok e → Within p e
     quoted_by true f h = cc
     quoted_by false f h = one_within p Quoted (λ t. refl) bytes line e h
 
-word_by : (v w : Bool) (a b c : Result Element Fault) (e : Element) (X : Type 0) → (a ≡ Ok e → X) → (b ≡ Ok e → X) → (c ≡ Ok e → X) → cond v a (cond w b c) ≡ Ok e → X
+word_by : (v w : Bool) (a b c : Result Element StyleFault) (e : Element) (X : Type 0) → (a ≡ Ok e → X) → (b ≡ Ok e → X) → (c ≡ Ok e → X) → cond v a (cond w b c) ≡ Ok e → X
 word_by true w a b c e X f g k h = f h
 word_by false true a b c e X f g k h = g h
 word_by false false a b c e X f g k h = k h

@@ -2,8 +2,8 @@
 use Rattle.std.proofs.Common.{◌≡◌, ℕ, List, Result, Err, refl, codes}
 use Rattle.bt_style.specs.declared.fault.FaultKind.{FaultKind}
 use Rattle.bt_style.specs.declared.fault.FaultKind.TheVariants.{UnknownCommand, CommandOrder, SecondEntry, SecondRead, NoEntry, UnknownName, NameTaken, NumberTooLarge, UnclosedText, UnclosedBrace, BadName, StrayByte, NotAFunction, MissingArgument}
-use Rattle.bt_style.specs.declared.fault.Fault.{Fault}
-use Rattle.bt_style.specs.Token.{tokens_behind, piece_at, literal_piece}
+use Rattle.bt_style.specs.declared.fault.StyleFault.{StyleFault}
+use Rattle.bt_style.specs.Token.{tokens_after, piece_at, literal_piece}
 use Rattle.bt_style.specs.Builtins.{table}
 use Rattle.bt_style.specs.Program.{Program}
 use Rattle.bt_style.specs.Names.{target_named, macro_named, builtin_named}
@@ -15,8 +15,8 @@ use Rattle.bt_style.specs.Commands.{command_at, arguments_at}
 use Rattle.bt_style.specs.Reader.{style_of, reading, commands_at}
 
 -- what a text spells, with all that it computes by
-unfoldable pub spelled : List ℕ → Result Program Fault
-unfolding style_of tokens_behind piece_at literal_piece reading commands_at command_at arguments_at body_at names_at word_element number_at size_at quoted_at verb_named all_verbs target_named macro_named builtin_named table
+unfoldable pub spelled : List ℕ → Result Program StyleFault
+unfolding style_of tokens_after piece_at literal_piece reading commands_at command_at arguments_at body_at names_at word_element number_at size_at quoted_at verb_named all_verbs target_named macro_named builtin_named table
 spelled text = style_of text
 
 abbrev pub HasFault : List ℕ → FaultKind → ℕ → Type 0

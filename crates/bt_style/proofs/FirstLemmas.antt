@@ -1,18 +1,18 @@
 -- The first fault of a style stands at its token. The reserve of `commands_at` is never used up.
 use Rattle.std.specs.List.{list_all}
 use Rattle.std.proofs.Common.{true, ◌≡◌, ◌∙◌, ap, sym, refl, subst, ℕ, zero, suc, ◌<◌, ◌≤◌, List, [], ◌∷◌, ◌++◌, Result, Ok, Err, arith}
-use Rattle.bt_style.specs.declared.fault.Fault.{Fault}
+use Rattle.bt_style.specs.declared.fault.StyleFault.{StyleFault}
 use Rattle.bt_style.specs.declared.verbs.Verb.{Verb}
 use Rattle.bt_style.specs.declared.verbs.Stage.{Stage}
 use Rattle.bt_style.specs.declared.verbs.Stage.TheVariants.{BeforeEntry}
 use Rattle.bt_style.specs.Program.{Program}
 use Rattle.bt_style.specs.Fault.{◌>>=◌}
-use Rattle.bt_style.specs.Token.{Token, Open, Close, Word, Literal, Unclosed, Glued, Tokens, AtEnd, Front, tokens_behind, tokens_of, count}
+use Rattle.bt_style.specs.Token.{Token, Open, Close, Word, Literal, Unclosed, Glued, Tokens, AtEnd, Front, tokens_after, tokens_of, count}
 use Rattle.bt_style.specs.Draft.{preset}
 use Rattle.bt_style.specs.Verbs.{verb_named, verb_of, in_order, out_of_order, stage_after}
 use Rattle.bt_style.specs.Commands.{arguments_at, command_at}
 use Rattle.bt_style.specs.Reader.{commands_at, reading, style_of}
-use Rattle.bt_style.specs.Laws.{is_byte, in_front, first_line, BeginsAs, StandsAtItsToken, FaultIsFirst, AnyReserveServes}
+use Rattle.bt_style.specs.Laws.{is_byte, in_front, first_line, BeginsAs, StandsAtItsToken, FaultIsFirst, AnyBoundServes}
 use Rattle.bt_style.proofs.KeptLemmas.{command_keeps}
 use Rattle.bt_style.proofs.QuoteLemmas.{Quoteless, quoteless_kept}
 use Rattle.bt_style.proofs.ReaderLemmas.{ArePlain, plain_append, bytes_append, in_front_append, count_behind, Takes, Stops, Reads, Took, Stopped, Reader, just, then}
@@ -26,17 +26,17 @@ with_stage made t = (made.0, made.1, t)
 
 -- it is refused at the word, or a reader of what stands after
 data Command (stage : Stage) (p : Program) (word : List ℕ) (line : ℕ) : Type 0 where
-  Refused : (f : Fault) → f.line ≡ line → ((t : Tokens) → command_at stage p word line t ≡ Err f) → Command stage p word line
+  Refused : (f : StyleFault) → f.line ≡ line → ((t : Tokens) → command_at stage p word line t ≡ Err f) → Command stage p word line
   Allowed : Reader (Quoteless p) with_stage (command_at stage p word line) → Command stage p word line
 
-same_reader : {A Y Q : Type 0} (pair : A → Tokens → Y) (r s : Tokens → Result Y Fault) → ((t : Tokens) → r t ≡ s t) → Reader Q pair s → Reader Q pair r
-same_reader {Y = Y} {Q = Q} pair r s e reader = (let all : s ≡ r = λ j t. sym (e t) j in subst (λ (f : Tokens → Result Y Fault). Reader Q pair f) all reader)
+same_reader : {A Y Q : Type 0} (pair : A → Tokens → Y) (r s : Tokens → Result Y StyleFault) → ((t : Tokens) → r t ≡ s t) → Reader Q pair s → Reader Q pair r
+same_reader {Y = Y} {Q = Q} pair r s e reader = (let all : s ≡ r = λ j t. sym (e t) j in subst (λ (f : Tokens → Result Y StyleFault). Reader Q pair f) all reader)
 
-ordered : (stage : Stage) (p : Program) (word : List ℕ) (line : ℕ) (verb : Verb) → verb_of (verb_named word) line ≡ Ok verb → (x : Result (Unit {0}) Fault) →
+ordered : (stage : Stage) (p : Program) (word : List ℕ) (line : ℕ) (verb : Verb) → verb_of (verb_named word) line ≡ Ok verb → (x : Result (Unit {0}) StyleFault) →
     in_order (out_of_order verb stage) line ≡ x → Command stage p word line
 unfolding command_at
 ordered stage p word line verb e (Ok u) o =
-    let last : Program × Tokens → Result (Stage × Program × Tokens) Fault = λ next. Ok (stage_after verb stage, next.0, next.1) in
+    let last : Program × Tokens → Result (Stage × Program × Tokens) StyleFault = λ next. Ok (stage_after verb stage, next.0, next.1) in
     Allowed (same_reader with_stage (command_at stage p word line) (λ t. arguments_at verb line p t >>= last)
     (λ t. ap (λ x. x >>= λ verb. in_order (out_of_order verb stage) line >>= λ allowed. arguments_at verb line p t >>= λ next. Ok (stage_after verb stage, next.0, next.1)) e
     ∙ ap (λ x. x >>= λ allowed. arguments_at verb line p t >>= last) o)
@@ -46,7 +46,7 @@ ordered stage p word line verb e (Err f) o =
     (λ t. ap (λ x. x >>= λ verb. in_order (out_of_order verb stage) line >>= λ allowed. arguments_at verb line p t >>= λ next. Ok (stage_after verb stage, next.0, next.1)) e
     ∙ ap (λ x. x >>= λ allowed. arguments_at verb line p t >>= λ next. Ok (stage_after verb stage, next.0, next.1)) o)
 
-named : (stage : Stage) (p : Program) (word : List ℕ) (line : ℕ) (x : Result Verb Fault) → verb_of (verb_named word) line ≡ x → Command stage p word line
+named : (stage : Stage) (p : Program) (word : List ℕ) (line : ℕ) (x : Result Verb StyleFault) → verb_of (verb_named word) line ≡ x → Command stage p word line
 unfolding command_at
 named stage p word line (Ok verb) e = ordered stage p word line verb e (in_order (out_of_order verb stage) line) refl
 named stage p word line (Err f) e =
@@ -64,7 +64,7 @@ begins_itself (Front token line rest) = (rest, refl)
 
 -- a command fails, or fewer tokens are left
 data Ends (stage : Stage) (p : Program) (word : List ℕ) (line : ℕ) (rest : Tokens) : Type 0 where
-  Fails : (f : Fault) → command_at stage p word line rest ≡ Err f → Ends stage p word line rest
+  Fails : (f : StyleFault) → command_at stage p word line rest ≡ Err f → Ends stage p word line rest
   Goes : (later : Stage) (q : Program) (left : Tokens) → command_at stage p word line rest ≡ Ok (later, q, left) → count left ≤ count rest → Ends stage p word line rest
 
 ends_read : (stage : Stage) (p : Program) (word : List ℕ) (line : ℕ) (rest : Tokens) → Reads (Quoteless p) with_stage (command_at stage p word line) rest → Ends stage p word line rest
@@ -76,7 +76,7 @@ ends_by : (stage : Stage) (p : Program) (word : List ℕ) (line : ℕ) (rest : T
 ends_by stage p word line rest (Refused f at e) = Fails f (e rest)
 ends_by stage p word line rest (Allowed r) = ends_read stage p word line rest (r.reads rest)
 
-abbrev later_by : ℕ → Stage × Program × Tokens → Result Program Fault
+abbrev later_by : ℕ → Stage × Program × Tokens → Result Program StyleFault
 later_by most next = commands_at most next.0 next.1 next.2
 
 same_behind : (m n : ℕ) (stage : Stage) (p : Program) (word : List ℕ) (line : ℕ) (rest : Tokens) → Ends stage p word line rest →
@@ -102,14 +102,14 @@ enough (suc m) (suc n) stage p (Front (Literal bytes) line rest) a b = refl
 enough (suc m) (suc n) stage p (Front Unclosed line rest) a b = refl
 enough (suc m) (suc n) stage p (Front Glued line rest) a b = refl
 
-pub any_reserve_serves : AnyReserveServes
-any_reserve_serves most stage p tokens lt = enough most (suc (count tokens)) stage p tokens lt (omega arith)
+pub any_bound_serves : AnyBoundServes
+any_bound_serves most stage p tokens lt = enough most (suc (count tokens)) stage p tokens lt (omega arith)
 
 -- the commands up to the end
-abbrev through : Stage → Program → Tokens → Result Program Fault
+abbrev through : Stage → Program → Tokens → Result Program StyleFault
 through stage p tokens = commands_at (suc (count tokens)) stage p tokens
 
-abbrev later_through : Stage × Program × Tokens → Result Program Fault
+abbrev later_through : Stage × Program × Tokens → Result Program StyleFault
 later_through next = through next.0 next.1 next.2
 
 one_more : (k n : ℕ) → k ≤ n → k < suc n
@@ -133,22 +133,22 @@ through_word stage p word line rest = through_by stage p word line rest (ends_by
 pub record Faulty (stage : Stage) (p : Program) (tokens : Tokens) : Type 0 where
   pub front : List (Token × ℕ)
   pub here : Tokens
-  pub fault : Fault
+  pub fault : StyleFault
   pub whole : tokens ≡ in_front front here
   pub line : fault.line ≡ first_line here
   pub final : (other : Tokens) → BeginsAs here other → through stage p (in_front front other) ≡ Err fault
-  pub first : (line : ℕ) → (bytes : List ℕ) × (list_all is_byte bytes ≡ true) × (q : Program) × (through stage p (in_front front (tokens_behind 0 line bytes)) ≡ Ok q)
+  pub first : (line : ℕ) → (bytes : List ℕ) × (list_all is_byte bytes ≡ true) × (q : Program) × (through stage p (in_front front (tokens_after 0 line bytes)) ≡ Ok q)
   pub plain : Quoteless p → ArePlain front
 
 data Outcome (stage : Stage) (p : Program) (tokens : Tokens) : Type 0 where
   Whole : (q : Program) → through stage p tokens ≡ Ok q → Outcome stage p tokens
   Faulted : Faulty stage p tokens → Outcome stage p tokens
 
-at_end : (stage : Stage) (p : Program) (line : ℕ) → through stage p (tokens_behind 0 line []) ≡ Ok p
-unfolding commands_at tokens_behind
+at_end : (stage : Stage) (p : Program) (line : ℕ) → through stage p (tokens_after 0 line []) ≡ Ok p
+unfolding commands_at tokens_after
 at_end stage p line = refl
 
-refused_here : (stage : Stage) (p : Program) (token : Token) (line : ℕ) (rest : Tokens) (f : Fault) → f.line ≡ line →
+refused_here : (stage : Stage) (p : Program) (token : Token) (line : ℕ) (rest : Tokens) (f : StyleFault) → f.line ≡ line →
     ((t : Tokens) → through stage p (Front token line t) ≡ Err f) → Outcome stage p (Front token line rest)
 refused_here stage p token line rest f at e = Faulted (record {
   front = [];
@@ -177,7 +177,7 @@ behind_command stage p word line rest t (Faulted x) =
       whole = ap (Front (Word word) line) (t.whole ∙ ap (in_front t.used) x.whole ∙ sym (in_front_append t.used x.front x.here));
       line = x.line;
       final = λ o a. on o ∙ x.final o a;
-      first = λ l. (let y = x.first l in (y.0, y.1, y.2, on (tokens_behind 0 l y.0) ∙ y.3));
+      first = λ l. (let y = x.first l in (y.0, y.1, y.2, on (tokens_after 0 l y.0) ∙ y.3));
       plain = λ q. (
         tt,
         plain_append t.used x.front (t.plain q)
@@ -197,7 +197,7 @@ stopped_inside stage p word line rest s = Faulted (record {
     d.bytes ++ [],
     bytes_append d.bytes [] d.are_bytes refl,
     d.value.1,
-    through_word stage p word line (in_front s.front (tokens_behind 0 l (d.bytes ++ []))) ∙ ap (λ x. x >>= later_through) (d.reads []) ∙ at_end d.value.0 d.value.1 l,
+    through_word stage p word line (in_front s.front (tokens_after 0 l (d.bytes ++ []))) ∙ ap (λ x. x >>= later_through) (d.reads []) ∙ at_end d.value.0 d.value.1 l,
   ));
   plain = λ q. (tt, s.plain q);
 })
@@ -226,15 +226,15 @@ outcome (suc n) stage p (Front (Literal bytes) line rest) lt = refused_here stag
 outcome (suc n) stage p (Front Unclosed line rest) lt = refused_here stage p Unclosed line rest _ refl (λ t. refl)
 outcome (suc n) stage p (Front Glued line rest) lt = refused_here stage p Glued line rest _ refl (λ t. refl)
 
-err_same : {A : Type 0} (e f : Fault) → ◌≡◌ {A = Result A Fault} (Err e) (Err f) → e ≡ f
+err_same : {A : Type 0} (e f : StyleFault) → ◌≡◌ {A = Result A StyleFault} (Err e) (Err f) → e ≡ f
 err_same e f h = cc
 
-begun : (tokens : Tokens) (f : Fault) → reading tokens ≡ Err f → Outcome BeforeEntry preset tokens → (x : Faulty BeforeEntry preset tokens) × (x.fault ≡ f)
+begun : (tokens : Tokens) (f : StyleFault) → reading tokens ≡ Err f → Outcome BeforeEntry preset tokens → (x : Faulty BeforeEntry preset tokens) × (x.fault ≡ f)
 unfolding reading
-begun tokens f e (Whole q w) = (let no_way : ◌≡◌ {A = Result Program Fault} (Ok q) (Err f) = sym w ∙ e in absurd (cc no_way))
+begun tokens f e (Whole q w) = (let no_way : ◌≡◌ {A = Result Program StyleFault} (Ok q) (Err f) = sym w ∙ e in absurd (cc no_way))
 begun tokens f e (Faulted x) = (x, err_same {A = Program} x.fault f (sym (ap reading x.whole ∙ x.final x.here (begins_itself x.here)) ∙ e))
 
-pub faulty_text : (text : List ℕ) (f : Fault) → style_of text ≡ Err f → (x : Faulty BeforeEntry preset (tokens_of text)) × (x.fault ≡ f)
+pub faulty_text : (text : List ℕ) (f : StyleFault) → style_of text ≡ Err f → (x : Faulty BeforeEntry preset (tokens_of text)) × (x.fault ≡ f)
 unfolding style_of
 faulty_text text f e = begun (tokens_of text) f e (outcome (suc (count (tokens_of text))) BeforeEntry preset (tokens_of text) (one_more (count (tokens_of text)) (count (tokens_of text)) (omega arith)))
 

@@ -5,7 +5,7 @@ use Rattle.std.specs.List.{list_all, before_first, position_or_len}
 use Rattle.std.proofs.Common.{◌≡◌, ◌∙◌, ap, refl, ℕ, zero, suc, ◌+◌, ◌-◌, ◌<◌, Bool, true, false, List, [], ◌∷◌, ◌++◌, map, length, None, Ok, arith}
 use Rattle.bt_text.specs.Folding.{folded}
 use Rattle.bt_text.specs.NameBytes.{is_name, is_name_byte}
-use Rattle.bt_style.specs.Token.{Open, Close, Word, Front, ends_word, piece_at, tokens_behind}
+use Rattle.bt_style.specs.Token.{Open, Close, Word, Front, ends_word, piece_at, tokens_after}
 use Rattle.bt_style.specs.Builtins.{Row, table}
 use Rattle.bt_style.specs.Program.{Program}
 use Rattle.bt_style.specs.Names.{builtin_among, builtin_named, place_in, function_names, macro_names, target_named, is_taken, macro_named, is_macro}
@@ -49,24 +49,24 @@ take_letters (suc n) rest = ap (λ (l : List ℕ). 97 ∷ l) (take_letters n res
 before_letters : (n : ℕ) (behind : List ℕ) → before_first ends_word (letters n ++ 125 ∷ behind) ≡ letters n
 before_letters n behind = ap (λ k. take k (letters n ++ 125 ∷ behind)) (position_letters n behind) ∙ take_letters n (125 ∷ behind)
 
-covered : (n line : ℕ) (rest : List ℕ) → tokens_behind n line (letters n ++ rest) ≡ tokens_behind 0 line rest
-unfolding tokens_behind
+covered : (n line : ℕ) (rest : List ℕ) → tokens_after n line (letters n ++ rest) ≡ tokens_after 0 line rest
+unfolding tokens_after
 covered zero line rest = refl
 covered (suc n) line rest = covered n line rest
 
-pub letters_spelled : (n line : ℕ) (behind : List ℕ) → tokens_behind 0 line (letters (suc n) ++ 125 ∷ behind) ≡ Front (Word (letters (suc n))) line (tokens_behind 0 line (125 ∷ behind))
-unfolding tokens_behind piece_at
+pub letters_spelled : (n line : ℕ) (behind : List ℕ) → tokens_after 0 line (letters (suc n) ++ 125 ∷ behind) ≡ Front (Word (letters (suc n))) line (tokens_after 0 line (125 ∷ behind))
+unfolding tokens_after piece_at
 letters_spelled n line behind =
-    ap (λ (m : List ℕ). Front (Word (97 ∷ m)) line (tokens_behind (1 + length m - 1) line (letters n ++ 125 ∷ behind))) (before_letters n behind)
-    ∙ ap (λ k. Front (Word (97 ∷ letters n)) line (tokens_behind k line (letters n ++ 125 ∷ behind))) (omega (arith, length_letters n))
+    ap (λ (m : List ℕ). Front (Word (97 ∷ m)) line (tokens_after (1 + length m - 1) line (letters n ++ 125 ∷ behind))) (before_letters n behind)
+    ∙ ap (λ k. Front (Word (97 ∷ letters n)) line (tokens_after k line (letters n ++ 125 ∷ behind))) (omega (arith, length_letters n))
     ∙ ap (Front (Word (97 ∷ letters n)) line) (covered n line (125 ∷ behind))
 
-pub open_step : (line : ℕ) (behind : List ℕ) → tokens_behind 0 line (123 ∷ behind) ≡ Front Open line (tokens_behind 0 line behind)
-unfolding tokens_behind piece_at
+pub open_step : (line : ℕ) (behind : List ℕ) → tokens_after 0 line (123 ∷ behind) ≡ Front Open line (tokens_after 0 line behind)
+unfolding tokens_after piece_at
 open_step line behind = refl
 
-pub close_step : (line : ℕ) (behind : List ℕ) → tokens_behind 0 line (125 ∷ behind) ≡ Front Close line (tokens_behind 0 line behind)
-unfolding tokens_behind piece_at
+pub close_step : (line : ℕ) (behind : List ℕ) → tokens_after 0 line (125 ∷ behind) ≡ Front Close line (tokens_after 0 line behind)
+unfolding tokens_after piece_at
 close_step line behind = refl
 
 -- The names of a style

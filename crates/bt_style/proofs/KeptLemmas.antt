@@ -1,7 +1,7 @@
 -- What holds of a style before its first command, and is kept by each declaration, holds of it to the end.
 use Rattle.std.proofs.Common.{◌≡◌, ◌∙◌, ap, subst, ℕ, zero, suc, List, [], ◌∷◌, length, Option, Some, None, Result, Ok, ◌<◌, ◌++◌, arith}
 use Rattle.std.proofs.lemmas.List.{length-append}
-use Rattle.bt_style.specs.declared.fault.Fault.{Fault}
+use Rattle.bt_style.specs.declared.fault.StyleFault.{StyleFault}
 use Rattle.bt_style.specs.declared.names.Names.{Names}
 use Rattle.bt_style.specs.declared.names.Names.TheVariants.{Fields, EntryNumbers, EntryTexts, GlobalNumbers, GlobalTexts}
 use Rattle.bt_style.specs.declared.style.Target.{Target}
@@ -56,22 +56,22 @@ braced_keep P k names p tokens x g h =
     names_keep P k names p inside.0 x g inside.2
 
 -- what a program becomes last
-last_keep : (P : Program → Type 0) (made : Program) (behind : Tokens) (x : Program × Tokens) → P made → ◌≡◌ {A = Result (Program × Tokens) Fault} (Ok (made, behind)) (Ok x) → P x.0
+last_keep : (P : Program → Type 0) (made : Program) (behind : Tokens) (x : Program × Tokens) → P made → ◌≡◌ {A = Result (Program × Tokens) StyleFault} (Ok (made, behind)) (Ok x) → P x.0
 last_keep P made behind x g h = subst (λ (y : Program × Tokens). P y.0) (ok_same (made, behind) x h) g
 
 -- a word in braces was taken
-record WasTaken {A : Type 0} (take : List ℕ → ℕ → Result A Fault) (value : A) : Type 0 where
+record WasTaken {A : Type 0} (take : List ℕ → ℕ → Result A StyleFault) (value : A) : Type 0 where
   word : List ℕ
   line : ℕ
   is : take word line ≡ Ok value
 
-taken_by : {A : Type 0} (taken : Result A Fault) (t : Tokens) (x : A × Tokens) → (taken >>= λ value. close_at t >>= λ rest. Ok (value, rest)) ≡ Ok x → taken ≡ Ok x.0
+taken_by : {A : Type 0} (taken : Result A StyleFault) (t : Tokens) (x : A × Tokens) → (taken >>= λ value. close_at t >>= λ rest. Ok (value, rest)) ≡ Ok x → taken ≡ Ok x.0
 taken_by {A} taken t x h =
     let value = bind_ok taken (λ value. close_at t >>= λ rest. Ok (value, rest)) x h in
     let rest = bind_ok (close_at t) (λ rest. Ok (value.0, rest)) x value.2 in
     value.1 ∙ ap (λ (y : A × Tokens). Ok y.0) (ok_same (value.0, rest.0) x rest.2)
 
-word_taken : {A : Type 0} (take : List ℕ → ℕ → Result A Fault) (tokens : Tokens) (x : A × Tokens) → braced_word take tokens ≡ Ok x → WasTaken take x.0
+word_taken : {A : Type 0} (take : List ℕ → ℕ → Result A StyleFault) (tokens : Tokens) (x : A × Tokens) → braced_word take tokens ≡ Ok x → WasTaken take x.0
 word_taken take tokens x h =
     let inside = bind_ok (open_at tokens) (λ t. word_at t >>= λ word. take word.0.0 word.0.1 >>= λ value. close_at word.1 >>= λ rest. Ok (value, rest)) x h in
     let word = bind_ok (word_at inside.0) (λ word. take word.0.0 word.0.1 >>= λ value. close_at word.1 >>= λ rest. Ok (value, rest)) x inside.2 in
@@ -138,7 +138,7 @@ arguments_keep P k verbs.Reverse line p tokens x g h = run_keep P k actions.Reve
 arguments_keep P k verbs.Sort line p tokens x g h = last_keep P (with_command actions.Sort line p) tokens x (k.listed p actions.Sort line tt g) h
 arguments_keep P k verbs.Strings line p tokens x g h = variables_keep P k GlobalTexts actions.Strings line p tokens x (λ q. tt) g h
 
-behind_arguments : (P : Program → Type 0) (later : Stage) (r : Result (Program × Tokens) Fault) (x : Stage × Program × Tokens) → ((y : Program × Tokens) → r ≡ Ok y → P y.0) →
+behind_arguments : (P : Program → Type 0) (later : Stage) (r : Result (Program × Tokens) StyleFault) (x : Stage × Program × Tokens) → ((y : Program × Tokens) → r ≡ Ok y → P y.0) →
     (r >>= λ next. Ok (later, next.0, next.1)) ≡ Ok x → P x.1
 behind_arguments P later r x keeps h =
     let next = bind_ok r (λ next. Ok (later, next.0, next.1)) x h in
@@ -153,11 +153,11 @@ command_keeps P k stage p word line tokens x g h =
     behind_arguments P (stage_after verb.0 stage) (arguments_at verb.0 line p tokens) x (λ y e. arguments_keep P k verb.0 line p tokens y g e) allowed.2
 
 -- what comes after a command's word, or the end
-abbrev behind_word : (Stage → Program → Tokens → Result Program Fault) → Stage → Program → Option (List ℕ × ℕ × Tokens) → Result Program Fault
+abbrev behind_word : (Stage → Program → Tokens → Result Program StyleFault) → Stage → Program → Option (List ℕ × ℕ × Tokens) → Result Program StyleFault
 behind_word later stage p None = Ok p
 behind_word later stage p (Some word) = command_at stage p word.0 word.1 word.2 >>= λ next. later next.0 next.1 next.2
 
-after_word : (P : Program → Type 0) → IsKept P → (later : Stage → Program → Tokens → Result Program Fault) →
+after_word : (P : Program → Type 0) → IsKept P → (later : Stage → Program → Tokens → Result Program StyleFault) →
     ((stage : Stage) (p : Program) (tokens : Tokens) (q : Program) → P p → later stage p tokens ≡ Ok q → P q) →
     (stage : Stage) (p q : Program) → P p → (found : Option (List ℕ × ℕ × Tokens)) → behind_word later stage p found ≡ Ok q → P q
 after_word P k later keeps stage p q g None h = subst P (ok_same p q h) g

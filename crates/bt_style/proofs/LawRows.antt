@@ -6,7 +6,7 @@ use Rattle.bt_style.specs.declared.fault.FaultKind.TheVariants.{UnknownName, Unc
 use Rattle.bt_style.specs.Builtins.{table, place_of}
 use Rattle.bt_style.specs.Names.{builtin_named, place_in, target_named}
 use Rattle.bt_style.specs.Token.{Word, Glued, piece_at, literal_piece}
-use Rattle.bt_style.specs.declared.fault.Fault.{Fault}
+use Rattle.bt_style.specs.declared.fault.StyleFault.{StyleFault}
 use Rattle.bt_style.specs.declared.builtin.Builtin.TheVariants.{Skip}
 use Rattle.bt_style.specs.declared.style.Target.{Target}
 use Rattle.bt_style.specs.declared.style.Target.TheVariants as targets
@@ -77,7 +77,7 @@ unfolding table
 no_place = refl
 
 -- the names in the bodies of a style's functions
-abbrev names_in : Result Program Fault → List (List Target)
+abbrev names_in : Result Program StyleFault → List (List Target)
 names_in (Ok p) = map (λ f. body_names f.body) p.functions
 names_in (Err f) = []
 
@@ -87,7 +87,7 @@ unfolding spelled
 earlier_functions = refl
 
 -- what a name stands for in a style
-abbrev found_in : Result Program Fault → List ℕ → Option Target
+abbrev found_in : Result Program StyleFault → List ℕ → Option Target
 found_in (Ok p) name = target_named p name
 found_in (Err f) name = None
 

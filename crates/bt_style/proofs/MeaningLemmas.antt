@@ -6,7 +6,7 @@ use Rattle.std.proofs.lemmas.List.{map-append}
 use Rattle.std.proofs.Common.{◌≡◌, ◌∙◌, inl, inr, ap, sym, refl, subst, ℕ, zero, suc, Bool, true, false, cond, List, [], ◌∷◌, ◌++◌, length, Option, Some, None, Result, Ok, Err}
 use Rattle.bt_text.specs.Folding.{folded}
 use Rattle.bt_text.specs.NameBytes.{is_name}
-use Rattle.bt_style.specs.declared.fault.Fault.{Fault}
+use Rattle.bt_style.specs.declared.fault.StyleFault.{StyleFault}
 use Rattle.bt_style.specs.declared.names.Names.{Names}
 use Rattle.bt_style.specs.declared.names.Names.TheVariants.{Fields, EntryNumbers, EntryTexts, GlobalNumbers, GlobalTexts}
 use Rattle.bt_style.specs.declared.style.Target.TheVariants as targets
@@ -55,8 +55,8 @@ new_found f g make names name more new h n x e = elim (pushed names name n x e) 
 
 -- A new name
 
-free_by : (taken : List ℕ → Bool) (word name : List ℕ) (a b : Bool) (e f : Fault) → taken (folded word) ≡ b →
-    ◌≡◌ {A = Result (List ℕ) Fault} (cond (not a) (Err e) (cond b (Err f) (Ok (folded word)))) (Ok name) → taken name ≡ false
+free_by : (taken : List ℕ → Bool) (word name : List ℕ) (a b : Bool) (e f : StyleFault) → taken (folded word) ≡ b →
+    ◌≡◌ {A = Result (List ℕ) StyleFault} (cond (not a) (Err e) (cond b (Err f) (Ok (folded word)))) (Ok name) → taken name ≡ false
 free_by taken word name true true e f is h = cc
 free_by taken word name true false e f is h = (let same : folded word ≡ name = cc h in subst (λ (x : List ℕ). taken x ≡ false) same is)
 free_by taken word name false b e f is h = cc

@@ -1,7 +1,7 @@
 -- A fault at a word is reported on the word's line.
 use Rattle.std.specs.Prelude.{ℕ, ◌≡◌, ◌^◌, ◌-◌, Bool, true, false, List, Option, Some, None, Result, Ok, Err, length, drop, not, nat_lt, ◌==◌}
 use Rattle.std.proofs.Common.{refl, subst, cond}
-use Rattle.bt_style.specs.declared.fault.Fault.{Fault}
+use Rattle.bt_style.specs.declared.fault.StyleFault.{StyleFault}
 use Rattle.bt_style.specs.declared.fault.FaultKind.{FaultKind}
 use Rattle.bt_style.specs.declared.fault.FaultKind.TheVariants.{NumberTooLarge, NameTaken, BadName, StrayByte}
 use Rattle.std.specs.List.{take_while}
@@ -20,15 +20,15 @@ use Rattle.bt_style.specs.Elements.{decimal, size_at, number_at, quoted_at, word
 use Rattle.bt_style.specs.Verbs.{verb_of, in_order}
 
 -- a fault that is reported is on this line
-abbrev OnIt : {A : Type 0} → ℕ → Result A Fault → Type 0
+abbrev OnIt : {A : Type 0} → ℕ → Result A StyleFault → Type 0
 OnIt line (Ok x) = Unit {0}
 OnIt line (Err f) = f.line ≡ line
 
-pub record IsOn {A : Type 0} (line : ℕ) (r : Result A Fault) : Type 0 where
+pub record IsOn {A : Type 0} (line : ℕ) (r : Result A StyleFault) : Type 0 where
   pub by : OnIt line r
 
-pub on_line : {A : Type 0} (line : ℕ) (r : Result A Fault) (f : Fault) → IsOn line r → r ≡ Err f → f.line ≡ line
-on_line {A = A} line r f on e = (subst (λ (x : Result A Fault). IsOn line x) e on).by
+pub on_line : {A : Type 0} (line : ℕ) (r : Result A StyleFault) (f : StyleFault) → IsOn line r → r ≡ Err f → f.line ≡ line
+on_line {A = A} line r f on e = (subst (λ (x : Result A StyleFault). IsOn line x) e on).by
 
 fault_on : {A : Type 0} {line : ℕ} {kind : FaultKind} → IsOn {A = A} line (fault kind line)
 fault_on = record { by = refl }
@@ -36,11 +36,11 @@ fault_on = record { by = refl }
 ok_on : {A : Type 0} {line : ℕ} {a : A} → IsOn {A = A} line (Ok a)
 ok_on = record { by = tt }
 
-on_if : {A : Type 0} {line : ℕ} (v : Bool) {x y : Result A Fault} → IsOn line x → IsOn line y → IsOn line (cond v x y)
+on_if : {A : Type 0} {line : ℕ} (v : Bool) {x y : Result A StyleFault} → IsOn line x → IsOn line y → IsOn line (cond v x y)
 on_if true a b = a
 on_if false a b = b
 
-on_then : {A B : Type 0} {line : ℕ} {r : Result A Fault} {k : A → Result B Fault} → IsOn line r → ((a : A) → IsOn line (k a)) → IsOn line (r >>= k)
+on_then : {A B : Type 0} {line : ℕ} {r : Result A StyleFault} {k : A → Result B StyleFault} → IsOn line r → ((a : A) → IsOn line (k a)) → IsOn line (r >>= k)
 on_then {r = Ok a} on next = next a
 on_then {r = Err f} on next = record { by = on.by }
 

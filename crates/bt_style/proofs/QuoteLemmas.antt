@@ -9,7 +9,7 @@ use Rattle.std.proofs.Common.{◌≡◌, ◌∙◌, ap, refl, subst, ℕ, suc, �
 use Rattle.bt_text.specs.ByteTests.{is_digit}
 use Rattle.bt_text.specs.Folding.{folded}
 use Rattle.bt_text.specs.NameBytes.{is_name, is_name_byte}
-use Rattle.bt_style.specs.declared.fault.Fault.{Fault}
+use Rattle.bt_style.specs.declared.fault.StyleFault.{StyleFault}
 use Rattle.bt_style.specs.declared.names.Names.{Names}
 use Rattle.bt_style.specs.declared.style.Target.TheVariants as targets
 use Rattle.bt_style.specs.Program.{Program}
@@ -64,8 +64,8 @@ record IsNew (taken : List ℕ → Bool) (name : List ℕ) : Type 0 where
   free : taken name ≡ false
   other : bytes_eq name quote ≡ false
 
-new_by : (taken : List ℕ → Bool) (word name : List ℕ) (a b : Bool) (e f : Fault) → is_name word ≡ a → taken (folded word) ≡ b →
-    ◌≡◌ {A = Result (List ℕ) Fault} (cond (not a) (Err e) (cond b (Err f) (Ok (folded word)))) (Ok name) → IsNew taken name
+new_by : (taken : List ℕ → Bool) (word name : List ℕ) (a b : Bool) (e f : StyleFault) → is_name word ≡ a → taken (folded word) ≡ b →
+    ◌≡◌ {A = Result (List ℕ) StyleFault} (cond (not a) (Err e) (cond b (Err f) (Ok (folded word)))) (Ok name) → IsNew taken name
 new_by taken word name true true e f is free h = cc
 new_by taken word name true false e f is free h = subst (IsNew taken) (ok_same (folded word) name h) (record { free = free; other = differs word is })
 new_by taken word name false b e f is free h = cc
@@ -103,8 +103,8 @@ unfolding style_of reading
 quote_names_nothing text p h = commands_keep Quoteless quoteless_kept (suc (count (tokens_of text))) BeforeEntry preset (tokens_of text) p preset_quoteless h
 
 -- what a quote is refused with
-pub run_refuses : (p : Program) → Quoteless p → (line : ℕ) → (f : Fault) × (run_target p quote line ≡ Err f)
+pub run_refuses : (p : Program) → Quoteless p → (line : ℕ) → (f : StyleFault) × (run_target p quote line ≡ Err f)
 run_refuses p q line = (_, ap (λ o. target_or_fault o line >>= λ t. runnable t line) q)
 
-pub new_refuses : (taken : List ℕ → Bool) → (line : ℕ) → (f : Fault) × (new_name taken quote line ≡ Err f)
+pub new_refuses : (taken : List ℕ → Bool) → (line : ℕ) → (f : StyleFault) × (new_name taken quote line ≡ Err f)
 new_refuses taken line = (_, refl)

@@ -2,7 +2,7 @@
 use Rattle.std.proofs.Common.{◌≡◌, ◌≤◌, ◌<◌, ◌+◌, ℕ, true, List, [], ◌∷◌, ◌++◌, length, refl, sym, ◌∙◌, ap, Result, Ok, arith}
 use Rattle.std.specs.Prelude.{nat_lt}
 use Rattle.std.proofs.lemmas.Bool.{cond-true}
-use Rattle.bt_style.specs.declared.fault.Fault.{Fault}
+use Rattle.bt_style.specs.declared.fault.StyleFault.{StyleFault}
 use Rattle.bt_style.specs.declared.fault.FaultKind.TheVariants.{UnclosedBrace}
 use Rattle.bt_style.specs.Token.{Open, Close, Word, Literal, Tokens, Front}
 use Rattle.bt_style.specs.Tree.{Element, Words, Braced, Body, End, Then, body_of}
@@ -27,7 +27,7 @@ some_depth End = omega arith
 some_depth (Then e b) = omega (arith, some_depth b)
 
 -- what is read once the body that is open is closed
-abbrev closed : Program → List (List Element) → List Element → Tokens → Result (Body × Tokens) Fault
+abbrev closed : Program → List (List Element) → List Element → Tokens → Result (Body × Tokens) StyleFault
 closed p [] now rest = Ok (body_of now, rest)
 closed p (before ∷ outer) now rest = body_at p outer (before ++ Braced (body_of now) ∷ []) rest
 
@@ -39,7 +39,7 @@ close_read p (before ∷ outer) now line rest = refl
 word_read : (p : Program) (outer : List (List Element)) (now : List Element) (e : Element) (word : List ℕ) (line : ℕ) (rest : Tokens) → word_element p word line ≡ Ok e →
     body_at p outer now (Front (Word word) line rest) ≡ body_at p outer (now ++ e ∷ []) rest
 unfolding body_at
-word_read p outer now e word line rest h = ap (λ (r : Result Element Fault). r >>= λ e. body_at p outer (now ++ e ∷ []) rest) h
+word_read p outer now e word line rest h = ap (λ (r : Result Element StyleFault). r >>= λ e. body_at p outer (now ++ e ∷ []) rest) h
 
 literal_read : (p : Program) (outer : List (List Element)) (now : List Element) (bytes : List ℕ) (line : ℕ) (rest : Tokens) →
     body_at p outer now (Front (Literal bytes) line rest) ≡ body_at p outer (now ++ Words bytes ∷ []) rest

@@ -4,9 +4,9 @@ use Rattle.std.specs.List.{list_all}
 use Rattle.std.specs.Prelude.{true, ◌&&◌}
 use Rattle.std.proofs.lemmas.List.Folds.{list_all-append}
 use Rattle.std.proofs.Common.{◌≡◌, ℕ, ◌≤◌, List, [], ◌∷◌, ◌++◌, Result, Ok, Err, refl, sym, ◌∙◌, ap, subst, append_assoc, arith}
-use Rattle.bt_style.specs.declared.fault.Fault.{Fault}
+use Rattle.bt_style.specs.declared.fault.StyleFault.{StyleFault}
 use Rattle.bt_style.specs.Fault.{◌>>=◌}
-use Rattle.bt_style.specs.Token.{Token, Open, Close, Word, Literal, Unclosed, Glued, Tokens, AtEnd, Front, tokens_behind, count}
+use Rattle.bt_style.specs.Token.{Token, Open, Close, Word, Literal, Unclosed, Glued, Tokens, AtEnd, Front, tokens_after, count}
 use Rattle.bt_style.specs.Laws.{is_byte, in_front, first_line, BeginsAs}
 
 pub in_front_append : (front more : List (Token × ℕ)) (rest : Tokens) → in_front (front ++ more) rest ≡ in_front front (in_front more rest)
@@ -38,14 +38,14 @@ pub bytes_append : (xs ys : List ℕ) → list_all is_byte xs ≡ true → list_
 bytes_append xs ys a b = list_all-append is_byte xs ys ∙ ap (λ v. v && list_all is_byte ys) a ∙ b
 
 -- These bytes are read, and what stands after them is left.
-pub record Completes {A Y : Type 0} (pair : A → Tokens → Y) (r : Tokens → Result Y Fault) (line : ℕ) : Type 0 where
+pub record Completes {A Y : Type 0} (pair : A → Tokens → Y) (r : Tokens → Result Y StyleFault) (line : ℕ) : Type 0 where
   pub bytes : List ℕ
   pub are_bytes : list_all is_byte bytes ≡ true
   pub value : A
-  pub reads : (behind : List ℕ) → r (tokens_behind 0 line (bytes ++ behind)) ≡ Ok (pair value (tokens_behind 0 line behind))
+  pub reads : (behind : List ℕ) → r (tokens_after 0 line (bytes ++ behind)) ≡ Ok (pair value (tokens_after 0 line behind))
 
 -- Some tokens are taken, whatever stands after them. They are plain if Q holds, as those before a fault.
-pub record Takes {A Y : Type 0} (Q : Type 0) (pair : A → Tokens → Y) (r : Tokens → Result Y Fault) (tokens : Tokens) : Type 0 where
+pub record Takes {A Y : Type 0} (Q : Type 0) (pair : A → Tokens → Y) (r : Tokens → Result Y StyleFault) (tokens : Tokens) : Type 0 where
   pub used : List (Token × ℕ)
   pub value : A
   pub rest : Tokens
@@ -54,21 +54,21 @@ pub record Takes {A Y : Type 0} (Q : Type 0) (pair : A → Tokens → Y) (r : To
   pub plain : Q → ArePlain used
 
 -- there is a fault at a token, whatever stands after it; bytes in its place complete what is before it
-pub record Stops {A Y : Type 0} (Q : Type 0) (pair : A → Tokens → Y) (r : Tokens → Result Y Fault) (tokens : Tokens) : Type 0 where
+pub record Stops {A Y : Type 0} (Q : Type 0) (pair : A → Tokens → Y) (r : Tokens → Result Y StyleFault) (tokens : Tokens) : Type 0 where
   pub front : List (Token × ℕ)
   pub here : Tokens
-  pub fault : Fault
+  pub fault : StyleFault
   pub whole : tokens ≡ in_front front here
   pub line : fault.line ≡ first_line here
   pub final : (other : Tokens) → BeginsAs here other → r (in_front front other) ≡ Err fault
   pub first : (line : ℕ) → Completes pair (λ t. r (in_front front t)) line
   pub plain : Q → ArePlain front
 
-pub data Reads {A Y : Type 0} (Q : Type 0) (pair : A → Tokens → Y) (r : Tokens → Result Y Fault) (tokens : Tokens) : Type 0 where
+pub data Reads {A Y : Type 0} (Q : Type 0) (pair : A → Tokens → Y) (r : Tokens → Result Y StyleFault) (tokens : Tokens) : Type 0 where
   Took : Takes Q pair r tokens → Reads Q pair r tokens
   Stopped : Stops Q pair r tokens → Reads Q pair r tokens
 
-pub record Reader {A Y : Type 0} (Q : Type 0) (pair : A → Tokens → Y) (r : Tokens → Result Y Fault) : Type 0 where
+pub record Reader {A Y : Type 0} (Q : Type 0) (pair : A → Tokens → Y) (r : Tokens → Result Y StyleFault) : Type 0 where
   pub reads : (tokens : Tokens) → Reads Q pair r tokens
   pub done : (line : ℕ) → Completes pair r line
 
@@ -80,7 +80,7 @@ just pair a = record {
 }
 
 -- one reader after another
-then_done : {A B Y Z : Type 0} (pair : A → Tokens → Y) (other : B → Tokens → Z) (r : Tokens → Result Y Fault) (k : Y → Result Z Fault) (line : ℕ) →
+then_done : {A B Y Z : Type 0} (pair : A → Tokens → Y) (other : B → Tokens → Z) (r : Tokens → Result Y StyleFault) (k : Y → Result Z StyleFault) (line : ℕ) →
     Completes pair r line → ((a : A) → Completes other (λ t. k (pair a t)) line) → Completes other (λ t. r t >>= k) line
 then_done pair other r k line d next =
     let e = next d.value in
@@ -89,11 +89,11 @@ then_done pair other r k line d next =
       are_bytes = bytes_append d.bytes e.bytes d.are_bytes e.are_bytes;
       value = e.value;
       reads = λ behind.
-          ap (λ bs. r (tokens_behind 0 line bs) >>= k) (append_assoc d.bytes e.bytes behind)
+          ap (λ bs. r (tokens_after 0 line bs) >>= k) (append_assoc d.bytes e.bytes behind)
           ∙ ap (λ x. x >>= k) (d.reads (e.bytes ++ behind)) ∙ e.reads behind;
     }
 
-behind_taken : {A B Y Z Q : Type 0} (pair : A → Tokens → Y) (other : B → Tokens → Z) (r : Tokens → Result Y Fault) (k : Y → Result Z Fault) (tokens : Tokens) →
+behind_taken : {A B Y Z Q : Type 0} (pair : A → Tokens → Y) (other : B → Tokens → Z) (r : Tokens → Result Y StyleFault) (k : Y → Result Z StyleFault) (tokens : Tokens) →
     (t : Takes Q pair r tokens) → Reads Q other (λ u. k (pair t.value u)) t.rest → Reads Q other (λ u. r u >>= k) tokens
 behind_taken pair other r k tokens t (Took u) = Took (record {
   used = t.used ++ u.used;
@@ -113,11 +113,11 @@ behind_taken pair other r k tokens t (Stopped s) =
       whole = t.whole ∙ ap (in_front t.used) s.whole ∙ sym (in_front_append t.used s.front s.here);
       line = s.line;
       final = λ o a. on o ∙ s.final o a;
-      first = λ line. (let d = s.first line in record { bytes = d.bytes; are_bytes = d.are_bytes; value = d.value; reads = λ behind. on (tokens_behind 0 line (d.bytes ++ behind)) ∙ d.reads behind });
+      first = λ line. (let d = s.first line in record { bytes = d.bytes; are_bytes = d.are_bytes; value = d.value; reads = λ behind. on (tokens_after 0 line (d.bytes ++ behind)) ∙ d.reads behind });
       plain = λ q. plain_append t.used s.front (t.plain q) (s.plain q);
     })
 
-then_reads : {A B Y Z Q : Type 0} (pair : A → Tokens → Y) (other : B → Tokens → Z) (r : Tokens → Result Y Fault) (k : Y → Result Z Fault) (tokens : Tokens) →
+then_reads : {A B Y Z Q : Type 0} (pair : A → Tokens → Y) (other : B → Tokens → Z) (r : Tokens → Result Y StyleFault) (k : Y → Result Z StyleFault) (tokens : Tokens) →
     Reads Q pair r tokens → ((a : A) → Reader Q other (λ t. k (pair a t))) → Reads Q other (λ t. r t >>= k) tokens
 then_reads pair other r k tokens (Took t) next = behind_taken pair other r k tokens t ((next t.value).reads t.rest)
 then_reads pair other r k tokens (Stopped s) next = Stopped (record {
@@ -131,7 +131,7 @@ then_reads pair other r k tokens (Stopped s) next = Stopped (record {
   plain = s.plain;
 })
 
-pub then : {A B Y Z Q : Type 0} (pair : A → Tokens → Y) (other : B → Tokens → Z) (r : Tokens → Result Y Fault) (k : Y → Result Z Fault) →
+pub then : {A B Y Z Q : Type 0} (pair : A → Tokens → Y) (other : B → Tokens → Z) (r : Tokens → Result Y StyleFault) (k : Y → Result Z StyleFault) →
     Reader Q pair r → ((a : A) → Reader Q other (λ t. k (pair a t))) → Reader Q other (λ t. r t >>= k)
 then pair other r k first next = record {
   reads = λ tokens. then_reads pair other r k tokens (first.reads tokens) next;
@@ -139,7 +139,7 @@ then pair other r k first next = record {
 }
 
 -- one token, and then another reader
-pub goes_on : {A Y Q : Type 0} (pair : A → Tokens → Y) (r s : Tokens → Result Y Fault) (token : Token) (line : ℕ) (rest : Tokens) →
+pub goes_on : {A Y Q : Type 0} (pair : A → Tokens → Y) (r s : Tokens → Result Y StyleFault) (token : Token) (line : ℕ) (rest : Tokens) →
     (Q → IsPlain token) → ((t : Tokens) → r (Front token line t) ≡ s t) → Reads Q pair s rest → Reads Q pair r (Front token line rest)
 goes_on pair r s token line rest is e (Took t) = Took (record {
   used = (token, line) ∷ t.used;
@@ -156,17 +156,17 @@ goes_on pair r s token line rest is e (Stopped x) = Stopped (record {
   whole = ap (Front token line) x.whole;
   line = x.line;
   final = λ o a. e (in_front x.front o) ∙ x.final o a;
-  first = λ l. (let d = x.first l in record { bytes = d.bytes; are_bytes = d.are_bytes; value = d.value; reads = λ behind. e (in_front x.front (tokens_behind 0 l (d.bytes ++ behind))) ∙ d.reads behind });
+  first = λ l. (let d = x.first l in record { bytes = d.bytes; are_bytes = d.are_bytes; value = d.value; reads = λ behind. e (in_front x.front (tokens_after 0 l (d.bytes ++ behind))) ∙ d.reads behind });
   plain = λ q. (is q, x.plain q);
 })
 
 -- one token alone
-pub takes_one : {A Y Q : Type 0} (pair : A → Tokens → Y) (r : Tokens → Result Y Fault) (token : Token) (line : ℕ) (rest : Tokens) (a : A) →
+pub takes_one : {A Y Q : Type 0} (pair : A → Tokens → Y) (r : Tokens → Result Y StyleFault) (token : Token) (line : ℕ) (rest : Tokens) (a : A) →
     (Q → IsPlain token) → ((t : Tokens) → r (Front token line t) ≡ Ok (pair a t)) → Reads Q pair r (Front token line rest)
 takes_one pair r token line rest a is e = Took (record { used = (token, line) ∷ []; value = a; rest = rest; whole = refl; reads = e; plain = λ q. (is q, tt) })
 
 -- a token that is refused, and an end
-pub refuses : {A Y Q : Type 0} (pair : A → Tokens → Y) (r : Tokens → Result Y Fault) (token : Token) (line : ℕ) (rest : Tokens) (f : Fault) → f.line ≡ line →
+pub refuses : {A Y Q : Type 0} (pair : A → Tokens → Y) (r : Tokens → Result Y StyleFault) (token : Token) (line : ℕ) (rest : Tokens) (f : StyleFault) → f.line ≡ line →
     ((t : Tokens) → r (Front token line t) ≡ Err f) → ((line : ℕ) → Completes pair r line) → Reads Q pair r (Front token line rest)
 refuses pair r token line rest f at e done = Stopped (record {
   front = [];
@@ -179,7 +179,7 @@ refuses pair r token line rest f at e done = Stopped (record {
   plain = λ q. tt;
 })
 
-pub refuses_end : {A Y Q : Type 0} (pair : A → Tokens → Y) (r : Tokens → Result Y Fault) (line : ℕ) (f : Fault) → f.line ≡ line →
+pub refuses_end : {A Y Q : Type 0} (pair : A → Tokens → Y) (r : Tokens → Result Y StyleFault) (line : ℕ) (f : StyleFault) → f.line ≡ line →
     r (AtEnd line) ≡ Err f → ((line : ℕ) → Completes pair r line) → Reads Q pair r (AtEnd line)
 refuses_end pair r line f at e done = Stopped (record {
   front = [];

@@ -4,7 +4,7 @@ use Rattle.std.specs.List.{list_all}
 use Rattle.bt_style.specs.Laws.{is_byte}
 use Rattle.std.proofs.Common.{◌≡◌, ◌∙◌, ap, sym, suc, refl, ℕ, Bool, true, false, List, [], ◌∷◌, ◌++◌, length, codes, Result, Ok, Err, append_assoc}
 use Rattle.std.proofs.lemmas.Bool.{cond-true, cond-false}
-use Rattle.bt_style.specs.declared.fault.Fault.{Fault}
+use Rattle.bt_style.specs.declared.fault.StyleFault.{StyleFault}
 use Rattle.bt_style.specs.declared.fault.FaultKind.TheVariants as kinds
 use Rattle.bt_style.specs.declared.builtin.Builtin.TheVariants.{Skip}
 use Rattle.bt_style.specs.declared.style.Target.{Target}
@@ -19,7 +19,7 @@ use Rattle.bt_style.specs.Builtins.{table}
 use Rattle.bt_style.specs.Tree.{Element, Words, Braced, Body, body_of}
 use Rattle.bt_style.specs.Program.{Program}
 use Rattle.bt_style.specs.Fault.{◌>>=◌}
-use Rattle.bt_style.specs.Token.{Token, Open, Close, Word, Literal, Unclosed, Glued, Tokens, AtEnd, Front, tokens_behind, piece_at, literal_piece}
+use Rattle.bt_style.specs.Token.{Token, Open, Close, Word, Literal, Unclosed, Glued, Tokens, AtEnd, Front, tokens_after, piece_at, literal_piece}
 use Rattle.bt_style.specs.Names.{target_named, builtin_named, is_taken, is_macro}
 use Rattle.bt_style.specs.Draft.{with_name, with_macro, with_function, with_command}
 use Rattle.bt_style.specs.Arguments.{open_at, close_at, word_at, braced_word, literal_at}
@@ -77,48 +77,48 @@ close_reader = record { reads = close_reads; done = close_done }
 
 -- a test of a word tells its fault on the word's line, and there is a word that it takes; a quote isn't taken, if Q
 -- holds
-record Takable {A : Type 0} (Q : Type 0) (take : List ℕ → ℕ → Result A Fault) : Type 0 where
+record Takable {A : Type 0} (Q : Type 0) (take : List ℕ → ℕ → Result A StyleFault) : Type 0 where
   pub on : (word : List ℕ) (line : ℕ) → IsOn line (take word line)
-  pub refuses : Q → (line : ℕ) → (f : Fault) × (take (codes "\"") line ≡ Err f)
+  pub refuses : Q → (line : ℕ) → (f : StyleFault) × (take (codes "\"") line ≡ Err f)
   pub word : List ℕ
   pub are_bytes : list_all is_byte word ≡ true
-  pub spelled : (line : ℕ) (behind : List ℕ) → tokens_behind 0 line (word ++ 125 ∷ behind) ≡ Front (Word word) line (tokens_behind 0 line (125 ∷ behind))
+  pub spelled : (line : ℕ) (behind : List ℕ) → tokens_after 0 line (word ++ 125 ∷ behind) ≡ Front (Word word) line (tokens_after 0 line (125 ∷ behind))
   pub value : A
   pub taken : (line : ℕ) → take word line ≡ Ok value
 
 -- after the brace that opens
-abbrev inside : {A : Type 0} → (List ℕ → ℕ → Result A Fault) → Tokens → Result (A × Tokens) Fault
+abbrev inside : {A : Type 0} → (List ℕ → ℕ → Result A StyleFault) → Tokens → Result (A × Tokens) StyleFault
 inside take t = word_at t >>= λ word. take word.0.0 word.0.1 >>= λ value. close_at word.1 >>= λ rest. Ok (value, rest)
 
 -- after the word
-abbrev closing : {A : Type 0} → Tokens → A → Result (A × Tokens) Fault
+abbrev closing : {A : Type 0} → Tokens → A → Result (A × Tokens) StyleFault
 closing t value = close_at t >>= λ rest. Ok (value, rest)
 
 closing_reader : {A Q : Type 0} (value : A) → Reader Q with_rest (λ t. closing t value)
 closing_reader value = then rest_alone with_rest close_at (λ rest. Ok (value, rest)) close_reader (λ u. just with_rest value)
 
-inside_done : {A Q : Type 0} (take : List ℕ → ℕ → Result A Fault) → Takable Q take → (line : ℕ) → Completes with_rest (inside take) line
+inside_done : {A Q : Type 0} (take : List ℕ → ℕ → Result A StyleFault) → Takable Q take → (line : ℕ) → Completes with_rest (inside take) line
 inside_done take k line = record {
   bytes = k.word ++ 125 ∷ [];
   are_bytes = bytes_append k.word (125 ∷ []) k.are_bytes refl;
   value = k.value;
   reads = λ behind.
-      ap (λ bs. inside take (tokens_behind 0 line bs)) (append_assoc k.word (125 ∷ []) behind)
+      ap (λ bs. inside take (tokens_after 0 line bs)) (append_assoc k.word (125 ∷ []) behind)
       ∙ ap (inside take) (k.spelled line behind ∙ ap (Front (Word k.word) line) (close_step line behind))
-      ∙ ap (λ x. x >>= closing (Front Close line (tokens_behind 0 line behind))) (k.taken line);
+      ∙ ap (λ x. x >>= closing (Front Close line (tokens_after 0 line behind))) (k.taken line);
 }
 
-inside_word : {A Q : Type 0} (take : List ℕ → ℕ → Result A Fault) (k : Takable Q take) (token : Token) (word : List ℕ) (line : ℕ) (rest : Tokens) (x : Result A Fault) →
+inside_word : {A Q : Type 0} (take : List ℕ → ℕ → Result A StyleFault) (k : Takable Q take) (token : Token) (word : List ℕ) (line : ℕ) (rest : Tokens) (x : Result A StyleFault) →
     take word line ≡ x → (Q → (value : A) → take word line ≡ Ok value → IsPlain token) → ((t : Tokens) → inside take (Front token line t) ≡ (take word line >>= closing t)) → Reads Q with_rest (inside take) (Front token line rest)
 inside_word take k token word line rest (Ok value) e is on =
     goes_on with_rest (inside take) (λ t. closing t value) token line rest (λ q. is q value e) (λ t. on t ∙ ap (λ x. x >>= closing t) e) ((closing_reader value).reads rest)
 inside_word take k token word line rest (Err f) e is on =
     refuses with_rest (inside take) token line rest f (on_line line (take word line) f (k.on word line) e) (λ t. on t ∙ ap (λ x. x >>= closing t) e) (inside_done take k)
 
-not_taken : {A : Type 0} (r : Result A Fault) (value : A) → (f : Fault) × (r ≡ Err f) → r ≡ Ok value → ⊥
+not_taken : {A : Type 0} (r : Result A StyleFault) (value : A) → (f : StyleFault) × (r ≡ Err f) → r ≡ Ok value → ⊥
 not_taken r value f h = (let no_way : Err f.0 ≡ Ok value = sym f.1 ∙ h in cc no_way)
 
-inside_reads : {A Q : Type 0} (take : List ℕ → ℕ → Result A Fault) → Takable Q take → (tokens : Tokens) → Reads Q with_rest (inside take) tokens
+inside_reads : {A Q : Type 0} (take : List ℕ → ℕ → Result A StyleFault) → Takable Q take → (tokens : Tokens) → Reads Q with_rest (inside take) tokens
 inside_reads take k (AtEnd line) = refuses_end with_rest (inside take) line _ refl refl (inside_done take k)
 inside_reads take k (Front Open line rest) = refuses with_rest (inside take) Open line rest _ refl (λ t. refl) (inside_done take k)
 inside_reads take k (Front Close line rest) = refuses with_rest (inside take) Close line rest _ refl (λ t. refl) (inside_done take k)
@@ -128,7 +128,7 @@ inside_reads take k (Front Unclosed line rest) = inside_word take k Unclosed (co
 inside_reads take k (Front Glued line rest) =
     inside_word take k Glued (codes "\"") line rest (take (codes "\"") line) refl (λ q v h. not_taken (take (codes "\"") line) v (k.refuses q line) h) (λ t. refl)
 
-braced_reader : {A Q : Type 0} (take : List ℕ → ℕ → Result A Fault) → Takable Q take → Reader Q with_rest (braced_word take)
+braced_reader : {A Q : Type 0} (take : List ℕ → ℕ → Result A StyleFault) → Takable Q take → Reader Q with_rest (braced_word take)
 braced_reader take k = then rest_alone with_rest open_at (inside take) open_reader (λ u. record { reads = inside_reads take k; done = inside_done take k })
 
 -- a new function's name, a new macro's, and what can be run
@@ -154,8 +154,8 @@ new_macro p = record {
   taken = λ line. fresh_declared (is_macro p) p line (fresh_is_no_macro p);
 }
 
-skip_spelled : (line : ℕ) (behind : List ℕ) → tokens_behind 0 line (codes "skip$" ++ 125 ∷ behind) ≡ Front (Word (codes "skip$")) line (tokens_behind 0 line (125 ∷ behind))
-unfolding tokens_behind piece_at
+skip_spelled : (line : ℕ) (behind : List ℕ) → tokens_after 0 line (codes "skip$" ++ 125 ∷ behind) ≡ Front (Word (codes "skip$")) line (tokens_after 0 line (125 ∷ behind))
+unfolding tokens_after piece_at
 skip_spelled line behind = refl
 
 skip_taken : (p : Program) (line : ℕ) → run_target p (codes "skip$") line ≡ Ok (targets.Builtin Skip)
@@ -179,7 +179,7 @@ names_done : (names : Names) (p : Program) (line : ℕ) → Completes with_rest 
 unfolding names_at
 names_done names p line = record { bytes = 125 ∷ []; are_bytes = refl; value = p; reads = λ behind. ap (names_at names p) (close_step line behind) }
 
-names_word : {Q : Type 0} (names : Names) (p : Program) (word : List ℕ) (line : ℕ) (rest : Tokens) (x : Result (List ℕ) Fault) → new_name (is_taken p) word line ≡ x →
+names_word : {Q : Type 0} (names : Names) (p : Program) (word : List ℕ) (line : ℕ) (rest : Tokens) (x : Result (List ℕ) StyleFault) → new_name (is_taken p) word line ≡ x →
     ((name : List ℕ) → Reads Q with_rest (names_at names (with_name names name p)) rest) → Reads Q with_rest (names_at names p) (Front (Word word) line rest)
 unfolding names_at
 names_word names p word line rest (Ok name) e later =
@@ -204,7 +204,7 @@ braced_names_reader names p = then rest_alone with_rest open_at (names_at names 
 -- The text of a macro
 
 literal_done : (line : ℕ) → Completes with_rest literal_at line
-unfolding tokens_behind piece_at literal_piece
+unfolding tokens_after piece_at literal_piece
 literal_done line = record { bytes = 34 ∷ 34 ∷ 32 ∷ []; are_bytes = refl; value = []; reads = λ behind. refl }
 
 literal_reads : {Q : Type 0} (tokens : Tokens) → Reads Q with_rest literal_at tokens
@@ -242,7 +242,7 @@ body_open p outer now line rest false e later =
     refuses with_rest (body_at p outer now) Open line rest (record { kind = kinds.UnclosedBrace; line = line }) refl
     (λ t. cond-false (nat_lt (length outer) 99) (body_at p (now ∷ outer) [] t) (Err (record { kind = kinds.UnclosedBrace; line = line })) e) (body_done p outer now)
 
-body_word : {Q : Type 0} (p : Program) (outer : List (List Element)) (now : List Element) (word : List ℕ) (line : ℕ) (rest : Tokens) (x : Result Element Fault) → word_element p word line ≡ x →
+body_word : {Q : Type 0} (p : Program) (outer : List (List Element)) (now : List Element) (word : List ℕ) (line : ℕ) (rest : Tokens) (x : Result Element StyleFault) → word_element p word line ≡ x →
     ((e : Element) → Reads Q with_rest (body_at p outer (now ++ e ∷ [])) rest) → Reads Q with_rest (body_at p outer now) (Front (Word word) line rest)
 unfolding body_at
 body_word p outer now word line rest (Ok element) e later =

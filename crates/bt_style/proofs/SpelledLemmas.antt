@@ -1,7 +1,7 @@
 -- The tree that is read from tokens is the one that they spell.
 use Rattle.std.proofs.Common.{◌≡◌, Bool, true, false, cond, List, [], ◌∷◌, ◌++◌, length, refl, sym, ◌∙◌, ap, subst, Result, Ok, Err}
 use Rattle.std.specs.Prelude.{nat_lt}
-use Rattle.bt_style.specs.declared.fault.Fault.{Fault}
+use Rattle.bt_style.specs.declared.fault.StyleFault.{StyleFault}
 use Rattle.bt_style.specs.Token.{Open, Close, Word, Literal, Unclosed, Glued, Tokens, AtEnd, Front}
 use Rattle.bt_style.specs.Tree.{Element, Words, Braced, Body, End, Then, body_of}
 use Rattle.bt_style.specs.Program.{Program}
@@ -36,15 +36,15 @@ fills_push p (front ∷ outer) now e tokens mid b rest s f =
     let P : Body → Type 0 = λ x. Fills p outer (front ++ Braced x ∷ []) f.1 b rest in
     (Then e f.0, f.1, ByElement s f.2, subst P (before_push now e f.0) f.3)
 
-pub bind_ok : {A B : Type 0} (r : Result A Fault) (f : A → Result B Fault) (y : B) → (r >>= f) ≡ Ok y → (x : A) × (r ≡ Ok x) × (f x ≡ Ok y)
+pub bind_ok : {A B : Type 0} (r : Result A StyleFault) (f : A → Result B StyleFault) (y : B) → (r >>= f) ≡ Ok y → (x : A) × (r ≡ Ok x) × (f x ≡ Ok y)
 bind_ok (Ok x) f y h = (x, refl, h)
 bind_ok (Err e) f y h = cc
 
-pub guard_ok : {B : Type 0} (test : Bool) (r : Result B Fault) (e : Fault) (y : B) → cond test r (Err e) ≡ Ok y → r ≡ Ok y
+pub guard_ok : {B : Type 0} (test : Bool) (r : Result B StyleFault) (e : StyleFault) (y : B) → cond test r (Err e) ≡ Ok y → r ≡ Ok y
 guard_ok true r e y h = h
 guard_ok false r e y h = cc
 
-pub ok_same : {A : Type 0} (x y : A) → ◌≡◌ {A = Result A Fault} (Ok x) (Ok y) → x ≡ y
+pub ok_same : {A : Type 0} (x y : A) → ◌≡◌ {A = Result A StyleFault} (Ok x) (Ok y) → x ≡ y
 ok_same x y h = cc
 
 fills : (p : Program) (outer : List (List Element)) (now : List Element) (tokens : Tokens) (b : Body) (rest : Tokens) →

@@ -4,7 +4,7 @@ use Rattle.bt_style.specs.declared.fault.FaultKind.TheVariants.{UnclosedBrace}
 use Rattle.bt_style.specs.declared.style.Target.TheVariants as targets
 use Rattle.bt_style.specs.declared.builtin.Builtin.TheVariants as builtins
 use Rattle.bt_style.specs.declared.style.Action.TheVariants as actions
-use Rattle.bt_style.specs.Token.{AtEnd, Front, Open, Close, Word, Literal, tokens_of, tokens_behind, piece_at, literal_piece}
+use Rattle.bt_style.specs.Token.{AtEnd, Front, Open, Close, Word, Literal, tokens_of, tokens_after, piece_at, literal_piece}
 use Rattle.bt_style.specs.Tree.{Amount, Words, Quoted, Braced, Called, body_of}
 use Rattle.bt_style.specs.Draft.{bare}
 use Rattle.bt_style.specs.Elements.{word_element, number_at, size_at, quoted_at}
@@ -13,7 +13,7 @@ use Rattle.bt_style.proofs.FaultRows.{spelled, HasFault}
 
 -- a text as its tokens
 tokens_with_lines : tokens_of (codes "READ % all\n {\"a b\" '#1}") ≡ Front (Word (codes "READ")) 1 (Front Open 2 (Front (Literal (codes "a b")) 2 (Front (Word (codes "'#1")) 2 (Front Close 2 (AtEnd 2)))))
-unfolding tokens_behind piece_at literal_piece
+unfolding tokens_after piece_at literal_piece
 tokens_with_lines = refl
 
 a_style : spelled (codes "ENTRY {}{}{}\nFUNCTION {misc} {}\nFUNCTION {f} {\"key \" write$ cite$ write$ newline$}\nREAD\nITERATE {f}\n")
@@ -124,7 +124,7 @@ in_the_right_order = refl
 nested_braces : body_at bare [] []
     (tokens_of (codes "#1 {#-2 {} #003} #-2147483648}"))
     ≡ Ok (body_of (Amount (pos 1) ∷ Braced (body_of (Amount (negsuc 1) ∷ Braced (body_of []) ∷ Amount (pos 3) ∷ [])) ∷ Amount (negsuc 2147483647) ∷ []), AtEnd 1)
-unfolding tokens_behind piece_at literal_piece body_at word_element number_at size_at quoted_at
+unfolding tokens_after piece_at literal_piece body_at word_element number_at size_at quoted_at
 nested_braces = refl
 
 abbrev braces : ℕ → List ℕ

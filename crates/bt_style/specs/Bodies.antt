@@ -1,7 +1,7 @@
 -- The bodies of functions.
 use Rattle.std.specs.Prelude.{ℕ, nat_lt, if◌then◌else◌, List, [], ◌∷◌, ◌++◌, length, Result, Ok}
 use Rattle.bt_style.specs.declared.fault.FaultKind.TheVariants.{UnclosedText, UnclosedBrace, StrayByte}
-use Rattle.bt_style.specs.declared.fault.Fault.{Fault}
+use Rattle.bt_style.specs.declared.fault.StyleFault.{StyleFault}
 use Rattle.bt_style.specs.Tree.{Element, Words, Braced, Body, body_of}
 use Rattle.bt_style.specs.Program.{Program}
 use Rattle.bt_style.specs.Fault.{fault, ◌>>=◌}
@@ -14,7 +14,7 @@ outer_limit = 99
 
 -- Up to the brace that closes a body. Of each brace that stands open, the innermost first, the elements before it
 -- are at hand; now are those after the last.
-unfoldable pub body_at : Program → List (List Element) → List Element → Tokens → Result (Body × Tokens) Fault
+unfoldable pub body_at : Program → List (List Element) → List Element → Tokens → Result (Body × Tokens) StyleFault
 body_at p outer now (AtEnd line) = fault UnclosedBrace line
 body_at p outer now (Front Open line rest) =
     if nat_lt (length outer) outer_limit then body_at p (now ∷ outer) [] rest else fault UnclosedBrace line

@@ -1,6 +1,6 @@
 -- Commands with their arguments.
 use Rattle.std.specs.Prelude.{ℕ, List, [], length, Result, Ok}
-use Rattle.bt_style.specs.declared.fault.Fault.{Fault}
+use Rattle.bt_style.specs.declared.fault.StyleFault.{StyleFault}
 use Rattle.bt_style.specs.declared.style.Target.{Target}
 use Rattle.bt_style.specs.declared.style.Action.{Action}
 use Rattle.bt_style.specs.declared.style.Action.TheVariants as actions
@@ -20,23 +20,23 @@ use Rattle.bt_style.specs.Bodies.{body_at}
 use Rattle.bt_style.specs.Verbs.{verb_named, verb_of, in_order, out_of_order, stage_after}
 
 -- what a word stands for, where it can be run
-abbrev pub run_target : Program → List ℕ → ℕ → Result Target Fault
+abbrev pub run_target : Program → List ℕ → ℕ → Result Target StyleFault
 run_target p word line = target_of p word line >>= λ target. runnable target line
 
 -- a command that runs a function
-abbrev pub run_at : (Target → Action) → ℕ → Program → Tokens → Result (Program × Tokens) Fault
+abbrev pub run_at : (Target → Action) → ℕ → Program → Tokens → Result (Program × Tokens) StyleFault
 run_at action line p tokens = do
   target ← braced_word (run_target p) tokens
   Ok (with_command (action target.0) line p, target.1)
 
 -- a command that declares global variables
-abbrev pub variables_at : Names → Action → ℕ → Program → Tokens → Result (Program × Tokens) Fault
+abbrev pub variables_at : Names → Action → ℕ → Program → Tokens → Result (Program × Tokens) StyleFault
 variables_at list action line p tokens = do
   declared ← braced_names list p tokens
   Ok (with_command action line declared.0, declared.1)
 
 -- what a command with its arguments makes of a program
-unfoldable pub arguments_at : Verb → ℕ → Program → Tokens → Result (Program × Tokens) Fault
+unfoldable pub arguments_at : Verb → ℕ → Program → Tokens → Result (Program × Tokens) StyleFault
 arguments_at verbs.Entry line p tokens = do
   fields ← braced_names Fields p tokens
   numbers ← braced_names EntryNumbers fields.0 fields.1
@@ -62,7 +62,7 @@ arguments_at verbs.Sort line p tokens = Ok (with_command actions.Sort line p, to
 arguments_at verbs.Strings line p tokens = variables_at GlobalTexts actions.Strings line p tokens
 
 -- a command that begins with this word: how far the commands have come then, the program, and what stands after
-unfoldable pub command_at : Stage → Program → List ℕ → ℕ → Tokens → Result (Stage × Program × Tokens) Fault
+unfoldable pub command_at : Stage → Program → List ℕ → ℕ → Tokens → Result (Stage × Program × Tokens) StyleFault
 command_at stage p word line tokens = do
   verb ← verb_of (verb_named word) line
   allowed ← in_order (out_of_order verb stage) line

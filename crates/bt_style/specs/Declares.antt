@@ -3,7 +3,7 @@ use Rattle.std.specs.Prelude.{ℕ, Bool, not, if◌then◌else◌, List, Option,
 use Rattle.bt_text.specs.Folding.{folded}
 use Rattle.bt_text.specs.NameBytes.{is_name}
 use Rattle.bt_style.specs.declared.fault.FaultKind.TheVariants.{UnknownName, NameTaken, UnclosedBrace, BadName, NotAFunction}
-use Rattle.bt_style.specs.declared.fault.Fault.{Fault}
+use Rattle.bt_style.specs.declared.fault.StyleFault.{StyleFault}
 use Rattle.bt_style.specs.declared.style.Target.{Target}
 use Rattle.bt_style.specs.declared.style.Target.TheVariants as targets
 use Rattle.bt_style.specs.declared.names.Names.{Names}
@@ -15,28 +15,28 @@ use Rattle.bt_style.specs.Draft.{with_name}
 use Rattle.bt_style.specs.Arguments.{open_at}
 
 -- The name that a word declares: one that may be a name, and that isn't taken.
-abbrev pub new_name : (List ℕ → Bool) → List ℕ → ℕ → Result (List ℕ) Fault
+abbrev pub new_name : (List ℕ → Bool) → List ℕ → ℕ → Result (List ℕ) StyleFault
 new_name taken word line =
     if not (is_name word) then fault BadName line
     else if taken (folded word) then fault NameTaken line
     else Ok (folded word)
 
-abbrev pub target_or_fault : Option Target → ℕ → Result Target Fault
+abbrev pub target_or_fault : Option Target → ℕ → Result Target StyleFault
 target_or_fault None line = fault UnknownName line
 target_or_fault (Some target) line = Ok target
 
 -- what a word stands for
-abbrev pub target_of : Program → List ℕ → ℕ → Result Target Fault
+abbrev pub target_of : Program → List ℕ → ℕ → Result Target StyleFault
 target_of p word line = target_or_fault (target_named p (folded word)) line
 
 -- functions of the style and built-in ones can be run
-abbrev pub runnable : Target → ℕ → Result Target Fault
+abbrev pub runnable : Target → ℕ → Result Target StyleFault
 runnable (targets.Function n) line = Ok (targets.Function n)
 runnable (targets.Builtin b) line = Ok (targets.Builtin b)
 runnable _ line = fault NotAFunction line
 
 -- the names up to the closing brace, each declared before the next is read
-unfoldable pub names_at : Names → Program → Tokens → Result (Program × Tokens) Fault
+unfoldable pub names_at : Names → Program → Tokens → Result (Program × Tokens) StyleFault
 names_at list p (AtEnd line) = fault UnclosedBrace line
 names_at list p (Front Open line rest) = fault UnclosedBrace line
 names_at list p (Front Close line rest) = Ok (p, rest)
@@ -45,5 +45,5 @@ names_at list p (Front (Word word) line rest) = do
   names_at list (with_name list name p) rest
 names_at list p (Front _ line rest) = fault BadName line
 
-abbrev pub braced_names : Names → Program → Tokens → Result (Program × Tokens) Fault
+abbrev pub braced_names : Names → Program → Tokens → Result (Program × Tokens) StyleFault
 braced_names list p tokens = open_at tokens >>= names_at list p

@@ -4,7 +4,7 @@ use Rattle.std.specs.List.{take_while}
 use Rattle.std.specs.Char.{is_ascii_digit}
 use Rattle.bt_text.specs.ByteTests.{hyphen}
 use Rattle.bt_style.specs.declared.fault.FaultKind.TheVariants.{NumberTooLarge, BadName, StrayByte}
-use Rattle.bt_style.specs.declared.fault.Fault.{Fault}
+use Rattle.bt_style.specs.declared.fault.StyleFault.{StyleFault}
 use Rattle.bt_style.specs.Tree.{Element, Amount, Quoted, Called}
 use Rattle.bt_style.specs.Program.{Program}
 use Rattle.bt_style.specs.Fault.{fault, ◌>>=◌}
@@ -22,13 +22,13 @@ decimal n [] = n
 decimal n (d ∷ digits) = decimal (n * 10 + (d - 48)) digits
 
 -- the size of a number, by its digits and what follows them
-abbrev pub size_of : ℕ → List ℕ → List ℕ → ℕ → Result ℕ Fault
+abbrev pub size_of : ℕ → List ℕ → List ℕ → ℕ → Result ℕ StyleFault
 size_of greatest digits behind line =
     if length digits == 0 then fault StrayByte line
     else if nat_lt greatest (decimal 0 digits) then fault NumberTooLarge line
     else if length behind == 0 then Ok (decimal 0 digits) else fault StrayByte line
 
-unfoldable pub size_at : ℕ → List ℕ → ℕ → Result ℕ Fault
+unfoldable pub size_at : ℕ → List ℕ → ℕ → Result ℕ StyleFault
 size_at greatest bytes line =
     let digits = take_while is_ascii_digit bytes in
     size_of greatest digits (drop (length digits) bytes) line
@@ -37,19 +37,19 @@ abbrev pub is_minus : List ℕ → Bool
 is_minus bytes = slice_index bytes 0 == hyphen
 
 -- after the number sign
-unfoldable pub number_at : List ℕ → ℕ → Result ℤ Fault
+unfoldable pub number_at : List ℕ → ℕ → Result ℤ StyleFault
 number_at bytes line =
     if is_minus bytes then (size_at (2 ^ 31) (drop 1 bytes) line >>= λ n. Ok (neg_ℤ (pos n)))
     else size_at (2 ^ 31 - 1) bytes line >>= λ n. Ok (pos n)
 
 -- after the apostrophe
-unfoldable pub quoted_at : Program → List ℕ → ℕ → Result Element Fault
+unfoldable pub quoted_at : Program → List ℕ → ℕ → Result Element StyleFault
 quoted_at p bytes line =
     if length bytes == 0 then fault BadName line
     else target_of p bytes line >>= λ target. Ok (Quoted target)
 
 -- a number, a quoted name or a call
-unfoldable pub word_element : Program → List ℕ → ℕ → Result Element Fault
+unfoldable pub word_element : Program → List ℕ → ℕ → Result Element StyleFault
 word_element p word line =
     let first = slice_index word 0 in
     if first == number_sign then (number_at (drop 1 word) line >>= λ n. Ok (Amount n))

@@ -2,7 +2,7 @@
 use Rattle.std.specs.Prelude.{◌≡◌, ℕ, List, codes, Result, Ok, Err}
 use Rattle.bt_style.specs.declared.fault.FaultKind.{FaultKind}
 use Rattle.bt_style.specs.declared.fault.FaultKind.TheVariants as kinds
-use Rattle.bt_style.specs.declared.fault.Fault.{Fault}
+use Rattle.bt_style.specs.declared.fault.StyleFault.{StyleFault}
 use Rattle.bt_style.specs.declared.fault.StyleRefusal.{StyleRefusal}
 use Rattle.bt_style.specs.declared.fault.StyleRefusal.TheVariants as refusals
 
@@ -24,21 +24,21 @@ words_of kinds.NotAFunction = codes "This isn't a function"
 words_of kinds.MissingArgument = codes "An argument is missing"
 
 -- a fault on a line
-abbrev pub fault : {A : Type 0} → FaultKind → ℕ → Result A Fault
+abbrev pub fault : {A : Type 0} → FaultKind → ℕ → Result A StyleFault
 fault kind line = Err (record { kind = kind; line = line })
 
 -- what is read next, unless there was a fault
 infixl 10 ◌>>=◌
-abbrev pub ◌>>=◌ : {A B : Type 0} → Result A Fault → (A → Result B Fault) → Result B Fault
+abbrev pub ◌>>=◌ : {A B : Type 0} → Result A StyleFault → (A → Result B StyleFault) → Result B StyleFault
 (Ok x) >>= f = f x
 (Err e) >>= f = Err e
 
 -- the same fault, unless memory ran out
-abbrev pub Fails : {Y : Type 0} → StyleRefusal → Result Y Fault → Type 0
+abbrev pub Fails : {Y : Type 0} → StyleRefusal → Result Y StyleFault → Type 0
 Fails refusals.OutOfMemory read = Unit {0}
-Fails (refusals.Fault fault) read = read ≡ Err fault
+Fails (refusals.StyleFault fault) read = read ≡ Err fault
 
 -- the same value, seen by view, or the same fault, unless memory ran out
-abbrev pub Gives : {X Y : Type 0} → (X → Y) → Result X StyleRefusal → Result Y Fault → Type 0
+abbrev pub Gives : {X Y : Type 0} → (X → Y) → Result X StyleRefusal → Result Y StyleFault → Type 0
 Gives view (Ok x) read = read ≡ Ok (view x)
 Gives view (Err e) read = Fails e read

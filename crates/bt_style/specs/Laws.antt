@@ -2,11 +2,11 @@
 use Rattle.std.specs.Prelude.{◌≡◌, ℕ, suc, ◌+◌, ◌<◌, nat_lt, Bool, true, List, [], ◌∷◌, ◌++◌, length, take, map, codes, Some, None, Ok, Err}
 use Rattle.std.specs.List.{list_all, count_by}
 use Rattle.std.specs.Option.{option_map}
-use Rattle.bt_style.specs.declared.fault.Fault.{Fault}
+use Rattle.bt_style.specs.declared.fault.StyleFault.{StyleFault}
 use Rattle.bt_style.specs.declared.builtin.Builtin.{Builtin}
 use Rattle.bt_style.specs.declared.verbs.Stage.{Stage}
 use Rattle.bt_style.specs.Builtins.{table, place_of, name_of}
-use Rattle.bt_style.specs.Token.{Token, Tokens, AtEnd, Front, is_line_feed, piece_at, tokens_behind, tokens_of, count}
+use Rattle.bt_style.specs.Token.{Token, Tokens, AtEnd, Front, is_line_feed, piece_at, tokens_after, tokens_of, count}
 use Rattle.bt_style.specs.Program.{Program}
 use Rattle.bt_style.specs.Names.{builtin_named, place_in, target_named}
 use Rattle.bt_style.specs.Reader.{commands_at, reading, style_of}
@@ -32,7 +32,7 @@ BeginsAs (Front token line rest) other = (behind : Tokens) × (other ≡ Front t
 
 -- A fault stands at one token of a text, or at its end: no style begins with the tokens up to this one, and some style
 -- begins with those before it.
-pub record StandsAtItsToken (tokens : Tokens) (f : Fault) : Type 0 where
+pub record StandsAtItsToken (tokens : Tokens) (f : StyleFault) : Type 0 where
   -- the tokens before it, and those from it on
   pub front : List (Token × ℕ)
   pub here : Tokens
@@ -44,11 +44,11 @@ pub record StandsAtItsToken (tokens : Tokens) (f : Fault) : Type 0 where
   pub bytes : List ℕ
   pub are_bytes : list_all is_byte bytes ≡ true
   pub style : Program
-  pub first : reading (in_front front (tokens_behind 0 f.line bytes)) ≡ Ok style
+  pub first : reading (in_front front (tokens_after 0 f.line bytes)) ≡ Ok style
 
 -- So a fault is neither too early nor too late.
 abbrev pub FaultIsFirst : Type 0
-FaultIsFirst = (text : List ℕ) (f : Fault) → style_of text ≡ Err f → StandsAtItsToken (tokens_of text) f
+FaultIsFirst = (text : List ℕ) (f : StyleFault) → style_of text ≡ Err f → StandsAtItsToken (tokens_of text) f
 
 -- A token of just these bytes stands before those after it, or the text ends there.
 abbrev pub StandsInFront : List ℕ → List ℕ → Type 0
@@ -58,7 +58,7 @@ StandsInFront (b ∷ more) behind =
 
 -- The same of the text's bytes: a fault stands at one token, or at the text's end, on its line. No style begins with
 -- the bytes up to the token's end, and some style begins with those before the token.
-pub record StandsInItsText (text : List ℕ) (f : Fault) : Type 0 where
+pub record StandsInItsText (text : List ℕ) (f : StyleFault) : Type 0 where
   pub before : List ℕ
   pub token : List ℕ
   pub behind : List ℕ
@@ -75,12 +75,12 @@ pub record StandsInItsText (text : List ℕ) (f : Fault) : Type 0 where
   pub first : style_of (before ++ bytes) ≡ Ok style
 
 abbrev pub FaultIsFirstInItsText : Type 0
-FaultIsFirstInItsText = (text : List ℕ) (f : Fault) → style_of text ≡ Err f → StandsInItsText text f
+FaultIsFirstInItsText = (text : List ℕ) (f : StyleFault) → style_of text ≡ Err f → StandsInItsText text f
 
 -- The greatest number of commands is never reached: where `reading` begins, and wherever commands go on, each number
 -- above that of the tokens that are left gives the same. No other definition of styles has such a reserve.
-abbrev pub AnyReserveServes : Type 0
-AnyReserveServes =
+abbrev pub AnyBoundServes : Type 0
+AnyBoundServes =
     (most : ℕ) (stage : Stage) (p : Program) (tokens : Tokens) → count tokens < most →
     commands_at most stage p tokens ≡ commands_at (suc (count tokens)) stage p tokens
 

@@ -1,7 +1,7 @@
 -- The style that a text spells, or its first fault with its line.
 use Rattle.std.specs.Prelude.{ℕ, zero, suc, List, Option, Some, None, Result, Ok}
 use Rattle.bt_style.specs.declared.fault.FaultKind.TheVariants.{UnknownCommand, StrayByte}
-use Rattle.bt_style.specs.declared.fault.Fault.{Fault}
+use Rattle.bt_style.specs.declared.fault.StyleFault.{StyleFault}
 use Rattle.bt_style.specs.declared.verbs.Stage.{Stage}
 use Rattle.bt_style.specs.declared.verbs.Stage.TheVariants.{BeforeEntry}
 use Rattle.bt_style.specs.Program.{Program}
@@ -11,7 +11,7 @@ use Rattle.bt_style.specs.Draft.{preset}
 use Rattle.bt_style.specs.Commands.{command_at}
 
 -- the word with which a command begins, its line and what stands after, or none at the end
-abbrev pub command_word : Tokens → Result (Option (List ℕ × ℕ × Tokens)) Fault
+abbrev pub command_word : Tokens → Result (Option (List ℕ × ℕ × Tokens)) StyleFault
 command_word (AtEnd line) = Ok None
 command_word (Front Open line rest) = fault StrayByte line
 command_word (Front Close line rest) = fault StrayByte line
@@ -19,7 +19,7 @@ command_word (Front (Word word) line rest) = Ok (Some (word, line, rest))
 command_word (Front _ line rest) = fault UnknownCommand line
 
 -- at most this number of commands, from a stage on
-unfoldable pub commands_at : ℕ → Stage → Program → Tokens → Result Program Fault
+unfoldable pub commands_at : ℕ → Stage → Program → Tokens → Result Program StyleFault
 commands_at zero stage p tokens = Ok p
 commands_at (suc most) stage p tokens = command_word tokens >>= λ found. elim found [
   | None ↦ Ok p
@@ -27,9 +27,9 @@ commands_at (suc most) stage p tokens = command_word tokens >>= λ found. elim f
 ]
 
 -- Each command has a token at least, so there are no more than tokens; the end is met after the last.
-unfoldable pub reading : Tokens → Result Program Fault
+unfoldable pub reading : Tokens → Result Program StyleFault
 reading tokens = commands_at (suc (count tokens)) BeforeEntry preset tokens
 
 -- the style that a text spells, or its first fault
-unfoldable pub style_of : List ℕ → Result Program Fault
+unfoldable pub style_of : List ℕ → Result Program StyleFault
 style_of text = reading (tokens_of text)

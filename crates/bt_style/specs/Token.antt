@@ -80,16 +80,16 @@ with_token (Some token) line rest = Front token line rest
 
 -- The tokens of the rest of a text from a line on. The first so many bytes belong to a piece that began before: they
 -- are passed one by one, so that each byte is one step of the recursion.
-unfoldable pub tokens_behind : ℕ → ℕ → List ℕ → Tokens
-tokens_behind covered line [] = AtEnd line
-tokens_behind (suc covered) line (b ∷ bytes) = tokens_behind covered (line_after b line) bytes
-tokens_behind zero line (b ∷ bytes) =
+unfoldable pub tokens_after : ℕ → ℕ → List ℕ → Tokens
+tokens_after covered line [] = AtEnd line
+tokens_after (suc covered) line (b ∷ bytes) = tokens_after covered (line_after b line) bytes
+tokens_after zero line (b ∷ bytes) =
     let piece = piece_at b bytes in
-    with_token piece.token line (tokens_behind (piece.size - 1) (line_after b line) bytes)
+    with_token piece.token line (tokens_after (piece.size - 1) (line_after b line) bytes)
 
 -- the tokens of a text
 abbrev pub tokens_of : List ℕ → Tokens
-tokens_of text = tokens_behind 0 1 text
+tokens_of text = tokens_after 0 1 text
 
 -- how many tokens there are
 abbrev pub count : Tokens → ℕ

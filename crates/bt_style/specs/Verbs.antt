@@ -3,7 +3,7 @@ use Rattle.std.specs.Prelude.{ℕ, if◌then◌else◌, List, [], ◌∷◌, Opt
 use Rattle.bt_text.specs.Folding.{is_same_folded}
 use Rattle.bt_style.specs.declared.fault.FaultKind.{FaultKind}
 use Rattle.bt_style.specs.declared.fault.FaultKind.TheVariants.{UnknownCommand, CommandOrder, SecondEntry, SecondRead, NoEntry}
-use Rattle.bt_style.specs.declared.fault.Fault.{Fault}
+use Rattle.bt_style.specs.declared.fault.StyleFault.{StyleFault}
 use Rattle.bt_style.specs.declared.verbs.Verb.{Verb}
 use Rattle.bt_style.specs.declared.verbs.Verb.TheVariants as verbs
 use Rattle.bt_style.specs.declared.verbs.Stage.{Stage}
@@ -64,11 +64,11 @@ stage_after verbs.Read stage = AfterRead
 stage_after _ stage = stage
 
 -- a command may stand there
-abbrev pub in_order : Option FaultKind → ℕ → Result (Unit {0}) Fault
+abbrev pub in_order : Option FaultKind → ℕ → Result (Unit {0}) StyleFault
 in_order None line = Ok tt
 in_order (Some kind) line = fault kind line
 
 -- the word is that of a command
-abbrev pub verb_of : Option Verb → ℕ → Result Verb Fault
+abbrev pub verb_of : Option Verb → ℕ → Result Verb StyleFault
 verb_of None line = fault UnknownCommand line
 verb_of (Some verb) line = Ok verb

@@ -80,7 +80,7 @@ impl FaultKind {
 
 /// A fault in a style's text.
 #[derive(Clone, Copy, PartialEq, Eq, Debug)]
-pub struct Fault {
+pub struct StyleFault {
     pub kind: FaultKind,
     /// The line of the token at which it was found, from 1.
     pub line: usize,
@@ -91,7 +91,7 @@ pub struct Fault {
 pub enum StyleRefusal {
     /// The text has a fault, and this is the first one.
     #[error("Fault")]
-    Fault(Fault),
+    StyleFault(StyleFault),
     /// There is no memory left.
     #[error("OutOfMemory")]
     OutOfMemory,

@@ -7,7 +7,7 @@ ghost use Rattle.bt_style.specs.Token.{Tokens};
 ghost use Rattle.bt_style.specs.Bodies.{body_at};
 ghost use Rattle.bt_style.specs.Apart.{EachNameIsFound, FieldsAreApart};
 ghost use Rattle.bt_style.specs.Builtins.{StandInTheirPlaces};
-ghost use Rattle.bt_style.specs.Laws.{AnyReserveServes, FaultIsFirst, FaultIsFirstInItsText, FoundAtTheirPlaces, FoundByTheirNames, QuoteNamesNothing};
+ghost use Rattle.bt_style.specs.Laws.{AnyBoundServes, FaultIsFirst, FaultIsFirstInItsText, FoundAtTheirPlaces, FoundByTheirNames, QuoteNamesNothing};
 ghost use Rattle.bt_style.specs.Uses.{NamesComeFirst};
 ghost use Rattle.bt_style.specs.Spelled.{SpellsBody, depth_of};
 
@@ -58,8 +58,8 @@ pub fn fault_is_first_in_its_text()
 
 /// Any number of commands above that of the tokens serves as the greatest one, wherever commands go on: it is never
 /// reached.
-pub fn any_reserve_serves()
-    ensures { AnyReserveServes }
+pub fn any_bound_serves()
+    ensures { AnyBoundServes }
 {}
 
 /// A quote names nothing in a style that a text spells.

@@ -21,9 +21,9 @@ mod verbs;
 
 pub use bodies::BRACE_DEPTH;
 pub use builtin::{BUILTIN_COUNT, Builtin};
-pub use fault::{Fault, FaultKind, StyleRefusal};
+pub use fault::{FaultKind, StyleFault, StyleRefusal};
 pub use laws::{
-    any_reserve_serves, bodies_are_spelled, builtins_are_found_by_name,
+    any_bound_serves, bodies_are_spelled, builtins_are_found_by_name,
     builtins_stand_in_their_places, fault_is_first, fields_are_apart, spelled_bodies_are_read,
 };
 pub use reach::Reach;

@@ -109,8 +109,8 @@ enough (suc n) (suc m) t h k = by_place (break_place t) refl (λ i e. enough n m
     by_place None e f = refl
     by_place (Some i) e f = ap (λ b. broken_at (Some i) t (λ _. b)) (f i e)
 
-pub any_reserve_serves : (text : List ℕ) (reserve : ℕ) → length text ≤ reserve → broken_within reserve text ≡ broken text
-any_reserve_serves text reserve le = enough reserve (length text) text le (omega arith)
+pub any_bound_serves : (text : List ℕ) (reserve : ℕ) → length text ≤ reserve → broken_within reserve text ≡ broken text
+any_bound_serves text reserve le = enough reserve (length text) text le (omega arith)
 
 -- One break, and the rest.
 pub broken_more : (t : List ℕ) (i : ℕ) → break_place t ≡ Some i → broken t ≡ broken_at (Some i) t broken

@@ -3,10 +3,10 @@ use Rattle.std.proofs.Common.{◌≡◌, ℕ, cond, List, [], ◌∷◌, ◌++�
 use Rattle.bt_text.specs.declared.modes.Mode.{Mode}
 use Rattle.bt_text.specs.declared.title_place.TitlePlace.{TitlePlace}
 use Rattle.bt_text.specs.Blocks.{blocks}
-use Rattle.bt_text.specs.Casing.{changed_behind, changed_block, changed_case}
+use Rattle.bt_text.specs.Casing.{changed_after, changed_block, changed_case}
 use Rattle.bt_text.specs.Special.{Symbol, control, symbols}
-use Rattle.bt_text.specs.inner.TitlePlace.{is_spared_at, next_place, place_behind}
-use Rattle.bt_text.proofs.TitlePlaceLemmas.{place_behind-append, spared_at_place}
+use Rattle.bt_text.specs.inner.TitlePlace.{is_spared_at, next_place, title_place_after}
+use Rattle.bt_text.proofs.TitlePlaceLemmas.{title_place_after-append, spared_at_place}
 
 -- the step of a loop over the symbols of a special character
 pub control_step : (f : Symbol → List ℕ) (out s name gap after : List ℕ) → symbols s ≡ control name gap ∷ symbols after → (out ++ f (control name gap)) ++ flat_map f (symbols after) ≡ out ++ flat_map f (symbols s)
@@ -18,12 +18,12 @@ changed_from mode place [] = []
 changed_from mode place (block ∷ rest) = cond (is_spared_at mode place) block (changed_block mode block) ++ changed_from mode (fold next_place place block) rest
 
 -- Of the bytes in front only their place matters.
-changed_behind_from : (mode : Mode) (front : List ℕ) (bs : List (List ℕ)) → changed_behind mode front bs ≡ changed_from mode (place_behind front) bs
+changed_behind_from : (mode : Mode) (front : List ℕ) (bs : List (List ℕ)) → changed_after mode front bs ≡ changed_from mode (title_place_after front) bs
 changed_behind_from mode front [] = refl
 changed_behind_from mode front (block ∷ rest) =
-    ap (λ s. cond s block (changed_block mode block) ++ changed_behind mode (front ++ block) rest) (spared_at_place mode front) ∙ ap (λ l. cond (is_spared_at mode (place_behind front)) block (changed_block mode block) ++ l) (changed_behind_from mode (front ++ block) rest ∙ ap (λ place. changed_from mode place rest) (place_behind-append front block))
+    ap (λ s. cond s block (changed_block mode block) ++ changed_after mode (front ++ block) rest) (spared_at_place mode front) ∙ ap (λ l. cond (is_spared_at mode (title_place_after front)) block (changed_block mode block) ++ l) (changed_behind_from mode (front ++ block) rest ∙ ap (λ place. changed_from mode place rest) (title_place_after-append front block))
 
-pub changed_from_start : (mode : Mode) (t : List ℕ) → changed_case mode t ≡ changed_from mode (place_behind []) (blocks t)
+pub changed_from_start : (mode : Mode) (t : List ℕ) → changed_case mode t ≡ changed_from mode (title_place_after []) (blocks t)
 changed_from_start mode t = changed_behind_from mode [] (blocks t)
 
 -- the step of a loop over the blocks

@@ -3,7 +3,7 @@ use Rattle.std.proofs.Common.{◌≡◌, ℕ, Bool, true, false, cond, eqb, List
 use Rattle.std.specs.List.{onto_first}
 use Rattle.bt_text.specs.ByteTests.{is_brace}
 use Rattle.bt_text.specs.Blocks.{begins_special, blocks}
-use Rattle.bt_text.specs.Depth.{depth_behind}
+use Rattle.bt_text.specs.Depth.{depth_after}
 use Rattle.bt_text.specs.Pieces.{Piece, brace, bytes_of, other, pieces, block_pieces, single, special}
 use Rattle.bt_text.proofs.BlockLemmas.{blocks_from, blocks_from_start}
 
@@ -47,11 +47,11 @@ joined-onto_first b (block ∷ bs) = refl
 joined_blocks : (d : ℕ) (t : List ℕ) → joined (blocks_from d t) ≡ t
 unfolding joined
 joined_blocks d [] = refl
-joined_blocks d (b ∷ t) = by_test (eqb (depth_behind d b) 0) (joined_blocks (depth_behind d b) t)
+joined_blocks d (b ∷ t) = by_test (eqb (depth_after d b) 0) (joined_blocks (depth_after d b) t)
   where
-    by_test : (a : Bool) → joined (blocks_from (depth_behind d b) t) ≡ t → joined (cond a ((b ∷ []) ∷ blocks_from (depth_behind d b) t) (onto_first b (blocks_from (depth_behind d b) t))) ≡ b ∷ t
+    by_test : (a : Bool) → joined (blocks_from (depth_after d b) t) ≡ t → joined (cond a ((b ∷ []) ∷ blocks_from (depth_after d b) t) (onto_first b (blocks_from (depth_after d b) t))) ≡ b ∷ t
     by_test true h = ap (λ l. b ∷ l) h
-    by_test false h = joined-onto_first b (blocks_from (depth_behind d b) t) ∙ ap (λ l. b ∷ l) h
+    by_test false h = joined-onto_first b (blocks_from (depth_after d b) t) ∙ ap (λ l. b ∷ l) h
 
 pub joined_pieces : (t : List ℕ) → flat_map bytes_of (pieces t) ≡ t
 joined_pieces t = bytes_of_blocks (blocks t) ∙ ap joined (blocks_from_start t) ∙ joined_blocks 0 t

@@ -8,7 +8,7 @@ use Rattle.bt_text.specs.declared.modes.Mode.TheVariants.{Title, Lower, Upper}
 use Rattle.bt_text.specs.declared.title_place.TitlePlace.{TitlePlace}
 use Rattle.bt_text.specs.ByteTests.{is_white}
 use Rattle.bt_text.specs.Casing.{is_spared}
-use Rattle.bt_text.specs.inner.TitlePlace.{is_empty, is_spared_at, next_place, place_behind}
+use Rattle.bt_text.specs.inner.TitlePlace.{is_empty, is_spared_at, next_place, title_place_after}
 use Rattle.bt_text.specs.White.{ends_in, trimmed_end}
 
 suffix_len-push : (test : ℕ → Bool) (t : List ℕ) (b : ℕ) → suffix_len test (t ++ b ∷ []) ≡ cond (test b) (1 + suffix_len test t) 0
@@ -45,21 +45,21 @@ colon-push t b = ap (ends_in (λ c. eqb c 58)) (trimmed_end-push t b) ∙ by_tes
     by_test false = ends_in-push (λ c. eqb c 58) t b
 
 place_of : Bool → Bool → Bool → TitlePlace
-place_of first white colon = record { is_first = first; is_behind_white = white; is_behind_colon = colon }
+place_of first white colon = record { is_first = first; follows_white = white; follows_colon = colon }
 
-place_behind-push : (front : List ℕ) (b : ℕ) → place_behind (front ++ b ∷ []) ≡ next_place (place_behind front) b
+title_place_after-push : (front : List ℕ) (b : ℕ) → title_place_after (front ++ b ∷ []) ≡ next_place (title_place_after front) b
 unfolding place_of
-place_behind-push front b =
+title_place_after-push front b =
     ap (λ first. place_of first (ends_in is_white (front ++ b ∷ [])) (ends_in (λ c. eqb c 58) (trimmed_end (front ++ b ∷ [])))) (is_empty-push front b) ∙ ap (λ white. place_of false white (ends_in (λ c. eqb c 58) (trimmed_end (front ++ b ∷ [])))) (ends_in-push is_white front b) ∙ ap (place_of false (is_white b)) (colon-push front b)
 
 -- The place after more bytes.
-pub place_behind-append : (front block : List ℕ) → place_behind (front ++ block) ≡ fold next_place (place_behind front) block
-place_behind-append front [] = ap place_behind (append-nil front)
-place_behind-append front (b ∷ block) =
-    ap place_behind (sym (append_assoc front (b ∷ []) block)) ∙ place_behind-append (front ++ b ∷ []) block ∙ ap (λ place. fold next_place place block) (place_behind-push front b)
+pub title_place_after-append : (front block : List ℕ) → title_place_after (front ++ block) ≡ fold next_place (title_place_after front) block
+title_place_after-append front [] = ap title_place_after (append-nil front)
+title_place_after-append front (b ∷ block) =
+    ap title_place_after (sym (append_assoc front (b ∷ []) block)) ∙ title_place_after-append (front ++ b ∷ []) block ∙ ap (λ place. fold next_place place block) (title_place_after-push front b)
 
 -- Of the bytes in front only their place matters.
-pub spared_at_place : (mode : Mode) (front : List ℕ) → is_spared mode front ≡ is_spared_at mode (place_behind front)
+pub spared_at_place : (mode : Mode) (front : List ℕ) → is_spared mode front ≡ is_spared_at mode (title_place_after front)
 spared_at_place Title [] = refl
 spared_at_place Title (b ∷ t) = refl
 spared_at_place Lower front = refl

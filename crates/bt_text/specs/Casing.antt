@@ -45,9 +45,9 @@ is_spared Title front = begins_title front
 is_spared Lower front = false
 is_spared Upper front = false
 
-abbrev pub changed_behind : Mode → List ℕ → List (List ℕ) → List ℕ
-changed_behind mode front [] = []
-changed_behind mode front (block ∷ rest) = (if is_spared mode front then block else changed_block mode block) ++ changed_behind mode (front ++ block) rest
+abbrev pub changed_after : Mode → List ℕ → List (List ℕ) → List ℕ
+changed_after mode front [] = []
+changed_after mode front (block ∷ rest) = (if is_spared mode front then block else changed_block mode block) ++ changed_after mode (front ++ block) rest
 
 abbrev pub changed_case : Mode → List ℕ → List ℕ
-changed_case mode t = changed_behind mode [] (blocks t)
+changed_case mode t = changed_after mode [] (blocks t)

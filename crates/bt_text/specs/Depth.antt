@@ -3,12 +3,12 @@ use Rattle.std.specs.Prelude.{◌≡◌, ◌≢◌, ℕ, ◌+◌, ◌-◌, ◌<�
 use Rattle.bt_text.specs.ByteTests.{left_brace, right_brace}
 
 -- the depth after the byte b, where it is d before it
-abbrev pub depth_behind : ℕ → ℕ → ℕ
-depth_behind d b = if b == left_brace then d + 1 else (if b == right_brace then d - 1 else d)
+abbrev pub depth_after : ℕ → ℕ → ℕ
+depth_after d b = if b == left_brace then d + 1 else (if b == right_brace then d - 1 else d)
 
 -- the depth at the end of a text, which begins at depth 0
 abbrev pub depth : List ℕ → ℕ
-depth t = fold depth_behind 0 t
+depth t = fold depth_after 0 t
 
 -- the depth before place i
 abbrev pub depth_at : List ℕ → ℕ → ℕ

@@ -26,13 +26,13 @@ abbrev pub taken_by : ℕ → List ℕ → ℕ
 taken_by b t = if b == backslash then length (control_name t) + length (control_gap t) else 0
 
 -- the symbols of a text whose first n bytes belong to a symbol before it
-abbrev pub symbols_behind : ℕ → List ℕ → List Symbol
-symbols_behind n [] = []
-symbols_behind zero (b ∷ t) = symbol_at b t ∷ symbols_behind (taken_by b t) t
-symbols_behind (suc n) (b ∷ t) = symbols_behind n t
+abbrev pub symbols_from : ℕ → List ℕ → List Symbol
+symbols_from n [] = []
+symbols_from zero (b ∷ t) = symbol_at b t ∷ symbols_from (taken_by b t) t
+symbols_from (suc n) (b ∷ t) = symbols_from n t
 
 abbrev pub symbols : List ℕ → List Symbol
-symbols t = symbols_behind 0 t
+symbols t = symbols_from 0 t
 
 -- The foreign letters: what these control sequences print is spelled by their whole name ..
 abbrev pub two_letters : List (List ℕ)

@@ -3,7 +3,7 @@
 ghost use Rattle.std.specs.Prelude.{◌≡◌, ◌<◌, ◌≤◌, ◌∷◌, length, take, drop};
 ghost use Rattle.bt_text.specs.Blocks.{begins_special, blocks};
 
-use crate::depth::depth_behind;
+use crate::depth::depth_after;
 
 /// How many bytes the first block has.
 pub fn block_len(text: &[u8]) -> usize
@@ -14,7 +14,7 @@ pub fn block_len(text: &[u8]) -> usize
 {
     let mut depth = 0;
     for (i, byte) in text.iter().enumerate() {
-        depth = depth_behind(depth, *byte);
+        depth = depth_after(depth, *byte);
         if depth == 0 {
             return i + 1;
         }

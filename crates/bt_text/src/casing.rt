@@ -133,7 +133,7 @@ pub fn change_case(alloc: Global, text: &[u8], mode: Mode) -> Result<Bytes, Allo
     while !rest.is_empty() {
         let (block, behind) = rest.split_at(block_len(rest));
         push_part(&mut out, mode, place, block)?;
-        place = place.behind_all(block);
+        place = place.after_all(block);
         rest = behind;
     }
     Ok(Bytes::from_vec(out))

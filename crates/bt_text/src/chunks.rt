@@ -26,7 +26,7 @@ impl<T> Model for Chunk<T> {
 }
 
 impl<T: Element> Chunk<T> {
-    /// These values, with one owner. The one error is out of memory.
+    /// These values, with one owner.
     fn new(alloc: Global, items: Vec<T>) -> Result<Self, AllocError>
         ensures { IfOk result (λ chunk. chunk ≡ items.items) }
     {
@@ -35,7 +35,8 @@ impl<T: Element> Chunk<T> {
         })
     }
 
-    /// The same values for one more owner; they are not copied. The one error is that they have no room for another owner.
+    /// The same values for one more owner; they are not copied. The one error is that they have no room for another
+    /// owner.
     fn share(&self) -> Result<Self, AllocError>
         ensures { IfOk result (λ chunk. chunk ≡ self.now) }
     {
@@ -58,8 +59,8 @@ impl<T: Element> Chunk<T> {
         self.items.as_slice().get(place)
     }
 
-    /// Puts a value in the place of another. Where the values have other owners, these keep what they had. The one error
-    /// is out of memory; all values are then as before.
+    /// Puts a value in the place of another. Where the values have other owners, these keep what they had. The one
+    /// error is out of memory; all values are then as before.
     fn set(&mut self, alloc: Global, place: usize, item: T) -> Result<(), AllocError>
         requires { place < length self.old }
         ensures ok { OnOk result (self.new ≡ slice_set self.old place item) }
@@ -104,7 +105,7 @@ impl<T: Element> Chunks<T> {
         }
     }
 
-    /// The values in whole chunks; those after the last whole chunk are left out. The one error is out of memory.
+    /// The values in whole chunks; those after the last whole chunk are left out.
     pub fn of(alloc: Global, items: &[T]) -> Result<Self, AllocError>
         ensures { IfOk result (λ list. list ≡ take (length items.now / 64 * 64) items.now) }
     {
@@ -126,8 +127,8 @@ impl<T: Element> Chunks<T> {
         }
     }
 
-    /// Puts a value in a place; one after the end stays as it is. The one error is out of memory; all values are then as
-    /// before.
+    /// Puts a value in a place; one after the end stays as it is. The one error is out of memory; all values are then
+    /// as before.
     pub fn set(&mut self, alloc: Global, place: usize, item: T) -> Result<(), AllocError>
         ensures ok { OnOk result (self.new ≡ slice_set self.old place item) }
         ensures err { OnErr result (self.new ≡ self.old) }
@@ -139,7 +140,7 @@ impl<T: Element> Chunks<T> {
         self.chunks[at].set(alloc, place % CHUNK, item)
     }
 
-    /// The same values for one more owner; none of them is copied. The one error is out of memory.
+    /// The same values for one more owner; none of them is copied.
     pub fn copied(&self, alloc: Global) -> Result<Self, AllocError>
         ensures { IfOk result (λ same. same ≡ self.now) }
     {
@@ -147,7 +148,7 @@ impl<T: Element> Chunks<T> {
         Ok(Chunks { chunks })
     }
 
-    /// Puts the values after others. The one error is out of memory.
+    /// Puts the values after others.
     pub fn append_to(&self, alloc: Global, items: &mut Vec<T>) -> Result<(), AllocError>
         ensures { OnOk result (items.new.items ≡ items.old.items ++ self.now) }
     {

@@ -1,12 +1,12 @@
 //! How deep in braces a place stands, and whether braces are balanced.
 
 ghost use Rattle.std.specs.Prelude.{◌≡◌, ◌<◌, ◌↔◌, IsTrue};
-ghost use Rattle.bt_text.specs.Depth.{IsBalanced, depth, depth_behind};
+ghost use Rattle.bt_text.specs.Depth.{IsBalanced, depth, depth_after};
 
 /// The depth after a byte, where it is `depth` before it.
-pub fn depth_behind(depth: usize, byte: u8) -> usize
+pub fn depth_after(depth: usize, byte: u8) -> usize
     requires { depth < usize.MAX }
-    ensures { result ≡ depth_behind depth byte }
+    ensures { result ≡ depth_after depth byte }
 {
     match byte {
         b'{' => depth + 1,
@@ -21,7 +21,7 @@ pub fn depth_of(text: &[u8]) -> usize
 {
     let mut depth = 0;
     for byte in text {
-        depth = depth_behind(depth, *byte);
+        depth = depth_after(depth, *byte);
     }
     depth
 }
@@ -36,7 +36,7 @@ pub fn balanced(text: &[u8]) -> bool
         if *byte == b'}' && depth == 0 {
             return false;
         }
-        depth = depth_behind(depth, *byte);
+        depth = depth_after(depth, *byte);
     }
     depth == 0
 }

@@ -8,7 +8,7 @@ use std::alloc::{AllocError, Global};
 
 /// A value of which lists can be copied and compared.
 pub trait Element: Drop + Sized {
-    /// The same values once more. The one error is out of memory.
+    /// The same values once more.
     fn copied(alloc: Global, items: &[Self]) -> Result<Vec<Self>, AllocError>
         ensures { IfOk result (λ same. same.items ≡ items.now) };
 

@@ -11,7 +11,7 @@ pub fn pieces_make_up_the_text()
 {}
 
 /// Any number of breaks from that of a text's bytes on breaks it in the same way: the number is never reached.
-#[tactic(auto, using(crate::proofs::BreakingLemmas::any_reserve_serves))]
-pub fn any_reserve_serves()
+#[tactic(auto, using(crate::proofs::BreakingLemmas::any_bound_serves))]
+pub fn any_bound_serves()
     ensures { (text : List ℕ) (reserve : ℕ) → length text ≤ reserve → broken_within reserve text ≡ broken text }
 {}

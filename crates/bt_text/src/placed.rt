@@ -117,7 +117,7 @@ impl PlacedTexts {
         }
     }
 
-    /// The same texts, each for one more owner. The one error is out of memory.
+    /// The same texts, each for one more owner.
     pub fn copied(&self, alloc: Global) -> Result<Self, AllocError>
         ensures { IfOk result (λ same. same ≡ self.now) }
     {
@@ -128,7 +128,7 @@ impl PlacedTexts {
         })
     }
 
-    /// The texts, each that is missing taken from others, for one more owner. The one error is out of memory.
+    /// The texts, each that is missing taken from others, for one more owner.
     pub fn filled_from(&self, alloc: Global, others: &PlacedTexts) -> Result<Self, AllocError>
         ensures { IfOk result (λ all. all ≡ filled_from self.now others.now) }
     {

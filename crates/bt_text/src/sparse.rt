@@ -182,7 +182,7 @@ impl SparseTexts {
         }
     }
 
-    /// The same texts, each for one more owner. The one error is out of memory.
+    /// The same texts, each for one more owner.
     pub fn copied(&self, alloc: Global) -> Result<Self, AllocError>
         ensures { IfOk result (λ same. same ≡ self.now) }
     {
@@ -196,8 +196,7 @@ impl SparseTexts {
         })
     }
 
-    /// The texts for many owners. Where they are many, those that are filled from them share them. The one error is out
-    /// of memory.
+    /// The texts for many owners. Where they are many, those that are filled from them share them.
     #[tactic(auto, using(crate::proofs::LayerLemmas::filled_none))]
     pub fn into_shared(self, alloc: Global) -> Result<Shared<SparseTexts>, AllocError>
         ensures { IfOk result (λ texts. texts ≡ self) }
@@ -216,7 +215,7 @@ impl SparseTexts {
     }
 
     /// The texts, each that is missing taken from others, for one more owner. Where the others are many and these are
-    /// few, the others are shared. The one error is out of memory.
+    /// few, the others are shared.
     #[tactic(auto, using(crate::proofs::LayerLemmas::filled_none))]
     pub fn filled_from(&self, alloc: Global, others: &SparseTexts) -> Result<Self, AllocError>
         ensures { IfOk result (λ all. all ≡ filled_from self.now others.now) }

@@ -7,23 +7,23 @@ use crate::modes::Mode;
 #[derive(Clone, Copy)]
 pub struct TitlePlace {
     pub is_first: bool,
-    pub is_behind_white: bool,
+    pub follows_white: bool,
     /// Whether the last byte before it that isn't white is a colon.
-    pub is_behind_colon: bool,
+    pub follows_colon: bool,
 }
 
 impl TitlePlace {
     ghost use Rattle.std.specs.Prelude.{◌≡◌, [], fold};
-    ghost use Rattle.bt_text.specs.inner.TitlePlace.{is_spared_at, next_place, place_behind};
+    ghost use Rattle.bt_text.specs.inner.TitlePlace.{is_spared_at, next_place, title_place_after};
 
     /// The first place.
     pub fn new() -> Self
-        ensures { result ≡ place_behind [] }
+        ensures { result ≡ title_place_after [] }
     {
         TitlePlace {
             is_first: true,
-            is_behind_white: false,
-            is_behind_colon: false,
+            follows_white: false,
+            follows_colon: false,
         }
     }
 
@@ -32,7 +32,7 @@ impl TitlePlace {
         ensures { result ≡ is_spared_at mode self }
     {
         match mode {
-            Mode::Title => self.is_first || self.is_behind_white && self.is_behind_colon,
+            Mode::Title => self.is_first || self.follows_white && self.follows_colon,
             Mode::Lower | Mode::Upper => false,
         }
     }
@@ -44,9 +44,9 @@ impl TitlePlace {
         let is_white = is_white(byte);
         TitlePlace {
             is_first: false,
-            is_behind_white: is_white,
-            is_behind_colon: if is_white {
-                self.is_behind_colon
+            follows_white: is_white,
+            follows_colon: if is_white {
+                self.follows_colon
             } else {
                 byte == b':'
             },
@@ -54,7 +54,7 @@ impl TitlePlace {
     }
 
     /// The place after some bytes.
-    pub fn behind_all(self, bytes: &[u8]) -> Self
+    pub fn after_all(self, bytes: &[u8]) -> Self
         ensures { result ≡ fold next_place self bytes.now }
     {
         let mut place = self;

@@ -41,7 +41,7 @@ impl<T: Element> Values<T> {
         }
     }
 
-    /// The values of a vector. Fewer than 64 take no more memory. The one error is out of memory.
+    /// The values of a vector. Fewer than 64 take no more memory.
     pub fn from_vec(alloc: Global, items: Vec<T>) -> Result<Self, AllocError>
         ensures { IfOk result (λ values. values ≡ items.items) }
     {
@@ -80,8 +80,8 @@ impl<T: Element> Values<T> {
         }
     }
 
-    /// Puts a value in a place; one after the end stays as it is. The one error is out of memory; all values are then as
-    /// before.
+    /// Puts a value in a place; one after the end stays as it is. The one error is out of memory; all values are then
+    /// as before.
     pub fn set(&mut self, alloc: Global, place: usize, item: T) -> Result<(), AllocError>
         ensures ok { OnOk result (self.new ≡ slice_set self.old place item) }
         ensures err { OnErr result (self.new ≡ self.old) }
@@ -94,7 +94,7 @@ impl<T: Element> Values<T> {
         self.more.set(alloc, behind, item)
     }
 
-    /// The same values once more. Those in chunks are shared. The one error is out of memory.
+    /// The same values once more. Those in chunks are shared.
     pub fn copied(&self, alloc: Global) -> Result<Self, AllocError>
         ensures { IfOk result (λ same. same ≡ self.now) }
     {
@@ -105,7 +105,7 @@ impl<T: Element> Values<T> {
         })
     }
 
-    /// The same values in a vector. The one error is out of memory.
+    /// The same values in a vector.
     pub fn to_vec(&self, alloc: Global) -> Result<Vec<T>, AllocError>
         ensures { IfOk result (λ items. items.items ≡ self.now) }
     {

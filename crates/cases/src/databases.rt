@@ -2,29 +2,31 @@
 //! was spliced, from the items that it had.
 
 use crate::spelling::{number, push_spelled, unspelled, word_at};
-use bt_bib::{Closing, Content, Fault, Field, Item, KeptItems, Part, Piece, Spot, What, read_bib};
+use bt_bib::{
+    Closing, Content, Field, Item, ItemFault, KeptItems, NameRole, Part, Piece, Spot, read_bib,
+};
 use bt_text::{Bytes, Sequence, Shared};
 use std::alloc::{AllocError, Global};
 
-fn what_word(what: What) -> &'static [u8] {
+fn what_word(what: NameRole) -> &'static [u8] {
     match what {
-        What::EntryType => b"type",
-        What::StringName => b"string_name",
-        What::FieldName => b"field_name",
-        What::FieldPart => b"field_part",
+        NameRole::EntryType => b"type",
+        NameRole::StringName => b"string_name",
+        NameRole::FieldName => b"field_name",
+        NameRole::FieldPart => b"field_part",
     }
 }
 
-fn fault_word(fault: Fault) -> &'static [u8] {
+fn fault_word(fault: ItemFault) -> &'static [u8] {
     match fault {
-        Fault::EndOfFile => b"EndOfFile",
-        Fault::MissingName(_) => b"MissingName",
-        Fault::BadNameEnd(_, _) => b"BadNameEnd",
-        Fault::ExpectedOpen => b"ExpectedOpen",
-        Fault::ExpectedCommaOrClose => b"ExpectedCommaOrClose",
-        Fault::ExpectedEquals => b"ExpectedEquals",
-        Fault::UnbalancedBraces => b"UnbalancedBraces",
-        Fault::MissingPart => b"MissingPart",
+        ItemFault::EndOfFile => b"EndOfFile",
+        ItemFault::MissingName(_) => b"MissingName",
+        ItemFault::BadNameEnd(_, _) => b"BadNameEnd",
+        ItemFault::ExpectedOpen => b"ExpectedOpen",
+        ItemFault::ExpectedCommaOrClose => b"ExpectedCommaOrClose",
+        ItemFault::ExpectedEquals => b"ExpectedEquals",
+        ItemFault::UnbalancedBraces => b"UnbalancedBraces",
+        ItemFault::MissingPart => b"MissingPart",
     }
 }
 
@@ -160,22 +162,22 @@ impl Spelled {
     }
 
     /// A fault, with its line, its byte, and what is missing or followed.
-    fn fault(&mut self, fault: Fault, line: usize) -> Result<(), AllocError> {
+    fn fault(&mut self, fault: ItemFault, line: usize) -> Result<(), AllocError> {
         self.out.append(fault_word(fault))?;
         self.out.append(b":")?;
         self.line(line)?;
         self.out.append(b":")?;
         match fault {
-            Fault::BadNameEnd(what, byte) => {
+            ItemFault::BadNameEnd(what, byte) => {
                 push_spelled(&mut self.out, &[byte])?;
                 self.out.append(b":")?;
                 self.out.append(what_word(what))
             }
-            Fault::MissingName(what) => {
+            ItemFault::MissingName(what) => {
                 self.out.append(b".:")?;
                 self.out.append(what_word(what))
             }
-            Fault::MissingPart => self.out.append(b".:field_part"),
+            ItemFault::MissingPart => self.out.append(b".:field_part"),
             _ => self.out.append(b".:."),
         }
     }

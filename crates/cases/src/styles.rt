@@ -159,7 +159,7 @@ pub fn answer(alloc: Global, case: &str) -> Result<Bytes, AllocError> {
     let text = unspelled(alloc, word_at(case, 1))?;
     match read_style(alloc, &text) {
         Ok(style) => shown(alloc, &style),
-        Err(StyleRefusal::Fault(fault)) => {
+        Err(StyleRefusal::StyleFault(fault)) => {
             let kind = fault.kind;
             let line = fault.line;
             Bytes::copied(alloc, format!(in alloc; "{kind} {line}")?.as_bytes())

@@ -2,7 +2,7 @@
 
 ghost use Rattle.std.specs.Prelude.{◌≡◌, Some};
 
-use bt_serve::{Failed, Sink};
+use bt_serve::{Sink, StreamFailed};
 use std::alloc::Global;
 
 /// Keeps what it gets, up to so many bytes, and then fails.
@@ -40,7 +40,7 @@ impl Sink for Capped {
 
     ghost is_flushed = { λ s. s.flushed };
 
-    fn write(&mut self, bytes: &[u8]) -> Result<usize, Failed> {
+    fn write(&mut self, bytes: &[u8]) -> Result<usize, StreamFailed> {
         self.flushed = false;
         let count = bytes.len().min(self.room);
         if 0 < count && self.bytes.extend_from_slice(&bytes[..count]).is_ok() {
@@ -48,10 +48,10 @@ impl Sink for Capped {
             return Ok(count);
         }
         self.failures += 1;
-        Err(Failed)
+        Err(StreamFailed)
     }
 
-    fn flush(&mut self) -> Result<(), Failed> {
+    fn flush(&mut self) -> Result<(), StreamFailed> {
         self.flushed = true;
         Ok(())
     }

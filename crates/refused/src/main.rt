@@ -1,10 +1,10 @@
-//! Makes calls of the libraries where one request for memory may be refused, and tells by its exit status what came of it.
-//! Its words are `GROUP.NAME`, a case, and how much of it is run: `setup` only makes what its call is made on, `call` then
-//! makes the call, and without a word what comes of it is judged too. `names` writes the names of all cases. With no word
-//! all of them are run.
+//! Makes calls of the libraries where one request for memory may be refused, and tells by its exit status what came of
+//! it. Its words are `GROUP.NAME`, a case, and how much of it is run: `setup` only makes what its call is made on,
+//! `call` then makes the call, and without a word what comes of it is judged too. `names` writes the names of all
+//! cases. With no word all of them are run.
 //!
-//! 0: the call was not refused memory. 10: it was, what it was made on was as before, and it gave the right answer when it
-//! was made once more. 11: something was lost. 12: a request outside of the call was refused.
+//! 0: the call was not refused memory. 10: it was, what it was made on was as before, and it gave the right answer when
+//! it was made once more. 11: something was lost. 12: a request outside of the call was refused.
 #![tactic(auto)]
 
 mod attempt;

@@ -2,7 +2,7 @@
 
 ghost use Rattle.std.specs.Prelude.{◌≡◌, ◌<◌, ◌≤◌, Some};
 
-use bt_serve::{Failed, Sink, Source};
+use bt_serve::{Sink, Source, StreamFailed};
 use std::alloc::Global;
 use std::cell::Cell;
 
@@ -83,7 +83,7 @@ impl Source for Giver<'_> {
 
     ghost reads_left = { λ s. s.left };
 
-    fn read(&mut self, buffer: &mut [u8]) -> Result<usize, Failed> {
+    fn read(&mut self, buffer: &mut [u8]) -> Result<usize, StreamFailed> {
         let place = self.given();
         let handed_on = self.handed_on.get();
         note(&mut self.notes, self.limits.watched, place, handed_on);
@@ -92,7 +92,7 @@ impl Source for Giver<'_> {
         self.left = self.left.saturating_sub(1);
         if fails {
             self.failures += 1;
-            return Err(Failed);
+            return Err(StreamFailed);
         }
         let wanted = buffer.len().min(self.rest.len()).min(until);
         let count = self.limits.moved(wanted);
@@ -148,7 +148,7 @@ impl Sink for Taker<'_> {
 
     ghost is_flushed = { λ s. s.flushed };
 
-    fn write(&mut self, bytes: &[u8]) -> Result<usize, Failed> {
+    fn write(&mut self, bytes: &[u8]) -> Result<usize, StreamFailed> {
         self.flushed = false;
         let room = self.limits.write_fails.saturating_sub(self.bytes.len());
         let count = self.limits.moved(bytes.len().min(room));
@@ -156,10 +156,10 @@ impl Sink for Taker<'_> {
             return Ok(count);
         }
         self.failures += 1;
-        Err(Failed)
+        Err(StreamFailed)
     }
 
-    fn flush(&mut self) -> Result<(), Failed> {
+    fn flush(&mut self) -> Result<(), StreamFailed> {
         self.handed_on.set(self.bytes.len());
         self.flushed = true;
         Ok(())

@@ -8,7 +8,7 @@ use crate::channel::{Giver, Limits, Taker};
 use crate::script::{Step, first_step};
 use anyhow::Result;
 use bibtex::{Refusal, Session};
-use bt_serve::{Failed, ServeFault, serve};
+use bt_serve::{ServeFault, StreamFailed, serve};
 use std::alloc::{AllocError, Global};
 use std::cell::Cell;
 use std::io::{BufReader, Read};

@@ -1,6 +1,6 @@
 //! What is read of some databases, and the faults.
 
-use bt_bib::{Fault, Item, Items, Piece, Spot, What, read_bib};
+use bt_bib::{Item, ItemFault, Items, NameRole, Piece, Spot, read_bib};
 use bt_text::Bytes;
 use std::alloc::{AllocError, Global};
 use std::test::Fail;
@@ -14,7 +14,7 @@ fn last_item(items: &Items) -> Option<&Item> {
 }
 
 /// The fault of the last item, and where it stands.
-fn last_fault(alloc: Global, text: &[u8]) -> Result<Option<(Fault, Spot)>, AllocError> {
+fn last_fault(alloc: Global, text: &[u8]) -> Result<Option<(ItemFault, Spot)>, AllocError> {
     let items = read_bib(alloc, text)?;
     match last_item(&items) {
         Some(item) => Ok(item.fault.map(|fault| (fault, item.end))),
@@ -23,7 +23,7 @@ fn last_fault(alloc: Global, text: &[u8]) -> Result<Option<(Fault, Spot)>, Alloc
 }
 
 /// The same of a text that begins with a line feed before these bytes.
-fn fault_below(alloc: Global, text: &[u8]) -> Result<Option<(Fault, Spot)>, AllocError> {
+fn fault_below(alloc: Global, text: &[u8]) -> Result<Option<(ItemFault, Spot)>, AllocError> {
     let mut below = Bytes::copied(alloc, b"\n")?;
     below.append(text)?;
     last_fault(alloc, below.as_slice())
@@ -51,39 +51,55 @@ fn repeated(alloc: Global, front: &[u8], byte: u8, count: usize) -> Result<Bytes
 }
 
 /// Texts with their fault and its place.
-const FAULTS: [(&[u8], Fault, usize); 20] = [
-    (b"@misc{a, t = ", Fault::EndOfFile, 13),
-    (b"@1{a}", Fault::MissingName(What::EntryType), 1),
-    (b"@misc\"", Fault::BadNameEnd(What::EntryType, b'"'), 5),
-    (b"@misc a", Fault::ExpectedOpen, 6),
-    (b"@misc{a b}", Fault::ExpectedCommaOrClose, 8),
-    (b"@misc{a, t {x}}", Fault::ExpectedEquals, 11),
-    (b"@misc{a, t = \"x}\"}", Fault::UnbalancedBraces, 15),
-    (b"@misc{a, t = }", Fault::MissingPart, 13),
-    (b"@", Fault::EndOfFile, 1),
-    (b"@misc{", Fault::EndOfFile, 6),
-    (b"@string", Fault::EndOfFile, 7),
-    (b"@comment,", Fault::BadNameEnd(What::EntryType, b','), 8),
-    (b"@string{1 = 2}", Fault::MissingName(What::StringName), 8),
+const FAULTS: [(&[u8], ItemFault, usize); 20] = [
+    (b"@misc{a, t = ", ItemFault::EndOfFile, 13),
+    (b"@1{a}", ItemFault::MissingName(NameRole::EntryType), 1),
+    (
+        b"@misc\"",
+        ItemFault::BadNameEnd(NameRole::EntryType, b'"'),
+        5,
+    ),
+    (b"@misc a", ItemFault::ExpectedOpen, 6),
+    (b"@misc{a b}", ItemFault::ExpectedCommaOrClose, 8),
+    (b"@misc{a, t {x}}", ItemFault::ExpectedEquals, 11),
+    (b"@misc{a, t = \"x}\"}", ItemFault::UnbalancedBraces, 15),
+    (b"@misc{a, t = }", ItemFault::MissingPart, 13),
+    (b"@", ItemFault::EndOfFile, 1),
+    (b"@misc{", ItemFault::EndOfFile, 6),
+    (b"@string", ItemFault::EndOfFile, 7),
+    (
+        b"@comment,",
+        ItemFault::BadNameEnd(NameRole::EntryType, b','),
+        8,
+    ),
+    (
+        b"@string{1 = 2}",
+        ItemFault::MissingName(NameRole::StringName),
+        8,
+    ),
     (
         b"@string{m' = 2}",
-        Fault::BadNameEnd(What::StringName, b'\''),
+        ItemFault::BadNameEnd(NameRole::StringName, b'\''),
         9,
     ),
-    (b"@misc{a, 1 = 2}", Fault::MissingName(What::FieldName), 9),
+    (
+        b"@misc{a, 1 = 2}",
+        ItemFault::MissingName(NameRole::FieldName),
+        9,
+    ),
     (
         b"@misc{a, b% = 2}",
-        Fault::BadNameEnd(What::FieldName, b'%'),
+        ItemFault::BadNameEnd(NameRole::FieldName, b'%'),
         10,
     ),
     (
         b"@misc(a, b = c})",
-        Fault::BadNameEnd(What::FieldPart, b'}'),
+        ItemFault::BadNameEnd(NameRole::FieldPart, b'}'),
         14,
     ),
-    (b"@string{m = n,}", Fault::ExpectedCommaOrClose, 13),
-    (b"@preamble{n,}", Fault::ExpectedCommaOrClose, 11),
-    (b"@misc{a,b=\x0c1}", Fault::MissingPart, 10),
+    (b"@string{m = n,}", ItemFault::ExpectedCommaOrClose, 13),
+    (b"@preamble{n,}", ItemFault::ExpectedCommaOrClose, 11),
+    (b"@misc{a,b=\x0c1}", ItemFault::MissingPart, 10),
 ];
 
 #[test]
@@ -138,7 +154,7 @@ fn each_beginning_is_read(rt: HostRuntime) -> Result<(), Fail> {
         let fault = last_fault(alloc, &text[..end])?;
         let inside = spans.iter().any(|span| span.0 < end && end < span.1);
         if inside {
-            assert_eq!(rt; fault.map(|found| found.0), Some(Fault::EndOfFile));
+            assert_eq!(rt; fault.map(|found| found.0), Some(ItemFault::EndOfFile));
             assert_eq!(rt; fault.map(|found| found.1.place), Some(end));
         } else {
             assert_eq!(rt; fault, None);
@@ -168,7 +184,7 @@ fn a_megabyte_of_left_braces_ends(rt: HostRuntime) -> Result<(), Fail> {
     assert_eq!(rt; text.len(), 1_048_576);
     assert_eq!(rt;
         last_fault(alloc, text.as_slice())?,
-        Some((Fault::EndOfFile, end))
+        Some((ItemFault::EndOfFile, end))
     );
     Ok(())
 }

@@ -1,6 +1,6 @@
 //! Styles that are read: deep braces, many functions, each beginning of a text.
 
-use bt_style::{Fault, FaultKind, StyleRefusal, read_style};
+use bt_style::{FaultKind, StyleFault, StyleRefusal, read_style};
 use std::alloc::{AllocError, Global};
 use std::test::Fail;
 
@@ -11,10 +11,10 @@ FUNCTION {f} {\"a%b\" #-3 'i := { title 's { #7 } } call.type$}
 READ\nEXECUTE {f}\nITERATE {skip$}\nREVERSE {F}\nSORT\n";
 
 /// The first fault of a text, if it has one.
-fn first_fault(alloc: Global, text: &[u8]) -> Result<Option<Fault>, AllocError> {
+fn first_fault(alloc: Global, text: &[u8]) -> Result<Option<StyleFault>, AllocError> {
     match read_style(alloc, text) {
         Ok(_) => Ok(None),
-        Err(StyleRefusal::Fault(fault)) => Ok(Some(fault)),
+        Err(StyleRefusal::StyleFault(fault)) => Ok(Some(fault)),
         Err(StyleRefusal::OutOfMemory) => Err(AllocError),
     }
 }
@@ -44,7 +44,7 @@ fn chain(alloc: Global, functions: usize) -> Result<Vec<u8>, AllocError> {
 #[test]
 fn braces_nest_100_deep(rt: HostRuntime) -> Result<(), Fail> {
     let alloc = rt.alloc();
-    let deep = Some(Fault {
+    let deep = Some(StyleFault {
         kind: FaultKind::UnclosedBrace,
         line: 1,
     });
@@ -76,7 +76,7 @@ fn faults_have_words(rt: HostRuntime) -> Result<(), Fail> {
     let alloc = rt.alloc();
     let kind = FaultKind::MissingArgument;
     assert_eq!(rt; kind.words(), b"An argument is missing".as_slice());
-    let fault = StyleRefusal::Fault(Fault { kind, line: 7 });
+    let fault = StyleRefusal::StyleFault(StyleFault { kind, line: 7 });
     assert_eq!(rt; format!(in alloc; "{fault}")?.as_str(), "Fault");
     let no_room = StyleRefusal::OutOfMemory;
     assert_eq!(rt; format!(in alloc; "{no_room}")?.as_str(), "OutOfMemory");

@@ -5,5 +5,5 @@ use Rattle.bt_bib.specs.declared.item.Piece.{Piece}
 use Rattle.bt_bib.specs.Boundaries.{start_of}
 
 -- It begins at or after a spot.
-abbrev pub BeginsBehind : Spot → Piece → Type 0
-BeginsBehind a p = (a.place ≤ (start_of p).place) × (a.line ≤ (start_of p).line)
+abbrev pub BeginsAfter : Spot → Piece → Type 0
+BeginsAfter a p = (a.place ≤ (start_of p).place) × (a.line ≤ (start_of p).line)

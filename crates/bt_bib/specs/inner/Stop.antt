@@ -2,34 +2,34 @@
 use Rattle.std.specs.Prelude.{◌≡◌, List, Result, Ok, Err, IfOk}
 use Rattle.std.specs.declared.alloc.AllocError.{AllocError}
 use Rattle.bt_bib.specs.declared.spot.Spot.{Spot}
-use Rattle.bt_bib.specs.declared.stop.Halt.{Halt}
-use Rattle.bt_bib.specs.declared.stop.Halt.TheVariants.{Memory, Stopped}
+use Rattle.bt_bib.specs.declared.stop.ReadStop.{ReadStop}
+use Rattle.bt_bib.specs.declared.stop.ReadStop.TheVariants.{Memory, Stopped}
 use Rattle.std.specs.Prelude.{ℕ}
 use Rattle.bt_bib.specs.Spot.{Here, here}
 use Rattle.bt_bib.specs.inner.Spot.{IsAhead}
 use Rattle.bt_bib.specs.Stop.{Stop}
 
 -- A reader of the code stops where the definition does, unless memory ran out.
-abbrev pub Stops : {Y : Type 0} → List ℕ → Spot → Halt → Result Y Stop → Type 0
+abbrev pub Stops : {Y : Type 0} → List ℕ → Spot → ReadStop → Result Y Stop → Type 0
 Stops text from Memory read = Unit {0}
 Stops text from (Stopped fault s) read = (read ≡ Err (fault, here text s)) × IsAhead text from s
 
 -- It gives what the definition reads, and the spot after it.
-abbrev pub Gives : {X : Type 0} → List ℕ → Spot → Result (X × Spot) Halt → Result (X × Here) Stop → Type 0
+abbrev pub Gives : {X : Type 0} → List ℕ → Spot → Result (X × Spot) ReadStop → Result (X × Here) Stop → Type 0
 Gives text from (Ok x) read = (read ≡ Ok (x.0, here text x.1)) × IsAhead text from x.1
 Gives text from (Err halt) read = Stops text from halt read
 
 -- It gives the spot after what the definition reads.
-abbrev pub Finds : List ℕ → Spot → Result Spot Halt → Result Here Stop → Type 0
+abbrev pub Finds : List ℕ → Spot → Result Spot ReadStop → Result Here Stop → Type 0
 Finds text from (Ok s) read = (read ≡ Ok (here text s)) × IsAhead text from s
 Finds text from (Err halt) read = Stops text from halt read
 
 -- It leaves in x what the definition reads, up to where that ends.
-abbrev pub FillsTo : {X : Type 0} → List ℕ → Spot → Halt → X → X × Result Here Stop → Type 0
+abbrev pub FillsTo : {X : Type 0} → List ℕ → Spot → ReadStop → X → X × Result Here Stop → Type 0
 FillsTo text from Memory x read = Unit {0}
 FillsTo text from (Stopped fault s) x read = (read ≡ (x, Err (fault, here text s))) × IsAhead text from s
 
-abbrev pub Fills : {X : Type 0} → List ℕ → Spot → Result Spot Halt → X → X × Result Here Stop → Type 0
+abbrev pub Fills : {X : Type 0} → List ℕ → Spot → Result Spot ReadStop → X → X × Result Here Stop → Type 0
 Fills text from (Ok s) x read = (read ≡ (x, Ok (here text s))) × IsAhead text from s
 Fills text from (Err halt) x read = FillsTo text from halt x read
 

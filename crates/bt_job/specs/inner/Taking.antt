@@ -96,15 +96,15 @@ part_taken files Style part r = named files Style (file_name_of Style part) r
 part_taken files Nested part r = named files Nested (file_name_of Nested part) r
 
 -- what a message says of a fault
-abbrev pub fault_words : AuxFault → List ℕ
-fault_words NoBrace = codes "No \"}\""
-fault_words WhiteSpace = codes "White space in argument"
-fault_words StuffAfter = codes "Stuff after \"}\""
+abbrev pub argument_words : AuxFault → List ℕ
+argument_words NoBrace = codes "No \"}\""
+argument_words WhiteSpace = codes "White space in argument"
+argument_words StuffAfter = codes "Stuff after \"}\""
 
 -- what the end of an argument comes to
 abbrev pub fault_outcome : Option AuxFault → Outcome
 fault_outcome None = Taken
-fault_outcome (Some fault) = Wrong (fault_words fault)
+fault_outcome (Some fault) = Wrong (argument_words fault)
 
 -- what comes later, unless an error or an opened file ends the command
 abbrev pub going_on : (Progress → Progress × Outcome) → Progress × Outcome → Progress × Outcome

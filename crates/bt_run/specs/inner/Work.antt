@@ -10,7 +10,7 @@ use Rattle.bt_machine.specs.Agreement.{Agree}
 use Rattle.bt_run.specs.declared.course.Step.{Step}
 use Rattle.bt_run.specs.declared.course.Course.{Course}
 use Rattle.bt_run.specs.declared.earlier.Earlier.{Earlier}
-use Rattle.bt_run.specs.declared.reuse.Known.{Known}
+use Rattle.bt_run.specs.declared.reuse.KnownReach.{KnownReach}
 use Rattle.bt_run.specs.declared.reuse.Reuse.{Reuse}
 use Rattle.bt_run.specs.declared.reusing.Sought.{Sought}
 use Rattle.bt_run.specs.declared.reusing.Found.{Found}
@@ -43,7 +43,7 @@ IsMet sought steps found =
     × IsLike sought.command sought.reach.now.targets sought.input.now found.step.now
 
 -- what is known to be reached from a name
-abbrev pub IsKnown : Program → Known → Type 0
+abbrev pub IsKnown : Program → KnownReach → Type 0
 IsKnown p k = (t : Target) → Contains k.reach.targets t ↔ Reaches p k.function k.target t
 
 -- the step of an input, as it is kept
@@ -55,8 +55,8 @@ pub record IsCounted (p : Program) (earlier : List Step) (t : Step) (before afte
   pub ran : after.ran ≡ before.ran + length (work_under p earlier (t ∷ []))
   pub ticks : after.meter ≡ before.meter + total_cost (work_under p earlier (t ∷ []))
 
--- The step that a run over earlier ones comes to: it is one of the style and counts as its part of the work, its ticks are a
--- million at most, and what is known of the style and of the earlier steps stays so.
+-- The step that a run over earlier ones comes to: it is one of the style and counts as its part of the work, its ticks
+-- are a million at most, and what is known of the style and of the earlier steps stays so.
 pub record IsNext (p : Program) (earlier : List Step) (t : Step) (before after : Reuse) : Type 0 where
   pub step : IsStep p t
   pub counted : IsCounted p earlier t before after
@@ -66,9 +66,10 @@ pub record IsNext (p : Program) (earlier : List Step) (t : Step) (before after :
   pub places : after.places ≡ before.places
   pub same : after.same ≡ before.same
 
--- What a run over earlier steps keeps to: what was carried out is the work of its trace, and costs at most a million ticks
--- for each step of it; its steps are those of the style; what it worked out of the style is so; its index, if there is one, is
--- that of the earlier steps; its order names entries alone; and what it knows of entries without comparing them is so.
+-- What a run over earlier steps keeps to: what was carried out is the work of its trace, and costs at most a million
+-- ticks for each step of it; its steps are those of the style; what it worked out of the style is so; its index, if
+-- there is one, is that of the earlier steps; its order names entries alone; and what it knows of entries without
+-- comparing them is so.
 pub record IsConsistent (p : Program) (earlier : Earlier) (r : Course) (reuse : Reuse) : Type 0 where
   pub ran : reuse.ran ≡ length (work_under p earlier.steps.now r.trace)
   pub ticks : reuse.meter ≡ total_cost (work_under p earlier.steps.now r.trace)

@@ -1,4 +1,4 @@
--- What only helpers' contracts say, beside `Commands`.
+-- The first word of a line, and the requests that are no edits.
 use Rattle.std.specs.Prelude.{◌≡◌, ℕ, List, [], ◌∷◌, Option, Some, None}
 use Rattle.bt_serve.specs.Commands.{Request, edit, words_in_line}
 

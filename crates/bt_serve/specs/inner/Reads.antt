@@ -1,4 +1,4 @@
--- What only helpers' contracts say, beside `Reads`.
+-- What is read of a source: a byte, a line, a part of one, counted bytes.
 use Rattle.std.specs.Prelude.{◌≡◌, ℕ, ◌<◌, ◌++◌, List, [], ◌∷◌, length, take, Option, None, Some, Bool, true, false}
 use Rattle.std.specs.Io.KnownBytes.{Consumes, IsAtEnd}
 use Rattle.bt_serve.specs.declared.reading.LineEnd.{LineEnd}
@@ -25,16 +25,16 @@ abbrev pub SkipsLine : Option (List ℕ) → Option (List ℕ) → Bool → Type
 SkipsLine old new true = (bytes : List ℕ) × HasNoFeed bytes × Consumes old new (bytes ++ 10 ∷ [])
 SkipsLine old new false = (bytes : List ℕ) × HasNoFeed bytes × Consumes old new bytes × IsAtEnd new
 
--- fewer than so many bytes
+-- fewer bytes than a number
 abbrev pub ReadsBelow : Option (List ℕ) → Option (List ℕ) → ℕ → Type 0
 ReadsBelow old new n = (bytes : List ℕ) × (length bytes < n) × Consumes old new bytes
 
--- so many bytes
+-- the bytes of a buffer
 abbrev pub ReadsAll : Option (List ℕ) → Option (List ℕ) → List ℕ → Bool → Type 0
 ReadsAll old new buffer true = Consumes old new buffer
 ReadsAll old new buffer false = (n : ℕ) × (n < length buffer) × Consumes old new (take n buffer) × IsAtEnd new
 
--- so many bytes, whatever they are, or fewer and the end
+-- a number of bytes, whatever they are, or fewer and the end
 abbrev pub DropsAll : Option (List ℕ) → Option (List ℕ) → ℕ → Bool → Type 0
 DropsAll old new n true = (bytes : List ℕ) × (length bytes ≡ n) × Consumes old new bytes
 DropsAll old new n false = (bytes : List ℕ) × (length bytes < n) × Consumes old new bytes × IsAtEnd new

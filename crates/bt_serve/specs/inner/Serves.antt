@@ -1,4 +1,4 @@
--- What only helpers' contracts say, beside `Serves`.
+-- What one request does, and how it is answered.
 use Rattle.std.specs.Prelude.{◌≡◌, ℕ, Some, Bool, List, length, Option, Result, Ok, Err}
 use Rattle.std.specs.Io.KnownBytes.{Consumes, Appends, IsAtEnd}
 use Rattle.bt_serve.specs.inner.Reads.{ReadsBelow}
@@ -9,7 +9,7 @@ use Rattle.bibtex.specs.declared.state.State.{State}
 use Rattle.bibtex.specs.Present.{reported}
 use Rattle.bibtex.specs.Changes.{Change}
 use Rattle.bibtex.specs.Applied.{outcome, IsAnswer}
-use Rattle.bt_serve.specs.Commands.{Request, bytes_behind, answer_of, after_of, ends, accepted, refused, Wants}
+use Rattle.bt_serve.specs.Commands.{Request, bytes_brought, answer_of, after_of, ends, accepted, refused, MayRunOut}
 use Rattle.bt_serve.specs.declared.fault.ServeFault.{ServeFault}
 use Rattle.bt_serve.specs.declared.fault.ServeFault.TheVariants.{ReadFailed, WriteFailed, Truncated}
 use Rattle.bt_serve.specs.Serves.{Turn}
@@ -27,15 +27,15 @@ Takes change n old new state state' (Err WriteFailed) = ⊥
 -- the bytes of a request are read, what it asks for is done, and its answer is written
 abbrev pub Does : Request → Option (List ℕ) → Option (List ℕ) → State → State → (List ℕ → Type 0) → Type 0
 Does request old new state state' Written =
-    (wants : Bool) × (bytes : List ℕ) × (length bytes ≡ bytes_behind request) × Consumes old new bytes ×
-    (state' ≡ after_of wants state request bytes) × Written (answer_of wants state request bytes) × Wants wants state request bytes
+    (ran_out : Bool) × (bytes : List ℕ) × (length bytes ≡ bytes_brought request) × Consumes old new bytes ×
+    (state' ≡ after_of ran_out state request bytes) × Written (answer_of ran_out state request bytes) × MayRunOut ran_out state request bytes
 
 -- a request is answered, and whether it is the last one; or what stands at a fault
 abbrev pub Replies : Request → Option (List ℕ) → Option (List ℕ) → Option (List ℕ) → Option (List ℕ) → State → State → Result Bool ServeFault → Type 0
 Replies request old new held held' state state' (Ok last) = Does request old new state state' (Appends held held') × (last ≡ ends request)
 Replies request old new held held' state state' (Err WriteFailed) = Does request old new state state' (AppendsPart held held')
-Replies request old new held held' state state' (Err ReadFailed) = ReadsBelow old new (bytes_behind request) × (held' ≡ held) × (state' ≡ state)
-Replies request old new held held' state state' (Err Truncated) = ReadsBelow old new (bytes_behind request) × IsAtEnd new × (held' ≡ held) × (state' ≡ state)
+Replies request old new held held' state state' (Err ReadFailed) = ReadsBelow old new (bytes_brought request) × (held' ≡ held) × (state' ≡ state)
+Replies request old new held held' state state' (Err Truncated) = ReadsBelow old new (bytes_brought request) × IsAtEnd new × (held' ≡ held) × (state' ≡ state)
 
 -- the answer to an edit that was taken
 abbrev pub taken_text : Result Report Refusal → List ℕ

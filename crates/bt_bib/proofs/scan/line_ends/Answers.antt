@@ -8,11 +8,11 @@ pub lines-preserved : goal.lines-preserved
 lines-preserved c =
     let rest = c.lines.rest.now in
     let k = c.in-Some.place in
-    let behind = take_rest rest (k + 1) in
+    let after_byte = take_rest rest (k + 1) in
     let more = hits_more is_line_end k rest c.in-Some.ensures in
     record {
-      few = rw behind (omega (arith, c.in-Some.ensures.0.high, length-drop (k + 1) rest, c.lines.invariant.few));
-      same = rw behind (omega (arith, more, c.lines.invariant.same));
+      few = rw after_byte (omega (arith, c.in-Some.ensures.0.high, length-drop (k + 1) rest, c.lines.invariant.few));
+      same = rw after_byte (omega (arith, more, c.lines.invariant.same));
     }
 
 pub returns : goal.returns

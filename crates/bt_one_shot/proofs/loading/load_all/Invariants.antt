@@ -8,7 +8,7 @@ invariant-rounds g l =
     let folder = g.F.Folder in
     let sink = g.E.Sink in
     record {
-      goes : Goes l.fn.known l.fn.draft l.draft l.fn.met l.met (folder.seen l.fn.folder) (folder.seen l.folder)
+      goes : Goes l.fn.failures_before l.fn.draft l.draft l.fn.met l.met (folder.seen l.fn.folder) (folder.seen l.folder)
           (sunk (sink.contents l.fn.err) (sink.failure_count l.fn.err) (sink.is_flushed l.fn.err)) (sunk (sink.contents l.err) (sink.failure_count l.err) (sink.is_flushed l.err));
     }
 

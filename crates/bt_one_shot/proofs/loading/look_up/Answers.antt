@@ -12,10 +12,10 @@ returns-in-Err-clause-looks g c =
     let taken = c.in-Err.ensures in
     record {
       found = c.read-found.result;
-      wants = taken.0;
+      ran_out = taken.0;
       finds = c.read-found.ensures.found;
-      is_behind = taken.1.1 ∙ sym (ap (state_or c.args.draft.now) taken.1.0);
+      is_after = taken.1.1 ∙ sym (ap (state_or c.args.draft.now) taken.1.0);
       looked_up = c.read-found.ensures.looks_up;
-      tells = subst (λ (made : Result State Refusal). GoesOn c.args.known (sunk (g.E.Sink.contents c.args.err.now) (g.E.Sink.failure_count c.args.err.now) (g.E.Sink.is_flushed c.args.err.now))
+      tells = subst (λ (made : Result State Refusal). GoesOn c.args.failures_before (sunk (g.E.Sink.contents c.args.err.now) (g.E.Sink.failure_count c.args.err.now) (g.E.Sink.is_flushed c.args.err.now))
           (sunk (g.E.Sink.contents c.tell_refused.new.err) (g.E.Sink.failure_count c.tell_refused.new.err) (g.E.Sink.is_flushed c.tell_refused.new.err)) (refusal_line c.args.name.now made)) (sym taken.1.0) c.tell_refused.ensures;
     }

@@ -13,7 +13,7 @@ invariant-wanted g l =
     record {
       wanted : l.name-items ≡ (shown l.draft).wanted;
       front : list_all (is_met l.met) (take l.name-index l.name-items) ≡ true;
-      goes : Goes l.fn.known l.fn.draft l.draft l.fn.met l.met (folder.seen l.fn.folder) (folder.seen l.folder)
+      goes : Goes l.fn.failures_before l.fn.draft l.draft l.fn.met l.met (folder.seen l.fn.folder) (folder.seen l.folder)
           (sunk (sink.contents l.fn.err) (sink.failure_count l.fn.err) (sink.is_flushed l.fn.err)) (sunk (sink.contents l.err) (sink.failure_count l.err) (sink.is_flushed l.err));
       more : length l.fn.met ≤ length l.met;
     }

@@ -6,7 +6,7 @@ use Rattle.bt_one_shot.proofs.loading.tell_refused.Goals as goal
 
 pub returns : goal.returns
 returns g c =
-    subst (λ (t : List ℕ). GoesOn c.args.known (sunk (g.E.Sink.contents c.args.err.now) (g.E.Sink.failure_count c.args.err.now) (g.E.Sink.is_flushed c.args.err.now))
+    subst (λ (t : List ℕ). GoesOn c.args.failures_before (sunk (g.E.Sink.contents c.args.err.now) (g.E.Sink.failure_count c.args.err.now) (g.E.Sink.is_flushed c.args.err.now))
     (sunk (g.E.Sink.contents c.tell.new.err) (g.E.Sink.failure_count c.tell.new.err) (g.E.Sink.is_flushed c.tell.new.err))
     (codes "bibtex: refused " ++ (t ++ (codes " " ++ (c.args.name.now ++ codes "\n")))))
     (c.as_bytes-code.ensures.value ∙ c.format.ensures.text ∙ ap decimal c.code_of.ensures) c.tell.ensures

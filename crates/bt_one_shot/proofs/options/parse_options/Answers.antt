@@ -3,7 +3,7 @@ use Rattle.std.specs.Prelude.{string_bytes, unwrap_or}
 use Rattle.bibtex.specs.Present.{is_root_name}
 use Rattle.clap.specs.Words.{first_of, found_of, rows_of}
 use Rattle.clap.proofs.WalkLemmas.{first_value-rows}
-use Rattle.bt_one_shot.specs.Words.{Asked, asked, asked_by, without_aux}
+use Rattle.bt_one_shot.specs.Words.{Invocation, asked, asked_by, without_aux}
 use Rattle.bt_one_shot.proofs.OptionLemmas.{fault_kinds, no_faults, asked_rows, text_or}
 use Rattle.bt_one_shot.proofs.options.parse_options.Goals as goal
 
@@ -19,7 +19,7 @@ returns-then-not-is_root_name-clause-fault c =
     let job : c.as_bytes.result.now ≡ unwrap_or (first_of (codes "JOB") rows) [] =
     c.as_bytes.ensures.value ∙ (ap (λ s. s.now) c.unwrap_or.ensures ∙ (text_or c.get_str.result _ _ c.get_str.ensures ∙ ap (λ (o : Option (List ℕ)). unwrap_or o []) (first_value-rows (found_of c.in-Ok.matches) (codes "JOB")))) in (
       no_faults words _ c.in_ok-command.ensures c.in-Ok.ensures.kinds,
-      ap (λ (a : Asked). is_root_name a.root) is ∙ (ap (λ (r : List ℕ). is_root_name (without_aux r)) (sym job) ∙ (ap is_root_name (sym c.without_aux-root.ensures) ∙ (sym c.is_root_name.ensures ∙ c.if-not-is_root_name.true))),
+      ap (λ (a : Invocation). is_root_name a.root) is ∙ (ap (λ (r : List ℕ). is_root_name (without_aux r)) (sym job) ∙ (ap is_root_name (sym c.without_aux-root.ensures) ∙ (sym c.is_root_name.ensures ∙ c.if-not-is_root_name.true))),
     )
 
 pub returns-clause-taken : goal.returns-clause-taken

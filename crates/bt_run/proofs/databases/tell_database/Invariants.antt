@@ -1,9 +1,9 @@
 use Rattle.std.proofs.Common.{◌≡◌, ◌++◌, drop, map, filter}
 use Rattle.bt_log.specs.declared.message.Message.{Message}
-use Rattle.bt_run.specs.Reading.{told_of, is_about, database_told}
+use Rattle.bt_run.specs.Reading.{in_its_file, is_about, database_told}
 use Rattle.bt_run.proofs.databases.tell_database.Given as goal
 
 abbrev pub invariant-messages : goal.invariant-messages
 invariant-messages l =
-    l.log ++ map (told_of l.file) (filter (λ (m : Message). is_about l.number m.place) (drop l.message-index l.messages))
+    l.log ++ map (in_its_file l.file) (filter (λ (m : Message). is_about l.number m.place) (drop l.message-index l.messages))
     ≡ l.fn.log ++ database_told l.number l.file l.messages

@@ -45,5 +45,5 @@ pub returns-clause-counted : goal.returns-clause-counted
 returns-clause-counted c =
     let none = met_none _ _ c.in_ok-met.met c.in-None.is c.in_ok-met.ensures.met in
     let d = c.in_ok-ran-in-None.ran in
-    ran_counted (program_of c.args.style.now) c.args.earlier.now c.args.command c.deref-reach.result.now.targets c.args.input.now d.outcome d.cost c.args.reuse.now c.carry_out.new.reuse
+    ran_counted (program_of c.args.style.now) c.args.earlier.now c.args.command c.deref-reach.result.now.targets c.args.input.now d.outcome d.cost c.args.reuse.now c.carry_out_step.new.reuse
     (subst (λ (r : Reach). IsFootprint (program_of c.args.style.now) c.args.input.now r.targets) (sym c.deref-reach.ensures) c.in_ok-known.ensures.reach) none c.in_ok-ran-in-None.ensures.ran (c.in_ok-ran-in-None.ensures.ticks ∙ ap (λ n. c.args.reuse.now.meter + n) (sym c.in_ok-ran-in-None.ensures.cost))

@@ -9,7 +9,7 @@ pieces-preserved g c =
     let before = c.pieces.invariant.part in
     let n = c.in_ok-count.count in
     let t = c.read.new.buffer in
-    let short : n ≤ c.pieces.wanted = omega (arith, now.bound, c.min-part.ensures, c.read.auto.buffer, length-take c.min-part.result c.pieces.buffer) in
+    let short : n ≤ c.pieces.to_drop = omega (arith, now.bound, c.min-part.ensures, c.read.auto.buffer, length-take c.min-part.result c.pieces.buffer) in
     record {
       failures = cc;
       reads = omega (arith, now.lowers);

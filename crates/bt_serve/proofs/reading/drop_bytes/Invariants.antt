@@ -8,8 +8,8 @@ invariant-pieces g l =
     record {
       failures : source.failure_count l.source ≡ source.failure_count l.fn.source;
       reads : source.reads_left l.source ≤ source.reads_left l.fn.source;
-      part : (bytes : List ℕ) × (length bytes + l.wanted ≡ l.count) × Consumes (source.remaining l.fn.source) (source.remaining l.source) bytes;
+      part : (bytes : List ℕ) × (length bytes + l.to_drop ≡ l.count) × Consumes (source.remaining l.fn.source) (source.remaining l.source) bytes;
     }
 
 abbrev pub decreases-pieces : goal.decreases-pieces
-decreases-pieces g l = l.wanted
+decreases-pieces g l = l.to_drop

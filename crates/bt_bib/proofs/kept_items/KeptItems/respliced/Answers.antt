@@ -11,7 +11,7 @@ use Rattle.bt_bib.specs.inner.Rereading.{until, IsJoint}
 use Rattle.bt_bib.specs.Moving.{FitsPiece}
 use Rattle.bt_bib.specs.inner.Moving.{rebased_piece}
 use Rattle.bt_bib.specs.Moved.{nowhere}
-use Rattle.bt_bib.specs.inner.Placed.{BeginsBehind}
+use Rattle.bt_bib.specs.inner.Placed.{BeginsAfter}
 use Rattle.bt_bib.proofs.PlacedLemmas.{rest_behind}
 use Rattle.bt_bib.proofs.SmallLemmas.{last_ones_fit}
 use Rattle.bt_bib.proofs.SpliceLemmas.{all_still, in_order, law_of, joined_back, final_common, final_end}
@@ -52,15 +52,15 @@ with_rebased-requires-in-Some-clause-fits c =
     let law = law_of c.args.old_text.now new b e n ps c.requires.splice is from stop is_from c.in_ok-items-2.ensures.ends in
     let joint : IsJoint ps b e n stop.place (Some c.in-Some.passed) = subst (λ (o : Option ℕ). IsJoint ps b e n stop.place o) c.in-Some.is c.in_ok-items-2.ensures.joint in
     let rest = drop c.in-Some.passed ps in
-    let joined = joined_back c.args.old_text.now new b e n c.in-Some.passed ps stop back c.requires.splice is joint c.last_boundary-back.ensures in
-    let whole = final_common new (below b ps) again rest (map (rebased_piece back stop) rest) stop law.0 joined in
+    let next_part = joined_back c.args.old_text.now new b e n c.in-Some.passed ps stop back c.requires.splice is joint c.last_boundary-back.ensures in
+    let whole = final_common new (below b ps) again rest (map (rebased_piece back stop) rest) stop law.0 next_part in
     subst (λ xs. All (FitsPiece back stop) xs) (sym (take_rest ps c.in-Some.passed)) (last_ones_fit new (below b ps ++ again) rest back stop (omega arith) (sym whole))
 
-pub with_rebased-requires-in-Some-clause-behind : goal.with_rebased-requires-in-Some-clause-behind
-with_rebased-requires-in-Some-clause-behind c =
+pub with_rebased-requires-in-Some-clause-after_byte : goal.with_rebased-requires-in-Some-clause-after_byte
+with_rebased-requires-in-Some-clause-after_byte c =
     let ps = c.pieces-old.result.now in
     let back = c.last_boundary-back.result in
-    subst (λ xs. All (BeginsBehind back) xs) (sym (take_rest ps c.in-Some.passed)) (rest_behind c.args.old_text.now ps c.in-Some.passed back (c.pieces-old.ensures ∙ c.requires.old) c.last_boundary-back.ensures)
+    subst (λ xs. All (BeginsAfter back) xs) (sym (take_rest ps c.in-Some.passed)) (rest_behind c.args.old_text.now ps c.in-Some.passed back (c.pieces-old.ensures ∙ c.requires.old) c.last_boundary-back.ensures)
 
 pub returns-in_ok-items-in-Some-clause-pieces : goal.returns-in_ok-items-in-Some-clause-pieces
 returns-in_ok-items-in-Some-clause-pieces c =
@@ -78,8 +78,8 @@ returns-in_ok-items-in-Some-clause-pieces c =
     let law = law_of c.args.old_text.now new b e n ps c.requires.splice is from stop is_from c.in_ok-items-2.ensures.ends in
     let joint : IsJoint ps b e n stop.place (Some c.in-Some.passed) = subst (λ (o : Option ℕ). IsJoint ps b e n stop.place o) c.in-Some.is c.in_ok-items-2.ensures.joint in
     let rest = drop c.in-Some.passed ps in
-    let joined = joined_back c.args.old_text.now new b e n c.in-Some.passed ps stop back c.requires.splice is joint c.last_boundary-back.ensures in
-    let whole = final_common new (below b ps) again rest (map (rebased_piece back stop) rest) stop law.0 joined in
+    let next_part = joined_back c.args.old_text.now new b e n c.in-Some.passed ps stop back c.requires.splice is joint c.last_boundary-back.ensures in
+    let whole = final_common new (below b ps) again rest (map (rebased_piece back stop) rest) stop law.0 next_part in
     let kept : c.in_ok-items.items ≡ below b ps = c.in_ok-items.ensures ∙ ap (λ l. l ++ map (rebased_piece nowhere nowhere) (take c.count_below-kept.result ps)) c.new-front.ensures ∙ all_still (take c.count_below-kept.result ps) ∙ sym c.count_below-kept.ensures.value in
     let read : c.in_ok-items-2.items ≡ below b ps ++ again = c.in_ok-items-2.ensures.pieces ∙ ap (λ l. l ++ again) kept in
     c.in_ok-items-in-Some.ensures ∙ ap (λ l. c.in_ok-items-2.items ++ map (rebased_piece back stop) l) (take_rest ps c.in-Some.passed) ∙ ap (λ l. l ++ map (rebased_piece back stop) rest) read ∙ whole

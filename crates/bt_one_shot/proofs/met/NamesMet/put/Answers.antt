@@ -2,7 +2,7 @@ use Rattle.std.proofs.Common.{◌≡◌, ◌∙◌, ap, map, false, ℕ, List, [
 use Rattle.std.specs.Prelude.{bytes_eq}
 use Rattle.std.specs.List.{list_any}
 use Rattle.bt_one_shot.proofs.MetLemmas.{put_items}
-use Rattle.bt_one_shot.proofs.met.Met.put.Goals as goal
+use Rattle.bt_one_shot.proofs.met.NamesMet.put.Goals as goal
 
 pub returns-clause-ok : goal.returns-clause-ok
 returns-clause-ok c =

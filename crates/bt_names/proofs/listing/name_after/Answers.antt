@@ -1,10 +1,10 @@
 use Rattle.std.proofs.Common.{◌≡◌, ◌+◌, get_or, slice_get, sym, ap, ◌∙◌, arith}
-use Rattle.bt_text.specs.Depth.{depth_behind}
+use Rattle.bt_text.specs.Depth.{depth_after}
 use Rattle.bt_text.proofs.BlockLemmas.{depth_take}
 use Rattle.bt_names.specs.Listing.{names_of}
 use Rattle.bt_names.proofs.ListingLemmas.{depth_behind_most, names_from, name_passed, name_skipped}
-use Rattle.bt_names.proofs.listing.name_behind.Goals as goal
-use Rattle.bt_names.proofs.listing.name_behind.Goals.{then-separates+else-left-eq0, else-separates}
+use Rattle.bt_names.proofs.listing.name_after.Goals as goal
+use Rattle.bt_names.proofs.listing.name_after.Goals.{then-separates+else-left-eq0, else-separates}
 
 pub loop-place-preserved : goal.loop-place-preserved
 loop-place-preserved c =
@@ -21,4 +21,4 @@ loop-place-preserved c =
       | then-separates+else-left-eq0 w ↦ rw (w.start-is, w.left-is) (name_passed t start i left d all c.loop-place-test.true at (sym told ∙ w.if-separates.true) (omega arith) c.loop-place.invariant.2)
       | else-separates w ↦ rw (w.start-is, w.left-is) (name_skipped t start i left d all c.loop-place-test.true at (sym told ∙ w.if-separates.false) c.loop-place.invariant.2)
     ] in
-    (c.depth_behind-depth.ensures ∙ ap (λ d. depth_behind d (get_or t i 0)) at ∙ sym (depth_take t i c.loop-place-test.true), omega (arith, c.depth_behind-depth.ensures, depth_behind_most d (get_or t i 0)), named)
+    (c.depth_after-depth.ensures ∙ ap (λ d. depth_after d (get_or t i 0)) at ∙ sym (depth_take t i c.loop-place-test.true), omega (arith, c.depth_after-depth.ensures, depth_behind_most d (get_or t i 0)), named)

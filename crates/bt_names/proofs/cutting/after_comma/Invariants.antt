@@ -1,6 +1,6 @@
 use Rattle.std.proofs.Common.{◌≡◌, length}
 use Rattle.bt_names.specs.inner.Cutting.{other_sections}
-use Rattle.bt_names.proofs.cutting.behind_comma.Given as goal
+use Rattle.bt_names.proofs.cutting.after_comma.Given as goal
 
 abbrev pub invariant-walk : goal.invariant-walk
 invariant-walk l = other_sections l.rest ≡ other_sections l.text
