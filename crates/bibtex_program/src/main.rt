@@ -3,14 +3,14 @@
 
 mod disk;
 
-ghost use Rattle.std.specs.Prelude.{◌≡◌, true};
+ghost use Rattle.std.specs.Prelude.{◌≡◌, ◌<◌, ◌-◌, ◌^◌, true};
 ghost use Rattle.bibtex.specs.Present.{is_root_name};
 
 use crate::disk::Disk;
 use anyhow::Result;
 use bibtex::Session;
 use bt_one_shot::{Options, OptionsFault, one_shot, parse_options};
-use bt_serve::{ReaderSource, WriterSink, serve};
+use bt_serve::{ReaderSource, Sink, Source, WriterSink, serve};
 use std::io::{BufReader, BufWriter};
 use std::process::ExitCode;
 use std::{env, io};
@@ -35,21 +35,34 @@ fn refuse(rt: &(impl Print + Eprint), fault: OptionsFault) -> Result<ExitCode> {
     }
 }
 
-/// Answers the commands of standard input on standard output.
-fn stay(rt: &HostRuntime, options: &Options) -> Result<ExitCode> {
-    let alloc = rt.alloc();
-    let Ok(mut session) = Session::new(alloc, options.root.as_slice(), options.min) else {
-        return out_of_memory(rt);
-    };
-    let mut source = ReaderSource::new(BufReader::new(alloc, rt.reader())?);
-    let mut sink = WriterSink::new(BufWriter::new(alloc, io::writer(rt))?);
-    match serve(alloc, &mut source, &mut sink, &mut session) {
+/// Answers the commands of a source on a sink, and reports a fault.
+fn answer<S: Source, K: Sink>(
+    rt: &HostRuntime,
+    source: &mut S,
+    sink: &mut K,
+    session: &mut Session,
+) -> Result<ExitCode>
+    requires reads { S.failure_count source.old < 2 ^ 64 - 1 }
+    requires writes { K.failure_count sink.old < 2 ^ 64 - 1 }
+{
+    match serve(rt.alloc(), source, sink, session) {
         Ok(()) => Ok(ExitCode::SUCCESS),
         Err(fault) => {
             eprintln!(rt; "bibtex: fault {}", fault.number())?;
             Ok(ExitCode::FAILURE)
         }
     }
+}
+
+/// Answers the commands of standard input on standard output.
+fn stay(rt: &HostRuntime, options: &Options) -> Result<ExitCode> {
+    let alloc = rt.alloc();
+    let Ok(mut session) = Session::new(alloc, options.root.as_slice(), options.min) else {
+        return out_of_memory(rt);
+    };
+    let mut source = ReaderSource::new(BufReader::new(alloc, rt.stdin())?);
+    let mut sink = WriterSink::new(BufWriter::new(alloc, io::writer(rt))?);
+    answer(rt, &mut source, &mut sink, &mut session)
 }
 
 /// Runs the job once, in the folder that the program was started in.

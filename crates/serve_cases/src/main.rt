@@ -4,26 +4,43 @@
 mod channel;
 mod script;
 
+ghost use Rattle.std.specs.Prelude.{◌≡◌, ◌<◌, ◌-◌, ◌^◌};
+
 use crate::channel::{Giver, Limits, Taker};
 use crate::script::{Step, first_step};
 use anyhow::Result;
 use bibtex::{Refusal, Session};
-use bt_serve::{ServeFault, StreamFailed, serve};
+use bt_serve::{ServeFault, Sink, Source, StreamFailed, serve};
 use std::alloc::{AllocError, Global};
 use std::cell::Cell;
-use std::io::{BufReader, Read};
+use std::io::Read;
 
 /// The names of which it is said whether their files are there.
 const NAMES: [&str; 4] = ["job.aux", "s.bst", "x.bib", "y.bib"];
 
-/// Answers an input on a new session, and tells how it ended, what was read and written, and the files that are there.
-fn answer(rt: &HostRuntime, title: &str, input: &[u8], limits: Limits<'_>) -> Result<()> {
-    let alloc = rt.alloc();
-    let mut session = Session::new(alloc, b"job", 2)?;
-    let handed_on = Cell::new(0);
-    let mut source = Giver::new(alloc, input, limits, &handed_on);
-    let mut sink = Taker::new(alloc, limits, &handed_on);
-    match serve(alloc, &mut source, &mut sink, &mut session) {
+/// Answers the commands of a source, of any kind: what is proved of that isn't used here, and would be dear to carry.
+fn answer_all<S: Source, K: Sink>(
+    alloc: Global,
+    source: &mut S,
+    sink: &mut K,
+    session: &mut Session,
+) -> Result<(), ServeFault>
+    requires reads { S.failure_count source.old < 2 ^ 64 - 1 }
+    requires writes { K.failure_count sink.old < 2 ^ 64 - 1 }
+{
+    serve(alloc, source, sink, session)
+}
+
+/// Tells how a session ended, what was read and written, and the files that are there.
+fn tell(
+    rt: &HostRuntime,
+    title: &str,
+    ended: Result<(), ServeFault>,
+    session: &Session,
+    source: &Giver<'_>,
+    sink: &Taker<'_>,
+) -> Result<()> {
+    match ended {
         Ok(()) => print!(rt; "{title}: Ok")?,
         Err(fault) => print!(rt; "{title}: {fault}")?,
     }
@@ -39,6 +56,17 @@ fn answer(rt: &HostRuntime, title: &str, input: &[u8], limits: Limits<'_>) -> Re
         println!(rt; "{count} handed on")?;
     }
     Ok(())
+}
+
+/// Answers an input on a new session, and tells what came of it.
+fn answer(rt: &HostRuntime, title: &str, input: &[u8], limits: Limits<'_>) -> Result<()> {
+    let alloc = rt.alloc();
+    let mut session = Session::new(alloc, b"job", 2)?;
+    let handed_on = Cell::new(0);
+    let mut source = Giver::new(alloc, input, limits, &handed_on);
+    let mut sink = Taker::new(alloc, limits, &handed_on);
+    let ended = answer_all(alloc, &mut source, &mut sink, &mut session);
+    tell(rt, title, ended, &session, &source, &sink)
 }
 
 /// Answers an input where the write after so many bytes fails, for each number of them.
@@ -61,7 +89,7 @@ fn fail_writes(
 
 /// Shows each fault of the loop and each refusal of an edit.
 fn show_faults(rt: &HostRuntime) -> Result<()> {
-    println!(rt; "{Failed}")?;
+    println!(rt; "{StreamFailed}")?;
     for fault in [
         ServeFault::ReadFailed,
         ServeFault::WriteFailed,
@@ -117,36 +145,64 @@ fn places(alloc: Global, words: &str) -> Result<Vec<usize>, AllocError> {
     Ok(places)
 }
 
+/// An input, how it moves, and where it is watched.
+#[derive(Drop)]
+struct Case {
+    input: Vec<u8>,
+    watched: Vec<usize>,
+    most: usize,
+}
+
+impl Case {
+    /// No input, and no limit.
+    fn new(alloc: Global) -> Self {
+        Case {
+            input: Vec::new(alloc),
+            watched: Vec::new(alloc),
+            most: usize::MAX,
+        }
+    }
+
+    /// Answers the input as a step says.
+    fn answer(&self, rt: &HostRuntime, step: Step<'_>) -> Result<()> {
+        let limits = Limits {
+            most: self.most,
+            read_fails: usize::MAX,
+            write_fails: usize::MAX,
+            watched: self.watched.as_slice(),
+        };
+        answer_as(rt, step, self.input.as_slice(), limits)
+    }
+
+    /// Takes a step.
+    fn take(&mut self, rt: &HostRuntime, step: Step<'_>) -> Result<()> {
+        match step {
+            Step::Text(bytes) => self.input.extend_from_slice(bytes)?,
+            Step::Letters(count) => push_letters(&mut self.input, count)?,
+            Step::Most(count) => self.most = count,
+            Step::Watch(words) => self.watched = places(rt.alloc(), words)?,
+            _ => self.answer(rt, step)?,
+        }
+        Ok(())
+    }
+}
+
 fn main(rt: HostRuntime) -> Result<()> {
     let alloc = rt.alloc();
     let mut script = Vec::new(alloc);
-    BufReader::new(alloc, rt.reader())?.read_to_end(&mut script)?;
+    rt.stdin().read_to_end(&mut script)?;
     let mut rest = script.as_slice();
-    let mut input = Vec::new(alloc);
-    let mut watched = Vec::new(alloc);
-    let mut most = usize::MAX;
+    let mut case = Case::new(alloc);
     for _ in 0..u32::MAX {
         let Some((step, behind)) = first_step(rest) else {
             break;
         };
-        let limits = Limits {
-            most,
-            read_fails: usize::MAX,
-            write_fails: usize::MAX,
-            watched: watched.as_slice(),
-        };
         match step {
             Step::Case(name) => {
                 println!(rt; "case {name}")?;
-                input = Vec::new(alloc);
-                watched = Vec::new(alloc);
-                most = usize::MAX;
+                case = Case::new(alloc);
             }
-            Step::Text(bytes) => input.extend_from_slice(bytes)?,
-            Step::Letters(count) => push_letters(&mut input, count)?,
-            Step::Most(count) => most = count,
-            Step::Watch(words) => watched = places(alloc, words)?,
-            _ => answer_as(&rt, step, &input, limits)?,
+            _ => case.take(&rt, step)?,
         }
         rest = behind;
     }

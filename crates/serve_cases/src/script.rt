@@ -37,22 +37,42 @@ fn number(word: &str) -> Option<usize> {
     word.parse::<usize>().ok()
 }
 
-/// A step that stands in its line alone.
-fn line_step<'a>(word: &str, rest: &'a str) -> Option<Step<'a>> {
+/// A step that names no number.
+fn plain_step<'a>(word: &str, rest: &'a str) -> Option<Step<'a>> {
     match word {
         "case" => Some(Step::Case(rest)),
-        "letters" => Some(Step::Letters(number(rest)?)),
-        "most" => Some(Step::Most(number(rest)?)),
         "watch" => Some(Step::Watch(rest)),
         "serve" => Some(Step::Serve),
         "faults" => Some(Step::Faults),
-        "cut" => Some(Step::Cut(number(rest)?)),
-        "read_fails" => Some(Step::ReadFails(number(rest)?)),
-        "write_fails" => {
-            let (first, last) = rest.split_once(' ')?;
-            Some(Step::WriteFails(number(first)?, number(last)?))
-        }
         _ => None,
+    }
+}
+
+/// A step that names one number.
+fn counted_step<'a>(word: &str, count: usize) -> Option<Step<'a>> {
+    match word {
+        "letters" => Some(Step::Letters(count)),
+        "most" => Some(Step::Most(count)),
+        "cut" => Some(Step::Cut(count)),
+        "read_fails" => Some(Step::ReadFails(count)),
+        _ => None,
+    }
+}
+
+/// A step that names two numbers.
+fn range_step(rest: &str) -> Option<Step<'_>> {
+    let (first, last) = rest.split_once(' ')?;
+    Some(Step::WriteFails(number(first)?, number(last)?))
+}
+
+/// A step that stands in its line alone.
+fn line_step<'a>(word: &str, rest: &'a str) -> Option<Step<'a>> {
+    if word == "write_fails" {
+        return range_step(rest);
+    }
+    match plain_step(word, rest) {
+        Some(step) => Some(step),
+        None => counted_step(word, number(rest)?),
     }
 }
 
