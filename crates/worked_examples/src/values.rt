@@ -5,23 +5,23 @@ use std::alloc::{AllocError, Global};
 use std::test::Fail;
 
 /// So many numbers, each its place.
-fn places(alloc: Global, count: i32) -> Result<Values<i32>, AllocError> {
+fn places(alloc: Global, count: u16) -> Result<Values<i32>, AllocError> {
     let mut numbers = Vec::new(alloc);
     for place in 0..count {
-        numbers.push(place)?;
+        numbers.push(i32::from(place))?;
     }
     Values::from_vec(alloc, numbers)
 }
 
-/// How many of so many places have their number as the value.
-fn own(numbers: &Values<i32>, count: i32) -> i32 {
-    let mut own = 0;
+/// Whether so many places, but for one, have their number as the value.
+fn are_own(numbers: &Values<i32>, count: u16, but: usize) -> bool {
     for place in 0..count {
-        if numbers.get(place as usize) == Some(&place) {
-            own += 1;
+        let at = usize::from(place);
+        if at != but && numbers.get(at) != Some(&i32::from(place)) {
+            return false;
         }
     }
-    own
+    true
 }
 
 #[test]
@@ -30,10 +30,11 @@ fn each_place_has_its_value(rt: HostRuntime) -> Result<(), Fail> {
     assert_eq!(rt; Values::<i32>::new(alloc).len(), 0);
     for count in [0, 1, 63, 64, 65, 127, 128, 200] {
         let numbers = places(alloc, count)?;
-        assert_eq!(rt; numbers.len(), count as usize);
-        assert_eq!(rt; own(&numbers, count), count);
-        assert!(rt; numbers.get(count as usize).is_none());
-        assert_eq!(rt; numbers.to_vec(alloc)?.len(), count as usize);
+        let behind = usize::from(count);
+        assert_eq!(rt; numbers.len(), behind);
+        assert!(rt; are_own(&numbers, count, behind));
+        assert!(rt; numbers.get(behind).is_none());
+        assert_eq!(rt; numbers.to_vec(alloc)?.len(), behind);
     }
     Ok(())
 }
@@ -49,8 +50,8 @@ fn a_copy_is_the_same_until_one_changes(rt: HostRuntime) -> Result<(), Fail> {
         copy.set(alloc, place, -2)?;
         assert!(rt; !copy.is_same(&numbers));
         assert_eq!(rt; copy.get(place), Some(&-2));
-        assert_eq!(rt; own(&copy, 200), 199);
-        assert_eq!(rt; own(&numbers, 200), 200);
+        assert!(rt; are_own(&copy, 200, place));
+        assert!(rt; are_own(&numbers, 200, 200));
         copy.set(alloc, 200, -3)?;
         assert_eq!(rt; copy.len(), 200);
     }
