@@ -3,7 +3,7 @@
 use crate::attempt::Case;
 use bt_machine::{Entry, Input, Meter, Outcome, Variables, activate, agrees};
 use bt_style::{Reach, Style, Target, read_style};
-use bt_text::{Bytes, Held, Sequence, Shared, SparseTexts};
+use bt_text::{Bytes, Held, Shared, SparseTexts, Values};
 use std::alloc::{AllocError, Global};
 
 const STYLE: &[u8] =
@@ -26,14 +26,20 @@ fn text(alloc: Global, bytes: &[u8]) -> Result<Shared<Bytes>, AllocError> {
 
 /// Three numbers and two texts.
 fn variables(alloc: Global) -> Result<Shared<Variables>, AllocError> {
-    let mut numbers = Sequence::new(alloc);
+    let mut numbers = Vec::new(alloc);
     for _ in 0..3 {
         numbers.push(0)?;
     }
-    let mut texts = Sequence::new(alloc);
+    let mut texts = Vec::new(alloc);
     texts.push(text(alloc, b"")?)?;
     texts.push(text(alloc, b"")?)?;
-    Shared::new(alloc, Variables { numbers, texts })
+    Shared::new(
+        alloc,
+        Variables {
+            numbers: Values::from_vec(alloc, numbers)?,
+            texts: Values::from_vec(alloc, texts)?,
+        },
+    )
 }
 
 /// A title, and no `crossref`.
