@@ -2,7 +2,7 @@
 use Rattle.std.proofs.Common.{◌≡◌, ◌∙◌, ap, sym, refl, subst, ℕ, Bool, not, ◌&&◌, List, [], ◌∷◌, length, Option, Some, None, Result, Ok, Err, IfOk}
 use Rattle.std.specs.Prelude.{if◌then◌else◌, nat_lt, nat_le, bytes_eq, is_none, unwrap_or}
 use Rattle.bt_job.specs.declared.files.File.{File}
-use Rattle.bt_job.specs.Naming.{is_file_name, text_of}
+use Rattle.bt_job.specs.FileNames.{is_file_name, text_of}
 use Rattle.bt_run.specs.declared.answers.Report.{Report}
 use Rattle.bt_run.specs.Meaning.{meaning, trace}
 use Rattle.bt_run.specs.Kept.{style_text}

@@ -3,7 +3,7 @@ use Rattle.std.specs.Prelude.{◌≡◌, ℕ, Bool, not, ◌&&◌, nat_le, lengt
 use Rattle.std.specs.List.{IsDistinct}
 use Rattle.std.specs.Str.{bytes_eq}
 use Rattle.bt_job.specs.declared.files.File.{File}
-use Rattle.bt_job.specs.Naming.{is_file_name}
+use Rattle.bt_job.specs.FileNames.{is_file_name}
 use Rattle.bt_run.specs.declared.answers.Report.{Report}
 use Rattle.bt_run.specs.declared.course.Step.{Step}
 use Rattle.bt_run.specs.Meaning.{Meaning, meaning, trace}
@@ -56,7 +56,8 @@ work old new = run_work (style_text old.texts old.root) (trace old.texts old.roo
 -- what an edit from one state to another reports: how many steps are its work, how many others there are, and what the
 -- work costs
 abbrev pub reported : State → State → Report
-reported old new = report_after (style_text old.texts old.root) (trace old.texts old.root old.min) new.texts new.root new.min
+reported old new =
+    report_after (style_text old.texts old.root) (trace old.texts old.root old.min) new.texts new.root new.min
 
 -- What a session keeps to: each name stands once among its texts, and beside its state it keeps what the state means,
 -- the text of its style, and the steps of its run.

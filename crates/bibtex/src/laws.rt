@@ -22,8 +22,10 @@ pub fn order_is_never_seen()
     ensures reported { (s t s' t' : State) → AreAlike s t → AreAlike s' t' → reported s s' ≡ reported t t' }
     ensures edited { (e : Edit) (s t : State) → EachOnce s.texts → EachOnce t.texts → AreAlike s t →
         ComeToTheSame (applied e s) (applied e t) }
-    ensures answered { (es : List Edit) (answers : List (Result Report Refusal)) (s t : State) → EachOnce s.texts → EachOnce t.texts →
+    ensures answered { (es : List Edit) (answers : List (Result Report Refusal)) (s t : State) → EachOnce s.texts →
+        EachOnce t.texts →
         AreAlike s t → AnswersInTurn es answers s → AnswersInTurn es answers t }
-    ensures left { (es : List Edit) (answers : List (Result Report Refusal)) (s t : State) → EachOnce s.texts → EachOnce t.texts →
+    ensures left { (es : List Edit) (answers : List (Result Report Refusal)) (s t : State) → EachOnce s.texts →
+        EachOnce t.texts →
         AreAlike s t → AreAlike (after_answers es answers s) (after_answers es answers t) }
 {}

@@ -2,7 +2,7 @@
 //! come out, and are after each edit what the present texts mean from scratch.
 #![tactic(auto)]
 
-mod changed;
+mod changes;
 mod draft;
 mod edit;
 mod edits;

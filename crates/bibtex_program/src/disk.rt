@@ -38,7 +38,13 @@ impl<'a, R: Files> Disk<'a, R> {
 impl<R: Files> Folder for Disk<'_, R> {
     ghost use Rattle.bt_one_shot.specs.Folders.{Seen};
 
-    ghost seen = { λ d. record { held = None; looked_up = None; written = None; failures = d.failures; reads = d.reads } };
+    ghost seen = { λ d. record {
+      held = None;
+      looked_up = None;
+      written = None;
+      failures = d.failures;
+      reads = d.reads;
+    } };
 
     fn read(&mut self, name: &[u8]) -> Found {
         self.reads = self.reads.saturating_add(1);

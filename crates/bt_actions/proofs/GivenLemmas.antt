@@ -6,13 +6,13 @@ use Rattle.bt_style.specs.declared.builtin.Builtin.TheVariants as builtin
 use Rattle.bt_text.specs.declared.modes.Mode.{Mode}
 use Rattle.bt_text.specs.Length.{text_length_of}
 use Rattle.bt_text.specs.Widths.{width_of}
-use Rattle.bt_names.specs.Listing.{names_of}
+use Rattle.bt_names.specs.Names.{names_of}
 use Rattle.bt_names.specs.declared.faults.FormatFault.{FormatFault}
 use Rattle.bt_names.specs.declared.faults.FormatFault.TheVariants as fault
 use Rattle.bt_actions.specs.Item.{Item, Num, Txt}
 use Rattle.bt_actions.specs.Given.{Given, Gives, Errs, zero_item, empty_item, fits_number, number_given, truth}
 use Rattle.bt_actions.specs.Numbers.{greater_of, less_of, sum_of, difference_of, byte_number, ascii_text, digits_text}
-use Rattle.bt_actions.specs.Comparing.{equality_of, emptiness_of, missing_of}
+use Rattle.bt_actions.specs.Comparison.{equality_of, emptiness_of, missing_of}
 use Rattle.bt_actions.specs.Texts.{join_of, period_of, case_of, case_by, mode_of, purified_of, substring_given, prefix_of, length_of, width_given}
 use Rattle.bt_actions.specs.Names.{names_counted, name_formatted, format_given}
 

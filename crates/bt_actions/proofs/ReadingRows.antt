@@ -3,7 +3,7 @@ use Rattle.std.specs.Prelude.{◌≡◌, pos, [], ◌∷◌, codes, refl}
 use Rattle.bt_style.specs.declared.builtin.Builtin.TheVariants as builtin
 use Rattle.bt_actions.specs.Item.{Num, Txt, Missing}
 use Rattle.bt_actions.specs.World.{Goes}
-use Rattle.bt_actions.specs.Reading.{of_entry, field_at, number_at, text_at, global_number, global_text}
+use Rattle.bt_actions.specs.Operands.{of_entry, field_at, number_at, text_at, global_number, global_text}
 use Rattle.bt_actions.specs.Actions.{basic}
 use Rattle.bt_actions.proofs.RowWorlds.{names, start, second, alone, errors, over, told_in, Leaves}
 

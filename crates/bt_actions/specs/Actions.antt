@@ -9,13 +9,13 @@ use Rattle.bt_actions.specs.State.{pushed, popped, appended, held_line_ended}
 use Rattle.bt_actions.specs.Arguments.{as_number, as_text, as_field_text, as_target, as_any, taken, taken_two, taken_three}
 use Rattle.bt_actions.specs.Given.{valued, zero_item, empty_item}
 use Rattle.bt_actions.specs.Numbers.{greater_of, less_of, sum_of, difference_of, byte_number, ascii_text, digits_text}
-use Rattle.bt_actions.specs.Comparing.{equality_of, emptiness_of, missing_of}
+use Rattle.bt_actions.specs.Comparison.{equality_of, emptiness_of, missing_of}
 use Rattle.bt_actions.specs.Texts.{join_of, period_of, case_of, purified_of, substring_given, prefix_of, length_of, width_given, quote}
 use Rattle.bt_actions.specs.Names.{names_counted, name_formatted}
-use Rattle.bt_actions.specs.Reading.{of_entry, key_item, kind_item}
-use Rattle.bt_actions.specs.Assigning.{assigned}
-use Rattle.bt_actions.specs.Logging.{log_value, log_stack, log_warning}
-use Rattle.bt_actions.specs.Stacking.{duplicated, swapped}
+use Rattle.bt_actions.specs.Operands.{of_entry, key_item, kind_item}
+use Rattle.bt_actions.specs.Assignment.{assigned}
+use Rattle.bt_actions.specs.LogLines.{log_value, log_stack, log_warning}
+use Rattle.bt_actions.specs.Stack.{duplicated, swapped}
 
 -- an action on an argument, or nothing without one
 abbrev pub act_with : {A : Type 0} → (A → World → Act) → Option A × World → Act
@@ -43,7 +43,8 @@ basic p builtin.ChrToInt w = valued byte_number zero_item (taken builtin.ChrToIn
 basic p builtin.Cite w = of_entry key_item empty_item w
 basic p builtin.Duplicate w = duplicated w.stack w
 basic p builtin.Empty w = valued emptiness_of zero_item (taken builtin.Empty as_field_text w)
-basic p builtin.FormatName w = valued name_formatted empty_item (taken_three builtin.FormatName as_text as_number as_text w)
+basic p builtin.FormatName w =
+    valued name_formatted empty_item (taken_three builtin.FormatName as_text as_number as_text w)
 basic p builtin.If w = Goes w
 basic p builtin.IntToChr w = valued ascii_text empty_item (taken builtin.IntToChr as_number w)
 basic p builtin.IntToStr w = valued digits_text empty_item (taken builtin.IntToStr as_number w)
@@ -56,7 +57,8 @@ basic p builtin.Purify w = valued purified_of empty_item (taken builtin.Purify a
 basic p builtin.Quote w = pushed (Txt quote) w
 basic p builtin.Skip w = Goes w
 basic p builtin.Stack w = Goes (log_stack p w)
-basic p builtin.Substring w = valued substring_given empty_item (taken_three builtin.Substring as_text as_number as_number w)
+basic p builtin.Substring w =
+    valued substring_given empty_item (taken_three builtin.Substring as_text as_number as_number w)
 basic p builtin.Swap w = Goes (swapped w.stack w)
 basic p builtin.TextLength w = valued length_of zero_item (taken builtin.TextLength as_text w)
 basic p builtin.TextPrefix w = valued prefix_of empty_item (taken_two builtin.TextPrefix as_text as_number w)

@@ -77,16 +77,22 @@ taken b kind w =
     (option_and_then kind top.0, judged b (is_wrong kind top.0) top.1)
 
 -- two arguments, each of its kind: the lower one and the top
-abbrev pub taken_two : {A B : Type 0} → Primitive → (Item → Option A) → (Item → Option B) → World → Option (A × B) × World
+abbrev pub taken_two : {A B : Type 0} → Primitive → (Item → Option A) → (Item → Option B) → World →
+    Option (A × B) × World
 taken_two b lower upper w =
     let top = popped w in
-    let next = popped top.1 in
-    (both (option_and_then lower next.0) (option_and_then upper top.0), judged b (is_wrong upper top.0 || is_wrong lower next.0) next.1)
+    let next = popped top.1 in (
+      both (option_and_then lower next.0) (option_and_then upper top.0),
+      judged b (is_wrong upper top.0 || is_wrong lower next.0) next.1,
+    )
 
 -- three arguments, each of its kind: the lowest one, the middle one and the top
-abbrev pub taken_three : {A B C : Type 0} → Primitive → (Item → Option A) → (Item → Option B) → (Item → Option C) → World → Option (A × B × C) × World
+abbrev pub taken_three : {A B C : Type 0} → Primitive → (Item → Option A) → (Item → Option B) → (Item → Option C) →
+    World → Option (A × B × C) × World
 taken_three b lower middle upper w =
     let top = popped w in
     let next = popped top.1 in
-    let last = popped next.1 in
-    (all_three (option_and_then lower last.0) (option_and_then middle next.0) (option_and_then upper top.0), judged b (is_wrong upper top.0 || is_wrong middle next.0 || is_wrong lower last.0) last.1)
+    let last = popped next.1 in (
+      all_three (option_and_then lower last.0) (option_and_then middle next.0) (option_and_then upper top.0),
+      judged b (is_wrong upper top.0 || is_wrong middle next.0 || is_wrong lower last.0) last.1,
+    )

@@ -48,7 +48,8 @@ popped w = popped_from w.stack w
 -- a text goes after what is held, unless the held line would be too long
 abbrev pub appended : List ℕ → World → Act
 appended t w =
-    if nat_le (length w.held + length t) text_size_limit then Goes (with_output (written w.held t) w) else Stops (say TextPassed w)
+    if nat_le (length w.held + length t) text_size_limit then Goes (with_output (written w.held t) w)
+    else Stops (say TextPassed w)
 
 -- the held line ends
 abbrev pub held_line_ended : World → World

@@ -3,11 +3,11 @@ use Rattle.std.specs.Prelude.{ℕ, ℤ, pos, List, [], ◌∷◌, ◌++◌, Opti
 use Rattle.bt_style.specs.declared.builtin.Builtin.TheVariants.{TextLength, Width}
 use Rattle.bt_text.specs.declared.modes.Mode.{Mode}
 use Rattle.bt_text.specs.declared.modes.Mode.TheVariants.{Title, Lower, Upper}
-use Rattle.bt_text.specs.Casing.{changed_case}
-use Rattle.bt_text.specs.Cutting.{text_prefix_of, substring_of}
+use Rattle.bt_text.specs.CaseChange.{changed_case}
+use Rattle.bt_text.specs.Substrings.{text_prefix_of, substring_of}
 use Rattle.bt_text.specs.Length.{text_length_of}
 use Rattle.bt_text.specs.Period.{with_period}
-use Rattle.bt_text.specs.Purifying.{purified}
+use Rattle.bt_text.specs.Purification.{purified}
 use Rattle.bt_text.specs.Widths.{width_of}
 use Rattle.bt_actions.specs.declared.complaint.Complaint.TheVariants.{BadCase}
 use Rattle.bt_actions.specs.Item.{Txt}

@@ -38,7 +38,8 @@ complaint_words (BadCase t) = codes "\"" ++ t ++ codes "\" is an illegal case-co
 complaint_words (NotOneCharacter t) = codes "\"" ++ t ++ codes "\" isn't a single character"
 complaint_words (NotAscii n) = signed_decimal n ++ codes " isn't valid ASCII"
 complaint_words (NoSuchName n t) = codes "There is no name " ++ signed_decimal n ++ codes " in \"" ++ t ++ codes "\""
-complaint_words (TooManyCommas n t) = codes "Too many commas in name " ++ signed_decimal n ++ codes " of \"" ++ t ++ codes "\""
+complaint_words (TooManyCommas n t) =
+    codes "Too many commas in name " ++ signed_decimal n ++ codes " of \"" ++ t ++ codes "\""
 complaint_words (PatternFault t n) = codes "The format string \"" ++ t ++ codes "\" has a fault at byte " ++ decimal n
 complaint_words NotVariable = codes ":= needs a variable"
 complaint_words LeftOver = codes "The literal stack isn't empty"

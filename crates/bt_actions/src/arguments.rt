@@ -137,7 +137,8 @@ pub fn take<'a, A: Argument<'a>>(
     state: &mut State<'a>,
     builtin: Builtin,
 ) -> Result<Option<A>, AllocError>
-    ensures value { IfOk result (λ argument. option_map A.seen argument ≡ (taken builtin A.kind (world_of state.old)).0) }
+    ensures value { IfOk result (λ argument. option_map A.seen argument
+        ≡ (taken builtin A.kind (world_of state.old)).0) }
     ensures world { OnOk result (world_of state.new ≡ (taken builtin A.kind (world_of state.old)).1) }
     ensures tally { state.new.tally ≡ state.old.tally }
 {
@@ -172,7 +173,8 @@ pub fn take_three<'a, A: Argument<'a>, B: Argument<'a>, C: Argument<'a>>(
 ) -> Result<Option<(A, B, C)>, AllocError>
     ensures value { IfOk result (λ all. option_map (λ all. (A.seen all.0, B.seen all.1, C.seen all.2)) all
         ≡ (taken_three builtin A.kind B.kind C.kind (world_of state.old)).0) }
-    ensures world { OnOk result (world_of state.new ≡ (taken_three builtin A.kind B.kind C.kind (world_of state.old)).1) }
+    ensures world { OnOk result (world_of state.new
+        ≡ (taken_three builtin A.kind B.kind C.kind (world_of state.old)).1) }
     ensures tally { state.new.tally ≡ state.old.tally }
 {
     let (last, wrong_last) = judged(state.pop()?);

@@ -3,28 +3,28 @@
 
 mod actions;
 mod arguments;
-mod assigning;
-mod comparing;
+mod assignment;
+mod comparison;
 mod complaint;
 mod entry;
-mod logging;
+mod log_lines;
 mod names;
 mod numbers;
-mod reading;
+mod operands;
+mod output_buffer;
 mod short_text;
-mod stacking;
+mod stack;
 mod state;
 mod step_variables;
 mod tally;
 mod texts;
 mod value;
-mod writing;
 
 pub use actions::call_basic;
 pub use arguments::{take_choice, take_number, take_two_codes};
 pub use complaint::Complaint;
 pub use entry::{Entry, Variables, share_texts};
-pub use reading::{
+pub use operands::{
     call_entry_number, call_entry_text, call_field, call_global_number, call_global_text,
 };
 pub use short_text::{ShortText, Text};

@@ -49,7 +49,8 @@ fn push_formatted(
     number: i32,
     pattern: ShortText,
 ) -> Result<Flow, AllocError>
-    ensures world { IfOk result (Acts (answered (name_formatted (names.entry, number, pattern.entry))) state.old state.new) }
+    ensures world { IfOk result (Acts (answered (name_formatted (names.entry, number, pattern.entry))) state.old
+        state.new) }
     ensures tally { state.new.tally ≡ state.old.tally }
 {
     match format_within(

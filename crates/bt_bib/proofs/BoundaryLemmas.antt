@@ -17,7 +17,7 @@ use Rattle.bt_bib.specs.Names.{word, name_ended}
 use Rattle.bt_bib.specs.Many.{all, many_by}
 use Rattle.bt_bib.specs.Keywords.{keyword_of}
 use Rattle.bt_bib.specs.Pieces.{ended_item, opening, entry_item, entry_read, string_item, string_read, preamble_item, preamble_read, unread_entry, unread_string, item_opened, item_of_type, type_ended, type_read, piece, is_text, next_piece, next_piece_from}
-use Rattle.bt_bib.specs.Reading.{next_one, pieces_from}
+use Rattle.bt_bib.specs.BibText.{next_one, pieces_from}
 use Rattle.bt_bib.specs.Moved.{moved, moved_piece}
 use Rattle.bt_bib.specs.Boundaries.{end_of, last_end}
 use Rattle.bt_bib.proofs.ReachLemmas.{Reaches, reaches_self, reaches_then, reaches_sum, many_moves, Moves}

@@ -7,13 +7,13 @@ use Rattle.std.proofs.lemmas.Bool.{cases_eq, eq-eqb, ne_eqb, eqb-true, false≢t
 use Rattle.bt_text.specs.ByteTests.{left_brace, right_brace}
 use Rattle.bt_bib.specs.declared.spot.Spot.{Spot}
 use Rattle.bt_bib.specs.declared.fault.ItemFault.TheVariants.{EndOfFile, UnbalancedBraces}
-use Rattle.bt_bib.specs.declared.enclosed.Turn.{Turn}
-use Rattle.bt_bib.specs.declared.enclosed.Turn.TheVariants as turns
+use Rattle.bt_bib.specs.declared.enclosure.Turn.{Turn}
+use Rattle.bt_bib.specs.declared.enclosure.Turn.TheVariants as turns
 use Rattle.bt_bib.specs.Spot.{Here, at, here, spot_after_byte, spot_after, after_bytes}
 use Rattle.bt_bib.specs.Scan.{first, after_run}
 use Rattle.bt_bib.specs.Stop.{Stop, ◌>>=◌}
-use Rattle.bt_bib.specs.Enclosed.{enclosed, enclosed_by, enclosed_text, ends_enclosed}
-use Rattle.bt_bib.specs.inner.Enclosed.{enclosed_end, turn, is_plain}
+use Rattle.bt_bib.specs.Enclosure.{enclosed, enclosed_by, enclosed_text, ends_enclosed}
+use Rattle.bt_bib.specs.inner.Enclosure.{enclosed_end, turn, is_plain}
 use Rattle.bt_bib.proofs.RunLemmas.{passed-nil, passed-cons, past_run, past_is_run}
 
 abbrev pub between : Here → Here → List ℕ

@@ -13,7 +13,7 @@ use Rattle.bt_bib.specs.Spot.{Here, at, here, start, spot_after_byte}
 use Rattle.bt_bib.specs.Scan.{first, after_run}
 use Rattle.bt_bib.specs.Pieces.{piece, is_text, next_piece, next_piece_from}
 use Rattle.bt_bib.specs.Boundaries.{start_of, end_of, last_end}
-use Rattle.bt_bib.specs.Reading.{pieces_from, pieces_of}
+use Rattle.bt_bib.specs.BibText.{pieces_from, pieces_of}
 use Rattle.bt_bib.specs.Spelling.{◌▸◌, White, Sign, From, Provided, MayEndName}
 use Rattle.bt_bib.specs.Spelled.{WordOf, ItemOf, Skipped, Commented, DatabaseOf}
 use Rattle.bt_bib.specs.SpelledLaws.{bytes_between, IsFaultless, FaultlessItemsAreSpelled, FaultlessDatabasesAreSpelled}

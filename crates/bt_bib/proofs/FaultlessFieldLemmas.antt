@@ -17,7 +17,7 @@ use Rattle.bt_bib.specs.declared.item.Field.{Field}
 use Rattle.bt_bib.specs.Spot.{Here, at, after_byte}
 use Rattle.bt_bib.specs.Scan.{first, run, after_run, after_white, sign}
 use Rattle.bt_bib.specs.Stop.{Stop, ◌>>=◌}
-use Rattle.bt_bib.specs.Enclosed.{enclosed}
+use Rattle.bt_bib.specs.Enclosure.{enclosed}
 use Rattle.bt_bib.specs.Names.{name}
 use Rattle.bt_bib.specs.Values.{part, part_ends, raw_part, next_part, value}
 use Rattle.bt_bib.specs.Fields.{field, name_ends}

@@ -11,14 +11,14 @@ use Rattle.bt_bib.specs.declared.spot.Spot.{Spot}
 use Rattle.bt_bib.specs.declared.fault.ItemFault.{ItemFault}
 use Rattle.bt_bib.specs.declared.fault.NameRole.{NameRole}
 use Rattle.bt_bib.specs.declared.fault.ItemFault.TheVariants.{BadNameEnd, MissingName, UnbalancedBraces}
-use Rattle.bt_bib.specs.declared.enclosed.Turn.{Turn}
-use Rattle.bt_bib.specs.declared.enclosed.Turn.TheVariants as turns
+use Rattle.bt_bib.specs.declared.enclosure.Turn.{Turn}
+use Rattle.bt_bib.specs.declared.enclosure.Turn.TheVariants as turns
 use Rattle.bt_bib.specs.Spot.{Here, at, spot_after_byte, spot_after, after_byte}
 use Rattle.bt_bib.specs.Scan.{first, run, after_run, after_white, sign}
 use Rattle.bt_bib.specs.Stop.{Stop, ◌>>=◌}
 use Rattle.bt_bib.specs.Names.{word, name_ended, name}
-use Rattle.bt_bib.specs.Enclosed.{enclosed}
-use Rattle.bt_bib.specs.inner.Enclosed.{turn}
+use Rattle.bt_bib.specs.Enclosure.{enclosed}
+use Rattle.bt_bib.specs.inner.Enclosure.{turn}
 use Rattle.bt_bib.specs.Spelling.{Spelling, ◌▸◌, Both, ◌⋯◌, Bytes, Written, White, Sign, OnLine, IsEnclosed, Nothing, Byte, Group, MayEndName}
 use Rattle.bt_bib.specs.Spelled.{NameOf}
 use Rattle.bt_bib.proofs.RunLemmas.{passed-nil, passed-cons, front_taken}

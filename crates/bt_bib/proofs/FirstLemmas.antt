@@ -8,7 +8,7 @@ use Rattle.std.proofs.lemmas.Bool.{lt-ltb, le-ltb}
 use Rattle.std.proofs.lemmas.Slice.Eq.{bytes_eq-Decides}
 use Rattle.bt_text.specs.ByteTests.{is_white, is_digit}
 use Rattle.bt_text.specs.NameBytes.{is_name_byte}
-use Rattle.bt_text.specs.Folding.{is_same_folded, folded}
+use Rattle.bt_text.specs.CaseFolding.{is_same_folded, folded}
 use Rattle.bt_bib.specs.declared.spot.Spot.{Spot}
 use Rattle.bt_bib.specs.declared.fault.ItemFault.{ItemFault}
 use Rattle.bt_bib.specs.declared.fault.ItemFault.TheVariants.{MissingName, BadNameEnd}
@@ -23,7 +23,7 @@ use Rattle.bt_bib.specs.Scan.{first, run, after_run, after_white}
 use Rattle.bt_bib.specs.Names.{word, word_from, name_ended}
 use Rattle.bt_bib.specs.Keywords.{keyword_of}
 use Rattle.bt_bib.specs.Pieces.{opening, item_of_type, type_ended, type_read, piece, is_text, next_piece, next_piece_from, entry_item, item_opened, unread_entry}
-use Rattle.bt_bib.specs.Reading.{pieces_from, pieces_of}
+use Rattle.bt_bib.specs.BibText.{pieces_from, pieces_of}
 use Rattle.bt_bib.specs.Boundaries.{start_of, end_of, last_end, Rises}
 use Rattle.bt_bib.specs.inner.Boundaries.{end_place, below}
 use Rattle.bt_bib.specs.Laws.{FaultIsFirst}

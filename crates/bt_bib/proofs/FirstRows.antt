@@ -2,13 +2,13 @@
 use Rattle.std.specs.Prelude.{◌≡◌, ℕ, List, [], ◌∷◌, ◌++◌, take, map, codes, Option, None, refl}
 use Rattle.bt_bib.specs.declared.fault.ItemFault.{ItemFault}
 use Rattle.bt_bib.specs.Scan.{sign}
-use Rattle.bt_bib.specs.Enclosed.{enclosed}
+use Rattle.bt_bib.specs.Enclosure.{enclosed}
 use Rattle.bt_bib.specs.Names.{word, name_ended, name}
 use Rattle.bt_bib.specs.Many.{many}
 use Rattle.bt_bib.specs.Values.{part, next_part, value}
 use Rattle.bt_bib.specs.Fields.{field, next_field}
 use Rattle.bt_bib.specs.Pieces.{opening, piece, next_piece}
-use Rattle.bt_bib.specs.Reading.{pieces_of, bib_items}
+use Rattle.bt_bib.specs.BibText.{pieces_of, bib_items}
 
 -- the faults of the items of a text's beginning with others after it
 abbrev completed : List ℕ → ℕ → List ℕ → List (Option ItemFault)

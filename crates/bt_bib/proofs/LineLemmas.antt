@@ -21,14 +21,14 @@ use Rattle.bt_bib.specs.declared.keywords.Keyword.TheVariants as keywords
 use Rattle.bt_bib.specs.Spot.{Here, here, start, after_byte}
 use Rattle.bt_bib.specs.Stop.{Stop, ◌>>=◌, value_read}
 use Rattle.bt_bib.specs.Scan.{first, run, after_run, after_white, sign, closing_sign, is_key_byte}
-use Rattle.bt_bib.specs.Enclosed.{enclosed}
+use Rattle.bt_bib.specs.Enclosure.{enclosed}
 use Rattle.bt_bib.specs.Names.{word, name_ended, name}
 use Rattle.bt_bib.specs.Many.{many, many_by, all, collected}
 use Rattle.bt_bib.specs.Values.{raw_part, part_from, part, part_ends, next_part, joined_from, value}
 use Rattle.bt_bib.specs.Fields.{field, field_or_close, next_field, next_field_from, name_ends}
 use Rattle.bt_bib.specs.Keywords.{keyword_of}
 use Rattle.bt_bib.specs.Pieces.{ended_item, opening, after_closing, entry_item, entry_read, string_item, string_read, name_line, preamble_item, preamble_read, unread_entry, unread_string, item_opened, item_of_type, type_ended, type_read, piece, is_text, next_piece, next_piece_from}
-use Rattle.bt_bib.specs.Reading.{next_one, pieces_of, bib_items}
+use Rattle.bt_bib.specs.BibText.{next_one, pieces_of, bib_items}
 use Rattle.bt_bib.specs.Items.{items_of}
 use Rattle.bt_bib.specs.Laws.{PartLiesIn, ValueLiesIn, FieldLiesIn, ContentLiesIn, LinesLieIn, LinesLieInside}
 use Rattle.bt_bib.proofs.ReachLemmas.{Reaches, reaches_then, behind_reaches, past_reaches, white_reaches, Advances, Moves, advances_from, word_advances, ended_moves, name_advances, sign_moves, part_advances, joined_advances, value_advances, field_advances, next_field_advances, raw_part_advances_from, many_moves}

@@ -15,13 +15,13 @@ use Rattle.bt_bib.specs.declared.item.Piece.TheVariants as pieces
 use Rattle.bt_bib.specs.Spot.{Here, at, here, start, after_byte}
 use Rattle.bt_bib.specs.inner.Spot.{IsIn, IsAhead}
 use Rattle.bt_bib.specs.Pieces.{piece}
-use Rattle.bt_bib.specs.Reading.{pieces_from, pieces_of}
+use Rattle.bt_bib.specs.BibText.{pieces_from, pieces_of}
 use Rattle.bt_bib.specs.Moved.{nowhere, moved, moved_part, moved_value, moved_field, moved_content, moved_piece}
 use Rattle.bt_bib.specs.Boundaries.{start_of, end_of, last_end}
-use Rattle.bt_bib.specs.Moving.{FitsPart, FitsSpot, FitsValue, FitsField, FitsContent, FitsPiece}
-use Rattle.bt_bib.specs.inner.Moving.{rebased, rebased_part, rebased_value, rebased_field, rebased_content, rebased_piece}
-use Rattle.bt_bib.specs.Placed.{IsPlaced}
-use Rattle.bt_bib.specs.inner.Placed.{BeginsAfter}
+use Rattle.bt_bib.specs.Shift.{FitsPart, FitsSpot, FitsValue, FitsField, FitsContent, FitsPiece}
+use Rattle.bt_bib.specs.inner.Shift.{rebased, rebased_part, rebased_value, rebased_field, rebased_content, rebased_piece}
+use Rattle.bt_bib.specs.PlacedPieces.{IsPlaced}
+use Rattle.bt_bib.specs.inner.PlacedPieces.{BeginsAfter}
 use Rattle.bt_bib.proofs.RunLemmas.{same_spot}
 use Rattle.bt_bib.proofs.ReachLemmas.{Reaches, reaches_then, behind_reaches}
 use Rattle.bt_bib.proofs.PieceLemmas.{piece_reaches}

@@ -6,7 +6,7 @@ use Rattle.std.proofs.lemmas.List.Sums.{take_while-cons}
 use Rattle.bt_text.specs.ByteTests.{is_white, is_digit, left_brace, right_brace}
 use Rattle.bt_text.specs.NameBytes.{is_name_byte}
 use Rattle.bt_bib.specs.declared.spot.Spot.{Spot}
-use Rattle.bt_bib.specs.declared.enclosed.Turn.TheVariants as turns
+use Rattle.bt_bib.specs.declared.enclosure.Turn.TheVariants as turns
 use Rattle.bt_bib.specs.declared.fault.NameRole.{NameRole}
 use Rattle.bt_bib.specs.declared.fault.NameRole.TheVariants.{FieldName, FieldPart}
 use Rattle.bt_bib.specs.declared.fault.ItemFault.{ItemFault}
@@ -16,8 +16,8 @@ use Rattle.bt_bib.specs.declared.item.Part.TheVariants.{Text, Macro}
 use Rattle.bt_bib.specs.Spot.{Here, at, spot_after_byte, spot_after, after_byte, after_first_byte}
 use Rattle.bt_bib.specs.Stop.{Stop, ◌>>=◌}
 use Rattle.bt_bib.specs.Scan.{run, after_run, after_white, first, sign, sign_from, closing_sign}
-use Rattle.bt_bib.specs.Enclosed.{enclosed}
-use Rattle.bt_bib.specs.inner.Enclosed.{turn}
+use Rattle.bt_bib.specs.Enclosure.{enclosed}
+use Rattle.bt_bib.specs.inner.Enclosure.{turn}
 use Rattle.bt_bib.specs.Names.{word, word_from, name_ended, ended_from, name}
 use Rattle.bt_bib.specs.Many.{many, many_by, all, collected}
 use Rattle.bt_bib.specs.Values.{raw_part, part_from, part, part_ends, next_part, joined_from, value}

@@ -4,8 +4,8 @@ use Rattle.std.proofs.Common.{◌≡◌, ℕ, ◌<◌, Bool, true, false, cond, 
 use Rattle.bt_text.specs.ByteTests.{is_white, is_digit, left_brace, right_brace}
 use Rattle.bt_text.specs.NameBytes.{is_name_byte}
 use Rattle.bt_bib.specs.declared.spot.Spot.{Spot}
-use Rattle.bt_bib.specs.declared.enclosed.Turn.{Turn}
-use Rattle.bt_bib.specs.declared.enclosed.Turn.TheVariants as turns
+use Rattle.bt_bib.specs.declared.enclosure.Turn.{Turn}
+use Rattle.bt_bib.specs.declared.enclosure.Turn.TheVariants as turns
 use Rattle.bt_bib.specs.declared.fault.NameRole.{NameRole}
 use Rattle.bt_bib.specs.declared.fault.NameRole.TheVariants.{FieldPart}
 use Rattle.bt_bib.specs.declared.fault.ItemFault.{ItemFault}
@@ -15,8 +15,8 @@ use Rattle.bt_bib.specs.declared.item.Part.TheVariants.{Text, Macro}
 use Rattle.bt_bib.specs.Spot.{Here, at, spot_after_byte, after_byte}
 use Rattle.bt_bib.specs.Stop.{Stop, ◌>>=◌}
 use Rattle.bt_bib.specs.Scan.{first, run, after_run, after_white, sign, sign_from}
-use Rattle.bt_bib.specs.Enclosed.{enclosed}
-use Rattle.bt_bib.specs.inner.Enclosed.{turn}
+use Rattle.bt_bib.specs.Enclosure.{enclosed}
+use Rattle.bt_bib.specs.inner.Enclosure.{turn}
 use Rattle.bt_bib.specs.Names.{word, word_from, name_ended, ended_from, name}
 use Rattle.bt_bib.specs.Values.{raw_part, part_from, part, part_ends}
 use Rattle.bt_bib.specs.Moved.{moved_part}

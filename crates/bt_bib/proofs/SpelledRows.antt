@@ -12,7 +12,7 @@ use Rattle.bt_bib.specs.declared.item.Item.{Item}
 use Rattle.bt_bib.specs.declared.item.Piece.{Piece}
 use Rattle.bt_bib.specs.declared.item.Piece.TheVariants as pieces
 use Rattle.bt_bib.specs.Spot.{start}
-use Rattle.bt_bib.specs.Reading.{pieces_of}
+use Rattle.bt_bib.specs.BibText.{pieces_of}
 use Rattle.bt_bib.specs.Spelling.{Both, This, That, Written, IsEnclosed, Nothing, Byte, Group}
 use Rattle.bt_bib.specs.Spelled.{is_number, PartOf, ValueOf, FieldOf, FieldsOf, ItemOf, AnEntry, AString, APreamble, DatabaseOf, whole}
 use Rattle.bt_bib.proofs.SpelledDatabaseLemmas.{spelled_databases_are_read}

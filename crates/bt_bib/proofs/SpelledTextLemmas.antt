@@ -5,9 +5,9 @@ use Rattle.std.proofs.lemmas.List.{take_at}
 use Rattle.std.proofs.lemmas.Bool.{eq-eqb, ne_eqb, false≢true}
 use Rattle.bt_text.specs.ByteTests.{is_brace, left_brace, right_brace}
 use Rattle.bt_bib.specs.declared.spot.Spot.{Spot}
-use Rattle.bt_bib.specs.declared.enclosed.Turn.TheVariants as turns
+use Rattle.bt_bib.specs.declared.enclosure.Turn.TheVariants as turns
 use Rattle.bt_bib.specs.Spot.{at, spot_after_byte, spot_after}
-use Rattle.bt_bib.specs.inner.Enclosed.{turn}
+use Rattle.bt_bib.specs.inner.Enclosure.{turn}
 use Rattle.bt_bib.specs.Spelling.{IsEnclosed, Nothing, Byte, Group}
 use Rattle.bt_bib.specs.SpelledLaws.{EnclosedTextsAreRead}
 use Rattle.bt_bib.proofs.RunLemmas.{passed-nil, passed-cons}

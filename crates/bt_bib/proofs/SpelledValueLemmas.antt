@@ -14,7 +14,7 @@ use Rattle.bt_bib.specs.declared.item.Part.TheVariants.{Text, Macro}
 use Rattle.bt_bib.specs.Spot.{Here, at, spot_after_byte, spot_after, after_byte}
 use Rattle.bt_bib.specs.Scan.{first, run, after_run, after_white, closing_sign}
 use Rattle.bt_bib.specs.Stop.{Stop, ◌>>=◌}
-use Rattle.bt_bib.specs.Enclosed.{enclosed}
+use Rattle.bt_bib.specs.Enclosure.{enclosed}
 use Rattle.bt_bib.specs.Names.{name}
 use Rattle.bt_bib.specs.Many.{all, collected}
 use Rattle.bt_bib.specs.Values.{part, part_ends, part_from, raw_part, next_part, joined_from, value}

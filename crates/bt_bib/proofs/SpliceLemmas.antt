@@ -15,13 +15,13 @@ use Rattle.bt_bib.specs.declared.item.Piece.TheVariants as pieces
 use Rattle.bt_bib.specs.Spot.{Here, at, here, start, is_line_end}
 use Rattle.bt_bib.specs.inner.Spot.{IsIn}
 use Rattle.bt_bib.specs.Pieces.{next_piece}
-use Rattle.bt_bib.specs.Reading.{pieces_from, pieces_of}
+use Rattle.bt_bib.specs.BibText.{pieces_from, pieces_of}
 use Rattle.bt_bib.specs.Moved.{nowhere, moved, moved_part, moved_value, moved_field, moved_content, moved_piece}
 use Rattle.bt_bib.specs.Boundaries.{end_of, last_end, Rises}
 use Rattle.bt_bib.specs.inner.Boundaries.{below, InOrder}
 use Rattle.bt_bib.specs.Splice.{IsSplice, is_common, is_boundary, reread_from, reread_upto}
-use Rattle.bt_bib.specs.inner.Rereading.{until, IsJoint}
-use Rattle.bt_bib.specs.inner.Moving.{rebased, rebased_part, rebased_value, rebased_field, rebased_content, rebased_piece}
+use Rattle.bt_bib.specs.inner.CommonBoundary.{until, IsJoint}
+use Rattle.bt_bib.specs.inner.Shift.{rebased, rebased_part, rebased_value, rebased_field, rebased_content, rebased_piece}
 use Rattle.bt_bib.proofs.RunLemmas.{same_spot}
 use Rattle.bt_bib.proofs.ReachLemmas.{Reaches}
 use Rattle.bt_bib.proofs.AlikeLemmas.{Alike}

@@ -1,13 +1,13 @@
 -- What is read again, of two entries of 44 bytes in all.
 use Rattle.std.specs.Prelude.{◌≡◌, ℕ, ◌-◌, List, [], ◌++◌, length, take, drop, codes, refl}
 use Rattle.bt_bib.specs.Scan.{sign}
-use Rattle.bt_bib.specs.Enclosed.{enclosed}
+use Rattle.bt_bib.specs.Enclosure.{enclosed}
 use Rattle.bt_bib.specs.Names.{word, name_ended, name}
 use Rattle.bt_bib.specs.Many.{many}
 use Rattle.bt_bib.specs.Values.{part, next_part, value}
 use Rattle.bt_bib.specs.Fields.{field, next_field}
 use Rattle.bt_bib.specs.Pieces.{opening, piece, next_piece}
-use Rattle.bt_bib.specs.Reading.{pieces_of}
+use Rattle.bt_bib.specs.BibText.{pieces_of}
 use Rattle.bt_bib.specs.Splice.{reread_from, reread_upto}
 
 abbrev two : List ℕ

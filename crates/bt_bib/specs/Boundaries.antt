@@ -27,4 +27,5 @@ last_end s (p ∷ ps) = last_end (end_of p) ps
 -- beginning, and the last ends at or before a limit.
 abbrev pub Rises : ℕ → ℕ → List Piece → Type 0
 Rises limit place [] = place ≤ limit
-Rises limit place (p ∷ ps) = (place ≤ (start_of p).place) × ((start_of p).place < (end_of p).place) × Rises limit (end_of p).place ps
+Rises limit place (p ∷ ps) =
+    (place ≤ (start_of p).place) × ((start_of p).place < (end_of p).place) × Rises limit (end_of p).place ps

@@ -25,7 +25,8 @@ field close h =
 -- after a comma: a field, or the end of the entry
 abbrev pub field_or_close : Closing → Here → Option ℕ → Result (Option Field × Here) Stop
 field_or_close close h None = Err (EndOfFile, h)
-field_or_close close h (Some b) = if b == closing_sign close then Ok (None, after_byte h) else (field close h >>= λ x. Ok (Some x.0, x.1))
+field_or_close close h (Some b) =
+    if b == closing_sign close then Ok (None, after_byte h) else (field close h >>= λ x. Ok (Some x.0, x.1))
 
 abbrev pub next_field_from : Closing → Here → Option ℕ → Result (Option Field × Here) Stop
 next_field_from close h None = Err (EndOfFile, h)

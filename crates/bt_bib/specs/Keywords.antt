@@ -1,6 +1,6 @@
 -- Types that are words of the format itself.
 use Rattle.std.specs.Prelude.{ℕ, List, codes, if◌then◌else◌}
-use Rattle.bt_text.specs.Folding.{is_same_folded}
+use Rattle.bt_text.specs.CaseFolding.{is_same_folded}
 use Rattle.bt_bib.specs.declared.keywords.Keyword.{Keyword}
 use Rattle.bt_bib.specs.declared.keywords.Keyword.TheVariants.{Comment, String, Preamble, Entry}
 

@@ -16,7 +16,7 @@ use Rattle.bt_bib.specs.Spot.{Here, start}
 use Rattle.bt_bib.specs.Many.{many, all}
 use Rattle.bt_bib.specs.Values.{next_part}
 use Rattle.bt_bib.specs.Fields.{next_field}
-use Rattle.bt_bib.specs.Reading.{next_one, pieces_of, bib_items}
+use Rattle.bt_bib.specs.BibText.{next_one, pieces_of, bib_items}
 use Rattle.bt_bib.specs.Moved.{moved_piece}
 use Rattle.bt_bib.specs.Boundaries.{last_end, Rises}
 use Rattle.bt_bib.specs.Splice.{is_boundary, IsSplice}
@@ -27,16 +27,21 @@ offset a = record { place = a.place; line = a.line - 1 }
 
 -- From a boundary on, the pieces of a text are those of its rest as a text of its own, moved.
 abbrev pub RestIsMoved : Type 0
-RestIsMoved = (text : List ℕ) (front back : List Piece) → pieces_of text ≡ front ++ back → (let a = last_end start front in back ≡ map (moved_piece (offset a)) (pieces_of (drop a.place text)))
+RestIsMoved = (text : List ℕ) (front back : List Piece) → pieces_of text ≡ front ++ back →
+    (let a = last_end start front in back ≡ map (moved_piece (offset a)) (pieces_of (drop a.place text)))
 
 -- A boundary of the old text below a splice is one of the new text.
 abbrev pub BoundaryStays : Type 0
-BoundaryStays = (old new : List ℕ) (begin end inserted place : ℕ) → IsSplice old new begin end inserted → place < begin → is_boundary (pieces_of old) place ≡ true → is_boundary (pieces_of new) place ≡ true
+BoundaryStays = (old new : List ℕ) (begin end inserted place : ℕ) → IsSplice old new begin end inserted →
+    place < begin → is_boundary (pieces_of old) place ≡ true → is_boundary (pieces_of new) place ≡ true
 
 -- With the byte at the fault's place, or the text's end there, no well-formed item begins: each text that agrees up to
 -- that byte has the same items up to this one, and this one with the same fault.
 abbrev pub FaultIsFinal : Type 0
-FaultIsFinal = (text other : List ℕ) (front back : List Piece) (i : Item) (f : ItemFault) → pieces_of text ≡ front ++ pieces.Item i ∷ back → i.fault ≡ Some f → take (i.end.place + 1) other ≡ take (i.end.place + 1) text → (rest : List Piece) × (pieces_of other ≡ front ++ pieces.Item i ∷ rest)
+FaultIsFinal = (text other : List ℕ) (front back : List Piece) (i : Item) (f : ItemFault) →
+    pieces_of text ≡ front ++ pieces.Item i ∷ back → i.fault ≡ Some f →
+    take (i.end.place + 1) other ≡ take (i.end.place + 1) text →
+    (rest : List Piece) × (pieces_of other ≡ front ++ pieces.Item i ∷ rest)
 
 -- a number that a byte can be
 abbrev pub is_byte : ℕ → Bool
@@ -53,7 +58,8 @@ pub record Completion (text : List ℕ) (front : List Piece) (i : Item) : Type 0
   pub read : pieces_of (take i.end.place text ++ rest) ≡ front ++ pieces.Item whole ∷ []
 
 abbrev pub FaultIsFirst : Type 0
-FaultIsFirst = (text : List ℕ) (front back : List Piece) (i : Item) (f : ItemFault) → pieces_of text ≡ front ++ pieces.Item i ∷ back → i.fault ≡ Some f → Completion text front i
+FaultIsFirst = (text : List ℕ) (front back : List Piece) (i : Item) (f : ItemFault) →
+    pieces_of text ≡ front ++ pieces.Item i ∷ back → i.fault ≡ Some f → Completion text front i
 
 -- Each line of a value lies from one line to another.
 abbrev pub PartLiesIn : ℕ → ℕ → Part → Type 0
@@ -88,4 +94,6 @@ LinesLieInside = (text : List ℕ) → All LinesLieIn (bib_items text)
 -- Any number of readings above that of the bytes serves as well as the one that the definitions take: it is never
 -- reached.
 abbrev pub AnyBoundServes : Type 0
-AnyBoundServes = (close : Closing) (reserve : ℕ) (h : Here) → length h.rest < reserve → (many (next_part close) reserve h ≡ all (next_part close) h) × (many (next_field close) reserve h ≡ all (next_field close) h) × (many next_one reserve h ≡ all next_one h)
+AnyBoundServes = (close : Closing) (reserve : ℕ) (h : Here) → length h.rest < reserve →
+    (many (next_part close) reserve h ≡ all (next_part close) h) ×
+    (many (next_field close) reserve h ≡ all (next_field close) h) × (many next_one reserve h ≡ all next_one h)

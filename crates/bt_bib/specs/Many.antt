@@ -4,7 +4,8 @@ use Rattle.bt_bib.specs.declared.fault.ItemFault.TheVariants.{EndOfFile}
 use Rattle.bt_bib.specs.Spot.{Here}
 use Rattle.bt_bib.specs.Stop.{Stop, ◌>>=◌}
 
-abbrev pub many_by : {A : Type 0} → (Here → List A × Result Here Stop) → Result (Option A × Here) Stop → List A × Result Here Stop
+abbrev pub many_by : {A : Type 0} → (Here → List A × Result Here Stop) → Result (Option A × Here) Stop →
+    List A × Result Here Stop
 many_by later (Err stop) = ([], Err stop)
 many_by later (Ok (None, h)) = ([], Ok h)
 many_by later (Ok (Some a, h)) = (let others = later h in (a ∷ others.0, others.1))

@@ -47,7 +47,16 @@ moved_content m (contents.Define definition) = contents.Define (moved_definition
 moved_content m (contents.Preamble value) = contents.Preamble (moved_value m value)
 
 abbrev pub moved_item : Spot → Item → Item
-moved_item m i = record { start = moved m i.start; end = moved m i.end; line = i.line + m.line; content = moved_content m i.content; close = i.close; fault = i.fault }
+moved_item m i =
+    record {
+      start = moved m i.start;
+      end = moved m i.end;
+      line = i.line
+          + m.line;
+      content = moved_content m i.content;
+      close = i.close;
+      fault = i.fault;
+    }
 
 abbrev pub moved_piece : Spot → Piece → Piece
 moved_piece m (pieces.Comment start end) = pieces.Comment (moved m start) (moved m end)

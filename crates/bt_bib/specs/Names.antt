@@ -11,7 +11,9 @@ use Rattle.bt_bib.specs.Stop.{Stop, ◌>>=◌}
 
 abbrev pub word_from : NameRole → Here → Option ℕ → Result (List ℕ × Here) Stop
 word_from what h None = Err (EndOfFile, h)
-word_from what h (Some b) = if is_name_byte b && not (is_digit b) then Ok (run is_name_byte h, after_run is_name_byte h) else Err (MissingName what, h)
+word_from what h (Some b) =
+    if is_name_byte b && not (is_digit b) then Ok (run is_name_byte h, after_run is_name_byte h)
+    else Err (MissingName what, h)
 
 -- the longest run of name bytes, which doesn't begin with a digit
 unfoldable pub word : NameRole → Here → Result (List ℕ × Here) Stop
@@ -19,7 +21,8 @@ word what h = word_from what h (first h.rest)
 
 abbrev pub ended_from : NameRole → List ℕ → Here → Option ℕ → Result Here Stop
 ended_from what signs h None = Ok h
-ended_from what signs h (Some b) = if is_white b || list_any (λ sign. sign == b) signs then Ok h else Err (BadNameEnd what b, h)
+ended_from what signs h (Some b) =
+    if is_white b || list_any (λ sign. sign == b) signs then Ok h else Err (BadNameEnd what b, h)
 
 -- After a name stands white space, the text's end or one of some signs.
 unfoldable pub name_ended : NameRole → List ℕ → Here → Result Here Stop

@@ -35,8 +35,28 @@ use Rattle.bt_bib.specs.Keywords.{keyword_of}
 
 -- an item that ends well, or at a fault
 abbrev pub ended_item : Spot → ℕ → Content → Option Closing → Result Here Stop → Piece × Here
-ended_item start line content close (Ok end) = (pieces.Item (record { start = start; end = end.spot; line = line; content = content; close = close; fault = None }), end)
-ended_item start line content close (Err stop) = (pieces.Item (record { start = start; end = stop.1.spot; line = line; content = content; close = close; fault = Some stop.0 }), stop.1)
+ended_item start line content close (Ok end) = (
+  pieces.Item (record {
+    start = start;
+    end = end.spot;
+    line = line;
+    content = content;
+    close = close;
+    fault = None;
+  }),
+  end,
+)
+ended_item start line content close (Err stop) = (
+  pieces.Item (record {
+    start = start;
+    end = stop.1.spot;
+    line = line;
+    content = content;
+    close = close;
+    fault = Some stop.0;
+  }),
+  stop.1,
+)
 
 -- an item whose fault stands before its opening sign
 abbrev pub unopened : Spot → Content → Stop → Piece × Here
@@ -64,13 +84,15 @@ entry_read kind close h =
     (record { kind = Some kind; key = Some (run (is_key_byte close) h); fields = fields.0 }, fields.1)
 
 abbrev pub entry_item : Spot → List ℕ → Closing → Here → Piece × Here
-entry_item start kind close h = (let read = entry_read kind close h in ended_item start h.spot.line (contents.Entry read.0) (Some close) read.1)
+entry_item start kind close h =
+    (let read = entry_read kind close h in ended_item start h.spot.line (contents.Entry read.0) (Some close) read.1)
 
 -- `name = value }`, from the name on
 abbrev pub string_read : Closing → Here → Definition × Result Here Stop
 string_read close h =
     let named = name StringName name_ends h in
-    let valued = named >>= λ n. sign 61 ExpectedEquals (after_white n.1) >>= λ equals. value close (after_white equals) in
+    let valued = named >>= λ n. sign 61 ExpectedEquals (after_white n.1)
+    >>= λ equals. value close (after_white equals) in
     (record { name = value_read named; value = value_read valued }, valued >>= λ v. after_closing close v.1)
 
 -- the line of a name that was read, else another
@@ -79,14 +101,17 @@ name_line (Some name) line other = line
 name_line None line other = other
 
 abbrev pub string_item : Spot → Closing → Here → Piece × Here
-string_item start close h = (let read = string_read close h in ended_item start (name_line read.0.name h.spot.line start.line) (contents.Define read.0) (Some close) read.1)
+string_item start close h =
+    (let read = string_read close h in
+    ended_item start (name_line read.0.name h.spot.line start.line) (contents.Define read.0) (Some close) read.1)
 
 -- `value }`, from the value on
 abbrev pub preamble_read : Closing → Here → Option (List Part) × Result Here Stop
 preamble_read close h = (let valued = value close h in (value_read valued, valued >>= λ v. after_closing close v.1))
 
 abbrev pub preamble_item : Spot → Closing → Here → Piece × Here
-preamble_item start close h = (let read = preamble_read close h in ended_item start start.line (contents.Preamble read.0) (Some close) read.1)
+preamble_item start close h =
+    (let read = preamble_read close h in ended_item start start.line (contents.Preamble read.0) (Some close) read.1)
 
 -- an entry of which at most the type was read
 abbrev pub unread_entry : Option (List ℕ) → Content
@@ -103,9 +128,12 @@ item_opened start unread read (Ok o) = read o.0 (after_white o.1)
 -- what a type begins, from the place after it on
 abbrev pub item_of_type : Keyword → Spot → List ℕ → Here → Piece × Here
 item_of_type keywords.Comment start kind h = (pieces.Comment start h.spot, h)
-item_of_type keywords.String start kind h = item_opened start unread_string (string_item start) (opening (after_white h))
-item_of_type keywords.Preamble start kind h = item_opened start (contents.Preamble None) (preamble_item start) (opening (after_white h))
-item_of_type keywords.Entry start kind h = item_opened start (unread_entry (Some kind)) (entry_item start kind) (opening (after_white h))
+item_of_type keywords.String start kind h =
+    item_opened start unread_string (string_item start) (opening (after_white h))
+item_of_type keywords.Preamble start kind h =
+    item_opened start (contents.Preamble None) (preamble_item start) (opening (after_white h))
+item_of_type keywords.Entry start kind h =
+    item_opened start (unread_entry (Some kind)) (entry_item start kind) (opening (after_white h))
 
 abbrev pub type_ended : Spot → List ℕ → Result Here Stop → Piece × Here
 type_ended start kind (Err stop) = unopened start (unread_entry (Some kind)) stop

@@ -129,7 +129,8 @@ whole s text line content close =
 pub data ItemOf : Item → Spot → List ℕ → Type 0 where
   AnEntry : {s : Spot} {text : List ℕ} {line : ℕ} {kind key : List ℕ} {fields : List Field} {close : Closing} →
       Head keywords.Entry kind close (OnLine line (Keyed close key (FieldsOf close fields))) s text →
-      ItemOf (whole s text line (contents.Entry (record { kind = Some kind; key = Some key; fields = fields })) close) s text
+      ItemOf (whole s text line (contents.Entry (record { kind = Some kind; key = Some key; fields = fields })) close)
+      s text
   AString : {s : Spot} {text : List ℕ} {line : ℕ} {word name : List ℕ} {value : List Part} {close : Closing} →
       Head keywords.String word close
       (OnLine line (NameOf name ⋯ Sign equals_sign ⋯ ValueOf value ⋯ Sign (closing_sign close))) s text →

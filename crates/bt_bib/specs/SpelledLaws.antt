@@ -10,11 +10,11 @@ use Rattle.bt_bib.specs.declared.item.Piece.{Piece}
 use Rattle.bt_bib.specs.declared.item.Piece.TheVariants as pieces
 use Rattle.bt_bib.specs.Spot.{at, spot_after, start}
 use Rattle.bt_bib.specs.Scan.{closing_sign}
-use Rattle.bt_bib.specs.Enclosed.{enclosed}
+use Rattle.bt_bib.specs.Enclosure.{enclosed}
 use Rattle.bt_bib.specs.Values.{part, part_ends, value}
 use Rattle.bt_bib.specs.Fields.{field}
 use Rattle.bt_bib.specs.Pieces.{piece}
-use Rattle.bt_bib.specs.Reading.{pieces_of}
+use Rattle.bt_bib.specs.BibText.{pieces_of}
 use Rattle.bt_bib.specs.Spelling.{◌▸◌, White, IsEnclosed, BeginsBy}
 use Rattle.bt_bib.specs.Spelled.{PartOf, ValueOf, FieldOf, ItemOf, DatabaseOf}
 
@@ -59,7 +59,8 @@ bytes_between begin end text = take (end.place - begin.place) (drop begin.place 
 
 abbrev pub FaultlessItemsAreSpelled : Type 0
 FaultlessItemsAreSpelled = (text : List ℕ) (front back : List Piece) (i : Item) →
-    pieces_of text ≡ front ++ pieces.Item i ∷ back → i.fault ≡ None → ItemOf i i.start (bytes_between i.start i.end text)
+    pieces_of text ≡ front ++ pieces.Item i ∷ back → i.fault ≡ None →
+    ItemOf i i.start (bytes_between i.start i.end text)
 
 -- A text in which no fault is found spells what is read of it.
 abbrev pub IsFaultless : Piece → Type 0
@@ -67,4 +68,5 @@ IsFaultless (pieces.Comment _ _) = Unit {0}
 IsFaultless (pieces.Item item) = item.fault ≡ None
 
 abbrev pub FaultlessDatabasesAreSpelled : Type 0
-FaultlessDatabasesAreSpelled = (text : List ℕ) → All IsFaultless (pieces_of text) → DatabaseOf (pieces_of text) start text
+FaultlessDatabasesAreSpelled = (text : List ℕ) → All IsFaultless (pieces_of text) →
+    DatabaseOf (pieces_of text) start text

@@ -3,7 +3,7 @@ use Rattle.std.specs.Prelude.{◌≡◌, ℕ, ◌+◌, ◌-◌, ◌≤◌, nat_l
 use Rattle.std.specs.List.{filter, list_any}
 use Rattle.bt_bib.specs.declared.item.Piece.{Piece}
 use Rattle.bt_bib.specs.Boundaries.{boundaries}
-use Rattle.bt_bib.specs.Reading.{pieces_of}
+use Rattle.bt_bib.specs.BibText.{pieces_of}
 
 -- new is old with the bytes from begin up to end replaced by `inserted` others
 pub record IsSplice (old new : List ℕ) (begin end inserted : ℕ) : Type 0 where
@@ -28,7 +28,8 @@ is_boundary ps place = list_any (λ b. b == place) (boundaries ps)
 
 -- a place of the new text, at or after the inserted bytes, that is a boundary of the old one when moved back
 abbrev pub is_common : List Piece → ℕ → ℕ → ℕ → ℕ → Bool
-is_common old begin end inserted place = nat_le (begin + inserted) place && is_boundary old (place - (begin + inserted) + end)
+is_common old begin end inserted place =
+    nat_le (begin + inserted) place && is_boundary old (place - (begin + inserted) + end)
 
 -- Reading begins again at the greatest boundary of the old text below the splice, else at 0.
 abbrev pub reread_from : List ℕ → ℕ → ℕ
@@ -36,4 +37,5 @@ reread_from old begin = greatest (filter (λ place. nat_lt place begin) (boundar
 
 -- It goes on up to the least boundary of the new text that both have, else to the new text's end.
 abbrev pub reread_upto : List ℕ → List ℕ → ℕ → ℕ → ℕ → ℕ
-reread_upto old new begin end inserted = least (length new) (filter (is_common (pieces_of old) begin end inserted) (boundaries (pieces_of new)))
+reread_upto old new begin end inserted =
+    least (length new) (filter (is_common (pieces_of old) begin end inserted) (boundaries (pieces_of new)))

@@ -10,7 +10,7 @@ use Rattle.bt_bib.specs.declared.item.Part.{Part}
 use Rattle.bt_bib.specs.declared.item.Part.TheVariants.{Text, Macro}
 use Rattle.bt_bib.specs.Spot.{Here, after_byte}
 use Rattle.bt_bib.specs.Scan.{first, run, after_run, after_white, closing_sign}
-use Rattle.bt_bib.specs.Enclosed.{enclosed}
+use Rattle.bt_bib.specs.Enclosure.{enclosed}
 use Rattle.bt_bib.specs.Stop.{Stop, ◌>>=◌}
 use Rattle.bt_bib.specs.Names.{name}
 use Rattle.bt_bib.specs.Many.{all, collected}
@@ -38,7 +38,8 @@ part close h = raw_part close h >>= λ x. Ok (x.0, after_white x.1)
 
 abbrev pub joined_from : Closing → Here → Option ℕ → Result (Option Part × Here) Stop
 joined_from close h None = Ok (None, h)
-joined_from close h (Some b) = if b == 35 then (part close (after_white (after_byte h)) >>= λ x. Ok (Some x.0, x.1)) else Ok (None, h)
+joined_from close h (Some b) =
+    if b == 35 then (part close (after_white (after_byte h)) >>= λ x. Ok (Some x.0, x.1)) else Ok (None, h)
 
 -- another part after a `#`, or none
 unfoldable pub next_part : Closing → Here → Result (Option Part × Here) Stop

@@ -2,10 +2,10 @@
 pub mod Spot
 pub mod Stop
 pub mod Scan
-pub mod Enclosed
+pub mod Enclosure
 pub mod Many
 pub mod Pieces
 pub mod Boundaries
-pub mod Rereading
-pub mod Moving
-pub mod Placed
+pub mod CommonBoundary
+pub mod Shift
+pub mod PlacedPieces

@@ -5,7 +5,7 @@ ghost use Rattle.bt_bib.specs.Spot.{start};
 ghost use Rattle.bt_bib.specs.Boundaries.{last_end};
 ghost use Rattle.bt_bib.specs.inner.Boundaries.{below, InOrder};
 
-use crate::placed::PlacedPiece;
+use crate::placed_pieces::PlacedPiece;
 use crate::spot::Spot;
 
 /// How many pieces end below a place. Their ends rise, so these are the first ones.

@@ -64,7 +64,8 @@ impl Reader<'_> {
         fields: &mut Sequence<Field>,
     ) -> Result<Spot, ReadStop>
         requires { IsIn self.now.text.now from }
-        ensures { Fills self.now.text.now from result fields.new (gathered fields.old (all (next_field close) (here self.now.text.now from))) }
+        ensures { Fills self.now.text.now from result fields.new
+            (gathered fields.old (all (next_field close) (here self.now.text.now from))) }
     {
         let mut at = from;
         'fields: loop {

@@ -1,12 +1,12 @@
 //! The items of a database as they are kept from edit to edit.
 
 ghost use Rattle.std.specs.Prelude.{◌≡◌, [], ◌++◌, ◌∷◌, map, All, IfOk, OnOk, OnErr};
-ghost use Rattle.bt_bib.specs.Moving.{FitsPiece};
-ghost use Rattle.bt_bib.specs.inner.Moving.{rebased_piece};
-ghost use Rattle.bt_bib.specs.inner.Placed.{BeginsAfter};
-ghost use Rattle.bt_bib.specs.Reading.{pieces_of};
+ghost use Rattle.bt_bib.specs.Shift.{FitsPiece};
+ghost use Rattle.bt_bib.specs.inner.Shift.{rebased_piece};
+ghost use Rattle.bt_bib.specs.inner.PlacedPieces.{BeginsAfter};
+ghost use Rattle.bt_bib.specs.BibText.{pieces_of};
 
-use crate::placed::PlacedPiece;
+use crate::placed_pieces::PlacedPiece;
 use crate::reader::{Reader, common_names};
 use crate::spot::Spot;
 use bt_text::Sequence;
@@ -40,7 +40,7 @@ impl KeptItems {
     }
 
     /// The items of a database, in the order of its text, as `read_bib` reads them.
-    #[tactic(auto, unfolding(crate::specs::Reading::pieces_of))]
+    #[tactic(auto, unfolding(crate::specs::BibText::pieces_of))]
     pub fn read(alloc: Global, text: &[u8]) -> Result<KeptItems, AllocError>
         ensures { IfOk result (λ items. items ≡ pieces_of text.now) }
     {

@@ -3,8 +3,10 @@
 
 mod aux_argument;
 mod aux_line;
+mod bib_text;
 mod boundaries;
-mod enclosed;
+mod common_boundary;
+mod enclosure;
 mod fault;
 mod fields;
 mod item;
@@ -13,14 +15,12 @@ mod kept_items;
 mod keywords;
 mod laws;
 mod meter;
-mod moving;
 mod names;
 mod pieces;
-mod placed;
+mod placed_pieces;
 mod reader;
-mod reading;
-mod rereading;
 mod scan;
+mod shift;
 mod splice;
 mod spot;
 mod stop;
@@ -28,6 +28,8 @@ mod values;
 
 pub use aux_argument::AuxFault;
 pub use aux_line::{AuxItem, Command, read_aux};
+pub use bib_text::read_bib;
+pub use common_boundary::Splice;
 pub use fault::{ItemFault, NameRole};
 pub use item::{Closing, Content, Definition, Entry, Field, Item, Part, Piece};
 pub use items::Items;
@@ -39,7 +41,5 @@ pub use laws::{
     spelled_parts_are_read, spelled_values_are_read,
 };
 pub use meter::ReadMeter;
-pub use placed::PlacedPiece;
-pub use reading::read_bib;
-pub use rereading::Splice;
+pub use placed_pieces::PlacedPiece;
 pub use spot::Spot;

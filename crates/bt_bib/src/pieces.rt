@@ -194,7 +194,8 @@ impl Reader<'_> {
     /// A string from the place after its type on.
     fn string(&self, start: Spot, from: Spot) -> Result<(Piece, Spot), AllocError>
         requires { IsIn self.now.text.now from }
-        ensures { Makes self.now.text.now from result (item_of_type Keyword.String start [] (here self.now.text.now from)) }
+        ensures { Makes self.now.text.now from result
+            (item_of_type Keyword.String start [] (here self.now.text.now from)) }
     {
         match self.opening(self.after_white(from)) {
             Err(halt) => {
@@ -211,7 +212,8 @@ impl Reader<'_> {
     /// A preamble from the place after its type on.
     fn preamble(&self, start: Spot, from: Spot) -> Result<(Piece, Spot), AllocError>
         requires { IsIn self.now.text.now from }
-        ensures { Makes self.now.text.now from result (item_of_type Keyword.Preamble start [] (here self.now.text.now from)) }
+        ensures { Makes self.now.text.now from result
+            (item_of_type Keyword.Preamble start [] (here self.now.text.now from)) }
     {
         match self.opening(self.after_white(from)) {
             Err(halt) => unopened(start, Content::Preamble(None), halt),
@@ -227,7 +229,8 @@ impl Reader<'_> {
         from: Spot,
     ) -> Result<(Piece, Spot), AllocError>
         requires { IsIn self.now.text.now from }
-        ensures { Makes self.now.text.now from result (item_of_type Keyword.Entry start kind (here self.now.text.now from)) }
+        ensures { Makes self.now.text.now from result
+            (item_of_type Keyword.Entry start kind (here self.now.text.now from)) }
     {
         match self.opening(self.after_white(from)) {
             Err(halt) => unopened(start, unread_entry(self.alloc, Some(kind)), halt),
@@ -243,7 +246,8 @@ impl Reader<'_> {
         from: Spot,
     ) -> Result<(Piece, Spot), AllocError>
         requires { IsIn self.now.text.now from }
-        ensures { Makes self.now.text.now from result (item_of_type (keyword_of kind) start kind (here self.now.text.now from)) }
+        ensures { Makes self.now.text.now from result
+            (item_of_type (keyword_of kind) start kind (here self.now.text.now from)) }
     {
         match Keyword::of(kind.as_slice()) {
             Keyword::Comment => Ok((Piece::Comment(start, from), from)),

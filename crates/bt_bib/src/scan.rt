@@ -137,7 +137,8 @@ impl Reader<'_> {
     #[tactic(auto, using(crate::proofs::RunLemmas::run_taken))]
     pub fn run(&self, from: Spot, class: Class) -> Result<(Shared<Bytes>, Spot), AllocError>
         requires { IsIn self.now.text.now from }
-        ensures { Makes self.now.text.now from result (run (has class) (here self.now.text.now from), after_run (has class) (here self.now.text.now from)) }
+        ensures { Makes self.now.text.now from result
+            (run (has class) (here self.now.text.now from), after_run (has class) (here self.now.text.now from)) }
     {
         let end = self.after_run(from, class);
         Ok((

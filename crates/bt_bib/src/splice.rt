@@ -1,13 +1,13 @@
 //! The items of a database that was changed in one place, from those that it had.
 
 ghost use Rattle.std.specs.Prelude.{◌≡◌, ◌<◌, ◌+◌, ◌-◌, ◌^◌, length, IfOk, OnErr, OnOk};
-ghost use Rattle.bt_bib.specs.Reading.{pieces_of};
+ghost use Rattle.bt_bib.specs.BibText.{pieces_of};
 
 use crate::boundaries::{count_below, last_boundary};
+use crate::common_boundary::Splice;
 use crate::kept_items::KeptItems;
 use crate::meter::ReadMeter;
 use crate::reader::Reader;
-use crate::rereading::Splice;
 use crate::spot::Spot;
 use std::alloc::{AllocError, Global};
 
@@ -30,7 +30,9 @@ impl KeptItems {
         requires splice { IsSplice old_text.now new_text.now splice.begin splice.end splice.inserted }
         requires meter { meter.old + length new_text.now < 2 ^ 128 }
         ensures pieces { IfOk result (λ items. items ≡ pieces_of new_text.now) }
-        ensures read { OnOk result (meter.new ≡ meter.old + (reread_upto old_text.now new_text.now splice.begin splice.end splice.inserted - reread_from old_text.now splice.begin)) }
+        ensures read { OnOk result (meter.new
+            ≡ meter.old + (reread_upto old_text.now new_text.now splice.begin splice.end splice.inserted - reread_from
+            old_text.now splice.begin)) }
         ensures err { OnErr result (meter.new ≡ meter.old) }
     {
         let old = self.pieces();

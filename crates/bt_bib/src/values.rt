@@ -76,7 +76,8 @@ impl Reader<'_> {
         parts: Sequence<Part>,
     ) -> Result<(Sequence<Part>, Spot), ReadStop>
         requires { IsIn self.now.text.now from }
-        ensures { Gives self.now.text.now from result (collected parts (all (next_part close) (here self.now.text.now from))) }
+        ensures { Gives self.now.text.now from result
+            (collected parts (all (next_part close) (here self.now.text.now from))) }
     {
         let mut parts = parts;
         let mut at = from;

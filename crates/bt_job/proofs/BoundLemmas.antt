@@ -11,7 +11,7 @@ use Rattle.bt_bib.specs.declared.aux_line.Command.TheVariants.{Citation, Databas
 use Rattle.bt_bib.specs.declared.aux_argument.AuxFault.{AuxFault}
 use Rattle.bt_bib.specs.AuxLine.{aux_lines}
 use Rattle.bt_job.specs.declared.files.File.{File}
-use Rattle.bt_job.specs.Naming.{is_file_name, is_among, text_of}
+use Rattle.bt_job.specs.FileNames.{is_file_name, is_among, text_of}
 use Rattle.bt_job.specs.Faults.{LineFault, WrongExtension, NoFileName, FileTwice, NotThere, IllEnded, input_fault, first_fault}
 use Rattle.bt_job.specs.Lines.{JobLine, lines_in, lines_of, has_command, input_names, line_fault, lines_opened, opened_by, read_on, line_count, unopened, AnyBoundServes, NestedInPlace}
 use Rattle.bt_job.proofs.NameLemmas.{is_among-append, same_bytes, name_itself}

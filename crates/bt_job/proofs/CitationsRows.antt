@@ -8,7 +8,7 @@ use Rattle.bt_log.specs.declared.message.Rank.TheVariants.{FileLine, Error, Fata
 use Rattle.bt_job.specs.declared.citations.Citations.{Citations}
 use Rattle.bt_bib.specs.AuxLine.{aux_lines}
 use Rattle.bt_log.specs.Message.{plain}
-use Rattle.bt_log.specs.Spelling.{spelled}
+use Rattle.bt_log.specs.Wording.{spelled}
 use Rattle.bt_log.specs.Log.{status_of, log_bytes}
 use Rattle.bt_job.specs.Lines.{cited, line_fault, read_on, job_lines}
 use Rattle.bt_job.specs.Citations.{citations}

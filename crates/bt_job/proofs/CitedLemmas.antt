@@ -7,7 +7,7 @@ use Rattle.std.proofs.lemmas.Bool.{eqb-true}
 use Rattle.std.proofs.lemmas.List.Elements.{filter-append}
 use Rattle.std.proofs.lemmas.List.Sums.{fold-append, take_while-cons}
 use Rattle.std.proofs.Common.{◌≡◌, ℕ, ◌+◌, Bool, true, false, cond, nat_eq, nat_lt, List, [], ◌∷◌, ◌++◌, length, append_assoc, append-nil, Option, Some, None, refl, sym, ap, ap₂, ◌∙◌, arith}
-use Rattle.bt_text.specs.Folding.{folded, is_same_folded}
+use Rattle.bt_text.specs.CaseFolding.{folded, is_same_folded}
 use Rattle.bt_text.specs.NameList.{same_name}
 use Rattle.bt_bib.specs.declared.aux_line.Command.TheVariants.{Citation}
 use Rattle.bt_bib.specs.declared.aux_argument.AuxFault.{AuxFault}
@@ -15,11 +15,11 @@ use Rattle.bt_job.specs.declared.files.File.{File}
 use Rattle.bt_job.specs.declared.progress.Progress.{Progress}
 use Rattle.bt_job.specs.declared.progress.Outcome.{Outcome}
 use Rattle.bt_job.specs.declared.progress.Outcome.TheVariants.{Taken, Wrong}
-use Rattle.bt_job.specs.Naming.{is_among, with_name}
+use Rattle.bt_job.specs.FileNames.{is_among, with_name}
 use Rattle.bt_job.specs.Faults.{LineFault, SecondStar, OtherSpelling, IllEnded, words, key_fault, spelling_fault, right_parts}
 use Rattle.bt_job.specs.Lines.{argument_fault}
 use Rattle.bt_job.specs.Citations.{is_star, keys_of, star_of}
-use Rattle.bt_job.specs.inner.Taking.{cited_all, cited_key, cited_part, going_on, parts_taken}
+use Rattle.bt_job.specs.inner.LineEffects.{cited_all, cited_key, cited_part, going_on, parts_taken}
 use Rattle.bt_job.proofs.NameLemmas.{is_among-append, same_bytes, name_itself}
 use Rattle.bt_job.proofs.PartLemmas.{outcome_of, end_outcome, right_wrong, right_more, first_wrong, first_more}
 

@@ -3,7 +3,7 @@ use Rattle.std.specs.Prelude.{codes}
 use Rattle.std.specs.Str.{bytes_eq}
 use Rattle.std.proofs.Math.Seq.{drop-append_seam}
 use Rattle.std.proofs.Common.{◌≡◌, ℕ, ◌-◌, Bool, true, false, cond, List, [], ◌∷◌, ◌++◌, length, drop, length-append, refl, sym, ap, ◌∙◌, arith}
-use Rattle.bt_job.specs.Naming.{with_ending}
+use Rattle.bt_job.specs.FileNames.{with_ending}
 use Rattle.bt_job.proofs.NameLemmas.{same_bytes}
 use Rattle.bt_job.proofs.FileLemmas.{is_base, is_aux}
 

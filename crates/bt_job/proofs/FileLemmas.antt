@@ -13,12 +13,12 @@ use Rattle.bt_job.specs.declared.files.File.{File}
 use Rattle.bt_job.specs.declared.progress.Progress.{Progress}
 use Rattle.bt_job.specs.declared.progress.Outcome.{Outcome}
 use Rattle.bt_job.specs.declared.progress.Outcome.TheVariants.{Taken, Wrong, Opens}
-use Rattle.bt_job.specs.Naming.{is_file_name, is_among, text_of, with_ending, with_name}
+use Rattle.bt_job.specs.FileNames.{is_file_name, is_among, text_of, with_ending, with_name}
 use Rattle.bt_job.specs.Faults.{LineFault, WrongExtension, NoFileName, DatabaseTwice, FileTwice, NotThere, IllEnded, words, database_fault, style_fault, input_fault, right_parts}
 use Rattle.bt_job.specs.Lines.{database_names, argument_fault}
 use Rattle.bt_job.specs.Citations.{missed}
-use Rattle.bt_job.specs.inner.Naming.{has_ending, met_before, name_fault}
-use Rattle.bt_job.specs.inner.Taking.{told, meeting, looked_up, unless_misnamed, named, going_on, parts_taken}
+use Rattle.bt_job.specs.inner.FileNames.{has_ending, met_before, name_fault}
+use Rattle.bt_job.specs.inner.LineEffects.{told, meeting, looked_up, unless_misnamed, named, going_on, parts_taken}
 use Rattle.bt_job.proofs.NameLemmas.{or_false, is_among-append, same_bytes, bytes_differ}
 use Rattle.bt_job.proofs.PartLemmas.{outcome_of, end_outcome, right_wrong, right_more, first_wrong, first_more}
 

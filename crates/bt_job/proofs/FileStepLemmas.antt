@@ -9,11 +9,11 @@ use Rattle.bt_bib.specs.declared.aux_argument.AuxFault.{AuxFault}
 use Rattle.bt_job.specs.declared.files.File.{File}
 use Rattle.bt_job.specs.declared.progress.Progress.{Progress}
 use Rattle.bt_job.specs.declared.progress.Outcome.TheVariants.{Taken}
-use Rattle.bt_job.specs.Naming.{is_among, with_ending, with_name}
+use Rattle.bt_job.specs.FileNames.{is_among, with_ending, with_name}
 use Rattle.bt_job.specs.Faults.{LineFault, SecondCommand, IllEnded, style_fault, input_fault, right_parts}
 use Rattle.bt_job.specs.Lines.{JobLine, lines_of, first_with, style_names, input_names, argument_fault, unless_second, line_fault, lines_opened}
 use Rattle.bt_job.specs.Citations.{keys_of, star_of, missed, messages}
-use Rattle.bt_job.specs.inner.Taking.{named, going_on, item_taken}
+use Rattle.bt_job.specs.inner.LineEffects.{named, going_on, item_taken}
 use Rattle.bt_job.proofs.PartLemmas.{end_outcome, right_wrong, right_more, first_wrong, first_more}
 use Rattle.bt_job.proofs.EndingLemmas.{base_not_aux}
 use Rattle.bt_job.proofs.FileLemmas.{is_aux, is_input, IsStyled, one_styled, IsInput, one_input}

@@ -8,12 +8,12 @@ use Rattle.std.proofs.lemmas.Slice.Eq.{bytes_eq-Decides}
 use Rattle.std.proofs.lemmas.List.Elements.{filter-append}
 use Rattle.std.proofs.lemmas.List.Sums.{fold-append}
 use Rattle.std.proofs.Common.{◌≡◌, ℕ, ◌≤◌, Bool, true, false, cond, List, [], ◌∷◌, ◌++◌, length, length-append, map, take, drop, take-append-drop, append_assoc, append-nil, Option, Some, None, refl, sym, ap, subst, ◌∙◌, arith}
-use Rattle.bt_text.specs.Folding.{is_same_folded}
+use Rattle.bt_text.specs.CaseFolding.{is_same_folded}
 use Rattle.bt_text.specs.NameList.{same_name}
 use Rattle.bt_bib.specs.declared.aux_line.Command.TheVariants.{Citation, Database, Style}
 use Rattle.bt_job.specs.declared.files.File.{File}
 use Rattle.bt_job.specs.declared.citations.Citations.{Citations}
-use Rattle.bt_job.specs.Naming.{is_file_name, is_among, text_of, with_name}
+use Rattle.bt_job.specs.FileNames.{is_file_name, is_among, text_of, with_name}
 use Rattle.bt_job.specs.Faults.{LineFault, NoFileName, DatabaseTwice, NotThere, SecondStar, OtherSpelling, PartFault, key_fault, spelling_fault, is_there, database_fault, style_fault, right_parts}
 use Rattle.bt_job.specs.Lines.{JobLine, has_command, first_with, line_parts, cited, database_names, style_names, job_lines}
 use Rattle.bt_job.specs.Citations.{is_star, keys_of, star_of, styles, asked_from, citations}

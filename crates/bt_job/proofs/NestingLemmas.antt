@@ -5,9 +5,9 @@ use Rattle.bt_job.specs.declared.files.File.{File}
 use Rattle.bt_bib.specs.declared.aux_line.AuxItem.{AuxItem}
 use Rattle.bt_job.specs.declared.progress.Progress.{Progress}
 use Rattle.bt_job.specs.declared.progress.Outcome.{Outcome}
-use Rattle.bt_job.specs.Naming.{text_of}
-use Rattle.bt_job.specs.inner.Taking.{item_taken}
-use Rattle.bt_job.specs.inner.Nesting.{in_place, lines_taken, opened, file_taken}
+use Rattle.bt_job.specs.FileNames.{text_of}
+use Rattle.bt_job.specs.inner.LineEffects.{item_taken}
+use Rattle.bt_job.specs.inner.NestedFiles.{in_place, lines_taken, opened, file_taken}
 
 -- an item of a list, with what stands after it
 pub drop_at : {A : Type 0} → (xs : List A) (i : ℕ) (x : A) → i < length xs → x ≡ get_or xs i x → drop i xs ≡ x ∷ drop (i + 1) xs

@@ -6,7 +6,7 @@ use Rattle.bt_bib.specs.declared.aux_argument.AuxFault.TheVariants.{NoBrace, Whi
 use Rattle.bt_job.specs.declared.progress.Outcome.{Outcome}
 use Rattle.bt_job.specs.declared.progress.Outcome.TheVariants.{Taken, Wrong}
 use Rattle.bt_job.specs.Faults.{LineFault, IllEnded, words, PartFault, right_parts, first_fault}
-use Rattle.bt_job.specs.inner.Taking.{fault_outcome}
+use Rattle.bt_job.specs.inner.LineEffects.{fault_outcome}
 
 -- what the code's step comes to, where this is wrong
 abbrev pub outcome_of : Option LineFault → Outcome

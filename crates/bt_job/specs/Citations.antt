@@ -10,7 +10,7 @@ use Rattle.bt_log.specs.declared.message.Place.TheVariants.{Line, WholeFile}
 use Rattle.bt_log.specs.Message.{plain, skipping, at}
 use Rattle.bt_job.specs.declared.files.File.{File}
 use Rattle.bt_job.specs.declared.citations.Citations.{Citations}
-use Rattle.bt_job.specs.Naming.{is_among, text_of, each_once}
+use Rattle.bt_job.specs.FileNames.{is_among, text_of, each_once}
 use Rattle.bt_job.specs.Faults.{LineFault, NotThere, words, database_fault, style_fault, right_parts}
 use Rattle.bt_job.specs.Lines.{JobLine, first_with, line_parts, cited, database_names, style_names, line_fault, job_lines}
 
@@ -92,7 +92,8 @@ missing_of (Some line) (name ∷ names) command nothing = []
 abbrev pub lacks : List File → List JobLine → List (List ℕ)
 lacks files lines =
     missing_of (first_with Citation lines) (cited lines) (codes "\\citation commands") (codes "cite keys")
-    ++ missing_of (first_with Database lines) (databases files lines) (codes "\\bibdata command") (codes "database files")
+    ++ missing_of (first_with Database lines) (databases files lines) (codes "\\bibdata command")
+    (codes "database files")
     ++ missing_of (first_with Style lines) (styles files lines) (codes "\\bibstyle command") (codes "style file")
 
 abbrev pub told_missing : List ℕ → List ℕ → Message

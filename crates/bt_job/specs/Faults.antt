@@ -7,7 +7,7 @@ use Rattle.bt_text.specs.NameList.{same_name}
 use Rattle.bt_bib.specs.declared.aux_argument.AuxFault.{AuxFault}
 use Rattle.bt_bib.specs.declared.aux_argument.AuxFault.TheVariants.{NoBrace, WhiteSpace, StuffAfter}
 use Rattle.bt_job.specs.declared.files.File.{File}
-use Rattle.bt_job.specs.Naming.{is_file_name, is_among, text_of}
+use Rattle.bt_job.specs.FileNames.{is_file_name, is_among, text_of}
 
 pub data LineFault : Type 0 where
   -- a second command of this name

@@ -3,7 +3,7 @@ use Rattle.std.specs.Prelude.{◌≡◌, ◌≤◌, ℕ, List, [], ◌∷◌, le
 use Rattle.std.specs.Option.{is_some}
 use Rattle.bt_job.specs.declared.files.File.{File}
 use Rattle.bt_job.specs.declared.citations.Citations.{Citations}
-use Rattle.bt_job.specs.Naming.{text_of}
+use Rattle.bt_job.specs.FileNames.{text_of}
 use Rattle.bt_text.specs.NameList.{same_name}
 use Rattle.bt_job.specs.Citations.{citations}
 

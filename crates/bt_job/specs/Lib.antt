@@ -1,4 +1,4 @@
-pub mod Naming
+pub mod FileNames
 pub mod Faults
 pub mod Lines
 pub mod Citations

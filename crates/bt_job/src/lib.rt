@@ -3,16 +3,16 @@
 
 mod aux_texts;
 mod citations;
+mod file_names;
 mod files;
+mod line_effects;
 mod name_table;
-mod naming;
-mod nesting;
+mod nested_files;
 mod progress;
 mod reader;
-mod taking;
 
 pub use aux_texts::AuxTexts;
 pub use citations::Citations;
+pub use file_names::{FILE_NAME_BYTES, is_file_name, text_of};
 pub use files::File;
-pub use naming::{FILE_NAME_BYTES, is_file_name, text_of};
-pub use nesting::{always_fit, any_bound_serves, nested_in_place, read_citations};
+pub use nested_files::{always_fit, any_bound_serves, nested_in_place, read_citations};

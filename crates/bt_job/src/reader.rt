@@ -1,10 +1,10 @@
 //! What goes through a reading of the `.aux` files: what they have asked for so far, and tables of the names in it.
 
 ghost use Rattle.std.specs.Prelude.{◌≡◌, OnOk, OnErr};
-ghost use Rattle.bt_job.specs.Naming.{is_among};
+ghost use Rattle.bt_job.specs.FileNames.{is_among};
 ghost use Rattle.bt_job.specs.inner.NameTable.{Mirrors};
-ghost use Rattle.bt_job.specs.inner.Taking.{told, logged_at, meeting, wanting};
-ghost use Rattle.bt_job.specs.inner.Nesting.{nothing_met, asked_for};
+ghost use Rattle.bt_job.specs.inner.LineEffects.{told, logged_at, meeting, wanting};
+ghost use Rattle.bt_job.specs.inner.NestedFiles.{nothing_met, asked_for};
 
 use crate::citations::Citations;
 use crate::name_table::NameTable;

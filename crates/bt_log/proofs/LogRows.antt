@@ -6,7 +6,7 @@ use Rattle.bt_log.specs.declared.message.Rank.TheVariants.{FileLine, Note, CallC
 use Rattle.bt_log.specs.declared.message.Place.TheVariants.{Line, DatabaseLine, WholeFile, Step}
 use Rattle.bt_log.specs.declared.message.Message.{Message}
 use Rattle.bt_log.specs.Message.{plain, at}
-use Rattle.bt_log.specs.Spelling.{spelled}
+use Rattle.bt_log.specs.Wording.{spelled}
 use Rattle.bt_log.specs.Log.{status_of, last_line, lines_bytes, log_bytes, terse_bytes}
 
 -- Messages in words

@@ -1,3 +1,3 @@
 pub mod Message
-pub mod Spelling
+pub mod Wording
 pub mod Log

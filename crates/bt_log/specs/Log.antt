@@ -4,7 +4,7 @@ use Rattle.std.specs.List.{list_any}
 use Rattle.bt_log.specs.declared.message.Rank.{Rank}
 use Rattle.bt_log.specs.declared.message.Rank.TheVariants.{FileLine, Note, CallCount, Warning, Error, Fatal}
 use Rattle.bt_log.specs.declared.message.Message.{Message}
-use Rattle.bt_log.specs.Spelling.{spelled}
+use Rattle.bt_log.specs.Wording.{spelled}
 
 -- The status
 

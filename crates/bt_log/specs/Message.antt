@@ -11,7 +11,14 @@ plain rank words = record { rank = rank; words = words; entry = None; place = No
 
 -- an error at a place, from which on the rest of this is left out
 abbrev pub skipping : List ℕ → Place → List ℕ → Message
-skipping words place what = record { rank = Error; words = words; entry = None; place = Some place; second = Some (codes "I'm skipping whatever remains of this " ++ what) }
+skipping words place what =
+    record {
+      rank = Error;
+      words = words;
+      entry = None;
+      place = Some place;
+      second = Some (codes "I'm skipping whatever remains of this " ++ what);
+    }
 
 -- a message at a place
 abbrev pub at : Place → Message → Message

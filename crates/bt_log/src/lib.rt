@@ -3,7 +3,7 @@
 
 mod log;
 mod message;
-mod spelling;
+mod wording;
 
 pub use log::{lines_bytes, log_bytes, status, terse_bytes};
 pub use message::{Message, Place, Rank};

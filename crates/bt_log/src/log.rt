@@ -5,7 +5,7 @@ ghost use Rattle.std.specs.List.{list_any};
 ghost use Rattle.bt_log.specs.Log.{rank_status, has_status, status_of, lines_bytes, several, count_line, last_line_of, last_line, messages_bytes, log_bytes, is_in_terse_log, terse, terse_bytes};
 
 use crate::message::{Message, Rank};
-use crate::spelling::spell;
+use crate::wording::spell;
 use bt_text::{Bytes, Shared};
 use itoa::Buffer;
 use std::alloc::{AllocError, Global};

@@ -9,7 +9,7 @@ use Rattle.bt_actions.specs.declared.entry.Variables.{Variables}
 use Rattle.bt_actions.specs.declared.entry.Entry.{Entry}
 use Rattle.bt_actions.specs.Item.{Item}
 use Rattle.bt_actions.specs.World.{World, no_entry}
-use Rattle.bt_actions.specs.Assigning.{with_number, with_text, with_globals, put_if_right, own_changed, assigned}
+use Rattle.bt_actions.specs.Assignment.{with_number, with_text, with_globals, put_if_right, own_changed, assigned}
 use Rattle.bt_actions.specs.View.{entries_in}
 use Rattle.bt_machine.specs.Eval.{Ending, Done, Stopped, eval}
 use Rattle.bt_machine.specs.Step.{tick_limit, step_begun, finish_of, step, first_variables, world_in}

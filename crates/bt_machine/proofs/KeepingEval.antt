@@ -12,7 +12,7 @@ use Rattle.bt_actions.specs.World.{World, Act, Goes, Stops, entry_of}
 use Rattle.bt_actions.specs.State.{pushed}
 use Rattle.bt_actions.specs.Arguments.{as_number, as_code, taken, taken_two, taken_three}
 use Rattle.bt_actions.specs.Given.{zero_item, empty_item}
-use Rattle.bt_actions.specs.Reading.{of_entry, field_at, number_at, text_at}
+use Rattle.bt_actions.specs.Operands.{of_entry, field_at, number_at, text_at}
 use Rattle.bt_actions.specs.Actions.{basic}
 use Rattle.bt_machine.specs.Eval.{Ending, Done, Stopped, Runner, then_go, acted, code_body, function_body, type_function, run_function, run_type, by_sign, run_chosen, turn, turns, run_loop, built_in, act, call_counted, eval_within}
 use Rattle.bt_machine.specs.Step.{checked}

@@ -1,4 +1,4 @@
 -- What only helpers, loops and proofs need: no part of the meaning.
 pub mod Control
 pub mod Footprint
-pub mod Putting
+pub mod Substitution

@@ -5,12 +5,12 @@ ghost use Rattle.bt_style.specs.Reach.{is_among, keeps_held};
 ghost use Rattle.bt_machine.specs.Agreement.{IsNextOutcome, outcome_over, own_over};
 ghost use Rattle.bt_machine.specs.Comparison.{same_counts, same_variables};
 ghost use Rattle.bt_machine.specs.Footprint.{blend_globals, pick};
-ghost use Rattle.bt_machine.specs.inner.Putting.{blend_at};
+ghost use Rattle.bt_machine.specs.inner.Substitution.{blend_at};
 
 use crate::agreement::{same_counts, same_variables};
 use crate::input::Input;
 use crate::outcome::Outcome;
-use crate::putting::{Places, reached_globals, reached_owns, variables_over};
+use crate::substitution::{Places, reached_globals, reached_owns, variables_over};
 use bt_actions::{Variables, share_texts};
 use bt_log::Message;
 use bt_style::Reach;
@@ -26,7 +26,8 @@ pub fn equal_variables(old: &Variables, new: &Variables) -> bool
 
 /// Whether others' variables are as many, and have all that was left at some places.
 fn has_left(left: &Variables, base: &Variables, places: Places<'_>) -> bool
-    ensures { result ≡ (same_counts left.now base.now && same_variables places.entry.numbers.now places.entry.texts.now left.now base.now) }
+    ensures { result ≡ (same_counts left.now base.now
+        && same_variables places.entry.numbers.now places.entry.texts.now left.now base.now) }
 {
     same_counts(left, base) && same_variables(left, base, places.numbers, places.texts)
 }
@@ -90,8 +91,10 @@ fn owns_left(
     new: &Input,
     reach: &Reach,
 ) -> Result<Option<Shared<Variables>>, AllocError>
-    requires { left.now.variables ≡ option_map (own_over (is_among reach.now.targets) old.now.entry) left.now.variables }
-    ensures { IfOk result (λ both. both ≡ option_map (own_over (is_among reach.now.targets) new.now.entry) left.now.variables) }
+    requires { left.now.variables
+        ≡ option_map (own_over (is_among reach.now.targets) old.now.entry) left.now.variables }
+    ensures { IfOk result (λ both. both
+        ≡ option_map (own_over (is_among reach.now.targets) new.now.entry) left.now.variables) }
 {
     let Some(left) = &left.variables else {
         return Ok(None);

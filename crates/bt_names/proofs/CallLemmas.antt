@@ -7,10 +7,10 @@ use Rattle.bt_names.specs.declared.faults.NameFault.{NameFault}
 use Rattle.bt_names.specs.declared.faults.NameFault.TheVariants.{TooManyCommas, OutOfMemory as no_memory}
 use Rattle.bt_names.specs.declared.faults.FormatFault.{FormatFault}
 use Rattle.bt_names.specs.declared.faults.FormatFault.TheVariants.{TooManyCommas as too_many, PatternFault, OutOfMemory}
-use Rattle.bt_names.specs.Listing.{name_at}
-use Rattle.bt_names.specs.Splitting.{parts_of}
+use Rattle.bt_names.specs.Names.{name_at}
+use Rattle.bt_names.specs.NameParts.{parts_of}
 use Rattle.bt_names.specs.Patterns.{pattern_fault}
-use Rattle.bt_names.specs.Cutting.{is_comma}
+use Rattle.bt_names.specs.Cuts.{is_comma}
 use Rattle.bt_names.specs.Calls.{IsNameFault, name_parts, name_parts_or_fault, parts_or_fault, IsFormatFault, formatted_name, formatted_or_fault, formatted_parts, text_or_fault}
 use Rattle.bt_names.proofs.SplittingLemmas.{few_commas, too_many_commas}
 

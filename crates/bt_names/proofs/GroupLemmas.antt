@@ -5,7 +5,7 @@ use Rattle.bt_names.specs.declared.tokens.Token.{Token}
 use Rattle.bt_names.specs.declared.growth.Stop.{Stop}
 use Rattle.bt_names.specs.declared.growth.Stop.TheVariants.{Longer, OutOfMemory}
 use Rattle.bt_names.specs.inner.Growth.{StopsAt}
-use Rattle.bt_names.specs.Joining.{Between, is_short, joined}
+use Rattle.bt_names.specs.Joints.{Between, is_short, joined}
 use Rattle.bt_names.specs.Groups.{ends_in_tie, group_finished, put_in}
 
 -- The end of a group takes away one byte at most.

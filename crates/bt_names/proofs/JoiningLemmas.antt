@@ -10,7 +10,7 @@ use Rattle.bt_text.specs.Length.{text_length_of}
 use Rattle.bt_names.specs.declared.tokens.Token.{Token}
 use Rattle.bt_names.specs.declared.spelling.Form.{Form}
 use Rattle.bt_names.specs.declared.spelling.Form.TheVariants.{Whole, Initials}
-use Rattle.bt_names.specs.Joining.{Between, by_signs, by_text, dotted, joined, linked, sign_before}
+use Rattle.bt_names.specs.Joints.{Between, by_signs, by_text, dotted, joined, linked, sign_before}
 use Rattle.bt_names.proofs.LengthLemmas.{text_length_push}
 
 pub dotted_more : (form : Form) (out : List ℕ) → text_length_of out ≤ text_length_of (dotted form out)

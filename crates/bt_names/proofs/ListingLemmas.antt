@@ -9,7 +9,7 @@ use Rattle.std.proofs.lemmas.List.Elements.{filter-append}
 use Rattle.bt_text.proofs.BlockLemmas.{depth_take}
 use Rattle.bt_text.specs.ByteTests.{is_white}
 use Rattle.bt_text.specs.Depth.{depth, depth_after}
-use Rattle.bt_names.specs.Listing.{begins_with_and, has_and_at, follows_white, places_of_and, texts_between, names_of}
+use Rattle.bt_names.specs.Names.{begins_with_and, has_and_at, follows_white, places_of_and, texts_between, names_of}
 
 abbrev pub and_places_below : List ℕ → ℕ → List ℕ
 and_places_below t n = filter (λ i. eqb (depth (take i t)) 0 && has_and_at t i) (range_with_len 0 n)

@@ -7,10 +7,10 @@ use Rattle.std.proofs.lemmas.List.Splits.{length-slice_split}
 use Rattle.std.proofs.lemmas.Bool.{true≢false, cases_Bool, eqb-true}
 use Rattle.bt_text.specs.Blocks.{blocks}
 use Rattle.bt_names.specs.declared.tokens.Token.{Token}
-use Rattle.bt_names.specs.Cutting.{is_single, kept_blocks, runs, sections, tokens, lead_after, is_comma}
-use Rattle.bt_names.specs.inner.Cutting.{sections_from, first_section, other_sections}
+use Rattle.bt_names.specs.Cuts.{is_single, kept_blocks, runs, sections, tokens, lead_after, is_comma}
+use Rattle.bt_names.specs.inner.Cuts.{sections_from, first_section, other_sections}
 use Rattle.bt_names.specs.declared.tokens.Parts.{Parts}
-use Rattle.bt_names.specs.Splitting.{parts_of, parts_of_sections, split_at_two, with_commas, without_comma}
+use Rattle.bt_names.specs.NameParts.{parts_of, parts_of_sections, split_at_two, with_commas, without_comma}
 use Rattle.bt_names.proofs.StrayLemmas.{is_kept}
 use Rattle.bt_names.proofs.CuttingLemmas.{sections_is}
 

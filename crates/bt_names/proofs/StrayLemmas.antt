@@ -6,7 +6,7 @@ use Rattle.std.proofs.lemmas.Bool.Decides.{eqb_tells}
 use Rattle.bt_text.specs.Blocks.{blocks}
 use Rattle.bt_text.specs.Depth.{depth_after}
 use Rattle.bt_text.proofs.BlockLemmas.{blocks_from, blocks_from_start}
-use Rattle.bt_names.specs.Cutting.{is_single, kept_blocks}
+use Rattle.bt_names.specs.Cuts.{is_single, kept_blocks}
 
 abbrev pub kept_from : ℕ → List ℕ → List ℕ
 kept_from d [] = []

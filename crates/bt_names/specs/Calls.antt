@@ -7,8 +7,8 @@ use Rattle.bt_names.specs.declared.faults.FormatFault.{FormatFault}
 use Rattle.bt_names.specs.declared.faults.FormatFault.TheVariants.{NoSuchName, TooManyCommas, PatternFault, OutOfMemory}
 use Rattle.bt_names.specs.declared.calls.Formatted.{Formatted}
 use Rattle.bt_names.specs.declared.calls.Formatted.TheVariants.{Text, Longer}
-use Rattle.bt_names.specs.Listing.{name_at}
-use Rattle.bt_names.specs.Splitting.{parts_of}
+use Rattle.bt_names.specs.Names.{name_at}
+use Rattle.bt_names.specs.NameParts.{parts_of}
 use Rattle.bt_names.specs.Patterns.{pattern_fault}
 use Rattle.bt_names.specs.Groups.{formatted}
 

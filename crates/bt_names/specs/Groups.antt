@@ -10,7 +10,7 @@ use Rattle.bt_names.specs.declared.spelling.Form.{Form}
 use Rattle.bt_names.specs.declared.spelling.Form.TheVariants.{Whole, Initials}
 use Rattle.bt_names.specs.Patterns.{inside_group, is_doubled_at, letter_end, letter_places}
 use Rattle.bt_names.specs.Spelling.{first_block, spelled}
-use Rattle.bt_names.specs.Joining.{Between, by_text, by_signs, is_short, joined}
+use Rattle.bt_names.specs.Joints.{Between, by_text, by_signs, is_short, joined}
 
 abbrev pub ends_in_tie : List ℕ → Bool
 ends_in_tie out = ends_in (λ b. b == tie) out
@@ -38,7 +38,8 @@ letter_l = 108
 abbrev pub part_named : Parts → ℕ → List Token
 part_named parts b =
     let letter = to_ascii_lowercase b in
-    if letter == letter_f then parts.first else (if letter == letter_v then parts.von else (if letter == letter_l then parts.last else parts.jr))
+    if letter == letter_f then parts.first
+    else (if letter == letter_v then parts.von else (if letter == letter_l then parts.last else parts.jr))
 
 -- the tokens of a part, with what stands in the group before and after them; nothing for an empty part
 abbrev pub put_in : Between → List ℕ → List Token → List ℕ → List ℕ
@@ -66,7 +67,8 @@ group_output parts t (i ∷ is) =
 
 -- Bytes outside of groups are copied.
 abbrev pub block_output : Parts → List ℕ → List ℕ
-block_output parts block = if begins_group block then group_output parts (inside_group block) (letter_places (inside_group block)) else block
+block_output parts block =
+    if begins_group block then group_output parts (inside_group block) (letter_places (inside_group block)) else block
 
 -- the parts in a pattern
 abbrev pub formatted : Parts → List ℕ → List ℕ

@@ -1,10 +1,10 @@
-pub mod Listing
-pub mod Cutting
+pub mod Names
+pub mod Cuts
 pub mod Vons
-pub mod Splitting
+pub mod NameParts
 pub mod Patterns
 pub mod Spelling
-pub mod Joining
+pub mod Joints
 pub mod Groups
 pub mod Calls
 pub mod inner

@@ -5,7 +5,7 @@ use Rattle.std.specs.List.{list_any, range_with_len}
 use Rattle.bt_text.specs.ByteTests.{is_letter, right_brace}
 use Rattle.bt_text.specs.Blocks.{blocks, begins_group}
 use Rattle.bt_text.specs.Depth.{depth, depth_at}
-use Rattle.bt_names.specs.Cutting.{is_single}
+use Rattle.bt_names.specs.Cuts.{is_single}
 
 -- A block that begins with a left brace is a group. What stands inside it goes up to its right brace, or to the
 -- pattern's end where it has none.
@@ -14,7 +14,8 @@ inside_group group = if depth group == 0 then take (length group - 2) (drop 1 gr
 
 -- the places of the letters at depth 0 of what stands inside a group, from a place on
 abbrev pub letters_from : List ℕ → ℕ → List ℕ
-letters_from t start = filter (λ i. is_letter (slice_index t i) && depth_at t i == 0) (range_with_len start (length t - start))
+letters_from t start =
+    filter (λ i. is_letter (slice_index t i) && depth_at t i == 0) (range_with_len start (length t - start))
 
 abbrev pub letter_places : List ℕ → List ℕ
 letter_places t = letters_from t 0
@@ -39,7 +40,8 @@ first_place (i ∷ is) = Some i
 -- else the second, or the third where the second doubles the first.
 abbrev pub letter_fault : List ℕ → List ℕ → Option ℕ
 letter_fault t [] = None
-letter_fault t (i ∷ is) = if names_part (slice_index t i) then first_place (if is_doubled_at t i then drop 1 is else is) else Some i
+letter_fault t (i ∷ is) =
+    if names_part (slice_index t i) then first_place (if is_doubled_at t i then drop 1 is else is) else Some i
 
 abbrev pub or_else : Option ℕ → Option ℕ → Option ℕ
 or_else (Some i) other = Some i
@@ -53,7 +55,8 @@ moved_by n (Some i) = Some (n + i)
 abbrev pub block_fault : List ℕ → Option ℕ
 block_fault block =
     if begins_group block
-    then or_else (moved_by 1 (letter_fault (inside_group block) (letter_places (inside_group block)))) (if depth block == 0 then None else Some (length block))
+    then or_else (moved_by 1 (letter_fault (inside_group block) (letter_places (inside_group block))))
+    (if depth block == 0 then None else Some (length block))
     else (if is_single (λ b. b == right_brace) block then Some 0 else None)
 
 -- the first fault of some blocks, by its place from where the first of them begins

@@ -5,7 +5,7 @@ use Rattle.bt_text.specs.ByteTests.{is_letter}
 use Rattle.bt_names.specs.declared.tokens.Token.{Token}
 use Rattle.bt_names.specs.declared.spelling.Form.{Form}
 use Rattle.bt_names.specs.declared.spelling.Form.TheVariants.{Whole, Initials}
-use Rattle.bt_names.specs.Cutting.{first_or_none}
+use Rattle.bt_names.specs.Cuts.{first_or_none}
 
 abbrev pub first_block : List ℕ → List ℕ
 first_block t = first_or_none (blocks t)

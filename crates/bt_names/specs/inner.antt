@@ -1,5 +1,5 @@
 -- What only helpers, loops and proofs need: no part of the meaning.
-pub mod Cutting
+pub mod Cuts
 pub mod Patterns
 pub mod Spelling
 pub mod Growth

@@ -3,15 +3,15 @@
 ghost use Rattle.std.specs.Prelude.{◌≡◌, IfOk, IfErr, Ok};
 ghost use Rattle.bt_names.specs.Calls.{formatted_name, formatted_within, name_parts, IsFormatFault, IsNameFault};
 
-use crate::cutting::comma_count;
+use crate::cuts::comma_count;
 use crate::faults::{FormatFault, NameFault};
 use crate::groups::formatted;
 use crate::growth::Stop;
-use crate::listing::name_at;
 use crate::name::Name;
+use crate::name_parts::sections_of;
+use crate::names::name_at;
 use crate::patterns::pattern_fault;
 use crate::spelling::Spelled;
-use crate::splitting::sections_of;
 use crate::tokens::Parts;
 use bt_text::Bytes;
 use std::alloc::Global;

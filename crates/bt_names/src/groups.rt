@@ -4,13 +4,13 @@ ghost use Rattle.std.specs.Prelude.{◌≡◌, ◌≤◌, ◌+◌, ◌++◌, ◌
 ghost use Rattle.std.specs.List.{suffix_len};
 ghost use Rattle.bt_text.specs.ByteTests.{tie};
 ghost use Rattle.bt_names.specs.inner.Growth.{StopsAt};
-ghost use Rattle.bt_names.specs.Joining.{by_signs, by_text};
+ghost use Rattle.bt_names.specs.Joints.{by_signs, by_text};
 ghost use Rattle.bt_names.specs.Patterns.{letter_places};
 ghost use Rattle.bt_names.specs.Groups.{block_output, ends_in_tie, group_finished, form_at, formatted, group_output, put_in, with_tokens};
 
 use crate::growth::{Stop, push_in_group, push_within};
-use crate::joining::{join_by_signs, join_by_text, push_linked};
-use crate::lent::LentToken;
+use crate::joints::{join_by_signs, join_by_text, push_linked};
+use crate::lent_tokens::LentToken;
 use crate::patterns::{begins_group, inside, is_doubled_at, letter_end, next_letter};
 use crate::spelling::{Form, Spelled, first_block};
 use bt_text::{block_len, text_length};

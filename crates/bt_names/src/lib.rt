@@ -2,21 +2,21 @@
 #![tactic(auto)]
 
 mod calls;
-mod cutting;
+mod cuts;
 mod faults;
 mod groups;
 mod growth;
-mod joining;
-mod lent;
-mod listing;
+mod joints;
+mod lent_tokens;
 mod name;
+mod name_parts;
+mod names;
 mod patterns;
 mod spelling;
-mod splitting;
 mod tokens;
 mod vons;
 
 pub use calls::{Formatted, format, format_within, parts};
 pub use faults::{FormatFault, NameFault};
-pub use listing::count;
+pub use names::count;
 pub use tokens::{Parts, Token};

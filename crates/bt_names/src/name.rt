@@ -2,7 +2,7 @@
 
 ghost use Rattle.std.specs.Prelude.{◌≡◌, IfOk, false};
 ghost use Rattle.bt_text.specs.Blocks.{blocks};
-ghost use Rattle.bt_names.specs.Cutting.{kept_blocks};
+ghost use Rattle.bt_names.specs.Cuts.{kept_blocks};
 
 use bt_text::{Bytes, depth_after};
 use std::alloc::{AllocError, Global};
@@ -47,7 +47,7 @@ pub struct Name<'a> {
 impl<'a> Model for Name<'a> {
     ghost use Rattle.std.specs.Prelude.{◌≡◌, List, ℕ, unwrap_or};
     ghost use Rattle.bt_text.specs.Blocks.{blocks};
-    ghost use Rattle.bt_names.specs.Cutting.{kept_blocks};
+    ghost use Rattle.bt_names.specs.Cuts.{kept_blocks};
 
     ghost Value = { List ℕ };
 
@@ -59,7 +59,7 @@ impl<'a> Model for Name<'a> {
 impl<'a> Name<'a> {
     ghost use Rattle.std.specs.Prelude.{◌≡◌, IfOk};
     ghost use Rattle.bt_text.specs.Blocks.{blocks};
-    ghost use Rattle.bt_names.specs.Cutting.{kept_blocks};
+    ghost use Rattle.bt_names.specs.Cuts.{kept_blocks};
 
     /// The name of these bytes.
     pub fn new(alloc: Global, bytes: &'a [u8]) -> Result<Name<'a>, AllocError>

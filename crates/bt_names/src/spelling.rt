@@ -5,7 +5,7 @@ ghost use Rattle.bt_names.specs.Groups.{part_named};
 ghost use Rattle.bt_names.specs.Spelling.{by_initial, first_block, initial, spelled};
 ghost use Rattle.bt_names.specs.inner.Spelling.{abbreviated};
 
-use crate::lent::{LentParts, LentToken};
+use crate::lent_tokens::{LentParts, LentToken};
 use bt_text::{begins_special, block_len, is_letter};
 use std::alloc::{AllocError, Global};
 use std::marker::Model;
@@ -89,7 +89,8 @@ impl<'t, 'a> Model for Spelled<'t, 'a> {
 
     ghost view = { λ s. s.whole };
 
-    ghost invariant = { λ s. record { first = s.first.items; von = s.von.items; last = s.last.items; jr = s.jr.items } ≡ abbreviated s.whole };
+    ghost invariant = { λ s. record { first = s.first.items; von = s.von.items; last = s.last.items; jr = s.jr.items }
+        ≡ abbreviated s.whole };
 }
 
 impl<'t, 'a> Spelled<'t, 'a> {

@@ -4,7 +4,7 @@ ghost use Rattle.std.specs.Prelude.{◌≡◌, ◌∷◌};
 ghost use Rattle.bt_text.specs.ByteTests.{backslash, is_small, left_brace};
 ghost use Rattle.bt_names.specs.Vons.{begins_small, is_cased, is_von, is_von_text, special_is_small, verdict_of};
 
-use crate::lent::LentToken;
+use crate::lent_tokens::LentToken;
 use bt_text::{begins_special, block_len, control_name_len, is_foreign};
 
 /// Whether a byte is a letter with a case.

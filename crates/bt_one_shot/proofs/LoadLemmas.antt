@@ -14,7 +14,7 @@ use Rattle.bt_one_shot.specs.declared.folder.Found.TheVariants as found
 use Rattle.bt_one_shot.specs.Folders.{Contents, Seen, Gains, LooksUp, looked_up}
 use Rattle.bt_one_shot.specs.Sinks.{Sunk}
 use Rattle.bt_one_shot.specs.inner.Sinks.{GoesOn}
-use Rattle.bt_one_shot.specs.Loading.{LookedUp, name_of, next, taken_found, after_file, after_files, refusal_line, refusal_lines, InOrder, all_looked_up}
+use Rattle.bt_one_shot.specs.JobFiles.{LookedUp, name_of, next, taken_found, after_file, after_files, refusal_line, refusal_lines, InOrder, all_looked_up}
 use Rattle.bt_one_shot.specs.inner.Progress.{LooksUpName, Goes}
 use Rattle.bt_one_shot.proofs.TellLemmas.{goes_on_none, goes_on_more}
 use Rattle.bt_one_shot.proofs.WantLemmas.{is_met, new_here}

@@ -81,7 +81,8 @@ Holds (Some old) (Some new) files = (name : List ℕ) → new name ≡ fold with
 abbrev pub HoldsBut : List ℕ → Option Contents → Option Contents → List Written → Type 0
 HoldsBut spoiled None new files = Unit {0}
 HoldsBut spoiled (Some old) None files = ⊥
-HoldsBut spoiled (Some old) (Some new) files = (name : List ℕ) → bytes_eq spoiled name ≡ false → new name ≡ fold with_file old files name
+HoldsBut spoiled (Some old) (Some new) files = (name : List ℕ) → bytes_eq spoiled name ≡ false →
+    new name ≡ fold with_file old files name
 
 -- files were written, and nothing else was done
 pub record Writes (old new : Seen) (files : List Written) : Type 0 where

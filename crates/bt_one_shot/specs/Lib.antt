@@ -2,6 +2,6 @@ pub mod Words
 pub mod Options
 pub mod Folders
 pub mod Sinks
-pub mod Loading
+pub mod JobFiles
 pub mod Shots
 pub mod inner

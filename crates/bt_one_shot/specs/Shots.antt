@@ -5,7 +5,7 @@ use Rattle.bibtex.specs.declared.state.State.{State}
 use Rattle.bibtex.specs.Present.{no_texts, shown}
 use Rattle.bt_one_shot.specs.Folders.{Written, Seen, LooksUp, Writes, Fails}
 use Rattle.bt_one_shot.specs.Sinks.{Sunk, Tells}
-use Rattle.bt_one_shot.specs.Loading.{LookedUp, name_of, next, after_files, refusal_lines, InOrder, all_looked_up}
+use Rattle.bt_one_shot.specs.JobFiles.{LookedUp, name_of, next, after_files, refusal_lines, InOrder, all_looked_up}
 
 -- What is looked up
 
@@ -47,14 +47,16 @@ abbrev pub unwritten_line : List ℕ → List ℕ
 unwritten_line name = codes "bibtex: can't write " ++ (name ++ codes "\n")
 
 -- Both files are written, the bibliography first, then this log is printed, and nothing more is reported.
-pub record Finishes (s : State) (log : List ℕ) (old new : Seen) (out out' : Sunk) (IsTold : List ℕ → Type 0) (exit : ℕ) : Type 0 where
+pub record Finishes (s : State) (log : List ℕ) (old new : Seen) (out out' : Sunk) (IsTold : List ℕ → Type 0)
+    (exit : ℕ) : Type 0 where
   pub writes : Writes old new (bbl_file s ∷ blg_file s ∷ [])
   pub prints : Tells out out' log
   pub quiet : IsTold []
   pub is_exit : exit ≡ exit_of (shown s).status
 
 -- Files are written, but then this one can't be. That is reported, and nothing more is written or printed.
-pub record GivesUp (files : List Written) (name : List ℕ) (old new : Seen) (out out' : Sunk) (IsTold : List ℕ → Type 0) (exit : ℕ) : Type 0 where
+pub record GivesUp (files : List Written) (name : List ℕ) (old new : Seen) (out out' : Sunk)
+    (IsTold : List ℕ → Type 0) (exit : ℕ) : Type 0 where
   pub fails : Fails old new files name
   pub unprinted : out' ≡ out
   pub tells : IsTold (unwritten_line name)
@@ -68,12 +70,14 @@ Ends s log old new out out' IsTold exit =
     ⊎ GivesUp (bbl_file s ∷ []) (blg_file s).name old new out out' IsTold exit
 
 -- A job is run: its files are looked up until it wants no new one, and the run ends with the state after them.
-pub record Runs (root : List ℕ) (min : ℕ) (terse : Bool) (old new : Seen) (out out' err err' : Sunk) (exit : ℕ) : Type 0 where
+pub record Runs (root : List ℕ) (min : ℕ) (terse : Bool) (old new : Seen) (out out' err err' : Sunk) (exit : ℕ) :
+    Type 0 where
   pub files : List LookedUp
   pub between : Seen
   pub loads : Loads root min old between files
   pub are_all : next (loaded root min files) (map name_of files) ≡ None
-  pub ends : Ends (loaded root min files) (printed_log terse (loaded root min files)) between new out out' (λ text. Tells err err' (refusals_told root min files ++ text)) exit
+  pub ends : Ends (loaded root min files) (printed_log terse (loaded root min files)) between new out out'
+      (λ text. Tells err err' (refusals_told root min files ++ text)) exit
 
 -- There is no room to go on. Some of its files were looked up, and nothing is written or printed.
 pub record Stops (root : List ℕ) (min : ℕ) (old new : Seen) (out out' err err' : Sunk) : Type 0 where

@@ -18,5 +18,6 @@ sunk contents failures is_flushed = record { contents = contents; failures = fai
 -- and isn't written to again.
 abbrev pub Tells : Sunk → Sunk → List ℕ → Type 0
 Tells old new text =
-    (Appends old.contents new.contents text × (new.failures ≡ old.failures) × (old.is_flushed ≡ true → new.is_flushed ≡ true))
+    (Appends old.contents new.contents text × (new.failures ≡ old.failures) ×
+    (old.is_flushed ≡ true → new.is_flushed ≡ true))
     ⊎ (AppendsPart old.contents new.contents text × (new.failures ≡ old.failures + 1))

@@ -6,8 +6,8 @@ ghost use Rattle.bt_one_shot.specs.Sinks.{Sunk, sunk, Tells};
 ghost use Rattle.bt_one_shot.specs.Shots.{exit_of, printed_log, Ends, Runs, Stops};
 
 use crate::folder::Folder;
-use crate::loading::{load_all, tell};
-use crate::met::NamesMet;
+use crate::job_files::{load_all, tell};
+use crate::met_names::NamesMet;
 use crate::options::Options;
 use bibtex::{Draft, Session};
 use bt_serve::{Sink, say};
@@ -112,7 +112,8 @@ pub fn one_shot<F: Folder, O: Sink, E: Sink>(
     requires folder { (F.seen folder.old).failures < 2 ^ 64 - 1 }
     requires out { O.failure_count out.old < 2 ^ 64 - 1 }
     requires err { E.failure_count err.old < 2 ^ 64 - 1 }
-    ensures ok { IfOk result (Runs options.now.root options.now.min options.now.terse (F.seen folder.old) (F.seen folder.new)
+    ensures ok { IfOk result (Runs options.now.root options.now.min options.now.terse (F.seen folder.old)
+        (F.seen folder.new)
         (sunk (O.contents out.old) (O.failure_count out.old) (O.is_flushed out.old))
         (sunk (O.contents out.new) (O.failure_count out.new) (O.is_flushed out.new))
         (sunk (E.contents err.old) (E.failure_count err.old) (E.is_flushed err.old))

@@ -3,8 +3,8 @@
 
 mod folder;
 mod job;
-mod loading;
-mod met;
+mod job_files;
+mod met_names;
 mod options;
 mod words;
 

@@ -6,7 +6,7 @@ use Rattle.std.specs.Cmp.Lexicographic.{nat_list_eq_equiv}
 use Rattle.std.proofs.lemmas.Bool.{cases_Bool}
 use Rattle.std.proofs.lemmas.Bool.Decides.{Decides-eqb}
 use Rattle.std.proofs.lemmas.List.Folds.{list_any-append}
-use Rattle.bt_text.specs.Folding.{folded, is_same_folded}
+use Rattle.bt_text.specs.CaseFolding.{folded, is_same_folded}
 use Rattle.bt_resolve.specs.declared.asked.Asked.{Asked}
 use Rattle.bt_resolve.specs.declared.entry.Entry.{Entry}
 use Rattle.bt_resolve.specs.declared.stored.Stored.{Stored}

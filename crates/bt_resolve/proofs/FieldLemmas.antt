@@ -5,7 +5,7 @@ use Rattle.std.specs.Cmp.Lexicographic.{nat_list_eq_equiv}
 use Rattle.std.proofs.Math.Path.{fun_ext}
 use Rattle.std.proofs.lemmas.Bool.{cases_Bool, cond-true, cond-false}
 use Rattle.std.proofs.lemmas.List.{drop_more, take_more}
-use Rattle.bt_text.specs.Folding.{folded, is_same_folded}
+use Rattle.bt_text.specs.CaseFolding.{folded, is_same_folded}
 use Rattle.bt_bib.specs.declared.item.Field.{Field}
 use Rattle.bt_log.specs.declared.message.Message.{Message}
 use Rattle.bt_resolve.specs.declared.fields.Slot.{Slot}

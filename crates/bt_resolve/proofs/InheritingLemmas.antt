@@ -9,7 +9,7 @@ use Rattle.bt_resolve.specs.declared.asked.Asked.{Asked}
 use Rattle.bt_resolve.specs.declared.stored.Stored.{Stored}
 use Rattle.bt_resolve.specs.Listed.{listed}
 use Rattle.bt_resolve.specs.Inherited.{inherited, values_of, parent_at, inherits, values_after, entries_by, entries_seen}
-use Rattle.bt_resolve.specs.inner.Inheriting.{inherits_from, inherits_at, all_inherit, values_read}
+use Rattle.bt_resolve.specs.inner.Inheritance.{inherits_from, inherits_at, all_inherit, values_read}
 
 abbrev Values : Type 0
 Values = List (Option (List ℕ))

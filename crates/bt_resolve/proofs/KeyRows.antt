@@ -1,13 +1,13 @@
 -- Which entries are in the list, at literal databases.
 use Rattle.std.specs.Prelude.{◌≡◌, [], ◌∷◌, codes, Some, None, refl}
 use Rattle.bt_bib.specs.Scan.{sign}
-use Rattle.bt_bib.specs.Enclosed.{enclosed}
+use Rattle.bt_bib.specs.Enclosure.{enclosed}
 use Rattle.bt_bib.specs.Names.{word, name_ended, name}
 use Rattle.bt_bib.specs.Many.{many}
 use Rattle.bt_bib.specs.Values as parts
 use Rattle.bt_bib.specs.Fields.{field, next_field}
 use Rattle.bt_bib.specs.Pieces.{opening, piece, next_piece}
-use Rattle.bt_bib.specs.Reading.{pieces_of}
+use Rattle.bt_bib.specs.BibText.{pieces_of}
 use Rattle.bt_resolve.specs.Values.{value, field_value, value_warnings}
 use Rattle.bt_resolve.specs.Macros.{macro_before}
 use Rattle.bt_resolve.specs.Fields.{given_value}

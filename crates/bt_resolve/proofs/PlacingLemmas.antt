@@ -11,7 +11,7 @@ use Rattle.bt_resolve.specs.Values.{MacroTexts}
 use Rattle.bt_resolve.specs.Macros.{with_content, macro_before}
 use Rattle.bt_resolve.specs.Stored.{with_item, stored_among}
 use Rattle.bt_resolve.specs.Messages.{for_each, preamble_at, preamble_of, messages_at, item_messages, database_messages}
-use Rattle.bt_resolve.specs.inner.Reading.{State, after_item, after_items, after_databases, nothing_read}
+use Rattle.bt_resolve.specs.inner.Databases.{State, after_item, after_items, after_databases, nothing_read}
 use Rattle.std.specs.List.{flat_map}
 use Rattle.bt_resolve.specs.Listed.{listed}
 use Rattle.bt_resolve.specs.References.{reference_messages, missing_messages, list_messages}

@@ -3,7 +3,7 @@ use Rattle.std.proofs.Common.{◌≡◌, ◌∙◌, ap, sym, refl, ℕ, Bool, tr
 use Rattle.std.specs.Prelude.{◌||◌, bytes_eq, is_some, option_map, if◌then◌else◌}
 use Rattle.std.specs.Map.{lookup}
 use Rattle.bt_text.specs.declared.by_name.ByName.{ByName}
-use Rattle.bt_text.specs.Folding.{folded, is_same_folded}
+use Rattle.bt_text.specs.CaseFolding.{folded, is_same_folded}
 use Rattle.bt_text.specs.ByName.{by_small, known, listed, with_entry}
 use Rattle.bt_text.proofs.NameLemmas.{more_by_small, absent_by_small, values_by_small, by_small_again}
 use Rattle.bt_resolve.specs.declared.stored.Stored.{Stored}

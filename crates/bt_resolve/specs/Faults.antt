@@ -46,7 +46,8 @@ unclosed (contents.Preamble parts) close = unclosed_command (codes "preamble") (
 unfoldable pub fault_words : Content → Option Closing → ItemFault → List ℕ
 fault_words content close EndOfFile = codes "Illegal end of database file"
 fault_words content close (MissingName what) = codes "You're missing " ++ what_name what
-fault_words content close (BadNameEnd what byte) = codes "\"" ++ (byte ∷ []) ++ codes "\" immediately follows " ++ what_name what
+fault_words content close (BadNameEnd what byte) =
+    codes "\"" ++ (byte ∷ []) ++ codes "\" immediately follows " ++ what_name what
 fault_words content close ExpectedOpen = codes "I was expecting a `{' or a `('"
 fault_words content close ExpectedCommaOrClose = unclosed content close
 fault_words content close ExpectedEquals = codes "I was expecting an `='"
@@ -62,7 +63,8 @@ key_of (contents.Preamble parts) = None
 -- the error of a fault at a place of a database
 abbrev pub fault_error : ℕ → Spot → Content → Option Closing → ItemFault → Message
 fault_error database end content close fault =
-    record (skipping (fault_words content close fault) (DatabaseLine database end.line (Some end.place)) (dropped_name content)) { entry = key_of content }
+    record (skipping (fault_words content close fault) (DatabaseLine database end.line (Some end.place))
+    (dropped_name content)) { entry = key_of content }
 
 -- the error of an item with a fault, at the fault's place
 abbrev pub fault_messages : ℕ → Spot → Content → Option Closing → Option ItemFault → List Message
@@ -70,4 +72,6 @@ fault_messages database end content close None = []
 fault_messages database end content close (Some fault) = fault_error database end content close fault ∷ []
 
 abbrev pub repeated : Place → List ℕ → Message
-repeated place key = record (skipping (codes "Repeated entry") (DatabaseLine place.database place.line None) (codes "entry")) { entry = Some key }
+repeated place key =
+    record (skipping (codes "Repeated entry") (DatabaseLine place.database place.line None) (codes "entry"))
+    { entry = Some key }

@@ -1,7 +1,7 @@
 -- What the fields of an entry give, and the warnings about them.
 use Rattle.std.specs.Prelude.{ℕ, Bool, ◌||◌, List, [], ◌∷◌, ◌++◌, map, find, Option, None, option_map, if◌then◌else◌}
 use Rattle.std.specs.List.{list_any}
-use Rattle.bt_text.specs.Folding.{is_same_folded}
+use Rattle.bt_text.specs.CaseFolding.{is_same_folded}
 use Rattle.bt_bib.specs.declared.item.Field.{Field}
 use Rattle.bt_log.specs.declared.message.Message.{Message}
 use Rattle.bt_text.specs.NameList.{has_name}
@@ -11,7 +11,8 @@ use Rattle.bt_resolve.specs.Values.{MacroTexts, field_value, value_warnings}
 
 -- what fields give for a name: the value of the first field of that name
 unfoldable pub given_value : MacroTexts → List Field → List ℕ → Option (List ℕ)
-given_value macros fields name = option_map (λ (f : Field). field_value macros f.value) (find (λ (f : Field). is_same_folded f.name name) fields)
+given_value macros fields name =
+    option_map (λ (f : Field). field_value macros f.value) (find (λ (f : Field). is_same_folded f.name name) fields)
 
 -- what they give for a declared name. `crossref` is kept apart, and not inherited.
 abbrev pub own_value : MacroTexts → List Field → List ℕ → Option (List ℕ)
@@ -30,7 +31,8 @@ has_field fields name = list_any (λ (f : Field). is_same_folded f.name name) fi
 -- of a declared field: its value's warnings, and that a field of its name stands before it
 abbrev pub field_messages : MacroTexts → ℕ → List ℕ → List Field → Field → List Message
 field_messages macros database key before f =
-    value_warnings None macros (line_of database f.line) f.name f.value ++ (if has_field before f.name then extra_field (line_of database f.line) key f.name ∷ [] else [])
+    value_warnings None macros (line_of database f.line) f.name f.value
+    ++ (if has_field before f.name then extra_field (line_of database f.line) key f.name ∷ [] else [])
 
 abbrev pub declared_messages : List (List ℕ) → MacroTexts → ℕ → List ℕ → List Field → Field → List Message
 declared_messages declared macros database key before f =
@@ -40,4 +42,5 @@ declared_messages declared macros database key before f =
 abbrev pub fields_messages : List (List ℕ) → MacroTexts → ℕ → List ℕ → List Field → List Field → List Message
 fields_messages declared macros database key before [] = []
 fields_messages declared macros database key before (f ∷ fs) =
-    declared_messages declared macros database key before f ++ fields_messages declared macros database key (before ++ f ∷ []) fs
+    declared_messages declared macros database key before f
+    ++ fields_messages declared macros database key (before ++ f ∷ []) fs

@@ -77,7 +77,8 @@ entry_at a min stored values p = option_map (entry_seen a min stored (values p))
 
 -- the entries of these places with these values, without those that are left out
 abbrev pub entries_by : Asked → ℕ → List Stored → (ℕ → List (Option (List ℕ))) → List ℕ → List Entry
-entries_by a min stored values places = filter_map (entry_at a min stored values) (filter (λ p. not (is_left_out a min stored p)) places)
+entries_by a min stored values places =
+    filter_map (entry_at a min stored values) (filter (λ p. not (is_left_out a min stored p)) places)
 
 -- the entries that the style sees, in the order of the list
 unfoldable pub entries_seen : Asked → ℕ → List Stored → List Entry

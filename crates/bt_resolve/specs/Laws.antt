@@ -1,7 +1,7 @@
 -- What the definitions promise together.
 use Rattle.std.specs.Prelude.{IsTrue, map, ◌≡◌, ℕ, ◌<◌, true, false, List, [], ◌∷◌, ◌++◌, length, None}
 use Rattle.std.specs.List.{AllByRecursion}
-use Rattle.bt_text.specs.Folding.{is_same_folded}
+use Rattle.bt_text.specs.CaseFolding.{is_same_folded}
 use Rattle.bt_bib.specs.declared.item.Item.{Item}
 use Rattle.bt_resolve.specs.declared.asked.Asked.{Asked}
 use Rattle.bt_resolve.specs.declared.declared.Cites.{Cites}
@@ -18,7 +18,8 @@ use Rattle.bt_resolve.specs.Resolved.{resolved, stored_entries}
 
 -- the messages are the same for each least number of references
 abbrev pub MessagesForEachMin : Type 0
-MessagesForEachMin = (d : Declared) (c : Cites) (databases : List (List Item)) (m n : ℕ) → (resolved d c databases m).messages ≡ (resolved d c databases n).messages
+MessagesForEachMin = (d : Declared) (c : Cites) (databases : List (List Item)) (m n : ℕ) →
+    (resolved d c databases m).messages ≡ (resolved d c databases n).messages
 
 -- each place of the list is that of a stored entry
 abbrev pub ListedAreStored : Type 0
@@ -31,7 +32,8 @@ WantedInTurn a before (s ∷ ss) = (is_wanted a before s.key ≡ true) × Wanted
 
 -- all entries are cited, or the key of each stored one is, or one that is stored before it refers to it
 abbrev pub StoredAreWanted : Type 0
-StoredAreWanted = (a : Asked) (macros : List Macro) (databases : List (List Item)) → WantedInTurn a [] (stored_entries a macros databases)
+StoredAreWanted = (a : Asked) (macros : List Macro) (databases : List (List Item)) →
+    WantedInTurn a [] (stored_entries a macros databases)
 
 -- no two keys match
 abbrev pub KeysApart : List Stored → Type 0
@@ -39,12 +41,15 @@ KeysApart [] = Unit {0}
 KeysApart (s ∷ ss) = AllByRecursion (λ (t : Stored). is_same_folded s.key t.key ≡ false) ss × KeysApart ss
 
 abbrev pub StoredKeysApart : Type 0
-StoredKeysApart = (a : Asked) (macros : List Macro) (databases : List (List Item)) → KeysApart (stored_entries a macros databases)
+StoredKeysApart = (a : Asked) (macros : List Macro) (databases : List (List Item)) →
+    KeysApart (stored_entries a macros databases)
 
 -- where no entry refers to another, each has the values that were read
 abbrev pub NothingInherited : Type 0
-NothingInherited = (stored : List Stored) → AllByRecursion (λ (s : Stored). s.crossref ≡ None) stored → (before : List ℕ) (p : ℕ) → values_after stored before p ≡ values_of (slice_get stored p)
+NothingInherited = (stored : List Stored) → AllByRecursion (λ (s : Stored). s.crossref ≡ None) stored →
+    (before : List ℕ) (p : ℕ) → values_after stored before p ≡ values_of (slice_get stored p)
 
 -- where no two cited keys match, no two entries of the list have keys that match
 abbrev pub EntriesApart : Type 0
-EntriesApart = (d : Declared) (c : Cites) (databases : List (List Item)) (min : ℕ) → IsTrue (are_apart c.keys) → are_apart (map (λ (e : Entry). e.key) (resolved d c databases min).entries) ≡ true
+EntriesApart = (d : Declared) (c : Cites) (databases : List (List Item)) (min : ℕ) → IsTrue (are_apart c.keys) →
+    are_apart (map (λ (e : Entry). e.key) (resolved d c databases min).entries) ≡ true

@@ -1,7 +1,7 @@
 -- The list of entries. An entry is named by its place among the stored ones.
 use Rattle.std.specs.Prelude.{ℕ, Bool, false, not, ◌==◌, List, [], ◌∷◌, ◌++◌, length, take, filter, filter_map, slice_get, Option, Some, None, option_and_then, if◌then◌else◌}
 use Rattle.std.specs.List.{list_any, range_with_len}
-use Rattle.bt_text.specs.Folding.{is_same_folded}
+use Rattle.bt_text.specs.CaseFolding.{is_same_folded}
 use Rattle.bt_resolve.specs.declared.asked.Asked.{Asked}
 use Rattle.bt_resolve.specs.declared.stored.Stored.{Stored}
 use Rattle.bt_text.specs.ByName.{first_place}
@@ -48,7 +48,8 @@ others_than these stored = filter (λ p. not (is_among these p)) (range_with_len
 
 abbrev pub listed_by : List (List ℕ) → Option ℕ → List Stored → List ℕ
 listed_by keys None stored = cited_places keys stored ++ uncited_parents keys stored
-listed_by keys (Some before) stored = cited_places (take before keys) stored ++ others_than (cited_places (take before keys) stored) stored
+listed_by keys (Some before) stored =
+    cited_places (take before keys) stored ++ others_than (cited_places (take before keys) stored) stored
 
 -- The cited keys that have an entry, then the uncited entries in the order in which stored ones first refer to them.
 -- With `*`: the keys before it, then all others in the order of the databases.

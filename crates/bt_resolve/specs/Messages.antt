@@ -26,15 +26,18 @@ type_messages (Some function) place key = []
 -- of an entry that is stored: that its type has no function, then those of its fields
 unfoldable pub stored_messages : Asked → MacroTexts → Place → Entry → List ℕ → List Message
 stored_messages a macros place e key =
-    type_messages (place_of_name a.types (kind_of e)) place key ++ fields_messages a.fields macros place.database key [] e.fields
+    type_messages (place_of_name a.types (kind_of e)) place key
+    ++ fields_messages a.fields macros place.database key [] e.fields
 
 -- of an entry that is wanted: its key is stored already, or it is stored
 abbrev pub wanted_messages : Asked → MacroTexts → List Stored → Place → Entry → List ℕ → List Message
-wanted_messages a macros stored place e key = if is_stored stored key then repeated place key ∷ [] else stored_messages a macros place e key
+wanted_messages a macros stored place e key =
+    if is_stored stored key then repeated place key ∷ [] else stored_messages a macros place e key
 
 abbrev pub key_messages : Asked → MacroTexts → List Stored → Place → Entry → Option (List ℕ) → List Message
 key_messages a macros stored place e None = []
-key_messages a macros stored place e (Some key) = if is_wanted a stored key then wanted_messages a macros stored place e key else []
+key_messages a macros stored place e (Some key) =
+    if is_wanted a stored key then wanted_messages a macros stored place e key else []
 
 abbrev pub string_messages : MacroTexts → Place → Option (List ℕ) → Option (List Part) → List Message
 string_messages macros place None parts = []
@@ -47,8 +50,10 @@ preamble_messages macros place (Some parts) = value_warnings None macros place (
 
 abbrev pub content_messages : Asked → MacroTexts → List Stored → Place → Option ItemFault → Content → List Message
 content_messages a macros stored place fault (contents.Entry e) = key_messages a macros stored place e e.key
-content_messages a macros stored place fault (contents.Define d) = string_messages macros place d.name (faultless fault d.value)
-content_messages a macros stored place fault (contents.Preamble parts) = preamble_messages macros place (faultless fault parts)
+content_messages a macros stored place fault (contents.Define d) =
+    string_messages macros place d.name (faultless fault d.value)
+content_messages a macros stored place fault (contents.Preamble parts) =
+    preamble_messages macros place (faultless fault parts)
 
 -- what an item gives, with the macros before it and the entries that are stored before it; its fault comes last
 unfoldable pub item_messages : Asked → MacroTexts → List Stored → ℕ → Item → List Message
@@ -63,13 +68,15 @@ for_each f before (item ∷ rest) = f before item ++ for_each f (item ∷ before
 
 -- what an item of a database gives, from the items before it
 abbrev pub messages_at : Asked → List Macro → ℕ → List Item → Item → List Message
-messages_at a macros database before item = item_messages a (macro_before macros before) (stored_among a macros before) database item
+messages_at a macros database before item =
+    item_messages a (macro_before macros before) (stored_among a macros before) database item
 
 -- the messages of the databases from this number on
 abbrev pub database_messages : Asked → List Macro → ℕ → List Item → List (List Item) → List Message
 database_messages a macros number before [] = []
 database_messages a macros number before (these ∷ databases) =
-    for_each (messages_at a macros number) before these ++ database_messages a macros (number + 1) (reverse these ++ before) databases
+    for_each (messages_at a macros number) before these
+    ++ database_messages a macros (number + 1) (reverse these ++ before) databases
 
 abbrev pub preamble_value : MacroTexts → Option (List Part) → List ℕ
 preamble_value macros None = []

@@ -1,6 +1,6 @@
 -- Lists of names, which match without regard to case.
 use Rattle.std.specs.Prelude.{ℕ, List, codes, Option}
-use Rattle.bt_text.specs.Folding.{is_same_folded}
+use Rattle.bt_text.specs.CaseFolding.{is_same_folded}
 use Rattle.bt_text.specs.ByName.{first_place}
 
 -- the name of the field that refers to another entry

@@ -33,7 +33,8 @@ parent_messages key name (Some parent) = if is_some parent.crossref then nested 
 
 abbrev pub crossref_messages : List Stored → List ℕ → Option (List ℕ) → List Message
 crossref_messages stored key None = []
-crossref_messages stored key (Some name) = parent_messages key name (option_and_then (slice_get stored) (place_of_key stored name))
+crossref_messages stored key (Some name) =
+    parent_messages key name (option_and_then (slice_get stored) (place_of_key stored name))
 
 abbrev pub entry_messages : List (List ℕ) → List Stored → Option Stored → List Message
 entry_messages keys stored None = []
@@ -49,4 +50,5 @@ missing_messages stored key = if is_stored stored key then [] else no_entry key 
 
 -- of the whole list, in its order, then of the cited keys in theirs
 unfoldable pub list_messages : Asked → List Stored → List Message
-list_messages a stored = flat_map (reference_messages a.keys stored) (listed a stored) ++ flat_map (missing_messages stored) a.keys
+list_messages a stored =
+    flat_map (reference_messages a.keys stored) (listed a stored) ++ flat_map (missing_messages stored) a.keys

@@ -31,7 +31,8 @@ preamble macros databases = for_each (preamble_at macros) [] (all_items database
 
 -- those of the databases in turn, then those of the list
 unfoldable pub messages : Asked → List Macro → List (List Item) → List Message
-messages a macros databases = database_messages a macros 1 [] databases ++ list_messages a (stored_entries a macros databases)
+messages a macros databases =
+    database_messages a macros 1 [] databases ++ list_messages a (stored_entries a macros databases)
 
 abbrev pub resolved_by : Asked → List Macro → List (List Item) → ℕ → Resolved
 resolved_by a macros databases min = record {

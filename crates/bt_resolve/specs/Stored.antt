@@ -1,7 +1,7 @@
 -- Which entries are stored, and as what. The items before an item are given from the last one back.
 use Rattle.std.specs.Prelude.{ℕ, Bool, not, ◌||◌, ◌&&◌, List, [], ◌∷◌, ◌++◌, Option, Some, None, is_some, unwrap_or, if◌then◌else◌}
 use Rattle.std.specs.List.{list_any}
-use Rattle.bt_text.specs.Folding.{folded, is_same_folded}
+use Rattle.bt_text.specs.CaseFolding.{folded, is_same_folded}
 use Rattle.bt_bib.specs.declared.item.Item.{Item}
 use Rattle.bt_bib.specs.declared.item.Content.{Content}
 use Rattle.bt_bib.specs.declared.item.Content.TheVariants as contents
@@ -53,4 +53,5 @@ with_item a macros (contents.Preamble parts) stored = stored
 -- the stored entries of these items, in the order of the databases
 unfoldable pub stored_among : Asked → List Macro → List Item → List Stored
 stored_among a macros [] = []
-stored_among a macros (item ∷ before) = with_item a (macro_before macros before) item.content (stored_among a macros before)
+stored_among a macros (item ∷ before) =
+    with_item a (macro_before macros before) item.content (stored_among a macros before)

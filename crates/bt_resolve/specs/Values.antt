@@ -1,7 +1,7 @@
 -- The value of parts joined by `#`, and the warnings that it gives.
 use Rattle.std.specs.Prelude.{ℕ, ◌-◌, Bool, true, false, ◌==◌, nat_lt, List, [], ◌∷◌, ◌++◌, length, take, drop, slice_index, Option, Some, None, unwrap_or, if◌then◌else◌}
 use Rattle.std.specs.List.{flat_map}
-use Rattle.bt_text.specs.Folding.{is_same_folded}
+use Rattle.bt_text.specs.CaseFolding.{is_same_folded}
 use Rattle.bt_text.specs.White.{white_joined}
 use Rattle.bt_bib.specs.declared.item.Part.{Part}
 use Rattle.bt_bib.specs.declared.item.Part.TheVariants.{Text, Macro}
@@ -68,7 +68,8 @@ macro_warnings false None place name = undefined_macro place name ∷ []
 -- a macro that stands for nothing here gives a warning
 abbrev pub part_warnings : Option (List ℕ) → MacroTexts → ℕ → Part → List Message
 part_warnings own macros database (Text text) = []
-part_warnings own macros database (Macro name line) = macro_warnings (is_named own name) (others own macros name) (line_of database line) name
+part_warnings own macros database (Macro name line) =
+    macro_warnings (is_named own name) (others own macros name) (line_of database line) name
 
 abbrev pub length_warnings : Option (List ℕ) → Place → List ℕ → List Message
 length_warnings None place name = too_long place name ∷ []
@@ -77,4 +78,5 @@ length_warnings (Some text) place name = []
 -- The warnings of a value: those of its macros, each at its own line, and that it is too long, at the line of its name.
 unfoldable pub value_warnings : Option (List ℕ) → MacroTexts → Place → List ℕ → List Part → List Message
 value_warnings own macros place name parts =
-    flat_map (part_warnings own macros place.database) parts ++ length_warnings (within_limit (joined_parts (others own macros) parts)) place name
+    flat_map (part_warnings own macros place.database) parts
+    ++ length_warnings (within_limit (joined_parts (others own macros) parts)) place name

@@ -1,6 +1,6 @@
 -- The words of the warnings that items give.
 use Rattle.std.specs.Prelude.{ℕ, List, ◌++◌, codes, Option, Some, None}
-use Rattle.bt_text.specs.Folding.{folded}
+use Rattle.bt_text.specs.CaseFolding.{folded}
 use Rattle.bt_log.specs.declared.message.Rank.TheVariants.{Warning}
 use Rattle.bt_log.specs.declared.message.Place.TheVariants.{DatabaseLine}
 use Rattle.bt_log.specs.declared.message.Message.{Message}
@@ -12,20 +12,32 @@ line_of database line = record { database = database; line = line }
 
 -- a warning at a line of a database, about the entry of a key or about none
 abbrev pub warning_at : Place → List ℕ → Option (List ℕ) → Message
-warning_at place words entry = record { rank = Warning; words = words; entry = entry; place = Some (DatabaseLine place.database place.line None); second = None }
+warning_at place words entry =
+    record {
+      rank = Warning;
+      words = words;
+      entry = entry;
+      place = Some (DatabaseLine place.database place.line None);
+      second = None;
+    }
 
 abbrev pub undefined_macro : Place → List ℕ → Message
-undefined_macro place name = warning_at place (codes "Warning--string name \"" ++ folded name ++ codes "\" is undefined") None
+undefined_macro place name =
+    warning_at place (codes "Warning--string name \"" ++ folded name ++ codes "\" is undefined") None
 
 abbrev pub own_macro : Place → List ℕ → Message
-own_macro place name = warning_at place (codes "Warning--string name \"" ++ folded name ++ codes "\" is used in its own definition") None
+own_macro place name =
+    warning_at place (codes "Warning--string name \"" ++ folded name ++ codes "\" is used in its own definition") None
 
 abbrev pub too_long : Place → List ℕ → Message
-too_long place name = warning_at place (codes "Warning--the value of \"" ++ folded name ++ codes "\" is over 65536 bytes") None
+too_long place name =
+    warning_at place (codes "Warning--the value of \"" ++ folded name ++ codes "\" is over 65536 bytes") None
 
 abbrev pub extra_field : Place → List ℕ → List ℕ → Message
 extra_field place key name =
-    warning_at place (codes "Warning--I'm ignoring " ++ key ++ codes "'s extra \"" ++ folded name ++ codes "\" field") (Some key)
+    warning_at place (codes "Warning--I'm ignoring " ++ key ++ codes "'s extra \"" ++ folded name ++ codes "\" field")
+    (Some key)
 
 abbrev pub no_function : Place → List ℕ → Message
-no_function place key = warning_at place (codes "Warning--entry type for \"" ++ key ++ codes "\" isn't style-file defined") (Some key)
+no_function place key =
+    warning_at place (codes "Warning--entry type for \"" ++ key ++ codes "\" isn't style-file defined") (Some key)

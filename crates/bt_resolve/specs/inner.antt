@@ -6,6 +6,6 @@ pub mod JoinedParts
 pub mod Slots
 pub mod Entries
 pub mod Store
-pub mod Inheriting
+pub mod Inheritance
 pub mod Family
-pub mod Reading
+pub mod Databases

@@ -2,7 +2,7 @@
 
 ghost use Rattle.std.specs.Prelude.{◌≡◌, ◌++◌, ◌∷◌, [], All, IfOk, IsTrue, OnOk};
 ghost use Rattle.bt_bib.specs.Moved.{moved_entry, nowhere};
-ghost use Rattle.bt_bib.specs.Moving.{FitsField, FitsLine};
+ghost use Rattle.bt_bib.specs.Shift.{FitsField, FitsLine};
 ghost use Rattle.bt_text.specs.ByName.{known};
 ghost use Rattle.bt_resolve.specs.inner.Entries.{standing_of};
 ghost use Rattle.bt_resolve.specs.Messages.{key_messages, stored_messages, type_messages};

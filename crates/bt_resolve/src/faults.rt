@@ -2,7 +2,7 @@
 
 ghost use Rattle.std.specs.Prelude.{◌≡◌, ◌++◌, IfOk, OnOk, codes};
 ghost use Rattle.bt_bib.specs.Moved.{moved, moved_content, nowhere};
-ghost use Rattle.bt_bib.specs.Moving.{FitsSpot};
+ghost use Rattle.bt_bib.specs.Shift.{FitsSpot};
 ghost use Rattle.bt_resolve.specs.Faults.{dropped_name, fault_error, fault_messages, fault_words, key_of, repeated, sign_of, unclosed, unclosed_command, unclosed_entry, what_name};
 
 use crate::message::Origin;

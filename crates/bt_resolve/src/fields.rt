@@ -2,7 +2,7 @@
 
 ghost use Rattle.std.specs.Prelude.{◌≡◌, ◌++◌, [], All, Some, None, IfOk, IsTrue, OnOk, map, slice_get};
 ghost use Rattle.bt_bib.specs.Moved.{moved_field, moved_part, nowhere};
-ghost use Rattle.bt_bib.specs.Moving.{FitsField};
+ghost use Rattle.bt_bib.specs.Shift.{FitsField};
 ghost use Rattle.bt_text.specs.ByName.{known};
 ghost use Rattle.bt_resolve.specs.Fields.{fields_messages};
 ghost use Rattle.bt_text.specs.NameList.{are_apart};

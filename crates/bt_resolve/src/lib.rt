@@ -1,16 +1,17 @@
 //! From the items of the databases and the citations to the entries that a style sees, with every message on the way.
 #![tactic(auto)]
 
-mod apart;
 mod asked;
+mod databases;
 mod declared;
+mod distinct_names;
 mod entries;
 mod entry;
 mod family;
 mod faults;
 mod fields;
 mod index;
-mod inheriting;
+mod inheritance;
 mod joined_parts;
 mod laws;
 mod list;
@@ -18,7 +19,6 @@ mod macro_text;
 mod macros;
 mod message;
 mod reader;
-mod reading;
 mod references;
 mod resolution;
 mod seen_values;
@@ -29,8 +29,8 @@ mod values;
 mod visible;
 mod warnings;
 
-pub use apart::are_apart;
 pub use declared::{Cites, Declared, Macro};
+pub use distinct_names::are_apart;
 pub use entry::{Entry, Resolved};
 pub use laws::{
     entries_apart, listed_are_stored, messages_for_each_min, nothing_inherited, stored_are_wanted,

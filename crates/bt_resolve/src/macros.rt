@@ -2,7 +2,7 @@
 
 ghost use Rattle.std.specs.Prelude.{◌≡◌, ◌++◌, option_copied, IfOk, OnOk};
 ghost use Rattle.bt_bib.specs.Moved.{moved_value, nowhere};
-ghost use Rattle.bt_bib.specs.Moving.{FitsLine, FitsValue};
+ghost use Rattle.bt_bib.specs.Shift.{FitsLine, FitsValue};
 ghost use Rattle.bt_text.specs.ByName.{known};
 ghost use Rattle.bt_resolve.specs.Macros.{faultless, style_macro, with_string};
 ghost use Rattle.bt_resolve.specs.Messages.{preamble_messages, preamble_value, string_messages};

@@ -2,7 +2,7 @@
 
 ghost use Rattle.std.specs.Prelude.{◌≡◌};
 ghost use Rattle.bt_bib.specs.Moved.{nowhere};
-ghost use Rattle.bt_bib.specs.Moving.{FitsLine};
+ghost use Rattle.bt_bib.specs.Shift.{FitsLine};
 ghost use Rattle.bt_resolve.specs.inner.Warnings.{line_at};
 
 use crate::asked::Asked;

@@ -8,13 +8,13 @@ ghost use Rattle.bt_resolve.specs.References.{list_messages};
 ghost use Rattle.bt_resolve.specs.Resolved.{asked, resolved, resolved_by};
 
 use crate::asked::Asked;
+use crate::databases::read_databases;
 use crate::declared::{Cites, Declared, Macro};
 use crate::entry::{Entry, Resolved};
 use crate::family::Family;
 use crate::index::Index;
 use crate::list::listed;
 use crate::message::Message;
-use crate::reading::read_databases;
 use crate::references::Teller;
 use crate::state::Reading;
 use crate::visible::View;

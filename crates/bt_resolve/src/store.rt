@@ -2,7 +2,7 @@
 
 ghost use Rattle.std.specs.Prelude.{◌≡◌, ◌++◌, ◌∷◌, [], ℕ, List, Option, false, option_map, IfOk, OnOk, OnErr};
 ghost use Rattle.bt_text.specs.ByName.{HasRoom, known, listed};
-ghost use Rattle.bt_text.specs.Folding.{folded};
+ghost use Rattle.bt_text.specs.CaseFolding.{folded};
 ghost use Rattle.bt_resolve.specs.Listed.{place_of_key};
 ghost use Rattle.bt_resolve.specs.inner.Store.{with_reference};
 ghost use Rattle.bt_resolve.specs.Stored.{is_referred_to, is_stored};

@@ -3,13 +3,13 @@
 ghost use Rattle.std.specs.Prelude.{◌≡◌, ◌++◌, ◌∷◌, [], slice_get, IfOk, OnOk};
 ghost use Rattle.std.specs.List.{slice_index_or};
 ghost use Rattle.bt_resolve.specs.Inherited.{entries_by, entry_at, entry_seen, final_crossref, is_left_out};
-ghost use Rattle.bt_resolve.specs.inner.Inheriting.{all_inherit, values_read};
+ghost use Rattle.bt_resolve.specs.inner.Inheritance.{all_inherit, values_read};
 
 use crate::asked::Asked;
 use crate::entry::Entry;
 use crate::family::Family;
 use crate::fields::CROSSREF;
-use crate::inheriting::{all_inherit, shared, values_read};
+use crate::inheritance::{all_inherit, shared, values_read};
 use crate::list::is_cited_at;
 use crate::references::spelled;
 use crate::seen_values::{put_crossref, shared_at};

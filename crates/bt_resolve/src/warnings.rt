@@ -1,7 +1,7 @@
 //! The words of the warnings that items give.
 
 ghost use Rattle.std.specs.Prelude.{◌≡◌, ◌++◌, Some, None, IfOk};
-ghost use Rattle.bt_text.specs.Folding.{folded};
+ghost use Rattle.bt_text.specs.CaseFolding.{folded};
 ghost use Rattle.bt_resolve.specs.Warnings.{extra_field, no_function, own_macro, too_long, undefined_macro, warning_at};
 
 use crate::message::{Message, Place};

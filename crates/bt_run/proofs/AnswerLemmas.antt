@@ -13,7 +13,7 @@ use Rattle.bt_job.specs.declared.files.File.{File}
 use Rattle.bt_job.specs.declared.citations.Citations.{Citations}
 use Rattle.bt_log.specs.declared.message.Message.{Message}
 use Rattle.bt_log.specs.Log.{log_bytes}
-use Rattle.bt_job.specs.Naming.{text_of}
+use Rattle.bt_job.specs.FileNames.{text_of}
 use Rattle.bt_job.specs.Citations.{citations}
 use Rattle.bt_job.specs.Fit.{IsWithin, IsFit}
 use Rattle.bt_run.specs.declared.course.Course.{Course}
@@ -27,7 +27,7 @@ use Rattle.bt_run.specs.inner.Steps.{steps_under, IsTaken}
 use Rattle.bt_run.specs.Kept.{named_text, style_text, run_work, report_after}
 use Rattle.bt_run.proofs.WorkLemmas.{work_none, work_first}
 use Rattle.bt_run.proofs.EarlierLemmas.{nothing_placed, same_none}
-use Rattle.bt_run.specs.Reading.{Job}
+use Rattle.bt_run.specs.ReadCommand.{Job}
 use Rattle.bt_run.specs.Commands.{commands_from}
 use Rattle.bt_run.specs.Counts.{with_counts}
 use Rattle.bt_run.specs.Meaning.{run_begun, first_globals, style_run, job_for, fault_told, styled, run_with, run_of, Meaning, course_shown, meaning, trace}

@@ -8,14 +8,14 @@ use Rattle.bt_style.specs.declared.style.Action.TheVariants.{Entry, Execute, Fun
 use Rattle.bt_style.specs.Program.{Program}
 use Rattle.bt_style.specs.Reader.{style_of}
 use Rattle.bt_bib.specs.Items.{items_of}
-use Rattle.bt_bib.specs.Reading.{pieces_of}
+use Rattle.bt_bib.specs.BibText.{pieces_of}
 use Rattle.bt_resolve.specs.Resolved.{resolved}
 use Rattle.bt_job.specs.declared.files.File.{File}
 use Rattle.bt_job.specs.declared.citations.Citations.{Citations}
-use Rattle.bt_job.specs.Naming.{text_of}
+use Rattle.bt_job.specs.FileNames.{text_of}
 use Rattle.bt_job.specs.Citations.{citations}
 use Rattle.bt_run.specs.declared.course.Course.{Course}
-use Rattle.bt_run.specs.Reading.{Job, declared_before, items_in, found_for, read_in}
+use Rattle.bt_run.specs.ReadCommand.{Job, declared_before, items_in, found_for, read_in}
 use Rattle.bt_run.specs.Commands.{unless_stopped, carried_out, commands_from, command}
 use Rattle.bt_run.specs.Counts.{with_counts}
 use Rattle.bt_run.specs.Meaning.{run_begun, first_globals, job_for, styled, run_with, run_of, course_shown, meaning, trace}

@@ -6,7 +6,7 @@ use Rattle.std.proofs.lemmas.Bool.{cases_lt}
 use Rattle.std.proofs.lemmas.List.Elements.{Contains-append_left, Contains-append_right}
 use Rattle.std.proofs.lemmas.Option.{slice_get_within, slice_get-get_or, get_or_from_slice_get}
 use Rattle.std.proofs.lemmas.Slice.Eq.{bytes_eq-Decides}
-use Rattle.bt_text.specs.Folding.{folded, is_same_folded}
+use Rattle.bt_text.specs.CaseFolding.{folded, is_same_folded}
 use Rattle.bt_text.specs.ByName.{at_small, known, with_value}
 use Rattle.bt_style.specs.declared.style.Target.{Target}
 use Rattle.bt_style.specs.Reach.{is_among}

@@ -10,7 +10,7 @@ use Rattle.bt_bib.specs.AuxLine.{aux_lines}
 use Rattle.bt_log.specs.declared.message.Message.{Message}
 use Rattle.bt_job.specs.declared.files.File.{File}
 use Rattle.bt_job.specs.declared.citations.Citations.{Citations}
-use Rattle.bt_job.specs.Naming.{is_file_name, is_among, text_of, each_once}
+use Rattle.bt_job.specs.FileNames.{is_file_name, is_among, text_of, each_once}
 use Rattle.bt_job.specs.Faults.{LineFault, PartFault, WrongExtension, NoFileName, DatabaseTwice, FileTwice, NotThere, IllEnded, key_fault, database_fault, style_fault, input_fault, right_parts, first_fault}
 use Rattle.bt_job.specs.Lines.{JobLine, lines_in, lines_of, has_command, first_with, line_parts, cited, database_names, style_names, input_names, unless_second, command_fault, line_fault, lines_opened, opened_by, read_on, line_count, job_lines}
 use Rattle.bt_job.specs.Citations.{keys_of, star_of, databases, styles, missed, along, line_messages, file_line, missing_of, lacks, told_missing, asked_by, asked_from, citations}

@@ -6,15 +6,15 @@ use Rattle.bt_log.specs.declared.message.Message.{Message}
 use Rattle.bt_log.specs.declared.message.Rank.TheVariants.{FileLine, Error}
 use Rattle.bt_log.specs.declared.message.Place.TheVariants.{Line}
 use Rattle.bt_log.specs.Message.{plain, at}
-use Rattle.bt_text.specs.Breaking.{near_break}
+use Rattle.bt_text.specs.LineBreaks.{near_break}
 use Rattle.bt_text.specs.Widths.{widths}
 use Rattle.bt_bib.specs.AuxLine.{aux_lines}
-use Rattle.bt_bib.specs.Enclosed.{enclosed}
+use Rattle.bt_bib.specs.Enclosure.{enclosed}
 use Rattle.bt_bib.specs.Fields.{field, next_field}
 use Rattle.bt_bib.specs.Many.{many}
 use Rattle.bt_bib.specs.Names.{word, name_ended as bib_ended, name}
 use Rattle.bt_bib.specs.Pieces.{opening, piece, next_piece}
-use Rattle.bt_bib.specs.Reading.{pieces_of}
+use Rattle.bt_bib.specs.BibText.{pieces_of}
 use Rattle.bt_bib.specs.Scan.{sign}
 use Rattle.bt_bib.specs.Values.{part, next_part, value as bib_value}
 use Rattle.bt_job.specs.Lines.{cited, line_fault, read_on, job_lines}
@@ -42,8 +42,8 @@ use Rattle.bt_machine.specs.Eval.{eval_within}
 use Rattle.bt_run.specs.Counts.{all_calls, counts_told}
 use Rattle.bt_run.specs.Work.{total_cost}
 use Rattle.bt_run.specs.Meaning.{Meaning, run_of, meaning, trace}
-use Rattle.bt_run.specs.Reading.{is_definition}
-use Rattle.bt_run.specs.Sorting.{put_among, sorted}
+use Rattle.bt_run.specs.ReadCommand.{is_definition}
+use Rattle.bt_run.specs.SortCommand.{put_among, sorted}
 use Rattle.std.specs.Fmt.{digits}
 
 -- what is shown, how many steps were carried out, and what they cost

@@ -8,7 +8,7 @@ use Rattle.bt_style.specs.declared.style.Style.{Style}
 use Rattle.bt_style.specs.Program.{Definition, definition_of, definitions_of, program_of}
 use Rattle.bt_bib.specs.declared.item.Piece.{Piece}
 use Rattle.bt_bib.specs.Items.{items_of}
-use Rattle.bt_bib.specs.Reading.{pieces_of}
+use Rattle.bt_bib.specs.BibText.{pieces_of}
 use Rattle.bt_resolve.specs.declared.declared.Declared.{Declared}
 use Rattle.bt_resolve.specs.declared.declared.Macro.{Macro}
 use Rattle.bt_resolve.specs.declared.entry.Resolved.{Resolved}
@@ -16,7 +16,7 @@ use Rattle.bt_resolve.specs.Resolved.{resolved}
 use Rattle.bt_log.specs.declared.message.Message.{Message}
 use Rattle.bt_job.specs.declared.files.File.{File}
 use Rattle.bt_run.specs.declared.database.Database.{Database}
-use Rattle.bt_run.specs.Reading.{Job, is_definition, known_macro, declared_before, text_in, items_in, found_for}
+use Rattle.bt_run.specs.ReadCommand.{Job, is_definition, known_macro, declared_before, text_in, items_in, found_for}
 
 abbrev name_of : Definition → List ℕ
 name_of d = d.name

@@ -14,9 +14,9 @@ use Rattle.bt_log.specs.declared.message.Rank.{Rank}
 use Rattle.bt_log.specs.declared.message.Rank.TheVariants.{FileLine, Warning, Error, CallCount}
 use Rattle.bt_log.specs.declared.message.Place.TheVariants.{DatabaseLine}
 use Rattle.bt_log.specs.Message.{plain, at, skipping}
-use Rattle.bt_log.specs.Spelling.{spelled}
-use Rattle.bt_run.specs.Sorting.{put_among, sorted}
-use Rattle.bt_run.specs.Reading.{is_definition, functions_before, all_read}
+use Rattle.bt_log.specs.Wording.{spelled}
+use Rattle.bt_run.specs.SortCommand.{put_among, sorted}
+use Rattle.bt_run.specs.ReadCommand.{is_definition, functions_before, all_read}
 use Rattle.bt_run.specs.Counts.{all_calls, counts_told}
 use Rattle.bt_run.specs.Meaning.{first_globals, fault_told}
 

@@ -8,8 +8,8 @@ use Rattle.bt_style.specs.Program.{Program}
 use Rattle.bt_run.specs.declared.course.Course.{Course}
 use Rattle.bt_run.specs.declared.course.CommandPlace.{CommandPlace}
 use Rattle.bt_run.specs.Course.{stepped}
-use Rattle.bt_run.specs.Sorting.{key_at, sorted}
-use Rattle.bt_run.specs.Reading.{Job, list_order, read}
+use Rattle.bt_run.specs.SortCommand.{key_at, sorted}
+use Rattle.bt_run.specs.ReadCommand.{Job, list_order, read}
 
 -- after a step that stopped nothing follows
 abbrev pub unless_stopped : Bool → Course → Course → Course

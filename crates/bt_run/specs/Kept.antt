@@ -1,7 +1,7 @@
 -- What is kept of a run for the next one, and what the next one reports.
 use Rattle.std.specs.Prelude.{◌-◌, ℕ, List, [], Option, Some, None, length, unwrap_or}
 use Rattle.bt_job.specs.declared.files.File.{File}
-use Rattle.bt_job.specs.Naming.{text_of}
+use Rattle.bt_job.specs.FileNames.{text_of}
 use Rattle.bt_job.specs.Citations.{citations}
 use Rattle.bt_run.specs.declared.answers.Report.{Report}
 use Rattle.bt_run.specs.declared.course.Step.{Step}

@@ -1,8 +1,8 @@
 pub mod Course
 pub mod Reached
 pub mod Work
-pub mod Sorting
-pub mod Reading
+pub mod SortCommand
+pub mod ReadCommand
 pub mod Styles
 pub mod Commands
 pub mod Counts

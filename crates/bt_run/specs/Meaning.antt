@@ -12,12 +12,12 @@ use Rattle.bt_log.specs.declared.message.Rank.TheVariants.{Error}
 use Rattle.bt_log.specs.declared.message.Place.TheVariants.{Line}
 use Rattle.bt_log.specs.Message.{plain, at}
 use Rattle.bt_job.specs.declared.citations.Citations.{Citations}
-use Rattle.bt_job.specs.Naming.{text_of}
+use Rattle.bt_job.specs.FileNames.{text_of}
 use Rattle.bt_job.specs.Citations.{citations}
 use Rattle.bt_log.specs.Log.{status_of, log_bytes, terse_bytes, lines_bytes}
 use Rattle.bt_run.specs.declared.course.Course.{Course}
 use Rattle.bt_run.specs.declared.course.Step.{Step}
-use Rattle.bt_run.specs.Reading.{Job}
+use Rattle.bt_run.specs.ReadCommand.{Job}
 use Rattle.bt_run.specs.Commands.{commands_from}
 use Rattle.bt_run.specs.Counts.{with_counts}
 

@@ -19,7 +19,8 @@ found_from p type_function (suc rounds) place found =
 
 -- the names that are reached from one: no more can be reached than there are rounds, so each has its round
 unfoldable pub reach_of : Program → Option ℕ → Target → List Target
-reach_of p type_function start = found_from p type_function (length (reachable p type_function start) + 1) 0 (start ∷ [])
+reach_of p type_function start =
+    found_from p type_function (length (reachable p type_function start) + 1) 0 (start ∷ [])
 
 -- the names that the step of an input may come to
 abbrev pub names_in : Program → Input → List Target

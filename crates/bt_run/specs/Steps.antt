@@ -21,4 +21,5 @@ styled_work (Err fault) earlier steps = steps
 abbrev pub work_after : Option (List ℕ) → List Step → Option (List ℕ) → List Step → List Step
 work_after own earlier None steps = steps
 work_after None earlier (Some text) steps = steps
-work_after (Some own) earlier (Some text) steps = if bytes_eq own text then styled_work (style_of text) earlier steps else steps
+work_after (Some own) earlier (Some text) steps =
+    if bytes_eq own text then styled_work (style_of text) earlier steps else steps

@@ -31,7 +31,8 @@ same_key (Some k) (Some l) = bytes_eq k l
 -- Whether an earlier step does what a later one would do: they are of the same command and key, and their inputs agree
 -- in all that the later one may come to.
 unfoldable pub agrees_with : Program → Step → Step → Bool
-agrees_with p t s = s.command == t.command && same_key s.key t.key && agreement (reach_by (names_in p t.input)) s.input t.input
+agrees_with p t s =
+    s.command == t.command && same_key s.key t.key && agreement (reach_by (names_in p t.input)) s.input t.input
 
 -- whether earlier steps have such a one
 abbrev pub was_done : Program → List Step → Step → Bool

@@ -12,7 +12,6 @@ ghost use Rattle.bt_run.specs.Meaning.{style_run, faulty_run, run_with, shown_of
 ghost use Rattle.bt_run.specs.inner.JobView.{job_of};
 ghost use Rattle.bt_run.specs.Shown.{meaning_of};
 
-use crate::beginning::{begin, fault_told, first_globals};
 use crate::commands::run_commands;
 use crate::counts::tell_counts;
 use crate::course::Course;
@@ -20,6 +19,7 @@ use crate::job::{Job, shared_text};
 use crate::kept::{Kept, earlier_under};
 use crate::readings::Readings;
 use crate::reuse::{Lookup, Reuse};
+use crate::start::{begin, fault_told, first_globals};
 use bt_actions::Variables;
 use bt_job::{Citations, File, read_citations};
 use bt_log::{Message, lines_bytes, log_bytes, status, terse_bytes};
@@ -231,7 +231,8 @@ pub fn answers_after(
     readings: Readings,
 ) -> Result<Run, AllocError>
     ensures shown { IfOk result (λ run. meaning_of run.answers ≡ meaning files.now root.now min) }
-    ensures report { IfOk result (λ run. run.report ≡ report_after kept.now.text kept.now.steps files.now root.now min) }
+    ensures report { IfOk result (λ run. run.report
+        ≡ report_after kept.now.text kept.now.steps files.now root.now min) }
     ensures text { IfOk result (λ run. run.kept.text ≡ style_text files.now root.now) }
     ensures steps { IfOk result (λ run. run.kept.steps ≡ trace files.now root.now min) }
 {

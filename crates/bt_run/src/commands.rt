@@ -3,7 +3,7 @@
 ghost use Rattle.std.specs.Prelude.{◌≡◌, OnOk, IfOk};
 ghost use Rattle.bt_style.specs.Program.{program_of};
 ghost use Rattle.bt_run.specs.inner.Work.{IsConsistent};
-ghost use Rattle.bt_run.specs.Reading.{read};
+ghost use Rattle.bt_run.specs.ReadCommand.{read};
 ghost use Rattle.bt_run.specs.Commands.{sorted_run, site_of, command as command_done, commands_from};
 ghost use Rattle.bt_run.specs.inner.JobView.{job_of};
 
@@ -11,9 +11,9 @@ use crate::caller::StepCommand;
 use crate::course::{CommandPlace, Course};
 use crate::earlier::{no_places, same_entries};
 use crate::job::Job;
-use crate::reading::read;
+use crate::read_command::read;
 use crate::reuse::Reuse;
-use crate::sorting::sorted_places;
+use crate::sort_command::sorted_places;
 use bt_style::{Action, Command};
 use bt_text::{Bytes, Shared};
 use std::alloc::{AllocError, Global};

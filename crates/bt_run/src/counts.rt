@@ -25,8 +25,10 @@ struct Tally<'a> {
 /// Adds the calls of a step to those of the steps before it.
 fn add_calls(sums: &mut [u128; BUILTIN_COUNT], calls: &[u32; BUILTIN_COUNT])
     requires { (place : ℕ) → place < 37 → slice_index_or sums.old place 0 < 2 ^ 96 }
-    ensures added { (place : ℕ) → place < 37 → slice_index_or sums.new place 0 ≡ slice_index_or sums.old place 0 + slice_index_or calls.now place 0 }
-    ensures bounded { (place : ℕ) → place < 37 → slice_index_or sums.new place 0 ≤ slice_index_or sums.old place 0 + 4294967295 }
+    ensures added { (place : ℕ) → place < 37 →
+        slice_index_or sums.new place 0 ≡ slice_index_or sums.old place 0 + slice_index_or calls.now place 0 }
+    ensures bounded { (place : ℕ) → place < 37 →
+        slice_index_or sums.new place 0 ≤ slice_index_or sums.old place 0 + 4294967295 }
 {
     'places: for place in 0..BUILTIN_COUNT {
         sums[place] += u128::from(calls[place]);

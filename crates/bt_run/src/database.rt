@@ -2,9 +2,9 @@
 
 ghost use Rattle.std.specs.Prelude.{◌≡◌, ◌+◌, ◌<◌, ◌^◌, length, map, IfOk, IfSome};
 ghost use Rattle.bt_bib.specs.Items.{items_of};
-ghost use Rattle.bt_bib.specs.Reading.{pieces_of};
+ghost use Rattle.bt_bib.specs.BibText.{pieces_of};
 ghost use Rattle.bt_bib.specs.Splice.{IsSplice};
-ghost use Rattle.bt_run.specs.Reading.{text_in};
+ghost use Rattle.bt_run.specs.ReadCommand.{text_in};
 
 use crate::job::shared_text;
 use bt_bib::{KeptItems, ReadMeter, Splice};

@@ -2,7 +2,7 @@
 
 ghost use Rattle.std.specs.Prelude.{◌≡◌, ◌++◌, ◌∷◌, [], map, filter, IfOk, OnOk};
 ghost use Rattle.bt_log.specs.declared.message.Message.{Message as MessageSeen};
-ghost use Rattle.bt_run.specs.Reading.{in_its_file, is_about, is_general, file_line, database_told, all_read};
+ghost use Rattle.bt_run.specs.ReadCommand.{in_its_file, is_about, is_general, file_line, database_told, all_read};
 
 use bt_log::{Message, Place, Rank};
 use bt_text::{Bytes, Sequence, Shared};
@@ -62,7 +62,9 @@ fn tell_if_about(
     file: &Shared<Bytes>,
     message: &Message,
 ) -> Result<(), AllocError>
-    ensures { OnOk result (log.new ≡ log.old ++ map (in_its_file file.now) (filter (λ (m : MessageSeen). is_about number m.place) (message.now ∷ []))) }
+    ensures { OnOk result (log.new
+        ≡ log.old ++ map (in_its_file file.now)
+        (filter (λ (m : MessageSeen). is_about number m.place) (message.now ∷ []))) }
 {
     if is_about(number, &message.place) {
         log.push(in_its_file(file, message)?)?;

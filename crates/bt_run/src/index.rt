@@ -1,7 +1,7 @@
 //! Where earlier steps stand, which is found by hashing.
 
 ghost use Rattle.std.specs.Prelude.{◌≡◌, ◌++◌, [], ◌∷◌, ℕ, List, IfOk, OnOk, option_copied, unwrap_or, if◌then◌else◌};
-ghost use Rattle.bt_text.specs.Folding.{is_same_folded};
+ghost use Rattle.bt_text.specs.CaseFolding.{is_same_folded};
 ghost use Rattle.bt_run.specs.inner.Index.{step_name, places_at, IsIndex};
 
 use crate::course::Step;
@@ -50,7 +50,8 @@ impl Index {
     /// Adds a place to those at a name.
     fn add(&mut self, alloc: Global, name: &[u8], place: usize) -> Result<(), AllocError>
         ensures { OnOk result ((other : List ℕ) → places_at self.new other
-            ≡ (if is_same_folded name.now other then places_at self.old name.now ++ place ∷ [] else places_at self.old other)) }
+            ≡ (if is_same_folded name.now other then places_at self.old name.now ++ place ∷ []
+            else places_at self.old other)) }
     {
         let places = with_place(alloc, self.places.get(alloc, name)?, place)?;
         self.places.insert(alloc, name, places)?;

@@ -4,7 +4,7 @@ ghost use Rattle.std.specs.Prelude.{◌≡◌, ◌≤◌, [], All, length, unwra
 ghost use Rattle.bt_style.specs.Program.{program_of};
 ghost use Rattle.bt_run.specs.Work.{IsStep};
 ghost use Rattle.std.specs.Option.{ForSome};
-ghost use Rattle.bt_job.specs.Naming.{text_of};
+ghost use Rattle.bt_job.specs.FileNames.{text_of};
 ghost use Rattle.bt_text.specs.NameList.{are_apart};
 
 use crate::earlier::Earlier;

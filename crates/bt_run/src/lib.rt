@@ -3,26 +3,26 @@
 #![tactic(auto)]
 
 mod answers;
-mod beginning;
 mod caller;
 mod commands;
 mod counts;
 mod course;
 mod database;
 mod databases;
-mod declaring;
+mod declarations;
 mod earlier;
 mod index;
 mod job;
 mod kept;
 mod laws;
-mod reading;
+mod read_command;
 mod readings;
 mod reuse;
-mod reusing;
+mod reused_step;
 mod same_input;
-mod sorting;
-mod stepping;
+mod sort_command;
+mod start;
+mod step;
 mod styles;
 
 pub use answers::{Answers, Report, Run, answers_after};

@@ -8,7 +8,7 @@ ghost use Rattle.bt_run.specs.Course.{course_world, input_at};
 ghost use Rattle.bt_run.specs.inner.Earlier.{fixed};
 
 use crate::course::Course;
-use crate::reusing::is_same_function;
+use crate::reused_step::is_same_function;
 use bt_actions::Entry;
 use bt_machine::{Input, equal_variables};
 use bt_style::Target;
@@ -71,7 +71,8 @@ pub fn is_input(
     same: bool,
 ) -> bool
     requires placed { IsPlace place (course_world course.now) }
-    requires same { IsTrue same → option_map fixed input.now.entry ≡ option_map fixed (entry_in course.now.entries place) }
+    requires same { IsTrue same →
+        option_map fixed input.now.entry ≡ option_map fixed (entry_in course.now.entries place) }
     ensures { IsTrue result → input.now ≡ input_at target place (course_world course.now) }
 {
     input.target == target

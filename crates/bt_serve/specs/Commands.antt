@@ -33,7 +33,8 @@ is_digit b = nat_le 48 b && nat_le b 57
 -- a number of 1 to 10 digits
 abbrev pub number_of : List ℕ → Option ℕ
 number_of w =
-    if nat_lt 0 (length w) && (nat_le (length w) 10 && list_all is_digit w) then Some (fold (λ n b. n * 10 + (b - 48)) 0 w) else None
+    if nat_lt 0 (length w) && (nat_le (length w) 10 && list_all is_digit w)
+    then Some (fold (λ n b. n * 10 + (b - 48)) 0 w) else None
 
 -- what `write` asks for, by its name and its number
 abbrev pub write_of : List ℕ → Option ℕ → Request
@@ -146,7 +147,8 @@ text_answer word text = word ++ (decimal (length text) ++ (codes "\n" ++ text))
 
 -- the answer to a request with these bytes
 abbrev pub answer_of : Bool → State → Request → List ℕ → List ℕ
-answer_of ran_out state (edit change n) bytes = edit_answer state (unless_out_of_memory ran_out (outcome change bytes state))
+answer_of ran_out state (edit change n) bytes =
+    edit_answer state (unless_out_of_memory ran_out (outcome change bytes state))
 answer_of ran_out state bbl bytes = text_answer (codes "bbl ") (shown state).bbl
 answer_of ran_out state blg bytes = text_answer (codes "blg ") (shown state).blg
 answer_of ran_out state status bytes = number_line (codes "status ") (shown state).status
@@ -156,7 +158,8 @@ answer_of ran_out state too_long bytes = codes "fault 2\n"
 
 -- the state after it
 abbrev pub after_of : Bool → State → Request → List ℕ → State
-after_of ran_out state (edit change n) bytes = state_or state (unless_out_of_memory ran_out (outcome change bytes state))
+after_of ran_out state (edit change n) bytes =
+    state_or state (unless_out_of_memory ran_out (outcome change bytes state))
 after_of ran_out state _ bytes = state
 
 -- the answer to a command
@@ -187,7 +190,8 @@ MayRunOut ran_out state request bytes = ran_out ≡ true → answer_of ran_out s
 abbrev pub MayRunOutInTurn : List Bool → List Command → State → Type 0
 MayRunOutInTurn [] cs state = Unit {0}
 MayRunOutInTurn (m ∷ ms) [] state = Unit {0}
-MayRunOutInTurn (m ∷ ms) (c ∷ cs) state = MayRunOut m state (request_of c.line) c.bytes × MayRunOutInTurn ms cs (after m state c)
+MayRunOutInTurn (m ∷ ms) (c ∷ cs) state =
+    MayRunOut m state (request_of c.line) c.bytes × MayRunOutInTurn ms cs (after m state c)
 
 -- a command as it is spelled where a line feed ends its line
 abbrev pub command_text : Command → List ℕ

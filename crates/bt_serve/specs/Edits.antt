@@ -49,7 +49,9 @@ AreSame es fs = map brought es ≡ map brought fs
 -- `edit_all` of these edits may lead from one state to another: each is answered as it must be, and the second state is
 -- the result of the accepted ones.
 abbrev pub Leads : List Edit → State → State → Type 0
-Leads es state state' = (answers : List (Result Report Refusal)) × AnswersInTurn es answers state × (state' ≡ after_answers es answers state)
+Leads es state state' =
+    (answers : List (Result Report Refusal)) × AnswersInTurn es answers state ×
+    (state' ≡ after_answers es answers state)
 
 -- the same of the edits that these commands ask for
 abbrev pub LeadsBy : List Command → State → State → Type 0
@@ -61,6 +63,8 @@ abbrev pub IsEdited : {A : Type 0} → Result A ServeFault → List ℕ → Stat
 IsEdited (Ok x) input state state' = LeadsBy (up_to_quit (commands_of input).commands) state state'
 IsEdited (Err Truncated) input state state' = LeadsBy (up_to_quit (commands_of input).commands) state state'
 IsEdited (Err ReadFailed) input state state' =
-    (front : List Command) × (others : List Command) × ((commands_of input).commands ≡ front ++ others) × LeadsBy front state state'
+    (front : List Command) × (others : List Command) × ((commands_of input).commands ≡ front ++ others) ×
+    LeadsBy front state state'
 IsEdited (Err WriteFailed) input state state' =
-    (front : List Command) × (others : List Command) × ((commands_of input).commands ≡ front ++ others) × LeadsBy front state state'
+    (front : List Command) × (others : List Command) × ((commands_of input).commands ≡ front ++ others) ×
+    LeadsBy front state state'

@@ -17,30 +17,40 @@ IsLast c input rest = (c.line ≢ []) × (c.bytes ≡ []) × (input ≡ c.line) 
 
 -- less than a whole command: a line without its end, or fewer bytes than the line asks for
 abbrev pub IsPartial : List ℕ → Type 0
-IsPartial text = HasNoFeed text ⊎ ((line : List ℕ) × (bytes : List ℕ) × HasNoFeed line × (text ≡ line ++ 10 ∷ bytes) × (length bytes < bytes_brought (request_of line)))
+IsPartial text =
+    HasNoFeed text ⊎ ((line : List ℕ) × (bytes : List ℕ) × HasNoFeed line × (text ≡ line ++ 10 ∷ bytes) ×
+    (length bytes < bytes_brought (request_of line)))
 
 -- a whole input that ends inside the bytes that its last line asks for
 abbrev pub IsCut : List ℕ → Type 0
-IsCut text = (line : List ℕ) × (bytes : List ℕ) × HasNoFeed line × ((text ≡ line ++ 10 ∷ bytes) ⊎ ((text ≡ line) × (bytes ≡ []))) × (length bytes < bytes_brought (request_of line))
+IsCut text =
+    (line : List ℕ) × (bytes : List ℕ) × HasNoFeed line ×
+    ((text ≡ line ++ 10 ∷ bytes) ⊎ ((text ≡ line) × (bytes ≡ []))) × (length bytes < bytes_brought (request_of line))
 
 -- One turn of the loop: what it reads of the input, what is written then, and the state then. `Ok true` ends the loop.
 abbrev pub Turn : List ℕ → List ℕ → List ℕ → List ℕ → State → State → Result Bool ServeFault → Type 0
 Turn input rest said said' state state' (Ok false) =
-    (c : Command) × (ran_out : Bool) × IsCommand c × (input ≡ command_text c ++ rest) × (false ≡ ends (request_of c.line)) ×
-    (said' ≡ said ++ answer ran_out state c) × (state' ≡ after ran_out state c) × MayRunOut ran_out state (request_of c.line) c.bytes
+    (c : Command) × (ran_out : Bool) × IsCommand c × (input ≡ command_text c ++ rest) ×
+    (false ≡ ends (request_of c.line)) ×
+    (said' ≡ said ++ answer ran_out state c) × (state' ≡ after ran_out state c) ×
+    MayRunOut ran_out state (request_of c.line) c.bytes
 Turn input rest said said' state state' (Ok true) =
     ((input ≡ []) × (rest ≡ []) × (said' ≡ said) × (state' ≡ state)) ⊎
-    ((c : Command) × (ran_out : Bool) × IsCommand c × (((input ≡ command_text c ++ rest) × (true ≡ ends (request_of c.line))) ⊎ IsLast c input rest) ×
-    (said' ≡ said ++ answer ran_out state c) × (state' ≡ after ran_out state c) × MayRunOut ran_out state (request_of c.line) c.bytes)
+    ((c : Command) × (ran_out : Bool) × IsCommand c ×
+    (((input ≡ command_text c ++ rest) × (true ≡ ends (request_of c.line))) ⊎ IsLast c input rest) ×
+    (said' ≡ said ++ answer ran_out state c) × (state' ≡ after ran_out state c) ×
+    MayRunOut ran_out state (request_of c.line) c.bytes)
 Turn input rest said said' state state' (Err WriteFailed) =
     (c : Command) × (ran_out : Bool) × IsCommand c × ((input ≡ command_text c ++ rest) ⊎ IsLast c input rest) ×
-    ((part : List ℕ) × (more : List ℕ) × (answer ran_out state c ≡ part ++ more) × (said' ≡ said ++ part)) × (state' ≡ after ran_out state c) × MayRunOut ran_out state (request_of c.line) c.bytes
+    ((part : List ℕ) × (more : List ℕ) × (answer ran_out state c ≡ part ++ more) × (said' ≡ said ++ part)) ×
+    (state' ≡ after ran_out state c) × MayRunOut ran_out state (request_of c.line) c.bytes
 Turn input rest said said' state state' (Err ReadFailed) =
     (read : List ℕ) × (input ≡ read ++ rest) × IsPartial read × (said' ≡ said) × (state' ≡ state)
 Turn input rest said said' state state' (Err Truncated) = IsCut input × (rest ≡ []) × (said' ≡ said) × (state' ≡ state)
 
 -- Commands that were answered, one after another: all of them, none the last one.
-pub record Answered (input rest said said' : List ℕ) (state state' : State) (cs : List Command) (ms : List Bool) : Type 0 where
+pub record Answered (input rest said said' : List ℕ) (state state' : State) (cs : List Command) (ms : List Bool) :
+    Type 0 where
   pub each : AllByRecursion IsCommand cs
   pub goes_on : AllByRecursion (λ c. false ≡ ends (request_of c.line)) cs
   pub one_each : length ms ≡ length cs

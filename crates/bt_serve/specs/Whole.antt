@@ -42,7 +42,8 @@ abbrev pub command_at : Line → List ℕ → (List ℕ → Cut) → Cut
 command_at l text others =
     let count = bytes_brought (request_of l.line) in
     let more = text_after_line l in
-    if nat_le count (length more) then with_first (record { line = l.line; bytes = take count more }) (others (drop count more))
+    if nat_le count (length more)
+    then with_first (record { line = l.line; bytes = take count more }) (others (drop count more))
     else record { commands = []; rest = text }
 
 -- the commands of an input of at most this number of bytes
@@ -66,14 +67,16 @@ up_to_quit (c ∷ cs) = if ends (request_of c.line) then c ∷ [] else c ∷ up_
 abbrev pub AnswersAll : List ℕ → List ℕ → List ℕ → State → State → Type 0
 AnswersAll input said said' state state' =
     (ms : List Bool) × (length ms ≡ length (up_to_quit (commands_of input).commands)) ×
-    (said' ≡ said ++ answers_to ms (up_to_quit (commands_of input).commands) state) × (state' ≡ state_after ms (up_to_quit (commands_of input).commands) state) ×
+    (said' ≡ said ++ answers_to ms (up_to_quit (commands_of input).commands) state) ×
+    (state' ≡ state_after ms (up_to_quit (commands_of input).commands) state) ×
     MayRunOutInTurn ms (up_to_quit (commands_of input).commands) state
 
 -- All commands of an input were answered, none ends the loop, and after them the input is cut short.
 abbrev pub AnswersBefore : List ℕ → List ℕ → List ℕ → State → State → Type 0
 AnswersBefore input said said' state state' =
     (ms : List Bool) × (length ms ≡ length (commands_of input).commands) ×
-    (said' ≡ said ++ answers_to ms (commands_of input).commands state) × (state' ≡ state_after ms (commands_of input).commands state) ×
+    (said' ≡ said ++ answers_to ms (commands_of input).commands state) ×
+    (state' ≡ state_after ms (commands_of input).commands state) ×
     MayRunOutInTurn ms (commands_of input).commands state ×
     AllByRecursion (λ c. false ≡ ends (request_of c.line)) (commands_of input).commands × IsCut (commands_of input).rest
 
@@ -81,7 +84,9 @@ AnswersBefore input said said' state state' =
 abbrev pub AnswersPart : List ℕ → List ℕ → List ℕ → State → State → Type 0
 AnswersPart input said said' state state' =
     (front : List Command) × (c : Command) × (others : List Command) × (ms : List Bool) × (m : Bool) ×
-    ((commands_of input).commands ≡ front ++ c ∷ others) × AllByRecursion (λ d. false ≡ ends (request_of d.line)) front × (length ms ≡ length front) ×
-    ((part : List ℕ) × (more : List ℕ) × (answer m (state_after ms front state) c ≡ part ++ more) × (said' ≡ said ++ answers_to ms front state ++ part)) ×
+    ((commands_of input).commands ≡ front ++ c ∷ others) ×
+    AllByRecursion (λ d. false ≡ ends (request_of d.line)) front × (length ms ≡ length front) ×
+    ((part : List ℕ) × (more : List ℕ) × (answer m (state_after ms front state) c ≡ part ++ more) ×
+    (said' ≡ said ++ answers_to ms front state ++ part)) ×
     (state' ≡ after m (state_after ms front state) c) ×
     MayRunOutInTurn ms front state × MayRunOut m (state_after ms front state) (request_of c.line) c.bytes

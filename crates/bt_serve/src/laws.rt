@@ -15,13 +15,16 @@ pub fn commands_of_joined()
         commands_of (flat_map command_text cs) ≡ record { commands = cs; rest = [] } }
     ensures cut { (cs : List Command) (rest : List ℕ) → AllByRecursion IsCommand cs → IsCut rest →
         commands_of (flat_map command_text cs ++ rest) ≡ record { commands = cs; rest = rest } }
-    ensures last { (cs : List Command) (c : Command) → AllByRecursion IsCommand cs → IsCommand c → c.line ≢ [] → c.bytes ≡ [] →
+    ensures last { (cs : List Command) (c : Command) → AllByRecursion IsCommand cs → IsCommand c → c.line ≢ [] →
+        c.bytes ≡ [] →
         commands_of (flat_map command_text cs ++ c.line) ≡ record { commands = cs ++ c ∷ []; rest = [] } }
 {}
 
 /// A list of edits that commands ask for leads by `edit_all` to the states after these commands, and to no others.
 pub fn edits_of_commands()
-    ensures leads { (cs : List Command) (ms : List Bool) (state : State) → length ms ≡ length cs → LeadsBy cs state (state_after ms cs state) }
-    ensures only { (cs : List Command) (es : List Edit) (state state' : State) → AreSame es (edits_of cs) → Leads es state state' →
+    ensures leads { (cs : List Command) (ms : List Bool) (state : State) → length ms ≡ length cs →
+        LeadsBy cs state (state_after ms cs state) }
+    ensures only { (cs : List Command) (es : List Edit) (state state' : State) → AreSame es (edits_of cs) →
+        Leads es state state' →
         (ms : List Bool) × (length ms ≡ length cs) × MayRunOutInTurn ms cs state × (state' ≡ state_after ms cs state) }
 {}

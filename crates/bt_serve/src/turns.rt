@@ -7,10 +7,10 @@ ghost use Rattle.bt_serve.specs.Faults.{HandsOn};
 ghost use Rattle.bt_serve.specs.Whole.{AnswersAll, AnswersBefore, AnswersPart};
 ghost use Rattle.bt_serve.specs.Edits.{IsEdited};
 
-use crate::answering::answer_request;
+use crate::answer::answer_request;
 use crate::command::{Request, parse};
 use crate::fault::ServeFault;
-use crate::reading::{LineEnd, read_line, skip_line};
+use crate::input::{LineEnd, read_line, skip_line};
 use crate::streams::{Sink, Source};
 use bibtex::Session;
 use std::alloc::Global;
@@ -29,8 +29,10 @@ fn serve_one<S: Source, K: Sink>(
     ensures lowers { OnOk result (S.reads_left source.new < S.reads_left source.old) }
     ensures reads { OnOk result (S.failure_count source.new ≡ S.failure_count source.old) }
     ensures writes { OnOk result (K.failure_count sink.new ≡ K.failure_count sink.old) }
-    ensures read_failed { result ≡ Err ServeFault.ReadFailed → S.failure_count source.new ≡ S.failure_count source.old + 1 }
-    ensures write_failed { result ≡ Err ServeFault.WriteFailed → K.failure_count sink.new ≡ K.failure_count sink.old + 1 }
+    ensures read_failed { result ≡ Err ServeFault.ReadFailed →
+        S.failure_count source.new ≡ S.failure_count source.old + 1 }
+    ensures write_failed { result ≡ Err ServeFault.WriteFailed →
+        K.failure_count sink.new ≡ K.failure_count sink.old + 1 }
     ensures flushed { HandsOn (K.is_flushed sink.old) (K.is_flushed sink.new) result }
 {
     let mut buffer = [0; 257];
@@ -75,15 +77,21 @@ pub fn serve<S: Source, K: Sink>(
         (rest : List ℕ) × (said' : List ℕ) × (S.remaining source.new ≡ Some rest) × (K.contents sink.new ≡ Some said') ×
         Ends input rest said said' session.old session.new (loop_ended result) }
     ensures all { (input said : List ℕ) → S.remaining source.old ≡ Some input → K.contents sink.old ≡ Some said →
-        OnOk result ((said' : List ℕ) × (K.contents sink.new ≡ Some said') × AnswersAll input said said' session.old session.new) }
-    ensures truncated { (input said : List ℕ) → S.remaining source.old ≡ Some input → K.contents sink.old ≡ Some said → result ≡ Err ServeFault.Truncated →
-        (said' : List ℕ) × (S.remaining source.new ≡ Some []) × (K.contents sink.new ≡ Some said') × AnswersBefore input said said' session.old session.new }
-    ensures part { (input said : List ℕ) → S.remaining source.old ≡ Some input → K.contents sink.old ≡ Some said → result ≡ Err ServeFault.WriteFailed →
+        OnOk result ((said' : List ℕ) × (K.contents sink.new ≡ Some said') ×
+        AnswersAll input said said' session.old session.new) }
+    ensures truncated { (input said : List ℕ) → S.remaining source.old ≡ Some input →
+        K.contents sink.old ≡ Some said → result ≡ Err ServeFault.Truncated →
+        (said' : List ℕ) × (S.remaining source.new ≡ Some []) × (K.contents sink.new ≡ Some said') ×
+        AnswersBefore input said said' session.old session.new }
+    ensures part { (input said : List ℕ) → S.remaining source.old ≡ Some input → K.contents sink.old ≡ Some said →
+        result ≡ Err ServeFault.WriteFailed →
         (said' : List ℕ) × (K.contents sink.new ≡ Some said') × AnswersPart input said said' session.old session.new }
     ensures edited { (input said : List ℕ) → S.remaining source.old ≡ Some input → K.contents sink.old ≡ Some said →
         IsEdited result input session.old session.new }
-    ensures read_failed { result ≡ Err ServeFault.ReadFailed → S.failure_count source.new ≡ S.failure_count source.old + 1 }
-    ensures write_failed { result ≡ Err ServeFault.WriteFailed → K.failure_count sink.new ≡ K.failure_count sink.old + 1 }
+    ensures read_failed { result ≡ Err ServeFault.ReadFailed →
+        S.failure_count source.new ≡ S.failure_count source.old + 1 }
+    ensures write_failed { result ≡ Err ServeFault.WriteFailed →
+        K.failure_count sink.new ≡ K.failure_count sink.old + 1 }
     ensures flushed { HandsOn (K.is_flushed sink.old) (K.is_flushed sink.new) result }
 {
     'turns: loop {

@@ -6,7 +6,7 @@ use Rattle.std.specs.List.{list_any}
 use Rattle.std.specs.Option.{option_map, is_some}
 use Rattle.std.proofs.lemmas.List.Folds.{list_any-append}
 use Rattle.std.proofs.lemmas.Str.Ascii.{lowercase-lowercase}
-use Rattle.bt_text.specs.Folding.{folded, is_same_folded}
+use Rattle.bt_text.specs.CaseFolding.{folded, is_same_folded}
 use Rattle.bt_style.specs.declared.fault.StyleFault.{StyleFault}
 use Rattle.bt_style.specs.declared.names.Names.{Names}
 use Rattle.bt_style.specs.declared.names.Names.TheVariants.{Fields, EntryNumbers, EntryTexts, GlobalNumbers, GlobalTexts}

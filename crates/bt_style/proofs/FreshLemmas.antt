@@ -3,7 +3,7 @@ use Rattle.std.specs.Prelude.{bytes_eq, take}
 use Rattle.std.specs.Cmp.Lexicographic.{bytes_decides}
 use Rattle.std.specs.List.{list_all, before_first, position_or_len}
 use Rattle.std.proofs.Common.{◌≡◌, ◌∙◌, ap, refl, ℕ, zero, suc, ◌+◌, ◌-◌, ◌<◌, Bool, true, false, List, [], ◌∷◌, ◌++◌, map, length, None, Ok, arith}
-use Rattle.bt_text.specs.Folding.{folded}
+use Rattle.bt_text.specs.CaseFolding.{folded}
 use Rattle.bt_text.specs.NameBytes.{is_name, is_name_byte}
 use Rattle.bt_style.specs.Token.{Open, Close, Word, Front, ends_word, piece_at, tokens_after}
 use Rattle.bt_style.specs.Builtins.{Row, table}

@@ -13,7 +13,7 @@ use Rattle.bt_style.specs.declared.verbs.Verb.{Verb}
 use Rattle.bt_style.specs.Fault.{fault, ◌>>=◌}
 use Rattle.bt_style.specs.Program.{Program}
 use Rattle.bt_style.specs.Names.{target_named}
-use Rattle.bt_text.specs.Folding.{folded}
+use Rattle.bt_text.specs.CaseFolding.{folded}
 use Rattle.bt_style.specs.Declares.{new_name, target_or_fault, target_of, runnable}
 use Rattle.bt_style.specs.Commands.{run_target}
 use Rattle.bt_style.specs.Elements.{decimal, size_at, number_at, quoted_at, word_element}

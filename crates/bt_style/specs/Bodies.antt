@@ -20,7 +20,8 @@ body_at p outer now (Front Open line rest) =
     if nat_lt (length outer) outer_limit then body_at p (now ∷ outer) [] rest else fault UnclosedBrace line
 body_at p [] now (Front Close line rest) = Ok (body_of now, rest)
 body_at p (before ∷ outer) now (Front Close line rest) = body_at p outer (before ++ Braced (body_of now) ∷ []) rest
-body_at p outer now (Front (Word word) line rest) = word_element p word line >>= λ e. body_at p outer (now ++ e ∷ []) rest
+body_at p outer now (Front (Word word) line rest) =
+    word_element p word line >>= λ e. body_at p outer (now ++ e ∷ []) rest
 body_at p outer now (Front (Literal bytes) line rest) = body_at p outer (now ++ Words bytes ∷ []) rest
 body_at p outer now (Front Unclosed line rest) = fault UnclosedText line
 body_at p outer now (Front Glued line rest) = fault StrayByte line

@@ -1,6 +1,6 @@
 -- Names that are declared, and names that are used.
 use Rattle.std.specs.Prelude.{ℕ, Bool, not, if◌then◌else◌, List, Option, Some, None, Result, Ok}
-use Rattle.bt_text.specs.Folding.{folded}
+use Rattle.bt_text.specs.CaseFolding.{folded}
 use Rattle.bt_text.specs.NameBytes.{is_name}
 use Rattle.bt_style.specs.declared.fault.FaultKind.TheVariants.{UnknownName, NameTaken, UnclosedBrace, BadName, NotAFunction}
 use Rattle.bt_style.specs.declared.fault.StyleFault.{StyleFault}

@@ -45,7 +45,8 @@ default_type p = place_in (function_names p) (codes "default.type")
 -- type, if it has one, and `default.type`.
 abbrev pub leads_to : Program → Option ℕ → Target → List Target
 leads_to p type_function (targets.Function n) = function_body_names p n
-leads_to p type_function (targets.Builtin b) = if is_call_type b then maybe_function type_function ++ maybe_function (default_type p) else []
+leads_to p type_function (targets.Builtin b) =
+    if is_call_type b then maybe_function type_function ++ maybe_function (default_type p) else []
 leads_to p type_function _ = []
 
 -- the least set that has the start and, with a name, each name that is reached from it at once
@@ -88,4 +89,5 @@ all_body_names (f ∷ fs) = body_names f.body ++ all_body_names fs
 
 -- the names that may be reached at all
 abbrev pub reachable : Program → Option ℕ → Target → List Target
-reachable p type_function start = start ∷ (maybe_function type_function ++ maybe_function (default_type p)) ++ all_body_names p.functions
+reachable p type_function start =
+    start ∷ (maybe_function type_function ++ maybe_function (default_type p)) ++ all_body_names p.functions

@@ -10,14 +10,16 @@ mutual
   pub data SpellsElement (p : Program) : Element → Tokens → Tokens → Type 0 where
     ByWord : {e : Element} {word : List ℕ} {line : ℕ} {rest : Tokens} → word_element p word line ≡ Ok e →
         SpellsElement p e (Front (Word word) line rest) rest
-    ByLiteral : {bytes : List ℕ} {line : ℕ} {rest : Tokens} → SpellsElement p (Words bytes) (Front (Literal bytes) line rest) rest
+    ByLiteral : {bytes : List ℕ} {line : ℕ} {rest : Tokens} →
+        SpellsElement p (Words bytes) (Front (Literal bytes) line rest) rest
     ByBraces : {inner : Body} {line : ℕ} {inside rest : Tokens} → SpellsBody p inner inside rest →
         SpellsElement p (Braced inner) (Front Open line inside) rest
 
   -- the same of a body, with the brace that closes it
   pub data SpellsBody (p : Program) : Body → Tokens → Tokens → Type 0 where
     ByClose : {line : ℕ} {rest : Tokens} → SpellsBody p End (Front Close line rest) rest
-    ByElement : {e : Element} {b : Body} {tokens mid rest : Tokens} → SpellsElement p e tokens mid → SpellsBody p b mid rest →
+    ByElement : {e : Element} {b : Body} {tokens mid rest : Tokens} → SpellsElement p e tokens mid →
+        SpellsBody p b mid rest →
         SpellsBody p (Then e b) tokens rest
 
 -- how deep braces stand in a body, with the ones around it

@@ -53,7 +53,11 @@ may_follow (b ∷ _) = ends_word b
 abbrev pub literal_end : List ℕ → List ℕ → Piece
 literal_end inside [] = record { token = Some Unclosed; size = 1 + length inside }
 literal_end inside (b ∷ behind) =
-    if b == quote then record { token = Some (if may_follow behind then Literal inside else Glued); size = 2 + length inside }
+    if b == quote then record {
+      token = Some (if may_follow behind then Literal inside else Glued);
+      size = 2
+          + length inside;
+    }
     else record { token = Some Unclosed; size = 1 + length inside }
 
 unfoldable pub literal_piece : List ℕ → Piece

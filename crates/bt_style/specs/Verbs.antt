@@ -1,6 +1,6 @@
 -- The words of commands, and the order in which commands may stand.
 use Rattle.std.specs.Prelude.{ℕ, if◌then◌else◌, List, [], ◌∷◌, Option, Some, None, Result, Ok, codes}
-use Rattle.bt_text.specs.Folding.{is_same_folded}
+use Rattle.bt_text.specs.CaseFolding.{is_same_folded}
 use Rattle.bt_style.specs.declared.fault.FaultKind.{FaultKind}
 use Rattle.bt_style.specs.declared.fault.FaultKind.TheVariants.{UnknownCommand, CommandOrder, SecondEntry, SecondRead, NoEntry}
 use Rattle.bt_style.specs.declared.fault.StyleFault.{StyleFault}

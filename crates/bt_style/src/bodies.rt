@@ -32,7 +32,8 @@ fn push(ops: &mut Vec<Op>, op: Op) -> Result<(), AllocError>
 
 /// Adds a braced function.
 fn push_block(ops: &mut Vec<Op>, inner: Vec<Op>) -> Result<(), AllocError>
-    ensures { OnOk result (elements_of ops.new.items ≡ elements_of ops.old.items ++ Braced (ops_body inner.items) ∷ []) }
+    ensures { OnOk result (elements_of ops.new.items
+        ≡ elements_of ops.old.items ++ Braced (ops_body inner.items) ∷ []) }
 {
     push(ops, Op::Block(inner))
 }
@@ -57,7 +58,8 @@ fn enter(outer: &mut Vec<Vec<Op>>, before: Vec<Op>) -> Result<(), AllocError>
 /// What stands before the brace that a brace closes, if one is open.
 #[tactic(auto, using(crate::proofs::BodyLemmas::opened_push))]
 fn leave(outer: &mut Vec<Vec<Op>>) -> Option<Vec<Op>>
-    ensures { MatchOption result (open_bodies outer.old.items ≡ []) (λ before. open_bodies outer.old.items ≡ elements_of before.items ∷ open_bodies outer.new.items) }
+    ensures { MatchOption result (open_bodies outer.old.items ≡ [])
+        (λ before. open_bodies outer.old.items ≡ elements_of before.items ∷ open_bodies outer.new.items) }
 {
     outer.pop()
 }
@@ -73,7 +75,8 @@ fn is_deep(outer: &[Vec<Op>]) -> bool
 /// Reads a body up to the brace that closes it.
 #[tactic(auto, unfolding(crate::specs::Bodies::body_at))]
 pub fn body(alloc: Global, cursor: &mut Cursor, draft: &Draft) -> Result<Vec<Op>, StyleRefusal>
-    ensures gives { Gives (λ v. (ops_body v.items, cursor.new)) result (body_at (program_of draft.now) [] [] cursor.old) }
+    ensures gives { Gives (λ v. (ops_body v.items, cursor.new)) result
+        (body_at (program_of draft.now) [] [] cursor.old) }
     ensures shorter { OnOk result (count cursor.new ≤ count cursor.old) }
 {
     let mut outer: Vec<Vec<Op>> = Vec::new(alloc);

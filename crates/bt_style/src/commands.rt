@@ -23,7 +23,8 @@ use std::alloc::Global;
 
 /// A new function's name in braces.
 fn function_name(alloc: Global, cursor: &mut Cursor, draft: &Draft) -> Result<Bytes, StyleRefusal>
-    ensures gives { Gives (λ t. (t, cursor.new)) result (braced_word (new_name (is_taken (program_of draft.now))) cursor.old) }
+    ensures gives { Gives (λ t. (t, cursor.new)) result
+        (braced_word (new_name (is_taken (program_of draft.now))) cursor.old) }
     ensures free { IfOk result (λ name. target_named (program_of draft.now) name ≡ None) }
     ensures shorter { OnOk result (count cursor.new ≤ count cursor.old) }
 {
@@ -49,7 +50,8 @@ fn run_target(alloc: Global, cursor: &mut Cursor, draft: &Draft) -> Result<Targe
 
 /// A new macro's name in braces.
 fn macro_name(alloc: Global, cursor: &mut Cursor, draft: &Draft) -> Result<Bytes, StyleRefusal>
-    ensures gives { Gives (λ t. (t, cursor.new)) result (braced_word (new_name (is_macro (program_of draft.now))) cursor.old) }
+    ensures gives { Gives (λ t. (t, cursor.new)) result
+        (braced_word (new_name (is_macro (program_of draft.now))) cursor.old) }
     ensures free { IfOk result (λ name. macro_named (program_of draft.now) name ≡ None) }
     ensures shorter { OnOk result (count cursor.new ≤ count cursor.old) }
 {
@@ -68,7 +70,8 @@ fn entry(
     draft: &mut Draft,
     line: usize,
 ) -> Result<(), StyleRefusal>
-    ensures gives { Gives (λ _. (program_of draft.new, cursor.new)) result (arguments_at Verb.Entry line (program_of draft.old) cursor.old) }
+    ensures gives { Gives (λ _. (program_of draft.new, cursor.new)) result
+        (arguments_at Verb.Entry line (program_of draft.old) cursor.old) }
     ensures shorter { OnOk result (count cursor.new ≤ count cursor.old) }
 {
     braced_names(alloc, cursor, draft, Names::Fields)?;
@@ -86,7 +89,8 @@ fn function(
     draft: &mut Draft,
     line: usize,
 ) -> Result<(), StyleRefusal>
-    ensures gives { Gives (λ _. (program_of draft.new, cursor.new)) result (arguments_at Verb.Function line (program_of draft.old) cursor.old) }
+    ensures gives { Gives (λ _. (program_of draft.new, cursor.new)) result
+        (arguments_at Verb.Function line (program_of draft.old) cursor.old) }
     ensures shorter { OnOk result (count cursor.new ≤ count cursor.old) }
 {
     let name = function_name(alloc, cursor, draft)?;
@@ -106,7 +110,8 @@ fn define_macro(
     draft: &mut Draft,
     line: usize,
 ) -> Result<(), StyleRefusal>
-    ensures gives { Gives (λ _. (program_of draft.new, cursor.new)) result (arguments_at Verb.Macro line (program_of draft.old) cursor.old) }
+    ensures gives { Gives (λ _. (program_of draft.new, cursor.new)) result
+        (arguments_at Verb.Macro line (program_of draft.old) cursor.old) }
     ensures shorter { OnOk result (count cursor.new ≤ count cursor.old) }
 {
     let name = macro_name(alloc, cursor, draft)?;
@@ -129,7 +134,8 @@ fn variables(
     action: Action,
     line: usize,
 ) -> Result<(), StyleRefusal>
-    ensures gives { Gives (λ _. (program_of draft.new, cursor.new)) result (variables_at list action line (program_of draft.old) cursor.old) }
+    ensures gives { Gives (λ _. (program_of draft.new, cursor.new)) result
+        (variables_at list action line (program_of draft.old) cursor.old) }
     ensures shorter { OnOk result (count cursor.new ≤ count cursor.old) }
 {
     braced_names(alloc, cursor, draft, list)?;
@@ -146,7 +152,8 @@ pub fn arguments(
     verb: Verb,
     line: usize,
 ) -> Result<(), StyleRefusal>
-    ensures gives { Gives (λ _. (program_of draft.new, cursor.new)) result (arguments_at verb line (program_of draft.old) cursor.old) }
+    ensures gives { Gives (λ _. (program_of draft.new, cursor.new)) result
+        (arguments_at verb line (program_of draft.old) cursor.old) }
     ensures shorter { OnOk result (count cursor.new ≤ count cursor.old) }
 {
     match verb {
@@ -205,7 +212,8 @@ pub fn command(
     word: &[u8],
     line: usize,
 ) -> Result<Stage, StyleRefusal>
-    ensures gives { Gives (λ s. (s, program_of draft.new, cursor.new)) result (command_at stage (program_of draft.old) word.now line cursor.old) }
+    ensures gives { Gives (λ s. (s, program_of draft.new, cursor.new)) result
+        (command_at stage (program_of draft.old) word.now line cursor.old) }
     ensures shorter { OnOk result (count cursor.new ≤ count cursor.old) }
 {
     let verb = read_verb(word, line)?;

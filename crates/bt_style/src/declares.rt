@@ -61,7 +61,8 @@ pub fn names(
     draft: &mut Draft,
     names: Names,
 ) -> Result<(), StyleRefusal>
-    ensures gives { Gives (λ _. (program_of draft.new, cursor.new)) result (names_at names (program_of draft.old) cursor.old) }
+    ensures gives { Gives (λ _. (program_of draft.new, cursor.new)) result
+        (names_at names (program_of draft.old) cursor.old) }
     ensures shorter { OnOk result (count cursor.new ≤ count cursor.old) }
 {
     'names: loop {
@@ -89,7 +90,8 @@ pub fn braced_names(
     draft: &mut Draft,
     list: Names,
 ) -> Result<(), StyleRefusal>
-    ensures gives { Gives (λ _. (program_of draft.new, cursor.new)) result (braced_names list (program_of draft.old) cursor.old) }
+    ensures gives { Gives (λ _. (program_of draft.new, cursor.new)) result
+        (braced_names list (program_of draft.old) cursor.old) }
     ensures shorter { OnOk result (count cursor.new ≤ count cursor.old) }
 {
     open(cursor)?;

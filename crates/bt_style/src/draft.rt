@@ -36,7 +36,8 @@ impl Model for Draft {
 
     ghost view = { λ d. d.style };
 
-    ghost invariant = { λ d. Holds d.targets (target_named (program_of d.style)) × Holds d.macros (macro_named (program_of d.style)) };
+    ghost invariant = { λ d. Holds d.targets (target_named (program_of d.style)) ×
+        Holds d.macros (macro_named (program_of d.style)) };
 }
 
 /// A style in which nothing is declared.

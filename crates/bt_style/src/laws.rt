@@ -13,13 +13,15 @@ ghost use Rattle.bt_style.specs.Spelled.{SpellsBody, depth_of};
 
 /// The body that is read from tokens is one that they spell, by the grammar of bodies.
 pub fn bodies_are_spelled()
-    ensures { (p : Program) (tokens : Tokens) (b : Body) (rest : Tokens) → body_at p [] [] tokens ≡ Ok (b, rest) → SpellsBody p b tokens rest }
+    ensures { (p : Program) (tokens : Tokens) (b : Body) (rest : Tokens) → body_at p [] [] tokens ≡ Ok (b, rest) →
+        SpellsBody p b tokens rest }
 {}
 
 /// A body that tokens spell by the grammar of bodies is the one that is read from them, where its braces stand at most
 /// 100 deep.
 pub fn spelled_bodies_are_read()
-    ensures { (p : Program) (tokens : Tokens) (b : Body) (rest : Tokens) → SpellsBody p b tokens rest → depth_of b ≤ 100 → body_at p [] [] tokens ≡ Ok (b, rest) }
+    ensures { (p : Program) (tokens : Tokens) (b : Body) (rest : Tokens) → SpellsBody p b tokens rest →
+        depth_of b ≤ 100 → body_at p [] [] tokens ≡ Ok (b, rest) }
 {}
 
 /// No two fields of a style that a text spells match, without regard to case.

@@ -28,7 +28,9 @@ fn put_builtin(
     targets: &mut ByName<Target>,
     builtin: Builtin,
 ) -> Result<(), AllocError>
-    ensures { OnOk result ((name : List ℕ) → at_small targets.new name ≡ (if bytes_eq (name_of builtin) name then Some (Target.Builtin builtin) else at_small targets.old name)) }
+    ensures { OnOk result ((name : List ℕ) →
+        at_small targets.new name ≡ (if bytes_eq (name_of builtin) name then Some (Target.Builtin builtin)
+        else at_small targets.old name)) }
 {
     let name = Vec::from_slice(alloc, builtin.name())?;
     targets.make_room()?;
@@ -38,7 +40,8 @@ fn put_builtin(
 
 /// Functions that need no definition, by their names.
 fn put_builtins(alloc: Global, builtins: &[Builtin]) -> Result<ByName<Target>, AllocError>
-    ensures { IfOk result (λ targets. Holds targets (λ name. option_map Target.Builtin (builtin_among (map row_of builtins.now) name))) }
+    ensures { IfOk result (λ targets. Holds targets
+        (λ name. option_map Target.Builtin (builtin_among (map row_of builtins.now) name))) }
 {
     let mut targets = ByName::new(alloc);
     let mut left = builtins.len();

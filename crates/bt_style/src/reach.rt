@@ -67,8 +67,10 @@ fn note(
 /// Leaves a part of a body for later.
 #[tactic(auto, using(crate::proofs::ReachLemmas::waiting_names_push, crate::proofs::ReachLemmas::waiting_size_push))]
 fn put_off<'a>(waiting: &mut Vec<&'a [Op]>, ops: &'a [Op]) -> Result<(), AllocError>
-    ensures names { OnOk result (waiting_names waiting.new.items ≡ body_names (ops_body ops.now) ++ waiting_names waiting.old.items) }
-    ensures size { OnOk result (waiting_size waiting.new.items ≡ body_size (ops_body ops.now) + waiting_size waiting.old.items) }
+    ensures names { OnOk result (waiting_names waiting.new.items
+        ≡ body_names (ops_body ops.now) ++ waiting_names waiting.old.items) }
+    ensures size { OnOk result (waiting_size waiting.new.items
+        ≡ body_size (ops_body ops.now) + waiting_size waiting.old.items) }
 {
     waiting.push(ops)?;
     Ok(())
@@ -77,8 +79,10 @@ fn put_off<'a>(waiting: &mut Vec<&'a [Op]>, ops: &'a [Op]) -> Result<(), AllocEr
 /// Takes the part of a body that was left last.
 #[tactic(auto, using(crate::proofs::ReachLemmas::waiting_names_push, crate::proofs::ReachLemmas::waiting_size_push))]
 fn take_up<'a>(waiting: &mut Vec<&'a [Op]>) -> Option<&'a [Op]>
-    ensures names { MatchOption result (waiting_names waiting.old.items ≡ []) (λ ops. waiting_names waiting.old.items ≡ body_names (ops_body ops.now) ++ waiting_names waiting.new.items) }
-    ensures size { MatchOption result (waiting_size waiting.new.items ≡ 0) (λ ops. waiting_size waiting.old.items ≡ body_size (ops_body ops.now) + waiting_size waiting.new.items) }
+    ensures names { MatchOption result (waiting_names waiting.old.items ≡ [])
+        (λ ops. waiting_names waiting.old.items ≡ body_names (ops_body ops.now) ++ waiting_names waiting.new.items) }
+    ensures size { MatchOption result (waiting_size waiting.new.items ≡ 0)
+        (λ ops. waiting_size waiting.old.items ≡ body_size (ops_body ops.now) + waiting_size waiting.new.items) }
 {
     waiting.pop()
 }
@@ -91,9 +95,11 @@ fn go_over<'a>(
     ops: &'a [Op],
 ) -> Result<(), AllocError>
     requires { Knows seen.old found.old }
-    ensures same { OnOk result (noted_all found.new (waiting_names waiting.new.items) ≡ noted_all found.old (body_names (ops_body ops.now) ++ waiting_names waiting.old.items)) }
+    ensures same { OnOk result (noted_all found.new (waiting_names waiting.new.items)
+        ≡ noted_all found.old (body_names (ops_body ops.now) ++ waiting_names waiting.old.items)) }
     ensures seen { OnOk result (Knows seen.new found.new) }
-    ensures shorter { OnOk result (waiting_size waiting.new.items < body_size (ops_body ops.now) + waiting_size waiting.old.items) }
+    ensures shorter { OnOk result
+        (waiting_size waiting.new.items < body_size (ops_body ops.now) + waiting_size waiting.old.items) }
 {
     let [first, rest @ ..] = ops else {
         return Ok(());
@@ -180,7 +186,8 @@ fn note_types(
     seen: &mut HashSet<Target>,
 ) -> Result<(), AllocError>
     requires { Knows seen.old found.old }
-    ensures found { OnOk result (found.new ≡ noted_all found.old (maybe_function type_function ++ maybe_function (default_type (program_of style.now)))) }
+    ensures found { OnOk result (found.new
+        ≡ noted_all found.old (maybe_function type_function ++ maybe_function (default_type (program_of style.now)))) }
     ensures seen { OnOk result (Knows seen.new found.new) }
 {
     note_function(found, seen, type_function)?;
@@ -197,7 +204,8 @@ fn note_next(
     target: Target,
 ) -> Result<(), AllocError>
     requires { Knows seen.old found.old }
-    ensures found { OnOk result (found.new ≡ noted_all found.old (leads_to (program_of style.now) type_function target)) }
+    ensures found { OnOk result (found.new
+        ≡ noted_all found.old (leads_to (program_of style.now) type_function target)) }
     ensures seen { OnOk result (Knows seen.new found.new) }
 {
     match target {
@@ -246,7 +254,8 @@ fn find_all(
     requires seen { Knows seen.old found.old }
     ensures seen { OnOk result (Knows seen.new found.new) }
     ensures once { OnOk result (IsDistinct target_eq found.new) }
-    ensures all { OnOk result ((t : Target) → Contains found.new t ↔ Reaches (program_of style.now) type_function target t) }
+    ensures all { OnOk result ((t : Target) →
+        Contains found.new t ↔ Reaches (program_of style.now) type_function target t) }
 {
     note(found, seen, target)?;
     let mut place = 0usize;
@@ -295,11 +304,17 @@ impl Style {
         target: Target,
         type_function: Option<usize>,
     ) -> Result<Reach, AllocError>
-        ensures targets { IfOk result (λ reach. (t : Target) → Contains reach.targets t ↔ Reaches (program_of self.now) type_function target t) }
+        ensures targets { IfOk result
+            (λ reach. (t : Target) → Contains reach.targets t ↔ Reaches (program_of self.now) type_function target t) }
         ensures once { IfOk result (λ reach. IsDistinct target_eq reach.targets) }
-        ensures held { IfOk result (λ reach. IsTrue reach.held ↔ (Contains reach.targets (Target.Builtin Builtin.Write) ⊎ Contains reach.targets (Target.Builtin Builtin.Newline))) }
-        ensures preamble { IfOk result (λ reach. IsTrue reach.preamble ↔ Contains reach.targets (Target.Builtin Builtin.Preamble)) }
-        ensures kind { IfOk result (λ reach. IsTrue reach.kind ↔ (Contains reach.targets (Target.Builtin Builtin.Type) ⊎ Contains reach.targets (Target.Builtin Builtin.CallType))) }
+        ensures held { IfOk result (λ reach. IsTrue reach.held
+            ↔ (Contains reach.targets (Target.Builtin Builtin.Write) ⊎
+            Contains reach.targets (Target.Builtin Builtin.Newline))) }
+        ensures preamble { IfOk result
+            (λ reach. IsTrue reach.preamble ↔ Contains reach.targets (Target.Builtin Builtin.Preamble)) }
+        ensures kind { IfOk result (λ reach. IsTrue reach.kind
+            ↔ (Contains reach.targets (Target.Builtin Builtin.Type) ⊎
+            Contains reach.targets (Target.Builtin Builtin.CallType))) }
     {
         let mut found = Sequence::new(alloc);
         let mut seen = HashSet::new(alloc);

@@ -65,7 +65,8 @@ fn command_word<'a>(cursor: &mut Cursor<'a>) -> Result<Option<(&'a [u8], usize)>
 /// Reads commands to the text's end.
 #[tactic(auto, using(crate::proofs::CommandLemmas::ended, crate::proofs::CommandLemmas::no_word, crate::proofs::CommandLemmas::no_command, crate::proofs::CommandLemmas::one_command))]
 fn commands(alloc: Global, cursor: &mut Cursor, draft: &mut Draft) -> Result<(), StyleRefusal>
-    ensures { Gives (λ _. program_of draft.new) result (commands_at (suc (count cursor.old)) Stage.BeforeEntry (program_of draft.old) cursor.old) }
+    ensures { Gives (λ _. program_of draft.new) result
+        (commands_at (suc (count cursor.old)) Stage.BeforeEntry (program_of draft.old) cursor.old) }
 {
     let mut stage = Stage::BeforeEntry;
     'commands: loop {

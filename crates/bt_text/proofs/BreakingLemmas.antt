@@ -9,7 +9,7 @@ use Rattle.std.proofs.Common.{ltb, leb, append_assoc, length-drop}
 use Rattle.std.proofs.lemmas.Bool.{ltb-true, leb-false}
 use Rattle.std.proofs.lemmas.List.Sums.{prefix_len-le-length}
 use Rattle.bt_text.specs.declared.output.Output.{Output}
-use Rattle.bt_text.specs.Breaking.{break_place, broken, broken_at, broken_within, line_unless_empty, near_break, or_else, run_end}
+use Rattle.bt_text.specs.LineBreaks.{break_place, broken, broken_at, broken_within, line_unless_empty, near_break, or_else, run_end}
 use Rattle.bt_text.specs.ByteTests.{is_white, space}
 
 range_step : (i e : ℕ) → i < e → range_with_len i (e - i) ≡ i ∷ range_with_len (i + 1) (e - (i + 1))

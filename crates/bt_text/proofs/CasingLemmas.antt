@@ -3,7 +3,7 @@ use Rattle.std.proofs.Common.{◌≡◌, ℕ, cond, List, [], ◌∷◌, ◌++�
 use Rattle.bt_text.specs.declared.modes.Mode.{Mode}
 use Rattle.bt_text.specs.declared.title_place.TitlePlace.{TitlePlace}
 use Rattle.bt_text.specs.Blocks.{blocks}
-use Rattle.bt_text.specs.Casing.{changed_after, changed_block, changed_case}
+use Rattle.bt_text.specs.CaseChange.{changed_after, changed_block, changed_case}
 use Rattle.bt_text.specs.Special.{Symbol, control, symbols}
 use Rattle.bt_text.specs.inner.TitlePlace.{is_spared_at, next_place, title_place_after}
 use Rattle.bt_text.proofs.TitlePlaceLemmas.{title_place_after-append, spared_at_place}

@@ -6,7 +6,7 @@ use Rattle.std.proofs.lemmas.Bool.{lt-leb, lt-ltb}
 use Rattle.std.proofs.lemmas.Bool.Decides.{nat_tests}
 use Rattle.std.proofs.lemmas.List.{drop-drop, drop_more, take-append-drop}
 use Rattle.std.proofs.lemmas.List.Folds.{list_any-append}
-use Rattle.bt_text.specs.Breaking.{break_place, near_break, or_else, run_end}
+use Rattle.bt_text.specs.LineBreaks.{break_place, near_break, or_else, run_end}
 use Rattle.bt_text.specs.ByteTests.{is_white}
 
 or_true : (a : Bool) → (a || true) ≡ true

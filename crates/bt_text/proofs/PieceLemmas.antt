@@ -3,7 +3,7 @@ use Rattle.std.proofs.Common.{◌≡◌, ℕ, true, false, eqb, List, [], ◌∷
 use Rattle.std.proofs.lemmas.Bool.Decides.{eqb_tells}
 use Rattle.bt_text.specs.Blocks.{begins_special}
 use Rattle.bt_text.specs.Pieces.{block_pieces, single}
-use Rattle.bt_text.specs.Purifying.{purified_byte, purified_piece}
+use Rattle.bt_text.specs.Purification.{purified_byte, purified_piece}
 
 -- outside special characters each byte is a piece
 pub pieces_of_plain : (block : List ℕ) → begins_special block ≡ false → block_pieces block ≡ map single block

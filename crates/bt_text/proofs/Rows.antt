@@ -2,18 +2,18 @@
 use Rattle.std.specs.Prelude.{◌≡◌, [], ◌∷◌, ◌++◌, refl, codes, pos, negsuc, replicate, ◌+◌, length, true, map}
 use Rattle.bt_text.specs.declared.classes.Class.TheVariants.{White, Letter, Digit, Sep, Other}
 use Rattle.bt_text.specs.declared.modes.Mode.TheVariants.{Title, Lower, Upper}
-use Rattle.bt_text.specs.Breaking.{broken, near_break}
-use Rattle.bt_text.specs.Casing.{changed_case}
+use Rattle.bt_text.specs.LineBreaks.{broken, near_break}
+use Rattle.bt_text.specs.CaseChange.{changed_case}
 use Rattle.bt_text.specs.Classes.{class_of}
-use Rattle.bt_text.specs.Cutting.{substring_of, text_prefix_of}
+use Rattle.bt_text.specs.Substrings.{substring_of, text_prefix_of}
 use Rattle.bt_text.specs.Depth.{depth_at}
-use Rattle.bt_text.specs.Folding.{folded, is_same_folded}
+use Rattle.bt_text.specs.CaseFolding.{folded, is_same_folded}
 use Rattle.bt_text.specs.Held.{ended_lines, line_ended, written}
 use Rattle.bt_text.specs.Length.{text_length_of}
 use Rattle.bt_text.specs.NameBytes.{is_name, name_at_start}
 use Rattle.bt_text.specs.Period.{with_period}
 use Rattle.bt_text.specs.Pieces.{brace, other, pieces, special}
-use Rattle.bt_text.specs.Purifying.{purified}
+use Rattle.bt_text.specs.Purification.{purified}
 use Rattle.bt_text.specs.White.{trimmed_end, white_joined}
 use Rattle.bt_text.specs.Widths.{width_of, widths}
 

@@ -4,7 +4,7 @@ use Rattle.std.specs.List.{prefix_len}
 use Rattle.std.proofs.lemmas.List.{length-take-le, drop-drop}
 use Rattle.std.proofs.lemmas.List.Sums.{prefix_len-le-length}
 use Rattle.bt_text.specs.ByteTests.{backslash, is_letter}
-use Rattle.bt_text.specs.Purifying.{purified_symbol}
+use Rattle.bt_text.specs.Purification.{purified_symbol}
 use Rattle.bt_text.specs.Special.{control, control_gap, control_name, letters_of, symbols, symbols_from}
 
 -- where a letter stands in front, the name is the run of letters

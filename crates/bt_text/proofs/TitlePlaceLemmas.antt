@@ -7,7 +7,7 @@ use Rattle.bt_text.specs.declared.modes.Mode.{Mode}
 use Rattle.bt_text.specs.declared.modes.Mode.TheVariants.{Title, Lower, Upper}
 use Rattle.bt_text.specs.declared.title_place.TitlePlace.{TitlePlace}
 use Rattle.bt_text.specs.ByteTests.{is_white}
-use Rattle.bt_text.specs.Casing.{is_spared}
+use Rattle.bt_text.specs.CaseChange.{is_spared}
 use Rattle.bt_text.specs.inner.TitlePlace.{is_empty, is_spared_at, next_place, title_place_after}
 use Rattle.bt_text.specs.White.{ends_in, trimmed_end}
 

@@ -1,7 +1,7 @@
 -- How a line is held until it ends.
 use Rattle.std.specs.Prelude.{ℕ, List, [], ◌∷◌, ◌++◌}
 use Rattle.bt_text.specs.declared.output.Output.{Output}
-use Rattle.bt_text.specs.Breaking.{broken, line_unless_empty}
+use Rattle.bt_text.specs.LineBreaks.{broken, line_unless_empty}
 
 -- A text is written after what is held, and both together are broken.
 abbrev pub written : List ℕ → List ℕ → Output

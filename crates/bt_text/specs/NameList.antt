@@ -1,7 +1,7 @@
 -- Lists of names, which match without regard to case.
 use Rattle.std.specs.Prelude.{ℕ, Bool, true, ◌&&◌, not, List, [], ◌∷◌, Option, Some, None, if◌then◌else◌}
 use Rattle.std.specs.List.{list_any}
-use Rattle.bt_text.specs.Folding.{is_same_folded}
+use Rattle.bt_text.specs.CaseFolding.{is_same_folded}
 
 -- whether a name is among names
 abbrev pub has_name : List (List ℕ) → List ℕ → Bool

@@ -2,9 +2,9 @@
 
 ghost use Rattle.std.specs.Prelude.{◌≡◌, [], map, ℕ, List, Some, is_some, option_copied, bytes_eq, if◌then◌else◌, IfOk, OnOk, OnErr};
 ghost use Rattle.bt_text.specs.ByName.{HasRoom, at_small, known, listed, no_value, first_place, with_entry, with_value};
-ghost use Rattle.bt_text.specs.Folding.{folded};
+ghost use Rattle.bt_text.specs.CaseFolding.{folded};
 
-use crate::folding::{is_ascii_lowercase, to_ascii_lowercase};
+use crate::case_folding::{is_ascii_lowercase, to_ascii_lowercase};
 use indexmap::IndexMap;
 use std::alloc::{AllocError, Global};
 
@@ -100,7 +100,8 @@ impl<V: Drop> ByName<V> {
     /// Gives a name in small letters a value, in the place of the one that it has, where there is room for it.
     pub fn put(&mut self, small: Vec<u8>, value: V)
         requires { HasRoom self.old }
-        ensures { (other : List ℕ) → at_small self.new other ≡ (if bytes_eq small.items other then Some value else at_small self.old other) }
+        ensures { (other : List ℕ) → at_small self.new other
+            ≡ (if bytes_eq small.items other then Some value else at_small self.old other) }
     {
         let _ = self.values.insert(small, value);
     }

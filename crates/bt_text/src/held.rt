@@ -2,12 +2,12 @@
 
 ghost use Rattle.std.specs.Prelude.{◌≡◌, ◌≢◌, ◌<◌, ◌≤◌, ◌+◌, ◌++◌, ◌↔◌, [], length, drop, is_some, IfOk, OnOk, OnErr, Err};
 ghost use Rattle.std.specs.List.{list_any};
-ghost use Rattle.bt_text.specs.Breaking.{break_place};
+ghost use Rattle.bt_text.specs.LineBreaks.{break_place};
 ghost use Rattle.bt_text.specs.ByteTests.{is_white};
 ghost use Rattle.bt_text.specs.Held.{ended_lines, line_ended, written};
 
-use crate::breaking::{break_lines, push_line};
 use crate::bytes::Bytes;
+use crate::line_breaks::{break_lines, push_line};
 use crate::output::Output;
 use crate::sequence::Sequence;
 use crate::white::has_white;
@@ -48,7 +48,7 @@ pub struct Held {
 
 impl Model for Held {
     ghost use Rattle.std.specs.Prelude.{◌≡◌, ◌≤◌, length, List, ℕ, None};
-    ghost use Rattle.bt_text.specs.Breaking.{break_place};
+    ghost use Rattle.bt_text.specs.LineBreaks.{break_place};
 
     ghost Value = { List ℕ };
 

@@ -1,7 +1,7 @@
 //! Laws of the definitions, each the contract of a call that does nothing.
 
 ghost use Rattle.std.specs.Prelude.{◌≡◌, ◌≤◌, flat_map, length, List, ℕ};
-ghost use Rattle.bt_text.specs.Breaking.{broken, broken_within};
+ghost use Rattle.bt_text.specs.LineBreaks.{broken, broken_within};
 ghost use Rattle.bt_text.specs.Pieces.{bytes_of, pieces};
 
 /// The pieces of a text leave out no byte and add none.

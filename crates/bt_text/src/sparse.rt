@@ -5,7 +5,7 @@ ghost use Rattle.std.specs.List.{list_all};
 ghost use Rattle.bt_text.specs.Sparse.{filled_from};
 
 use crate::bytes::Bytes;
-use crate::placed::PlacedTexts;
+use crate::places::PlacedTexts;
 use crate::shared::Shared;
 use std::alloc::{AllocError, Global};
 use std::marker::Model;

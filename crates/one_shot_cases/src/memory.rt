@@ -96,7 +96,8 @@ fn newer<'a>(file: &'a Put, name: &[u8], found: Option<&'a [u8]>) -> Option<&'a 
 /// The bytes of the last of some files that has a name, or these.
 #[tactic(auto, using(crate::proofs::FolderLemmas::last_then))]
 fn last_of<'a>(files: &'a [Put], name: &[u8], before: Option<&'a [u8]>) -> Option<&'a [u8]>
-    ensures { option_map (λ b. b.now) result ≡ fold with_file (λ _. option_map (λ b. b.now) before.entry) files.now name.now }
+    ensures { option_map (λ b. b.now) result
+        ≡ fold with_file (λ _. option_map (λ b. b.now) before.entry) files.now name.now }
 {
     let mut found = before;
     'files: for file in files {
@@ -157,7 +158,8 @@ impl<'a> Memory<'a> {
 
     /// A copy of the first bytes of a name, as many as are read at most.
     fn first_bytes(&self, name: &[u8]) -> Result<Option<Bytes>, AllocError>
-        ensures { IfOk result (λ bytes. bytes ≡ option_map (take most_read) (held_in self.now.given self.now.put name.now)) }
+        ensures { IfOk result (λ bytes. bytes
+            ≡ option_map (take most_read) (held_in self.now.given self.now.put name.now)) }
     {
         match self.held(name) {
             Some(bytes) => {
@@ -173,7 +175,13 @@ impl Folder for Memory<'_> {
     ghost use Rattle.bt_one_shot.specs.Folders.{Seen};
     ghost use Rattle.one_shot_cases.specs.Held.{held_in};
 
-    ghost seen = { λ m. record { held = Some (held_in m.given m.put); looked_up = Some m.looked_up; written = Some m.put; failures = m.failures; reads = m.reads } };
+    ghost seen = { λ m. record {
+      held = Some (held_in m.given m.put);
+      looked_up = Some m.looked_up;
+      written = Some m.put;
+      failures = m.failures;
+      reads = m.reads;
+    } };
 
     fn read(&mut self, name: &[u8]) -> Found {
         self.reads = self.reads.saturating_add(1);

@@ -1,7 +1,7 @@
 //! A database that is read again after a splice.
 
 ghost use Rattle.std.specs.Prelude.{◌≡◌, ◌≤◌, length, IfOk};
-ghost use Rattle.bt_bib.specs.Reading.{pieces_of};
+ghost use Rattle.bt_bib.specs.BibText.{pieces_of};
 ghost use Rattle.bt_bib.specs.Splice.{IsSplice};
 
 use crate::attempt::Case;

@@ -82,13 +82,15 @@ rest_of m = left (program_in m) (frames_of m) (world_of m.state) (ticks_of m)
 abbrev pub CarriesOut : Machine → Machine → (Program → World → ℕ → Ending) → ℕ → Flow → Type 0
 CarriesOut old new run more flow =
     let p = program_in old in
-    LeadsTo p flow (frames_of new) (world_of new.state) (ticks_of new) (then_go (run p (world_of old.state) (ticks_of old)) (left p (frames_of old))) (load_of old + more)
+    LeadsTo p flow (frames_of new) (world_of new.state) (ticks_of new)
+    (then_go (run p (world_of old.state) (ticks_of old)) (left p (frames_of old))) (load_of old + more)
 
 -- the same of a body that is run before what waited
 abbrev pub RunsBody : Machine → Machine → Body → Flow → Type 0
 RunsBody old new body flow =
     let p = program_in old in
-    LeadsTo p flow (frames_of new) (world_of new.state) (ticks_of new) (then_go (eval p body (world_of old.state) (ticks_of old)) (left p (waiting old))) (waiting_load old)
+    LeadsTo p flow (frames_of new) (world_of new.state) (ticks_of new)
+    (then_go (eval p body (world_of old.state) (ticks_of old)) (left p (waiting old))) (waiting_load old)
 
 -- whether the run was stopped
 abbrev pub is_stop : Flow → Bool

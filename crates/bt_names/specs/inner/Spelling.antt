@@ -5,4 +5,10 @@ use Rattle.bt_names.specs.Spelling.{by_initial}
 
 -- the parts by their initials
 abbrev pub abbreviated : Parts → Parts
-abbreviated p = record { first = map by_initial p.first; von = map by_initial p.von; last = map by_initial p.last; jr = map by_initial p.jr }
+abbreviated p =
+    record {
+      first = map by_initial p.first;
+      von = map by_initial p.von;
+      last = map by_initial p.last;
+      jr = map by_initial p.jr;
+    }

@@ -7,7 +7,7 @@ use Rattle.bt_one_shot.specs.Folders.{Seen, Finds, looked_up, LooksUp}
 use Rattle.bt_one_shot.specs.Sinks.{Sunk}
 use Rattle.bt_one_shot.specs.inner.Sinks.{GoesOn}
 use Rattle.bt_serve.specs.Commands.{state_or}
-use Rattle.bt_one_shot.specs.Loading.{LookedUp, name_of, taken_found, after_files, refusal_line, refusal_lines, InOrder, all_looked_up}
+use Rattle.bt_one_shot.specs.JobFiles.{LookedUp, name_of, taken_found, after_files, refusal_line, refusal_lines, InOrder, all_looked_up}
 
 -- What was found under a name is taken into a state, which is said, or it is refused.
 abbrev pub TakesIn : State → State → List ℕ → Bool → Found → Result Bool Refusal → Type 0
@@ -15,7 +15,8 @@ TakesIn s s' name ran_out found (Ok new) = (taken_found s name ran_out found ≡
 TakesIn s s' name ran_out found (Err refusal) = (taken_found s name ran_out found ≡ Err refusal) × (s' ≡ s)
 
 -- a file of this name was looked up
-pub record LooksUpName (failures_before : ℕ) (s s' : State) (name : List ℕ) (old new : Seen) (err err' : Sunk) : Type 0 where
+pub record LooksUpName (failures_before : ℕ) (s s' : State) (name : List ℕ) (old new : Seen) (err err' : Sunk) :
+    Type 0 where
   pub found : Found
   pub ran_out : Bool
   pub finds : Finds old.held name found
@@ -24,7 +25,8 @@ pub record LooksUpName (failures_before : ℕ) (s s' : State) (name : List ℕ) 
   pub tells : GoesOn failures_before err err' (refusal_line name (taken_found s name ran_out found))
 
 -- Files were looked up in order, from a state on for which these names were looked up before.
-pub record Goes (failures_before : ℕ) (s s' : State) (met met' : List (List ℕ)) (old new : Seen) (err err' : Sunk) : Type 0 where
+pub record Goes (failures_before : ℕ) (s s' : State) (met met' : List (List ℕ)) (old new : Seen) (err err' : Sunk) :
+    Type 0 where
   pub files : List LookedUp
   pub in_order : InOrder old.held s met files
   pub is_after : s' ≡ after_files s files

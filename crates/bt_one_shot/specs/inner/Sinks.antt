@@ -4,4 +4,5 @@ use Rattle.bt_one_shot.specs.Sinks.{Sunk, Tells}
 
 -- After any text that was reported so since the sink had failed so often, this one is.
 abbrev pub GoesOn : ℕ → Sunk → Sunk → List ℕ → Type 0
-GoesOn failures_before old new more = (first : Sunk) (text : List ℕ) → first.failures ≡ failures_before → Tells first old text → Tells first new (text ++ more)
+GoesOn failures_before old new more = (first : Sunk) (text : List ℕ) → first.failures ≡ failures_before →
+    Tells first old text → Tells first new (text ++ more)

@@ -7,4 +7,5 @@ use Rattle.bt_resolve.specs.declared.entries.Standing.TheVariants.{Unwanted, Rep
 use Rattle.bt_resolve.specs.Stored.{is_wanted, is_stored}
 
 abbrev pub standing_of : Asked → List Stored → List ℕ → Standing
-standing_of a stored key = if is_wanted a stored key then (if is_stored stored key then Repeated else First) else Unwanted
+standing_of a stored key =
+    if is_wanted a stored key then (if is_stored stored key then Repeated else First) else Unwanted

@@ -9,6 +9,7 @@ abbrev pub count_at : {S : Type 0} → HashMap ℕ ℕ S → ℕ → ℕ
 count_at counts p = unwrap_or (get nat_eq counts p) 0
 
 -- the parents are those that the entries refer to, and the counts those of the children
-pub record IsFamily {S : Type 0} (stored : List Stored) (parents : List (Option ℕ)) (counts : HashMap ℕ ℕ S) : Type 0 where
+pub record IsFamily {S : Type 0} (stored : List Stored) (parents : List (Option ℕ)) (counts : HashMap ℕ ℕ S) :
+    Type 0 where
   pub parents_known : parents ≡ map (parent_of stored) stored
   pub counts_known : (p : ℕ) → count_at counts p ≡ children stored p

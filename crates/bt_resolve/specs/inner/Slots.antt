@@ -1,6 +1,6 @@
 -- Where the reader of an entry's fields puts their values.
 use Rattle.std.specs.Prelude.{ℕ, Bool, true, List, [], ◌∷◌, ◌++◌, is_some, slice_get, slice_set, Option, Some, None, option_map, if◌then◌else◌}
-use Rattle.bt_text.specs.Folding.{is_same_folded}
+use Rattle.bt_text.specs.CaseFolding.{is_same_folded}
 use Rattle.bt_bib.specs.declared.item.Field.{Field}
 use Rattle.bt_log.specs.declared.message.Message.{Message}
 use Rattle.bt_resolve.specs.declared.fields.Slot.{Slot}
@@ -13,11 +13,13 @@ use Rattle.bt_resolve.specs.Fields.{given_value, own_values}
 
 -- the slot of a field, if it is declared
 abbrev pub slot_of : List (List ℕ) → List ℕ → Option Slot
-slot_of declared name = if is_same_folded name crossref then Some Crossref else option_map (λ p. Value p) (place_of_name declared name)
+slot_of declared name =
+    if is_same_folded name crossref then Some Crossref else option_map (λ p. Value p) (place_of_name declared name)
 
 -- what fields give, in their slots
 abbrev pub given_by : List (List ℕ) → MacroTexts → List Field → Given
-given_by declared macros fields = record { values = own_values declared macros fields; crossref = given_value macros fields crossref }
+given_by declared macros fields =
+    record { values = own_values declared macros fields; crossref = given_value macros fields crossref }
 
 abbrev pub is_filled_at : Option (Option (List ℕ)) → Bool
 is_filled_at None = true
@@ -43,4 +45,5 @@ extra_messages again database key f = if again then extra_field (line_of databas
 abbrev pub slot_messages : Option Slot → Given → MacroTexts → ℕ → List ℕ → Field → List Message
 slot_messages None g macros database key f = []
 slot_messages (Some slot) g macros database key f =
-    value_warnings None macros (line_of database f.line) f.name f.value ++ extra_messages (is_filled slot g) database key f
+    value_warnings None macros (line_of database f.line) f.name f.value
+    ++ extra_messages (is_filled slot g) database key f

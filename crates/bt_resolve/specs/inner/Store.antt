@@ -2,7 +2,7 @@
 use Rattle.std.specs.Prelude.{◌≡◌, ℕ, is_some, map, List, Option, Some, None, bytes_eq, if◌then◌else◌}
 use Rattle.bt_text.specs.declared.by_name.ByName.{ByName}
 use Rattle.bt_text.specs.ByName.{by_small, known, listed}
-use Rattle.bt_text.specs.Folding.{folded}
+use Rattle.bt_text.specs.CaseFolding.{folded}
 use Rattle.bt_resolve.specs.declared.stored.Stored.{Stored}
 use Rattle.bt_resolve.specs.Stored.{is_referred_to}
 

@@ -60,5 +60,7 @@ mutual
 
 pub bodies_set : IsSet Body
 bodies_set =
-    let equal : (x y : Body) → stored x ≡ stored y → x ≡ y = λ x y e. sym (body_back x) ∙ ap (λ s. (back s).1) e ∙ body_back y in
-    collapsible→set (λ x y p. equal x y (ap stored p)) (λ x y p q. ap (equal x y) (stored_set (stored x) (stored y) (ap stored p) (ap stored q)))
+    let equal : (x y : Body) → stored x ≡ stored y →
+    x ≡ y = λ x y e. sym (body_back x) ∙ ap (λ s. (back s).1) e ∙ body_back y in
+    collapsible→set (λ x y p. equal x y (ap stored p))
+    (λ x y p q. ap (equal x y) (stored_set (stored x) (stored y) (ap stored p) (ap stored q)))

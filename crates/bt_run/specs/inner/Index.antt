@@ -21,4 +21,5 @@ places_at index name = unwrap_or (known index.places name) []
 
 -- the place of each step is among those at its name
 abbrev pub IsIndex : List Step → Index → Type 0
-IsIndex steps index = (k : ℕ) (s : Step) → slice_get steps k ≡ Some s → Contains (places_at index (step_name s.command s.input)) k
+IsIndex steps index = (k : ℕ) (s : Step) → slice_get steps k ≡ Some s →
+    Contains (places_at index (step_name s.command s.input)) k

@@ -11,7 +11,8 @@ steps_under None steps text = []
 steps_under (Some own) steps text = if bytes_eq own text then steps else []
 
 -- What was carried out is the work of a run's steps, which are those of its style.
-pub record IsTaken (own : Option (List ℕ)) (earlier : List Step) (text : Option (List ℕ)) (steps : List Step) (reuse : Reuse) : Type 0 where
+pub record IsTaken (own : Option (List ℕ)) (earlier : List Step) (text : Option (List ℕ)) (steps : List Step)
+    (reuse : Reuse) : Type 0 where
   pub ran : reuse.ran ≡ length (work_after own earlier text steps)
   pub ticks : reuse.meter ≡ total_cost (work_after own earlier text steps)
   pub fewer : reuse.ran ≤ length steps

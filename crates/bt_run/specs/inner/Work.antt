@@ -12,8 +12,8 @@ use Rattle.bt_run.specs.declared.course.Course.{Course}
 use Rattle.bt_run.specs.declared.earlier.Earlier.{Earlier}
 use Rattle.bt_run.specs.declared.reuse.KnownReach.{KnownReach}
 use Rattle.bt_run.specs.declared.reuse.Reuse.{Reuse}
-use Rattle.bt_run.specs.declared.reusing.Sought.{Sought}
-use Rattle.bt_run.specs.declared.reusing.Found.{Found}
+use Rattle.bt_run.specs.declared.reused_step.Sought.{Sought}
+use Rattle.bt_run.specs.declared.reused_step.Found.{Found}
 use Rattle.bt_run.specs.inner.Index.{IsIndex}
 use Rattle.bt_run.specs.inner.Earlier.{ArePlaced, AreSame}
 use Rattle.bt_run.specs.Work.{key_in, IsStep, work_under, total_cost}

@@ -1,8 +1,8 @@
 -- What is read of a source: a byte, a line, a part of one, counted bytes.
 use Rattle.std.specs.Prelude.{◌≡◌, ℕ, ◌<◌, ◌++◌, List, [], ◌∷◌, length, take, Option, None, Some, Bool, true, false}
 use Rattle.std.specs.Io.KnownBytes.{Consumes, IsAtEnd}
-use Rattle.bt_serve.specs.declared.reading.LineEnd.{LineEnd}
-use Rattle.bt_serve.specs.declared.reading.LineEnd.TheVariants.{Feed, End, None as Unended}
+use Rattle.bt_serve.specs.declared.input.LineEnd.{LineEnd}
+use Rattle.bt_serve.specs.declared.input.LineEnd.TheVariants.{Feed, End, None as Unended}
 use Rattle.bt_serve.specs.Reads.{HasNoFeed}
 
 -- one byte, or none at the end
@@ -12,8 +12,10 @@ ReadsByte old new (Some b) = Consumes old new (b ∷ [])
 
 -- a line, and its line feed where it has one
 abbrev pub ReadsLine : Option (List ℕ) → Option (List ℕ) → List ℕ → LineEnd → Type 0
-ReadsLine old new buffer (Feed n) = (n < length buffer) × HasNoFeed (take n buffer) × Consumes old new (take n buffer ++ 10 ∷ [])
-ReadsLine old new buffer (End n) = (n < length buffer) × HasNoFeed (take n buffer) × Consumes old new (take n buffer) × IsAtEnd new
+ReadsLine old new buffer (Feed n) =
+    (n < length buffer) × HasNoFeed (take n buffer) × Consumes old new (take n buffer ++ 10 ∷ [])
+ReadsLine old new buffer (End n) =
+    (n < length buffer) × HasNoFeed (take n buffer) × Consumes old new (take n buffer) × IsAtEnd new
 ReadsLine old new buffer Unended = HasNoFeed buffer × Consumes old new buffer
 
 -- some bytes without a line feed

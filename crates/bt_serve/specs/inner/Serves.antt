@@ -15,11 +15,14 @@ use Rattle.bt_serve.specs.declared.fault.ServeFault.TheVariants.{ReadFailed, Wri
 use Rattle.bt_serve.specs.Serves.{Turn}
 
 -- the bytes of an edit are read, and the edit is made or refused
-abbrev pub Takes : Change → ℕ → Option (List ℕ) → Option (List ℕ) → State → State → Result (Result Report Refusal) ServeFault → Type 0
+abbrev pub Takes : Change → ℕ → Option (List ℕ) → Option (List ℕ) → State → State →
+    Result (Result Report Refusal) ServeFault → Type 0
 Takes change n old new state state' (Ok (Ok report)) =
-    (bytes : List ℕ) × (length bytes ≡ n) × Consumes old new bytes × (outcome change bytes state ≡ Ok state') × (report ≡ reported state state')
+    (bytes : List ℕ) × (length bytes ≡ n) × Consumes old new bytes × (outcome change bytes state ≡ Ok state') ×
+    (report ≡ reported state state')
 Takes change n old new state state' (Ok (Err refusal)) =
-    (bytes : List ℕ) × (length bytes ≡ n) × Consumes old new bytes × IsAnswer {A = Report} (outcome change bytes state) (Err refusal) × (state' ≡ state)
+    (bytes : List ℕ) × (length bytes ≡ n) × Consumes old new bytes ×
+    IsAnswer {A = Report} (outcome change bytes state) (Err refusal) × (state' ≡ state)
 Takes change n old new state state' (Err ReadFailed) = ReadsBelow old new n × (state' ≡ state)
 Takes change n old new state state' (Err Truncated) = ReadsBelow old new n × IsAtEnd new × (state' ≡ state)
 Takes change n old new state state' (Err WriteFailed) = ⊥
@@ -28,14 +31,20 @@ Takes change n old new state state' (Err WriteFailed) = ⊥
 abbrev pub Does : Request → Option (List ℕ) → Option (List ℕ) → State → State → (List ℕ → Type 0) → Type 0
 Does request old new state state' Written =
     (ran_out : Bool) × (bytes : List ℕ) × (length bytes ≡ bytes_brought request) × Consumes old new bytes ×
-    (state' ≡ after_of ran_out state request bytes) × Written (answer_of ran_out state request bytes) × MayRunOut ran_out state request bytes
+    (state' ≡ after_of ran_out state request bytes) × Written (answer_of ran_out state request bytes) ×
+    MayRunOut ran_out state request bytes
 
 -- a request is answered, and whether it is the last one; or what stands at a fault
-abbrev pub Replies : Request → Option (List ℕ) → Option (List ℕ) → Option (List ℕ) → Option (List ℕ) → State → State → Result Bool ServeFault → Type 0
-Replies request old new held held' state state' (Ok last) = Does request old new state state' (Appends held held') × (last ≡ ends request)
-Replies request old new held held' state state' (Err WriteFailed) = Does request old new state state' (AppendsPart held held')
-Replies request old new held held' state state' (Err ReadFailed) = ReadsBelow old new (bytes_brought request) × (held' ≡ held) × (state' ≡ state)
-Replies request old new held held' state state' (Err Truncated) = ReadsBelow old new (bytes_brought request) × IsAtEnd new × (held' ≡ held) × (state' ≡ state)
+abbrev pub Replies : Request → Option (List ℕ) → Option (List ℕ) → Option (List ℕ) → Option (List ℕ) → State → State →
+    Result Bool ServeFault → Type 0
+Replies request old new held held' state state' (Ok last) =
+    Does request old new state state' (Appends held held') × (last ≡ ends request)
+Replies request old new held held' state state' (Err WriteFailed) =
+    Does request old new state state' (AppendsPart held held')
+Replies request old new held held' state state' (Err ReadFailed) =
+    ReadsBelow old new (bytes_brought request) × (held' ≡ held) × (state' ≡ state)
+Replies request old new held held' state state' (Err Truncated) =
+    ReadsBelow old new (bytes_brought request) × IsAtEnd new × (held' ≡ held) × (state' ≡ state)
 
 -- the answer to an edit that was taken
 abbrev pub taken_text : Result Report Refusal → List ℕ
@@ -43,6 +52,8 @@ taken_text (Ok report) = accepted report
 taken_text (Err refusal) = refused refusal
 
 -- the same, where a source and a sink tell their bytes
-abbrev pub Turns : Option (List ℕ) → Option (List ℕ) → Option (List ℕ) → Option (List ℕ) → State → State → Result Bool ServeFault → Type 0
+abbrev pub Turns : Option (List ℕ) → Option (List ℕ) → Option (List ℕ) → Option (List ℕ) → State → State →
+    Result Bool ServeFault → Type 0
 Turns old new held held' state state' result = (input : List ℕ) (said : List ℕ) → old ≡ Some input → held ≡ Some said →
-    (rest : List ℕ) × (said' : List ℕ) × (new ≡ Some rest) × (held' ≡ Some said') × Turn input rest said said' state state' result
+    (rest : List ℕ) × (said' : List ℕ) × (new ≡ Some rest) × (held' ≡ Some said') ×
+    Turn input rest said said' state state' result

@@ -50,4 +50,5 @@ tokens_from-tokens_in (Front token line rest) = ap (Front token line) (tokens_fr
 
 abbrev pub tokens_code : Coded Tokens
 tokens_code =
-    code_by (List (Token × ℕ) × ℕ) (coded× (coded_list (coded× token_code coded_ℕ)) coded_ℕ) (λ ts. (tokens_in ts, last_line ts)) (λ p. tokens_from p.0 p.1) tokens_from-tokens_in
+    code_by (List (Token × ℕ) × ℕ) (coded× (coded_list (coded× token_code coded_ℕ)) coded_ℕ)
+    (λ ts. (tokens_in ts, last_line ts)) (λ p. tokens_from p.0 p.1) tokens_from-tokens_in

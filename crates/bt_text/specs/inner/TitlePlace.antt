@@ -12,11 +12,22 @@ is_empty (b ∷ t) = false
 
 -- the place after some bytes
 abbrev pub title_place_after : List ℕ → TitlePlace
-title_place_after front = record { is_first = is_empty front; follows_white = ends_in is_white front; follows_colon = ends_in (λ b. b == colon) (trimmed_end front) }
+title_place_after front =
+    record {
+      is_first = is_empty front;
+      follows_white = ends_in is_white front;
+      follows_colon = ends_in (λ b. b == colon) (trimmed_end front);
+    }
 
 -- one byte on
 abbrev pub next_place : TitlePlace → ℕ → TitlePlace
-next_place place b = record { is_first = false; follows_white = is_white b; follows_colon = if is_white b then place.follows_colon else b == colon }
+next_place place b =
+    record {
+      is_first = false;
+      follows_white = is_white b;
+      follows_colon = if is_white b then place.follows_colon
+          else b == colon;
+    }
 
 -- whether the mode spares what stands there
 abbrev pub is_spared_at : Mode → TitlePlace → Bool

@@ -1,5 +1,5 @@
 use Rattle.std.proofs.Common.{◌++◌, drop, arith}
-use Rattle.bt_names.specs.Joining.{by_text, joined}
+use Rattle.bt_names.specs.Joints.{by_text, joined}
 use Rattle.bt_names.proofs.JoiningLemmas.{joined_longer}
 use Rattle.bt_names.proofs.GroupLemmas.{others_are, part_stops}
 use Rattle.bt_names.proofs.groups.put_in_by_text.Goals as goal

@@ -1,6 +1,6 @@
 use Rattle.std.proofs.Common.{◌∙◌, ap, refl, ◌++◌, ℕ, List}
 use Rattle.std.specs.List.{flat_map}
-use Rattle.bt_resolve.specs.inner.Inheriting.{all_inherit, values_read}
+use Rattle.bt_resolve.specs.inner.Inheritance.{all_inherit, values_read}
 use Rattle.bt_resolve.specs.References.{reference_messages, missing_messages}
 use Rattle.bt_resolve.proofs.InheritingLemmas.{entries_are}
 use Rattle.bt_resolve.proofs.PlacingLemmas.{list_told}

@@ -1,6 +1,6 @@
 use Rattle.std.proofs.Common.{◌≡◌, map, take}
 use Rattle.bt_bib.specs.Items.{items_of}
-use Rattle.bt_bib.specs.Reading.{pieces_of}
+use Rattle.bt_bib.specs.BibText.{pieces_of}
 use Rattle.bt_run.specs.declared.database.Database.{Database}
 use Rattle.bt_run.proofs.database.all_items.Given as goal
 

@@ -1,6 +1,6 @@
 use Rattle.std.proofs.Common.{◌≡◌, map, take}
 use Rattle.bt_run.specs.declared.database.Database.{Database}
-use Rattle.bt_run.specs.Reading.{text_in}
+use Rattle.bt_run.specs.ReadCommand.{text_in}
 use Rattle.bt_run.proofs.database.databases_in.Given as goal
 
 abbrev pub invariant-names : goal.invariant-names

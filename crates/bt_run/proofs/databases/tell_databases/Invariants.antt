@@ -1,5 +1,5 @@
 use Rattle.std.proofs.Common.{◌≡◌, ◌+◌, ◌++◌, drop}
-use Rattle.bt_run.specs.Reading.{databases_told}
+use Rattle.bt_run.specs.ReadCommand.{databases_told}
 use Rattle.bt_run.proofs.databases.tell_databases.Given as goal
 
 abbrev pub invariant-databases : goal.invariant-databases

@@ -3,15 +3,15 @@ use Rattle.std.proofs.lemmas.List.{take_rest}
 use Rattle.std.proofs.lemmas.List.Elements.{All-take}
 use Rattle.std.specs.Prelude.{All}
 use Rattle.bt_bib.specs.Spot.{here, start}
-use Rattle.bt_bib.specs.Reading.{pieces_from}
+use Rattle.bt_bib.specs.BibText.{pieces_from}
 use Rattle.bt_bib.specs.Boundaries.{last_end}
 use Rattle.bt_bib.specs.inner.Boundaries.{below}
 use Rattle.bt_bib.specs.Splice.{is_common, reread_upto}
-use Rattle.bt_bib.specs.inner.Rereading.{until, IsJoint}
-use Rattle.bt_bib.specs.Moving.{FitsPiece}
-use Rattle.bt_bib.specs.inner.Moving.{rebased_piece}
+use Rattle.bt_bib.specs.inner.CommonBoundary.{until, IsJoint}
+use Rattle.bt_bib.specs.Shift.{FitsPiece}
+use Rattle.bt_bib.specs.inner.Shift.{rebased_piece}
 use Rattle.bt_bib.specs.Moved.{nowhere}
-use Rattle.bt_bib.specs.inner.Placed.{BeginsAfter}
+use Rattle.bt_bib.specs.inner.PlacedPieces.{BeginsAfter}
 use Rattle.bt_bib.proofs.PlacedLemmas.{rest_behind}
 use Rattle.bt_bib.proofs.SmallLemmas.{last_ones_fit}
 use Rattle.bt_bib.proofs.SpliceLemmas.{all_still, in_order, law_of, joined_back, final_common, final_end}

@@ -1,5 +1,5 @@
 use Rattle.std.proofs.Common.{◌≡◌, ◌++◌, take, map}
-use Rattle.bt_bib.specs.inner.Moving.{rebased_piece}
+use Rattle.bt_bib.specs.inner.Shift.{rebased_piece}
 use Rattle.bt_bib.proofs.kept_items.KeptItems.with_rebased.Given as goal
 
 abbrev pub invariant-pieces : goal.invariant-pieces

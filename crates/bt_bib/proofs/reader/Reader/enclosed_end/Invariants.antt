@@ -1,7 +1,7 @@
 use Rattle.std.proofs.Common.{length, ◌-◌, ◌≡◌, ◌≤◌, drop}
 use Rattle.bt_bib.specs.Spot.{here}
 use Rattle.bt_bib.specs.inner.Spot.{IsAhead}
-use Rattle.bt_bib.specs.inner.Enclosed.{enclosed_end}
+use Rattle.bt_bib.specs.inner.Enclosure.{enclosed_end}
 use Rattle.bt_bib.proofs.EnclosedLemmas.{enclosed_run}
 use Rattle.bt_bib.proofs.reader.Reader.enclosed_end.Given as goal
 

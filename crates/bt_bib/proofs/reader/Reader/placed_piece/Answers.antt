@@ -3,7 +3,7 @@ use Rattle.std.proofs.lemmas.List.{take_rest}
 use Rattle.bt_bib.specs.Spot.{here}
 use Rattle.bt_bib.specs.Moved.{nowhere, moved, moved_piece}
 use Rattle.bt_bib.specs.Pieces.{piece}
-use Rattle.bt_bib.specs.Placed.{IsPlaced}
+use Rattle.bt_bib.specs.PlacedPieces.{IsPlaced}
 use Rattle.bt_bib.proofs.PlacedLemmas.{read_apart}
 use Rattle.bt_bib.proofs.reader.Reader.placed_piece.Goals as goal
 

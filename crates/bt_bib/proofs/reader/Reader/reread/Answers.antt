@@ -1,9 +1,9 @@
 use Rattle.std.proofs.Common.{ℕ, Bool, ◌++◌, sym, ◌∙◌, ap, Ok}
 use Rattle.bt_bib.specs.Spot.{here}
-use Rattle.bt_bib.specs.Reading.{next_one, pieces_from}
+use Rattle.bt_bib.specs.BibText.{next_one, pieces_from}
 use Rattle.bt_bib.specs.Boundaries.{last_end}
 use Rattle.bt_bib.specs.Splice.{is_common}
-use Rattle.bt_bib.specs.inner.Rereading.{until}
+use Rattle.bt_bib.specs.inner.CommonBoundary.{until}
 use Rattle.bt_bib.proofs.PieceLemmas.{next_piece_less}
 use Rattle.bt_bib.proofs.LoopLemmas.{ahead_then, goes_down}
 use Rattle.bt_bib.proofs.SpliceLemmas.{until_done, nothing_more, none_until, one_until, one_more, ends_here, goes_on}

@@ -1,10 +1,10 @@
 use Rattle.std.proofs.Common.{length, ◌-◌, ◌≡◌, ◌++◌}
 use Rattle.bt_bib.specs.Spot.{here}
 use Rattle.bt_bib.specs.inner.Spot.{IsAhead}
-use Rattle.bt_bib.specs.Reading.{pieces_from}
+use Rattle.bt_bib.specs.BibText.{pieces_from}
 use Rattle.bt_bib.specs.Boundaries.{last_end}
 use Rattle.bt_bib.specs.Splice.{is_common}
-use Rattle.bt_bib.specs.inner.Rereading.{until}
+use Rattle.bt_bib.specs.inner.CommonBoundary.{until}
 use Rattle.bt_bib.proofs.reader.Reader.reread.Given as goal
 
 abbrev pub invariant-again : goal.invariant-again

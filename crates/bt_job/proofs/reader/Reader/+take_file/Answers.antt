@@ -5,8 +5,8 @@ use Rattle.bt_job.specs.declared.progress.Progress.{Progress}
 use Rattle.bt_job.specs.declared.reader.Reader.{Reader}
 use Rattle.bt_job.specs.declared.progress.Outcome.{Outcome}
 use Rattle.bt_bib.specs.AuxLine.{aux_lines}
-use Rattle.bt_job.specs.inner.Taking.{told, logged_at}
-use Rattle.bt_job.specs.inner.Nesting.{lines_taken, file_taken, in_place}
+use Rattle.bt_job.specs.inner.LineEffects.{told, logged_at}
+use Rattle.bt_job.specs.inner.NestedFiles.{lines_taken, file_taken, in_place}
 use Rattle.bt_job.proofs.NestingLemmas.{file_zero, file_opens, line_more, lines_end}
 use Rattle.bt_job.proofs.reader.Reader.+take_file.Goals.{in-Taken, in-Wrong+in_ok-tell_at-in-Wrong, in-Opens+in_ok-take_file-in-Opens}
 use Rattle.bt_job.proofs.reader.Reader.+take_file.Goals as goal

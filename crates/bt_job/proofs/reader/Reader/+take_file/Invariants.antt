@@ -1,5 +1,5 @@
 use Rattle.std.proofs.Common.{◌≡◌, ◌+◌, ◌-◌, drop}
-use Rattle.bt_job.specs.inner.Nesting.{lines_taken, file_taken}
+use Rattle.bt_job.specs.inner.NestedFiles.{lines_taken, file_taken}
 use Rattle.bt_job.proofs.reader.Reader.+take_file.Given as goal
 
 abbrev pub decreases-take_file : goal.decreases-take_file

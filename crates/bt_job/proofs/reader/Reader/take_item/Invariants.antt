@@ -1,5 +1,5 @@
 use Rattle.std.proofs.Common.{◌≡◌, drop}
-use Rattle.bt_job.specs.inner.Taking.{parts_taken}
+use Rattle.bt_job.specs.inner.LineEffects.{parts_taken}
 use Rattle.bt_job.proofs.reader.Reader.take_item.Given as goal
 
 abbrev pub invariant-parts : goal.invariant-parts

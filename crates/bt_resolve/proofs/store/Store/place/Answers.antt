@@ -1,6 +1,6 @@
 use Rattle.std.proofs.Common.{◌∙◌, ap, ℕ, List, Option}
 use Rattle.std.specs.Prelude.{bytes_eq}
-use Rattle.bt_text.specs.Folding.{folded}
+use Rattle.bt_text.specs.CaseFolding.{folded}
 use Rattle.bt_text.specs.ByName.{first_place}
 use Rattle.bt_text.proofs.NameLemmas.{if_ok, place_by_small}
 use Rattle.bt_resolve.specs.declared.stored.Stored.{Stored}

@@ -1,6 +1,6 @@
 use Rattle.std.proofs.Common.{◌∙◌, ap, List, [], ◌∷◌, ◌++◌, ℕ, Option}
 use Rattle.bt_text.specs.ByName.{known, listed, with_entry}
-use Rattle.bt_text.specs.Folding.{folded}
+use Rattle.bt_text.specs.CaseFolding.{folded}
 use Rattle.bt_resolve.specs.declared.stored.Stored.{Stored}
 use Rattle.bt_resolve.specs.Stored.{is_stored}
 use Rattle.bt_resolve.specs.inner.Store.{stored_in, with_reference}

@@ -2,7 +2,7 @@ use Rattle.std.proofs.Common.{◌≡◌, ◌∙◌, ap, map, ℕ, List}
 use Rattle.std.proofs.Math.Path.{fun_ext}
 use Rattle.std.specs.Prelude.{bytes_eq}
 use Rattle.std.specs.Map.{lookup}
-use Rattle.bt_text.specs.Folding.{folded}
+use Rattle.bt_text.specs.CaseFolding.{folded}
 use Rattle.bt_text.specs.ByName.{listed, with_entry}
 use Rattle.bt_text.proofs.NameLemmas.{insert_entries, lookup_insert}
 use Rattle.bt_text.proofs.by_name.ByName.insert.Goals as goal

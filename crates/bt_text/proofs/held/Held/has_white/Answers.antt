@@ -1,6 +1,6 @@
 use Rattle.std.proofs.Common.{◌≡◌, ◌<◌, None, length, sym, ap, ◌∙◌, arith}
 use Rattle.std.proofs.lemmas.Bool.{lt-leb}
-use Rattle.bt_text.specs.Breaking.{break_place}
+use Rattle.bt_text.specs.LineBreaks.{break_place}
 use Rattle.bt_text.proofs.HeldLemmas.{none_white}
 use Rattle.bt_text.proofs.held.Held.has_white.Goals as goal
 

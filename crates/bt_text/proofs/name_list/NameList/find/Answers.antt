@@ -1,7 +1,7 @@
 use Rattle.std.proofs.Common.{◌∙◌, ap, ℕ, List}
 use Rattle.std.specs.Prelude.{bytes_eq}
 use Rattle.std.specs.Map.{lookup}
-use Rattle.bt_text.specs.Folding.{folded}
+use Rattle.bt_text.specs.CaseFolding.{folded}
 use Rattle.bt_text.specs.NameList.{same_name}
 use Rattle.bt_text.proofs.NameLemmas.{if_ok, same_by_small}
 use Rattle.bt_text.proofs.name_list.NameList.find.Goals as goal

@@ -2,7 +2,7 @@ use Rattle.std.proofs.Common.{◌≡◌, ◌∙◌, ap, ℕ, List, [], ◌∷◌
 use Rattle.std.specs.Prelude.{bytes_eq}
 use Rattle.indexmap.specs.IndexMap.{insert_entry}
 use Rattle.indexmap.proofs.MapLemmas.{OnOk-map}
-use Rattle.bt_text.specs.Folding.{folded}
+use Rattle.bt_text.specs.CaseFolding.{folded}
 use Rattle.bt_text.specs.NameList.{same_name}
 use Rattle.bt_text.specs.ByName.{listed, by_small}
 use Rattle.bt_text.proofs.NameLemmas.{either_way, more_by_small, by_small_again, values_by_small, same_by_small}

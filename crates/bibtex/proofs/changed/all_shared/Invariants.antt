@@ -1,5 +1,0 @@
-use Rattle.std.proofs.Common.{◌≡◌, take}
-use Rattle.bibtex.proofs.changed.all_shared.Given as goal
-
-abbrev pub invariant-files : goal.invariant-files
-invariant-files l = l.again ≡ take l.file-index l.files

@@ -1,0 +1,131 @@
+//! The reader of whole databases.
+
+ghost use Rattle.std.specs.Prelude.{◌≡◌, ◌==◌, IfOk};
+ghost use Rattle.bt_bib.specs.Spot.{here};
+ghost use Rattle.bt_bib.specs.inner.Spot.{IsAhead, IsIn};
+ghost use Rattle.bt_bib.specs.inner.Stop.{Makes};
+ghost use Rattle.bt_bib.specs.Scan.{after_run};
+ghost use Rattle.bt_bib.specs.Pieces.{is_text, next_piece, piece};
+ghost use Rattle.bt_bib.specs.BibText.{pieces_from, pieces_of};
+
+use crate::item::Piece;
+use crate::items::Items;
+use crate::kept_items::KeptItems;
+use crate::placed_pieces::PlacedPiece;
+use crate::reader::{Reader, common_names};
+use crate::spot::Spot;
+use bt_text::Shared;
+use memchr::memchr;
+use std::alloc::{AllocError, Global};
+
+impl Reader<'_> {
+    /// The next `@`, or the text's end.
+    fn seek(&self, from: Spot) -> Spot
+        requires { IsIn self.now.text.now from }
+        ensures value { here self.now.text.now result ≡ after_run is_text (here self.now.text.now from) }
+        ensures inside { IsAhead self.now.text.now from result }
+    {
+        let rest = &self.text[from.place..];
+        let count = memchr(b'@', rest).unwrap_or(rest.len());
+        self.ahead(from, count)
+    }
+
+    /// The next `@` with what it begins, or none.
+    #[tactic(auto, unfolding(crate::specs::Pieces::next_piece))]
+    pub fn next_piece(&self, from: Spot) -> Result<(Option<Piece>, Spot), AllocError>
+        requires { IsIn self.now.text.now from }
+        ensures { Makes self.now.text.now from result (next_piece (here self.now.text.now from)) }
+    {
+        let at = self.seek(from);
+        let Some(_) = self.peek(at) else {
+            return Ok((None, at));
+        };
+        let (piece, end) = self.piece(at)?;
+        Ok((Some(piece), end))
+    }
+
+    /// The comment words and items from a place on.
+    fn pieces_from(&self, from: Spot) -> Result<Items, AllocError>
+        requires { IsIn self.now.text.now from }
+        ensures { IfOk result (λ items. items ≡ pieces_from (here self.now.text.now from)) }
+    {
+        let mut items = Items::new(self.alloc);
+        let mut at = from;
+        'pieces: loop {
+            let (next, end) = self.next_piece(at)?;
+            match next {
+                None => return Ok(items),
+                Some(piece) => items.push(piece)?,
+            }
+            at = end;
+        }
+    }
+}
+
+impl Reader<'_> {
+    /// What begins with an `@`, from it on, kept apart from where it stands.
+    pub fn placed_piece(&self, start: Spot) -> Result<(PlacedPiece, Spot), AllocError>
+        requires { IsIn self.now.text.now start }
+        ensures { Makes self.now.text.now start result (piece (here self.now.text.now start)) }
+    {
+        let own = Reader {
+            alloc: self.alloc,
+            text: &self.text[start.place..],
+            known: self.known,
+        };
+        let (piece, reached) = own.piece(Spot::NOWHERE)?;
+        let end = Spot {
+            place: reached.place + start.place,
+            line: reached.line + start.line,
+        };
+        let piece = PlacedPiece::new(start, end, Shared::new(self.alloc, piece)?);
+        Ok((piece, end))
+    }
+
+    /// The next `@` with what it begins, kept apart from where it stands, or none.
+    #[tactic(auto, unfolding(crate::specs::Pieces::next_piece))]
+    pub fn next_placed(&self, from: Spot) -> Result<(Option<PlacedPiece>, Spot), AllocError>
+        requires { IsIn self.now.text.now from }
+        ensures { Makes self.now.text.now from result (next_piece (here self.now.text.now from)) }
+    {
+        let at = self.seek(from);
+        let Some(_) = self.peek(at) else {
+            return Ok((None, at));
+        };
+        let (piece, end) = self.placed_piece(at)?;
+        Ok((Some(piece), end))
+    }
+
+    /// The comment words and items from a place on, each kept apart from where it stands.
+    pub fn kept_from(&self, from: Spot) -> Result<KeptItems, AllocError>
+        requires { IsIn self.now.text.now from }
+        ensures { IfOk result (λ items. items ≡ pieces_from (here self.now.text.now from)) }
+    {
+        let mut items = KeptItems::new(self.alloc);
+        let mut at = from;
+        'pieces: loop {
+            let (next, end) = self.next_placed(at)?;
+            match next {
+                None => return Ok(items),
+                Some(piece) => items.push(piece)?,
+            }
+            at = end;
+        }
+    }
+}
+
+/// The items of a database, in the order of its text. Any bytes are a database: what can't be read is an item with a
+/// fault, and reading goes on at the next `@` from the fault's place on. A run reads by `KeptItems::read`; only the
+/// program `cases` calls this.
+#[tactic(auto, unfolding(crate::specs::BibText::pieces_of))]
+pub fn read_bib(alloc: Global, text: &[u8]) -> Result<Items, AllocError>
+    ensures { IfOk result (λ items. items ≡ pieces_of text.now) }
+{
+    let known = common_names(alloc)?;
+    let reader = Reader {
+        alloc,
+        text,
+        known: &known,
+    };
+    reader.pieces_from(Spot::START)
+}

@@ -1,0 +1,105 @@
+//! What braces and quotes enclose.
+
+ghost use Rattle.std.specs.Prelude.{◌≡◌, ◌<◌, ◌+◌, ◌^◌};
+ghost use Rattle.bt_bib.specs.Spot.{here};
+ghost use Rattle.bt_bib.specs.inner.Spot.{IsAhead, IsIn};
+ghost use Rattle.bt_bib.specs.Scan.{after_run};
+ghost use Rattle.bt_bib.specs.Enclosure.{enclosed};
+ghost use Rattle.bt_bib.specs.inner.Enclosure.{enclosed_end, is_plain, turn, IsNear};
+ghost use Rattle.bt_bib.specs.inner.Stop.{Finds, Gives};
+
+use crate::fault::ItemFault;
+use crate::reader::Reader;
+use crate::spot::Spot;
+use crate::stop::ReadStop;
+use bt_text::{Bytes, Shared};
+use memchr::memchr3;
+
+/// What a byte does inside braces or quotes.
+#[derive(Clone, Copy, Debug, PartialEq, Eq)]
+pub enum Turn {
+    /// It ends what they enclose.
+    Closes,
+    /// It is a right brace without its left one.
+    Breaks,
+    /// It leaves this number of further braces open.
+    Goes(usize),
+}
+
+impl Turn {
+    /// What a byte does where `depth` further braces are open.
+    fn of(close: u8, depth: usize, byte: u8) -> Turn
+        requires { depth + 1 < 2 ^ 64 }
+        ensures value { result ≡ turn close depth byte }
+        ensures near { IsNear (depth + 1) result }
+    {
+        if byte == close && depth == 0 {
+            Turn::Closes
+        } else if byte == b'{' {
+            Turn::Goes(depth + 1)
+        } else if byte == b'}' {
+            if depth == 0 {
+                Turn::Breaks
+            } else {
+                Turn::Goes(depth - 1)
+            }
+        } else {
+            Turn::Goes(depth)
+        }
+    }
+}
+
+/// Whether a byte is no brace and doesn't close.
+fn is_plain(close: u8, byte: u8) -> bool
+    ensures { result ≡ is_plain close byte }
+{
+    !(byte == close || byte == b'{' || byte == b'}')
+}
+
+impl Reader<'_> {
+    /// The next brace or closing sign, or the text's end.
+    fn past_plain(&self, from: Spot, close: u8) -> Spot
+        requires { IsIn self.now.text.now from }
+        ensures value { here self.now.text.now result ≡ after_run (is_plain close) (here self.now.text.now from) }
+        ensures inside { IsAhead self.now.text.now from result }
+    {
+        if from.place < self.text.len() && !is_plain(close, self.text[from.place]) {
+            return from;
+        }
+        let rest = &self.text[from.place..];
+        let count = memchr3(close, b'{', b'}', rest).unwrap_or(rest.len());
+        self.ahead(from, count)
+    }
+
+    /// The byte that closes what stands here.
+    fn enclosed_end(&self, from: Spot, close: u8) -> Result<Spot, ReadStop>
+        requires { IsIn self.now.text.now from }
+        ensures { Finds self.now.text.now from result (enclosed_end close (here self.now.text.now from)) }
+    {
+        let mut at = from;
+        let mut depth = 0;
+        'bytes: while at.place < self.text.len() {
+            let byte = self.text[at.place];
+            match Turn::of(close, depth, byte) {
+                Turn::Closes => return Ok(at),
+                Turn::Breaks => return Err(ReadStop::Stopped(ItemFault::UnbalancedBraces, at)),
+                Turn::Goes(next) => depth = next,
+            }
+            at = self.past_plain(at.after(byte), close);
+        }
+        Err(ReadStop::Stopped(ItemFault::EndOfFile, at))
+    }
+
+    /// What stands from here up to the byte that closes it, and that byte's place.
+    #[tactic(auto, using(crate::proofs::EnclosedLemmas::enclosed_found, crate::proofs::EnclosedLemmas::enclosed_stopped))]
+    pub fn enclosed(&self, from: Spot, close: u8) -> Result<(Shared<Bytes>, Spot), ReadStop>
+        requires { IsIn self.now.text.now from }
+        ensures { Gives self.now.text.now from result (enclosed close (here self.now.text.now from)) }
+    {
+        let end = self.enclosed_end(from, close)?;
+        Ok((
+            Shared::<Bytes>::copied(self.alloc, &self.text[from.place..end.place])?,
+            end,
+        ))
+    }
+}

@@ -1,0 +1,41 @@
+-- Names of files: which are allowed, and which text each has.
+use Rattle.std.specs.Prelude.{ℕ, Bool, nat_le, ◌==◌, eqb, ◌&&◌, ◌||◌, List, [], ◌∷◌, ◌++◌, length, fold, Option, Some, None, if◌then◌else◌}
+use Rattle.std.specs.List.{ends_with, list_any, list_all}
+use Rattle.std.specs.Str.{bytes_eq}
+use Rattle.bt_job.specs.declared.files.File.{File}
+
+-- a letter, a digit or one of . - _ + /
+abbrev pub is_file_name_byte : ℕ → Bool
+is_file_name_byte b =
+    (nat_le 65 b && nat_le b 90) || (nat_le 97 b && nat_le b 122) || (nat_le 48 b && nat_le b 57)
+    || b == 46 || b == 45 || b == 95 || b == 43 || b == 47
+
+-- how many bytes a file name may have
+abbrev pub file_name_size_limit : ℕ
+file_name_size_limit = 64
+
+-- whether a file may have this name
+abbrev pub is_file_name : List ℕ → Bool
+is_file_name name =
+    nat_le 1 (length name) && nat_le (length name) file_name_size_limit && list_all is_file_name_byte name
+
+-- whether a name is among some
+abbrev pub is_among : List (List ℕ) → List ℕ → Bool
+is_among names name = list_any (λ n. bytes_eq n name) names
+
+-- the text of a name, if there is one
+abbrev pub text_of : List File → List ℕ → Option (List ℕ)
+text_of [] name = None
+text_of (f ∷ fs) name = if bytes_eq f.name name then Some f.text else text_of fs name
+
+-- a name with an ending, which is put after it unless it is there
+abbrev pub with_ending : List ℕ → List ℕ → List ℕ
+with_ending ending name = if ends_with eqb name ending then name else name ++ ending
+
+-- names with one more at the end, unless it is among them
+abbrev pub with_name : List (List ℕ) → List ℕ → List (List ℕ)
+with_name names name = if is_among names name then names else names ++ name ∷ []
+
+-- names in the order in which they first come, each once
+abbrev pub each_once : List (List ℕ) → List (List ℕ)
+each_once names = fold with_name [] names

@@ -1,0 +1,127 @@
+//! Names of files: which are allowed, which text each has, and what is wrong with one.
+
+ghost use Rattle.std.specs.Prelude.{◌≡◌, IfOk};
+ghost use Rattle.std.specs.List.{list_all};
+ghost use Rattle.std.specs.Option.{option_map};
+ghost use Rattle.bt_job.specs.FileNames.{is_file_name_byte, is_file_name, with_ending, text_of};
+ghost use Rattle.bt_job.specs.inner.FileNames.{file_name_of, has_ending, met_before, name_fault};
+
+use crate::files::File;
+use crate::reader::Reader;
+use bt_bib::Command;
+use bt_text::{Bytes, Shared};
+use std::alloc::{AllocError, Global};
+
+/// How many bytes a file's name may have, with its folder and ending.
+pub const FILE_NAME_BYTES: usize = 64;
+
+fn is_name_byte(byte: u8) -> bool
+    ensures { result ≡ is_file_name_byte byte }
+{
+    matches!(byte, b'A'..=b'Z' | b'a'..=b'z' | b'0'..=b'9' | b'.' | b'-' | b'_' | b'+' | b'/')
+}
+
+fn has_name_bytes(name: &[u8]) -> bool
+    ensures { result ≡ list_all is_file_name_byte name.now }
+{
+    name.iter().all(|byte| is_name_byte(*byte))
+}
+
+/// Whether a file may have this name.
+pub fn is_file_name(name: &[u8]) -> bool
+    ensures { result ≡ is_file_name name.now }
+{
+    name.len() >= 1 && name.len() <= FILE_NAME_BYTES && has_name_bytes(name)
+}
+
+/// The text of a name, as its file owns it, if there is one.
+pub fn owned_text_of<'a>(files: &'a [File], name: &[u8]) -> Option<&'a Shared<Bytes>>
+    ensures { option_map (λ t. t.now) result ≡ text_of files.now name.now }
+{
+    'files: for file in files {
+        if file.name.as_slice() == name {
+            return Some(&file.text);
+        }
+    }
+    None
+}
+
+/// The text of a name, if there is one.
+pub fn text_of<'a>(files: &'a [File], name: &[u8]) -> Option<&'a [u8]>
+    ensures { option_map (λ t. t.now) result ≡ text_of files.now name.now }
+{
+    let text = owned_text_of(files, name)?;
+    Some(text.as_slice())
+}
+
+/// A name with an ending, which is put after it unless it is there.
+fn with_ending(alloc: Global, ending: &[u8], name: &[u8]) -> Result<Bytes, AllocError>
+    ensures { IfOk result (λ text. text ≡ with_ending ending.now name.now) }
+{
+    if name.ends_with(ending) {
+        Bytes::copied(alloc, name)
+    } else {
+        Bytes::of(alloc, &[name, ending])
+    }
+}
+
+/// The name that a part of a command stands for.
+pub fn named_by(alloc: Global, command: Command, part: &[u8]) -> Result<Bytes, AllocError>
+    ensures { IfOk result (λ name. name ≡ file_name_of command part.now) }
+{
+    match command {
+        Command::Database => with_ending(alloc, b".bib", part),
+        Command::Style => with_ending(alloc, b".bst", part),
+        Command::Nested | Command::Citation => Bytes::copied(alloc, part),
+    }
+}
+
+fn has_ending(command: Command, name: &[u8]) -> bool
+    ensures { result ≡ has_ending command name.now }
+{
+    match command {
+        Command::Nested => name.ends_with(b".aux"),
+        Command::Database | Command::Style | Command::Citation => true,
+    }
+}
+
+/// What is wrong with a name that was met before.
+fn met_before(alloc: Global, command: Command, name: &[u8]) -> Result<Option<Bytes>, AllocError>
+    ensures { IfOk result (λ fault. fault ≡ met_before command name.now) }
+{
+    match command {
+        Command::Database => {
+            let words = Bytes::of(
+                alloc,
+                &[b"This database file appears more than once: ", name],
+            )?;
+            Ok(Some(words))
+        }
+        Command::Nested => {
+            let words = Bytes::of(alloc, &[b"Already encountered file ", name])?;
+            Ok(Some(words))
+        }
+        Command::Style | Command::Citation => Ok(None),
+    }
+}
+
+impl Reader {
+    /// What is wrong with a name, where the files were met that were met so far.
+    #[tactic(auto, unfolding(crate::specs::inner::FileNames::name_fault))]
+    pub fn name_fault(&self, command: Command, name: &[u8]) -> Result<Option<Bytes>, AllocError>
+        ensures { IfOk result (λ fault. fault ≡ name_fault command self.now.progress.met name.now) }
+    {
+        let alloc = self.alloc;
+        if !has_ending(command, name) {
+            let words = Bytes::of(alloc, &[name, b" has a wrong extension"])?;
+            Ok(Some(words))
+        } else if !is_file_name(name) {
+            let words = Bytes::of(alloc, &[name, b" isn't a file name of this profile"])?;
+            Ok(Some(words))
+        } else if self.was_met(name) {
+            met_before(alloc, command, name)
+        } else {
+            Ok(None)
+        }
+    }
+}

@@ -1,0 +1,220 @@
+//! What a line that counts comes to.
+
+ghost use Rattle.std.specs.Prelude.{◌≡◌, ◌++◌, codes, IfOk};
+ghost use Rattle.bt_job.specs.inner.LineEffects.{told, cited_all, cited_key, cited_part, file_kind, file_found, looked_up, named, part_taken, argument_words};
+ghost use Rattle.bt_job.specs.inner.LineEffects.{fault_outcome, is_second, second_words, command_met, item_taken};
+
+use crate::file_names::{named_by, text_of};
+use crate::files::File;
+use crate::progress::Outcome;
+use crate::reader::Reader;
+use bt_bib::{AuxFault, AuxItem, Command};
+use bt_log::{Message, Rank};
+use bt_text::Bytes;
+use std::alloc::{AllocError, Global};
+
+/// Says that a key was cited in another spelling.
+fn mismatch(alloc: Global, key: &[u8], old: &[u8]) -> Result<Bytes, AllocError>
+    ensures { IfOk result (λ words. words
+        ≡ codes "Case mismatch error between cite keys " ++ key.now ++ codes " and " ++ old.now) }
+{
+    Bytes::of(
+        alloc,
+        &[
+            b"Case mismatch error between cite keys ",
+            key,
+            b" and ",
+            old,
+        ],
+    )
+}
+
+fn kind(command: Command) -> &'static [u8]
+    ensures { result.now ≡ file_kind command }
+{
+    match command {
+        Command::Database => b"database",
+        Command::Style => b"style",
+        Command::Nested => b"auxiliary",
+        Command::Citation => b"",
+    }
+}
+
+/// Says that a file of this kind isn't there.
+fn not_opened(alloc: Global, kind: &[u8], name: &[u8]) -> Result<Bytes, AllocError>
+    ensures { IfOk result (λ words. words ≡ codes "I couldn't open " ++ kind.now ++ codes " file " ++ name.now) }
+{
+    Bytes::of(alloc, &[b"I couldn't open ", kind, b" file ", name])
+}
+
+fn argument_words(fault: AuxFault) -> &'static [u8]
+    ensures { result.now ≡ argument_words fault }
+{
+    match fault {
+        AuxFault::NoBrace => b"No \"}\"",
+        AuxFault::WhiteSpace => b"White space in argument",
+        AuxFault::StuffAfter => b"Stuff after \"}\"",
+    }
+}
+
+fn fault_outcome(alloc: Global, fault: Option<AuxFault>) -> Result<Outcome, AllocError>
+    ensures { IfOk result (λ outcome. outcome ≡ fault_outcome fault) }
+{
+    match fault {
+        None => Ok(Outcome::Taken),
+        Some(fault) => Ok(Outcome::Wrong(Bytes::copied(alloc, argument_words(fault))?)),
+    }
+}
+
+fn second_words(command: Command) -> &'static [u8]
+    ensures { result.now ≡ second_words command }
+{
+    match command {
+        Command::Database => b"Illegal, another \\bibdata command",
+        Command::Style => b"Illegal, another \\bibstyle command",
+        Command::Citation | Command::Nested => b"",
+    }
+}
+
+impl Reader {
+    /// Takes a part `*`.
+    fn cite_all(&mut self) -> Result<Outcome, AllocError>
+        ensures { IfOk result (λ outcome. (self.new.progress, outcome)
+            ≡ cited_all self.old.progress.star self.old.progress) }
+    {
+        if self.progress.star.is_some() {
+            let words = Bytes::copied(self.alloc, b"Multiple inclusions of entire database")?;
+            return Ok(Outcome::Wrong(words));
+        }
+        self.progress.star = Some(self.progress.keys.as_slice().len());
+        Ok(Outcome::Taken)
+    }
+
+    /// Takes a part of `\citation`.
+    #[tactic(auto, unfolding(crate::specs::inner::LineEffects::cited_part))]
+    fn cite(&mut self, part: &[u8]) -> Result<Outcome, AllocError>
+        ensures { IfOk result (λ outcome. (self.new.progress, outcome) ≡ cited_part part.now self.old.progress) }
+    {
+        if part == b"*".as_slice() {
+            return self.cite_all();
+        }
+        let alloc = self.alloc;
+        let Some(old) = self.progress.keys.find(alloc, part)? else {
+            self.progress.keys.push(alloc, part)?;
+            return Ok(Outcome::Taken);
+        };
+        let old = old.as_slice();
+        if old == part {
+            Ok(Outcome::Taken)
+        } else {
+            Ok(Outcome::Wrong(mismatch(alloc, part, old)?))
+        }
+    }
+
+    /// Takes a file that is there.
+    fn take_found(&mut self, command: Command, name: &[u8]) -> Result<Outcome, AllocError>
+        ensures { IfOk result (λ outcome. (self.new.progress, outcome)
+            ≡ file_found command name.now self.old.progress) }
+    {
+        let text = Bytes::copied(self.alloc, name)?;
+        match command {
+            Command::Database => {
+                self.progress.databases.push(text)?;
+                Ok(Outcome::Taken)
+            }
+            Command::Style => {
+                self.progress.style = Some(text);
+                let line = Message::of(self.alloc, Rank::FileLine, &[b"The style file: ", name])?;
+                self.tell(line)?;
+                Ok(Outcome::Taken)
+            }
+            Command::Nested => Ok(Outcome::Opens(text)),
+            Command::Citation => Ok(Outcome::Taken),
+        }
+    }
+
+    /// Takes a name of a file.
+    #[tactic(auto, unfolding(crate::specs::inner::LineEffects::named))]
+    fn take_name(
+        &mut self,
+        files: &[File],
+        command: Command,
+        name: &[u8],
+    ) -> Result<Outcome, AllocError>
+        ensures { IfOk result (λ outcome. (self.new.progress, outcome)
+            ≡ named files.now command name.now self.old.progress) }
+    {
+        if let Some(words) = self.name_fault(command, name)? {
+            return Ok(Outcome::Wrong(words));
+        }
+        self.meet(command, name)?;
+        if text_of(files, name).is_some() {
+            self.take_found(command, name)
+        } else {
+            self.want(name)?;
+            Ok(Outcome::Wrong(not_opened(self.alloc, kind(command), name)?))
+        }
+    }
+
+    /// Takes a part of a command.
+    fn take_part(
+        &mut self,
+        files: &[File],
+        command: Command,
+        part: &[u8],
+    ) -> Result<Outcome, AllocError>
+        ensures { IfOk result (λ outcome. (self.new.progress, outcome)
+            ≡ part_taken files.now command part.now self.old.progress) }
+    {
+        match command {
+            Command::Citation => self.cite(part),
+            Command::Database | Command::Style | Command::Nested => {
+                let name = named_by(self.alloc, command, part)?;
+                self.take_name(files, command, name.as_slice())
+            }
+        }
+    }
+
+    /// Whether a command that may stand once was met.
+    fn is_second(&self, command: Command) -> bool
+        ensures { result ≡ is_second command self.now.progress }
+    {
+        match command {
+            Command::Database => self.progress.database_met,
+            Command::Style => self.progress.style_met,
+            Command::Citation | Command::Nested => false,
+        }
+    }
+
+    /// Notes that a command was met.
+    fn enter(&mut self, command: Command)
+        ensures { self.new.progress ≡ command_met command self.old.progress }
+    {
+        match command {
+            Command::Citation => self.progress.citation_met = true,
+            Command::Database => self.progress.database_met = true,
+            Command::Style => self.progress.style_met = true,
+            Command::Nested => {}
+        }
+    }
+
+    /// Takes a line that counts. The one error is out of memory; what stood before it in the line may then be taken.
+    #[tactic(auto, unfolding(crate::specs::inner::LineEffects::item_taken))]
+    pub fn take_item(&mut self, files: &[File], item: &AuxItem) -> Result<Outcome, AllocError>
+        ensures { IfOk result (λ outcome. (self.new.progress, outcome)
+            ≡ item_taken files.now item.now self.old.progress) }
+    {
+        if self.is_second(item.command) {
+            let words = Bytes::copied(self.alloc, second_words(item.command))?;
+            return Ok(Outcome::Wrong(words));
+        }
+        self.enter(item.command);
+        'parts: for part in item.parts.as_slice() {
+            match self.take_part(files, item.command, part.as_slice())? {
+                Outcome::Taken => {}
+                outcome => return Ok(outcome),
+            }
+        }
+        fault_outcome(self.alloc, item.fault)
+    }
+}

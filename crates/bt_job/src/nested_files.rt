@@ -1,0 +1,194 @@
+//! The .aux files of a session, with the lines of each nested file in its place.
+
+ghost use Rattle.std.specs.Prelude.{◌≡◌, ◌<◌, ◌+◌, ◌^◌, IfOk, OnOk};
+ghost use Rattle.bt_log.specs.declared.message.Rank.TheVariants.{FileLine};
+ghost use Rattle.bt_log.specs.Message.{plain};
+ghost use Rattle.bt_job.specs.Fit.{IsFit, AlwaysFit};
+ghost use Rattle.bt_job.specs.FileNames.{text_of};
+ghost use Rattle.bt_job.specs.Citations.{file_line, citations};
+ghost use Rattle.bt_job.specs.Lines.{AnyBoundServes, NestedInPlace};
+ghost use Rattle.bt_job.specs.inner.NestedFiles.{file_taken, missing, missing_one, ended, nothing_met, rooted};
+
+use crate::aux_texts::AuxTexts;
+use crate::citations::Citations;
+use crate::file_names::{owned_text_of, text_of};
+use crate::files::File;
+use crate::progress::Outcome;
+use crate::reader::Reader;
+use bt_bib::Command;
+use bt_log::{Message, Place, Rank};
+use bt_text::{Bytes, Shared};
+use itoa::Buffer;
+use std::alloc::{AllocError, Global};
+
+/// The line of the log where a file begins.
+fn file_line(alloc: Global, level: usize, file: &[u8]) -> Result<Message, AllocError>
+    ensures { IfOk result (λ line. line ≡ plain FileLine (file_line level file.now)) }
+{
+    if level == 0 {
+        return Message::of(
+            alloc,
+            Rank::FileLine,
+            &[b"The top-level auxiliary file: ", file],
+        );
+    }
+    let mut buffer = Buffer::new();
+    let level = buffer.format(level).as_bytes();
+    let line = Message::of(
+        alloc,
+        Rank::FileLine,
+        &[b"A level-", level, b" auxiliary file: ", file],
+    )?;
+    Ok(line)
+}
+
+impl Reader {
+    /// Takes the lines of a file, and of the files that it nests in their places: `bound` levels at most.
+    fn take_file(
+        &mut self,
+        files: &[File],
+        known: &mut AuxTexts,
+        bound: usize,
+        level: usize,
+        file: &[u8],
+    ) -> Result<(), AllocError>
+        requires { level + bound < 2 ^ 64 }
+        ensures { OnOk result (self.new.progress ≡ file_taken bound files.now level file.now self.old.progress) }
+    {
+        if bound == 0 {
+            return Ok(());
+        }
+        let Some(text) = owned_text_of(files, file) else {
+            return Ok(());
+        };
+        self.tell(file_line(self.alloc, level, file)?)?;
+        let name = Shared::<Bytes>::copied(self.alloc, file)?;
+        let items = known.lines(self.alloc, text)?;
+        'items: for item in items.as_slice() {
+            match self.take_item(files, item)? {
+                Outcome::Taken => {}
+                Outcome::Wrong(words) => self.tell_at(&name, item.line, words)?,
+                Outcome::Opens(name) => {
+                    self.take_file(files, known, bound - 1, level + 1, name.as_slice())?
+                }
+            }
+        }
+        Ok(())
+    }
+
+    /// Says what is missing.
+    fn miss(&mut self, what: &[u8], file: &Shared<Bytes>) -> Result<(), AllocError>
+        ensures { OnOk result (self.new.progress ≡ missing what.now file.now self.old.progress) }
+    {
+        let message = Message::of(self.alloc, Rank::Error, &[b"I found no ", what])?;
+        let place = Place::WholeFile {
+            file: file.share()?,
+        };
+        self.tell(message.at(place)?)
+    }
+
+    /// Says that a command wasn't met, or that it named nothing.
+    fn miss_one(
+        &mut self,
+        met: bool,
+        nothing: bool,
+        command: &[u8],
+        named: &[u8],
+        file: &Shared<Bytes>,
+    ) -> Result<(), AllocError>
+        ensures { OnOk result (self.new.progress
+            ≡ missing_one met nothing command.now named.now file.now self.old.progress) }
+    {
+        if !met {
+            self.miss(command, file)
+        } else if nothing {
+            self.miss(named, file)
+        } else {
+            Ok(())
+        }
+    }
+
+    /// The errors at the end of the root.
+    #[tactic(auto, unfolding(crate::specs::inner::NestedFiles::ended))]
+    fn end(&mut self, file: &Shared<Bytes>) -> Result<(), AllocError>
+        ensures { OnOk result (self.new.progress ≡ ended file.now self.old.progress) }
+    {
+        let asked = &self.progress;
+        let no_keys = asked.keys.as_slice().is_empty() && asked.star.is_none();
+        let no_databases = asked.databases.as_slice().is_empty();
+        let no_style = asked.style.is_none();
+        let (citation, database, style) = (asked.citation_met, asked.database_met, asked.style_met);
+        self.miss_one(
+            citation,
+            no_keys,
+            b"\\citation commands",
+            b"cite keys",
+            file,
+        )?;
+        self.miss_one(
+            database,
+            no_databases,
+            b"\\bibdata command",
+            b"database files",
+            file,
+        )?;
+        self.miss_one(style, no_style, b"\\bibstyle command", b"style file", file)
+    }
+
+    /// Takes the root and all files that it nests. Nothing was read before.
+    fn read_root(
+        &mut self,
+        files: &[File],
+        known: &mut AuxTexts,
+        file: &Shared<Bytes>,
+    ) -> Result<(), AllocError>
+        requires { self.old.progress ≡ nothing_met }
+        ensures { OnOk result (self.new.progress ≡ rooted files.now file.now (text_of files.now file.now)) }
+    {
+        let name = file.as_slice();
+        if text_of(files, name).is_none() {
+            let words: &[&[u8]] = &[b"I couldn't open auxiliary file ", name];
+            self.tell(Message::of(self.alloc, Rank::Fatal, words)?)?;
+            return self.want(name);
+        }
+        self.meet(Command::Nested, name)?;
+        self.take_file(files, known, files.len() + 1, 0, name)?;
+        self.end(file)
+    }
+}
+
+/// What the files of a session ask for whose root name is this, which has no `.aux` at its end. Of their texts only
+/// those are read that aren't known.
+pub fn read_citations(
+    alloc: Global,
+    files: &[File],
+    root: &[u8],
+    known: &mut AuxTexts,
+) -> Result<Citations, AllocError>
+    ensures value { IfOk result (λ asked. asked ≡ citations files.now root.now) }
+    ensures fit { IfOk result (λ asked. IsFit files.now asked) }
+{
+    let file = Shared::new(alloc, Bytes::of(alloc, &[root, b".aux"])?)?;
+    let mut reader = Reader::new(alloc);
+    reader.read_root(files, known, &file)?;
+    let asked = reader.into_citations();
+    Ok(asked)
+}
+
+/// A law: after each line come the lines of the file that it opens, if it opens one, at any depth, then
+/// the others.
+pub fn nested_in_place()
+    ensures { NestedInPlace }
+{}
+
+/// A law: how many lines may be read doesn't matter, where it is no smaller than the number of those that
+/// can still come.
+pub fn any_bound_serves()
+    ensures { AnyBoundServes }
+{}
+
+/// A law: the keys that are asked for differ without regard to case, the place of `*` is among them,
+/// and the databases and the style are there.
+pub fn always_fit()
+    ensures { AlwaysFit }
+{}

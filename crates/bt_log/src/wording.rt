@@ -1,0 +1,148 @@
+//! A message in words.
+
+ghost use Rattle.std.specs.Prelude.{◌≡◌, ◌++◌, Some, codes, decimal, OnOk};
+ghost use Rattle.bt_log.specs.Wording.{while_reading, before_line, for_entry, while_executing, step_words, place_words, second_line, spelled};
+
+use crate::message::{Message, Place, Rank};
+use bt_text::{Bytes, Shared};
+use itoa::Buffer;
+use std::alloc::AllocError;
+
+/// A number in decimal, in a buffer.
+fn decimal(buffer: &mut Buffer, number: usize) -> &[u8]
+    ensures { result.now ≡ decimal number }
+{
+    buffer.format(number).as_bytes()
+}
+
+fn before_line(rank: Rank) -> &'static [u8]
+    ensures { result.now ≡ before_line rank }
+{
+    match rank {
+        Rank::Warning => b"\n--line ",
+        Rank::FileLine | Rank::Note | Rank::CallCount | Rank::Error | Rank::Fatal => b"---line ",
+    }
+}
+
+/// Adds the entry of a step.
+fn add_entry(text: &mut Bytes, entry: &Option<Shared<Bytes>>) -> Result<(), AllocError>
+    ensures { OnOk result (text.new ≡ text.old ++ for_entry entry.now) }
+{
+    if let Some(key) = entry {
+        text.append_all(&[b" for entry ", key.as_slice()])?;
+    }
+    Ok(())
+}
+
+/// Adds a line and a file, in that order, after what is before them.
+fn add_file_line(
+    text: &mut Bytes,
+    before: &[u8],
+    line: usize,
+    file: &[u8],
+) -> Result<(), AllocError>
+    ensures { OnOk result (text.new ≡ text.old ++ (before.now ++ decimal line ++ codes " of file " ++ file.now)) }
+{
+    let mut buffer = Buffer::new();
+    let line = decimal(&mut buffer, line);
+    text.append_all(&[before, line, b" of file ", file])
+}
+
+/// Adds the entry and the command of a step.
+fn add_command(
+    text: &mut Bytes,
+    entry: &Option<Shared<Bytes>>,
+    style: &[u8],
+    line: usize,
+) -> Result<(), AllocError>
+    ensures { OnOk result (text.new ≡ text.old ++ (for_entry entry.now ++ while_executing style.now line)) }
+{
+    add_entry(text, entry)?;
+    add_file_line(text, b"\nwhile executing---line ", line, style)?;
+    Ok(())
+}
+
+/// Adds what a step's message says of the step.
+fn add_step(
+    text: &mut Bytes,
+    rank: Rank,
+    entry: &Option<Shared<Bytes>>,
+    style: &[u8],
+    line: usize,
+) -> Result<(), AllocError>
+    ensures { OnOk result (text.new ≡ text.old ++ step_words rank entry.now style.now line) }
+{
+    match rank {
+        Rank::FileLine | Rank::Note | Rank::CallCount | Rank::Warning => Ok(()),
+        Rank::Error | Rank::Fatal => add_command(text, entry, style, line),
+    }
+}
+
+/// Adds a line of the database of a number.
+fn add_database_line(
+    text: &mut Bytes,
+    before: &[u8],
+    line: usize,
+    number: usize,
+) -> Result<(), AllocError>
+    ensures { OnOk result (text.new
+        ≡ text.old ++ (before.now ++ decimal line ++ codes " of database #" ++ decimal number)) }
+{
+    let mut digits = Buffer::new();
+    let line = decimal(&mut digits, line);
+    let mut buffer = Buffer::new();
+    let number = decimal(&mut buffer, number);
+    text.append_all(&[before, line, b" of database #", number])
+}
+
+/// Adds the name of a file that was read to its end.
+fn add_whole_file(text: &mut Bytes, file: &[u8]) -> Result<(), AllocError>
+    ensures { OnOk result (text.new ≡ text.old ++ while_reading file.now) }
+{
+    text.append_all(&[b"---while reading file ", file])
+}
+
+/// Adds where a message belongs.
+fn add_place(
+    text: &mut Bytes,
+    rank: Rank,
+    entry: &Option<Shared<Bytes>>,
+    place: &Place,
+) -> Result<(), AllocError>
+    ensures { OnOk result (text.new ≡ text.old ++ place_words rank entry.now (Some place.now)) }
+{
+    match place {
+        Place::Line { file, line, .. } => add_file_line(
+            text,
+            before_line(rank),
+            *line,
+            file.as_slice(),
+        ),
+        Place::DatabaseLine { database, line, .. } => {
+            add_database_line(text, before_line(rank), *line, *database)
+        }
+        Place::WholeFile { file } => add_whole_file(text, file.as_slice()),
+        Place::Step { style, line } => add_step(text, rank, entry, style.as_slice(), *line),
+    }
+}
+
+/// Adds a second line.
+fn add_second(text: &mut Bytes, second: &Option<Shared<Bytes>>) -> Result<(), AllocError>
+    ensures { OnOk result (text.new ≡ text.old ++ second_line second.now) }
+{
+    if let Some(words) = second {
+        text.append_all(&[b"\n", words.as_slice()])?;
+    }
+    Ok(())
+}
+
+/// Adds a message in words. After an error a part of them may be there.
+pub fn spell(text: &mut Bytes, message: &Message) -> Result<(), AllocError>
+    ensures { OnOk result (text.new ≡ text.old ++ spelled message.now) }
+{
+    text.append(message.words.as_slice())?;
+    if let Some(place) = &message.place {
+        add_place(text, message.rank, &message.entry, place)?;
+    }
+    add_second(text, &message.second)
+}

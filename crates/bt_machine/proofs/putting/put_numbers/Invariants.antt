@@ -1,8 +1,0 @@
-use Rattle.std.proofs.Common.{◌≡◌, drop}
-use Rattle.std.specs.Prelude.{pos}
-use Rattle.bt_machine.specs.inner.Putting.{values_put}
-use Rattle.bt_machine.proofs.putting.put_numbers.Given as goal
-
-abbrev pub invariant-places : goal.invariant-places
-invariant-places l =
-    values_put (pos 0) (drop l.place-index l.places) l.left l.base ≡ values_put (pos 0) l.places l.left l.fn.base

@@ -1,0 +1,135 @@
+//! Looks up the files of a job, in the order in which its run looks for them.
+
+ghost use Rattle.std.specs.Prelude.{◌≡◌, ◌^◌, ◌-◌, ◌<◌, Bool, true, false, length, None, OnOk, Ok, Err};
+ghost use Rattle.std.specs.List.{flat_map};
+ghost use Rattle.bt_one_shot.specs.Sinks.{sunk};
+ghost use Rattle.bt_one_shot.specs.inner.Sinks.{GoesOn};
+ghost use Rattle.bt_one_shot.specs.JobFiles.{next, refusal_line};
+ghost use Rattle.bt_one_shot.specs.inner.Progress.{TakesIn, LooksUpName, Goes};
+
+use crate::folder::{Folder, Found};
+use crate::met_names::NamesMet;
+use bibtex::{Draft, Edit, Refusal};
+use bt_serve::{Sink, code_of, say};
+use bt_text::Bytes;
+use itoa::Buffer;
+use std::alloc::{AllocError, Global};
+
+/// Writes pieces of a line to a sink, unless it failed since its failures were counted. A failure is left out.
+pub fn tell<E: Sink>(err: &mut E, failures_before: u64, pieces: &[&[u8]])
+    requires { failures_before < 2 ^ 64 - 1 }
+    ensures { GoesOn failures_before (sunk (E.contents err.old) (E.failure_count err.old) (E.is_flushed err.old))
+        (sunk (E.contents err.new) (E.failure_count err.new) (E.is_flushed err.new))
+        (flat_map (λ piece. piece.now) pieces.now) }
+{
+    if err.failures() == failures_before {
+        let _ = say(err, pieces);
+    }
+}
+
+/// Reports that a file was refused.
+fn tell_refused<E: Sink>(err: &mut E, failures_before: u64, refusal: Refusal, name: &[u8])
+    requires { failures_before < 2 ^ 64 - 1 }
+    ensures { GoesOn failures_before (sunk (E.contents err.old) (E.failure_count err.old) (E.is_flushed err.old))
+        (sunk (E.contents err.new) (E.failure_count err.new) (E.is_flushed err.new))
+        (refusal_line name.now (Err refusal)) }
+{
+    let mut code = Buffer::new();
+    let code = code.format(code_of(refusal)).as_bytes();
+    tell(
+        err,
+        failures_before,
+        &[b"bibtex: refused ", code, b" ", name, b"\n"],
+    );
+}
+
+/// Takes what was found under a name into a draft, and says whether it has changed; or says why it is refused.
+fn take_in(draft: &mut Draft, name: &[u8], found: Found) -> Result<bool, Refusal>
+    ensures { (ran_out : Bool) × TakesIn draft.old draft.new name.now ran_out found result }
+{
+    match found {
+        Found::Bytes(text) => match draft.edit(Edit::Write(name, text.as_slice())) {
+            Ok(()) => Ok(true),
+            Err(refusal) => Err(refusal),
+        },
+        Found::Missing => Ok(false),
+        Found::NoRoom => Err(Refusal::OutOfMemory),
+    }
+}
+
+/// Looks up a file and takes it into a draft, and says whether that has changed.
+fn look_up<F: Folder, E: Sink>(
+    draft: &mut Draft,
+    folder: &mut F,
+    err: &mut E,
+    failures_before: u64,
+    name: &[u8],
+) -> bool
+    requires { failures_before < 2 ^ 64 - 1 }
+    ensures looks { LooksUpName failures_before draft.old draft.new name.now (F.seen folder.old) (F.seen folder.new)
+        (sunk (E.contents err.old) (E.failure_count err.old) (E.is_flushed err.old))
+        (sunk (E.contents err.new) (E.failure_count err.new) (E.is_flushed err.new)) }
+    ensures unchanged { result ≡ false → draft.new ≡ draft.old }
+{
+    let found = folder.read(name);
+    match take_in(draft, name, found) {
+        Ok(changed) => changed,
+        Err(refusal) => {
+            tell_refused(err, failures_before, refusal, name);
+            false
+        }
+    }
+}
+
+/// Looks up those names that a draft wants and that are new, in their order, until one changes it, and says whether one
+/// has.
+#[tactic(auto, using(crate::proofs::LoadLemmas::goes_none))]
+fn look_up_wanted<F: Folder, E: Sink>(
+    alloc: Global,
+    draft: &mut Draft,
+    met: &mut NamesMet,
+    folder: &mut F,
+    err: &mut E,
+    failures_before: u64,
+) -> Result<bool, AllocError>
+    requires { failures_before < 2 ^ 64 - 1 }
+    ensures goes { Goes failures_before draft.old draft.new met.old met.new (F.seen folder.old) (F.seen folder.new)
+        (sunk (E.contents err.old) (E.failure_count err.old) (E.is_flushed err.old))
+        (sunk (E.contents err.new) (E.failure_count err.new) (E.is_flushed err.new)) }
+    ensures end { result ≡ Ok false → next draft.new met.new ≡ None }
+    ensures more { result ≡ Ok true → (length met.old < length met.new) × (length met.old < 2 ^ 63) }
+{
+    let wanted = draft.wanted()?;
+    'wanted: for name in wanted.as_slice() {
+        let name = name.as_slice();
+        if !met.has(name) {
+            met.put(alloc, name)?;
+            if look_up(draft, folder, err, failures_before, name) {
+                return Ok(true);
+            }
+        }
+    }
+    Ok(false)
+}
+
+/// Looks up each file that a draft wants, once each and in the order in which its run looks for them, until it wants no
+/// new one. A file that is refused is reported on `err`, and counts as missing. After out of memory those
+/// are taken in that were looked up before.
+#[tactic(auto, using(crate::proofs::LoadLemmas::goes_none, crate::proofs::LoadLemmas::goes_more))]
+pub fn load_all<F: Folder, E: Sink>(
+    alloc: Global,
+    draft: &mut Draft,
+    met: &mut NamesMet,
+    folder: &mut F,
+    err: &mut E,
+    failures_before: u64,
+) -> Result<(), AllocError>
+    requires { failures_before < 2 ^ 64 - 1 }
+    ensures goes { Goes failures_before draft.old draft.new met.old met.new (F.seen folder.old) (F.seen folder.new)
+        (sunk (E.contents err.old) (E.failure_count err.old) (E.is_flushed err.old))
+        (sunk (E.contents err.new) (E.failure_count err.new) (E.is_flushed err.new)) }
+    ensures end { OnOk result (next draft.new met.new ≡ None) }
+{
+    'rounds: while look_up_wanted(alloc, draft, met, folder, err, failures_before)? {}
+    Ok(())
+}

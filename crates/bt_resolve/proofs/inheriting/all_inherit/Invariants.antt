@@ -1,6 +1,0 @@
-use Rattle.std.proofs.Common.{◌≡◌, drop}
-use Rattle.bt_resolve.specs.inner.Inheriting.{all_inherit}
-use Rattle.bt_resolve.proofs.inheriting.all_inherit.Given as goal
-
-abbrev pub invariant-places : goal.invariant-places
-invariant-places l = all_inherit l.family l.values.items (drop l.place-index l.places) ≡ all_inherit l.family l.initial.values.items l.places

@@ -1,0 +1,51 @@
+-- What reading one more item makes of what was read so far.
+use Rattle.std.specs.Prelude.{ℕ, ◌+◌, List, [], ◌∷◌, ◌++◌}
+use Rattle.bt_bib.specs.declared.item.Item.{Item}
+use Rattle.bt_resolve.specs.declared.asked.Asked.{Asked}
+use Rattle.bt_resolve.specs.declared.declared.Macro.{Macro}
+use Rattle.bt_log.specs.declared.message.Message.{Message}
+use Rattle.bt_resolve.specs.declared.stored.Stored.{Stored}
+use Rattle.bt_resolve.specs.declared.state.Reading.{Reading}
+use Rattle.bt_text.specs.ByName.{known}
+use Rattle.bt_resolve.specs.Values.{MacroTexts}
+use Rattle.bt_resolve.specs.Macros.{style_macro, with_content}
+use Rattle.bt_resolve.specs.Stored.{with_item}
+use Rattle.bt_resolve.specs.Warnings.{line_of}
+use Rattle.bt_resolve.specs.Messages.{preamble_of, content_messages, item_messages}
+
+-- what was read, with the macros as a function
+pub record State : Type 0 where
+  pub macros : MacroTexts
+  pub stored : List Stored
+  pub preamble : List ℕ
+  pub messages : List Message
+
+abbrev pub state_of : Reading → State
+state_of r = record { macros = known r.macros; stored = r.store; preamble = r.preamble; messages = r.messages }
+
+abbrev pub after_content : Asked → ℕ → Item → State → State
+after_content a database item s = record {
+  macros = with_content item.fault item.content s.macros;
+  stored = with_item a s.macros item.content s.stored;
+  preamble = s.preamble ++ preamble_of s.macros item.fault item.content;
+  messages = s.messages ++ content_messages a s.macros s.stored (line_of database item.line) item.fault item.content;
+}
+
+abbrev pub after_item : Asked → ℕ → Item → State → State
+after_item a database item s =
+    record (after_content a database item s)
+    { messages = s.messages ++ item_messages a s.macros s.stored database item }
+
+-- after the items of a database
+abbrev pub after_items : Asked → ℕ → State → List Item → State
+after_items a database s [] = s
+after_items a database s (item ∷ items) = after_items a database (after_item a database item s) items
+
+-- after the databases from this number on
+abbrev pub after_databases : Asked → ℕ → State → List (List Item) → State
+after_databases a number s [] = s
+after_databases a number s (these ∷ databases) = after_databases a (number + 1) (after_items a number s these) databases
+
+-- before the first item
+abbrev pub nothing_read : List Macro → State
+nothing_read macros = record { macros = style_macro macros; stored = []; preamble = []; messages = [] }

@@ -1,0 +1,21 @@
+-- One entry after another inherits, in the list of all values as they are.
+use Rattle.std.specs.Prelude.{ℕ, List, [], ◌∷◌, Option, Some, None, slice_set, map}
+use Rattle.std.specs.List.{slice_index_or}
+use Rattle.bt_resolve.specs.declared.stored.Stored.{Stored}
+use Rattle.bt_resolve.specs.Inherited.{inherited, parent_at}
+
+abbrev pub inherits_from : Option ℕ → ℕ → List (List (Option (List ℕ))) → List (List (Option (List ℕ)))
+inherits_from None p values = values
+inherits_from (Some parent) p values =
+    slice_set values p (inherited (slice_index_or values p []) (slice_index_or values parent []))
+
+abbrev pub inherits_at : List Stored → List (List (Option (List ℕ))) → ℕ → List (List (Option (List ℕ)))
+inherits_at stored values p = inherits_from (parent_at stored p) p values
+
+-- the entries of these places, one after another
+abbrev pub all_inherit : List Stored → List (List (Option (List ℕ))) → List ℕ → List (List (Option (List ℕ)))
+all_inherit stored values [] = values
+all_inherit stored values (p ∷ ps) = all_inherit stored (inherits_at stored values p) ps
+
+abbrev pub values_read : List Stored → List (List (Option (List ℕ)))
+values_read stored = map (λ (s : Stored). s.values) stored

@@ -1,0 +1,134 @@
+//! The databases are read, item for item.
+
+ghost use Rattle.std.specs.Prelude.{◌≡◌, ◌+◌, ◌∷◌, [], IfOk, IsTrue, OnOk, map};
+ghost use Rattle.bt_bib.specs.Items.{items_of};
+ghost use Rattle.bt_bib.specs.Moved.{moved_item, nowhere};
+ghost use Rattle.bt_bib.specs.Shift.{FitsItem};
+ghost use Rattle.bt_text.specs.NameList.{are_apart};
+ghost use Rattle.bt_resolve.specs.Messages.{database_messages};
+ghost use Rattle.bt_resolve.specs.inner.Databases.{after_content, after_item, after_items, nothing_read, state_of};
+ghost use Rattle.bt_resolve.specs.Resolved.{preamble, stored_entries};
+
+use crate::asked::Asked;
+use crate::declared::Macro;
+use crate::faults::tell_fault;
+use crate::macros::style_macros;
+use crate::message::Origin;
+use crate::reader::Reader;
+use crate::state::Reading;
+use crate::store::Store;
+use bt_bib::{Content, Item, KeptItems, Piece, PlacedPiece};
+use bt_text::{Bytes, Sequence};
+use std::alloc::{AllocError, Global};
+
+impl Reader<'_> {
+    /// Reads what an item says.
+    fn content(&self, item: &Item, reading: &mut Reading) -> Result<(), AllocError>
+        requires apart { IsTrue (are_apart self.now.asked.now.fields) }
+        requires fits { FitsItem nowhere self.now.origin.start item.now }
+        ensures { OnOk result (state_of reading.new ≡ after_content self.now.asked.now self.now.origin.database
+            (moved_item self.now.origin.start item.now) (state_of reading.old)) }
+    {
+        let Reading {
+            macros,
+            store,
+            preamble,
+            messages,
+        } = reading;
+        match &item.content {
+            Content::Entry(entry) => self.entry(item.line, entry, macros, store, messages),
+            Content::Define(string) => self.string(item, string, macros, messages),
+            Content::Preamble(parts) => self.preamble(item, parts, macros, preamble, messages),
+        }
+    }
+
+    /// Reads an item: what it says, then its fault.
+    #[tactic(auto, unfolding(crate::specs::Messages::item_messages))]
+    fn item(&self, item: &Item, reading: &mut Reading) -> Result<(), AllocError>
+        requires apart { IsTrue (are_apart self.now.asked.now.fields) }
+        requires fits { FitsItem nowhere self.now.origin.start item.now }
+        ensures { OnOk result (state_of reading.new ≡ after_item self.now.asked.now self.now.origin.database
+            (moved_item self.now.origin.start item.now) (state_of reading.old)) }
+    {
+        self.content(item, reading)?;
+        tell_fault(self.alloc, self.origin, item, &mut reading.messages)
+    }
+}
+
+/// Reads an item of a database, or passes over a comment word.
+fn read_piece(
+    alloc: Global,
+    asked: &Asked<'_>,
+    database: usize,
+    piece: &PlacedPiece,
+    reading: &mut Reading,
+) -> Result<(), AllocError>
+    requires { IsTrue (are_apart asked.now.fields) }
+    ensures { OnOk result (state_of reading.new
+        ≡ after_items asked.now database (state_of reading.old) (items_of (piece.now ∷ []))) }
+{
+    match piece.piece() {
+        Piece::Comment(_, _) => Ok(()),
+        Piece::Item(item) => {
+            let start = piece.start();
+            let reader = Reader {
+                alloc,
+                asked: &*asked,
+                origin: Origin { database, start },
+            };
+            reader.item(item, reading)
+        }
+    }
+}
+
+/// Reads the items of a database.
+fn read_pieces(
+    alloc: Global,
+    asked: &Asked<'_>,
+    database: usize,
+    pieces: &[PlacedPiece],
+    reading: &mut Reading,
+) -> Result<(), AllocError>
+    requires { IsTrue (are_apart asked.now.fields) }
+    ensures { OnOk result (state_of reading.new
+        ≡ after_items asked.now database (state_of reading.old) (items_of pieces.now)) }
+{
+    'pieces: for piece in pieces {
+        read_piece(alloc, asked, database, piece, reading)?;
+    }
+    Ok(())
+}
+
+/// What is known before the first item.
+fn nothing_read(alloc: Global, macros: &[Macro]) -> Result<Reading, AllocError>
+    ensures { IfOk result (λ read. state_of read ≡ nothing_read macros.now) }
+{
+    Ok(Reading {
+        macros: style_macros(alloc, macros)?,
+        store: Store::new(alloc),
+        preamble: Bytes::new(alloc),
+        messages: Sequence::new(alloc),
+    })
+}
+
+/// Reads the databases in their order.
+pub fn read_databases(
+    alloc: Global,
+    asked: &Asked<'_>,
+    macros: &[Macro],
+    databases: &[&KeptItems],
+) -> Result<Reading, AllocError>
+    requires { IsTrue (are_apart asked.now.fields) }
+    ensures stored { IfOk result (λ read. read.store
+        ≡ stored_entries asked.now macros.now (map (λ d. items_of d.now) databases.now)) }
+    ensures preamble { IfOk result (λ read. read.preamble
+        ≡ preamble macros.now (map (λ d. items_of d.now) databases.now)) }
+    ensures messages { IfOk result (λ read. read.messages
+        ≡ database_messages asked.now macros.now 1 [] (map (λ d. items_of d.now) databases.now)) }
+{
+    let mut read = nothing_read(alloc, macros)?;
+    'databases: for i in 0..databases.len() {
+        read_pieces(alloc, asked, i + 1, databases[i].pieces(), &mut read)?;
+    }
+    Ok(read)
+}

@@ -1,0 +1,83 @@
+//! What entries inherit from those that they refer to.
+
+ghost use Rattle.std.specs.Prelude.{◌≡◌, IfOk, OnOk};
+ghost use Rattle.bt_resolve.specs.Inherited.{inherited};
+ghost use Rattle.bt_resolve.specs.inner.Inheritance.{all_inherit, inherits_at, values_read};
+
+use crate::family::Family;
+use crate::seen_values::shared_at;
+use crate::stored::{FieldValues, Stored};
+use bt_text::{Bytes, Shared};
+use std::alloc::{AllocError, Global};
+
+/// A value that may be missing, for one more owner.
+pub fn shared(value: &Option<Shared<Bytes>>) -> Result<Option<Shared<Bytes>>, AllocError>
+    ensures { IfOk result (λ same. same ≡ value.now) }
+{
+    match value {
+        None => Ok(None),
+        Some(text) => Ok(Some(text.share()?)),
+    }
+}
+
+/// Each missing value taken from the parent. An entry without a value of its own has the parent's list itself.
+fn inherited(
+    alloc: Global,
+    mine: &Shared<FieldValues>,
+    theirs: &Shared<FieldValues>,
+) -> Result<Shared<FieldValues>, AllocError>
+    ensures { IfOk result (λ values. values ≡ inherited mine.now theirs.now) }
+{
+    if mine.has_none() && mine.len() == theirs.len() {
+        theirs.share()
+    } else {
+        Shared::new(alloc, mine.filled_from(alloc, theirs)?)
+    }
+}
+
+/// The values of all entries, as they were read.
+pub fn values_read(alloc: Global, stored: &[Stored]) -> Result<Vec<Shared<FieldValues>>, AllocError>
+    ensures { IfOk result (λ values. values.items ≡ values_read stored.now) }
+{
+    let mut values = Vec::new(alloc);
+    'entries: for entry in stored {
+        values.push(entry.values.share()?)?;
+    }
+    Ok(values)
+}
+
+/// The entry of a place inherits from its parent, as that is now.
+fn inherit_at(
+    alloc: Global,
+    family: &Family,
+    place: usize,
+    values: &mut Vec<Shared<FieldValues>>,
+) -> Result<(), AllocError>
+    ensures { OnOk result (values.new.items ≡ inherits_at family.now values.old.items place) }
+{
+    let Some(parent) = family.parent_at(place) else {
+        return Ok(());
+    };
+    let mine = shared_at(alloc, values.as_slice(), place)?;
+    let theirs = shared_at(alloc, values.as_slice(), parent)?;
+    let filled = inherited(alloc, &mine, &theirs)?;
+    if place < values.len() {
+        values[place] = filled;
+    }
+    Ok(())
+}
+
+/// The entries of some places inherit, one after another.
+pub fn all_inherit(
+    alloc: Global,
+    family: &Family,
+    places: &[usize],
+    values: &mut Vec<Shared<FieldValues>>,
+) -> Result<(), AllocError>
+    ensures { OnOk result (values.new.items ≡ all_inherit family.now values.old.items places.now) }
+{
+    'places: for place in places {
+        inherit_at(alloc, family, *place, values)?;
+    }
+    Ok(())
+}

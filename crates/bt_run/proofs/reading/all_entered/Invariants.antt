@@ -1,7 +1,0 @@
-use Rattle.std.proofs.Common.{◌≡◌, map}
-use Rattle.bt_style.specs.Program.{program_of}
-use Rattle.bt_run.specs.Reading.{with_blank_variables}
-use Rattle.bt_run.proofs.reading.all_entered.Given as goal
-
-abbrev pub invariant-entries : goal.invariant-entries
-invariant-entries l = l.all ≡ map (with_blank_variables (program_of l.style)) l.yielded

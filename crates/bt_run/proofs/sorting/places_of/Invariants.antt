@@ -1,5 +1,0 @@
-use Rattle.std.proofs.Common.{◌≡◌, map, take}
-use Rattle.bt_run.proofs.sorting.places_of.Given as goal
-
-abbrev pub invariant-keyed : goal.invariant-keyed
-invariant-keyed l = l.places ≡ map (λ k. k.1) (take l.place-index l.keyed)

@@ -1,0 +1,52 @@
+//! SORT: the entries in the order of their sort keys.
+
+ghost use Rattle.std.specs.Prelude.{◌≡◌, All, map, IfOk};
+ghost use Rattle.bt_run.specs.SortCommand.{sort_key, key_at, sorted};
+ghost use Rattle.bt_run.specs.ReadCommand.{list_order};
+
+use bt_actions::Entry;
+use bt_text::Sequence;
+use std::alloc::{AllocError, Global};
+
+/// The key of an entry: its text `sort.key$`, which is the first of its texts.
+fn sort_key(entry: &Entry) -> &[u8]
+    ensures { result.now ≡ sort_key entry.now }
+{
+    match entry.variables.texts.get(0) {
+        Some(key) => key.as_slice(),
+        None => b"",
+    }
+}
+
+/// The keys of the entries, each with its entry's place, in list order.
+fn keyed_places(alloc: Global, entries: &[Entry]) -> Result<Vec<(&[u8], usize)>, AllocError>
+    ensures places { IfOk result (λ keyed. map (λ k. k.1) keyed.items ≡ list_order entries.now) }
+    ensures keys { IfOk result (λ keyed. All (λ k. k.0.now ≡ key_at entries.now k.1) keyed.items) }
+{
+    let mut keyed = Vec::new(alloc);
+    'entries: for (place, entry) in entries.iter().enumerate() {
+        keyed.push((sort_key(entry), place))?;
+    }
+    Ok(keyed)
+}
+
+/// The places alone.
+fn places_of(alloc: Global, keyed: &[(&[u8], usize)]) -> Result<Sequence<usize>, AllocError>
+    ensures { IfOk result (λ places. places ≡ map (λ k. k.1) keyed.now) }
+{
+    let mut places = Sequence::new(alloc);
+    'keyed: for (_, place) in keyed {
+        places.push(*place)?;
+    }
+    Ok(places)
+}
+
+/// The places of the entries in the order of their sort keys; those whose keys are equal stand in list order.
+pub fn sorted_places(alloc: Global, entries: &[Entry]) -> Result<Sequence<usize>, AllocError>
+    ensures { IfOk result (λ order. order ≡ sorted (key_at entries.now) (list_order entries.now)) }
+{
+    let mut keyed = keyed_places(alloc, entries)?;
+    keyed.sort()?;
+    let order = places_of(alloc, keyed.as_slice())?;
+    Ok(order)
+}

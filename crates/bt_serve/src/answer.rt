@@ -1,0 +1,263 @@
+//! One request of the loop: reads its bytes, carries it out and writes its answer.
+
+ghost use Rattle.std.specs.Prelude.{◌≡◌, ◌+◌, ◌-◌, ◌^◌, ◌<◌, ◌≤◌, [], length, codes, IfOk, OnOk, OnErr, Err, true, false};
+ghost use Rattle.std.specs.Io.KnownBytes.{Appends};
+ghost use Rattle.bibtex.specs.Changes.{change_of};
+ghost use Rattle.bt_serve.specs.inner.Asked.{request_seen};
+ghost use Rattle.bt_serve.specs.Commands.{edit, code_of, number_line, text_answer, answer_of, ends, accepted, refused};
+ghost use Rattle.bt_serve.specs.inner.Commands.{IsShown};
+ghost use Rattle.bt_serve.specs.inner.Serves.{Takes, taken_text, Replies};
+ghost use Rattle.bt_serve.specs.Writes.{AppendsPart};
+ghost use Rattle.bt_serve.specs.Faults.{HandsOn};
+
+use crate::command::Request;
+use crate::fault::ServeFault;
+use crate::input::{drop_bytes, read_bytes};
+use crate::output::say;
+use crate::streams::{Sink, Source, StreamFailed};
+use bibtex::{Change, FILE_BYTES, Refusal, Report, Session};
+use itoa::Buffer;
+use std::alloc::{AllocError, Global};
+
+/// Reads the bytes that an edit brings, and makes the edit.
+fn take_edit<S: Source>(
+    alloc: Global,
+    source: &mut S,
+    session: &mut Session,
+    change: Change<'_>,
+    count: usize,
+) -> Result<Result<Report, Refusal>, ServeFault>
+    requires { S.failure_count source.old < 2 ^ 64 - 1 }
+    ensures takes { Takes (change_of change.entry) count (S.remaining source.old) (S.remaining source.new)
+        session.old session.new result }
+    ensures lowers { S.reads_left source.new ≤ S.reads_left source.old }
+    ensures ok { OnOk result (S.failure_count source.new ≡ S.failure_count source.old) }
+    ensures read_failed { result ≡ Err ServeFault.ReadFailed →
+        S.failure_count source.new ≡ S.failure_count source.old + 1 }
+{
+    let Ok(mut bytes) = room(alloc, count) else {
+        let refusal = session.refusal(change, count);
+        return match drop_bytes(source, count) {
+            Err(_) => Err(ServeFault::ReadFailed),
+            Ok(false) => Err(ServeFault::Truncated),
+            Ok(true) => Ok(Err(refusal.unwrap_or(Refusal::OutOfMemory))),
+        };
+    };
+    match read_bytes(source, &mut bytes) {
+        Err(_) => Err(ServeFault::ReadFailed),
+        Ok(false) => Err(ServeFault::Truncated),
+        Ok(true) => Ok(session.edit(change.with(&bytes))),
+    }
+}
+
+/// Room for `count` bytes of an edit, if an edit may bring that many.
+fn room(alloc: Global, count: usize) -> Result<Vec<u8>, AllocError>
+    ensures { IfOk result (λ bytes. length bytes.items ≡ count) }
+{
+    if count > FILE_BYTES {
+        return Err(AllocError);
+    }
+    vec![in alloc; 0; count]
+}
+
+/// Answers an edit, whose bytes are next in the source. It isn't the last command.
+fn answer_edit<S: Source, K: Sink>(
+    alloc: Global,
+    source: &mut S,
+    sink: &mut K,
+    session: &mut Session,
+    change: Change<'_>,
+    count: usize,
+) -> Result<bool, ServeFault>
+    requires reads { S.failure_count source.old < 2 ^ 64 - 1 }
+    requires writes { K.failure_count sink.old < 2 ^ 64 - 1 }
+    ensures replies { Replies (edit (change_of change.entry) count) (S.remaining source.old) (S.remaining source.new)
+        (K.contents sink.old) (K.contents sink.new) session.old session.new result }
+    ensures lowers { S.reads_left source.new ≤ S.reads_left source.old }
+    ensures reads { OnOk result (S.failure_count source.new ≡ S.failure_count source.old) }
+    ensures writes { OnOk result (K.failure_count sink.new ≡ K.failure_count sink.old) }
+    ensures read_failed { result ≡ Err ServeFault.ReadFailed →
+        S.failure_count source.new ≡ S.failure_count source.old + 1 }
+    ensures write_failed { result ≡ Err ServeFault.WriteFailed →
+        K.failure_count sink.new ≡ K.failure_count sink.old + 1 }
+    ensures flushed { HandsOn (K.is_flushed sink.old) (K.is_flushed sink.new) result }
+{
+    let taken = take_edit(alloc, source, session, change, count)?;
+    match say_taken(sink, taken) {
+        Ok(()) => Ok(false),
+        Err(_) => Err(ServeFault::WriteFailed),
+    }
+}
+
+/// Answers a request, whose bytes are next in the source, and says whether it was the last one.
+pub fn answer_request<S: Source, K: Sink>(
+    alloc: Global,
+    source: &mut S,
+    sink: &mut K,
+    session: &mut Session,
+    request: Request<'_>,
+) -> Result<bool, ServeFault>
+    requires reads { S.failure_count source.old < 2 ^ 64 - 1 }
+    requires writes { K.failure_count sink.old < 2 ^ 64 - 1 }
+    ensures replies { Replies (request_seen request.entry) (S.remaining source.old) (S.remaining source.new)
+        (K.contents sink.old) (K.contents sink.new) session.old session.new result }
+    ensures lowers { S.reads_left source.new ≤ S.reads_left source.old }
+    ensures reads { OnOk result (S.failure_count source.new ≡ S.failure_count source.old) }
+    ensures writes { OnOk result (K.failure_count sink.new ≡ K.failure_count sink.old) }
+    ensures read_failed { result ≡ Err ServeFault.ReadFailed →
+        S.failure_count source.new ≡ S.failure_count source.old + 1 }
+    ensures write_failed { result ≡ Err ServeFault.WriteFailed →
+        K.failure_count sink.new ≡ K.failure_count sink.old + 1 }
+    ensures flushed { HandsOn (K.is_flushed sink.old) (K.is_flushed sink.new) result }
+{
+    match request {
+        Request::Edit(change, count) => answer_edit(alloc, source, sink, session, change, count),
+        _ => match say_shown(sink, session, request) {
+            Ok(last) => Ok(last),
+            Err(_) => Err(ServeFault::WriteFailed),
+        },
+    }
+}
+
+/// Reports that an edit was accepted, with its report.
+fn say_accepted<K: Sink>(sink: &mut K, report: Report) -> Result<(), StreamFailed>
+    requires { K.failure_count sink.old < 2 ^ 64 - 1 }
+    ensures all { OnOk result (Appends (K.contents sink.old) (K.contents sink.new) (accepted report)) }
+    ensures part { OnErr result (AppendsPart (K.contents sink.old) (K.contents sink.new) (accepted report)) }
+    ensures ok { OnOk result (K.failure_count sink.new ≡ K.failure_count sink.old) }
+    ensures err { OnErr result (K.failure_count sink.new ≡ K.failure_count sink.old + 1) }
+    ensures flushed { OnOk result (K.is_flushed sink.new ≡ true) }
+{
+    let mut status = Buffer::new();
+    let mut ran = Buffer::new();
+    let mut reused = Buffer::new();
+    let mut ticks = Buffer::new();
+    let status = status.format(report.status).as_bytes();
+    let ran = ran.format(report.ran).as_bytes();
+    let reused = reused.format(report.reused).as_bytes();
+    let ticks = ticks.format(report.ticks).as_bytes();
+    say(
+        sink,
+        &[b"ok ", status, b" ", ran, b" ", reused, b" ", ticks, b"\n"],
+    )
+}
+
+/// Writes why an edit was refused.
+fn say_refused<K: Sink>(sink: &mut K, refusal: Refusal) -> Result<(), StreamFailed>
+    requires { K.failure_count sink.old < 2 ^ 64 - 1 }
+    ensures all { OnOk result (Appends (K.contents sink.old) (K.contents sink.new) (refused refusal)) }
+    ensures part { OnErr result (AppendsPart (K.contents sink.old) (K.contents sink.new) (refused refusal)) }
+    ensures ok { OnOk result (K.failure_count sink.new ≡ K.failure_count sink.old) }
+    ensures err { OnErr result (K.failure_count sink.new ≡ K.failure_count sink.old + 1) }
+    ensures flushed { OnOk result (K.is_flushed sink.new ≡ true) }
+{
+    let mut code = Buffer::new();
+    let code = code.format(code_of(refusal)).as_bytes();
+    say(sink, &[b"refused ", code, b"\n"])
+}
+
+/// Writes how an edit ended.
+fn say_taken<K: Sink>(sink: &mut K, taken: Result<Report, Refusal>) -> Result<(), StreamFailed>
+    requires { K.failure_count sink.old < 2 ^ 64 - 1 }
+    ensures all { OnOk result (Appends (K.contents sink.old) (K.contents sink.new) (taken_text taken)) }
+    ensures part { OnErr result (AppendsPart (K.contents sink.old) (K.contents sink.new) (taken_text taken)) }
+    ensures ok { OnOk result (K.failure_count sink.new ≡ K.failure_count sink.old) }
+    ensures err { OnErr result (K.failure_count sink.new ≡ K.failure_count sink.old + 1) }
+    ensures flushed { OnOk result (K.is_flushed sink.new ≡ true) }
+{
+    match taken {
+        Ok(report) => say_accepted(sink, report),
+        Err(refusal) => say_refused(sink, refusal),
+    }
+}
+
+/// Writes a status.
+fn say_status<K: Sink>(sink: &mut K, status: u8) -> Result<(), StreamFailed>
+    requires { K.failure_count sink.old < 2 ^ 64 - 1 }
+    ensures all { OnOk result (Appends (K.contents sink.old) (K.contents sink.new)
+        (number_line (codes "status ") status)) }
+    ensures part { OnErr result (AppendsPart (K.contents sink.old) (K.contents sink.new)
+        (number_line (codes "status ") status)) }
+    ensures ok { OnOk result (K.failure_count sink.new ≡ K.failure_count sink.old) }
+    ensures err { OnErr result (K.failure_count sink.new ≡ K.failure_count sink.old + 1) }
+    ensures flushed { OnOk result (K.is_flushed sink.new ≡ true) }
+{
+    let mut number = Buffer::new();
+    let number = number.format(status).as_bytes();
+    say(sink, &[b"status ", number, b"\n"])
+}
+
+/// Writes a text, after a word and the number of its bytes.
+fn say_text<K: Sink>(sink: &mut K, word: &[u8], text: &[u8]) -> Result<(), StreamFailed>
+    requires { K.failure_count sink.old < 2 ^ 64 - 1 }
+    ensures all { OnOk result (Appends (K.contents sink.old) (K.contents sink.new) (text_answer word.now text.now)) }
+    ensures part { OnErr result (AppendsPart (K.contents sink.old) (K.contents sink.new)
+        (text_answer word.now text.now)) }
+    ensures ok { OnOk result (K.failure_count sink.new ≡ K.failure_count sink.old) }
+    ensures err { OnErr result (K.failure_count sink.new ≡ K.failure_count sink.old + 1) }
+    ensures flushed { OnOk result (K.is_flushed sink.new ≡ true) }
+{
+    let mut size = Buffer::new();
+    let size = size.format(text.len()).as_bytes();
+    say(sink, &[word, size, b"\n", text])
+}
+
+/// Answers a request that changes nothing, and says whether it was the last one.
+fn say_shown<K: Sink>(
+    sink: &mut K,
+    session: &Session,
+    request: Request<'_>,
+) -> Result<bool, StreamFailed>
+    requires few { K.failure_count sink.old < 2 ^ 64 - 1 }
+    requires shown { IsShown (request_seen request) }
+    ensures all { OnOk result (Appends (K.contents sink.old) (K.contents sink.new)
+        (answer_of false session.now (request_seen request.entry) [])) }
+    ensures last { IfOk result (λ last. last ≡ ends (request_seen request.entry)) }
+    ensures part { OnErr result (AppendsPart (K.contents sink.old) (K.contents sink.new)
+        (answer_of false session.now (request_seen request.entry) [])) }
+    ensures ok { OnOk result (K.failure_count sink.new ≡ K.failure_count sink.old) }
+    ensures err { OnErr result (K.failure_count sink.new ≡ K.failure_count sink.old + 1) }
+    ensures flushed { OnOk result (K.is_flushed sink.new ≡ true) }
+{
+    match request {
+        Request::Edit(_, _) => unreachable!(),
+        Request::Bbl => {
+            say_text(sink, b"bbl ", session.bbl())?;
+            Ok(false)
+        }
+        Request::Blg => {
+            say_text(sink, b"blg ", session.blg())?;
+            Ok(false)
+        }
+        Request::Status => {
+            say_status(sink, session.status())?;
+            Ok(false)
+        }
+        Request::Quit => {
+            say(sink, &[b"bye\n"])?;
+            Ok(true)
+        }
+        Request::Unreadable => {
+            say(sink, &[b"fault 1\n"])?;
+            Ok(false)
+        }
+        Request::TooLong => {
+            say(sink, &[b"fault 2\n"])?;
+            Ok(false)
+        }
+    }
+}
+
+/// The number of a refusal, as an answer has it.
+pub fn code_of(refusal: Refusal) -> u8
+    ensures { result ≡ code_of refusal }
+{
+    match refusal {
+        Refusal::BadName => 1,
+        Refusal::NoSuchFile => 2,
+        Refusal::RangeOutside => 3,
+        Refusal::FileTooLarge => 4,
+        Refusal::TooManyFiles => 5,
+        Refusal::OutOfMemory => 6,
+    }
+}

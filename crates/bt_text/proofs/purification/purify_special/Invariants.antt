@@ -1,0 +1,10 @@
+use Rattle.std.proofs.Common.{◌≡◌, ◌++◌, length, flat_map}
+use Rattle.bt_text.specs.Purification.{purified_symbol}
+use Rattle.bt_text.specs.Special.{symbols}
+use Rattle.bt_text.proofs.purification.purify_special.Given as goal
+
+abbrev pub invariant-loop-rest : goal.invariant-loop-rest
+invariant-loop-rest l = l.out.items ++ flat_map purified_symbol (symbols l.rest) ≡ l.initial.out.items ++ flat_map purified_symbol (symbols l.text)
+
+abbrev pub decreases-loop-rest : goal.decreases-loop-rest
+decreases-loop-rest l = length l.rest

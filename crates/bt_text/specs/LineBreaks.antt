@@ -1,0 +1,58 @@
+-- How a long text is broken into lines.
+use Rattle.std.specs.Prelude.{ℕ, zero, suc, ◌+◌, ◌-◌, nat_le, nat_lt, if◌then◌else◌, List, [], ◌∷◌, ◌++◌, length, take, drop, slice_index, Option, None, Some, filter}
+use Rattle.std.specs.List.{last_or, range_with_len, position_or_len, prefix_len}
+use Rattle.bt_text.specs.declared.output.Output.{Output}
+use Rattle.bt_text.specs.ByteTests.{is_white, space}
+use Rattle.bt_text.specs.White.{trimmed_end}
+
+-- how many bytes a line has at most, where it can be broken
+abbrev pub line_width : ℕ
+line_width = 79
+
+-- the first place at which a line may be broken
+abbrev pub first_break : ℕ
+first_break = 3
+
+-- the greatest of the places 3 to 79 that holds white space
+unfoldable pub near_break : List ℕ → Option ℕ
+near_break t =
+    last_or None (filter (λ i. is_white (slice_index t i)) (range_with_len first_break (line_width + 1 - first_break)))
+
+-- the last byte of the first run of white space that begins at place i or after it
+abbrev pub run_end : List ℕ → ℕ → Option ℕ
+run_end t i =
+    let start = i + position_or_len is_white (drop i t) in
+    if nat_lt start (length t) then Some (start + prefix_len is_white (drop start t) - 1) else None
+
+abbrev pub or_else : Option ℕ → Option ℕ → Option ℕ
+or_else (Some i) other = Some i
+or_else None other = other
+
+-- where a text of more than 79 bytes is broken
+abbrev pub break_place : List ℕ → Option ℕ
+break_place t = if nat_le (length t) line_width then None else or_else (near_break t) (run_end t (line_width + 1))
+
+-- A line is written, unless nothing is left of it.
+abbrev pub unless_empty : List ℕ → List (List ℕ)
+unless_empty [] = []
+unless_empty (b ∷ t) = (b ∷ t) ∷ []
+
+-- A line loses the white space at its end.
+abbrev pub line_unless_empty : List ℕ → List (List ℕ)
+line_unless_empty t = unless_empty (trimmed_end t)
+
+-- The text before the break place is a line, and two spaces and what stands after it are broken in turn.
+abbrev pub broken_at : Option ℕ → List ℕ → (List ℕ → Output) → Output
+broken_at None t again = record { lines = []; held = t }
+broken_at (Some i) t again =
+    let b = again (space ∷ space ∷ drop (i + 1) t) in
+    record { lines = line_unless_empty (take i t) ++ b.lines; held = b.held }
+
+-- at most n breaks
+abbrev pub broken_within : ℕ → List ℕ → Output
+broken_within zero t = record { lines = []; held = t }
+broken_within (suc n) t = broken_at (break_place t) t (broken_within n)
+
+-- Each break makes a text shorter, so it has fewer breaks than bytes.
+abbrev pub broken : List ℕ → Output
+broken t = broken_within (length t) t
