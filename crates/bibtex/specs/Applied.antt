@@ -109,3 +109,25 @@ IsAnswer (Err refusal) result = result ≡ Err refusal
 abbrev pub IsNew : {A : Type 0} → Bool → Result A Refusal → Type 0
 IsNew true result = IfErr result (λ refusal. refusal ≡ OutOfMemory)
 IsNew false result = IfErr result (λ refusal. refusal ≡ BadName) × IsErr result
+
+-- What is said of it, and what stays
+
+-- the number of a refusal
+abbrev pub code_of : Refusal → ℕ
+code_of BadName = 1
+code_of NoSuchFile = 2
+code_of RangeOutside = 3
+code_of FileTooLarge = 4
+code_of TooManyFiles = 5
+code_of OutOfMemory = 6
+
+-- the state after an edit of this outcome
+abbrev pub state_or : State → Result State Refusal → State
+state_or old (Ok state) = state
+state_or old (Err refusal) = old
+
+-- what becomes of an edit whose outcome is this, where the truth value says whether it is out of memory
+abbrev pub unless_out_of_memory : Bool → Result State Refusal → Result State Refusal
+unless_out_of_memory false made = made
+unless_out_of_memory true (Ok state) = Err OutOfMemory
+unless_out_of_memory true (Err refusal) = Err refusal

@@ -19,5 +19,5 @@ pub use draft::Draft;
 pub use edit::{Change, Edit, Refusal};
 pub use edits::edit_all;
 pub use laws::{names_stand_once, order_is_never_seen};
-pub use refusal::{FILE_BYTES, FILE_LIMIT, is_root_name};
+pub use refusal::{FILE_BYTES, FILE_LIMIT, code_of, is_root_name};
 pub use session::Session;

@@ -3,7 +3,7 @@
 ghost use Rattle.std.specs.Prelude.{◌≡◌, length};
 ghost use Rattle.std.specs.Option.{option_map};
 ghost use Rattle.bibtex.specs.Present.{is_root_name};
-ghost use Rattle.bibtex.specs.Applied.{write_refusal, range_refusal, splice_refusal, remove_refusal, root_refusal};
+ghost use Rattle.bibtex.specs.Applied.{write_refusal, range_refusal, splice_refusal, remove_refusal, root_refusal, code_of};
 
 use crate::changes::place_of;
 use crate::edit::Refusal;
@@ -95,5 +95,20 @@ pub fn root_refusal(root: &[u8]) -> Option<Refusal>
         None
     } else {
         Some(Refusal::BadName)
+    }
+}
+
+/// The number of a refusal, as the answers of the command loop and the lines of the one-shot form have it: 1 to 6, in
+/// the order of the cases.
+pub fn code_of(refusal: Refusal) -> u8
+    ensures { result ≡ code_of refusal }
+{
+    match refusal {
+        Refusal::BadName => 1,
+        Refusal::NoSuchFile => 2,
+        Refusal::RangeOutside => 3,
+        Refusal::FileTooLarge => 4,
+        Refusal::TooManyFiles => 5,
+        Refusal::OutOfMemory => 6,
     }
 }

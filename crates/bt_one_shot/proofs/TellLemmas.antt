@@ -1,8 +1,8 @@
 -- What is reported on a sink, one text after another.
 use Rattle.std.proofs.Common.{◌≡◌, inl, inr, true, ℕ, ◌+◌, List, [], ◌++◌, append_assoc, append-nil, ap, sym, ◌∙◌, subst, refl, arith, Option, None, Some, Result, Ok, Err, OnOk, OnErr}
 use Rattle.std.specs.Io.KnownBytes.{Appends}
-use Rattle.bt_serve.specs.Writes.{AppendsPart}
-use Rattle.bt_serve.proofs.WriteLemmas.{appends_more, part_behind}
+use Rattle.bt_streams.specs.Writes.{AppendsPart}
+use Rattle.bt_streams.proofs.WriteLemmas.{appends_more, part_behind}
 use Rattle.bt_one_shot.specs.Sinks.{Sunk, Tells}
 use Rattle.bt_one_shot.specs.inner.Sinks.{GoesOn}
 

@@ -6,8 +6,7 @@ use Rattle.bibtex.specs.declared.edit.Refusal.TheVariants.{OutOfMemory}
 use Rattle.bibtex.specs.declared.state.State.{State}
 use Rattle.bibtex.specs.Present.{shown}
 use Rattle.bibtex.specs.Changes.{write}
-use Rattle.bibtex.specs.Applied.{outcome}
-use Rattle.bt_serve.specs.Commands.{code_of, state_or, unless_out_of_memory}
+use Rattle.bibtex.specs.Applied.{outcome, code_of, state_or, unless_out_of_memory}
 use Rattle.bt_one_shot.specs.declared.folder.Found.{Found}
 use Rattle.bt_one_shot.specs.declared.folder.Found.TheVariants as found
 use Rattle.bt_one_shot.specs.Folders.{Contents, Finds, looked_up}

@@ -1,7 +1,7 @@
 -- What is reported on a sink.
 use Rattle.std.specs.Prelude.{◌≡◌, ◌⊎◌, ◌+◌, ℕ, Bool, true, List, Option}
 use Rattle.std.specs.Io.KnownBytes.{Appends}
-use Rattle.bt_serve.specs.Writes.{AppendsPart}
+use Rattle.bt_streams.specs.Writes.{AppendsPart}
 
 -- what is seen of a sink: what was written to it, where it shows that, how often it failed, and whether all was handed
 -- on

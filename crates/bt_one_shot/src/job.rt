@@ -10,7 +10,7 @@ use crate::job_files::{load_all, tell};
 use crate::met_names::NamesMet;
 use crate::options::Options;
 use bibtex::{Draft, Session};
-use bt_serve::{Sink, say};
+use bt_streams::{Sink, say};
 use bt_text::Bytes;
 use std::alloc::{AllocError, Global};
 use std::mem::forget;

@@ -9,8 +9,8 @@ ghost use Rattle.bt_one_shot.specs.inner.Progress.{TakesIn, LooksUpName, Goes};
 
 use crate::folder::{Folder, Found};
 use crate::met_names::NamesMet;
-use bibtex::{Draft, Edit, Refusal};
-use bt_serve::{Sink, code_of, say};
+use bibtex::{Draft, Edit, Refusal, code_of};
+use bt_streams::{Sink, say};
 use bt_text::Bytes;
 use itoa::Buffer;
 use std::alloc::{AllocError, Global};

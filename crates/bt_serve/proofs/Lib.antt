@@ -1,5 +1,4 @@
 pub mod ReadLemmas
-pub mod WriteLemmas
 pub mod WordLemmas
 pub mod TakenLemmas
 pub mod TurnLemmas

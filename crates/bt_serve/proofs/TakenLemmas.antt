@@ -5,8 +5,8 @@ use Rattle.bibtex.specs.declared.edit.Refusal.{Refusal}
 use Rattle.bibtex.specs.declared.edit.Refusal.TheVariants.{OutOfMemory}
 use Rattle.bibtex.specs.declared.state.State.{State}
 use Rattle.bibtex.specs.Changes.{Change}
-use Rattle.bibtex.specs.Applied.{outcome, refusal_of, changed, unless_refused, IsAnswer}
-use Rattle.bt_serve.specs.Commands.{edit, edit_answer, state_or, unless_out_of_memory, accepted, refused}
+use Rattle.bibtex.specs.Applied.{outcome, refusal_of, changed, unless_refused, IsAnswer, state_or, unless_out_of_memory}
+use Rattle.bt_serve.specs.Commands.{edit, edit_answer, accepted, refused}
 use Rattle.bt_serve.specs.inner.Serves.{Takes, Does, taken_text}
 
 -- What answers an edit whose bytes found no room.

@@ -3,11 +3,11 @@ use Rattle.std.specs.Prelude.{◌≡◌, ℕ, ◌+◌, ◌*◌, ◌-◌, Bool, t
 use Rattle.std.specs.List.{list_all, slice_split}
 use Rattle.bt_run.specs.declared.answers.Report.{Report}
 use Rattle.bibtex.specs.declared.edit.Refusal.{Refusal}
-use Rattle.bibtex.specs.declared.edit.Refusal.TheVariants.{BadName, NoSuchFile, RangeOutside, FileTooLarge, TooManyFiles, OutOfMemory}
+use Rattle.bibtex.specs.declared.edit.Refusal.TheVariants.{OutOfMemory}
 use Rattle.bibtex.specs.declared.state.State.{State}
 use Rattle.bibtex.specs.Present.{shown, reported}
 use Rattle.bibtex.specs.Changes.{Change, write, splice, remove, root_name, min_crossrefs}
-use Rattle.bibtex.specs.Applied.{outcome}
+use Rattle.bibtex.specs.Applied.{outcome, code_of, state_or, unless_out_of_memory}
 
 -- what a line asks for
 pub data Request : Type 0 where
@@ -102,15 +102,6 @@ bytes_brought _ = 0
 
 -- What is answered
 
--- the number of a refusal
-abbrev pub code_of : Refusal → ℕ
-code_of BadName = 1
-code_of NoSuchFile = 2
-code_of RangeOutside = 3
-code_of FileTooLarge = 4
-code_of TooManyFiles = 5
-code_of OutOfMemory = 6
-
 -- the answer to an edit that was accepted with this report
 abbrev pub accepted : Report → List ℕ
 accepted r =
@@ -125,17 +116,6 @@ refused refusal = codes "refused " ++ (decimal (code_of refusal) ++ codes "\n")
 abbrev pub edit_answer : State → Result State Refusal → List ℕ
 edit_answer old (Ok state) = accepted (reported old state)
 edit_answer old (Err refusal) = refused refusal
-
--- the state after an edit of this outcome
-abbrev pub state_or : State → Result State Refusal → State
-state_or old (Ok state) = state
-state_or old (Err refusal) = old
-
--- what becomes of an edit whose outcome is this, where the truth value says whether it is out of memory
-abbrev pub unless_out_of_memory : Bool → Result State Refusal → Result State Refusal
-unless_out_of_memory false made = made
-unless_out_of_memory true (Ok state) = Err OutOfMemory
-unless_out_of_memory true (Err refusal) = Err refusal
 
 -- a line of a word and a number
 abbrev pub number_line : List ℕ → ℕ → List ℕ

@@ -1,6 +1,5 @@
 pub mod Faults
 pub mod Reads
-pub mod Writes
 pub mod Commands
 pub mod Serves
 pub mod Whole

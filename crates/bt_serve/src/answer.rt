@@ -4,18 +4,17 @@ ghost use Rattle.std.specs.Prelude.{◌≡◌, ◌+◌, ◌-◌, ◌^◌, ◌<�
 ghost use Rattle.std.specs.Io.KnownBytes.{Appends};
 ghost use Rattle.bibtex.specs.Changes.{change_of};
 ghost use Rattle.bt_serve.specs.inner.Asked.{request_seen};
-ghost use Rattle.bt_serve.specs.Commands.{edit, code_of, number_line, text_answer, answer_of, ends, accepted, refused};
+ghost use Rattle.bt_serve.specs.Commands.{edit, number_line, text_answer, answer_of, ends, accepted, refused};
 ghost use Rattle.bt_serve.specs.inner.Commands.{IsShown};
 ghost use Rattle.bt_serve.specs.inner.Serves.{Takes, taken_text, Replies};
-ghost use Rattle.bt_serve.specs.Writes.{AppendsPart};
+ghost use Rattle.bt_streams.specs.Writes.{AppendsPart};
 ghost use Rattle.bt_serve.specs.Faults.{HandsOn};
 
 use crate::command::Request;
 use crate::fault::ServeFault;
 use crate::input::{drop_bytes, read_bytes};
-use crate::output::say;
-use crate::streams::{Sink, Source, StreamFailed};
-use bibtex::{Change, FILE_BYTES, Refusal, Report, Session};
+use bibtex::{Change, FILE_BYTES, Refusal, Report, Session, code_of};
+use bt_streams::{Sink, Source, StreamFailed, say};
 use itoa::Buffer;
 use std::alloc::{AllocError, Global};
 
@@ -245,19 +244,5 @@ fn say_shown<K: Sink>(
             say(sink, &[b"fault 2\n"])?;
             Ok(false)
         }
-    }
-}
-
-/// The number of a refusal, as an answer has it.
-pub fn code_of(refusal: Refusal) -> u8
-    ensures { result ≡ code_of refusal }
-{
-    match refusal {
-        Refusal::BadName => 1,
-        Refusal::NoSuchFile => 2,
-        Refusal::RangeOutside => 3,
-        Refusal::FileTooLarge => 4,
-        Refusal::TooManyFiles => 5,
-        Refusal::OutOfMemory => 6,
     }
 }

@@ -5,7 +5,7 @@ ghost use Rattle.std.specs.Io.KnownBytes.{Consumes, Keeps};
 ghost use Rattle.bt_serve.specs.Reads.{HasNoFeed};
 ghost use Rattle.bt_serve.specs.inner.Reads.{ReadsByte, ReadsLine, ReadsPart, SkipsLine, ReadsAll, ReadsBelow, DropsAll};
 
-use crate::streams::{Source, StreamFailed};
+use bt_streams::{Source, StreamFailed};
 
 /// What a line is followed by.
 #[derive(Clone, Copy)]

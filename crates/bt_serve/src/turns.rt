@@ -11,8 +11,8 @@ use crate::answer::answer_request;
 use crate::command::{Request, parse};
 use crate::fault::ServeFault;
 use crate::input::{LineEnd, read_line, skip_line};
-use crate::streams::{Sink, Source};
 use bibtex::Session;
+use bt_streams::{Sink, Source};
 use std::alloc::Global;
 
 /// Reads the next command and answers it. Says whether it was the last one.

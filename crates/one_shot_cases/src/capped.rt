@@ -2,7 +2,7 @@
 
 ghost use Rattle.std.specs.Prelude.{◌≡◌, Some};
 
-use bt_serve::{Sink, StreamFailed};
+use bt_streams::{Sink, StreamFailed};
 use std::alloc::Global;
 
 /// Keeps what it gets, up to so many bytes, and then fails.

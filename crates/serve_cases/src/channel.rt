@@ -2,7 +2,7 @@
 
 ghost use Rattle.std.specs.Prelude.{◌≡◌, ◌<◌, ◌≤◌, Some};
 
-use bt_serve::{Sink, Source, StreamFailed};
+use bt_streams::{Sink, Source, StreamFailed};
 use std::alloc::Global;
 use std::cell::Cell;
 

@@ -6,7 +6,7 @@ use Rattle.bt_one_shot.specs.declared.folder.Found.{Found}
 use Rattle.bt_one_shot.specs.Folders.{Seen, Finds, looked_up, LooksUp}
 use Rattle.bt_one_shot.specs.Sinks.{Sunk}
 use Rattle.bt_one_shot.specs.inner.Sinks.{GoesOn}
-use Rattle.bt_serve.specs.Commands.{state_or}
+use Rattle.bibtex.specs.Applied.{state_or}
 use Rattle.bt_one_shot.specs.JobFiles.{LookedUp, name_of, taken_found, after_files, refusal_line, refusal_lines, InOrder, all_looked_up}
 
 -- What was found under a name is taken into a state, which is said, or it is refused.

@@ -1,6 +1,6 @@
 use Rattle.std.proofs.Common.{◌≡◌, ◌∙◌, ap, sym, codes, ℕ, List, ◌++◌}
 use Rattle.bibtex.specs.Present.{no_texts}
-use Rattle.bt_serve.proofs.WriteLemmas.{on_err_any}
+use Rattle.bt_streams.proofs.WriteLemmas.{on_err_any}
 use Rattle.bt_one_shot.proofs.LoadLemmas.{goes_root}
 use Rattle.bt_one_shot.proofs.ShotLemmas.{stops_behind, runs_behind}
 use Rattle.bt_one_shot.proofs.job.one_shot.Goals as goal

@@ -1,7 +1,7 @@
 use Rattle.std.proofs.Common.{◌∙◌, ap, sym, subst, Result}
 use Rattle.bibtex.specs.declared.edit.Refusal.{Refusal}
 use Rattle.bibtex.specs.declared.state.State.{State}
-use Rattle.bt_serve.specs.Commands.{state_or}
+use Rattle.bibtex.specs.Applied.{state_or}
 use Rattle.bt_one_shot.specs.Sinks.{sunk}
 use Rattle.bt_one_shot.specs.inner.Sinks.{GoesOn}
 use Rattle.bt_one_shot.specs.JobFiles.{refusal_line}

@@ -1,6 +1,6 @@
 use Rattle.std.proofs.Common.{ℕ, List, arith, Bor}
-use Rattle.bt_serve.proofs.WriteLemmas.{part_behind, on_err_any, flat_map_at}
-use Rattle.bt_serve.proofs.output.write_pieces.Goals as goal
+use Rattle.bt_streams.proofs.WriteLemmas.{part_behind, on_err_any, flat_map_at}
+use Rattle.bt_streams.proofs.output.write_pieces.Goals as goal
 
 pub returns-in_err-write_all-clause-part : goal.returns-in_err-write_all-clause-part
 returns-in_err-write_all-clause-part g c =

@@ -1,8 +1,8 @@
 use Rattle.std.proofs.Common.{◌≡◌, ◌-◌, sym, length, take, drop, arith, length-drop}
 use Rattle.std.proofs.lemmas.List.{take-append-drop}
 use Rattle.std.proofs.Math.Seq.{take-add, take-length}
-use Rattle.bt_serve.proofs.WriteLemmas.{appends_more, part_kept, on_err_any}
-use Rattle.bt_serve.proofs.output.write_all.Goals as goal
+use Rattle.bt_streams.proofs.WriteLemmas.{appends_more, part_kept, on_err_any}
+use Rattle.bt_streams.proofs.output.write_all.Goals as goal
 
 pub returns-in_err-written-clause-part : goal.returns-in_err-written-clause-part
 returns-in_err-written-clause-part g c =

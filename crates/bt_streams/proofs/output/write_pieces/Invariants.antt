@@ -1,7 +1,7 @@
 use Rattle.std.proofs.Common.{◌≡◌, take}
 use Rattle.std.specs.List.{flat_map}
 use Rattle.std.specs.Io.KnownBytes.{Appends}
-use Rattle.bt_serve.proofs.output.write_pieces.Given as goal
+use Rattle.bt_streams.proofs.output.write_pieces.Given as goal
 
 abbrev pub invariant-each : goal.invariant-each
 invariant-each g l =

@@ -3,7 +3,7 @@
 ghost use Rattle.std.specs.Prelude.{◌≡◌, ℕ, true, ◌+◌, ◌-◌, ◌^◌, ◌<◌, OnOk, OnErr};
 ghost use Rattle.std.specs.List.{flat_map};
 ghost use Rattle.std.specs.Io.KnownBytes.{Appends};
-ghost use Rattle.bt_serve.specs.Writes.{AppendsPart};
+ghost use Rattle.bt_streams.specs.Writes.{AppendsPart};
 
 use crate::streams::{Sink, StreamFailed};
 
