@@ -1,15 +1,13 @@
 //! Runs the command line and the one-shot form on cases, over a folder in memory, and tells what came of each.
 #![tactic(auto)]
 
-mod capped;
-mod memory;
 mod script;
 mod telling;
 
-use crate::memory::Memory;
-use crate::script::{Step, first_step};
+use crate::script::{Content, Step, first_step};
 use crate::telling::{show_faults, tell_options, tell_run};
 use anyhow::Result;
+use fakes::Memory;
 use std::alloc::{AllocError, Global};
 use std::io::{BufReader, Read};
 
@@ -23,6 +21,20 @@ fn words_of(alloc: Global, words: Option<&str>) -> Result<Vec<String>, AllocErro
         }
     }
     Ok(all)
+}
+
+/// Gives a folder what a step says of a name.
+fn give<'a>(
+    folder: &mut Memory<'a>,
+    name: &'a str,
+    content: Content<'a>,
+) -> Result<(), AllocError> {
+    match content {
+        Content::Bytes(bytes) => folder.give(name, bytes),
+        Content::Letters(count) => folder.give_letters(name, count),
+        Content::NoRoom => folder.deny_room(name),
+        Content::Unwritable => folder.seal(name),
+    }
 }
 
 fn main(rt: HostRuntime) -> Result<()> {
@@ -42,7 +54,7 @@ fn main(rt: HostRuntime) -> Result<()> {
                 folder = Memory::new(alloc);
                 (out, err) = (usize::MAX, usize::MAX);
             }
-            Step::File(name, content) => folder.give(name, content)?,
+            Step::File(name, content) => give(&mut folder, name, content)?,
             Step::Out(room) => out = room,
             Step::Err(room) => err = room,
             Step::Options(words) => tell_options(&rt, &words_of(alloc, words)?)?,

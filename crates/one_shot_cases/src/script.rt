@@ -1,5 +1,7 @@
 //! How cases are spelled: a step a line, its first word what it does.
 
+use fakes::{first_line, number};
+
 /// What a folder gives for a name.
 #[derive(Clone, Copy)]
 pub enum Content<'a> {
@@ -32,17 +34,10 @@ pub enum Step<'a> {
     Faults(Option<&'a str>),
 }
 
-/// The first line, and what is after it.
-fn first_line(input: &[u8]) -> Option<(&str, &[u8])> {
-    let end = input.iter().position(|byte| *byte == b'\n')?;
-    let line = str::from_utf8(input.get(..end)?).ok()?;
-    Some((line, input.get(end..)?.get(1..)?))
-}
-
 /// A file whose bytes follow its line.
 fn file_step<'a>(words: &'a str, behind: &'a [u8]) -> Option<(Step<'a>, &'a [u8])> {
     let (name, count) = words.split_once(' ')?;
-    let count = count.parse::<usize>().ok()?;
+    let count = number(count)?;
     let bytes = behind.get(..count)?;
     Some((
         Step::File(name, Content::Bytes(bytes)),
@@ -53,7 +48,7 @@ fn file_step<'a>(words: &'a str, behind: &'a [u8]) -> Option<(Step<'a>, &'a [u8]
 /// A file of letters.
 fn letters_step(words: &str) -> Option<Step<'_>> {
     let (name, count) = words.split_once(' ')?;
-    Some(Step::File(name, Content::Letters(count.parse::<usize>().ok()?)))
+    Some(Step::File(name, Content::Letters(number(count)?)))
 }
 
 /// A step that stands in its line alone.
@@ -63,8 +58,8 @@ fn line_step<'a>(word: &str, rest: Option<&'a str>) -> Option<Step<'a>> {
         ("letters", Some(words)) => letters_step(words),
         ("no_room", Some(name)) => Some(Step::File(name, Content::NoRoom)),
         ("unwritable", Some(name)) => Some(Step::File(name, Content::Unwritable)),
-        ("out", Some(count)) => Some(Step::Out(count.parse::<usize>().ok()?)),
-        ("err", Some(count)) => Some(Step::Err(count.parse::<usize>().ok()?)),
+        ("out", Some(count)) => Some(Step::Out(number(count)?)),
+        ("err", Some(count)) => Some(Step::Err(number(count)?)),
         ("options", words) => Some(Step::Options(words)),
         ("run", words) => Some(Step::Run(words)),
         ("faults", words) => Some(Step::Faults(words)),

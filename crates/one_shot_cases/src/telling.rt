@@ -3,10 +3,12 @@
 ghost use Rattle.std.specs.Prelude.{◌≡◌, ◌<◌, ◌^◌, ◌-◌, true};
 ghost use Rattle.bibtex.specs.Present.{is_root_name};
 
-use crate::capped::Capped;
-use crate::memory::Memory;
 use anyhow::Result;
 use bt_one_shot::{Folder, Options, OptionsFault, one_shot, parse_options};
+use bt_serve::Sink;
+use fakes::{Limits, Memory, Taker};
+use std::alloc::{AllocError, Global};
+use std::cell::Cell;
 
 /// Prints bytes after a title, and how many there are.
 fn tell_bytes(rt: &impl Print, title: &str, bytes: &[u8]) -> Result<()> {
@@ -55,6 +57,22 @@ pub fn tell_options(rt: &HostRuntime, words: &[String]) -> Result<()> {
     }
 }
 
+/// Runs a job over a folder and sinks of any kind: what is proved of that isn't used here, and would be dear to carry.
+fn run_job<F: Folder, O: Sink, E: Sink>(
+    alloc: Global,
+    options: &Options,
+    folder: &mut F,
+    out: &mut O,
+    err: &mut E,
+) -> Result<u8, AllocError>
+    requires root { is_root_name options.now.root ≡ true }
+    requires folder { (F.seen folder.old).failures < 2 ^ 64 - 1 }
+    requires out { O.failure_count out.old < 2 ^ 64 - 1 }
+    requires err { E.failure_count err.old < 2 ^ 64 - 1 }
+{
+    one_shot(alloc, options, folder, out, err)
+}
+
 /// Runs a job, and tells all that it read and wrote.
 fn run(
     rt: &HostRuntime,
@@ -66,13 +84,15 @@ fn run(
     requires folder { folder.old.failures < 2 ^ 64 - 1 }
 {
     let alloc = rt.alloc();
-    let (mut out, mut err) = (Capped::new(alloc, room.0), Capped::new(alloc, room.1));
-    let status = one_shot(alloc, options, folder, &mut out, &mut err)?;
+    let handed_on = Cell::new(0);
+    let mut out = Taker::new(alloc, Limits::writes_up_to(room.0), &handed_on);
+    let mut err = Taker::new(alloc, Limits::writes_up_to(room.1), &handed_on);
+    let status = run_job(alloc, options, folder, &mut out, &mut err)?;
     println!(rt; "exit {status}")?;
-    tell_bytes(rt, "read", folder.read.as_slice())?;
-    for put in folder.written() {
-        let name = str::from_utf8(put.name.as_slice()).unwrap_or("no text");
-        tell_bytes(rt, name, put.bytes.as_slice())?;
+    tell_bytes(rt, "read", folder.read_lines())?;
+    for file in folder.written() {
+        let name = str::from_utf8(file.name.as_slice()).unwrap_or("no text");
+        tell_bytes(rt, name, file.bytes.as_slice())?;
     }
     tell_bytes(rt, "out", out.bytes())?;
     tell_bytes(rt, "err", err.bytes())

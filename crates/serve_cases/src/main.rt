@@ -1,17 +1,16 @@
 //! Runs the command loop over sources and sinks that fail, or move few bytes at a time, and tells what came of it.
 #![tactic(auto)]
 
-mod channel;
 mod script;
 
 ghost use Rattle.std.specs.Prelude.{◌≡◌, ◌<◌, ◌-◌, ◌^◌};
 
-use crate::channel::{Giver, Limits, Taker};
 use crate::script::{Step, first_step};
 use anyhow::Result;
 use bibtex::{Refusal, Session};
 use bt_serve::{ServeFault, serve};
 use bt_streams::{Sink, Source, StreamFailed};
+use fakes::{Giver, Limits, Taker};
 use std::alloc::{AllocError, Global};
 use std::cell::Cell;
 use std::io::Read;
@@ -53,7 +52,7 @@ fn tell(
     }
     let text = str::from_utf8(sink.bytes()).unwrap_or("no text");
     println!(rt; "\n{} bytes written\n{text}", sink.bytes().len())?;
-    for count in source.notes.iter() {
+    for count in source.notes() {
         println!(rt; "{count} handed on")?;
     }
     Ok(())
@@ -168,9 +167,8 @@ impl Case {
     fn answer(&self, rt: &HostRuntime, step: Step<'_>) -> Result<()> {
         let limits = Limits {
             most: self.most,
-            read_fails: usize::MAX,
-            write_fails: usize::MAX,
             watched: self.watched.as_slice(),
+            ..Limits::none()
         };
         answer_as(rt, step, self.input.as_slice(), limits)
     }

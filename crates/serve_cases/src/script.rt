@@ -1,5 +1,7 @@
 //! How cases are spelled: a step a line, its first word what it does.
 
+use fakes::{first_line, number};
+
 /// A step of a case.
 #[derive(Clone, Copy)]
 pub enum Step<'a> {
@@ -24,17 +26,6 @@ pub enum Step<'a> {
     WriteFails(usize, usize),
     /// `faults`: shows each fault and each refusal.
     Faults,
-}
-
-/// The first line, and what is after it.
-fn first_line(input: &[u8]) -> Option<(&str, &[u8])> {
-    let end = input.iter().position(|byte| *byte == b'\n')?;
-    let line = str::from_utf8(input.get(..end)?).ok()?;
-    Some((line, input.get(end..)?.get(1..)?))
-}
-
-fn number(word: &str) -> Option<usize> {
-    word.parse::<usize>().ok()
 }
 
 /// A step that names no number.

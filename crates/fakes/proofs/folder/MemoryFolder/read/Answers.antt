@@ -1,7 +1,7 @@
 use Rattle.std.proofs.Common.{◌∙◌, sym}
 use Rattle.bt_one_shot.specs.Folders.{most_read}
-use Rattle.one_shot_cases.proofs.FolderLemmas.{first_within}
-use Rattle.one_shot_cases.proofs.memory.MemoryFolder.read.Goals as goal
+use Rattle.fakes.proofs.FolderLemmas.{first_within}
+use Rattle.fakes.proofs.folder.MemoryFolder.read.Goals as goal
 
 pub returns-in-Some-clause-found : goal.returns-in-Some-clause-found
 returns-in-Some-clause-found c = sym c.in-Ok.ensures ∙ c.in-Some.is

@@ -1,27 +1,31 @@
-//! A sink in memory that fails after some bytes.
+//! A sink in memory.
 
 ghost use Rattle.std.specs.Prelude.{◌≡◌, Some};
 
+use crate::limits::Limits;
 use bt_streams::{Sink, StreamFailed};
 use std::alloc::Global;
+use std::cell::Cell;
 
-/// Keeps what it gets, up to so many bytes, and then fails.
+/// Keeps what it gets, as far as its limits let it, and shares how many bytes of it were handed on.
 #[derive(Drop)]
-pub struct Capped {
+pub struct Taker<'a> {
     bytes: Vec<u8>,
-    room: usize,
+    limits: Limits<'a>,
+    handed_on: &'a Cell<usize>,
     failures: u64,
     flushed: bool,
 }
 
-impl Capped {
-    /// An empty one, which takes so many bytes.
-    pub fn new(alloc: Global, room: usize) -> Self
+impl<'a> Taker<'a> {
+    /// An empty sink.
+    pub fn new(alloc: Global, limits: Limits<'a>, handed_on: &'a Cell<usize>) -> Self
         ensures { result.failures ≡ 0 }
     {
-        Capped {
+        Taker {
             bytes: Vec::new(alloc),
-            room,
+            limits,
+            handed_on,
             failures: 0,
             flushed: true,
         }
@@ -33,7 +37,7 @@ impl Capped {
     }
 }
 
-impl Sink for Capped {
+impl Sink for Taker<'_> {
     ghost contents = { λ s. Some s.bytes.items };
 
     ghost failure_count = { λ s. s.failures };
@@ -42,9 +46,9 @@ impl Sink for Capped {
 
     fn write(&mut self, bytes: &[u8]) -> Result<usize, StreamFailed> {
         self.flushed = false;
-        let count = bytes.len().min(self.room);
+        let room = self.limits.write_fails.saturating_sub(self.bytes.len());
+        let count = self.limits.moved(bytes.len().min(room));
         if 0 < count && self.bytes.extend_from_slice(&bytes[..count]).is_ok() {
-            self.room -= count;
             return Ok(count);
         }
         self.failures += 1;
@@ -52,6 +56,7 @@ impl Sink for Capped {
     }
 
     fn flush(&mut self) -> Result<(), StreamFailed> {
+        self.handed_on.set(self.bytes.len());
         self.flushed = true;
         Ok(())
     }

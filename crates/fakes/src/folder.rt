@@ -3,9 +3,8 @@
 ghost use Rattle.std.specs.Prelude.{◌≡◌, [], ◌∷◌, ◌++◌, bytes_eq, fold, if◌then◌else◌, take, IfOk, OnOk, OnErr, Some};
 ghost use Rattle.std.specs.Option.{option_map};
 ghost use Rattle.bt_one_shot.specs.Folders.{most_read, with_file};
-ghost use Rattle.one_shot_cases.specs.Held.{held_in};
+ghost use Rattle.fakes.specs.Held.{held_in};
 
-use crate::script::Content;
 use bt_one_shot::{Folder, Found};
 use bt_text::{Bytes, Sequence};
 use std::alloc::{AllocError, Global};
@@ -14,36 +13,38 @@ use std::marker::Model;
 /// How many bytes of a file are read at most.
 const MOST_READ: usize = 1_048_577;
 
-/// A file of the folder.
+/// A file by its name and its bytes.
 #[derive(Drop)]
-pub struct Put {
+pub struct KeptFile {
+    /// Its name.
     pub name: Bytes,
+    /// Its bytes.
     pub bytes: Bytes,
 }
 
-impl Model for Put {
+impl Model for KeptFile {
     ghost use Rattle.bt_one_shot.specs.Folders.{Written};
 
     ghost Value = { Written };
 
-    ghost view = { λ put. record { name = put.name; bytes = put.bytes } };
+    ghost view = { λ file. record { name = file.name; bytes = file.bytes } };
 }
 
-/// A folder in memory.
+/// A folder in memory, which also knows what was read of it and written to it.
 #[derive(Drop)]
 pub struct Memory<'a> {
     alloc: Global,
-    given: Sequence<Put>,
+    given: Sequence<KeptFile>,
     /// The names whose bytes find no room.
     tight: Vec<&'a str>,
     /// The names that can't be written.
     sealed: Vec<&'a str>,
     looked_up: Sequence<Bytes>,
-    put: Sequence<Put>,
-    pub failures: u64,
+    written: Sequence<KeptFile>,
+    failures: u64,
     reads: u64,
-    /// The names that were asked for, a line each.
-    pub read: Bytes,
+    /// A line for each read.
+    read_lines: Bytes,
 }
 
 /// So many letters.
@@ -52,10 +53,10 @@ fn letters(alloc: Global, count: usize) -> Result<Vec<u8>, AllocError> {
 }
 
 /// Notes that a name was asked for.
-fn note(read: &mut Bytes, name: &[u8]) -> Result<(), AllocError> {
-    read.append(b"read ")?;
-    read.append(name)?;
-    read.append(b"\n")
+fn note(lines: &mut Bytes, name: &[u8]) -> Result<(), AllocError> {
+    lines.append(b"read ")?;
+    lines.append(name)?;
+    lines.append(b"\n")
 }
 
 /// Whether a name is among some.
@@ -64,13 +65,18 @@ fn has(names: &[&str], name: &[u8]) -> bool {
 }
 
 /// Puts a file after those that are there.
-fn keep(alloc: Global, put: &mut Sequence<Put>, name: &[u8], bytes: &[u8]) -> Result<(), AllocError>
-    ensures ok { OnOk result (put.new ≡ put.old ++ record { name = name.now; bytes = bytes.now } ∷ []) }
-    ensures err { OnErr result (put.new ≡ put.old) }
+fn keep(
+    alloc: Global,
+    files: &mut Sequence<KeptFile>,
+    name: &[u8],
+    bytes: &[u8],
+) -> Result<(), AllocError>
+    ensures ok { OnOk result (files.new ≡ files.old ++ record { name = name.now; bytes = bytes.now } ∷ []) }
+    ensures err { OnErr result (files.new ≡ files.old) }
 {
     let name = Bytes::copied(alloc, name)?;
     let bytes = Bytes::copied(alloc, bytes)?;
-    Ok(put.push(Put { name, bytes })?)
+    Ok(files.push(KeptFile { name, bytes })?)
 }
 
 /// Puts a name after those that are there.
@@ -82,7 +88,7 @@ fn keep_name(alloc: Global, names: &mut Sequence<Bytes>, name: &[u8]) -> Result<
 }
 
 /// The bytes of a file, if it has a name, or else these.
-fn newer<'a>(file: &'a Put, name: &[u8], found: Option<&'a [u8]>) -> Option<&'a [u8]>
+fn newer<'a>(file: &'a KeptFile, name: &[u8], found: Option<&'a [u8]>) -> Option<&'a [u8]>
     ensures { option_map (λ b. b.now) result ≡
         (if bytes_eq file.now.name name.now then Some file.now.bytes else option_map (λ b. b.now) found.entry) }
 {
@@ -95,7 +101,7 @@ fn newer<'a>(file: &'a Put, name: &[u8], found: Option<&'a [u8]>) -> Option<&'a 
 
 /// The bytes of the last of some files that has a name, or these.
 #[tactic(auto, using(crate::proofs::FolderLemmas::last_then))]
-fn last_of<'a>(files: &'a [Put], name: &[u8], before: Option<&'a [u8]>) -> Option<&'a [u8]>
+fn last_of<'a>(files: &'a [KeptFile], name: &[u8], before: Option<&'a [u8]>) -> Option<&'a [u8]>
     ensures { option_map (λ b. b.now) result
         ≡ fold with_file (λ _. option_map (λ b. b.now) before.entry) files.now name.now }
 {
@@ -115,42 +121,50 @@ impl<'a> Memory<'a> {
             tight: Vec::new(alloc),
             sealed: Vec::new(alloc),
             looked_up: Sequence::new(alloc),
-            put: Sequence::new(alloc),
+            written: Sequence::new(alloc),
             failures: 0,
             reads: 0,
-            read: Bytes::new(alloc),
+            read_lines: Bytes::new(alloc),
         }
     }
 
-    /// Puts a file into the folder.
-    pub fn give(&mut self, name: &'a str, content: Content<'a>) -> Result<(), AllocError> {
-        match content {
-            Content::Bytes(bytes) => keep(self.alloc, &mut self.given, name.as_bytes(), bytes),
-            Content::Letters(count) => {
-                let text = letters(self.alloc, count)?;
-                keep(
-                    self.alloc,
-                    &mut self.given,
-                    name.as_bytes(),
-                    text.as_slice(),
-                )
-            }
-            Content::NoRoom => Ok(self.tight.push(name)?),
-            Content::Unwritable => Ok(self.sealed.push(name)?),
-        }
+    /// Gives the folder a file. What is written under its name takes its place.
+    pub fn give(&mut self, name: &str, bytes: &[u8]) -> Result<(), AllocError> {
+        keep(self.alloc, &mut self.given, name.as_bytes(), bytes)
     }
 
-    /// What was written, the first first.
-    pub fn written(&self) -> &[Put] {
-        self.put.as_slice()
+    /// Gives the folder a file of so many letters.
+    pub fn give_letters(&mut self, name: &str, count: usize) -> Result<(), AllocError> {
+        let text = letters(self.alloc, count)?;
+        self.give(name, text.as_slice())
+    }
+
+    /// From now on a read finds no room for the bytes of this name.
+    pub fn deny_room(&mut self, name: &'a str) -> Result<(), AllocError> {
+        Ok(self.tight.push(name)?)
+    }
+
+    /// From now on this name can't be written.
+    pub fn seal(&mut self, name: &'a str) -> Result<(), AllocError> {
+        Ok(self.sealed.push(name)?)
+    }
+
+    /// A line `read NAME` for each read, the first first.
+    pub fn read_lines(&self) -> &[u8] {
+        self.read_lines.as_slice()
+    }
+
+    /// The files that were written, the first first.
+    pub fn written(&self) -> &[KeptFile] {
+        self.written.as_slice()
     }
 
     /// The bytes of a name.
     fn held(&self, name: &[u8]) -> Option<&[u8]>
-        ensures { option_map (λ b. b.now) result ≡ held_in self.now.given self.now.put name.now }
+        ensures { option_map (λ b. b.now) result ≡ held_in self.now.given self.now.written name.now }
     {
         last_of(
-            self.put.as_slice(),
+            self.written.as_slice(),
             name,
             last_of(self.given.as_slice(), name, None),
         )
@@ -159,7 +173,7 @@ impl<'a> Memory<'a> {
     /// A copy of the first bytes of a name, as many as are read at most.
     fn first_bytes(&self, name: &[u8]) -> Result<Option<Bytes>, AllocError>
         ensures { IfOk result (λ bytes. bytes
-            ≡ option_map (take most_read) (held_in self.now.given self.now.put name.now)) }
+            ≡ option_map (take most_read) (held_in self.now.given self.now.written name.now)) }
     {
         match self.held(name) {
             Some(bytes) => {
@@ -173,19 +187,19 @@ impl<'a> Memory<'a> {
 
 impl Folder for Memory<'_> {
     ghost use Rattle.bt_one_shot.specs.Folders.{Seen};
-    ghost use Rattle.one_shot_cases.specs.Held.{held_in};
+    ghost use Rattle.fakes.specs.Held.{held_in};
 
     ghost seen = { λ m. record {
-      held = Some (held_in m.given m.put);
+      held = Some (held_in m.given m.written);
       looked_up = Some m.looked_up;
-      written = Some m.put;
+      written = Some m.written;
       failures = m.failures;
       reads = m.reads;
     } };
 
     fn read(&mut self, name: &[u8]) -> Found {
         self.reads = self.reads.saturating_add(1);
-        if note(&mut self.read, name).is_err() || has(self.tight.as_slice(), name) {
+        if note(&mut self.read_lines, name).is_err() || has(self.tight.as_slice(), name) {
             return Found::NoRoom;
         }
         let Ok(bytes) = self.first_bytes(name) else {
@@ -203,7 +217,7 @@ impl Folder for Memory<'_> {
     #[tactic(auto, using(crate::proofs::FolderLemmas::holds_more))]
     fn write(&mut self, name: &[u8], bytes: &[u8]) -> bool {
         if has(self.sealed.as_slice(), name)
-            || keep(self.alloc, &mut self.put, name, bytes).is_err()
+            || keep(self.alloc, &mut self.written, name, bytes).is_err()
         {
             self.failures += 1;
             return false;

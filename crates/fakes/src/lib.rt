@@ -1,0 +1,14 @@
+//! Sources, sinks and folders in memory, for programs that test what stands on them.
+#![tactic(auto)]
+
+mod folder;
+mod limits;
+mod script;
+mod sink;
+mod source;
+
+pub use folder::{KeptFile, Memory};
+pub use limits::Limits;
+pub use script::{first_line, number};
+pub use sink::Taker;
+pub use source::Giver;

@@ -1,8 +1,0 @@
-use Rattle.std.proofs.Common.{◌≡◌, drop}
-use Rattle.std.specs.Option.{option_map}
-use Rattle.one_shot_cases.proofs.FolderLemmas.{last_of}
-use Rattle.one_shot_cases.proofs.memory.last_of.Given as goal
-
-abbrev pub invariant-files : goal.invariant-files
-invariant-files l =
-    last_of (option_map (λ b. b.now) l.found) (drop l.file-index l.files) l.name ≡ last_of (option_map (λ b. b.now) l.fn.before) l.files l.name
