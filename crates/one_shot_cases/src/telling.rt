@@ -5,7 +5,7 @@ ghost use Rattle.bibtex.specs.Present.{is_root_name};
 
 use anyhow::Result;
 use bt_one_shot::{Folder, Options, OptionsFault, one_shot, parse_options};
-use bt_serve::Sink;
+use bt_streams::Sink;
 use fakes::{Limits, Memory, Taker};
 use std::alloc::{AllocError, Global};
 use std::cell::Cell;
