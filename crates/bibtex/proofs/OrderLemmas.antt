@@ -11,7 +11,7 @@ use Rattle.bibtex.specs.declared.edit.Edit.TheVariants.{Write, Splice, Remove, R
 use Rattle.bibtex.specs.declared.edit.Refusal.{Refusal}
 use Rattle.bibtex.specs.declared.edit.Refusal.TheVariants.{BadName, NoSuchFile, FileTooLarge, TooManyFiles}
 use Rattle.bibtex.specs.declared.state.State.{State}
-use Rattle.bibtex.specs.Changes.{Change, write, splice, remove, root_name, min_crossrefs}
+use Rattle.bibtex.specs.Change.{Change, write, splice, remove, root_name, min_crossrefs}
 use Rattle.bibtex.specs.Present.{EachOnce, place_of_file, with_text, replaced, shown, reported}
 use Rattle.bibtex.specs.Applied.{file_size_limit, file_count_limit, found_refusal, refusal_of, changed, unless_refused, outcome, applied, IsAnswer}
 use Rattle.bibtex.specs.Headline.{after_answer, AnswersInTurn, after_answers}

@@ -8,7 +8,7 @@ use Rattle.bibtex.specs.declared.edit.Refusal.TheVariants.{BadName, NoSuchFile, 
 use Rattle.bt_run.specs.declared.answers.Report.{Report}
 use Rattle.bt_job.specs.declared.files.File.{File}
 use Rattle.bt_job.specs.FileNames.{is_file_name, text_of}
-use Rattle.bibtex.specs.Changes.{Change, write, splice, remove, root_name, min_crossrefs}
+use Rattle.bibtex.specs.Change.{Change, write, splice, remove, root_name, min_crossrefs}
 use Rattle.bibtex.specs.declared.state.State.{State}
 use Rattle.bibtex.specs.Present.{place_of_file, with_text, without, replaced, is_root_name}
 

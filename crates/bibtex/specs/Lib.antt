@@ -1,5 +1,5 @@
 pub mod Present
-pub mod Changes
+pub mod Change
 pub mod Applied
 pub mod Headline
 pub mod Order

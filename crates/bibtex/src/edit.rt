@@ -1,7 +1,7 @@
 //! Edits of the present state, and why they are refused.
 
 ghost use Rattle.std.specs.Prelude.{◌≡◌};
-ghost use Rattle.bibtex.specs.Changes.{change_of};
+ghost use Rattle.bibtex.specs.Change.{change_of};
 ghost use Rattle.bibtex.specs.Applied.{IsEditOf};
 
 use std::alloc::AllocError;

@@ -2,11 +2,11 @@
 //! come out, and are after each edit what the present texts mean from scratch.
 #![tactic(auto)]
 
-mod changes;
 mod draft;
 mod edit;
 mod edits;
 mod laws;
+mod present;
 mod refusal;
 mod reread;
 mod session;

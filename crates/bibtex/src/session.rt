@@ -41,7 +41,7 @@ impl Model for Session {
 
 impl Session {
     ghost use Rattle.bibtex.specs.Present.{is_root_name, no_texts, shown, reported, EachOnce};
-    ghost use Rattle.bibtex.specs.Changes.{change_of};
+    ghost use Rattle.bibtex.specs.Change.{change_of};
     ghost use Rattle.bibtex.specs.Applied.{applied, refusal_of, IsAnswer, IsNew};
     ghost use Rattle.bt_job.specs.FileNames.{text_of};
     ghost use Rattle.bt_log.specs.Log.{log_bytes};

@@ -3,9 +3,9 @@ use Rattle.std.proofs.Common.{◌≡◌, ℕ, ℤ, Bool, true, false, List, leng
 use Rattle.std.specs.Prelude.{nat_le, if◌then◌else◌}
 use Rattle.std.proofs.lemmas.Bool.{false≢true}
 use Rattle.bt_names.specs.declared.faults.FormatFault.{FormatFault}
-use Rattle.bt_names.specs.declared.calls.Formatted.{Formatted}
-use Rattle.bt_names.specs.declared.calls.Formatted.TheVariants.{Text, Longer}
-use Rattle.bt_names.specs.Calls.{cut_off, cut_off_text, formatted_name, formatted_within}
+use Rattle.bt_names.specs.declared.formatted_name.Formatted.{Formatted}
+use Rattle.bt_names.specs.declared.formatted_name.Formatted.TheVariants.{Text, Longer}
+use Rattle.bt_names.specs.FormattedName.{cut_off, cut_off_text, formatted_name, formatted_within}
 use Rattle.bt_actions.specs.Item.{Txt}
 use Rattle.bt_actions.specs.World.{World, Act, Goes}
 use Rattle.bt_actions.specs.State.{pushed}

@@ -4,7 +4,7 @@ use Rattle.bt_style.specs.declared.builtin.Builtin.TheVariants.{NumNames}
 use Rattle.bt_names.specs.declared.faults.FormatFault.{FormatFault}
 use Rattle.bt_names.specs.declared.faults.FormatFault.TheVariants as fault
 use Rattle.bt_names.specs.Names.{names_of}
-use Rattle.bt_names.specs.Calls.{formatted_name}
+use Rattle.bt_names.specs.FormattedName.{formatted_name}
 use Rattle.bt_actions.specs.declared.complaint.Complaint.TheVariants.{NoSuchName, TooManyCommas, PatternFault}
 use Rattle.bt_actions.specs.Item.{Txt}
 use Rattle.bt_actions.specs.Given.{Given, Gives, Errs, number_given, empty_item}

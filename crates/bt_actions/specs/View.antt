@@ -17,7 +17,7 @@ use Rattle.bt_actions.specs.World.{World, Act, Goes, Stops, key_in}
 -- what the program's values are
 abbrev pub code_seen : HeldCode → Code
 code_seen (code.Name t) = Name t
-code_seen (code.Braced ops) = Block (ops_body ops.now)
+code_seen (code.Block ops) = Block (ops_body ops.now)
 
 abbrev pub item_of : Value → Item
 item_of (value.Number n) = Num n

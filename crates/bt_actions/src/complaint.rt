@@ -54,21 +54,21 @@ pub fn decimal(alloc: Global, number: i32) -> Result<Bytes, AllocError>
     Bytes::copied(alloc, Buffer::new().format(number).as_bytes())
 }
 
-/// A function of this name got a value of the wrong kind.
+/// The words for a function of this name that got a value of the wrong kind.
 fn wrong_kind(alloc: Global, name: &[u8]) -> Result<Bytes, AllocError>
     ensures { IfOk result (λ words. words ≡ name.now ++ codes " got a value of the wrong kind") }
 {
     Bytes::of(alloc, &[name, b" got a value of the wrong kind"])
 }
 
-/// The result of a function of this name is out of range.
+/// The words for a function of this name whose result is out of range.
 fn out_of_range(alloc: Global, name: &[u8]) -> Result<Bytes, AllocError>
     ensures { IfOk result (λ words. words ≡ codes "The result of " ++ name.now ++ codes " is out of range") }
 {
     Bytes::of(alloc, &[b"The result of ", name, b" is out of range"])
 }
 
-/// A text names no change of case.
+/// The words for a text that names no change of case.
 fn bad_case(alloc: Global, text: &[u8]) -> Result<Bytes, AllocError>
     ensures { IfOk result (λ words. words ≡ complaint_words (Complaint.BadCase text.now)) }
 {
@@ -78,14 +78,14 @@ fn bad_case(alloc: Global, text: &[u8]) -> Result<Bytes, AllocError>
     )
 }
 
-/// A text isn't one byte.
+/// The words for a text that isn't one byte.
 fn not_one_character(alloc: Global, text: &[u8]) -> Result<Bytes, AllocError>
     ensures { IfOk result (λ words. words ≡ complaint_words (Complaint.NotOneCharacter text.now)) }
 {
     Bytes::of(alloc, &[b"\"", text, b"\" isn't a single character"])
 }
 
-/// A number isn't one from 0 to 127.
+/// The words for a number that isn't one from 0 to 127.
 fn not_ascii(alloc: Global, number: i32) -> Result<Bytes, AllocError>
     ensures { IfOk result (λ words. words ≡ complaint_words (Complaint.NotAscii number)) }
 {
@@ -94,7 +94,7 @@ fn not_ascii(alloc: Global, number: i32) -> Result<Bytes, AllocError>
     Bytes::of(alloc, &[number, b" isn't valid ASCII"])
 }
 
-/// There is no name of this number in a list of names.
+/// The words for a number of which a list has no name.
 fn no_such_name(alloc: Global, number: i32, names: &[u8]) -> Result<Bytes, AllocError>
     ensures { IfOk result (λ words. words ≡ complaint_words (Complaint.NoSuchName number names.now)) }
 {
@@ -106,7 +106,7 @@ fn no_such_name(alloc: Global, number: i32, names: &[u8]) -> Result<Bytes, Alloc
     )
 }
 
-/// The name of this number in a list of names has more than two commas.
+/// The words for the name of this number in a list, where it has more than two commas.
 fn too_many_commas(alloc: Global, number: i32, names: &[u8]) -> Result<Bytes, AllocError>
     ensures { IfOk result (λ words. words ≡ complaint_words (Complaint.TooManyCommas number names.now)) }
 {
@@ -118,7 +118,7 @@ fn too_many_commas(alloc: Global, number: i32, names: &[u8]) -> Result<Bytes, Al
     )
 }
 
-/// A pattern has a fault at a place.
+/// The words for a pattern with a fault at a place.
 fn pattern_fault(alloc: Global, pattern: &[u8], place: usize) -> Result<Bytes, AllocError>
     ensures { IfOk result (λ words. words ≡ complaint_words (Complaint.PatternFault pattern.now place)) }
 {
@@ -135,7 +135,7 @@ fn pattern_fault(alloc: Global, pattern: &[u8], place: usize) -> Result<Bytes, A
     )
 }
 
-/// A warning of the style.
+/// The words for a warning of the style.
 fn warned(alloc: Global, text: &[u8]) -> Result<Bytes, AllocError>
     ensures { IfOk result (λ words. words ≡ complaint_words (Complaint.Warned text.now)) }
 {

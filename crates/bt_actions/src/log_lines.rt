@@ -68,7 +68,7 @@ fn shown_code(alloc: Global, style: &Style, code: Code) -> Result<Bytes, AllocEr
     ensures { IfOk result (λ words. words ≡ shown_code (program_of style.now) (code_seen code.entry)) }
 {
     match code {
-        Code::Braced(_) => Bytes::copied(alloc, b"`{}'"),
+        Code::Block(_) => Bytes::copied(alloc, b"`{}'"),
         Code::Name(target) => quoted_name(alloc, target_name(style, target)),
     }
 }

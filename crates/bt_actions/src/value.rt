@@ -8,7 +8,7 @@ use std::alloc::{AllocError, Global};
 #[derive(Clone, Copy)]
 pub enum Code<'a> {
     Name(Target),
-    Braced(&'a [Op]),
+    Block(&'a [Op]),
 }
 
 /// A value on the literal stack.

@@ -51,8 +51,7 @@ moved_item m i =
     record {
       start = moved m i.start;
       end = moved m i.end;
-      line = i.line
-          + m.line;
+      line = i.line + m.line;
       content = moved_content m i.content;
       close = i.close;
       fault = i.fault;

@@ -28,7 +28,7 @@ use Rattle.bt_actions.specs.Assignment.{with_number, with_text, with_globals, pu
 use Rattle.bt_actions.specs.LogLines.{shown_value, log_value, log_stack, log_warning}
 use Rattle.bt_actions.specs.Stack.{duplicated, swapped}
 use Rattle.bt_actions.specs.Actions.{act_with, change_with, basic}
-use Rattle.bt_machine.specs.Place.{with_variables}
+use Rattle.bt_machine.specs.OwnEntry.{with_variables}
 
 -- what a step may change
 pub record Part : Type 0 where

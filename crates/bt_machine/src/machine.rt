@@ -53,7 +53,7 @@ fn builtin_called(op: &Op) -> Option<Builtin>
 {
     match op {
         Op::Call(target) => builtin_in(*target),
-        Op::Number(_) | Op::Text(_) | Op::Quote(_) | Op::Block(_) => None,
+        Op::Number(_) | Op::Text(_) | Op::Quote(_) | Op::Braced(_) => None,
     }
 }
 
@@ -88,7 +88,7 @@ impl<'a> Machine<'a> {
         ensures script { self.new.script ≡ self.old.script }
     {
         if !self.body.is_empty() {
-            self.defer(Frame::Run(Code::Braced(self.body)))?;
+            self.defer(Frame::Run(Code::Block(self.body)))?;
         }
         Ok(())
     }
@@ -113,7 +113,7 @@ impl<'a> Machine<'a> {
     {
         match code {
             Code::Name(_) => self.plan(Frame::Run(code)),
-            Code::Braced(ops) => {
+            Code::Block(ops) => {
                 self.keep_rest()?;
                 self.body = ops;
                 Ok(())
@@ -139,7 +139,7 @@ impl<'a> Machine<'a> {
     {
         let style = self.script.style;
         if n < style.functions.len() {
-            self.plan_run(Code::Braced(&style.functions[n].body))
+            self.plan_run(Code::Block(&style.functions[n].body))
         } else {
             Ok(Flow::Go)
         }
@@ -252,7 +252,7 @@ impl<'a> Machine<'a> {
             Op::Number(n) => self.state.push_number(*n),
             Op::Text(text) => self.state.push_text(Text::Lent(text.as_slice())),
             Op::Quote(target) => self.push(Value::Code(Code::Name(*target))),
-            Op::Block(ops) => self.push(Value::Code(Code::Braced(ops))),
+            Op::Braced(ops) => self.push(Value::Code(Code::Block(ops))),
             Op::Call(target) => self.call(alloc, *target),
         }
     }
@@ -332,7 +332,7 @@ impl<'a> Machine<'a> {
     {
         match frame {
             Frame::Run(Code::Name(target)) => self.name(alloc, target),
-            Frame::Run(Code::Braced(ops)) => self.elements(alloc, ops),
+            Frame::Run(Code::Block(ops)) => self.elements(alloc, ops),
             Frame::Test(test, body) => self.look(test, body),
         }
     }
@@ -351,7 +351,7 @@ impl<'a> Machine<'a> {
         } else {
             let ops = self.body;
             self.body = &[];
-            Some(Frame::Run(Code::Braced(ops)))
+            Some(Frame::Run(Code::Block(ops)))
         }
     }
 

@@ -11,7 +11,7 @@ use Rattle.bt_names.specs.Names.{name_at}
 use Rattle.bt_names.specs.NameParts.{parts_of}
 use Rattle.bt_names.specs.Patterns.{pattern_fault}
 use Rattle.bt_names.specs.Cuts.{is_comma}
-use Rattle.bt_names.specs.Calls.{IsNameFault, name_parts, name_parts_or_fault, parts_or_fault, IsFormatFault, formatted_name, formatted_or_fault, formatted_parts, text_or_fault}
+use Rattle.bt_names.specs.FormattedName.{IsNameFault, name_parts, name_parts_or_fault, parts_or_fault, IsFormatFault, formatted_name, formatted_or_fault, formatted_parts, text_or_fault}
 use Rattle.bt_names.proofs.SplittingLemmas.{few_commas, too_many_commas}
 
 pub no_parts : (names : List ℕ) (n : ℤ) (name : List ℕ) → name_at names n ≡ Some name → 2 < count_by is_comma (blocks name) → name_parts names n ≡ Err TooManyCommas

@@ -3,9 +3,9 @@ use Rattle.std.specs.Prelude.{ℕ, ◌≡◌, List, [], ◌∷◌, length, Some,
 use Rattle.bt_names.specs.declared.faults.FormatFault.{FormatFault}
 use Rattle.bt_names.specs.declared.faults.FormatFault.TheVariants.{NoSuchName, TooManyCommas, PatternFault}
 use Rattle.bt_names.specs.declared.faults.NameFault.TheVariants.{TooManyCommas as too_many}
-use Rattle.bt_names.specs.declared.calls.Formatted.TheVariants.{Text, Longer}
+use Rattle.bt_names.specs.declared.formatted_name.Formatted.TheVariants.{Text, Longer}
 use Rattle.bt_names.specs.Names.{has_and_at, names_of}
-use Rattle.bt_names.specs.Calls.{formatted_or_fault, formatted_name, formatted_within, name_parts_or_fault}
+use Rattle.bt_names.specs.FormattedName.{formatted_or_fault, formatted_name, formatted_within, name_parts_or_fault}
 
 -- the whole text as a name, in a pattern
 abbrev formatted : List ℕ → List ℕ → Result (List ℕ) FormatFault

@@ -6,5 +6,5 @@ pub mod Patterns
 pub mod Spelling
 pub mod Joints
 pub mod Groups
-pub mod Calls
+pub mod FormattedName
 pub mod inner

@@ -1,9 +1,9 @@
 //! Names of people: how many a text lists, the parts of one, and one in a pattern.
 #![tactic(auto)]
 
-mod calls;
 mod cuts;
 mod faults;
+mod formatted_name;
 mod groups;
 mod growth;
 mod joints;
@@ -16,7 +16,7 @@ mod spelling;
 mod tokens;
 mod vons;
 
-pub use calls::{Formatted, format, format_within, parts};
 pub use faults::{FormatFault, NameFault};
+pub use formatted_name::{Formatted, format, format_within, parts};
 pub use names::count;
 pub use tokens::{Parts, Token};

@@ -6,7 +6,7 @@ use Rattle.std.specs.List.{list_all}
 use Rattle.bibtex.specs.declared.state.State.{State}
 use Rattle.bibtex.specs.declared.edit.Refusal.{Refusal}
 use Rattle.bibtex.specs.Present.{no_texts, shown}
-use Rattle.bibtex.specs.Changes.{write}
+use Rattle.bibtex.specs.Change.{write}
 use Rattle.bibtex.specs.Applied.{refusal_of, changed, unless_refused, state_or, unless_out_of_memory}
 use Rattle.bt_one_shot.specs.declared.folder.Found.{Found}
 use Rattle.bt_one_shot.specs.declared.folder.Found.TheVariants as found

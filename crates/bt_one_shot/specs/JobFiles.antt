@@ -5,7 +5,7 @@ use Rattle.bibtex.specs.declared.edit.Refusal.{Refusal}
 use Rattle.bibtex.specs.declared.edit.Refusal.TheVariants.{OutOfMemory}
 use Rattle.bibtex.specs.declared.state.State.{State}
 use Rattle.bibtex.specs.Present.{shown}
-use Rattle.bibtex.specs.Changes.{write}
+use Rattle.bibtex.specs.Change.{write}
 use Rattle.bibtex.specs.Applied.{outcome, code_of, state_or, unless_out_of_memory}
 use Rattle.bt_one_shot.specs.declared.folder.Found.{Found}
 use Rattle.bt_one_shot.specs.declared.folder.Found.TheVariants as found

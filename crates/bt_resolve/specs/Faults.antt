@@ -12,7 +12,7 @@ use Rattle.bt_bib.specs.declared.spot.Spot.{Spot}
 use Rattle.bt_log.specs.declared.message.Place.TheVariants.{DatabaseLine}
 use Rattle.bt_log.specs.declared.message.Message.{Message}
 use Rattle.bt_log.specs.Message.{skipping}
-use Rattle.bt_resolve.specs.declared.message.Place.{Place}
+use Rattle.bt_resolve.specs.declared.place.Place.{Place}
 
 -- what is dropped after a fault
 abbrev pub dropped_name : Content → List ℕ

@@ -10,7 +10,7 @@ use Rattle.bt_resolve.specs.declared.asked.Asked.{Asked}
 use Rattle.bt_resolve.specs.declared.declared.Macro.{Macro}
 use Rattle.bt_log.specs.declared.message.Message.{Message}
 use Rattle.bt_resolve.specs.declared.stored.Stored.{Stored}
-use Rattle.bt_resolve.specs.declared.message.Place.{Place}
+use Rattle.bt_resolve.specs.declared.place.Place.{Place}
 use Rattle.bt_resolve.specs.Names.{place_of_name}
 use Rattle.bt_resolve.specs.Values.{MacroTexts, value, value_warnings}
 use Rattle.bt_resolve.specs.Macros.{faultless, macro_before}

@@ -6,7 +6,7 @@ use Rattle.bt_text.specs.White.{white_joined}
 use Rattle.bt_bib.specs.declared.item.Part.{Part}
 use Rattle.bt_bib.specs.declared.item.Part.TheVariants.{Text, Macro}
 use Rattle.bt_log.specs.declared.message.Message.{Message}
-use Rattle.bt_resolve.specs.declared.message.Place.{Place}
+use Rattle.bt_resolve.specs.declared.place.Place.{Place}
 use Rattle.bt_resolve.specs.Warnings.{line_of, undefined_macro, own_macro, too_long}
 
 -- what each macro stands for, if it is defined

@@ -4,7 +4,7 @@ use Rattle.bt_text.specs.CaseFolding.{folded}
 use Rattle.bt_log.specs.declared.message.Rank.TheVariants.{Warning}
 use Rattle.bt_log.specs.declared.message.Place.TheVariants.{DatabaseLine}
 use Rattle.bt_log.specs.declared.message.Message.{Message}
-use Rattle.bt_resolve.specs.declared.message.Place.{Place}
+use Rattle.bt_resolve.specs.declared.place.Place.{Place}
 
 -- a line of a database, by the database's number
 abbrev pub line_of : ℕ → ℕ → Place

@@ -13,7 +13,7 @@ use crate::asked::Asked;
 use crate::declared::Macro;
 use crate::faults::tell_fault;
 use crate::macros::style_macros;
-use crate::message::Origin;
+use crate::place::Origin;
 use crate::reader::Reader;
 use crate::state::Reading;
 use crate::store::Store;

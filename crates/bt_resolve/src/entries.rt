@@ -13,7 +13,7 @@ ghost use Rattle.bt_resolve.specs.inner.Warnings.{line_at};
 use crate::faults::repeated;
 use crate::fields::FieldReader;
 use crate::macro_text::MacroText;
-use crate::message::Message;
+use crate::place::Message;
 use crate::reader::Reader;
 use crate::store::Store;
 use crate::stored::Stored;

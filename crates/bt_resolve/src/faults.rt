@@ -5,7 +5,7 @@ ghost use Rattle.bt_bib.specs.Moved.{moved, moved_content, nowhere};
 ghost use Rattle.bt_bib.specs.Shift.{FitsSpot};
 ghost use Rattle.bt_resolve.specs.Faults.{dropped_name, fault_error, fault_messages, fault_words, key_of, repeated, sign_of, unclosed, unclosed_command, unclosed_entry, what_name};
 
-use crate::message::Origin;
+use crate::place::Origin;
 use bt_bib::{Closing, Content, Item, ItemFault, NameRole};
 use bt_log::{Message, Place};
 use bt_text::{Bytes, Sequence, Shared};
@@ -160,7 +160,7 @@ pub fn tell_fault(
 /// An entry whose key is stored already.
 pub fn repeated(
     alloc: Global,
-    place: crate::message::Place,
+    place: crate::place::Place,
     key: &Shared<Bytes>,
 ) -> Result<Message, AllocError>
     ensures { IfOk result (λ message. message ≡ repeated place key.now) }

@@ -12,7 +12,7 @@ ghost use Rattle.bt_resolve.specs.inner.Warnings.{line_at};
 
 use crate::index::Index;
 use crate::macro_text::MacroText;
-use crate::message::{Message, Origin};
+use crate::place::{Message, Origin};
 use crate::stored::FieldValues;
 use crate::values::{ValueReader, trimmed};
 use crate::warnings::extra_field;

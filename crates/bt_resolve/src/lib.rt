@@ -17,7 +17,7 @@ mod laws;
 mod list;
 mod macro_text;
 mod macros;
-mod message;
+mod place;
 mod reader;
 mod references;
 mod resolution;

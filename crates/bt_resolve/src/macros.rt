@@ -10,7 +10,7 @@ ghost use Rattle.bt_resolve.specs.inner.Warnings.{line_at};
 
 use crate::declared::Macro;
 use crate::macro_text::MacroText;
-use crate::message::Message;
+use crate::place::Message;
 use crate::reader::Reader;
 use crate::values::ValueReader;
 use bt_bib::{Definition, Item, Part};

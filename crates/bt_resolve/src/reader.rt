@@ -6,7 +6,7 @@ ghost use Rattle.bt_bib.specs.Shift.{FitsLine};
 ghost use Rattle.bt_resolve.specs.inner.Warnings.{line_at};
 
 use crate::asked::Asked;
-use crate::message::{Origin, Place};
+use crate::place::{Origin, Place};
 use std::alloc::Global;
 
 /// What an item of a database is read with.

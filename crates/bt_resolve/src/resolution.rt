@@ -14,7 +14,7 @@ use crate::entry::{Entry, Resolved};
 use crate::family::Family;
 use crate::index::Index;
 use crate::list::listed;
-use crate::message::Message;
+use crate::place::Message;
 use crate::references::Teller;
 use crate::state::Reading;
 use crate::visible::View;

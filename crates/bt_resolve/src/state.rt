@@ -1,7 +1,7 @@
 //! What was read of the databases so far.
 
 use crate::macro_text::MacroText;
-use crate::message::Message;
+use crate::place::Message;
 use crate::store::Store;
 use bt_text::{ByName, Bytes, Sequence};
 

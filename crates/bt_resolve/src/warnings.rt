@@ -4,7 +4,7 @@ ghost use Rattle.std.specs.Prelude.{◌≡◌, ◌++◌, Some, None, IfOk};
 ghost use Rattle.bt_text.specs.CaseFolding.{folded};
 ghost use Rattle.bt_resolve.specs.Warnings.{extra_field, no_function, own_macro, too_long, undefined_macro, warning_at};
 
-use crate::message::{Message, Place};
+use crate::place::{Message, Place};
 use bt_log::Rank;
 use bt_text::{Bytes, Shared, to_ascii_lowercase};
 use std::alloc::{AllocError, Global};

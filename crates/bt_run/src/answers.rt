@@ -153,6 +153,7 @@ fn run_with(
         });
     };
     let name = name.as_slice();
+    // A law of the reader of styles, for the proof alone: the call does nothing.
     fields_are_apart();
     let keys = Shared::new(alloc, keys)?;
     let cites = Cites { keys, star };

@@ -7,13 +7,13 @@ ghost use Rattle.bt_run.specs.ReadCommand.{read};
 ghost use Rattle.bt_run.specs.Commands.{sorted_run, site_of, command as command_done, commands_from};
 ghost use Rattle.bt_run.specs.inner.JobView.{job_of};
 
-use crate::caller::StepCommand;
 use crate::course::{CommandPlace, Course};
 use crate::earlier::{no_places, same_entries};
 use crate::job::Job;
 use crate::read_command::read;
 use crate::reuse::Reuse;
 use crate::sort_command::sorted_places;
+use crate::step_command::StepCommand;
 use bt_style::{Action, Command};
 use bt_text::{Bytes, Shared};
 use std::alloc::{AllocError, Global};

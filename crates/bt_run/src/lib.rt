@@ -3,12 +3,11 @@
 #![tactic(auto)]
 
 mod answers;
-mod caller;
 mod commands;
 mod counts;
 mod course;
 mod database;
-mod databases;
+mod database_messages;
 mod declarations;
 mod earlier;
 mod index;
@@ -23,6 +22,7 @@ mod same_input;
 mod sort_command;
 mod start;
 mod step;
+mod step_command;
 mod styles;
 
 pub use answers::{Answers, Report, Run, answers_after};

@@ -7,7 +7,7 @@ ghost use Rattle.bt_run.specs.inner.JobView.{job_of};
 
 use crate::course::Course;
 use crate::database::{Database, all_items, databases_in};
-use crate::databases::tell_databases;
+use crate::database_messages::tell_databases;
 use crate::declarations::{blank, declared_before};
 use crate::job::Job;
 use bt_actions::{Entry, Variables};

@@ -175,8 +175,8 @@ fn index_of(
     }
 }
 
-/// The step that is met: mostly the one at the place to try next. To find another, all are gone over, and after a few
-/// times looked up.
+/// The earlier step that is met: the one at the place to try next, mostly. Where it isn't, all of them are scanned for
+/// it, and after `SCANS` such scans an index finds it.
 fn meet<'a>(
     alloc: Global,
     style: &Style,
@@ -293,6 +293,7 @@ pub fn take_or_reuse(
     ensures counted { IfOk result (λ d. IsCounted (program_of style.now) earlier.now
         (step_now command input.now d.outcome d.cost) reuse.old reuse.new) }
 {
+    // A law of the machine, for the proof alone: the call does nothing.
     agreeing_inputs_have_one_step();
     let known = reach_of(alloc, style, input, &mut reuse.known)?;
     let reach: &Reach = &known;

@@ -3,7 +3,7 @@
 ghost use Rattle.std.specs.Prelude.{◌≡◌, ◌<◌, length, IsTrue};
 ghost use Rattle.std.specs.Option.{ForSome, option_map};
 ghost use Rattle.bt_actions.specs.World.{entry_in};
-ghost use Rattle.bt_machine.specs.Place.{IsPlace};
+ghost use Rattle.bt_machine.specs.OwnEntry.{IsPlace};
 ghost use Rattle.bt_run.specs.Course.{course_world, input_at};
 ghost use Rattle.bt_run.specs.inner.Earlier.{fixed};
 

@@ -7,7 +7,7 @@ use Rattle.bibtex.specs.declared.edit.Refusal.{Refusal}
 use Rattle.bibtex.specs.declared.edit.Refusal.TheVariants.{OutOfMemory}
 use Rattle.bibtex.specs.declared.state.State.{State}
 use Rattle.bibtex.specs.Present.{reported}
-use Rattle.bibtex.specs.Changes.{Change, write, splice, remove, root_name, min_crossrefs}
+use Rattle.bibtex.specs.Change.{Change, write, splice, remove, root_name, min_crossrefs}
 use Rattle.bibtex.specs.Applied.{outcome, applied, IsAnswer, state_or, unless_out_of_memory}
 use Rattle.bibtex.specs.Headline.{after_answer, AnswersInTurn, after_answers}
 use Rattle.bt_serve.specs.Commands.{Request, Command, edit, bbl, blg, status, quit, unreadable, too_long, request_of, refused, edit_answer, after, after_of, state_after, MayRunOut, MayRunOutInTurn}

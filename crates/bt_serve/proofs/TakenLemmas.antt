@@ -4,7 +4,7 @@ use Rattle.bt_run.specs.declared.answers.Report.{Report}
 use Rattle.bibtex.specs.declared.edit.Refusal.{Refusal}
 use Rattle.bibtex.specs.declared.edit.Refusal.TheVariants.{OutOfMemory}
 use Rattle.bibtex.specs.declared.state.State.{State}
-use Rattle.bibtex.specs.Changes.{Change}
+use Rattle.bibtex.specs.Change.{Change}
 use Rattle.bibtex.specs.Applied.{outcome, refusal_of, changed, unless_refused, IsAnswer, state_or, unless_out_of_memory}
 use Rattle.bt_serve.specs.Commands.{edit, edit_answer, accepted, refused}
 use Rattle.bt_serve.specs.inner.Serves.{Takes, Does, taken_text}

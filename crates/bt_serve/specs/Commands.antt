@@ -6,7 +6,7 @@ use Rattle.bibtex.specs.declared.edit.Refusal.{Refusal}
 use Rattle.bibtex.specs.declared.edit.Refusal.TheVariants.{OutOfMemory}
 use Rattle.bibtex.specs.declared.state.State.{State}
 use Rattle.bibtex.specs.Present.{shown, reported}
-use Rattle.bibtex.specs.Changes.{Change, write, splice, remove, root_name, min_crossrefs}
+use Rattle.bibtex.specs.Change.{Change, write, splice, remove, root_name, min_crossrefs}
 use Rattle.bibtex.specs.Applied.{outcome, code_of, state_or, unless_out_of_memory}
 
 -- what a line asks for

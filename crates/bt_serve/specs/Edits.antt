@@ -6,7 +6,7 @@ use Rattle.bibtex.specs.declared.edit.Edit.{Edit}
 use Rattle.bibtex.specs.declared.edit.Edit.TheVariants.{Write, Splice, Remove, Root, MinCrossrefs}
 use Rattle.bibtex.specs.declared.edit.Refusal.{Refusal}
 use Rattle.bibtex.specs.declared.state.State.{State}
-use Rattle.bibtex.specs.Changes.{Change, write, splice, remove, root_name, min_crossrefs}
+use Rattle.bibtex.specs.Change.{Change, write, splice, remove, root_name, min_crossrefs}
 use Rattle.bibtex.specs.Headline.{AnswersInTurn, after_answers}
 use Rattle.bt_serve.specs.declared.fault.ServeFault.{ServeFault}
 use Rattle.bt_serve.specs.declared.fault.ServeFault.TheVariants.{ReadFailed, WriteFailed, Truncated}

@@ -2,7 +2,7 @@
 
 ghost use Rattle.std.specs.Prelude.{◌≡◌, ◌+◌, ◌-◌, ◌^◌, ◌<◌, ◌≤◌, [], length, codes, IfOk, OnOk, OnErr, Err, true, false};
 ghost use Rattle.std.specs.Io.KnownBytes.{Appends};
-ghost use Rattle.bibtex.specs.Changes.{change_of};
+ghost use Rattle.bibtex.specs.Change.{change_of};
 ghost use Rattle.bt_serve.specs.inner.Asked.{request_seen};
 ghost use Rattle.bt_serve.specs.Commands.{edit, number_line, text_answer, answer_of, ends, accepted, refused};
 ghost use Rattle.bt_serve.specs.inner.Commands.{IsShown};
@@ -219,6 +219,7 @@ fn say_shown<K: Sink>(
     ensures flushed { OnOk result (K.is_flushed sink.new ≡ true) }
 {
     match request {
+        // The clause `shown` requires another request.
         Request::Edit(_, _) => unreachable!(),
         Request::Bbl => {
             say_text(sink, b"bbl ", session.bbl())?;

@@ -55,8 +55,7 @@ literal_end inside [] = record { token = Some Unclosed; size = 1 + length inside
 literal_end inside (b ∷ behind) =
     if b == quote then record {
       token = Some (if may_follow behind then Literal inside else Glued);
-      size = 2
-          + length inside;
+      size = 2 + length inside;
     }
     else record { token = Some Unclosed; size = 1 + length inside }
 

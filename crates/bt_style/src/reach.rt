@@ -34,9 +34,9 @@ pub struct Reach {
     pub global_texts: Sequence<usize>,
     /// Whether the held line is among what the step may read or write.
     pub held: bool,
-    /// Whether the preamble is.
+    /// Whether the preamble is among what the step may read.
     pub preamble: bool,
-    /// Whether the entry's type is.
+    /// Whether the entry's type is among what the step may read.
     pub kind: bool,
     ghost fields_among: { fields ≡ filter_map as_field targets },
     ghost entry_numbers_among: { entry_numbers ≡ filter_map as_entry_number targets },
@@ -108,7 +108,7 @@ fn go_over<'a>(
     match first {
         Op::Number(_) | Op::Text(_) => Ok(()),
         Op::Quote(target) => note(found, seen, *target),
-        Op::Block(inner) => put_off(waiting, inner.as_slice()),
+        Op::Braced(inner) => put_off(waiting, inner.as_slice()),
         Op::Call(target) => note(found, seen, *target),
     }
 }

@@ -10,8 +10,8 @@ use crate::shared::Shared;
 use std::alloc::{AllocError, Global};
 use std::marker::Model;
 
-/// A list of texts of which many may be missing. Contracts see the list, with those that are missing. These take no
-/// memory.
+/// A list of texts of which many may be missing, each that is there kept with its place. Contracts see the list, with
+/// those that are missing. These take no memory.
 #[derive(Debug, Drop)]
 pub struct PlacedTexts {
     /// How long the list is.

@@ -13,8 +13,8 @@ use std::marker::Model;
 /// How many texts are many: these are shared by the texts that are filled from them.
 const MANY: usize = 64;
 
-/// A list of texts of which many may be missing. Contracts see the list, with those that are missing. These take no
-/// memory. Texts that are filled from many others share those.
+/// A list of texts of which many may be missing, laid over another one from which those that it lacks are taken.
+/// Contracts see the list, with those that are missing in both; these take no memory.
 #[derive(Debug, Drop)]
 pub struct SparseTexts {
     /// The texts that these alone have.
@@ -51,7 +51,8 @@ fn settled(alloc: Global, texts: PlacedTexts) -> Result<SparseTexts, AllocError>
     })
 }
 
-/// The texts, each that is missing taken from those of a base. That is shared where the texts are few beside it.
+/// The texts, each that is missing taken from those of a base. The base is shared where the own texts are few beside
+/// it, and else all are put into one list.
 fn over(
     alloc: Global,
     own: PlacedTexts,

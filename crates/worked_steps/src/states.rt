@@ -56,7 +56,7 @@ fn value<'a>(alloc: Global, word: &[u8]) -> Result<Value<'a>, Fail> {
         }
         [b'\'', letter, ..] => Value::Code(Code::Name(target(*letter))),
         [b'?', ..] => Value::Missing(1),
-        _ => Value::Code(Code::Braced(&[])),
+        _ => Value::Code(Code::Block(&[])),
     })
 }
 
@@ -157,7 +157,7 @@ fn append_value(all: &mut Bytes, alloc: Global, value: &Value) -> Result<(), All
             all.append(text.as_slice())
         }
         Value::Code(Code::Name(_)) => all.append(b"'"),
-        Value::Code(Code::Braced(_)) => all.append(b"{"),
+        Value::Code(Code::Block(_)) => all.append(b"{"),
         Value::Missing(_) => all.append(b"?"),
     }
 }

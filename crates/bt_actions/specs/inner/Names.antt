@@ -1,6 +1,6 @@
 -- What `format.name$` pushes, where of a name that is too long no more is known than that.
-use Rattle.bt_names.specs.declared.calls.Formatted.{Formatted}
-use Rattle.bt_names.specs.declared.calls.Formatted.TheVariants.{Text, Longer}
+use Rattle.bt_names.specs.declared.formatted_name.Formatted.{Formatted}
+use Rattle.bt_names.specs.declared.formatted_name.Formatted.TheVariants.{Text, Longer}
 use Rattle.bt_actions.specs.Item.{Txt}
 use Rattle.bt_actions.specs.World.{World, Act}
 use Rattle.bt_actions.specs.State.{pushed, limit_passed}

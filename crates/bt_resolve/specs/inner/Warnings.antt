@@ -1,7 +1,7 @@
 -- The line of an item, by where the item stands.
 use Rattle.std.specs.Prelude.{ℕ, ◌+◌}
-use Rattle.bt_resolve.specs.declared.message.Place.{Place}
-use Rattle.bt_resolve.specs.declared.message.Origin.{Origin}
+use Rattle.bt_resolve.specs.declared.place.Place.{Place}
+use Rattle.bt_resolve.specs.declared.place.Origin.{Origin}
 use Rattle.bt_resolve.specs.Warnings.{line_of}
 
 -- a line of an item that stands somewhere

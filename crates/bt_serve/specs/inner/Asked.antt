@@ -1,5 +1,5 @@
 -- What a line asks for, as definitions see it.
-use Rattle.bibtex.specs.Changes.{change_of}
+use Rattle.bibtex.specs.Change.{change_of}
 use Rattle.bt_serve.specs.Commands as commands
 use Rattle.bt_serve.specs.declared.command.Request.{Request}
 use Rattle.bt_serve.specs.declared.command.Request.TheVariants.{Edit, Bbl, Blg, Status, Quit, Unreadable, TooLong}

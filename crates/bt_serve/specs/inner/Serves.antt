@@ -7,7 +7,7 @@ use Rattle.bt_run.specs.declared.answers.Report.{Report}
 use Rattle.bibtex.specs.declared.edit.Refusal.{Refusal}
 use Rattle.bibtex.specs.declared.state.State.{State}
 use Rattle.bibtex.specs.Present.{reported}
-use Rattle.bibtex.specs.Changes.{Change}
+use Rattle.bibtex.specs.Change.{Change}
 use Rattle.bibtex.specs.Applied.{outcome, IsAnswer}
 use Rattle.bt_serve.specs.Commands.{Request, bytes_brought, answer_of, after_of, ends, accepted, refused, MayRunOut}
 use Rattle.bt_serve.specs.declared.fault.ServeFault.{ServeFault}

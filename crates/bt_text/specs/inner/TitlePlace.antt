@@ -25,8 +25,7 @@ next_place place b =
     record {
       is_first = false;
       follows_white = is_white b;
-      follows_colon = if is_white b then place.follows_colon
-          else b == colon;
+      follows_colon = if is_white b then place.follows_colon else b == colon;
     }
 
 -- whether the mode spares what stands there

@@ -1,6 +1,6 @@
 use Rattle.std.proofs.Common.{List, ℕ, refl}
 use Rattle.std.specs.Io.KnownBytes.{Appends}
-use Rattle.bibtex.specs.Changes.{change_of}
+use Rattle.bibtex.specs.Change.{change_of}
 use Rattle.bt_streams.specs.Writes.{AppendsPart}
 use Rattle.bt_serve.proofs.TakenLemmas.{does_taken}
 use Rattle.bt_serve.proofs.answer.answer_edit.Goals as goal

@@ -5,7 +5,7 @@ use Rattle.bt_run.specs.inner.Course.{put_back}
 use Rattle.bt_run.proofs.CourseLemmas.{step_taken, consistent_behind, length-variables_back}
 use Rattle.bt_run.specs.declared.course.Course.{Course}
 use Rattle.bt_run.specs.declared.course.Step.{Step}
-use Rattle.bt_run.proofs.caller.StepCommand.take_step.Goals as goal
+use Rattle.bt_run.proofs.step_command.StepCommand.take_step.Goals as goal
 
 pub returns-clause-run : goal.returns-clause-run
 returns-clause-run c =

@@ -1,7 +1,7 @@
 use Rattle.std.proofs.Common.{arith}
 use Rattle.std.proofs.lemmas.Int.{to_z-of_z}
 use Rattle.bt_names.proofs.CallLemmas.{memory_name_fault, no_parts, some_parts}
-use Rattle.bt_names.proofs.calls.parts.Goals as goal
+use Rattle.bt_names.proofs.formatted_name.parts.Goals as goal
 
 pub returns-then-comma_count-gt2-clause-fault : goal.returns-then-comma_count-gt2-clause-fault
 returns-then-comma_count-gt2-clause-fault c =

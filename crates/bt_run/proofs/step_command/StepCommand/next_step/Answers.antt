@@ -4,7 +4,7 @@ use Rattle.bt_run.specs.declared.course.Step.{Step}
 use Rattle.bt_run.specs.declared.reuse.Reuse.{Reuse}
 use Rattle.bt_run.specs.inner.Work.{IsNext}
 use Rattle.bt_run.proofs.WorkLemmas.{met_again}
-use Rattle.bt_run.proofs.caller.StepCommand.next_step.Goals as goal
+use Rattle.bt_run.proofs.step_command.StepCommand.next_step.Goals as goal
 
 pub returns-in_ok-same-in-Some-clause-next : goal.returns-in_ok-same-in-Some-clause-next
 returns-in_ok-same-in-Some-clause-next c =

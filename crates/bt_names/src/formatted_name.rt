@@ -1,7 +1,7 @@
 //! The parts of a name, and a name in a pattern.
 
 ghost use Rattle.std.specs.Prelude.{◌≡◌, IfOk, IfErr, Ok};
-ghost use Rattle.bt_names.specs.Calls.{formatted_name, formatted_within, name_parts, IsFormatFault, IsNameFault};
+ghost use Rattle.bt_names.specs.FormattedName.{formatted_name, formatted_within, name_parts, IsFormatFault, IsNameFault};
 
 use crate::cuts::comma_count;
 use crate::faults::{FormatFault, NameFault};
@@ -29,7 +29,7 @@ pub enum Formatted {
 ///
 /// The faults are reported in this order: `NoSuchName` where n is 0 or less or above the number of names,
 /// `TooManyCommas` where the name has more than two, `OutOfMemory`. The first two take no memory.
-#[tactic(auto, unfolding(crate::specs::Calls::name_parts))]
+#[tactic(auto, unfolding(crate::specs::FormattedName::name_parts))]
 pub fn parts(alloc: Global, names: &[u8], n: i32) -> Result<Parts, NameFault>
     ensures parts { IfOk result (λ parts. name_parts names.now n ≡ Ok parts) }
     ensures fault { IfErr result (IsNameFault (name_parts names.now n)) }
@@ -50,7 +50,7 @@ pub fn parts(alloc: Global, names: &[u8], n: i32) -> Result<Parts, NameFault>
 ///
 /// It asks for little more memory than the names and the limit need, however long the whole text would be. The faults
 /// are those of `format`.
-#[tactic(auto, unfolding(crate::specs::Calls::formatted_name, crate::specs::Calls::formatted_within))]
+#[tactic(auto, unfolding(crate::specs::FormattedName::formatted_name, crate::specs::FormattedName::formatted_within))]
 pub fn format_within(
     alloc: Global,
     names: &[u8],
@@ -85,7 +85,7 @@ pub fn format_within(
 /// The faults are reported in this order: `NoSuchName` where n is 0 or less or above the number of names,
 /// `TooManyCommas` where the name has more than two, `PatternFault` with the place of the first fault of the pattern,
 /// `OutOfMemory`. The first three take no memory.
-#[tactic(auto, unfolding(crate::specs::Calls::formatted_within))]
+#[tactic(auto, unfolding(crate::specs::FormattedName::formatted_within))]
 pub fn format(alloc: Global, names: &[u8], n: i32, pattern: &[u8]) -> Result<Bytes, FormatFault>
     ensures text { IfOk result (λ text. formatted_name names.now n pattern.now ≡ Ok text) }
     ensures fault { IfErr result (IsFormatFault (formatted_name names.now n pattern.now)) }

@@ -2,7 +2,7 @@ use Rattle.std.proofs.Common.{◌≡◌, refl, sym, ap, ◌∙◌, subst, ℕ, L
 use Rattle.bt_style.specs.Program.{program_of}
 use Rattle.bt_run.specs.declared.course.Step.{Step}
 use Rattle.bt_run.specs.inner.Work.{step_now, IsNext}
-use Rattle.bt_run.proofs.caller.StepCommand.make_step.Goals as goal
+use Rattle.bt_run.proofs.step_command.StepCommand.make_step.Goals as goal
 
 pub returns-clause-next : goal.returns-clause-next
 returns-clause-next c =

@@ -2,7 +2,7 @@ use Rattle.std.proofs.Common.{◌≡◌, length, drop}
 use Rattle.bt_style.specs.Program.{program_of}
 use Rattle.bt_run.specs.inner.Work.{IsConsistent}
 use Rattle.bt_run.specs.Commands.{iterated}
-use Rattle.bt_run.proofs.caller.StepCommand.run_for_each.Given as goal
+use Rattle.bt_run.proofs.step_command.StepCommand.run_for_each.Given as goal
 
 -- the steps for the places that are left give the whole
 abbrev pub invariant-places : goal.invariant-places

@@ -2,7 +2,7 @@
 
 ghost use Rattle.std.specs.Prelude.{◌≡◌, ◌<◌, true, Some, All, Contains, IfOk, IfSome, IsSome, IsTrue, OnOk, length, reverse, slice_get};
 ghost use Rattle.bt_style.specs.Program.{program_of};
-ghost use Rattle.bt_machine.specs.Place.{IsPlace};
+ghost use Rattle.bt_machine.specs.OwnEntry.{IsPlace};
 ghost use Rattle.bt_run.specs.Course.{course_world, input_at, stepped};
 ghost use Rattle.bt_run.specs.inner.Earlier.{AreSame, IsMarked};
 ghost use Rattle.bt_run.specs.inner.Work.{IsConsistent, IsNext};
@@ -101,7 +101,8 @@ impl<'a> StepCommand<'a> {
             (λ s. IsNext (program_of self.entry.job.style.now) self.entry.job.earlier.steps.now s reuse.old reuse.new) }
     {
         let StepCommand { alloc, job, site } = self;
-        // Its length fits 64 bits, so that the count of the steps that were carried out can't overflow.
+        // Read for the proof alone: its length fits 64 bits, so that the count of the steps that were carried out can't
+        // overflow.
         let _steps = course.trace.len();
         let key = key_of(&input)?;
         let Done { outcome, cost } = take_or_reuse(
@@ -170,6 +171,7 @@ impl<'a> StepCommand<'a> {
             (IsConsistent (program_of self.entry.job.style.now) self.entry.job.earlier course.new reuse.new) }
         ensures entries { OnOk result (length course.new.entries ≡ length course.old.entries) }
     {
+        // A law of the machine, for the proof alone: the call does nothing.
         step_depends_on_its_input();
         let step = self.next_step(target, place, course, reuse)?;
         put_back(self.alloc, course, place, &step.outcome)?;

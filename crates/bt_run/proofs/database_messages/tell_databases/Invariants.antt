@@ -1,6 +1,6 @@
 use Rattle.std.proofs.Common.{◌≡◌, ◌+◌, ◌++◌, drop}
 use Rattle.bt_run.specs.ReadCommand.{databases_told}
-use Rattle.bt_run.proofs.databases.tell_databases.Given as goal
+use Rattle.bt_run.proofs.database_messages.tell_databases.Given as goal
 
 abbrev pub invariant-databases : goal.invariant-databases
 invariant-databases l =

@@ -1,7 +1,7 @@
 use Rattle.std.proofs.Common.{◌≡◌, ◌++◌, drop, filter}
 use Rattle.bt_log.specs.declared.message.Message.{Message}
 use Rattle.bt_run.specs.ReadCommand.{is_general}
-use Rattle.bt_run.proofs.databases.tell_general.Given as goal
+use Rattle.bt_run.proofs.database_messages.tell_general.Given as goal
 
 abbrev pub invariant-messages : goal.invariant-messages
 invariant-messages l =

@@ -5,8 +5,8 @@ use Rattle.bt_names.specs.declared.faults.NameFault.{NameFault}
 use Rattle.bt_names.specs.declared.faults.NameFault.TheVariants.{NoSuchName as no_such_name, TooManyCommas as too_many_commas, OutOfMemory as no_memory}
 use Rattle.bt_names.specs.declared.faults.FormatFault.{FormatFault}
 use Rattle.bt_names.specs.declared.faults.FormatFault.TheVariants.{NoSuchName, TooManyCommas, PatternFault, OutOfMemory}
-use Rattle.bt_names.specs.declared.calls.Formatted.{Formatted}
-use Rattle.bt_names.specs.declared.calls.Formatted.TheVariants.{Text, Longer}
+use Rattle.bt_names.specs.declared.formatted_name.Formatted.{Formatted}
+use Rattle.bt_names.specs.declared.formatted_name.Formatted.TheVariants.{Text, Longer}
 use Rattle.bt_names.specs.Names.{name_at}
 use Rattle.bt_names.specs.NameParts.{parts_of}
 use Rattle.bt_names.specs.Patterns.{pattern_fault}

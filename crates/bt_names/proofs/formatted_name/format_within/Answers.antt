@@ -1,7 +1,7 @@
 use Rattle.std.proofs.Common.{arith, sym}
 use Rattle.std.proofs.lemmas.Int.{to_z-of_z}
 use Rattle.bt_names.proofs.CallLemmas.{memory_format_fault, no_text, some_text, fault_of_pattern}
-use Rattle.bt_names.proofs.calls.format_within.Goals as goal
+use Rattle.bt_names.proofs.formatted_name.format_within.Goals as goal
 
 pub returns-then-comma_count-gt2-clause-fault : goal.returns-then-comma_count-gt2-clause-fault
 returns-then-comma_count-gt2-clause-fault c =

@@ -1,7 +1,7 @@
 use Rattle.std.proofs.Common.{◌≡◌, ◌++◌, drop, map, filter}
 use Rattle.bt_log.specs.declared.message.Message.{Message}
 use Rattle.bt_run.specs.ReadCommand.{in_its_file, is_about, database_told}
-use Rattle.bt_run.proofs.databases.tell_database.Given as goal
+use Rattle.bt_run.proofs.database_messages.tell_database.Given as goal
 
 abbrev pub invariant-messages : goal.invariant-messages
 invariant-messages l =
