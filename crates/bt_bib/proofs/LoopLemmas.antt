@@ -2,7 +2,7 @@
 use Rattle.std.proofs.Common.{◌≡◌, ℕ, ◌-◌, ◌<◌, List, [], length, Option, Some, None, Result, Ok, sym, ap, subst, ◌∙◌, length-drop, arith}
 use Rattle.bt_bib.specs.declared.spot.Spot.{Spot}
 use Rattle.bt_bib.specs.declared.stop.ReadStop.{ReadStop}
-use Rattle.bt_bib.specs.declared.stop.ReadStop.TheVariants.{Memory, Stopped}
+use Rattle.bt_bib.specs.declared.stop.ReadStop.TheVariants.{OutOfMemory, Stopped}
 use Rattle.bt_bib.specs.Spot.{Here, here}
 use Rattle.bt_bib.specs.inner.Spot.{IsAhead}
 use Rattle.bt_bib.specs.Stop.{Stop, ◌>>=◌}
@@ -28,7 +28,7 @@ pub ends_none : {A : Type 0} (next : Here → Result (Option A × Here) Stop) �
 ends_none next less before front text from s e same is = ap read_out (sym same ∙ gathers_none next less front (here text s) (here text e) is)
 
 pub ends_err : {A : Type 0} (next : Here → Result (Option A × Here) Stop) → ((h : Here) → IsLess h (next h)) → (before front : List A) (text : List ℕ) (from s : Spot) (e : ReadStop) → gathered front (all next (here text s)) ≡ gathered before (all next (here text from)) → IsAhead text from s → Stops text s e (next (here text s)) → Stops text from e (collected before (all next (here text from)))
-ends_err next less before front text from s Memory same inside is = tt
+ends_err next less before front text from s OutOfMemory same inside is = tt
 ends_err next less before front text from s (Stopped fault k) same inside is = (ap read_out (sym same ∙ gathers_err next less front (here text s) (fault, here text k) is.0), ahead_then text from s k inside is.1)
 
 pub all_none : {A : Type 0} (next : Here → Result (Option A × Here) Stop) → ((h : Here) → IsLess h (next h)) → (front : List A) (text : List ℕ) (from s e : Spot) → gathered front (all next (here text s)) ≡ gathered [] (all next (here text from)) → next (here text s) ≡ Ok (None, here text e) → all next (here text from) ≡ (front, Ok (here text e))
@@ -39,5 +39,5 @@ pub fills_none : {A : Type 0} (next : Here → Result (Option A × Here) Stop) �
 fills_none next less before front text from s e same is = sym same ∙ gathers_none next less front (here text s) (here text e) is
 
 pub fills_err : {A : Type 0} (next : Here → Result (Option A × Here) Stop) → ((h : Here) → IsLess h (next h)) → (before front : List A) (text : List ℕ) (from s : Spot) (halt : ReadStop) → gathered front (all next (here text s)) ≡ gathered before (all next (here text from)) → IsAhead text from s → Stops text s halt (next (here text s)) → FillsTo text from halt front (gathered before (all next (here text from)))
-fills_err next less before front text from s Memory same inside is = tt
+fills_err next less before front text from s OutOfMemory same inside is = tt
 fills_err next less before front text from s (Stopped fault k) same inside is = (sym same ∙ gathers_err next less front (here text s) (fault, here text k) is.0, ahead_then text from s k inside is.1)

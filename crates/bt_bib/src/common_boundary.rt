@@ -13,16 +13,9 @@ use crate::boundaries::{count_below, last_boundary};
 use crate::kept_items::KeptItems;
 use crate::placed_pieces::PlacedPiece;
 use crate::reader::Reader;
+use crate::splice::Splice;
 use crate::spot::Spot;
 use std::alloc::AllocError;
-
-/// A splice of a text: `inserted` bytes came in the place of those from `begin` up to `end`.
-#[derive(Clone, Copy, Debug)]
-pub struct Splice {
-    pub begin: usize,
-    pub end: usize,
-    pub inserted: usize,
-}
 
 /// How many pieces of the old text end at or before this place of the new one, where it is a boundary of both.
 fn joint(old: &[PlacedPiece], splice: Splice, place: usize) -> Option<usize>

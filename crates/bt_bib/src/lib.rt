@@ -29,7 +29,6 @@ mod values;
 pub use aux_argument::AuxFault;
 pub use aux_line::{AuxItem, Command, read_aux};
 pub use bib_text::read_bib;
-pub use common_boundary::Splice;
 pub use fault::{ItemFault, NameRole};
 pub use item::{Closing, Content, Definition, Entry, Field, Item, Part, Piece};
 pub use items::Items;
@@ -42,4 +41,5 @@ pub use laws::{
 };
 pub use meter::ReadMeter;
 pub use placed_pieces::PlacedPiece;
+pub use splice::Splice;
 pub use spot::Spot;

@@ -32,7 +32,7 @@ fn item(
         Ok(end) => (end, None),
         Err(halt) => match halt {
             ReadStop::Stopped(fault, end) => (end, Some(fault)),
-            ReadStop::Memory => return Err(AllocError),
+            ReadStop::OutOfMemory => return Err(AllocError),
         },
     };
     let item = Item {

@@ -4,12 +4,19 @@ ghost use Rattle.std.specs.Prelude.{◌≡◌, ◌<◌, ◌+◌, ◌-◌, ◌^�
 ghost use Rattle.bt_bib.specs.BibText.{pieces_of};
 
 use crate::boundaries::{count_below, last_boundary};
-use crate::common_boundary::Splice;
 use crate::kept_items::KeptItems;
 use crate::meter::ReadMeter;
 use crate::reader::Reader;
 use crate::spot::Spot;
 use std::alloc::{AllocError, Global};
+
+/// A splice of a text: `inserted` bytes came in the place of those from `begin` up to `end`.
+#[derive(Clone, Copy, Debug)]
+pub struct Splice {
+    pub begin: usize,
+    pub end: usize,
+    pub inserted: usize,
+}
 
 impl KeptItems {
     ghost use Rattle.bt_bib.specs.Splice.{reread_from, reread_upto, IsSplice};

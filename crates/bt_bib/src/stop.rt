@@ -1,7 +1,7 @@
 //! Why a reader gives no value.
 
 ghost use Rattle.std.specs.Prelude.{◌≡◌};
-ghost use Rattle.bt_bib.specs.declared.stop.ReadStop.TheVariants.{Memory};
+ghost use Rattle.bt_bib.specs.declared.stop.ReadStop.TheVariants.{OutOfMemory};
 
 use crate::fault::ItemFault;
 use crate::spot::Spot;
@@ -11,23 +11,23 @@ use std::alloc::{AllocError, AllocFailed};
 #[derive(Debug, Drop)]
 pub enum ReadStop {
     /// There is no memory left.
-    Memory,
+    OutOfMemory,
     /// No rule goes on at this place.
     Stopped(ItemFault, Spot),
 }
 
 impl From<AllocError> for ReadStop {
-    ghost from_gives = { λ _ halt. halt ≡ Memory };
+    ghost from_gives = { λ _ halt. halt ≡ OutOfMemory };
 
     fn from(_error: AllocError) -> ReadStop {
-        ReadStop::Memory
+        ReadStop::OutOfMemory
     }
 }
 
 impl<T: Drop> From<AllocFailed<T>> for ReadStop {
-    ghost from_gives = { λ _ halt. halt ≡ Memory };
+    ghost from_gives = { λ _ halt. halt ≡ OutOfMemory };
 
     fn from(_error: AllocFailed<T>) -> ReadStop {
-        ReadStop::Memory
+        ReadStop::OutOfMemory
     }
 }

@@ -2,8 +2,8 @@
 use Rattle.std.proofs.Common.{◌≡◌, ℕ, ◌+◌, ◌-◌, ◌≤◌, Bool, true, false, cond, List, [], ◌∷◌, ◌++◌, get_or, length, take, drop, Result, Ok, Err, IfErr, IsErrAnd, refl, sym, ap, arith, length-append}
 use Rattle.std.proofs.lemmas.List.{length-take-le, take_all}
 use Rattle.bt_names.specs.declared.tokens.Token.{Token}
-use Rattle.bt_names.specs.declared.growth.Stop.{Stop}
-use Rattle.bt_names.specs.declared.growth.Stop.TheVariants.{Longer, OutOfMemory}
+use Rattle.bt_names.specs.declared.growth.GrowthFault.{GrowthFault}
+use Rattle.bt_names.specs.declared.growth.GrowthFault.TheVariants.{Longer, OutOfMemory}
 use Rattle.bt_names.specs.inner.Growth.{StopsAt}
 use Rattle.bt_names.specs.Joints.{Between, is_short, joined}
 use Rattle.bt_names.specs.Groups.{ends_in_tie, group_finished, put_in}
@@ -22,12 +22,12 @@ finished_longer out =
         let front = take (length out - 1) out in
         omega (arith, length-take-le (length out - 1) out (omega arith), length-append front (32 ∷ []))
 
-finished_stops : (limit : ℕ) (t out : List ℕ) (stop : Stop) → length t ≤ length out → StopsAt (limit + 1) t stop → StopsAt limit (group_finished out) stop
+finished_stops : (limit : ℕ) (t out : List ℕ) (stop : GrowthFault) → length t ≤ length out → StopsAt (limit + 1) t stop → StopsAt limit (group_finished out) stop
 finished_stops limit t out Longer h s = omega (arith, finished_longer out)
 finished_stops limit t out OutOfMemory h s = tt
 
 -- the exit of a `?` before the end of a group
-pub end_stops : {X : Type 0} (r : Result X Stop) (limit : ℕ) (t out : List ℕ) (stop : Stop) → length t ≤ length out → IsErrAnd r (λ e. e ≡ stop) → StopsAt (limit + 1) t stop → IfErr r (StopsAt limit (group_finished out))
+pub end_stops : {X : Type 0} (r : Result X GrowthFault) (limit : ℕ) (t out : List ℕ) (stop : GrowthFault) → length t ≤ length out → IsErrAnd r (λ e. e ≡ stop) → StopsAt (limit + 1) t stop → IfErr r (StopsAt limit (group_finished out))
 end_stops (Ok x) limit t out stop h same s = tt
 end_stops (Err e) limit t out stop h same s = rw same (finished_stops limit t out stop h s)
 
@@ -41,7 +41,7 @@ others_are [] = refl
 others_are (w ∷ ws) = take_all (length (w ∷ ws) - 1) ws (omega arith)
 
 -- the exit of a `?` in a part that is put in
-pub part_stops : {X : Type 0} (r : Result X Stop) (limit : ℕ) (between : Between) (before : List ℕ) (w : Token) (ws : List Token) (behind t : List ℕ) (stop : Stop) → 1 ≤ length ws → w ≡ get_or ws 0 w → length t ≤ length (joined between (before ++ w.text) (drop 1 ws)) → IsErrAnd r (λ e. e ≡ stop) → StopsAt (limit + 1) t stop → IfErr r (StopsAt limit (put_in between before ws behind))
+pub part_stops : {X : Type 0} (r : Result X GrowthFault) (limit : ℕ) (between : Between) (before : List ℕ) (w : Token) (ws : List Token) (behind t : List ℕ) (stop : GrowthFault) → 1 ≤ length ws → w ≡ get_or ws 0 w → length t ≤ length (joined between (before ++ w.text) (drop 1 ws)) → IsErrAnd r (λ e. e ≡ stop) → StopsAt (limit + 1) t stop → IfErr r (StopsAt limit (put_in between before ws behind))
 part_stops r limit between before w ws behind t stop some is h same s =
     let out = joined between (before ++ w.text) (drop 1 ws) in
     rw (first_is ws w some is) (end_stops r limit t (out ++ behind) stop (omega (arith, length-append out behind)) same s)

@@ -1,7 +1,7 @@
 -- Tokens one after another.
 use Rattle.std.proofs.Common.{◌≡◌, ℕ, ◌+◌, ◌<◌, ◌≤◌, cond, eqb, ltb, ◌||◌, List, [], ◌∷◌, ◌++◌, get_or, length, drop, Result, IfErr, IsErrAnd, sym, ap, ◌∙◌, arith, length-append, length-drop}
 use Rattle.std.proofs.lemmas.List.{drop_more}
-use Rattle.bt_names.specs.declared.growth.Stop.{Stop}
+use Rattle.bt_names.specs.declared.growth.GrowthFault.{GrowthFault}
 use Rattle.bt_names.specs.inner.Growth.{StopsAt}
 use Rattle.bt_names.proofs.GrowthLemmas.{stops_through}
 use Rattle.std.proofs.lemmas.Bool.Decides.{nat_tests}
@@ -49,13 +49,13 @@ join_step form out dots ws i sign w all h is f g k =
     ap (λ s. joined (by_signs form) ((dots ++ s ∷ []) ++ w.text) rest) same ∙ ap (λ d. joined (by_signs form) ((d ++ cond {A = ℕ} (is_separator w.before) w.before (cond {A = ℕ} (eqb (length rest) 0 || ltb (text_length_of d) 3) 126 32) ∷ []) ++ w.text) rest) f ∙ ap (joined (by_signs form) out) (sym e) ∙ k
 
 -- the exit of a loop that joins tokens by a text
-pub text_stops : {X : Type 0} (r : Result X Stop) (limit : ℕ) (text out : List ℕ) (ws : List Token) (i : ℕ) (w : Token) (all : List ℕ) (stop : Stop) → i < length ws → w ≡ get_or ws i w → joined (by_text text) out (drop i ws) ≡ all → IsErrAnd r (λ e. e ≡ stop) → StopsAt limit (out ++ text ++ w.text) stop → IfErr r (StopsAt limit all)
+pub text_stops : {X : Type 0} (r : Result X GrowthFault) (limit : ℕ) (text out : List ℕ) (ws : List Token) (i : ℕ) (w : Token) (all : List ℕ) (stop : GrowthFault) → i < length ws → w ≡ get_or ws i w → joined (by_text text) out (drop i ws) ≡ all → IsErrAnd r (λ e. e ≡ stop) → StopsAt limit (out ++ text ++ w.text) stop → IfErr r (StopsAt limit all)
 text_stops r limit text out ws i w all stop h is same e s =
     let whole = sym (ap (joined (by_text text) out) (first_behind ws i w h is)) ∙ same in
     stops_through r limit (out ++ text ++ w.text) all stop e (omega (arith, joined_longer (by_text text) (out ++ text ++ w.text) (drop (i + 1) ws), ap length whole)) s
 
 -- the exits of a loop that joins tokens by signs
-pub dots_stop : {X : Type 0} (r : Result X Stop) (limit : ℕ) (form : Form) (out : List ℕ) (ws : List Token) (i : ℕ) (w : Token) (all : List ℕ) (stop : Stop) → i < length ws → w ≡ get_or ws i w → joined (by_signs form) out (drop i ws) ≡ all → IsErrAnd r (λ e. e ≡ stop) → StopsAt limit (dotted form out) stop → IfErr r (StopsAt limit all)
+pub dots_stop : {X : Type 0} (r : Result X GrowthFault) (limit : ℕ) (form : Form) (out : List ℕ) (ws : List Token) (i : ℕ) (w : Token) (all : List ℕ) (stop : GrowthFault) → i < length ws → w ≡ get_or ws i w → joined (by_signs form) out (drop i ws) ≡ all → IsErrAnd r (λ e. e ≡ stop) → StopsAt limit (dotted form out) stop → IfErr r (StopsAt limit all)
 dots_stop r limit form out ws i w all stop h is same e s =
     let rest = drop (i + 1) ws in
     let dots = dotted form out in
@@ -63,6 +63,6 @@ dots_stop r limit form out ws i w all stop h is same e s =
     let whole = sym (ap (joined (by_signs form) out) (first_behind ws i w h is)) ∙ same in
     stops_through r limit dots all stop e (omega (arith, joined_longer (by_signs form) (link ++ w.text) rest, length-append link w.text, length-append dots (sign_before dots w rest ∷ []), ap length whole)) s
 
-pub signs_stop : {X : Type 0} (r : Result X Stop) (limit : ℕ) (form : Form) (out : List ℕ) (rest : List Token) (all : List ℕ) (stop : Stop) → joined (by_signs form) out rest ≡ all → IsErrAnd r (λ e. e ≡ stop) → StopsAt limit out stop → IfErr r (StopsAt limit all)
+pub signs_stop : {X : Type 0} (r : Result X GrowthFault) (limit : ℕ) (form : Form) (out : List ℕ) (rest : List Token) (all : List ℕ) (stop : GrowthFault) → joined (by_signs form) out rest ≡ all → IsErrAnd r (λ e. e ≡ stop) → StopsAt limit out stop → IfErr r (StopsAt limit all)
 signs_stop r limit form out rest all stop same e s =
     stops_through r limit out all stop e (omega (arith, joined_longer (by_signs form) out rest, ap length same)) s

@@ -6,7 +6,7 @@ ghost use Rattle.bt_names.specs.FormattedName.{formatted_name, formatted_within,
 use crate::cuts::comma_count;
 use crate::faults::{FormatFault, NameFault};
 use crate::groups::formatted;
-use crate::growth::Stop;
+use crate::growth::GrowthFault;
 use crate::name::Name;
 use crate::name_parts::sections_of;
 use crate::names::name_at;
@@ -75,8 +75,8 @@ pub fn format_within(
     let parts = Spelled::new(alloc, sections.parts())?;
     match formatted(alloc, limit, &parts, pattern) {
         Ok(text) => Ok(Formatted::Text(Bytes::from_vec(text))),
-        Err(Stop::Longer) => Ok(Formatted::Longer),
-        Err(Stop::OutOfMemory) => Err(FormatFault::OutOfMemory),
+        Err(GrowthFault::Longer) => Ok(Formatted::Longer),
+        Err(GrowthFault::OutOfMemory) => Err(FormatFault::OutOfMemory),
     }
 }
 

@@ -8,7 +8,7 @@ ghost use Rattle.bt_names.specs.Joints.{by_signs, by_text};
 ghost use Rattle.bt_names.specs.Patterns.{letter_places};
 ghost use Rattle.bt_names.specs.Groups.{block_output, ends_in_tie, group_finished, form_at, formatted, group_output, put_in, with_tokens};
 
-use crate::growth::{Stop, push_in_group, push_within};
+use crate::growth::{GrowthFault, push_in_group, push_within};
 use crate::joints::{join_by_signs, join_by_text, push_linked};
 use crate::lent_tokens::LentToken;
 use crate::patterns::{begins_group, inside, is_doubled_at, letter_end, next_letter};
@@ -50,7 +50,12 @@ fn finish(out: &mut Vec<u8>)
 }
 
 /// The first token of a part, with what stands in the group before it.
-fn begun(alloc: Global, limit: usize, before: &[u8], first: &LentToken) -> Result<Vec<u8>, Stop>
+fn begun(
+    alloc: Global,
+    limit: usize,
+    before: &[u8],
+    first: &LentToken,
+) -> Result<Vec<u8>, GrowthFault>
     ensures ok { IfOk result (λ t. t.items ≡ before.now ++ first.now.text) }
     ensures stop { IfErr result (StopsAt (limit + 1) (before.now ++ first.now.text)) }
 {
@@ -60,7 +65,7 @@ fn begun(alloc: Global, limit: usize, before: &[u8], first: &LentToken) -> Resul
 }
 
 /// A group's output with what stands in the group after it, and its end finished.
-fn ended(out: Vec<u8>, limit: usize, behind: &[u8]) -> Result<Vec<u8>, Stop>
+fn ended(out: Vec<u8>, limit: usize, behind: &[u8]) -> Result<Vec<u8>, GrowthFault>
     ensures ok { IfOk result (λ t. t.items ≡ group_finished (out.items ++ behind.now)) }
     ensures stop { IfErr result (StopsAt limit (group_finished (out.items ++ behind.now))) }
 {
@@ -78,7 +83,7 @@ fn put_in_by_text(
     before: &[u8],
     tokens: &[LentToken],
     behind: &[u8],
-) -> Result<Vec<u8>, Stop>
+) -> Result<Vec<u8>, GrowthFault>
     ensures ok { IfOk result (λ t. t.items ≡ put_in (by_text text.now) before.now tokens.now behind.now) }
     ensures stop { IfErr result (StopsAt limit (put_in (by_text text.now) before.now tokens.now behind.now)) }
 {
@@ -100,7 +105,7 @@ fn put_in_by_signs(
     before: &[u8],
     tokens: &[LentToken],
     behind: &[u8],
-) -> Result<Vec<u8>, Stop>
+) -> Result<Vec<u8>, GrowthFault>
     ensures ok { IfOk result (λ t. t.items ≡ put_in (by_signs form) before.now tokens.now behind.now) }
     ensures stop { IfErr result (StopsAt limit (put_in (by_signs form) before.now tokens.now behind.now)) }
 {
@@ -122,7 +127,7 @@ fn with_tokens(
     form: Form,
     tokens: &[LentToken],
     behind: &[u8],
-) -> Result<Vec<u8>, Stop>
+) -> Result<Vec<u8>, GrowthFault>
     ensures ok { IfOk result (λ t. t.items ≡ with_tokens before.now form tokens.now behind.now) }
     ensures stop { IfErr result (StopsAt limit (with_tokens before.now form tokens.now behind.now)) }
 {
@@ -148,7 +153,12 @@ fn form_at(text: &[u8], place: usize) -> Form
 }
 
 /// What a group gives, from what stands inside it.
-fn group_output(alloc: Global, limit: usize, parts: &Spelled, text: &[u8]) -> Result<Vec<u8>, Stop>
+fn group_output(
+    alloc: Global,
+    limit: usize,
+    parts: &Spelled,
+    text: &[u8],
+) -> Result<Vec<u8>, GrowthFault>
     ensures ok { IfOk result (λ t. t.items ≡ group_output parts.now text.now (letter_places text.now)) }
     ensures stop { IfErr result (StopsAt limit (group_output parts.now text.now (letter_places text.now))) }
 {
@@ -171,7 +181,7 @@ fn push_block(
     limit: usize,
     parts: &Spelled,
     block: &[u8],
-) -> Result<(), Stop>
+) -> Result<(), GrowthFault>
     ensures ok { OnOk result (out.new.items ≡ out.old.items ++ block_output parts.now block.now) }
     ensures within { OnOk result (length out.new.items ≤ limit) }
     ensures stop { IfErr result (StopsAt limit (out.old.items ++ block_output parts.now block.now)) }
@@ -191,7 +201,7 @@ pub fn formatted(
     limit: usize,
     parts: &Spelled,
     pattern: &[u8],
-) -> Result<Vec<u8>, Stop>
+) -> Result<Vec<u8>, GrowthFault>
     ensures ok { IfOk result (λ t. t.items ≡ formatted parts.now pattern.now) }
     ensures within { IfOk result (λ t. length t.items ≤ limit) }
     ensures stop { IfErr result (StopsAt limit (formatted parts.now pattern.now)) }

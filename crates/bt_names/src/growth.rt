@@ -7,31 +7,31 @@ use std::alloc::AllocError;
 
 /// Why a text was not finished.
 #[derive(Clone, Copy, PartialEq, Eq, Debug)]
-pub enum Stop {
+pub enum GrowthFault {
     /// It gets longer than the limit.
     Longer,
     /// There is no memory left.
     OutOfMemory,
 }
 
-impl From<AllocError> for Stop {
-    ghost use Rattle.bt_names.specs.declared.growth.Stop.TheVariants.{OutOfMemory};
+impl From<AllocError> for GrowthFault {
+    ghost use Rattle.bt_names.specs.declared.growth.GrowthFault.TheVariants.{OutOfMemory};
 
     ghost from_gives = { λ _ e. e ≡ OutOfMemory };
 
-    fn from(_error: AllocError) -> Stop {
-        Stop::OutOfMemory
+    fn from(_error: AllocError) -> GrowthFault {
+        GrowthFault::OutOfMemory
     }
 }
 
 /// Puts bytes after a text, unless it gets longer than the limit.
-pub fn push_within(out: &mut Vec<u8>, limit: usize, more: &[u8]) -> Result<(), Stop>
+pub fn push_within(out: &mut Vec<u8>, limit: usize, more: &[u8]) -> Result<(), GrowthFault>
     ensures ok { OnOk result (out.new.items ≡ out.old.items ++ more.now) }
     ensures within { OnOk result (length out.new.items ≤ limit) }
     ensures stop { IfErr result (StopsAt limit (out.old.items ++ more.now)) }
 {
     if limit < out.len() + more.len() {
-        return Err(Stop::Longer);
+        return Err(GrowthFault::Longer);
     }
     out.extend_from_slice(more)?;
     Ok(())
@@ -39,12 +39,12 @@ pub fn push_within(out: &mut Vec<u8>, limit: usize, more: &[u8]) -> Result<(), S
 
 /// Puts bytes after a group's output, unless it gets more than a byte longer than the limit: the end of a group may
 /// take one byte away.
-pub fn push_in_group(out: &mut Vec<u8>, limit: usize, more: &[u8]) -> Result<(), Stop>
+pub fn push_in_group(out: &mut Vec<u8>, limit: usize, more: &[u8]) -> Result<(), GrowthFault>
     ensures ok { OnOk result (out.new.items ≡ out.old.items ++ more.now) }
     ensures stop { IfErr result (StopsAt (limit + 1) (out.old.items ++ more.now)) }
 {
     if limit < (out.len() + more.len()).saturating_sub(1) {
-        return Err(Stop::Longer);
+        return Err(GrowthFault::Longer);
     }
     out.extend_from_slice(more)?;
     Ok(())

@@ -6,7 +6,7 @@ ghost use Rattle.bt_text.specs.Length.{text_length_of};
 ghost use Rattle.bt_names.specs.inner.Growth.{StopsAt};
 ghost use Rattle.bt_names.specs.Joints.{by_signs, by_text, dotted, is_short, joined};
 
-use crate::growth::{Stop, push_in_group};
+use crate::growth::{GrowthFault, push_in_group};
 use crate::lent_tokens::LentToken;
 use crate::spelling::Form;
 use bt_text::{is_separator, text_length};
@@ -17,7 +17,7 @@ pub fn push_linked(
     limit: usize,
     link: &[u8],
     token: &LentToken,
-) -> Result<(), Stop>
+) -> Result<(), GrowthFault>
     ensures ok { OnOk result (out.new.items ≡ out.old.items ++ link.now ++ token.now.text) }
     ensures stop { IfErr result (StopsAt (limit + 1) (out.old.items ++ link.now ++ token.now.text)) }
 {
@@ -31,7 +31,7 @@ pub fn join_by_text(
     limit: usize,
     text: &[u8],
     tokens: &[LentToken],
-) -> Result<(), Stop>
+) -> Result<(), GrowthFault>
     ensures ok { OnOk result (out.new.items ≡ joined (by_text text.now) out.old.items tokens.now) }
     ensures stop { IfErr result (StopsAt (limit + 1) (joined (by_text text.now) out.old.items tokens.now)) }
 {
@@ -42,7 +42,7 @@ pub fn join_by_text(
 }
 
 /// Puts a full stop after an initial.
-fn push_dot(out: &mut Vec<u8>, limit: usize, form: Form) -> Result<(), Stop>
+fn push_dot(out: &mut Vec<u8>, limit: usize, form: Form) -> Result<(), GrowthFault>
     ensures ok { OnOk result (out.new.items ≡ dotted form out.old.items) }
     ensures stop { IfErr result (StopsAt (limit + 1) (dotted form out.old.items)) }
 {
@@ -80,7 +80,7 @@ pub fn join_by_signs(
     limit: usize,
     form: Form,
     tokens: &[LentToken],
-) -> Result<(), Stop>
+) -> Result<(), GrowthFault>
     ensures ok { OnOk result (out.new.items ≡ joined (by_signs form) out.old.items tokens.now) }
     ensures stop { IfErr result (StopsAt (limit + 1) (joined (by_signs form) out.old.items tokens.now)) }
 {

@@ -6,11 +6,11 @@ use Rattle.bt_bib.specs.declared.item.Content.{Content}
 use Rattle.bt_bib.specs.declared.item.Piece.{Piece}
 use Rattle.bt_bib.specs.declared.item.Piece.TheVariants as pieces
 use Rattle.bt_bib.specs.declared.stop.ReadStop.{ReadStop}
-use Rattle.bt_bib.specs.declared.stop.ReadStop.TheVariants.{Memory, Stopped}
+use Rattle.bt_bib.specs.declared.stop.ReadStop.TheVariants.{OutOfMemory, Stopped}
 
 -- A piece of the code, with the place after it, is an item with such an end; where memory ran out, none is.
 abbrev pub IsFaulty : Spot → ℕ → Content → Option Closing → ReadStop → Piece × Spot → Type 0
-IsFaulty start line content close Memory made = ⊥
+IsFaulty start line content close OutOfMemory made = ⊥
 IsFaulty start line content close (Stopped fault s) made =
     made ≡ (
       pieces.Item (record {

@@ -3,7 +3,7 @@ use Rattle.std.specs.Prelude.{◌≡◌, List, Result, Ok, Err, IfOk}
 use Rattle.std.specs.declared.alloc.AllocError.{AllocError}
 use Rattle.bt_bib.specs.declared.spot.Spot.{Spot}
 use Rattle.bt_bib.specs.declared.stop.ReadStop.{ReadStop}
-use Rattle.bt_bib.specs.declared.stop.ReadStop.TheVariants.{Memory, Stopped}
+use Rattle.bt_bib.specs.declared.stop.ReadStop.TheVariants.{OutOfMemory, Stopped}
 use Rattle.std.specs.Prelude.{ℕ}
 use Rattle.bt_bib.specs.Spot.{Here, here}
 use Rattle.bt_bib.specs.inner.Spot.{IsAhead}
@@ -11,7 +11,7 @@ use Rattle.bt_bib.specs.Stop.{Stop}
 
 -- A reader of the code stops where the definition does, unless memory ran out.
 abbrev pub Stops : {Y : Type 0} → List ℕ → Spot → ReadStop → Result Y Stop → Type 0
-Stops text from Memory read = Unit {0}
+Stops text from OutOfMemory read = Unit {0}
 Stops text from (Stopped fault s) read = (read ≡ Err (fault, here text s)) × IsAhead text from s
 
 -- It gives what the definition reads, and the spot after it.
@@ -26,7 +26,7 @@ Finds text from (Err halt) read = Stops text from halt read
 
 -- It leaves in x what the definition reads, up to where that ends.
 abbrev pub FillsTo : {X : Type 0} → List ℕ → Spot → ReadStop → X → X × Result Here Stop → Type 0
-FillsTo text from Memory x read = Unit {0}
+FillsTo text from OutOfMemory x read = Unit {0}
 FillsTo text from (Stopped fault s) x read = (read ≡ (x, Err (fault, here text s))) × IsAhead text from s
 
 abbrev pub Fills : {X : Type 0} → List ℕ → Spot → Result Spot ReadStop → X → X × Result Here Stop → Type 0

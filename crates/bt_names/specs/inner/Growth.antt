@@ -1,9 +1,9 @@
 -- Why a text was not finished.
 use Rattle.std.specs.Prelude.{ℕ, ◌<◌, List, length}
-use Rattle.bt_names.specs.declared.growth.Stop.{Stop}
-use Rattle.bt_names.specs.declared.growth.Stop.TheVariants.{Longer, OutOfMemory}
+use Rattle.bt_names.specs.declared.growth.GrowthFault.{GrowthFault}
+use Rattle.bt_names.specs.declared.growth.GrowthFault.TheVariants.{Longer, OutOfMemory}
 
 -- `Longer` says that the whole text has more bytes than the limit; out of memory says nothing of it.
-abbrev pub StopsAt : ℕ → List ℕ → Stop → Type 0
+abbrev pub StopsAt : ℕ → List ℕ → GrowthFault → Type 0
 StopsAt limit t Longer = limit < length t
 StopsAt limit t OutOfMemory = Unit {0}
