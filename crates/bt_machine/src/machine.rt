@@ -53,7 +53,7 @@ fn builtin_called(op: &Op) -> Option<Builtin>
 {
     match op {
         Op::Call(target) => builtin_in(*target),
-        Op::Number(_) | Op::Text(_) | Op::Quote(_) | Op::Braced(_) => None,
+        Op::Number(_) | Op::Text(_) | Op::Quote(_) | Op::Block(_) => None,
     }
 }
 
@@ -252,7 +252,7 @@ impl<'a> Machine<'a> {
             Op::Number(n) => self.state.push_number(*n),
             Op::Text(text) => self.state.push_text(Text::Lent(text.as_slice())),
             Op::Quote(target) => self.push(Value::Code(Code::Name(*target))),
-            Op::Braced(ops) => self.push(Value::Code(Code::Block(ops))),
+            Op::Block(ops) => self.push(Value::Code(Code::Block(ops))),
             Op::Call(target) => self.call(alloc, *target),
         }
     }

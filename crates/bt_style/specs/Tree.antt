@@ -28,7 +28,7 @@ abbrev pub element_step : Op-F Element → Element
 element_step (op.Number n) = Amount n
 element_step (op.Text t) = Words t
 element_step (op.Quote name) = Quoted name
-element_step (op.Braced inner) = Braced (body_of inner.items)
+element_step (op.Block inner) = Braced (body_of inner.items)
 element_step (op.Call name) = Called name
 
 abbrev pub element_of : Op → Element

@@ -35,7 +35,7 @@ fn push_block(ops: &mut Vec<Op>, inner: Vec<Op>) -> Result<(), AllocError>
     ensures { OnOk result (elements_of ops.new.items
         ≡ elements_of ops.old.items ++ Braced (ops_body inner.items) ∷ []) }
 {
-    push(ops, Op::Braced(inner))
+    push(ops, Op::Block(inner))
 }
 
 /// Adds a text.

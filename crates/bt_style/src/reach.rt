@@ -108,7 +108,7 @@ fn go_over<'a>(
     match first {
         Op::Number(_) | Op::Text(_) => Ok(()),
         Op::Quote(target) => note(found, seen, *target),
-        Op::Braced(inner) => put_off(waiting, inner.as_slice()),
+        Op::Block(inner) => put_off(waiting, inner.as_slice()),
         Op::Call(target) => note(found, seen, *target),
     }
 }

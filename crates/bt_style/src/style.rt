@@ -25,7 +25,7 @@ pub enum Op {
     /// A quoted name, which is put on the literal stack.
     Quote(Target),
     /// A function in braces, which is put on the literal stack.
-    Braced(Vec<Op>),
+    Block(Vec<Op>),
     /// A call of a name.
     Call(Target),
 }

@@ -59,7 +59,7 @@ fn push_op(alloc: Global, out: &mut Bytes, style: &Style, op: &Op) -> Result<(),
             out.append(b"call:")?;
             out.append(target_name(style, *target))
         }
-        Op::Braced(inner) => {
+        Op::Block(inner) => {
             out.append(b"{")?;
             for (place, op) in inner.as_slice().iter().enumerate() {
                 if 0 < place {

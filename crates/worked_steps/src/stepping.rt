@@ -73,7 +73,7 @@ fn body(alloc: Global, text: &str) -> Result<Vec<Op>, Fail> {
             "}" => {
                 let around = outer.pop().ok_or("no brace")?;
                 let block = mem::replace(&mut inner, around);
-                inner.push(Op::Braced(block))?;
+                inner.push(Op::Block(block))?;
             }
             _ => inner.push(element(alloc, word)?)?,
         }
