@@ -9,7 +9,6 @@ mod texts;
 use crate::dice::Dice;
 use crate::edits::{Change, next_change};
 use crate::texts::NAMES;
-use anyhow::Result;
 use bibtex::{Edit, Refusal, Report, Session};
 use std::alloc::Global;
 use std::env;
@@ -25,17 +24,27 @@ struct Setting {
     min: u32,
 }
 
+/// A new session. What is proved of it isn't used here, and would be dear to carry.
+fn begin(alloc: Global, setting: Setting) -> Result<Session, Refusal> {
+    Session::new(alloc, setting.root.as_bytes(), setting.min)
+}
+
+/// Makes an edit, of which the same holds.
+fn make(session: &mut Session, edit: Edit<'_>) -> Result<Report, Refusal> {
+    session.edit(edit)
+}
+
 /// A new session with the present texts of another one, and what its last edit reported.
 fn started_anew(
     alloc: Global,
     session: &Session,
     setting: Setting,
 ) -> Result<(Session, Option<Report>), Refusal> {
-    let mut anew = Session::new(alloc, setting.root.as_bytes(), setting.min)?;
+    let mut anew = begin(alloc, setting)?;
     let mut last = None;
     for name in NAMES {
         if let Some(text) = session.file(name.as_bytes()) {
-            last = Some(anew.edit(Edit::Write(name.as_bytes(), text))?);
+            last = Some(make(&mut anew, Edit::Write(name.as_bytes(), text))?);
         }
     }
     Ok((anew, last))
@@ -81,43 +90,73 @@ struct Tally {
     reused: u64,
 }
 
-/// Makes edits from a seed. The error is the number of the edit after which something differs, and what.
-fn make_edits(rt: &HostRuntime, seed: u64, edits: u32) -> Result<Option<Tally>> {
-    let alloc = rt.alloc();
-    let mut dice = Dice::new(seed);
-    let mut setting = Setting {
-        root: "job",
-        min: 2,
-    };
-    let mut session = Session::new(alloc, setting.root.as_bytes(), setting.min)?;
-    let mut tally = Tally {
-        accepted: 0,
-        reused: 0,
-    };
-    for number in 0..edits {
-        let (change, bytes) = next_change(alloc, &mut dice, &session, number)?;
-        let Ok(report) = session.edit(change.with(bytes.as_slice())) else {
-            continue;
+/// A session under random edits.
+#[derive(Drop)]
+struct Trial {
+    dice: Dice,
+    session: Session,
+    setting: Setting,
+    tally: Tally,
+}
+
+impl Trial {
+    /// A new session, and the edits that a seed gives.
+    fn new(alloc: Global, seed: u64) -> Result<Trial, Refusal> {
+        let setting = Setting {
+            root: "job",
+            min: 2,
+        };
+        Ok(Trial {
+            dice: Dice::new(seed),
+            session: begin(alloc, setting)?,
+            setting,
+            tally: Tally {
+                accepted: 0,
+                reused: 0,
+            },
+        })
+    }
+
+    /// Makes the next edit, and gives its report, if it isn't refused.
+    fn edit(&mut self, alloc: Global, number: u32) -> Result<Option<Report>, Refusal> {
+        let (change, bytes) = next_change(alloc, &mut self.dice, &self.session, number)?;
+        let Ok(report) = make(&mut self.session, change.with(bytes.as_slice())) else {
+            return Ok(None);
         };
         match change {
-            Change::Root(root) => setting.root = root,
-            Change::MinCrossrefs(min) => setting.min = min,
+            Change::Root(root) => self.setting.root = root,
+            Change::MinCrossrefs(min) => self.setting.min = min,
             Change::Write(_) | Change::Splice(_, _, _) | Change::Remove(_) => {}
         }
-        tally.accepted = tally.accepted.saturating_add(1);
-        tally.reused = tally.reused.saturating_add(report.reused);
-        let (anew, last) = started_anew(alloc, &session, setting)?;
-        let found = if last.is_some() && steps(Some(report)) != steps(last) {
-            Some("the number of steps")
-        } else {
-            difference(&session, &anew)
+        self.tally.accepted = self.tally.accepted.saturating_add(1);
+        self.tally.reused = self.tally.reused.saturating_add(report.reused);
+        Ok(Some(report))
+    }
+
+    /// What a new session with the present texts answers differently from this one, whose last report is given.
+    fn difference(&self, alloc: Global, report: Report) -> Result<Option<&'static str>, Refusal> {
+        let (anew, last) = started_anew(alloc, &self.session, self.setting)?;
+        if last.is_some() && steps(Some(report)) != steps(last) {
+            return Ok(Some("the number of steps"));
+        }
+        Ok(difference(&self.session, &anew))
+    }
+}
+
+/// Makes edits from a seed. The answer is none where something differs after one of them, which is printed.
+fn make_edits(rt: &HostRuntime, seed: u64, edits: u32) -> anyhow::Result<Option<Tally>> {
+    let alloc = rt.alloc();
+    let mut trial = Trial::new(alloc, seed)?;
+    for number in 0..edits {
+        let Some(report) = trial.edit(alloc, number)? else {
+            continue;
         };
-        if let Some(what) = found {
+        if let Some(what) = trial.difference(alloc, report)? {
             println!(rt; "seed {seed}: after edit {number} {what} differs from a new session's")?;
             return Ok(None);
         }
     }
-    Ok(Some(tally))
+    Ok(Some(trial.tally))
 }
 
 /// The seed and the number of edits of a word.
@@ -128,7 +167,7 @@ fn parts_of(word: &str) -> Option<(u64, u32)> {
     }
 }
 
-fn main(rt: HostRuntime) -> Result<ExitCode> {
+fn main(rt: HostRuntime) -> anyhow::Result<ExitCode> {
     let words: Vec<String> = env::args(&rt)?.collect(rt.alloc())?;
     for word in words.iter().skip(1) {
         let Some((seed, edits)) = parts_of(word.as_str()) else {
