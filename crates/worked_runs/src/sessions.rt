@@ -24,11 +24,25 @@ fn empty(alloc: Global, root: &[u8]) -> Result<Session, Refusal> {
     Session::new(alloc, root, 2)
 }
 
+/// Makes an edit. What is proved of it isn't used here, and would be dear to carry; so it is with the next.
+fn edit(session: &mut Session, edit: Edit<'_>) -> Result<Report, Refusal> {
+    session.edit(edit)
+}
+
+/// Makes some edits.
+fn edit_each(
+    alloc: Global,
+    session: &mut Session,
+    edits: &[Edit<'_>],
+) -> Result<Vec<Result<Report, Refusal>>, AllocError> {
+    edit_all(alloc, session, edits)
+}
+
 /// A session after some edits.
 fn after(alloc: Global, edits: &[Edit<'_>]) -> Result<Session, Refusal> {
     let mut session = empty(alloc, ROOT)?;
-    for edit in edits {
-        session.edit(*edit)?;
+    for each in edits {
+        edit(&mut session, *each)?;
     }
     Ok(session)
 }
@@ -36,8 +50,8 @@ fn after(alloc: Global, edits: &[Edit<'_>]) -> Result<Session, Refusal> {
 /// A session over a root file and a style, after some edits.
 fn begun(alloc: Global, edits: &[Edit<'_>]) -> Result<Session, Refusal> {
     let mut session = after(alloc, &[WRITE_AUX, WRITE_STYLE])?;
-    for edit in edits {
-        session.edit(*edit)?;
+    for each in edits {
+        edit(&mut session, *each)?;
     }
     Ok(session)
 }
@@ -123,7 +137,7 @@ fn edits_are_answered_in_turn(rt: HostRuntime) -> Result<(), Fail> {
         Err(Refusal::NoSuchFile),
         Ok(report(1, 0, 2, 0)),
     ];
-    let answers = edit_all(alloc, &mut session, &edits)?;
+    let answers = edit_each(alloc, &mut session, &edits)?;
     assert_eq!(rt; answers.as_slice(), want.as_slice());
     assert_eq!(rt; session.bbl(), b"b\na\n".as_slice());
     assert_eq!(rt; session.status(), 1);
@@ -162,7 +176,7 @@ fn texts_come_and_go(rt: HostRuntime) -> Result<(), Fail> {
 #[test]
 fn a_root_that_is_not_there_is_fatal(rt: HostRuntime) -> Result<(), Fail> {
     let mut session = begun(rt.alloc(), &[])?;
-    let answer = session.edit(Edit::Root(b"no"))?;
+    let answer = edit(&mut session, Edit::Root(b"no"))?;
     let log = b"I couldn't open auxiliary file no.aux\n(That was a fatal error)\n";
     assert_eq!(rt; answer, report(3, 0, 0, 0));
     assert_eq!(rt; session.blg(), log.as_slice());
