@@ -34,20 +34,15 @@ fn make(session: &mut Session, edit: Edit<'_>) -> Result<Report, Refusal> {
     session.edit(edit)
 }
 
-/// A new session with the present texts of another one, and what its last edit reported.
-fn started_anew(
-    alloc: Global,
-    session: &Session,
-    setting: Setting,
-) -> Result<(Session, Option<Report>), Refusal> {
-    let mut anew = begin(alloc, setting)?;
+/// Gives a new session the present texts of another one; what its last edit reported, if there was one.
+fn give_texts(anew: &mut Session, session: &Session) -> Result<Option<Report>, Refusal> {
     let mut last = None;
     for name in NAMES {
         if let Some(text) = session.file(name.as_bytes()) {
-            last = Some(make(&mut anew, Edit::Write(name.as_bytes(), text))?);
+            last = Some(make(anew, Edit::Write(name.as_bytes(), text))?);
         }
     }
-    Ok((anew, last))
+    Ok(last)
 }
 
 /// How many steps a report has.
@@ -135,7 +130,8 @@ impl Trial {
 
     /// What a new session with the present texts answers differently from this one, whose last report is given.
     fn difference(&self, alloc: Global, report: Report) -> Result<Option<&'static str>, Refusal> {
-        let (anew, last) = started_anew(alloc, &self.session, self.setting)?;
+        let mut anew = begin(alloc, self.setting)?;
+        let last = give_texts(&mut anew, &self.session)?;
         if last.is_some() && steps(Some(report)) != steps(last) {
             return Ok(Some("the number of steps"));
         }
