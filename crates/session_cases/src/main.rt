@@ -1,10 +1,12 @@
-//! Makes random edits of a session, and compares it after each with a new session that is given the present texts. Its
-//! words are seeds; a word `N:SEED` makes N edits.
+//! Shows worked examples of sessions, by the word `worked`. By any other word, which is a seed, it makes random edits of
+//! a session, and compares it after each with a new session that is given the present texts; a word `N:SEED` makes N
+//! edits.
 #![tactic(auto)]
 
 mod dice;
 mod edits;
 mod texts;
+mod worked;
 
 use crate::dice::Dice;
 use crate::edits::{Change, next_change};
@@ -166,6 +168,10 @@ fn parts_of(word: &str) -> Option<(u64, u32)> {
 fn main(rt: HostRuntime) -> anyhow::Result<ExitCode> {
     let words: Vec<String> = env::args(&rt)?.collect(rt.alloc())?;
     for word in words.iter().skip(1) {
+        if word.as_str() == "worked" {
+            worked::show_all(&rt)?;
+            continue;
+        }
         let Some((seed, edits)) = parts_of(word.as_str()) else {
             println!(rt; "{word} is no seed")?;
             return Ok(ExitCode::FAILURE);
