@@ -1,6 +1,6 @@
 -- What a folder in memory holds.
-use Rattle.std.specs.Prelude.{ℕ, List, Option, None, fold}
-use Rattle.bt_one_shot.specs.Folders.{Contents, Written, Seen, with_file}
+use Rattle.std.specs.Prelude.{List, None, fold}
+use Rattle.bt_one_shot.specs.Folders.{Contents, Written, with_file}
 
 -- no file
 abbrev pub nothing : Contents

@@ -74,14 +74,14 @@ fn run_job<F: Folder, O: Sink, E: Sink>(
 }
 
 /// Runs a job, and tells all that it read and wrote.
-fn run(
+fn run<'a>(
     rt: &HostRuntime,
     options: &Options,
-    folder: &mut Memory<'_>,
+    folder: &mut Memory<'a>,
     room: (usize, usize),
 ) -> Result<()>
     requires root { is_root_name options.now.root ≡ true }
-    requires folder { folder.old.failures < 2 ^ 64 - 1 }
+    requires folder { (⟦<Memory<'a> as Folder>⟧.seen folder.old).failures < 2 ^ 64 - 1 }
 {
     let alloc = rt.alloc();
     let handed_on = Cell::new(0);
