@@ -3,7 +3,7 @@
 ghost use Rattle.std.specs.Prelude.{◌≡◌, [], ◌∷◌, ◌++◌, bytes_eq, fold, if◌then◌else◌, take, IfOk, OnOk, OnErr, Some};
 ghost use Rattle.std.specs.Option.{option_map};
 ghost use Rattle.bt_one_shot.specs.Folders.{most_read, with_file};
-ghost use Rattle.fakes.specs.Held.{held_in};
+ghost use Rattle.fakes.specs.Held.{held_in, untouched};
 
 use bt_one_shot::{Folder, Found};
 use bt_text::{Bytes, Sequence};
@@ -114,7 +114,9 @@ fn last_of<'a>(files: &'a [KeptFile], name: &[u8], before: Option<&'a [u8]>) -> 
 
 impl<'a> Memory<'a> {
     /// An empty folder.
-    pub fn new(alloc: Global) -> Self {
+    pub fn new(alloc: Global) -> Self
+        ensures { ⟦<Memory<'a> as Folder>⟧.seen result ≡ untouched }
+    {
         Memory {
             alloc,
             given: Sequence::new(alloc),
@@ -155,7 +157,9 @@ impl<'a> Memory<'a> {
     }
 
     /// The files that were written, the first first.
-    pub fn written(&self) -> &[KeptFile] {
+    pub fn written(&self) -> &[KeptFile]
+        ensures { Some result.now ≡ (⟦<Memory<'a> as Folder>⟧.seen self.now).written }
+    {
         self.written.as_slice()
     }
 

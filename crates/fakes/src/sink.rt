@@ -1,6 +1,6 @@
 //! A sink in memory.
 
-ghost use Rattle.std.specs.Prelude.{◌≡◌, Some};
+ghost use Rattle.std.specs.Prelude.{◌≡◌, [], true, Some};
 
 use crate::limits::Limits;
 use bt_streams::{Sink, StreamFailed};
@@ -20,7 +20,9 @@ pub struct Taker<'a> {
 impl<'a> Taker<'a> {
     /// An empty sink.
     pub fn new(alloc: Global, limits: Limits<'a>, handed_on: &'a Cell<usize>) -> Self
-        ensures { result.failures ≡ 0 }
+        ensures bytes { ⟦<Taker<'a> as Sink>⟧.contents result ≡ Some [] }
+        ensures failures { ⟦<Taker<'a> as Sink>⟧.failure_count result ≡ 0 }
+        ensures flushed { ⟦<Taker<'a> as Sink>⟧.is_flushed result ≡ true }
     {
         Taker {
             bytes: Vec::new(alloc),
@@ -32,7 +34,9 @@ impl<'a> Taker<'a> {
     }
 
     /// What was written.
-    pub fn bytes(&self) -> &[u8] {
+    pub fn bytes(&self) -> &[u8]
+        ensures { Some result.now ≡ ⟦<Taker<'a> as Sink>⟧.contents self.now }
+    {
         self.bytes.as_slice()
     }
 }

@@ -1,6 +1,6 @@
 //! A source in memory, which sees what a sink has handed on.
 
-ghost use Rattle.std.specs.Prelude.{◌≡◌, Some};
+ghost use Rattle.std.specs.Prelude.{◌≡◌, ◌-◌, ◌^◌, Some};
 
 use crate::limits::Limits;
 use bt_streams::{Source, StreamFailed};
@@ -34,7 +34,9 @@ impl<'a> Giver<'a> {
         limits: Limits<'a>,
         handed_on: &'a Cell<usize>,
     ) -> Self
-        ensures { result.failures ≡ 0 }
+        ensures bytes { ⟦<Giver<'a> as Source>⟧.remaining result ≡ Some text.now }
+        ensures failures { ⟦<Giver<'a> as Source>⟧.failure_count result ≡ 0 }
+        ensures left { ⟦<Giver<'a> as Source>⟧.reads_left result ≡ 2 ^ 64 - 1 }
     {
         Giver {
             len: text.len(),
