@@ -157,6 +157,18 @@ fn make_edits(rt: &HostRuntime, seed: u64, edits: u32) -> anyhow::Result<Option<
     Ok(Some(trial.tally))
 }
 
+/// Shows the worked examples, over a new session.
+fn show_examples(rt: &HostRuntime) -> anyhow::Result<()> {
+    let setting = Setting {
+        root: "job",
+        min: 2,
+    };
+    let mut session = begin(rt.alloc(), setting)?;
+    let shown = worked::examples(rt.alloc(), &mut session)?;
+    print!(rt; "{}", str::from_utf8(shown.as_slice()).unwrap_or("no text"))?;
+    Ok(())
+}
+
 /// The seed and the number of edits of a word.
 fn parts_of(word: &str) -> Option<(u64, u32)> {
     match word.split_once(':') {
@@ -169,7 +181,7 @@ fn main(rt: HostRuntime) -> anyhow::Result<ExitCode> {
     let words: Vec<String> = env::args(&rt)?.collect(rt.alloc())?;
     for word in words.iter().skip(1) {
         if word.as_str() == "worked" {
-            worked::show_all(&rt)?;
+            show_examples(&rt)?;
             continue;
         }
         let Some((seed, edits)) = parts_of(word.as_str()) else {

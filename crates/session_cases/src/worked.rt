@@ -1,129 +1,26 @@
-//! Worked examples of what the command loop doesn't show: the names that are wanted, messages with their places, lists
-//! of edits, present texts, and reasons that are asked for before an edit.
+//! Worked examples of what the command loop doesn't show: the names that are wanted, lists of edits, present texts,
+//! messages with their places, and reasons that are asked for before an edit. One session goes through all of them.
 
-use anyhow::Result;
-use bibtex::{Change, Edit, Message, Place, Refusal, Report, Session, edit_all};
+use bibtex::{Bytes, Change, Edit, Message, Place, Refusal, Report, Session, edit_all};
 use std::alloc::{AllocError, Global};
 
 const AUX: &[u8] = b"\\citation{b,a}\n\\bibdata{x}\n\\bibstyle{s}\n";
 
 const STYLE: &[u8] = b"ENTRY {}{}{}\nFUNCTION {f} {cite$ write$ newline$}\nREAD\nITERATE {f}\n";
 
-const WRITE_AUX: Edit<'static> = Edit::Write(b"job.aux", AUX);
-
 const WRITE_STYLE: Edit<'static> = Edit::Write(b"s.bst", STYLE);
 
-const WRITE_DATABASE: Edit<'static> = Edit::Write(b"x.bib", b"@misc{a}");
+/// A style with a fault in its third line.
+const WRITE_FAULT: Edit<'static> = Edit::Write(b"s.bst", b"ENTRY {}{}{}\nREAD\nEXECUTE {f}\n");
 
-const SPLICE: Edit<'static> = Edit::Splice(b"x.bib", 6, 7, b"bcd");
-
-const REMOVE: Edit<'static> = Edit::Remove(b"x.bib");
-
-/// Bytes as a text.
-fn text(bytes: &[u8]) -> &str {
-    str::from_utf8(bytes).unwrap_or("no text")
-}
-
-/// Makes some edits, of which none is refused.
-fn edit(session: &mut Session, edits: &[Edit<'_>]) -> Result<(), Refusal> {
-    for each in edits {
-        session.edit(*each)?;
-    }
-    Ok(())
-}
-
-/// A session of the root `job` after some edits.
-fn after(alloc: Global, edits: &[Edit<'_>]) -> Result<Session, Refusal> {
-    let mut session = Session::new(alloc, b"job", 2)?;
-    edit(&mut session, edits)?;
-    Ok(session)
-}
-
-/// Shows the names that are wanted after some edits.
-fn show_wanted(rt: &HostRuntime, edits: &[Edit<'_>]) -> Result<()> {
-    let session = after(rt.alloc(), edits)?;
-    print!(rt; "wanted:")?;
-    for name in session.wanted() {
-        print!(rt; " {}", text(name.as_slice()))?;
-    }
-    println!(rt)?;
-    Ok(())
-}
-
-/// Shows a message: its rank, its words, and the file and line where it belongs.
-fn show_message(rt: &HostRuntime, message: &Message) -> Result<()> {
-    print!(rt; "{:?} {}", message.rank, text(message.words.as_slice()))?;
-    if let (Some(Place::Line { file, line, .. }), None) = (&message.place, &message.entry) {
-        print!(rt; " {}:{line}", text(file.as_slice()))?;
-    }
-    println!(rt)?;
-    Ok(())
-}
-
-/// Shows how many messages there are after some edits, and the last one.
-fn show_last_message(rt: &HostRuntime, edits: &[Edit<'_>]) -> Result<()> {
-    let session = after(rt.alloc(), edits)?;
-    println!(rt; "messages: {}", session.messages().len())?;
-    if let Some(message) = session.messages().last() {
-        show_message(rt, message)?;
-    }
-    Ok(())
-}
-
-/// Makes edits as one list, what is proved of which isn't used here.
-fn edit_together(
-    alloc: Global,
-    session: &mut Session,
-    edits: &[Edit<'_>],
-) -> Result<Vec<Result<Report, Refusal>>, AllocError> {
-    edit_all(alloc, session, edits)
-}
-
-/// Shows the answer to an edit.
-fn show_answer(rt: &HostRuntime, answer: &Result<Report, Refusal>) -> Result<()> {
-    match answer {
-        Ok(report) => println!(rt;
-            "ok {} {} {} {}",
-            report.status, report.ran, report.reused, report.ticks
-        )?,
-        Err(refusal) => println!(rt; "refused {refusal}")?,
-    }
-    Ok(())
-}
-
-/// Shows the answers to a list of edits, and the bibliography and the status after it.
-fn show_answers(rt: &HostRuntime, before: &[Edit<'_>], edits: &[Edit<'_>]) -> Result<()> {
-    let mut session = after(rt.alloc(), before)?;
-    let answers = edit_together(rt.alloc(), &mut session, edits)?;
-    println!(rt; "answers: {}", answers.len())?;
-    for answer in answers.iter() {
-        show_answer(rt, answer)?;
-    }
-    println!(rt;
-        "status {}, and the bibliography:\n{}",
-        session.status(),
-        text(session.bbl())
-    )?;
-    Ok(())
-}
-
-/// Shows the text that a name has after some edits.
-fn show_text(rt: &HostRuntime, edits: &[Edit<'_>], name: &[u8]) -> Result<()> {
-    let session = after(rt.alloc(), edits)?;
-    match session.file(name) {
-        Some(bytes) => println!(rt; "{}: {}", text(name), text(bytes))?,
-        None => println!(rt; "{}: none", text(name))?,
-    }
-    Ok(())
-}
-
-/// Shows the status and both logs after some edits.
-fn show_logs(rt: &HostRuntime, edits: &[Edit<'_>]) -> Result<()> {
-    let session = after(rt.alloc(), edits)?;
-    println!(rt; "status {}, log and terse log:", session.status())?;
-    print!(rt; "{}{}", text(session.blg()), text(session.terse()))?;
-    Ok(())
-}
+/// Edits that are made as one list, of which one is refused.
+const LIST: &[Edit<'static>] = &[
+    WRITE_STYLE,
+    Edit::Write(b"x.bib", b"@misc{a}@misc{c}"),
+    Edit::Splice(b"x.bib", 14, 15, b"b"),
+    Edit::Remove(b"y.bib"),
+    Edit::MinCrossrefs(1),
+];
 
 /// A change, and how many bytes its text would have.
 const CHANGES: &[(Change<'static>, usize)] = &[
@@ -135,38 +32,132 @@ const CHANGES: &[(Change<'static>, usize)] = &[
     (Change::Root(b""), 0),
 ];
 
-/// Shows the first reason against each of some changes.
-fn show_reasons(rt: &HostRuntime, edits: &[Edit<'_>]) -> Result<()> {
-    let session = after(rt.alloc(), edits)?;
-    for (change, size) in CHANGES {
-        match session.refusal(*change, *size) {
-            Some(reason) => println!(rt; "refusal: {reason}")?,
-            None => println!(rt; "refusal: none")?,
-        }
+/// Makes an edit, what is proved of which isn't used here.
+fn make(session: &mut Session, edit: Edit<'_>) -> Result<(), Refusal> {
+    session.edit(edit)?;
+    Ok(())
+}
+
+/// The names that are wanted.
+fn wanted(out: &mut Bytes, session: &Session) -> Result<(), AllocError> {
+    out.append(b"wanted:")?;
+    for name in session.wanted() {
+        out.append_all(&[b" ", name.as_slice()])?;
+    }
+    out.append(b"\n")
+}
+
+/// The answer to an edit.
+fn answer(
+    alloc: Global,
+    out: &mut Bytes,
+    answer: &Result<Report, Refusal>,
+) -> Result<(), AllocError> {
+    match answer {
+        Ok(
+            Report {
+                status,
+                ran,
+                reused,
+                ticks,
+            },
+        ) => { out.append(format!(in alloc; "ok {status} {ran} {reused} {ticks}\n")?.as_bytes()) }
+        Err(refusal) => out.append(format!(in alloc; "refused {refusal}\n")?.as_bytes()),
+    }
+}
+
+/// The answers to a list of edits.
+fn answers(alloc: Global, out: &mut Bytes, session: &mut Session) -> Result<(), AllocError> {
+    for each in edit_all(alloc, session, LIST)?.iter() {
+        answer(alloc, out, each)?;
     }
     Ok(())
 }
 
-/// Shows all of them.
-pub fn show_all(rt: &HostRuntime) -> Result<()> {
-    show_wanted(rt, &[])?;
-    show_wanted(rt, &[WRITE_AUX])?;
-    show_wanted(rt, &[WRITE_AUX, WRITE_STYLE])?;
-    show_wanted(rt, &[WRITE_AUX, WRITE_STYLE, Edit::Root(b"no")])?;
-    let faulty = Edit::Write(b"s.bst", b"ENTRY {}{}{}\nREAD\nEXECUTE {f}\n");
-    show_last_message(rt, &[WRITE_AUX, WRITE_STYLE, faulty])?;
-    let edits = [
-        WRITE_STYLE,
-        Edit::Write(b"x.bib", b"@misc{a}@misc{c}"),
-        Edit::Splice(b"x.bib", 14, 15, b"b"),
-        Edit::Remove(b"y.bib"),
-        Edit::MinCrossrefs(1),
-    ];
-    show_answers(rt, &[WRITE_AUX], &edits)?;
-    show_text(rt, &[WRITE_AUX, WRITE_STYLE], b"x.bib")?;
-    show_text(rt, &[WRITE_DATABASE, SPLICE], b"x.bib")?;
-    show_text(rt, &[WRITE_DATABASE, SPLICE, REMOVE], b"x.bib")?;
-    show_text(rt, &[WRITE_STYLE, WRITE_DATABASE, REMOVE], b"s.bst")?;
-    show_logs(rt, &[WRITE_AUX, WRITE_STYLE, Edit::Root(b"no")])?;
-    show_reasons(rt, &[WRITE_AUX, WRITE_STYLE])
+/// The text that a name has.
+fn text(out: &mut Bytes, session: &Session, name: &[u8]) -> Result<(), AllocError> {
+    let text = session.file(name).unwrap_or(b"none");
+    out.append_all(&[name, b": ", text, b"\n"])
+}
+
+/// A message: its rank, its words, and the file and line where it belongs.
+fn told(alloc: Global, out: &mut Bytes, message: &Message) -> Result<(), AllocError> {
+    out.append(format!(in alloc; "{:?} ", message.rank)?.as_bytes())?;
+    out.append(message.words.as_slice())?;
+    if let Some(Place::Line { file, line, .. }) = &message.place {
+        let line = format!(in alloc; ":{line}")?;
+        out.append_all(&[b" ", file.as_slice(), line.as_bytes()])?;
+    }
+    out.append(b"\n")
+}
+
+/// How many messages there are, and the last one.
+fn last_message(alloc: Global, out: &mut Bytes, session: &Session) -> Result<(), AllocError> {
+    let messages = session.messages();
+    out.append(format!(in alloc; "messages: {}\n", messages.len())?.as_bytes())?;
+    match messages.last() {
+        Some(message) => told(alloc, out, message),
+        None => Ok(()),
+    }
+}
+
+/// The bibliography.
+fn bibliography(out: &mut Bytes, session: &Session) -> Result<(), AllocError> {
+    out.append_all(&[b"bibliography:\n", session.bbl()])
+}
+
+/// The status, the bibliography, and both logs.
+fn all(alloc: Global, out: &mut Bytes, session: &Session) -> Result<(), AllocError> {
+    out.append(format!(in alloc; "status {}\n", session.status())?.as_bytes())?;
+    bibliography(out, session)?;
+    out.append_all(&[b"log:\n", session.blg()])?;
+    out.append_all(&[b"terse log:\n", session.terse()])
+}
+
+/// The first reason against each of some changes.
+fn reasons(alloc: Global, out: &mut Bytes, session: &Session) -> Result<(), AllocError> {
+    for (change, size) in CHANGES {
+        let reason = session.refusal(*change, *size);
+        out.append(format!(in alloc; "refusal: {reason:?}\n")?.as_bytes())?;
+    }
+    Ok(())
+}
+
+/// The examples of names that are wanted, lists of edits, and texts, over a new session.
+fn edited(alloc: Global, out: &mut Bytes, session: &mut Session) -> Result<(), Refusal> {
+    wanted(out, session)?;
+    make(session, Edit::Write(b"job.aux", AUX))?;
+    wanted(out, session)?;
+    text(out, session, b"x.bib")?;
+    answers(alloc, out, session)?;
+    bibliography(out, session)?;
+    make(session, Edit::Remove(b"x.bib"))?;
+    wanted(out, session)?;
+    text(out, session, b"x.bib")?;
+    make(session, Edit::Write(b"x.bib", b"@misc{a}"))?;
+    make(session, Edit::Splice(b"x.bib", 6, 7, b"bcd"))?;
+    text(out, session, b"x.bib")?;
+    make(session, Edit::Remove(b"x.bib"))?;
+    text(out, session, b"x.bib")?;
+    Ok(text(out, session, b"s.bst")?)
+}
+
+/// The examples of messages, logs and reasons, over the same session after that.
+fn logged(alloc: Global, out: &mut Bytes, session: &mut Session) -> Result<(), Refusal> {
+    make(session, WRITE_FAULT)?;
+    last_message(alloc, out, session)?;
+    make(session, WRITE_STYLE)?;
+    make(session, Edit::Root(b"no"))?;
+    wanted(out, session)?;
+    all(alloc, out, session)?;
+    make(session, Edit::Root(b"job"))?;
+    Ok(reasons(alloc, out, session)?)
+}
+
+/// What all examples show.
+pub fn examples(alloc: Global, session: &mut Session) -> Result<Bytes, Refusal> {
+    let mut out = Bytes::new(alloc);
+    edited(alloc, &mut out, session)?;
+    logged(alloc, &mut out, session)?;
+    Ok(out)
 }
