@@ -56,7 +56,7 @@ fn append_said(out: &mut Bytes, outcome: &Outcome) -> Result<(), AllocError> {
 
 /// The ticks of a step, `key` where it leaves an entry's variables, what it says, and how often it calls the built-in
 /// functions that a case names after its entry.
-fn shown(alloc: Global, front: &str, outcome: &Outcome, ticks: u128) -> Result<Bytes, Fault> {
+fn shown(alloc: Global, case: &str, outcome: &Outcome, ticks: u128) -> Result<Bytes, Fault> {
     let owner = match outcome.variables {
         Some(_) => "key",
         None => "-",
@@ -64,24 +64,33 @@ fn shown(alloc: Global, front: &str, outcome: &Outcome, ticks: u128) -> Result<B
     let mut out = Bytes::copied(alloc, format!(in alloc; "{ticks} {owner} \"")?.as_bytes())?;
     append_said(&mut out, outcome)?;
     out.append(b"\"")?;
-    for name in front.split_whitespace().skip(2) {
+    for name in part_at(case, 0).split_whitespace().skip(2) {
         let calls = outcome.calls[builtin(name)?.place()];
         out.append(format!(in alloc; " {calls}")?.as_bytes())?;
     }
     Ok(out)
 }
 
+/// What a step leaves or says.
+fn told(alloc: Global, case: &str, style: &Style, input: &Input) -> Result<Bytes, Fault> {
+    let (outcome, ticks) = step(alloc, style, input)?;
+    match word_at(case, 0) {
+        "values" => Ok(shown_variables(alloc, &outcome)?),
+        _ => shown(alloc, case, &outcome, ticks),
+    }
+}
+
+/// The answer of a case in its style.
+fn answer_in(alloc: Global, case: &str, style: &Style) -> Result<Bytes, Fault> {
+    let input = input(alloc, word_at(case, 1), "-")?;
+    match word_at(case, 0) {
+        "twice" => Ok(meter_after_two(alloc, style, &input)?),
+        _ => told(alloc, case, style, &input),
+    }
+}
+
 /// The answer of a case: what a step leaves or says, or the meter after two.
 pub fn answer(alloc: Global, case: &str) -> Result<Bytes, Fault> {
-    let front = part_at(case, 0);
     let style = style(alloc, case)?;
-    let input = input(alloc, word_at(front, 1), "-")?;
-    if word_at(front, 0) == "twice" {
-        return Ok(meter_after_two(alloc, &style, &input)?);
-    }
-    let (outcome, ticks) = step(alloc, &style, &input)?;
-    match word_at(front, 0) {
-        "values" => Ok(shown_variables(alloc, &outcome)?),
-        _ => shown(alloc, front, &outcome, ticks),
-    }
+    answer_in(alloc, case, &style)
 }
