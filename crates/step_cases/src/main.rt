@@ -1,0 +1,49 @@
+//! Answers cases of the built-in functions and of steps: a line of input is a call, its answer a line of output.
+#![tactic(auto)]
+
+mod agreement;
+mod calls;
+mod inputs;
+mod limits;
+mod spelling;
+mod states;
+mod steps;
+mod styles;
+mod takes;
+mod variables;
+
+use bt_text::Bytes;
+use spelling::{Fault, word_at};
+use std::alloc::{AllocError, Global};
+use std::io;
+use std::io::{BufRead, BufReader, BufWriter, Write};
+
+fn answer(alloc: Global, case: &str) -> Result<Bytes, Fault> {
+    match word_at(case, 0) {
+        "call" => calls::answer(alloc, case),
+        "take_number" | "take_two_codes" | "take_choice" => takes::answer(alloc, case),
+        "full" | "over" | "held" => limits::answer(alloc, case),
+        "agrees" | "left" => agreement::answer(alloc, case),
+        _ => steps::answer(alloc, case),
+    }
+}
+
+/// The answer of a case, or that a word of it can't be read.
+fn answer_or_fault(alloc: Global, case: &str) -> Result<Bytes, AllocError> {
+    match answer(alloc, case) {
+        Ok(told) => Ok(told),
+        Err(Fault::Unreadable) => Bytes::copied(alloc, b"unreadable"),
+        Err(Fault::OutOfMemory) => Err(AllocError),
+    }
+}
+
+fn main(rt: HostRuntime) -> io::Result<()> {
+    let alloc = rt.alloc();
+    let mut out = BufWriter::new(alloc, io::writer(&rt))?;
+    for line in BufReader::new(alloc, rt.reader())?.lines(alloc) {
+        let told = answer_or_fault(alloc, line?.as_str())?;
+        out.write_all(told.as_slice())?;
+        out.write_all(b"\n")?;
+    }
+    out.flush()
+}

@@ -1,0 +1,36 @@
+//! Cases of what the functions that run others take.
+
+use crate::spelling::{Fault, word_at};
+use crate::states::{stack, state};
+use bt_actions::{State, take_choice, take_number, take_two_codes};
+use bt_style::Builtin;
+use bt_text::Bytes;
+use std::alloc::{AllocError, Global};
+
+/// The number that is taken, or that there was none.
+fn number_taken(alloc: Global, state: &mut State) -> Result<Bytes, AllocError> {
+    match take_number(state, Builtin::While)? {
+        None => Bytes::copied(alloc, b"none"),
+        Some(number) => Bytes::copied(alloc, format!(in alloc; "{number}")?.as_bytes()),
+    }
+}
+
+/// Whether there were two functions to take, with a number below them or without one.
+fn is_taken(state: &mut State, kind: &str) -> Result<bool, AllocError> {
+    match kind {
+        "take_choice" => Ok(take_choice(state, Builtin::If)?.is_some()),
+        _ => Ok(take_two_codes(state, Builtin::While)?.is_some()),
+    }
+}
+
+/// The answer of a case: the number that is taken, or whether functions are, with how many errors.
+pub fn answer(alloc: Global, case: &str) -> Result<Bytes, Fault> {
+    let mut state = state(alloc, None, stack(alloc, case, 1)?)?;
+    let kind = word_at(case, 0);
+    if kind == "take_number" {
+        return Ok(number_taken(alloc, &mut state)?);
+    }
+    let taken = is_taken(&mut state, kind)?;
+    let errors = state.complaints.len();
+    Ok(Bytes::copied(alloc, format!(in alloc; "{taken} {errors}")?.as_bytes())?)
+}
