@@ -5,7 +5,7 @@ ghost use Rattle.std.specs.Prelude.{◌≤◌, length, IfOk};
 ghost use Rattle.bt_bib.specs.Splice.{IsSplice};
 
 use crate::databases::spelled_kept;
-use crate::spelling::{number, place_at, unspelled, word_at};
+use crate::spelling::{place_at, unspelled, word_at};
 use bt_bib::{KeptItems, ReadMeter, Splice};
 use bt_text::Bytes;
 use std::alloc::{AllocError, Global};
