@@ -1,7 +1,7 @@
 //! Cases of values by their places, few and many.
 
 use crate::spelling::{number, place_at, push_word, spelled, truth, unspelled, word_at};
-use bt_text::{Bytes, Shared, Values};
+use bt_text::{Bytes, Element, Shared, Values};
 use std::alloc::{AllocError, Global};
 
 /// So many numbers, each its place.
@@ -54,12 +54,12 @@ fn copy_answer(alloc: Global, count: usize, place: usize) -> Result<Bytes, Alloc
 }
 
 /// Whether a copy is the same.
-fn is_same_told(
+fn is_same_told<T: Element>(
     alloc: Global,
-    copy: &Values<i32>,
-    numbers: &Values<i32>,
+    copy: &Values<T>,
+    values: &Values<T>,
 ) -> Result<Bytes, AllocError> {
-    truth(alloc, copy.is_same(numbers))
+    truth(alloc, copy.is_same(values))
 }
 
 /// The text at a place of some values, to base 16; a full stop where there is none.
@@ -105,8 +105,8 @@ fn texts_answer(alloc: Global, case: &str) -> Result<Bytes, AllocError> {
     let copy = changed(alloc, &texts, place, word_at(case, 4))?;
     let mut out = text_at(alloc, &copy, place)?;
     push_word(&mut out, &text_at(alloc, &texts, place)?)?;
-    push_word(&mut out, &truth(alloc, copy.is_same(&texts))?)?;
-    push_word(&mut out, &truth(alloc, texts.is_same(&texts))?)?;
+    push_word(&mut out, &is_same_told(alloc, &copy, &texts)?)?;
+    push_word(&mut out, &is_same_told(alloc, &texts, &texts)?)?;
     Ok(out)
 }
 
