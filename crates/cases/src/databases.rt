@@ -3,7 +3,8 @@
 
 use crate::spelling::{number, push_spelled, unspelled, word_at};
 use bt_bib::{
-    Closing, Content, Field, Item, ItemFault, KeptItems, NameRole, Part, Piece, Spot, read_bib,
+    Closing, Content, Field, Item, ItemFault, Items, KeptItems, NameRole, Part, Piece, Spot,
+    read_bib,
 };
 use bt_text::{Bytes, Sequence, Shared};
 use std::alloc::{AllocError, Global};
@@ -219,12 +220,44 @@ pub fn spelled_kept(alloc: Global, items: &KeptItems) -> Result<Bytes, AllocErro
     spelled.end()
 }
 
-/// The answer of a case `read_bib`: the items, with ` ; ` between them, or a full stop where there is none.
-pub fn answer(alloc: Global, case: &str) -> Result<Bytes, AllocError> {
-    let text = unspelled(alloc, word_at(case, 1))?;
+/// The items, with ` ; ` between them, or a full stop where there is none.
+fn items_answer(alloc: Global, items: &Items) -> Result<Bytes, AllocError> {
     let mut spelled = Spelled::new(alloc);
-    for piece in read_bib(alloc, &text)?.pieces() {
+    for piece in items.pieces() {
         spelled.piece(piece)?;
     }
     spelled.end()
+}
+
+/// The place of the last item's fault, and the fault; a full stop where the last piece is no item or has no fault.
+fn last_fault_answer(alloc: Global, items: &Items) -> Result<Bytes, AllocError> {
+    let mut spelled = Spelled::new(alloc);
+    if let Some(Piece::Item(item)) = items.pieces().last() {
+        if let Some(fault) = item.fault {
+            spelled.place(item.end.place)?;
+            spelled.out.append(b" ")?;
+            spelled.fault(fault, item.end.line)?;
+        }
+    }
+    spelled.end()
+}
+
+/// How many items there are; a comment word is none.
+fn item_count(items: &Items) -> usize {
+    items
+        .pieces()
+        .iter()
+        .filter(|piece| matches!(piece, Piece::Item(_)))
+        .count()
+}
+
+/// The answer of a case: the items of a text, how many there are, or the last one's fault.
+pub fn answer(alloc: Global, case: &str) -> Result<Bytes, AllocError> {
+    let text = unspelled(alloc, word_at(case, 1))?;
+    let items = read_bib(alloc, &text)?;
+    match word_at(case, 0) {
+        "item_count" => number(alloc, item_count(&items)),
+        "last_fault" => last_fault_answer(alloc, &items),
+        _ => items_answer(alloc, &items),
+    }
 }

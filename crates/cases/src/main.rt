@@ -3,14 +3,24 @@
 //! Where a call runs out of memory, a line on standard error says so, and the call is made once more.
 #![tactic(auto)]
 
+mod aux_files;
 mod aux_lines;
 mod databases;
+mod fault_names;
+mod held_lines;
+mod logs;
+mod name_tables;
 mod names;
+mod reaches;
 mod resolved;
+mod sequences;
+mod sparse_texts;
 mod spelling;
 mod splices;
+mod style_faults;
 mod styles;
 mod texts;
+mod values;
 
 use bt_text::Bytes;
 use spelling::word_at;
@@ -20,12 +30,22 @@ use std::io::{BufRead, BufReader, BufWriter, Write};
 
 fn answer(alloc: Global, case: &str) -> Result<Bytes, AllocError> {
     match word_at(case, 0) {
-        "count" | "parts" | "format" => names::answer(alloc, case),
+        "count" | "parts" | "format" | "format_within" => names::answer(alloc, case),
         "read_aux" => aux_lines::answer(alloc, case),
-        "read_bib" => databases::answer(alloc, case),
-        "respliced" => splices::answer(alloc, case),
+        "read_citations" => aux_files::answer(alloc, case),
+        "read_bib" | "item_count" | "last_fault" => databases::answer(alloc, case),
+        "respliced" | "respliced_anywhere" => splices::answer(alloc, case),
         "read_style" => styles::answer(alloc, case),
+        "first_fault" | "fault_words" | "beginnings" | "chain" => style_faults::answer(alloc, case),
+        "reach" | "reached" => reaches::answer(alloc, case),
         "resolve" => resolved::answer(alloc, case),
+        "log" | "lines" => logs::answer(alloc, case),
+        "held" | "held_step_by_step" => held_lines::answer(alloc, case),
+        "name_list" | "name_table" => name_tables::answer(alloc, case),
+        "joined" | "appended" | "sequence" => sequences::answer(alloc, case),
+        "sparse_texts" => sparse_texts::answer(alloc, case),
+        "no_values" | "values" | "values_copied" | "values_of_texts" => values::answer(alloc, case),
+        "fault_names" => fault_names::answer(alloc, case),
         _ => texts::answer(alloc, case),
     }
 }

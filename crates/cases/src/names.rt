@@ -1,7 +1,7 @@
-//! Cases of names: how many a text lists, the parts of one, and one in a pattern.
+//! Cases of names: how many a text lists, the parts of one, and one in a pattern, within a limit too.
 
-use crate::spelling::{number, number_at, push_spelled, spelled, unspelled, word_at};
-use bt_names::{FormatFault, NameFault, Token, count, format, parts};
+use crate::spelling::{number, number_at, place_at, push_spelled, spelled, unspelled, word_at};
+use bt_names::{FormatFault, Formatted, NameFault, Token, count, format, format_within, parts};
 use bt_text::{Bytes, Sequence};
 use std::alloc::{AllocError, Global};
 
@@ -35,27 +35,49 @@ fn parts_answer(alloc: Global, names: &[u8], n: i32) -> Result<Bytes, AllocError
     Ok(out)
 }
 
+/// The name of a fault, and its place where it has one.
+fn fault_told(alloc: Global, fault: FormatFault) -> Result<Bytes, AllocError> {
+    match fault {
+        FormatFault::NoSuchName => Bytes::copied(alloc, b"NoSuchName"),
+        FormatFault::TooManyCommas => Bytes::copied(alloc, b"TooManyCommas"),
+        FormatFault::PatternFault(place) => {
+            Bytes::copied(alloc, format!(in alloc; "PatternFault {place}")?.as_bytes())
+        }
+        FormatFault::OutOfMemory => Err(AllocError),
+    }
+}
+
 fn format_answer(alloc: Global, names: &[u8], n: i32, pattern: &[u8]) -> Result<Bytes, AllocError> {
     match format(alloc, names, n, pattern) {
         Ok(text) => spelled(alloc, text.as_slice()),
-        Err(FormatFault::NoSuchName) => Bytes::copied(alloc, b"NoSuchName"),
-        Err(FormatFault::TooManyCommas) => Bytes::copied(alloc, b"TooManyCommas"),
-        Err(FormatFault::PatternFault(place)) => {
-            Bytes::copied(alloc, format!(in alloc; "PatternFault {place}")?.as_bytes())
-        }
-        Err(FormatFault::OutOfMemory) => Err(AllocError),
+        Err(fault) => fault_told(alloc, fault),
+    }
+}
+
+/// The formatted name, `longer` where it is longer than the limit, or the fault.
+fn format_within_answer(
+    alloc: Global,
+    names: &[u8],
+    n: i32,
+    pattern: &[u8],
+    limit: usize,
+) -> Result<Bytes, AllocError> {
+    match format_within(alloc, names, n, pattern, limit) {
+        Ok(Formatted::Text(text)) => spelled(alloc, text.as_slice()),
+        Ok(Formatted::Longer) => Bytes::copied(alloc, b"longer"),
+        Err(fault) => fault_told(alloc, fault),
     }
 }
 
 /// The answer of a case.
 pub fn answer(alloc: Global, case: &str) -> Result<Bytes, AllocError> {
     let names = unspelled(alloc, word_at(case, 1))?;
+    let pattern = unspelled(alloc, word_at(case, 3))?;
+    let n = number_at(case, 2);
     match word_at(case, 0) {
         "count" => number(alloc, count(&names)),
-        "parts" => parts_answer(alloc, &names, number_at(case, 2)),
-        _ => {
-            let pattern = unspelled(alloc, word_at(case, 3))?;
-            format_answer(alloc, &names, number_at(case, 2), &pattern)
-        }
+        "parts" => parts_answer(alloc, &names, n),
+        "format" => format_answer(alloc, &names, n, &pattern),
+        _ => format_within_answer(alloc, &names, n, &pattern, place_at(case, 4)),
     }
 }

@@ -1,7 +1,7 @@
 //! Cases of databases that are resolved for a style with the fields `crossref` and `title`, a function for `misc`, and
 //! the macro `s`, which stands for `S`.
 
-ghost use Rattle.std.specs.Prelude.{◌≤◌, length, IfSome};
+ghost use Rattle.std.specs.Prelude.{◌≤◌, length, IfOk, IfSome};
 
 use crate::spelling::{number, place_at, unspelled, word_at};
 use bt_bib::KeptItems;
@@ -113,21 +113,38 @@ fn shown(alloc: Global, resolved: &Resolved) -> Result<Bytes, AllocError> {
     Ok(out)
 }
 
-/// The answer of a case: what its keys and its two databases give, with its `min`.
-pub fn answer(alloc: Global, case: &str) -> Result<Bytes, AllocError> {
-    let declared = declared(alloc)?;
-    let (keys, star) = cited(alloc, word_at(case, 1))?;
+/// What is cited by a word: its keys, and how many of them stand before a `*`.
+fn cites_of(alloc: Global, word: &str) -> Result<Cites, AllocError>
+    ensures { IfOk result (λ cites. IfSome cites.star (λ before. before ≤ length cites.keys)) }
+{
+    let (keys, star) = cited(alloc, word)?;
     let star = star_within(star, &keys);
     let keys = Shared::new(alloc, keys)?;
-    let cites = Cites { keys, star };
-    let min = place_at(case, 2).min(65_535) as u32;
-    let first = KeptItems::read(alloc, &unspelled(alloc, word_at(case, 3))?)?;
-    let second = KeptItems::read(alloc, &unspelled(alloc, word_at(case, 4))?)?;
+    Ok(Cites { keys, star })
+}
+
+/// What citations and databases give.
+fn told(
+    alloc: Global,
+    declared: &Declared,
+    cites: &Cites,
+    databases: &[&KeptItems],
+    min: u32,
+) -> Result<Bytes, AllocError>
+    requires { IfSome cites.now.star (λ before. before ≤ length cites.now.keys) }
+{
     if !are_apart(alloc, declared.fields.as_slice())? {
         return Ok(Bytes::new(alloc));
     }
-    shown(
-        alloc,
-        &resolve(alloc, &declared, &cites, &[&first, &second], min)?,
-    )
+    let resolved = resolve(alloc, declared, cites, databases, min)?;
+    shown(alloc, &resolved)
+}
+
+/// The answer of a case: what its keys and its two databases give, with its `min`.
+pub fn answer(alloc: Global, case: &str) -> Result<Bytes, AllocError> {
+    let cites = cites_of(alloc, word_at(case, 1))?;
+    let min = place_at(case, 2).min(65_535) as u32;
+    let first = KeptItems::read(alloc, &unspelled(alloc, word_at(case, 3))?)?;
+    let second = KeptItems::read(alloc, &unspelled(alloc, word_at(case, 4))?)?;
+    told(alloc, &declared(alloc)?, &cites, &[&first, &second], min)
 }

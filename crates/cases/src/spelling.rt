@@ -1,4 +1,5 @@
-//! How a case and its answer are spelled: words parted by one space, texts to base 16, `-` for the empty one.
+//! How a case and its answer are spelled: words parted by one space, texts to base 16, `-` for the empty one. In a case
+//! a text may also be spelled in pieces, each so many times.
 
 ghost use Rattle.std.specs.Prelude.{◌<◌};
 
@@ -16,12 +17,24 @@ fn digit(byte: u8) -> u8
     }
 }
 
-/// The bytes that a word spells to base 16, none for `-`.
-pub fn unspelled(alloc: Global, word: &str) -> Result<Vec<u8>, AllocError> {
-    let mut bytes = Vec::new(alloc);
-    for pair in word.as_bytes().chunks(2) {
+/// Puts the bytes after `bytes` that digits to base 16 spell.
+fn push_unspelled(bytes: &mut Vec<u8>, digits: &str) -> Result<(), AllocError> {
+    for pair in digits.as_bytes().chunks(2) {
         if let [high, low] = pair {
             bytes.push(digit(*high) * 16 + digit(*low))?;
+        }
+    }
+    Ok(())
+}
+
+/// The bytes that a word spells: pieces to base 16 with `+` between them, each as often as the number before its `*`
+/// says, or once; none for `-`.
+pub fn unspelled(alloc: Global, word: &str) -> Result<Vec<u8>, AllocError> {
+    let mut bytes = Vec::new(alloc);
+    for piece in word.split('+') {
+        let (count, digits) = piece.split_once('*').unwrap_or(("1", piece));
+        for _ in 0..count.parse::<usize>().unwrap_or(0) {
+            push_unspelled(&mut bytes, digits)?;
         }
     }
     Ok(bytes)
@@ -44,6 +57,11 @@ pub fn spelled(alloc: Global, bytes: &[u8]) -> Result<Bytes, AllocError> {
     let mut out = Bytes::new(alloc);
     push_spelled(&mut out, bytes)?;
     Ok(out)
+}
+
+/// `true` or `false`.
+pub fn truth(alloc: Global, is_true: bool) -> Result<Bytes, AllocError> {
+    Bytes::copied(alloc, if is_true { b"true" } else { b"false" })
 }
 
 /// A number in decimal digits.
@@ -76,4 +94,22 @@ pub fn push_list(out: &mut Bytes, texts: &[Bytes]) -> Result<(), AllocError> {
         push_spelled(out, text.as_slice())?;
     }
     out.append(b"]")
+}
+
+/// The part at a place of a word, whose parts have colons between them.
+pub fn part_at(word: &str, place: usize) -> &str {
+    word.split(':').nth(place).unwrap_or("")
+}
+
+/// The number at a place of a word, or 0.
+pub fn number_in(word: &str, place: usize) -> usize {
+    part_at(word, place).parse::<usize>().unwrap_or(0)
+}
+
+/// Puts a word after others, with a space before it; nothing if it is empty.
+pub fn push_word(out: &mut Bytes, word: &Bytes) -> Result<(), AllocError> {
+    if 0 < out.len() && 0 < word.len() {
+        out.append(b" ")?;
+    }
+    out.append(word.as_slice())
 }

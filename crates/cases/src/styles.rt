@@ -20,7 +20,8 @@ fn function_name(style: &Style, place: usize) -> &[u8] {
     }
 }
 
-fn target_name(style: &Style, target: Target) -> &[u8] {
+/// The name that something has which a name of a style stands for.
+pub fn target_name(style: &Style, target: Target) -> &[u8] {
     match target {
         Target::Builtin(builtin) => builtin.name(),
         Target::Field(n) => name_at(style.fields.as_slice(), n),

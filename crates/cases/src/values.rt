@@ -1,0 +1,122 @@
+//! Cases of values by their places, few and many.
+
+use crate::spelling::{number, place_at, push_word, spelled, truth, unspelled, word_at};
+use bt_text::{Bytes, Element, Shared, Values};
+use std::alloc::{AllocError, Global};
+
+/// So many numbers, each its place.
+fn places(alloc: Global, count: usize) -> Result<Values<i32>, AllocError> {
+    let mut numbers = Vec::new(alloc);
+    for place in 0..count.min(65_535) {
+        numbers.push(place as i32)?;
+    }
+    Values::from_vec(alloc, numbers)
+}
+
+/// The value at each place and at the one behind them, parted by commas; a full stop where there is none.
+fn listed(alloc: Global, numbers: &Values<i32>) -> Result<Bytes, AllocError> {
+    let mut out = Bytes::new(alloc);
+    for place in 0..=numbers.len() {
+        match numbers.get(place) {
+            Some(n) => out.append(format!(in alloc; "{n},")?.as_bytes())?,
+            None => out.append(b".")?,
+        }
+    }
+    Ok(out)
+}
+
+/// How many values there are, how many in a vector of them, and each.
+fn values_told(alloc: Global, numbers: &Values<i32>) -> Result<Bytes, AllocError> {
+    let mut out = number(alloc, numbers.len())?;
+    push_word(&mut out, &number(alloc, numbers.to_vec(alloc)?.len())?)?;
+    push_word(&mut out, &listed(alloc, numbers)?)?;
+    Ok(out)
+}
+
+/// Sets the value at a place twice, and one behind the end.
+fn change(alloc: Global, numbers: &mut Values<i32>, place: usize) -> Result<(), AllocError> {
+    numbers.set(alloc, place, -1)?;
+    numbers.set(alloc, place, -2)?;
+    numbers.set(alloc, numbers.len(), -3)
+}
+
+/// Whether a copy is the same, before and after its value at a place is set; then the values of the copy and of what
+/// was copied.
+fn copy_answer(alloc: Global, count: usize, place: usize) -> Result<Bytes, AllocError> {
+    let numbers = places(alloc, count)?;
+    let mut copy = numbers.copied(alloc)?;
+    let mut out = is_same_told(alloc, &copy, &numbers)?;
+    change(alloc, &mut copy, place)?;
+    push_word(&mut out, &is_same_told(alloc, &copy, &numbers)?)?;
+    push_word(&mut out, &listed(alloc, &copy)?)?;
+    push_word(&mut out, &listed(alloc, &numbers)?)?;
+    Ok(out)
+}
+
+/// Whether a copy is the same.
+fn is_same_told<T: Element>(
+    alloc: Global,
+    copy: &Values<T>,
+    values: &Values<T>,
+) -> Result<Bytes, AllocError> {
+    truth(alloc, copy.is_same(values))
+}
+
+/// The text at a place of some values, to base 16; a full stop where there is none.
+fn text_at(
+    alloc: Global,
+    texts: &Values<Shared<Bytes>>,
+    place: usize,
+) -> Result<Bytes, AllocError> {
+    match texts.get(place) {
+        Some(text) => spelled(alloc, text.as_slice()),
+        None => Bytes::copied(alloc, b"."),
+    }
+}
+
+/// A text at each of so many places.
+fn texts_of(alloc: Global, count: usize, word: &str) -> Result<Values<Shared<Bytes>>, AllocError> {
+    let text = Shared::<Bytes>::copied(alloc, &unspelled(alloc, word)?)?;
+    let mut texts = Vec::new(alloc);
+    for _ in 0..count {
+        texts.push(text.share()?)?;
+    }
+    Values::from_vec(alloc, texts)
+}
+
+/// A copy that gets another text at a place.
+fn changed(
+    alloc: Global,
+    texts: &Values<Shared<Bytes>>,
+    place: usize,
+    word: &str,
+) -> Result<Values<Shared<Bytes>>, AllocError> {
+    let text = Shared::<Bytes>::copied(alloc, &unspelled(alloc, word)?)?;
+    let mut copy = texts.copied(alloc)?;
+    copy.set(alloc, place, text)?;
+    Ok(copy)
+}
+
+/// A text at each of so many places, and a copy that gets another at one place: the text there in the copy and in what
+/// was copied, whether both are the same, and whether what was copied is the same as itself.
+fn texts_answer(alloc: Global, case: &str) -> Result<Bytes, AllocError> {
+    let place = place_at(case, 2);
+    let texts = texts_of(alloc, place_at(case, 1), word_at(case, 3))?;
+    let copy = changed(alloc, &texts, place, word_at(case, 4))?;
+    let mut out = text_at(alloc, &copy, place)?;
+    push_word(&mut out, &text_at(alloc, &texts, place)?)?;
+    push_word(&mut out, &is_same_told(alloc, &copy, &texts)?)?;
+    push_word(&mut out, &is_same_told(alloc, &texts, &texts)?)?;
+    Ok(out)
+}
+
+/// The answer of a case.
+pub fn answer(alloc: Global, case: &str) -> Result<Bytes, AllocError> {
+    let count = place_at(case, 1);
+    match word_at(case, 0) {
+        "no_values" => values_told(alloc, &Values::new(alloc)),
+        "values" => values_told(alloc, &places(alloc, count)?),
+        "values_copied" => copy_answer(alloc, count, place_at(case, 2)),
+        _ => texts_answer(alloc, case),
+    }
+}
