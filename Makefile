@@ -33,7 +33,7 @@ run:
 
 test:
 	@$(NEEDS_RT)
-	rt ci
+	RT_JOBS=$${RT_JOBS:-$$(tools/at_once)} rt ci
 	tests/sources
 	tests/run
 	tests/originals

@@ -5,8 +5,8 @@
 mod draft;
 mod edit;
 mod edits;
+mod files;
 mod laws;
-mod present;
 mod refusal;
 mod reread;
 mod session;

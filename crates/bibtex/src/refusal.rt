@@ -6,7 +6,7 @@ ghost use Rattle.bibtex.specs.Present.{is_root_name};
 ghost use Rattle.bibtex.specs.Applied.{write_refusal, range_refusal, splice_refusal, remove_refusal, root_refusal, code_of};
 
 use crate::edit::Refusal;
-use crate::present::place_of;
+use crate::files::place_of;
 use bt_job::{File, is_file_name, text_of};
 
 /// How many bytes a file may have.

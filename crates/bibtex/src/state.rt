@@ -5,7 +5,7 @@ ghost use Rattle.bibtex.specs.Change.{write, splice, remove, root_name};
 ghost use Rattle.bibtex.specs.Applied.{applied, outcome, IsAnswer};
 
 use crate::edit::{Edit, Refusal};
-use crate::present::{all_shared, replaced, with_text, without};
+use crate::files::{all_shared, replaced, with_text, without};
 use crate::refusal::{remove_refusal, root_refusal, splice_refusal, write_refusal};
 use crate::reread::Reread;
 use bt_bib::Splice;

@@ -9,8 +9,8 @@ use Rattle.bt_style.specs.Reach.{leads_to, is_among}
 use Rattle.bt_machine.specs.declared.input.Input.{Input}
 use Rattle.bt_machine.specs.Footprint.{blend, input_over}
 use Rattle.bt_machine.specs.inner.Footprint.{among}
-use Rattle.bt_machine.specs.Agreement.{outcome_over}
-use Rattle.bt_machine.specs.Comparison.{reach_by, agreement}
+use Rattle.bt_machine.specs.AgreementLaws.{outcome_over}
+use Rattle.bt_machine.specs.Agreement.{reach_by, agreement}
 use Rattle.bt_machine.specs.Step.{step_in}
 use Rattle.bt_machine.specs.Eval.{eval_within}
 

@@ -9,9 +9,9 @@ use Rattle.bt_style.specs.Tree.{Called, End, Then}
 use Rattle.bt_style.specs.Program.{Program}
 use Rattle.bt_actions.specs.World.{World, no_variables, no_entry, entry_in}
 use Rattle.bt_machine.specs.Eval.{eval}
-use Rattle.bt_machine.specs.Step.{tick_limit, step_begun, rested, Finish, finish_of, step}
+use Rattle.bt_machine.specs.Step.{tick_limit, step_begun, rested, Finish, finish_of, step, Own, own}
 use Rattle.bt_actions.specs.View.{entries_in}
-use Rattle.bt_machine.specs.OwnEntry.{IsPlace, cut, alone, with_variables, put_back, finish_back, DependsOnInput, Own, own, SameInputSameOutcome}
+use Rattle.bt_machine.specs.OwnEntry.{IsPlace, cut, alone, with_variables, put_back, finish_back, DependsOnInput, SameInputSameOutcome}
 use Rattle.bt_machine.proofs.Places.{Part, Place, varied, embed}
 use Rattle.bt_machine.proofs.Alike.{eval_alike, finished_alike}
 

@@ -10,8 +10,8 @@ use Rattle.bt_machine.specs.declared.outcome.Outcome.{Outcome}
 use Rattle.bt_machine.specs.Step.{step_in, outcome_of}
 use Rattle.bt_machine.specs.Footprint.{blend_variables}
 use Rattle.bt_machine.specs.inner.Footprint.{among}
-use Rattle.bt_machine.specs.Agreement.{Agree, IsFootprint, outcome_over}
-use Rattle.bt_machine.specs.Comparison.{same_text_at, same_counts, same_variables}
+use Rattle.bt_machine.specs.AgreementLaws.{Agree, IsFootprint, outcome_over}
+use Rattle.bt_machine.specs.Agreement.{same_text_at, same_counts, same_variables}
 use Rattle.bt_machine.proofs.Truths.{and_both}
 use Rattle.bt_machine.proofs.Comparing.{variables_equal}
 use Rattle.bt_machine.proofs.Agreeing.{agreeing_inputs, agreeing_reach, rest_stays}

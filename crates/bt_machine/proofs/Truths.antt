@@ -4,7 +4,7 @@ use Rattle.std.specs.Prelude.{nat_eq}
 use Rattle.std.specs.List.{list_all}
 use Rattle.std.proofs.lemmas.Bool.{eqb-true, eq-eqb}
 use Rattle.bt_machine.specs.inner.Footprint.{among}
-use Rattle.bt_machine.specs.Comparison.{same_where}
+use Rattle.bt_machine.specs.Agreement.{same_where}
 
 pub and_both : (a c : Bool) → (a && c) ≡ true → (a ≡ true) × (c ≡ true)
 and_both true c h = (refl, h)

@@ -20,7 +20,7 @@ pub struct Input {
 
 impl Input {
     ghost use Rattle.std.specs.Prelude.{◌≡◌};
-    ghost use Rattle.bt_machine.specs.Footprint.{function_of};
+    ghost use Rattle.bt_machine.specs.Step.{function_of};
 
     /// The function of the type of the entry, if there is one.
     pub fn type_function(&self) -> Option<usize>

@@ -2,8 +2,8 @@
 
 ghost use Rattle.std.specs.Prelude.{◌≡◌, ◌&&◌, IsTrue, IfOk, option_map};
 ghost use Rattle.bt_style.specs.Reach.{is_among, keeps_held};
-ghost use Rattle.bt_machine.specs.Agreement.{IsNextOutcome, outcome_over, own_over};
-ghost use Rattle.bt_machine.specs.Comparison.{same_counts, same_variables};
+ghost use Rattle.bt_machine.specs.AgreementLaws.{IsNextOutcome, outcome_over, own_over};
+ghost use Rattle.bt_machine.specs.Agreement.{same_counts, same_variables};
 ghost use Rattle.bt_machine.specs.Footprint.{blend_globals, pick};
 ghost use Rattle.bt_machine.specs.inner.Substitution.{blend_at};
 

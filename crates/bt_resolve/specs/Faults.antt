@@ -12,7 +12,7 @@ use Rattle.bt_bib.specs.declared.spot.Spot.{Spot}
 use Rattle.bt_log.specs.declared.message.Place.TheVariants.{DatabaseLine}
 use Rattle.bt_log.specs.declared.message.Message.{Message}
 use Rattle.bt_log.specs.Message.{skipping}
-use Rattle.bt_resolve.specs.declared.place.Place.{Place}
+use Rattle.bt_resolve.specs.declared.place.BibLine.{BibLine}
 
 -- what is dropped after a fault
 abbrev pub dropped_name : Content → List ℕ
@@ -71,7 +71,7 @@ abbrev pub fault_messages : ℕ → Spot → Content → Option Closing → Opti
 fault_messages database end content close None = []
 fault_messages database end content close (Some fault) = fault_error database end content close fault ∷ []
 
-abbrev pub repeated : Place → List ℕ → Message
+abbrev pub repeated : BibLine → List ℕ → Message
 repeated place key =
     record (skipping (codes "Repeated entry") (DatabaseLine place.database place.line None) (codes "entry"))
     { entry = Some key }

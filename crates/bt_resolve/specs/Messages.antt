@@ -10,7 +10,7 @@ use Rattle.bt_resolve.specs.declared.asked.Asked.{Asked}
 use Rattle.bt_resolve.specs.declared.declared.Macro.{Macro}
 use Rattle.bt_log.specs.declared.message.Message.{Message}
 use Rattle.bt_resolve.specs.declared.stored.Stored.{Stored}
-use Rattle.bt_resolve.specs.declared.place.Place.{Place}
+use Rattle.bt_resolve.specs.declared.place.BibLine.{BibLine}
 use Rattle.bt_resolve.specs.Names.{place_of_name}
 use Rattle.bt_resolve.specs.Values.{MacroTexts, value, value_warnings}
 use Rattle.bt_resolve.specs.Macros.{faultless, macro_before}
@@ -19,36 +19,36 @@ use Rattle.bt_resolve.specs.Faults.{fault_messages, repeated}
 use Rattle.bt_resolve.specs.Fields.{fields_messages}
 use Rattle.bt_resolve.specs.Stored.{kind_of, is_wanted, is_stored, stored_among}
 
-abbrev pub type_messages : Option ℕ → Place → List ℕ → List Message
+abbrev pub type_messages : Option ℕ → BibLine → List ℕ → List Message
 type_messages None place key = no_function place key ∷ []
 type_messages (Some function) place key = []
 
 -- of an entry that is stored: that its type has no function, then those of its fields
-unfoldable pub stored_messages : Asked → MacroTexts → Place → Entry → List ℕ → List Message
+unfoldable pub stored_messages : Asked → MacroTexts → BibLine → Entry → List ℕ → List Message
 stored_messages a macros place e key =
     type_messages (place_of_name a.types (kind_of e)) place key
     ++ fields_messages a.fields macros place.database key [] e.fields
 
 -- of an entry that is wanted: its key is stored already, or it is stored
-abbrev pub wanted_messages : Asked → MacroTexts → List Stored → Place → Entry → List ℕ → List Message
+abbrev pub wanted_messages : Asked → MacroTexts → List Stored → BibLine → Entry → List ℕ → List Message
 wanted_messages a macros stored place e key =
     if is_stored stored key then repeated place key ∷ [] else stored_messages a macros place e key
 
-abbrev pub key_messages : Asked → MacroTexts → List Stored → Place → Entry → Option (List ℕ) → List Message
+abbrev pub key_messages : Asked → MacroTexts → List Stored → BibLine → Entry → Option (List ℕ) → List Message
 key_messages a macros stored place e None = []
 key_messages a macros stored place e (Some key) =
     if is_wanted a stored key then wanted_messages a macros stored place e key else []
 
-abbrev pub string_messages : MacroTexts → Place → Option (List ℕ) → Option (List Part) → List Message
+abbrev pub string_messages : MacroTexts → BibLine → Option (List ℕ) → Option (List Part) → List Message
 string_messages macros place None parts = []
 string_messages macros place (Some name) None = []
 string_messages macros place (Some name) (Some parts) = value_warnings (Some name) macros place name parts
 
-abbrev pub preamble_messages : MacroTexts → Place → Option (List Part) → List Message
+abbrev pub preamble_messages : MacroTexts → BibLine → Option (List Part) → List Message
 preamble_messages macros place None = []
 preamble_messages macros place (Some parts) = value_warnings None macros place (codes "preamble") parts
 
-abbrev pub content_messages : Asked → MacroTexts → List Stored → Place → Option ItemFault → Content → List Message
+abbrev pub content_messages : Asked → MacroTexts → List Stored → BibLine → Option ItemFault → Content → List Message
 content_messages a macros stored place fault (contents.Entry e) = key_messages a macros stored place e e.key
 content_messages a macros stored place fault (contents.Define d) =
     string_messages macros place d.name (faultless fault d.value)

@@ -6,7 +6,7 @@ use Rattle.bt_text.specs.White.{white_joined}
 use Rattle.bt_bib.specs.declared.item.Part.{Part}
 use Rattle.bt_bib.specs.declared.item.Part.TheVariants.{Text, Macro}
 use Rattle.bt_log.specs.declared.message.Message.{Message}
-use Rattle.bt_resolve.specs.declared.place.Place.{Place}
+use Rattle.bt_resolve.specs.declared.place.BibLine.{BibLine}
 use Rattle.bt_resolve.specs.Warnings.{line_of, undefined_macro, own_macro, too_long}
 
 -- what each macro stands for, if it is defined
@@ -60,7 +60,7 @@ without_last_space t = if slice_index t (length t - 1) == 32 then take (length t
 unfoldable pub field_value : MacroTexts → List Part → List ℕ
 field_value macros parts = without_last_space (without_first_space (value macros parts))
 
-abbrev pub macro_warnings : Bool → Option (List ℕ) → Place → List ℕ → List Message
+abbrev pub macro_warnings : Bool → Option (List ℕ) → BibLine → List ℕ → List Message
 macro_warnings own (Some text) place name = []
 macro_warnings true None place name = own_macro place name ∷ []
 macro_warnings false None place name = undefined_macro place name ∷ []
@@ -71,12 +71,12 @@ part_warnings own macros database (Text text) = []
 part_warnings own macros database (Macro name line) =
     macro_warnings (is_named own name) (others own macros name) (line_of database line) name
 
-abbrev pub length_warnings : Option (List ℕ) → Place → List ℕ → List Message
+abbrev pub length_warnings : Option (List ℕ) → BibLine → List ℕ → List Message
 length_warnings None place name = too_long place name ∷ []
 length_warnings (Some text) place name = []
 
 -- The warnings of a value: those of its macros, each at its own line, and that it is too long, at the line of its name.
-unfoldable pub value_warnings : Option (List ℕ) → MacroTexts → Place → List ℕ → List Part → List Message
+unfoldable pub value_warnings : Option (List ℕ) → MacroTexts → BibLine → List ℕ → List Part → List Message
 value_warnings own macros place name parts =
     flat_map (part_warnings own macros place.database) parts
     ++ length_warnings (within_limit (joined_parts (others own macros) parts)) place name

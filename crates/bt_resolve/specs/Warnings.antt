@@ -4,14 +4,14 @@ use Rattle.bt_text.specs.CaseFolding.{folded}
 use Rattle.bt_log.specs.declared.message.Rank.TheVariants.{Warning}
 use Rattle.bt_log.specs.declared.message.Place.TheVariants.{DatabaseLine}
 use Rattle.bt_log.specs.declared.message.Message.{Message}
-use Rattle.bt_resolve.specs.declared.place.Place.{Place}
+use Rattle.bt_resolve.specs.declared.place.BibLine.{BibLine}
 
 -- a line of a database, by the database's number
-abbrev pub line_of : ℕ → ℕ → Place
+abbrev pub line_of : ℕ → ℕ → BibLine
 line_of database line = record { database = database; line = line }
 
 -- a warning at a line of a database, about the entry of a key or about none
-abbrev pub warning_at : Place → List ℕ → Option (List ℕ) → Message
+abbrev pub warning_at : BibLine → List ℕ → Option (List ℕ) → Message
 warning_at place words entry =
     record {
       rank = Warning;
@@ -21,23 +21,23 @@ warning_at place words entry =
       second = None;
     }
 
-abbrev pub undefined_macro : Place → List ℕ → Message
+abbrev pub undefined_macro : BibLine → List ℕ → Message
 undefined_macro place name =
     warning_at place (codes "Warning--string name \"" ++ folded name ++ codes "\" is undefined") None
 
-abbrev pub own_macro : Place → List ℕ → Message
+abbrev pub own_macro : BibLine → List ℕ → Message
 own_macro place name =
     warning_at place (codes "Warning--string name \"" ++ folded name ++ codes "\" is used in its own definition") None
 
-abbrev pub too_long : Place → List ℕ → Message
+abbrev pub too_long : BibLine → List ℕ → Message
 too_long place name =
     warning_at place (codes "Warning--the value of \"" ++ folded name ++ codes "\" is over 65536 bytes") None
 
-abbrev pub extra_field : Place → List ℕ → List ℕ → Message
+abbrev pub extra_field : BibLine → List ℕ → List ℕ → Message
 extra_field place key name =
     warning_at place (codes "Warning--I'm ignoring " ++ key ++ codes "'s extra \"" ++ folded name ++ codes "\" field")
     (Some key)
 
-abbrev pub no_function : Place → List ℕ → Message
+abbrev pub no_function : BibLine → List ℕ → Message
 no_function place key =
     warning_at place (codes "Warning--entry type for \"" ++ key ++ codes "\" isn't style-file defined") (Some key)

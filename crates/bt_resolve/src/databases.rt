@@ -15,7 +15,7 @@ use crate::faults::tell_fault;
 use crate::macros::style_macros;
 use crate::place::Origin;
 use crate::reader::Reader;
-use crate::state::Reading;
+use crate::reading::Reading;
 use crate::store::Store;
 use bt_bib::{Content, Item, KeptItems, Piece, PlacedPiece};
 use bt_text::{Bytes, Sequence};

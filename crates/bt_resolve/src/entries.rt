@@ -13,12 +13,12 @@ ghost use Rattle.bt_resolve.specs.inner.Warnings.{line_at};
 use crate::faults::repeated;
 use crate::fields::FieldReader;
 use crate::macro_text::MacroText;
-use crate::place::Message;
 use crate::reader::Reader;
 use crate::store::Store;
 use crate::stored::Stored;
 use crate::warnings::no_function;
 use bt_bib::Entry;
+use bt_log::Message;
 use bt_text::{ByName, Bytes, Sequence, Shared, to_ascii_lowercase};
 use std::alloc::AllocError;
 

@@ -1,6 +1,6 @@
 //! What a style sees of the databases.
 
-use crate::place::Message;
+use bt_log::Message;
 use bt_text::{Bytes, Sequence, Shared, SparseTexts};
 
 /// An entry of the list. Its texts and its values have several owners, and are shared without copying.

@@ -160,7 +160,7 @@ pub fn tell_fault(
 /// An entry whose key is stored already.
 pub fn repeated(
     alloc: Global,
-    place: crate::place::Place,
+    place: crate::place::BibLine,
     key: &Shared<Bytes>,
 ) -> Result<Message, AllocError>
     ensures { IfOk result (λ message. message ≡ repeated place key.now) }

@@ -12,11 +12,12 @@ ghost use Rattle.bt_resolve.specs.inner.Warnings.{line_at};
 
 use crate::index::Index;
 use crate::macro_text::MacroText;
-use crate::place::{Message, Origin};
+use crate::place::Origin;
 use crate::stored::FieldValues;
 use crate::values::{ValueReader, trimmed};
 use crate::warnings::extra_field;
 use bt_bib::Field;
+use bt_log::Message;
 use bt_text::{ByName, Bytes, Sequence, Shared, SparseTexts, eq_ignore_ascii_case};
 use std::alloc::{AllocError, Global};
 

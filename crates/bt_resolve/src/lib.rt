@@ -19,14 +19,14 @@ mod macro_text;
 mod macros;
 mod place;
 mod reader;
+mod reading;
 mod references;
 mod resolution;
 mod seen_values;
-mod state;
 mod store;
 mod stored;
 mod values;
-mod visible;
+mod view;
 mod warnings;
 
 pub use declared::{Cites, Declared, Macro};

@@ -10,10 +10,10 @@ ghost use Rattle.bt_resolve.specs.inner.Warnings.{line_at};
 
 use crate::declared::Macro;
 use crate::macro_text::MacroText;
-use crate::place::Message;
 use crate::reader::Reader;
 use crate::values::ValueReader;
 use bt_bib::{Definition, Item, Part};
+use bt_log::Message;
 use bt_text::{ByName, Bytes, Sequence};
 use std::alloc::{AllocError, Global};
 

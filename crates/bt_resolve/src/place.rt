@@ -7,18 +7,17 @@ ghost use Rattle.bt_log.specs.declared.message.Place.TheVariants.{DatabaseLine};
 ghost use Rattle.bt_resolve.specs.inner.Warnings.{line_at};
 
 use bt_bib::Spot;
-pub use bt_log::Message;
 
 /// A line of a database.
 #[derive(Clone, Copy, Debug, PartialEq, Eq)]
-pub struct Place {
+pub struct BibLine {
     /// The number of the database, from 1.
     pub database: usize,
     /// The line, from 1.
     pub line: usize,
 }
 
-impl Place {
+impl BibLine {
     /// The place of a message there.
     pub fn of_message(self) -> bt_log::Place
         ensures { result ≡ DatabaseLine self.database self.line None }
@@ -42,11 +41,11 @@ pub struct Origin {
 
 impl Origin {
     /// A line of the item.
-    pub fn place(self, line: usize) -> Place
+    pub fn place(self, line: usize) -> BibLine
         requires { FitsLine nowhere self.start line }
         ensures { result ≡ line_at self line }
     {
-        Place {
+        BibLine {
             database: self.database,
             line: line + self.start.line,
         }

@@ -6,7 +6,7 @@ ghost use Rattle.bt_bib.specs.Shift.{FitsLine};
 ghost use Rattle.bt_resolve.specs.inner.Warnings.{line_at};
 
 use crate::asked::Asked;
-use crate::place::{Origin, Place};
+use crate::place::{BibLine, Origin};
 use std::alloc::Global;
 
 /// What an item of a database is read with.
@@ -21,7 +21,7 @@ pub struct Reader<'a> {
 
 impl Reader<'_> {
     /// A line of the item.
-    pub fn place(&self, line: usize) -> Place
+    pub fn place(&self, line: usize) -> BibLine
         requires { FitsLine nowhere self.now.origin.start line }
         ensures { result ≡ line_at self.now.origin line }
     {

@@ -14,11 +14,11 @@ use crate::entry::{Entry, Resolved};
 use crate::family::Family;
 use crate::index::Index;
 use crate::list::listed;
-use crate::place::Message;
+use crate::reading::Reading;
 use crate::references::Teller;
-use crate::state::Reading;
-use crate::visible::View;
+use crate::view::View;
 use bt_bib::KeptItems;
+use bt_log::Message;
 use bt_text::{Sequence, Shared};
 use std::alloc::{AllocError, Global};
 

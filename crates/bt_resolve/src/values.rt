@@ -11,9 +11,10 @@ ghost use Rattle.bt_resolve.specs.inner.Warnings.{line_at};
 
 use crate::joined_parts::JoinedParts;
 use crate::macro_text::MacroText;
-use crate::place::{Message, Origin};
+use crate::place::Origin;
 use crate::warnings::{own_macro, too_long, undefined_macro};
 use bt_bib::Part;
+use bt_log::Message;
 use bt_text::{ByName, Bytes, Sequence, Shared, TEXT_BYTES, eq_ignore_ascii_case};
 use std::alloc::{AllocError, Global};
 

@@ -4,13 +4,13 @@ ghost use Rattle.std.specs.Prelude.{◌≡◌, ◌++◌, Some, None, IfOk};
 ghost use Rattle.bt_text.specs.CaseFolding.{folded};
 ghost use Rattle.bt_resolve.specs.Warnings.{extra_field, no_function, own_macro, too_long, undefined_macro, warning_at};
 
-use crate::place::{Message, Place};
-use bt_log::Rank;
+use crate::place::BibLine;
+use bt_log::{Message, Rank};
 use bt_text::{Bytes, Shared, to_ascii_lowercase};
 use std::alloc::{AllocError, Global};
 
 /// A warning, about the entry of a key or about none.
-fn warning_at(place: Place, words: Shared<Bytes>, entry: Option<Shared<Bytes>>) -> Message
+fn warning_at(place: BibLine, words: Shared<Bytes>, entry: Option<Shared<Bytes>>) -> Message
     ensures { result ≡ warning_at place words entry }
 {
     Message {
@@ -25,7 +25,7 @@ fn warning_at(place: Place, words: Shared<Bytes>, entry: Option<Shared<Bytes>>) 
 /// A warning that says these words around a name in small letters.
 fn naming(
     alloc: Global,
-    place: Place,
+    place: BibLine,
     before: &[u8],
     name: &[u8],
     after: &[u8],
@@ -39,7 +39,7 @@ fn naming(
 }
 
 /// A macro that isn't defined.
-pub fn undefined_macro(alloc: Global, place: Place, name: &[u8]) -> Result<Message, AllocError>
+pub fn undefined_macro(alloc: Global, place: BibLine, name: &[u8]) -> Result<Message, AllocError>
     ensures { IfOk result (λ message. message ≡ undefined_macro place name.now) }
 {
     naming(
@@ -52,7 +52,7 @@ pub fn undefined_macro(alloc: Global, place: Place, name: &[u8]) -> Result<Messa
 }
 
 /// A macro that is used where it is defined.
-pub fn own_macro(alloc: Global, place: Place, name: &[u8]) -> Result<Message, AllocError>
+pub fn own_macro(alloc: Global, place: BibLine, name: &[u8]) -> Result<Message, AllocError>
     ensures { IfOk result (λ message. message ≡ own_macro place name.now) }
 {
     let after = b"\" is used in its own definition";
@@ -60,7 +60,7 @@ pub fn own_macro(alloc: Global, place: Place, name: &[u8]) -> Result<Message, Al
 }
 
 /// A value that is over the limit.
-pub fn too_long(alloc: Global, place: Place, name: &[u8]) -> Result<Message, AllocError>
+pub fn too_long(alloc: Global, place: BibLine, name: &[u8]) -> Result<Message, AllocError>
     ensures { IfOk result (λ message. message ≡ too_long place name.now) }
 {
     let after = b"\" is over 65536 bytes";
@@ -70,7 +70,7 @@ pub fn too_long(alloc: Global, place: Place, name: &[u8]) -> Result<Message, All
 /// A warning about the entry of a key.
 fn about(
     alloc: Global,
-    place: Place,
+    place: BibLine,
     key: &[u8],
     words: Shared<Bytes>,
 ) -> Result<Message, AllocError>
@@ -83,7 +83,7 @@ fn about(
 /// A second field of one name in the entry of a key.
 pub fn extra_field(
     alloc: Global,
-    place: Place,
+    place: BibLine,
     key: &[u8],
     name: &[u8],
 ) -> Result<Message, AllocError>
@@ -105,7 +105,7 @@ pub fn extra_field(
 }
 
 /// The entry of a key has a type without a function.
-pub fn no_function(alloc: Global, place: Place, key: &[u8]) -> Result<Message, AllocError>
+pub fn no_function(alloc: Global, place: BibLine, key: &[u8]) -> Result<Message, AllocError>
     ensures { IfOk result (λ message. message ≡ no_function place key.now) }
 {
     let words = Shared::<Bytes>::of(

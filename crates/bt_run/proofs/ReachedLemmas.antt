@@ -8,8 +8,8 @@ use Rattle.bt_style.specs.Reach.{is_among, noted_all, leads_to, Reaches, reachab
 use Rattle.bt_style.proofs.FoundLemmas.{unseen}
 use Rattle.bt_style.proofs.SearchLemmas.{Searched, begun, searched_on, work, work_falls, finds_all}
 use Rattle.bt_machine.specs.declared.input.Input.{Input}
-use Rattle.bt_machine.specs.Footprint.{function_of}
-use Rattle.bt_machine.specs.Agreement.{IsFootprint}
+use Rattle.bt_machine.specs.Step.{function_of}
+use Rattle.bt_machine.specs.AgreementLaws.{IsFootprint}
 use Rattle.bt_run.specs.Reached.{next_names, found_from, reach_of, names_in}
 
 -- where all that was found was gone over, nothing more is found

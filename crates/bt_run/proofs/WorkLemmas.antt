@@ -16,10 +16,10 @@ use Rattle.bt_style.proofs.FoundLemmas.{contained, among as found_among}
 use Rattle.bt_actions.specs.declared.entry.Entry.{Entry}
 use Rattle.bt_machine.specs.declared.input.Input.{Input}
 use Rattle.bt_machine.specs.declared.outcome.Outcome.{Outcome}
-use Rattle.bt_machine.specs.Step.{step_in}
-use Rattle.bt_machine.specs.Footprint.{entry_over, function_of}
-use Rattle.bt_machine.specs.Agreement.{Agree, IsFootprint, AgreeingInputsSameStep}
-use Rattle.bt_machine.specs.Comparison.{reach_by, agreement}
+use Rattle.bt_machine.specs.Step.{step_in, function_of}
+use Rattle.bt_machine.specs.Footprint.{entry_over}
+use Rattle.bt_machine.specs.AgreementLaws.{Agree, IsFootprint, AgreeingInputsSameStep}
+use Rattle.bt_machine.specs.Agreement.{reach_by, agreement}
 use Rattle.bt_machine.proofs.Agreeing.{itself}
 use Rattle.bt_machine.proofs.Comparing.{compared_tells}
 use Rattle.bt_run.specs.declared.course.Step.{Step}

@@ -4,7 +4,7 @@ use Rattle.bt_style.specs.declared.style.Target.{Target}
 use Rattle.bt_style.specs.Program.{Program}
 use Rattle.bt_style.specs.Reach.{leads_to, noted_all, reachable}
 use Rattle.bt_machine.specs.declared.input.Input.{Input}
-use Rattle.bt_machine.specs.Footprint.{function_of}
+use Rattle.bt_machine.specs.Step.{function_of}
 
 -- the names that a name leads to, if there is one
 abbrev pub next_names : Program → Option ℕ → Option Target → List Target

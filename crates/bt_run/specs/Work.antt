@@ -6,7 +6,7 @@ use Rattle.bt_style.specs.Program.{Program}
 use Rattle.bt_actions.specs.declared.entry.Entry.{Entry}
 use Rattle.bt_machine.specs.declared.input.Input.{Input}
 use Rattle.bt_machine.specs.Step.{step_in, outcome_of}
-use Rattle.bt_machine.specs.Comparison.{reach_by, agreement}
+use Rattle.bt_machine.specs.Agreement.{reach_by, agreement}
 use Rattle.bt_run.specs.declared.course.Step.{Step}
 use Rattle.bt_run.specs.Reached.{names_in}
 

@@ -18,12 +18,11 @@ use crate::course::Course;
 use crate::job::{Job, shared_text};
 use crate::kept::{Kept, earlier_under};
 use crate::readings::Readings;
-use crate::reuse::{Lookup, Reuse};
+use crate::reuse::Reuse;
 use crate::start::{begin, fault_told, first_globals};
 use bt_actions::Variables;
 use bt_job::{Citations, File, read_citations};
 use bt_log::{Message, lines_bytes, log_bytes, status, terse_bytes};
-use bt_machine::Meter;
 use bt_resolve::Cites;
 use bt_style::{StyleFault, StyleRefusal, fields_are_apart};
 use bt_text::{Bytes, Sequence, Shared, Values};
@@ -109,10 +108,24 @@ fn refuse_style(
 }
 
 /// A run as far as its log, the names that it looked for and did not find, and the text of its style.
-struct Ran {
+struct StyleRun {
     course: Course,
     wanted: Sequence<Bytes>,
     text: Option<Shared<Bytes>>,
+}
+
+impl StyleRun {
+    fn new(course: Course, wanted: Sequence<Bytes>, text: Option<Shared<Bytes>>) -> StyleRun
+        ensures course { result.course ≡ course }
+        ensures wanted { result.wanted ≡ wanted }
+        ensures text { result.text ≡ text }
+    {
+        StyleRun {
+            course,
+            wanted,
+            text,
+        }
+    }
 }
 
 /// Runs what the `.aux` files ask for.
@@ -124,7 +137,7 @@ fn run_with(
     min: u32,
     kept: &Kept,
     reuse: &mut Reuse,
-) -> Result<Ran, AllocError>
+) -> Result<StyleRun, AllocError>
     requires meter { reuse.old.meter ≡ 0 }
     requires ran { reuse.old.ran ≡ 0 }
     requires known { reuse.old.known ≡ [] }
@@ -146,11 +159,7 @@ fn run_with(
     } = citations;
     let Some(name) = style else {
         let course = begin(alloc, no_variables(alloc), log)?;
-        return Ok(Ran {
-            course,
-            wanted,
-            text: None,
-        });
+        return Ok(StyleRun::new(course, wanted, None));
     };
     let name = name.as_slice();
     // A law of the reader of styles, for the proof alone: the call does nothing.
@@ -172,19 +181,11 @@ fn run_with(
                 earlier,
             };
             let course = carry_out_style(alloc, job, log, reuse)?;
-            Ok(Ran {
-                course,
-                wanted,
-                text: Some(text),
-            })
+            Ok(StyleRun::new(course, wanted, Some(text)))
         }
         Err(StyleRefusal::StyleFault(fault)) => {
             let course = refuse_style(alloc, name, fault, log)?;
-            Ok(Ran {
-                course,
-                wanted,
-                text: Some(text),
-            })
+            Ok(StyleRun::new(course, wanted, Some(text)))
         }
         Err(StyleRefusal::OutOfMemory) => Err(AllocError),
     }
@@ -239,21 +240,9 @@ pub fn answers_after(
 {
     let mut readings = readings;
     let citations = read_citations(alloc, files, root, &mut readings.aux_texts)?;
-    let mut reuse = Reuse {
-        meter: Meter::new(),
-        ran: 0,
-        next: 0,
-        places: Sequence::new(alloc),
-        same: Sequence::new(alloc),
-        lookup: Lookup {
-            scans: 0,
-            index: None,
-        },
-        known: Sequence::new(alloc),
-        readings,
-    };
+    let mut reuse = Reuse::begun(alloc, readings);
     let ran = run_with(alloc, files, citations, min, kept, &mut reuse)?;
-    let Ran {
+    let StyleRun {
         course,
         wanted,
         text,

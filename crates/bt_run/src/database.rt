@@ -71,7 +71,7 @@ pub fn database_of<'a>(databases: &'a [Database], text: &[u8]) -> Option<&'a Dat
 }
 
 /// The database of a text: the one that was read, else it is read and put after those that were.
-fn taken_or_read(
+fn known_or_read(
     alloc: Global,
     databases: &mut Sequence<Database>,
     text: Shared<Bytes>,
@@ -99,7 +99,7 @@ pub fn databases_in(
     let mut all = Sequence::new(alloc);
     'names: for name in names {
         let text = shared_text(alloc, files, name.as_slice())?;
-        all.push(taken_or_read(alloc, databases, text)?)?;
+        all.push(known_or_read(alloc, databases, text)?)?;
     }
     Ok(all)
 }

@@ -8,7 +8,7 @@ ghost use Rattle.bt_job.specs.FileNames.{text_of};
 ghost use Rattle.bt_text.specs.NameList.{are_apart};
 
 use crate::earlier::Earlier;
-use bt_job::File;
+use bt_job::{File, owned_text_of};
 use bt_resolve::Cites;
 use bt_style::Style;
 use bt_text::{Bytes, Shared};
@@ -36,10 +36,8 @@ pub struct Job<'a> {
 pub fn shared_text(alloc: Global, files: &[File], name: &[u8]) -> Result<Shared<Bytes>, AllocError>
     ensures { IfOk result (λ text. text ≡ unwrap_or (text_of files.now name.now) []) }
 {
-    'files: for file in files {
-        if file.name.as_slice() == name {
-            return file.text.share();
-        }
+    match owned_text_of(files, name) {
+        Some(text) => text.share(),
+        None => Shared::new(alloc, Bytes::new(alloc)),
     }
-    Shared::new(alloc, Bytes::new(alloc))
 }

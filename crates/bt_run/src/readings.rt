@@ -6,7 +6,7 @@ ghost use Rattle.bt_style.specs.Program.{program_of};
 ghost use Rattle.bt_style.specs.Reader.{style_of};
 
 use crate::database::{Database, present as present_databases};
-use crate::styles::{ReadStyle, present as present_styles, taken_or_read};
+use crate::styles::{ReadStyle, known_or_read, present as present_styles};
 use bt_job::{AuxTexts, File};
 use bt_style::{Style, StyleRefusal};
 use bt_text::{Bytes, Sequence, Shared};
@@ -56,7 +56,7 @@ impl Readings {
     ) -> Result<Shared<Style>, StyleRefusal>
         ensures { Gives program_of result (style_of text.now) }
     {
-        let known = taken_or_read(alloc, &mut self.styles, text.share()?)?;
+        let known = known_or_read(alloc, &mut self.styles, text.share()?)?;
         known.style()
     }
 

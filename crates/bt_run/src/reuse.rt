@@ -1,10 +1,13 @@
 //! How a run goes over the steps of an earlier one.
 
+ghost use Rattle.std.specs.Prelude.{◌≡◌, None, []};
+
 use crate::index::Index;
 use crate::readings::Readings;
 use bt_machine::Meter;
 use bt_style::{Reach, Target};
 use bt_text::{Sequence, Shared};
+use std::alloc::Global;
 
 /// What is reached from a name, with this function of the entry's type or none.
 #[derive(Debug, Drop)]
@@ -41,4 +44,28 @@ pub struct Reuse {
     pub known: Sequence<KnownReach>,
     /// What was read, by earlier runs and this one.
     pub readings: Readings,
+}
+
+impl Reuse {
+    /// At the beginning of a run: no step was carried out, and nothing is known of the style.
+    pub fn begun(alloc: Global, readings: Readings) -> Reuse
+        ensures meter { result.meter ≡ 0 }
+        ensures ran { result.ran ≡ 0 }
+        ensures known { result.known ≡ [] }
+        ensures index { result.lookup.index ≡ None }
+    {
+        Reuse {
+            meter: Meter::new(),
+            ran: 0,
+            next: 0,
+            places: Sequence::new(alloc),
+            same: Sequence::new(alloc),
+            lookup: Lookup {
+                scans: 0,
+                index: None,
+            },
+            known: Sequence::new(alloc),
+            readings,
+        }
+    }
 }

@@ -5,7 +5,7 @@ ghost use Rattle.std.specs.Option.{ForSome};
 ghost use Rattle.bt_style.specs.Program.{program_of};
 ghost use Rattle.bt_style.specs.Reach.{is_among};
 ghost use Rattle.bt_machine.specs.Step.{step_in, outcome_of};
-ghost use Rattle.bt_machine.specs.Agreement.{IsFootprint, IsNextOutcome, outcome_over};
+ghost use Rattle.bt_machine.specs.AgreementLaws.{IsFootprint, IsNextOutcome, outcome_over};
 ghost use Rattle.bt_run.specs.inner.Index.{IsIndex};
 ghost use Rattle.bt_run.specs.Work.{IsStep};
 ghost use Rattle.bt_run.specs.inner.Work.{IsLike, IsNoneAt, IsNone, IsMet, IsKnown, step_now, IsCounted};
@@ -270,7 +270,7 @@ fn carry_out_step(
 }
 
 /// What the step of an input leaves: taken over where an earlier run has the step, and carried out elsewhere.
-pub fn take_or_reuse(
+pub fn take_over_or_carry_out(
     alloc: Global,
     style: &Style,
     command: usize,

@@ -11,7 +11,7 @@ ghost use Rattle.bt_run.specs.Commands.{iterated, unless_stopped};
 use crate::course::{CommandPlace, Course, Step};
 use crate::job::Job;
 use crate::reuse::Reuse;
-use crate::reused_step::{Done, take_or_reuse};
+use crate::reused_step::{Done, take_over_or_carry_out};
 use crate::same_input::is_input;
 use crate::step::{all_told, cut_out, key_of, put_back};
 use bt_machine::{Input, step_depends_on_its_input};
@@ -105,7 +105,7 @@ impl<'a> StepCommand<'a> {
         // overflow.
         let _steps = course.trace.len();
         let key = key_of(&input)?;
-        let Done { outcome, cost } = take_or_reuse(
+        let Done { outcome, cost } = take_over_or_carry_out(
             alloc,
             job.style,
             site.command,

@@ -68,7 +68,7 @@ fn style_among<'a>(styles: &'a [ReadStyle], text: &[u8]) -> Option<&'a ReadStyle
 
 /// The style of a text: the one that was read, else it is read and put after those that were. After out of memory
 /// these are as before, or have it too.
-pub fn taken_or_read(
+pub fn known_or_read(
     alloc: Global,
     styles: &mut Sequence<ReadStyle>,
     text: Shared<Bytes>,

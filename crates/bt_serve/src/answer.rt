@@ -6,7 +6,7 @@ ghost use Rattle.bibtex.specs.Change.{change_of};
 ghost use Rattle.bt_serve.specs.inner.Asked.{request_seen};
 ghost use Rattle.bt_serve.specs.Commands.{edit, number_line, text_answer, answer_of, ends, accepted, refused};
 ghost use Rattle.bt_serve.specs.inner.Commands.{IsShown};
-ghost use Rattle.bt_serve.specs.inner.Serves.{Takes, taken_text, Replies};
+ghost use Rattle.bt_serve.specs.inner.Serves.{CountsFailures, Takes, taken_text, Replies};
 ghost use Rattle.bt_streams.specs.Writes.{AppendsPart};
 ghost use Rattle.bt_serve.specs.Faults.{HandsOn};
 
@@ -73,12 +73,8 @@ fn answer_edit<S: Source, K: Sink>(
     ensures replies { Replies (edit (change_of change.entry) count) (S.remaining source.old) (S.remaining source.new)
         (K.contents sink.old) (K.contents sink.new) session.old session.new result }
     ensures lowers { S.reads_left source.new ≤ S.reads_left source.old }
-    ensures reads { OnOk result (S.failure_count source.new ≡ S.failure_count source.old) }
-    ensures writes { OnOk result (K.failure_count sink.new ≡ K.failure_count sink.old) }
-    ensures read_failed { result ≡ Err ServeFault.ReadFailed →
-        S.failure_count source.new ≡ S.failure_count source.old + 1 }
-    ensures write_failed { result ≡ Err ServeFault.WriteFailed →
-        K.failure_count sink.new ≡ K.failure_count sink.old + 1 }
+    ensures failures { CountsFailures (S.failure_count source.old) (S.failure_count source.new)
+        (K.failure_count sink.old) (K.failure_count sink.new) result }
     ensures flushed { HandsOn (K.is_flushed sink.old) (K.is_flushed sink.new) result }
 {
     let taken = take_edit(alloc, source, session, change, count)?;
@@ -101,12 +97,8 @@ pub fn answer_request<S: Source, K: Sink>(
     ensures replies { Replies (request_seen request.entry) (S.remaining source.old) (S.remaining source.new)
         (K.contents sink.old) (K.contents sink.new) session.old session.new result }
     ensures lowers { S.reads_left source.new ≤ S.reads_left source.old }
-    ensures reads { OnOk result (S.failure_count source.new ≡ S.failure_count source.old) }
-    ensures writes { OnOk result (K.failure_count sink.new ≡ K.failure_count sink.old) }
-    ensures read_failed { result ≡ Err ServeFault.ReadFailed →
-        S.failure_count source.new ≡ S.failure_count source.old + 1 }
-    ensures write_failed { result ≡ Err ServeFault.WriteFailed →
-        K.failure_count sink.new ≡ K.failure_count sink.old + 1 }
+    ensures failures { CountsFailures (S.failure_count source.old) (S.failure_count source.new)
+        (K.failure_count sink.old) (K.failure_count sink.new) result }
     ensures flushed { HandsOn (K.is_flushed sink.old) (K.is_flushed sink.new) result }
 {
     match request {

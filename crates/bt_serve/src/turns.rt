@@ -2,7 +2,7 @@
 
 ghost use Rattle.std.specs.Prelude.{◌≡◌, ℕ, ◌+◌, ◌-◌, ◌^◌, ◌<◌, ◌≤◌, [], OnOk, List, Some, Err};
 ghost use Rattle.bt_serve.specs.Serves.{loop_ended, Ends};
-ghost use Rattle.bt_serve.specs.inner.Serves.{Turns};
+ghost use Rattle.bt_serve.specs.inner.Serves.{CountsFailures, Turns};
 ghost use Rattle.bt_serve.specs.Faults.{HandsOn};
 ghost use Rattle.bt_serve.specs.Whole.{AnswersAll, AnswersBefore, AnswersPart};
 ghost use Rattle.bt_serve.specs.Edits.{IsEdited};
@@ -27,12 +27,8 @@ fn serve_one<S: Source, K: Sink>(
     ensures turns { Turns (S.remaining source.old) (S.remaining source.new)
         (K.contents sink.old) (K.contents sink.new) session.old session.new result }
     ensures lowers { OnOk result (S.reads_left source.new < S.reads_left source.old) }
-    ensures reads { OnOk result (S.failure_count source.new ≡ S.failure_count source.old) }
-    ensures writes { OnOk result (K.failure_count sink.new ≡ K.failure_count sink.old) }
-    ensures read_failed { result ≡ Err ServeFault.ReadFailed →
-        S.failure_count source.new ≡ S.failure_count source.old + 1 }
-    ensures write_failed { result ≡ Err ServeFault.WriteFailed →
-        K.failure_count sink.new ≡ K.failure_count sink.old + 1 }
+    ensures failures { CountsFailures (S.failure_count source.old) (S.failure_count source.new)
+        (K.failure_count sink.old) (K.failure_count sink.new) result }
     ensures flushed { HandsOn (K.is_flushed sink.old) (K.is_flushed sink.new) result }
 {
     let mut buffer = [0; 257];

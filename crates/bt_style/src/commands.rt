@@ -164,41 +164,27 @@ pub fn arguments(
             Ok(())
         }
         Verb::Function => function(alloc, cursor, draft, line),
-        Verb::Integers => variables(
-            alloc,
-            cursor,
-            draft,
-            Names::GlobalNumbers,
-            Action::Integers,
-            line,
-        ),
+        Verb::Integers => {
+            let (names, action) = (Names::GlobalNumbers, Action::Integers);
+            variables(alloc, cursor, draft, names, action, line)
+        }
         Verb::Iterate => {
             let target = run_target(alloc, cursor, draft)?;
             draft.add_command(Action::Iterate(target), line)?;
             Ok(())
         }
         Verb::Macro => define_macro(alloc, cursor, draft, line),
-        Verb::Read => {
-            draft.add_command(Action::Read, line)?;
-            Ok(())
-        }
+        Verb::Read => Ok(draft.add_command(Action::Read, line)?),
         Verb::Reverse => {
             let target = run_target(alloc, cursor, draft)?;
             draft.add_command(Action::Reverse(target), line)?;
             Ok(())
         }
-        Verb::Sort => {
-            draft.add_command(Action::Sort, line)?;
-            Ok(())
+        Verb::Sort => Ok(draft.add_command(Action::Sort, line)?),
+        Verb::Strings => {
+            let (names, action) = (Names::GlobalTexts, Action::Strings);
+            variables(alloc, cursor, draft, names, action, line)
         }
-        Verb::Strings => variables(
-            alloc,
-            cursor,
-            draft,
-            Names::GlobalTexts,
-            Action::Strings,
-            line,
-        ),
     }
 }
 

@@ -14,6 +14,8 @@ pub mod HeldLemmas
 pub mod JoinedLemmas
 pub mod NameLemmas
 pub mod FoldingLemmas
+pub mod RangeLemmas
 pub mod SparseLemmas
+pub mod MergingLemmas
 pub mod WhiteLemmas
 pub mod LayerLemmas

@@ -1,6 +1,6 @@
--- Texts with their places: how one is found, put and taken away, and how two lists of them become one.
-use Rattle.std.proofs.Common.{◌≡◌, refl, sym, ap, subst, ◌∙◌, ℕ, zero, suc, ◌+◌, ◌<◌, ◌≤◌, ◌≢◌, eqb, Bool, true, false, arith, List, [], ◌∷◌, ◌++◌, map, length, set, drop, replicate, get_or, if◌then◌else◌, Option, Some, None, Result, Ok, Err, IfOk, IfErr, inl, inr}
-use Rattle.std.specs.Prelude.{is_none, is_some, nat_lt, bytes_eq, ◌&&◌, ◌==◌, ◌↔◌}
+-- Texts with their places: how one is found, put and taken away.
+use Rattle.std.proofs.Common.{◌≡◌, refl, sym, ap, subst, ◌∙◌, ℕ, zero, suc, ◌+◌, ◌<◌, ◌≤◌, ◌≢◌, eqb, Bool, true, false, arith, List, [], ◌∷◌, map, length, set, drop, get_or, if◌then◌else◌, Option, Some, None, Result, Ok, Err, IfOk, IfErr, inl, inr}
+use Rattle.std.specs.Prelude.{is_none, is_some, bytes_eq, ◌&&◌, ◌==◌, ◌↔◌}
 use Rattle.std.specs.Cmp.Lexicographic.{bytes_decides}
 use mathlib.Core.Bool.{false≢true}
 use Rattle.std.specs.List.{insert, remove, list_all, range_with_len}
@@ -11,70 +11,21 @@ use Rattle.std.proofs.lemmas.List.FromFn.{length-map-range_with_len}
 use Rattle.std.proofs.lemmas.List.Sorted.{IsNonDecreasingBy-from_default}
 use Rattle.std.proofs.lemmas.Bool.{cases_lt, cond-true, cond-false}
 use Rattle.std.proofs.lemmas.Bool.Decides.{nat_tests}
-use Rattle.std.proofs.lemmas.List.{append-nil, drop_more, get_or_default}
-use Rattle.bt_text.specs.Sparse.{text_at, all_texts, IsRising, or_text, filled_from}
-use Rattle.bt_text.specs.inner.Merging.{Present, place_at, below, above, merged, same_text, same_present, IsAt, IsGap, IsInOrder}
-
-abbrev Text : Type 0
-Text = Option (List ℕ)
-
--- ---- the texts of a range of places
-
-range_alike : (f g : ℕ → Text) (a n : ℕ) → ((i : ℕ) → a ≤ i → i < a + n → f i ≡ g i) → map f (range_with_len a n) ≡ map g (range_with_len a n)
-range_alike f g a zero same = refl
-range_alike f g a (suc n) same =
-    ap (λ (v : Text). v ∷ map f (range_with_len (a + 1) n)) (same a (omega arith) (omega arith))
-    ∙ ap (λ (vs : List Text). g a ∷ vs) (range_alike f g (a + 1) n (λ i le lt. same i (omega (arith, le)) (omega (arith, lt))))
-
-pub range_none : (a n : ℕ) → map (text_at []) (range_with_len a n) ≡ replicate n None
-range_none a zero = refl
-range_none a (suc n) = ap (λ (vs : List Text). None ∷ vs) (range_none (a + 1) n)
-
-range_get : (f : ℕ → Text) (a n i : ℕ) → i < n → get_or (map f (range_with_len a n)) i None ≡ f (a + i)
-range_get f a zero i lt = absurd (omega (arith, lt))
-range_get f a (suc n) zero lt = ap f (omega arith)
-range_get f a (suc n) (suc i) lt = range_get f (a + 1) n i (omega (arith, lt)) ∙ ap f (omega arith)
-
-range_get_behind : (f : ℕ → Text) (a n i : ℕ) → n ≤ i → get_or (map f (range_with_len a n)) i None ≡ None
-range_get_behind f a zero i le = refl
-range_get_behind f a (suc n) zero le = absurd (omega (arith, le))
-range_get_behind f a (suc n) (suc i) le = range_get_behind f (a + 1) n i (omega (arith, le))
-
-range_set : (f g : ℕ → Text) (a n i : ℕ) → ((q : ℕ) → q ≢ a + i → g q ≡ f q) → set (map f (range_with_len a n)) i (g (a + i)) ≡ map g (range_with_len a n)
-range_set f g a zero i other = refl
-range_set f g a (suc n) zero other =
-    ap (λ (v : Text). v ∷ map f (range_with_len (a + 1) n)) (ap g (omega arith))
-    ∙ ap (λ (vs : List Text). g a ∷ vs) (range_alike f g (a + 1) n (λ i le lt. sym (other i (λ same. omega (arith, same, le)))))
-range_set f g a (suc n) (suc i) other =
-    let e : a + suc i ≡ (a + 1) + i = omega arith in
-    ap (λ (v : Text). v ∷ set (map f (range_with_len (a + 1) n)) i (g (a + suc i))) (sym (other a (λ same. omega (arith, same))))
-    ∙ ap (λ (v : Text). g a ∷ set (map f (range_with_len (a + 1) n)) i v) (ap g e)
-    ∙ ap (λ (vs : List Text). g a ∷ vs) (range_set f g (a + 1) n i (λ q apart. other q (λ same. apart (same ∙ e))))
-
-range_behind : (f : ℕ → Text) (a n i : ℕ) (v : Text) → n ≤ i → set (map f (range_with_len a n)) i v ≡ map f (range_with_len a n)
-range_behind f a zero i v le = refl
-range_behind f a (suc n) zero v le = absurd (omega (arith, le))
-range_behind f a (suc n) (suc i) v le = ap (λ (vs : List Text). f a ∷ vs) (range_behind f (a + 1) n i v (omega (arith, le)))
-
-range_filled : (f g : ℕ → Text) (a n m : ℕ) → ((i : ℕ) → a + m ≤ i → g i ≡ None) →
-    filled_from (map f (range_with_len a n)) (map g (range_with_len a m)) ≡ map (λ i. or_text (f i) (g i)) (range_with_len a n)
-range_filled f g a zero m none = refl
-range_filled f g a (suc n) zero none =
-    ap (λ (v : Text). or_text (f a) v ∷ filled_from (map f (range_with_len (a + 1) n)) []) (sym (none a (omega arith)))
-    ∙ ap (λ (vs : List Text). or_text (f a) (g a) ∷ vs) (range_filled f g (a + 1) n zero (λ i le. none i (omega (arith, le))))
-range_filled f g a (suc n) (suc m) none =
-    ap (λ (vs : List Text). or_text (f a) (g a) ∷ vs) (range_filled f g (a + 1) n m (λ i le. none i (omega (arith, le))))
+use Rattle.std.proofs.lemmas.List.{drop_more, get_or_default}
+use Rattle.bt_text.specs.Sparse.{text_at, all_texts, IsRising}
+use Rattle.bt_text.specs.inner.Merging.{Present, place_at, same_text, same_present, IsAt, IsGap, IsInOrder}
+use Rattle.bt_text.proofs.RangeLemmas.{Text, range_get, range_get_behind, range_set, range_behind}
 
 -- ---- rising places
 
 pub length_all : (count : ℕ) (xs : Present) → length (all_texts count xs) ≡ count
 length_all count xs = length-map-range_with_len (text_at xs) 0 count
 
-none_low : (xs : Present) (a c i : ℕ) → IsRising a c xs → i < a → text_at xs i ≡ None
+pub none_low : (xs : Present) (a c i : ℕ) → IsRising a c xs → i < a → text_at xs i ≡ None
 none_low [] a c i rising low = refl
 none_low ((p, text) ∷ xs) a c i rising low = grind (arith, nat_tests, none_low xs (p + 1) c i rising.2 (omega (arith, low, rising.0)), low, rising.0)
 
-none_high : (xs : Present) (a c i : ℕ) → IsRising a c xs → c ≤ i → text_at xs i ≡ None
+pub none_high : (xs : Present) (a c i : ℕ) → IsRising a c xs → c ≤ i → text_at xs i ≡ None
 none_high [] a c i rising high = refl
 none_high ((p, text) ∷ xs) a c i rising high = grind (arith, nat_tests, none_high xs (p + 1) c i rising.2 high, high, rising.1)
 
@@ -89,7 +40,7 @@ in_order (x ∷ xs) a c rising i zero lt in_range = absurd (omega (arith, lt))
 in_order ((p, text) ∷ xs) a c rising zero (suc j) lt in_range = omega (arith, place_low xs (p + 1) c j rising.2 (omega (arith, in_range)))
 in_order ((p, text) ∷ xs) a c rising (suc i) (suc j) lt in_range = in_order xs (p + 1) c rising.2 i j (omega (arith, lt)) (omega (arith, in_range))
 
-rising_from : (xs : Present) (a b c : ℕ) → IsRising b c xs → a ≤ b → IsRising a c xs
+pub rising_from : (xs : Present) (a b c : ℕ) → IsRising b c xs → a ≤ b → IsRising a c xs
 rising_from [] a b c rising le = tt
 rising_from ((p, text) ∷ xs) a b c rising le = (omega (arith, rising.0, le), rising.1, rising.2)
 
@@ -223,116 +174,6 @@ all_get_at xs count place i rising there = all_get xs count place rising ∙ fou
 
 pub all_get_gap : (xs : Present) (count place i : ℕ) → IsRising 0 count xs → IsGap xs place i → get_or (all_texts count xs) place None ≡ None
 all_get_gap xs count place i rising gap = all_get xs count place rising ∙ none_in_gap xs place i gap
-
--- ---- two lists of them
-
-lt_is : (p q : ℕ) → p < q → nat_lt p q ≡ true
-lt_is p q lt = grind (arith, nat_tests, lt)
-
-le_is : (p q : ℕ) → q ≤ p → nat_lt p q ≡ false
-le_is p q le = grind (arith, nat_tests, le)
-
-below_more : (place p : ℕ) (text : List ℕ) (xs : Present) → p < place → below place ((p, text) ∷ xs) ≡ (p, text) ∷ below place xs
-below_more place p text xs lt = cond-true (nat_lt p place) ((p, text) ∷ below place xs) [] (lt_is p place lt)
-
-below_end : (place p : ℕ) (text : List ℕ) (xs : Present) → place ≤ p → below place ((p, text) ∷ xs) ≡ []
-below_end place p text xs le = cond-false (nat_lt p place) ((p, text) ∷ below place xs) [] (le_is p place le)
-
-behind_more : (place p : ℕ) (text : List ℕ) (xs : Present) → p < place → above place ((p, text) ∷ xs) ≡ above place xs
-behind_more place p text xs lt = cond-true (nat_lt p place) (above place xs) (if eqb p place then xs else (p, text) ∷ xs) (lt_is p place lt)
-
-behind_same : (place p : ℕ) (text : List ℕ) (xs : Present) → p ≡ place → above place ((p, text) ∷ xs) ≡ xs
-behind_same place p text xs same =
-    cond-false (nat_lt p place) (above place xs) (if eqb p place then xs else (p, text) ∷ xs) (le_is p place (omega (arith, same)))
-    ∙ cond-true (eqb p place) xs ((p, text) ∷ xs) (grind (arith, nat_tests, same))
-
-behind_end : (place p : ℕ) (text : List ℕ) (xs : Present) → place < p → above place ((p, text) ∷ xs) ≡ (p, text) ∷ xs
-behind_end place p text xs lt =
-    cond-false (nat_lt p place) (above place xs) (if eqb p place then xs else (p, text) ∷ xs) (le_is p place (omega (arith, lt)))
-    ∙ cond-false (eqb p place) xs ((p, text) ∷ xs) (grind (arith, nat_tests, lt))
-
-rising_below : (xs ys : Present) (a b c place : ℕ) → IsRising a b xs → a ≤ place → IsRising place c ys → place ≤ c → IsRising a c (below place xs ++ ys)
-rising_below [] ys a b c place rising le after most = rising_from ys a place c after le
-rising_below ((p, text) ∷ xs) ys a b c place rising le after most = elim (cases_lt p place) [
-  | inl lt ↦ subst (λ (zs : Present). IsRising a c (zs ++ ys)) (sym (below_more place p text xs lt))
-      (rising.0, omega (arith, lt, most), rising_below xs ys (p + 1) b c place rising.2 (omega (arith, lt)) after most)
-  | inr ge ↦ subst (λ (zs : Present). IsRising a c (zs ++ ys)) (sym (below_end place p text xs ge)) (rising_from ys a place c after le)
-]
-
-rising_behind : (xs : Present) (a b place : ℕ) → IsRising a b xs → IsRising (place + 1) b (above place xs)
-rising_behind [] a b place rising = tt
-rising_behind ((p, text) ∷ xs) a b place rising = elim (cases_lt p place) [
-  | inl lt ↦ subst (IsRising (place + 1) b) (sym (behind_more place p text xs lt)) (rising_behind xs (p + 1) b place rising.2)
-  | inr ge ↦ elim (cases_lt place p) [
-    | inl gt ↦ subst (IsRising (place + 1) b) (sym (behind_end place p text xs gt)) (omega (arith, gt), rising.1, rising.2)
-    | inr le ↦ subst (IsRising (place + 1) b) (sym (behind_same place p text xs (omega (arith, ge, le)))) (rising_from xs (place + 1) (p + 1) b rising.2 (omega (arith, ge)))
-  ]
-]
-
-pub rising_merged : (xs ys : Present) (a b c : ℕ) → a ≤ c → IsRising a c xs → IsRising a b ys → IsRising a c (merged c xs ys)
-rising_merged [] ys a b c le rising others = subst (IsRising a c) (append-nil (below c ys)) (rising_below ys [] a b c c others le tt (omega arith))
-rising_merged ((p, text) ∷ xs) ys a b c le rising others =
-    rising_below ys ((p, text) ∷ merged c xs (above p ys)) a b c p others rising.0
-    (omega arith, rising.1, rising_merged xs (above p ys) (p + 1) b c (omega (arith, rising.1)) rising.2 (rising_behind ys a b p others))
-    (omega (arith, rising.1))
-
-below_low : (xs ys : Present) (a b place i : ℕ) → IsRising a b xs → i < place → text_at ys i ≡ None → text_at (below place xs ++ ys) i ≡ text_at xs i
-below_low [] ys a b place i rising low none = none
-below_low ((p, text) ∷ xs) ys a b place i rising low none = elim (cases_lt p place) [
-  | inl lt ↦ ap (λ (zs : Present). text_at (zs ++ ys) i) (below_more place p text xs lt)
-      ∙ ap (λ (t : Text). if eqb p i then Some text else t) (below_low xs ys (p + 1) b place i rising.2 low none)
-  | inr ge ↦ ap (λ (zs : Present). text_at (zs ++ ys) i) (below_end place p text xs ge) ∙ none
-      ∙ sym (none_low ((p, text) ∷ xs) p b i (omega arith, rising.1, rising.2) (omega (arith, ge, low)))
-]
-
-below_high : (xs ys : Present) (place i : ℕ) → place ≤ i → text_at (below place xs ++ ys) i ≡ text_at ys i
-below_high [] ys place i high = refl
-below_high ((p, text) ∷ xs) ys place i high = elim (cases_lt p place) [
-  | inl lt ↦ ap (λ (zs : Present). text_at (zs ++ ys) i) (below_more place p text xs lt)
-      ∙ cond-false (eqb p i) (Some text) (text_at (below place xs ++ ys) i) (grind (arith, nat_tests, lt, high))
-      ∙ below_high xs ys place i high
-  | inr ge ↦ ap (λ (zs : Present). text_at (zs ++ ys) i) (below_end place p text xs ge)
-]
-
-behind_high : (xs : Present) (place i : ℕ) → place < i → text_at (above place xs) i ≡ text_at xs i
-behind_high [] place i high = refl
-behind_high ((p, text) ∷ xs) place i high = elim (cases_lt p place) [
-  | inl lt ↦ ap (λ (zs : Present). text_at zs i) (behind_more place p text xs lt) ∙ behind_high xs place i high
-      ∙ sym (cond-false (eqb p i) (Some text) (text_at xs i) (grind (arith, nat_tests, lt, high)))
-  | inr ge ↦ elim (cases_lt place p) [
-    | inl gt ↦ ap (λ (zs : Present). text_at zs i) (behind_end place p text xs gt)
-    | inr le ↦ ap (λ (zs : Present). text_at zs i) (behind_same place p text xs (omega (arith, ge, le)))
-        ∙ sym (cond-false (eqb p i) (Some text) (text_at xs i) (grind (arith, nat_tests, le, high)))
-  ]
-]
-
-merged_text : (xs ys : Present) (a b c i : ℕ) → a ≤ c → IsRising a c xs → IsRising a b ys → i < c → text_at (merged c xs ys) i ≡ or_text (text_at xs i) (text_at ys i)
-merged_text [] ys a b c i most rising others low =
-    ap (λ (zs : Present). text_at zs i) (sym (append-nil (below c ys))) ∙ below_low ys [] a b c i others low refl
-merged_text ((p, text) ∷ xs) ys a b c i most rising others low =
-    let rest = merged c xs (above p ys) in
-    let rest_rising : IsRising (p + 1) c rest = rising_merged xs (above p ys) (p + 1) b c (omega (arith, rising.1)) rising.2 (rising_behind ys a b p others) in
-    let rest_is : text_at rest i ≡ or_text (text_at xs i) (text_at (above p ys) i) = merged_text xs (above p ys) (p + 1) b c i (omega (arith, rising.1)) rising.2 (rising_behind ys a b p others) low in
-    elim (cases_lt i p) [
-      | inl lt ↦
-          below_low ys ((p, text) ∷ rest) a b p i others lt (none_low ((p, text) ∷ rest) p c i (omega arith, rising.1, rest_rising) lt)
-          ∙ ap (λ (t : Text). or_text t (text_at ys i)) (sym (none_low ((p, text) ∷ xs) p c i (omega arith, rising.1, rising.2) lt))
-      | inr ge ↦ below_high ys ((p, text) ∷ rest) p i ge ∙ elim (cases_lt p i) [
-        | inl gt ↦
-            cond-false (eqb p i) (Some text) (text_at rest i) (grind (arith, nat_tests, gt))
-            ∙ rest_is ∙ ap (or_text (text_at xs i)) (behind_high ys p i gt)
-            ∙ ap (λ (t : Text). or_text t (text_at ys i)) (sym (cond-false (eqb p i) (Some text) (text_at xs i) (grind (arith, nat_tests, gt))))
-        | inr le ↦
-            let same : eqb p i ≡ true = grind (arith, nat_tests, ge, le) in
-            cond-true (eqb p i) (Some text) (text_at rest i) same
-            ∙ ap (λ (t : Text). or_text t (text_at ys i)) (sym (cond-true (eqb p i) (Some text) (text_at xs i) same))
-      ]
-    ]
-
-pub all_merged : (xs ys : Present) (count other : ℕ) → IsRising 0 count xs → IsRising 0 other ys → all_texts count (merged count xs ys) ≡ filled_from (all_texts count xs) (all_texts other ys)
-all_merged xs ys count other rising others =
-    range_alike (text_at (merged count xs ys)) (λ i. or_text (text_at xs i) (text_at ys i)) 0 count (λ i le lt. merged_text xs ys 0 other count i (omega arith) rising others (omega (arith, lt)))
-    ∙ sym (range_filled (text_at xs) (text_at ys) 0 count other (λ i le. none_high ys 0 other i others (omega (arith, le))))
 
 -- ---- none of them
 

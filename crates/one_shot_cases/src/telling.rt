@@ -61,9 +61,9 @@ pub fn tell_options(rt: &HostRuntime, words: &[String]) -> Result<()> {
 fn run_job<F: Folder, O: Sink, E: Sink>(
     alloc: Global,
     options: &Options,
-    folder: &mut F,
     out: &mut O,
     err: &mut E,
+    folder: &mut F,
 ) -> Result<u8, AllocError>
     requires root { is_root_name options.now.root ≡ true }
     requires folder { (F.seen folder.old).failures < 2 ^ 64 - 1 }
@@ -87,7 +87,7 @@ fn run<'a>(
     let handed_on = Cell::new(0);
     let mut out = Taker::new(alloc, Limits::writes_up_to(room.0), &handed_on);
     let mut err = Taker::new(alloc, Limits::writes_up_to(room.1), &handed_on);
-    let status = run_job(alloc, options, folder, &mut out, &mut err)?;
+    let status = run_job(alloc, options, &mut out, &mut err, folder)?;
     println!(rt; "exit {status}")?;
     tell_bytes(rt, "read", folder.read_lines())?;
     for file in folder.written() {

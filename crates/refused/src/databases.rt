@@ -1,6 +1,6 @@
 //! A database that is read again after a splice.
 
-ghost use Rattle.std.specs.Prelude.{◌≡◌, ◌≤◌, length, IfOk};
+ghost use Rattle.std.specs.Prelude.{◌≡◌, ◌<◌, length, IfOk};
 ghost use Rattle.bt_bib.specs.BibText.{pieces_of};
 ghost use Rattle.bt_bib.specs.Splice.{IsSplice};
 
@@ -28,21 +28,19 @@ pub struct Rereading {
     ghost read: { items ≡ pieces_of text },
 }
 
-/// A text with its bytes from `begin` up to `end` replaced by others.
-fn spliced(
+/// A text with other bytes in the place of one.
+fn with_inserted(
     alloc: Global,
     text: &[u8],
-    begin: usize,
-    end: usize,
+    place: usize,
     bytes: &[u8],
 ) -> Result<Bytes, AllocError>
-    requires order { begin ≤ end }
-    requires inside { end ≤ length text.now }
-    ensures { IfOk result (λ new. IsSplice text.now new begin end (length bytes.now)) }
+    requires { place < length text.now }
+    ensures { IfOk result (λ new. IsSplice text.now new place (place + 1) (length bytes.now)) }
 {
-    let mut new = Bytes::copied(alloc, &text[..begin])?;
+    let mut new = Bytes::copied(alloc, &text[..place])?;
     new.append(bytes)?;
-    new.append(&text[end..])?;
+    new.append(&text[place + 1..])?;
     Ok(new)
 }
 
@@ -63,7 +61,7 @@ impl Case for Rereading {
         if self.meter.value() > 1_000_000 || old.len() < end {
             return Err(AllocError);
         }
-        let new = spliced(alloc, old, begin, end, INSERTED)?;
+        let new = with_inserted(alloc, old, begin, INSERTED)?;
         let inserted = INSERTED.len();
         let splice = Splice {
             begin,

@@ -2,7 +2,7 @@
 
 ghost use Rattle.std.specs.Prelude.{IfOk};
 ghost use Rattle.bt_style.specs.Program.{program_of};
-ghost use Rattle.bt_machine.specs.Agreement.{IsFootprint};
+ghost use Rattle.bt_machine.specs.AgreementLaws.{IsFootprint};
 
 use crate::inputs::input;
 use crate::spelling::{Fault, word_at};

@@ -5,7 +5,7 @@ use Rattle.bt_resolve.specs.declared.asked.Asked.{Asked}
 use Rattle.bt_resolve.specs.declared.declared.Macro.{Macro}
 use Rattle.bt_log.specs.declared.message.Message.{Message}
 use Rattle.bt_resolve.specs.declared.stored.Stored.{Stored}
-use Rattle.bt_resolve.specs.declared.state.Reading.{Reading}
+use Rattle.bt_resolve.specs.declared.reading.Reading.{Reading}
 use Rattle.bt_text.specs.ByName.{known}
 use Rattle.bt_resolve.specs.Values.{MacroTexts}
 use Rattle.bt_resolve.specs.Macros.{style_macro, with_content}

@@ -6,7 +6,7 @@ use Rattle.bt_style.specs.Program.{Program}
 use Rattle.bt_machine.specs.declared.input.Input.{Input}
 use Rattle.bt_machine.specs.declared.outcome.Outcome.{Outcome}
 use Rattle.bt_style.specs.Reach.{Reaches, is_among}
-use Rattle.bt_machine.specs.Agreement.{Agree}
+use Rattle.bt_machine.specs.AgreementLaws.{Agree}
 use Rattle.bt_run.specs.declared.course.Step.{Step}
 use Rattle.bt_run.specs.declared.course.Course.{Course}
 use Rattle.bt_run.specs.declared.earlier.Earlier.{Earlier}

@@ -1,5 +1,5 @@
 -- What one request does, and how it is answered.
-use Rattle.std.specs.Prelude.{◌≡◌, ℕ, Some, Bool, List, length, Option, Result, Ok, Err}
+use Rattle.std.specs.Prelude.{◌≡◌, ℕ, ◌+◌, Some, Bool, List, length, Option, Result, Ok, Err, OnOk}
 use Rattle.std.specs.Io.KnownBytes.{Consumes, Appends, IsAtEnd}
 use Rattle.bt_serve.specs.inner.Reads.{ReadsBelow}
 use Rattle.bt_streams.specs.Writes.{AppendsPart}
@@ -45,6 +45,12 @@ Replies request old new held held' state state' (Err ReadFailed) =
     ReadsBelow old new (bytes_brought request) × (held' ≡ held) × (state' ≡ state)
 Replies request old new held held' state state' (Err Truncated) =
     ReadsBelow old new (bytes_brought request) × IsAtEnd new × (held' ≡ held) × (state' ≡ state)
+
+-- how often reading and writing failed: as before, or once more where that is the fault
+abbrev pub CountsFailures : ℕ → ℕ → ℕ → ℕ → Result Bool ServeFault → Type 0
+CountsFailures reads reads' writes writes' result =
+    OnOk result (reads' ≡ reads) × OnOk result (writes' ≡ writes) × (result ≡ Err ReadFailed → reads' ≡ reads + 1) ×
+    (result ≡ Err WriteFailed → writes' ≡ writes + 1)
 
 -- the answer to an edit that was taken
 abbrev pub taken_text : Result Report Refusal → List ℕ

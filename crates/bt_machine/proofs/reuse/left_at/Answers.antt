@@ -1,6 +1,6 @@
 use Rattle.std.proofs.Common.{◌∙◌, ◌&&◌, ap}
 use Rattle.bt_actions.specs.declared.entry.Variables.{Variables}
-use Rattle.bt_machine.specs.Comparison.{same_counts, same_variables}
+use Rattle.bt_machine.specs.Agreement.{same_counts, same_variables}
 use Rattle.bt_machine.proofs.ReuseLemmas.{has_left}
 use Rattle.bt_machine.proofs.reuse.left_at.Goals as goal
 

@@ -1,6 +1,6 @@
 use Rattle.std.proofs.Common.{◌≡◌, ◌++◌, ◌∷◌, [], refl, sym, append-nil, ◌∙◌}
-use Rattle.std.proofs.Common.{ap, Some}
-use Rattle.bt_serve.specs.declared.fault.ServeFault.TheVariants.{WriteFailed, Truncated}
+use Rattle.std.proofs.Common.{ap, Some, Err, ◌+◌}
+use Rattle.bt_serve.specs.declared.fault.ServeFault.TheVariants.{ReadFailed, WriteFailed, Truncated}
 use Rattle.bt_serve.proofs.ServedLemmas.{ends_answers_all, ends_answers_before, ends_answers_part}
 use Rattle.bt_serve.proofs.EditedLemmas.{ends_edited, fails_edited}
 use Rattle.bt_serve.proofs.TurnLemmas.{answered_more}
@@ -20,8 +20,8 @@ turns-preserved g c =
     let now = c.in-Ok-false.ensures in
     let turns = rw c.in-Ok-false.field-0-test at now.turns in
     record {
-      reads = now.reads ∙ c.turns.invariant.reads;
-      writes = now.writes ∙ c.turns.invariant.writes;
+      reads = now.failures.0 ∙ c.turns.invariant.reads;
+      writes = now.failures.1 ∙ c.turns.invariant.writes;
       flushed = λ before. now.flushed (c.turns.invariant.flushed before);
       answered = λ input said known held.
           let before = c.turns.invariant.answered input said known held in
@@ -35,6 +35,16 @@ turns-preserved g c =
             answered_more input before.2 turn.0 said before.3 turn.1 c.args.session.now c.turns.session c.serve_one.new.session before.0 before.1 before.6 turn.4,
           );
     }
+
+pub returns-in-Err-clause-read_failed : goal.returns-in-Err-clause-read_failed
+returns-in-Err-clause-read_failed g c = λ is.
+    let fault : c.in-Err.fault ≡ ReadFailed = cc in
+    c.in-Err.ensures.failures.2 (ap Err fault) ∙ ap (λ n. n + 1) c.turns.invariant.reads
+
+pub returns-in-Err-clause-write_failed : goal.returns-in-Err-clause-write_failed
+returns-in-Err-clause-write_failed g c = λ is.
+    let fault : c.in-Err.fault ≡ WriteFailed = cc in
+    c.in-Err.ensures.failures.3 (ap Err fault) ∙ ap (λ n. n + 1) c.turns.invariant.writes
 
 pub returns-in-Err-clause-flushed : goal.returns-in-Err-clause-flushed
 returns-in-Err-clause-flushed g c = handed_on_at_a_fault _ _ _ c.in-Err.fault c.turns.invariant.flushed c.in-Err.ensures.flushed

@@ -12,7 +12,7 @@ returns-clause-next c =
     let command = c.args.self.site.now.command in
     let made : c.in_ok-step.step ≡ step_now command i done.outcome done.cost =
     c.in_ok-step.ensures ∙ ap (λ (k : Option (List ℕ)). record { command = command; key = k; input = i; outcome = done.outcome; cost = done.cost }) c.in_ok-key.ensures in
-    subst (λ (s : Step). IsNext p c.args.self.job.earlier.steps.now s c.args.reuse.now c.take_or_reuse.new.reuse) (sym made) (record {
+    subst (λ (s : Step). IsNext p c.args.self.job.earlier.steps.now s c.args.reuse.now c.take_over_or_carry_out.new.reuse) (sym made) (record {
       step = record { key = refl; outcome = c.in_ok-outcome.ensures.outcome; cost = c.in_ok-outcome.ensures.cost };
       counted = c.in_ok-outcome.ensures.counted;
       within = c.in_ok-outcome.ensures.within;

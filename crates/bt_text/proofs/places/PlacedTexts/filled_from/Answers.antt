@@ -1,7 +1,7 @@
 use Rattle.std.proofs.Common.{◌≡◌, sym, subst, ap, ◌∙◌, arith}
 use Rattle.bt_text.specs.Sparse.{all_texts, filled_from, IsRising}
 use Rattle.bt_text.specs.inner.Merging.{merged}
-use Rattle.bt_text.proofs.SparseLemmas.{all_merged, rising_merged}
+use Rattle.bt_text.proofs.MergingLemmas.{all_merged, rising_merged}
 use Rattle.bt_text.proofs.places.PlacedTexts.filled_from.Goals as goal
 
 pub invariant_of-result : goal.invariant_of-result

@@ -1,6 +1,6 @@
 use Rattle.std.proofs.Common.{ap, ◌∙◌}
 use Rattle.bt_text.specs.Sparse.{all_texts}
-use Rattle.bt_text.proofs.SparseLemmas.{range_none}
+use Rattle.bt_text.proofs.RangeLemmas.{range_none}
 use Rattle.bt_text.proofs.places.PlacedTexts.new.Goals as goal
 
 pub returns : goal.returns

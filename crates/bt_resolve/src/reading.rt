@@ -1,8 +1,8 @@
 //! What was read of the databases so far.
 
 use crate::macro_text::MacroText;
-use crate::place::Message;
 use crate::store::Store;
+use bt_log::Message;
 use bt_text::{ByName, Bytes, Sequence};
 
 /// What was read so far.

@@ -1,12 +1,12 @@
 use Rattle.std.proofs.Common.{refl, sym, ap, ◌∙◌, ◌+◌, subst}
 use Rattle.bt_style.specs.declared.reach.Reach.{Reach}
 use Rattle.bt_style.specs.Program.{program_of}
-use Rattle.bt_machine.specs.Agreement.{IsFootprint}
+use Rattle.bt_machine.specs.AgreementLaws.{IsFootprint}
 use Rattle.bt_machine.proofs.ReuseLemmas.{earlier_rest}
 use Rattle.bt_run.specs.Work.{IsStep}
 use Rattle.bt_run.proofs.IndexLemmas.{met_some, met_none}
 use Rattle.bt_run.proofs.WorkLemmas.{true_step, taken_cost, taken_counted, ran_counted}
-use Rattle.bt_run.proofs.reused_step.take_or_reuse.Goals as goal
+use Rattle.bt_run.proofs.reused_step.take_over_or_carry_out.Goals as goal
 
 pub take_over-requires : goal.take_over-requires
 take_over-requires c =

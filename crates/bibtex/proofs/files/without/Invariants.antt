@@ -1,6 +1,6 @@
 use Rattle.std.proofs.Common.{◌≡◌, take}
 use Rattle.bibtex.specs.Present.{without}
-use Rattle.bibtex.proofs.present.without.Given as goal
+use Rattle.bibtex.proofs.files.without.Given as goal
 
 abbrev pub invariant-files : goal.invariant-files
 invariant-files l = l.left ≡ without l.name (take l.file-index l.files)
