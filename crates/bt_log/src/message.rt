@@ -10,7 +10,7 @@ use std::alloc::{AllocError, Global};
 /// What a message counts as.
 #[derive(Clone, Copy, Debug, PartialEq, Eq)]
 pub enum Rank {
-    /// The line of a file that is read.
+    /// The line that names a file which is read. It counts as nothing.
     FileLine,
     /// A value that the style logs. It counts as nothing.
     Note,
@@ -18,7 +18,7 @@ pub enum Rank {
     CallCount,
     Warning,
     Error,
-    /// It ends the run.
+    /// An error that ends the run.
     Fatal,
 }
 
@@ -38,7 +38,7 @@ pub enum Place {
         line: usize,
         byte: Option<usize>,
     },
-    /// A file that was read to its end.
+    /// A file as a whole.
     WholeFile {
         file: Shared<Bytes>,
     },

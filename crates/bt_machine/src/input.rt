@@ -11,10 +11,11 @@ pub struct Input {
     pub target: Target,
     /// The entry that the step is for, or none.
     pub entry: Option<Entry>,
-    /// The variables of all entries together.
+    /// The global variables, `INTEGERS` and `STRINGS`.
     pub globals: Shared<Variables>,
-    /// The line that was written and did not end.
+    /// The output buffer: the beginning of an output line that hasn't ended.
     pub held: Held,
+    /// The preambles of the databases, one after another.
     pub preamble: Shared<Bytes>,
 }
 

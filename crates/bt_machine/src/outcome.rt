@@ -8,14 +8,17 @@ use bt_text::{Bytes, Held, Sequence, Shared};
 /// What a step leaves.
 #[derive(Debug, Drop)]
 pub struct Outcome {
+    /// The global variables.
     pub globals: Shared<Variables>,
     /// The variables of the step's entry, if it has one.
     pub variables: Option<Shared<Variables>>,
+    /// The output buffer.
     pub held: Held,
-    /// The step's own lines and messages, in their order.
+    /// The lines that the step ended, in their order.
     pub lines: Sequence<Shared<Bytes>>,
+    /// The messages that the step logged, in their order.
     pub messages: Sequence<Message>,
-    /// Whether a limit was passed, so that the run stops.
+    /// Whether the step ended the run, since it passed a limit.
     pub stop: bool,
     /// How often each built-in function was called, by its place in the table.
     pub calls: [u32; BUILTIN_COUNT],

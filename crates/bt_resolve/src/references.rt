@@ -125,7 +125,7 @@ fn tell_parent(
     }
 }
 
-/// What the messages of the list are reported with.
+/// Logs the messages about a list of entries, their references, and about cited keys that have no entry.
 #[derive(Clone, Copy, Drop)]
 pub struct Teller<'a> {
     pub alloc: Global,

@@ -19,7 +19,7 @@ fn bytes_from(text: &[u8], place: usize, len: usize) -> &[u8]
     behind.get(..len).unwrap_or(behind)
 }
 
-/// At most `len` bytes that end where `behind` bytes follow.
+/// At most `len` bytes that end before the last `behind` bytes.
 fn bytes_up_to(text: &[u8], behind: usize, len: usize) -> &[u8]
     ensures { result.now ≡ last_bytes len (take (length text.now - behind) text.now) }
 {

@@ -15,7 +15,7 @@ fn file(alloc: Global, word: &str) -> Result<File, AllocError> {
     })
 }
 
-/// The files of a case's words behind the second.
+/// The files of a case's words after the second.
 fn files(alloc: Global, case: &str) -> Result<Vec<File>, AllocError> {
     let mut files = Vec::new(alloc);
     for word in case.split_whitespace().skip(2) {

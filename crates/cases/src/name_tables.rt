@@ -13,7 +13,7 @@ fn number_if_some(alloc: Global, n: Option<usize>) -> Result<Bytes, AllocError> 
     }
 }
 
-/// What is told of one word about a list: a name that is put behind the others if it is new, whether one is among them,
+/// What is told of one word about a list: a name that is put after the others if it is new, whether one is among them,
 /// how it was spelled first, or how many there are.
 fn listed(alloc: Global, word: &str, names: &mut NameList) -> Result<Bytes, AllocError> {
     let name = unspelled(alloc, part_at(word, 1))?;

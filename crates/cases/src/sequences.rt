@@ -4,7 +4,7 @@ use crate::spelling::{number, number_in, part_at, spelled, unspelled, word_at};
 use bt_text::{Bytes, Sequence};
 use std::alloc::{AllocError, Global};
 
-/// The texts of a case's words behind the first.
+/// The texts of a case's words after the first.
 fn texts_of(alloc: Global, case: &str) -> Result<Vec<Vec<u8>>, AllocError> {
     let mut texts = Vec::new(alloc);
     for word in case.split_whitespace().skip(1) {

@@ -84,7 +84,7 @@ fn is_alike(
 }
 
 /// The answer of a case `respliced_anywhere`: whether the items of a text are the same read again and read whole, where
-/// `count` of its bytes are replaced at each place with so many behind it; a line of `a` for alike, `d` for different
+/// `count` of its bytes are replaced at each place with so many after it; a line of `a` for alike, `d` for different
 /// and `o` for outside the text.
 fn answer_anywhere(alloc: Global, case: &str) -> Result<Bytes, AllocError> {
     let text = unspelled(alloc, word_at(case, 1))?;

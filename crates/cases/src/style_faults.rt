@@ -35,7 +35,7 @@ fn count_of_beginnings(alloc: Global, text: &[u8]) -> Result<usize, AllocError> 
     Ok(count)
 }
 
-/// A style with so many functions of different names behind the first, each of which calls the one before.
+/// A style with so many functions of different names after the first, each of which calls the one before.
 fn chain(alloc: Global, functions: usize) -> Result<Vec<u8>, AllocError> {
     let mut text = Vec::from_slice(alloc, b"FUNCTION {f0}{}")?;
     for n in 0..functions {

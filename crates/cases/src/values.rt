@@ -13,7 +13,7 @@ fn places(alloc: Global, count: usize) -> Result<Values<i32>, AllocError> {
     Values::from_vec(alloc, numbers)
 }
 
-/// The value at each place and at the one behind them, parted by commas; a full stop where there is none.
+/// The value at each place and at the one after them, parted by commas; a full stop where there is none.
 fn listed(alloc: Global, numbers: &Values<i32>) -> Result<Bytes, AllocError> {
     let mut out = Bytes::new(alloc);
     for place in 0..=numbers.len() {
@@ -33,7 +33,7 @@ fn values_told(alloc: Global, numbers: &Values<i32>) -> Result<Bytes, AllocError
     Ok(out)
 }
 
-/// Sets the value at a place twice, and one behind the end.
+/// Sets the value at a place twice, and one past the end.
 fn change(alloc: Global, numbers: &mut Values<i32>, place: usize) -> Result<(), AllocError> {
     numbers.set(alloc, place, -1)?;
     numbers.set(alloc, place, -2)?;
