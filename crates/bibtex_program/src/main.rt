@@ -21,7 +21,7 @@ fn out_of_memory(rt: &impl Eprint) -> Result<ExitCode> {
     Ok(ExitCode::FAILURE)
 }
 
-/// Prints the help that was asked for, or reports why the command line asks for nothing that can be done.
+/// Prints the help that was asked for, or reports why the command line can't be carried out.
 fn refuse(rt: &(impl Print + Eprint), fault: OptionsFault) -> Result<ExitCode> {
     match fault {
         OptionsFault::Parser(fault) => {
@@ -36,7 +36,7 @@ fn refuse(rt: &(impl Print + Eprint), fault: OptionsFault) -> Result<ExitCode> {
     }
 }
 
-/// Answers the commands of a source on a sink, and reports a fault.
+/// Answers the commands of a source on a sink. A fault of either, or an input that is cut short, is reported.
 fn answer<S: Source, K: Sink>(
     rt: &HostRuntime,
     source: &mut S,

@@ -9,7 +9,7 @@ use Rattle.bt_log.specs.declared.message.Message.{Message}
 abbrev pub plain : Rank → List ℕ → Message
 plain rank words = record { rank = rank; words = words; entry = None; place = None; second = None }
 
--- an error at a place, from which on the rest of this is left out
+-- an error at a place, whose second line says that the rest of `what` is skipped
 abbrev pub skipping : List ℕ → Place → List ℕ → Message
 skipping words place what =
     record {

@@ -11,7 +11,7 @@ use itoa::Buffer;
 use std::alloc::{AllocError, Global};
 
 impl Rank {
-    /// The status of a log that has a message of this rank alone.
+    /// The status of a log that has messages of this rank alone.
     fn status(self) -> u8
         ensures { result ≡ rank_status self }
     {
@@ -64,7 +64,7 @@ pub fn status(log: &[Message]) -> u8
     }
 }
 
-/// The line that says that there were several of a thing that has this name.
+/// The line that says how many there were of a thing that has this name, in the plural.
 fn several(alloc: Global, count: usize, name: &[u8]) -> Result<Bytes, AllocError>
     ensures { IfOk result (λ line. line ≡ several count name.now) }
 {
@@ -74,7 +74,7 @@ fn several(alloc: Global, count: usize, name: &[u8]) -> Result<Bytes, AllocError
     Ok(line)
 }
 
-/// The line that says how many there were of a thing that has this name.
+/// The line that says how many there were of a thing that has this name, in the singular where there was one.
 fn count_line(alloc: Global, count: usize, name: &[u8]) -> Result<Bytes, AllocError>
     ensures { IfOk result (λ line. line ≡ count_line count name.now) }
 {
@@ -145,7 +145,7 @@ fn add_tersely(text: &mut Bytes, message: &Message) -> Result<(), AllocError>
     }
 }
 
-/// Puts each message that the terse log has, in words, after the lines.
+/// Each message that the terse log has, in words, with a line feed after it.
 fn terse_messages(alloc: Global, log: &[Message]) -> Result<Bytes, AllocError>
     ensures { IfOk result (λ bytes. bytes ≡ messages_bytes (terse log.now)) }
 {
@@ -156,7 +156,7 @@ fn terse_messages(alloc: Global, log: &[Message]) -> Result<Bytes, AllocError>
     Ok(text)
 }
 
-/// The bytes of the log: its messages and the last line.
+/// The bytes of the log: its messages in words, then the last line, which is empty where the status is 0.
 pub fn log_bytes(alloc: Global, log: &[Message]) -> Result<Bytes, AllocError>
     ensures { IfOk result (λ bytes. bytes ≡ log_bytes log.now) }
 {

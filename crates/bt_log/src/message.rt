@@ -90,7 +90,7 @@ pub struct Message {
     pub entry: Option<Shared<Bytes>>,
     /// Where it belongs; none where it belongs to the run, or as long as that isn't known.
     pub place: Option<Place>,
-    /// What it says on a line of its own.
+    /// What it says on a second line, after its place.
     pub second: Option<Shared<Bytes>>,
 }
 
@@ -108,7 +108,8 @@ impl Message {
         })
     }
 
-    /// An error at a place, from which on the rest of this, a command or an entry, is left out.
+    /// An error at a place, about no entry. Its second line says that the rest of `what` is skipped, such as `command`
+    /// or `entry`.
     pub fn skipping(
         alloc: Global,
         words: Bytes,

@@ -11,7 +11,7 @@ pub struct Input {
     pub target: Target,
     /// The entry that the step is for, or none.
     pub entry: Option<Entry>,
-    /// The global variables, `INTEGERS` and `STRINGS`.
+    /// The values of the global variables: those of `INTEGERS`, `entry.max$` and `global.max$`, and those of `STRINGS`.
     pub globals: Shared<Variables>,
     /// The output buffer: the beginning of an output line that hasn't ended.
     pub held: Held,

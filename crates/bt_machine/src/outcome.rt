@@ -8,11 +8,11 @@ use bt_text::{Bytes, Held, Sequence, Shared};
 /// What a step leaves.
 #[derive(Debug, Drop)]
 pub struct Outcome {
-    /// The global variables.
+    /// The values of the global variables after the step.
     pub globals: Shared<Variables>,
-    /// The variables of the step's entry, if it has one.
+    /// The variables of the step's entry after the step, if it is for an entry.
     pub variables: Option<Shared<Variables>>,
-    /// The output buffer.
+    /// The output buffer after the step.
     pub held: Held,
     /// The lines that the step ended, in their order.
     pub lines: Sequence<Shared<Bytes>>,

@@ -28,7 +28,7 @@ pub struct Options {
     pub resident: bool,
 }
 
-/// Why a command line asks for nothing that can be done.
+/// Why a command line gives no options.
 #[derive(Debug, Drop, Error)]
 pub enum OptionsFault {
     /// The parser's fault, or the help that was asked for.
@@ -37,7 +37,7 @@ pub enum OptionsFault {
     /// The job's name isn't one of 1 to 60 ASCII letters, digits or `. - _ + /`.
     #[error("BadJobName")]
     BadJobName,
-    /// There was no room.
+    /// Out of memory.
     #[error("OutOfMemory")]
     OutOfMemory,
 }

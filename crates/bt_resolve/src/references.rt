@@ -84,7 +84,7 @@ fn no_entry(alloc: Global, key: &[u8]) -> Result<Message, AllocError>
     Ok(message)
 }
 
-/// A key as it is cited, else as in the database.
+/// A key as it is cited; one that isn't cited, as it stands in the database.
 pub fn spelled(
     alloc: Global,
     keys: &NameList,
@@ -125,17 +125,18 @@ fn tell_parent(
     }
 }
 
-/// Logs the messages about a list of entries, their references, and about cited keys that have no entry.
+/// What the messages of the list are worked out from: the cited keys, and the stored entries.
 #[derive(Clone, Copy, Drop)]
 pub struct Teller<'a> {
     pub alloc: Global,
     /// The cited keys.
     pub keys: &'a NameList,
+    /// The stored entries.
     pub family: &'a Family,
 }
 
 impl<'a> Teller<'a> {
-    /// The entry of a key.
+    /// The stored entry of a key, if there is one.
     fn entry_of_key(&self, key: &[u8]) -> Result<Option<&'a Stored>, AllocError>
         ensures { IfOk result (λ entry. option_copied entry ≡ option_and_then
             (slice_get self.now.family.now) (place_of_key self.now.family.now key.now)) }
@@ -146,7 +147,7 @@ impl<'a> Teller<'a> {
         }
     }
 
-    /// Adds the message about a reference of the entry of a key, if there is one.
+    /// Adds the message about a cross reference of the entry of a key, if there is one.
     fn crossref(
         &self,
         key: &[u8],
@@ -166,7 +167,7 @@ impl<'a> Teller<'a> {
         }
     }
 
-    /// Adds the message about the reference of an entry, if there is one.
+    /// Adds the message about the cross reference of an entry, if there is one.
     fn entry(
         &self,
         entry: Option<&Stored>,
@@ -184,7 +185,7 @@ impl<'a> Teller<'a> {
         }
     }
 
-    /// Adds the message about the reference of the entry at a place, if there is one.
+    /// Adds the message about the cross reference of the entry at a place, if there is one.
     #[tactic(auto, unfolding(crate::specs::References::reference_messages))]
     fn reference(&self, place: usize, messages: &mut Sequence<Message>) -> Result<(), AllocError>
         ensures { OnOk result (messages.new ≡ messages.old
@@ -207,7 +208,7 @@ impl<'a> Teller<'a> {
         Ok(())
     }
 
-    /// Reports that a key has no entry.
+    /// Reports that a key has no entry, where it has none.
     #[tactic(auto, unfolding(crate::specs::References::missing_messages))]
     fn missing(&self, key: &[u8], messages: &mut Sequence<Message>) -> Result<(), AllocError>
         ensures { OnOk result (messages.new ≡ messages.old
@@ -235,7 +236,8 @@ impl<'a> Teller<'a> {
         Ok(())
     }
 
-    /// Adds the messages of a list of entries, then those of the cited keys.
+    /// Adds the messages about the cross references of the entries at these places, then those about cited keys without
+    /// an entry. After out of memory a part of them may be added.
     pub fn list(&self, places: &[usize], messages: &mut Sequence<Message>) -> Result<(), AllocError>
         ensures { OnOk result (messages.new ≡ messages.old
             ++ flat_map (reference_messages self.now.keys.now self.now.family.now) places.now

@@ -111,7 +111,7 @@ fn carry_out(
 }
 
 /// Carries out a style's commands in order, up to a step that stops the run. After out of memory the course is that of
-/// the commands and steps before it; `answers_after` drops it.
+/// the commands and steps before it, with perhaps a part of the next one; `answers_after` drops it.
 pub fn run_commands(
     alloc: Global,
     job: Job<'_>,

@@ -49,7 +49,7 @@ fn is_same_entry(places: &[Option<usize>], step: usize, place: Option<usize>, sa
     }
 }
 
-/// A command that takes steps, in what a run reads.
+/// A command that takes steps: what its run reads, and where it stands in the style.
 #[derive(Clone, Copy)]
 pub struct StepCommand<'a> {
     pub alloc: Global,
@@ -58,7 +58,8 @@ pub struct StepCommand<'a> {
 }
 
 impl<'a> StepCommand<'a> {
-    /// The earlier step at a place, if it is one of this command and was given what a step is given now.
+    /// The earlier step to try next, if it is one of this command and was given what a step for the entry at this
+    /// place, or for none, is given now.
     fn given_again(
         self,
         target: Target,
@@ -155,7 +156,8 @@ impl<'a> StepCommand<'a> {
         }
     }
 
-    /// Takes a step for the entry at a place, or for none, with its cost on the meter.
+    /// Takes a step for the entry at a place, or for none. Its cost is added to the meter where it is carried out, and
+    /// not where it is taken over. After out of memory a part of what it left may be in the course.
     pub fn take_step(
         self,
         target: Target,
@@ -204,7 +206,7 @@ impl<'a> StepCommand<'a> {
         self.take_step(target, Some(place), course, reuse)
     }
 
-    /// Takes a step for the entry at each of these places, and none after one that stopped.
+    /// Takes a step for the entry at each of these places in turn, and none after one that stopped the run.
     fn run_for_each(
         self,
         target: Target,
@@ -225,7 +227,8 @@ impl<'a> StepCommand<'a> {
         Ok(())
     }
 
-    /// Takes a step for each entry in the present order. After out of memory the steps before it are taken.
+    /// Takes a step for each entry in the present order, and none after one that stopped the run. After out of memory
+    /// the steps before it are taken, and a part of what the next one left may be in the course.
     pub fn iterate(
         self,
         target: Target,
@@ -242,8 +245,8 @@ impl<'a> StepCommand<'a> {
         self.run_for_each(target, places.as_slice(), course, reuse)
     }
 
-    /// Takes a step for each entry in the reverse of the present order. After out of memory the steps before it are
-    /// taken.
+    /// Takes a step for each entry in the reverse of the present order, and none after one that stopped the run. After
+    /// out of memory the steps before it are taken, and a part of what the next one left may be in the course.
     pub fn reverse(
         self,
         target: Target,
