@@ -14,7 +14,7 @@ use Rattle.bt_one_shot.specs.Folders.{Contents, Seen, Gains, LooksUp, looked_up}
 use Rattle.bt_one_shot.specs.Sinks.{Sunk}
 use Rattle.bt_one_shot.specs.inner.Sinks.{GoesOn}
 use Rattle.bt_one_shot.specs.JobFiles.{LookedUp, name_of, next, taken_found, after_file, after_files, refusal_line, refusal_lines, InOrder, all_looked_up}
-use Rattle.bt_one_shot.specs.inner.Progress.{LooksUpName, Goes}
+use Rattle.bt_one_shot.specs.inner.Progress.{LooksUpName, Goes, LoadsAll, LoadsSome}
 use Rattle.bt_one_shot.proofs.TellLemmas.{goes_on_none, goes_on_more}
 use Rattle.bt_one_shot.proofs.WantLemmas.{is_met, new_here}
 
@@ -144,7 +144,9 @@ root_behind s [] = refl
 root_behind s (r ∷ rs) = root_behind (after_file s r) rs ∙ found_root s r.name r.ran_out r.found
 
 -- after all files that were looked up
-pub goes_root : (failures_before : ℕ) (s t session : State) (met met' : List (List ℕ)) (a b : Seen) (x y : Sunk) (root : List ℕ) (min : ℕ) →
-    s ≡ no_texts root min → Goes failures_before s t met met' a b x y → session ≡ t → session.root ≡ root
-goes_root failures_before s t session met met' a b x y root min is goes same =
-    ap (λ (u : State). u.root) (same ∙ goes.is_after) ∙ root_behind s goes.files ∙ ap (λ (u : State). u.root) is
+pub loads_root : (failures_before : ℕ) (root : List ℕ) (min : ℕ) (s : State) (a b : Seen) (x y : Sunk) → LoadsAll failures_before root min s a b x y → s.root ≡ root
+loads_root failures_before root min s a b x y loads = ap (λ (u : State). u.root) loads.goes.is_after ∙ root_behind (no_texts root min) loads.goes.files
+
+-- No file was looked up.
+pub loads_none : (failures_before : ℕ) (root : List ℕ) (min : ℕ) (seen : Seen) (err : Sunk) → LoadsSome failures_before root min seen seen err err
+loads_none failures_before root min seen err = record { reached = no_texts root min; met = []; goes = goes_none failures_before (no_texts root min) [] seen err }

@@ -5,11 +5,11 @@ use Rattle.bibtex.specs.declared.state.State.{State}
 use Rattle.bibtex.specs.Present.{no_texts, shown}
 use Rattle.bt_one_shot.specs.Folders.{Contents, Written, Seen, Holds, HoldsBut, Writes, Fails, WritesOne}
 use Rattle.bt_one_shot.specs.Sinks.{Sunk, Tells}
-use Rattle.bt_one_shot.specs.JobFiles.{name_of, next, after_files, refusal_lines}
+use Rattle.bt_one_shot.specs.JobFiles.{name_of, after_files, refusal_lines}
 use Rattle.bt_one_shot.specs.Shots.{exit_of, blg_file, unwritten_line, printed_log, Ends, Runs, Stops}
-use Rattle.bt_one_shot.specs.inner.Progress.{Goes}
+use Rattle.bt_one_shot.specs.inner.Progress.{LoadsAll, LoadsSome}
 use Rattle.bt_one_shot.proofs.TellLemmas.{tells_nothing}
-use Rattle.bt_one_shot.proofs.LoadLemmas.{gains_more, looks_none}
+use Rattle.bt_one_shot.proofs.LoadLemmas.{gains_more}
 
 -- What is held after one file after another
 
@@ -89,41 +89,37 @@ ends_well s log a b c out out' IsTold name bytes other more exit is are is_other
 
 -- Whole runs
 
--- Nothing is done.
-pub stops_at_once : (root : List ℕ) (min : ℕ) (a : Seen) (out err : Sunk) → Stops root min a a out out err err
-stops_at_once root min a out err =
-    record { files = []; loads = record { in_order = tt; looked_up = looks_none a }; unprinted = refl; tells = tells_nothing err }
-
 -- Some files were looked up.
-pub stops_behind : (root : List ℕ) (min failures_before : ℕ) (s t : State) (met met' : List (List ℕ)) (a b : Seen) (out err err' : Sunk) →
-    s ≡ no_texts root min → met ≡ [] → err.failures ≡ failures_before → Goes failures_before s t met met' a b err err' → Stops root min a b out out err err'
-stops_behind root min failures_before s t met met' a b out err err' is none few goes =
-    record {
-      files = goes.files;
-      loads = record { in_order = rw (← is, ← none) goes.in_order; looked_up = goes.looked_up };
+pub stops_after : (root given : List ℕ) (min failures_before : ℕ) (a b : Seen) (out err err' : Sunk) →
+    given ≡ root → err.failures ≡ failures_before → LoadsSome failures_before given min a b err err' → Stops root min a b out out err err'
+stops_after root given min failures_before a b out err err' is few loads =
+    subst (λ r. Stops r min a b out out err err') is
+    (record {
+      files = loads.goes.files;
+      loads = record { in_order = loads.goes.in_order; looked_up = loads.goes.looked_up };
       unprinted = refl;
-      tells = subst (λ u. Tells err err' (refusal_lines u goes.files)) is (goes.tells err [] few (tells_nothing err));
-    }
+      tells = loads.goes.tells err [] few (tells_nothing err);
+    })
 
 -- All were, and the run ends.
-pub runs_behind : (root : List ℕ) (min failures_before : ℕ) (terse : Bool) (s t session : State) (met met' : List (List ℕ)) (a b c : Seen) (out out' err err' err'' : Sunk) (log : List ℕ) (exit : ℕ) →
-    s ≡ no_texts root min → met ≡ [] → err.failures ≡ failures_before → session ≡ t → log ≡ printed_log terse session →
-    Goes failures_before s t met met' a b err err' → next t met' ≡ None →
+pub runs_after : (root given : List ℕ) (min failures_before : ℕ) (terse : Bool) (session : State) (a b c : Seen) (out out' err err' err'' : Sunk) (log : List ℕ) (exit : ℕ) →
+    given ≡ root → err.failures ≡ failures_before → log ≡ printed_log terse session → LoadsAll failures_before given min session a b err err' →
     ((first : Sunk) (text : List ℕ) → first.failures ≡ failures_before → Tells first err' text → Ends session log b c out out' (λ more. Tells first err'' (text ++ more)) exit) →
     Runs root min terse a c out out' err err'' exit
-runs_behind root min failures_before terse s t session met met' a b c out out' err err' err'' log exit is none few same is_log goes all ends =
-    record {
-      files = goes.files;
+runs_after root given min failures_before terse session a b c out out' err err' err'' log exit is few is_log loads ends =
+    subst (λ r. Runs r min terse a c out out' err err'' exit) is
+    (record {
+      files = loads.goes.files;
       between = b;
-      loads = record { in_order = rw (← is, ← none) goes.in_order; looked_up = goes.looked_up };
-      are_all = rw (← is_loaded, ← are_met) all;
-      ends = subst (λ u. Ends u (printed_log terse u) b c out out' (λ more. Tells err err'' (refusal_lines (no_texts root min) goes.files ++ more)) exit) (same ∙ is_loaded)
-          (subst (λ l. Ends session l b c out out' (λ more. Tells err err'' (refusal_lines (no_texts root min) goes.files ++ more)) exit) is_log
-          (ends err (refusal_lines (no_texts root min) goes.files) few (subst (λ u. Tells err err' (refusal_lines u goes.files)) is (goes.tells err [] few (tells_nothing err)))));
-    }
+      loads = record { in_order = loads.goes.in_order; looked_up = loads.goes.looked_up };
+      are_all = rw (← is_loaded, ← are_met) loads.end;
+      ends = subst (λ u. Ends u (printed_log terse u) b c out out' (λ more. Tells err err'' (refusal_lines (no_texts given min) loads.goes.files ++ more)) exit) is_loaded
+          (subst (λ l. Ends session l b c out out' (λ more. Tells err err'' (refusal_lines (no_texts given min) loads.goes.files ++ more)) exit) is_log
+          (ends err (refusal_lines (no_texts given min) loads.goes.files) few (loads.goes.tells err [] few (tells_nothing err))));
+    })
   where
-    is_loaded : t ≡ after_files (no_texts root min) goes.files
-    is_loaded = goes.is_after ∙ ap (λ u. after_files u goes.files) is
+    is_loaded : session ≡ after_files (no_texts given min) loads.goes.files
+    is_loaded = loads.goes.is_after
 
-    are_met : met' ≡ map name_of goes.files
-    are_met = goes.are_met ∙ ap (λ m. m ++ map name_of goes.files) none
+    are_met : loads.met ≡ map name_of loads.goes.files
+    are_met = loads.goes.are_met

@@ -6,10 +6,9 @@ ghost use Rattle.bt_one_shot.specs.Sinks.{Sunk, sunk, Tells};
 ghost use Rattle.bt_one_shot.specs.Shots.{exit_of, printed_log, Ends, Runs, Stops};
 
 use crate::folder::Folder;
-use crate::job_files::{load_all, tell};
-use crate::met_names::NamesMet;
+use crate::job_files::{load, tell};
 use crate::options::Options;
-use bibtex::{Draft, Session};
+use bibtex::Session;
 use bt_streams::{Sink, say};
 use bt_text::Bytes;
 use std::alloc::{AllocError, Global};
@@ -125,15 +124,10 @@ pub fn one_shot<F: Folder, O: Sink, E: Sink>(
         (sunk (E.contents err.new) (E.failure_count err.new) (E.is_flushed err.new))) }
 {
     let root = options.root.as_slice();
-    let Ok(mut draft) = Draft::new(alloc, root, options.min) else {
-        return Err(AllocError);
-    };
-    let failures_before = err.failures();
-    let mut met = NamesMet::new(alloc);
-    load_all(alloc, &mut draft, &mut met, folder, err, failures_before)?;
-    let session = Session::of(draft)?;
     let bbl = Bytes::of(alloc, &[root, b".bbl"])?;
     let blg = Bytes::of(alloc, &[root, b".blg"])?;
+    let failures_before = err.failures();
+    let session = load(alloc, root, options.min, folder, err, failures_before)?;
     let outputs = Outputs {
         session: &session,
         bbl: bbl.as_slice(),

@@ -1,15 +1,16 @@
 //! Looks up the files of a job, in the order in which its run looks for them.
 
-ghost use Rattle.std.specs.Prelude.{◌≡◌, ◌^◌, ◌-◌, ◌<◌, Bool, true, false, length, None, OnOk, Ok, Err};
+ghost use Rattle.std.specs.Prelude.{◌≡◌, ◌^◌, ◌-◌, ◌<◌, Bool, true, false, length, None, IfOk, OnOk, OnErr, Ok, Err};
 ghost use Rattle.std.specs.List.{flat_map};
+ghost use Rattle.bibtex.specs.Present.{is_root_name};
 ghost use Rattle.bt_one_shot.specs.Sinks.{sunk};
 ghost use Rattle.bt_one_shot.specs.inner.Sinks.{GoesOn};
 ghost use Rattle.bt_one_shot.specs.JobFiles.{next, refusal_line};
-ghost use Rattle.bt_one_shot.specs.inner.Progress.{TakesIn, LooksUpName, Goes};
+ghost use Rattle.bt_one_shot.specs.inner.Progress.{TakesIn, LooksUpName, Goes, LoadsAll, LoadsSome};
 
 use crate::folder::{Folder, Found};
 use crate::met_names::NamesMet;
-use bibtex::{Draft, Edit, Refusal, code_of};
+use bibtex::{Draft, Edit, Refusal, Session, code_of};
 use bt_streams::{Sink, say};
 use bt_text::Bytes;
 use itoa::Buffer;
@@ -116,7 +117,7 @@ fn look_up_wanted<F: Folder, E: Sink>(
 /// new one. A file that is refused is reported on `err`, and counts as missing. After out of memory those
 /// are taken in that were looked up before.
 #[tactic(auto, using(crate::proofs::LoadLemmas::goes_none, crate::proofs::LoadLemmas::goes_more))]
-pub fn load_all<F: Folder, E: Sink>(
+fn load_all<F: Folder, E: Sink>(
     alloc: Global,
     draft: &mut Draft,
     met: &mut NamesMet,
@@ -132,4 +133,33 @@ pub fn load_all<F: Folder, E: Sink>(
 {
     'rounds: while look_up_wanted(alloc, draft, met, folder, err, failures_before)? {}
     Ok(())
+}
+
+/// The session of a job with the files that it wants, looked up once each and in the order in which its run looks for
+/// them. A file that is refused is reported on `err`, and counts as missing. The one error is out of memory.
+pub fn load<F: Folder, E: Sink>(
+    alloc: Global,
+    root: &[u8],
+    min: u32,
+    folder: &mut F,
+    err: &mut E,
+    failures_before: u64,
+) -> Result<Session, AllocError>
+    requires root { is_root_name root.now ≡ true }
+    requires failures { failures_before < 2 ^ 64 - 1 }
+    ensures ok { IfOk result (λ session. LoadsAll failures_before root.now min session (F.seen folder.old)
+        (F.seen folder.new)
+        (sunk (E.contents err.old) (E.failure_count err.old) (E.is_flushed err.old))
+        (sunk (E.contents err.new) (E.failure_count err.new) (E.is_flushed err.new))) }
+    ensures err { OnErr result (LoadsSome failures_before root.now min (F.seen folder.old) (F.seen folder.new)
+        (sunk (E.contents err.old) (E.failure_count err.old) (E.is_flushed err.old))
+        (sunk (E.contents err.new) (E.failure_count err.new) (E.is_flushed err.new))) }
+{
+    let Ok(mut draft) = Draft::new(alloc, root, min) else {
+        return Err(AllocError);
+    };
+    let mut met = NamesMet::new(alloc);
+    load_all(alloc, &mut draft, &mut met, folder, err, failures_before)?;
+    let session = Session::of(draft)?;
+    Ok(session)
 }

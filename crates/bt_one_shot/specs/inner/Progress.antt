@@ -1,13 +1,14 @@
 -- How the look-ups of a job go on.
-use Rattle.std.specs.Prelude.{◌≡◌, ℕ, Bool, false, List, ◌++◌, length, map, Result, Ok, Err}
+use Rattle.std.specs.Prelude.{◌≡◌, ℕ, Bool, false, List, [], ◌++◌, length, map, None, Result, Ok, Err}
 use Rattle.bibtex.specs.declared.edit.Refusal.{Refusal}
 use Rattle.bibtex.specs.declared.state.State.{State}
+use Rattle.bibtex.specs.Present.{no_texts}
 use Rattle.bt_one_shot.specs.declared.folder.Found.{Found}
 use Rattle.bt_one_shot.specs.Folders.{Seen, Finds, looked_up, LooksUp}
 use Rattle.bt_one_shot.specs.Sinks.{Sunk}
 use Rattle.bt_one_shot.specs.inner.Sinks.{GoesOn}
 use Rattle.bibtex.specs.Applied.{state_or}
-use Rattle.bt_one_shot.specs.JobFiles.{LookedUp, name_of, taken_found, after_files, refusal_line, refusal_lines, InOrder, all_looked_up}
+use Rattle.bt_one_shot.specs.JobFiles.{LookedUp, name_of, next, taken_found, after_files, refusal_line, refusal_lines, InOrder, all_looked_up}
 
 -- What was found under a name is taken into a state, which is said, or it is refused.
 abbrev pub TakesIn : State → State → List ℕ → Bool → Found → Result Bool Refusal → Type 0
@@ -33,3 +34,16 @@ pub record Goes (failures_before : ℕ) (s s' : State) (met met' : List (List �
   pub are_met : met' ≡ met ++ map name_of files
   pub looked_up : LooksUp old new (length files) (all_looked_up files)
   pub tells : GoesOn failures_before err err' (refusal_lines s files)
+
+-- Files of a job were looked up in order, and led to a state, which wants no new one.
+pub record LoadsAll (failures_before : ℕ) (root : List ℕ) (min : ℕ) (s : State) (old new : Seen) (err err' : Sunk) :
+    Type 0 where
+  pub met : List (List ℕ)
+  pub goes : Goes failures_before (no_texts root min) s [] met old new err err'
+  pub end : next s met ≡ None
+
+-- Some of a job's files were looked up in order.
+pub record LoadsSome (failures_before : ℕ) (root : List ℕ) (min : ℕ) (old new : Seen) (err err' : Sunk) : Type 0 where
+  pub reached : State
+  pub met : List (List ℕ)
+  pub goes : Goes failures_before (no_texts root min) reached [] met old new err err'
