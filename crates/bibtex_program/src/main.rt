@@ -58,12 +58,12 @@ fn answer<S: Source, K: Sink>(
 /// Answers the commands of standard input on standard output.
 fn stay(rt: &HostRuntime, options: &Options) -> Result<ExitCode> {
     let alloc = rt.alloc();
-    let Ok(mut session) = Session::new(alloc, options.root.as_slice(), options.min) else {
-        return out_of_memory(rt);
-    };
     let mut source = ReaderSource::new(BufReader::new(alloc, rt.stdin())?);
     let mut sink = WriterSink::new(BufWriter::new(alloc, io::writer(rt))?);
-    answer(rt, &mut source, &mut sink, &mut session)
+    match Session::new(alloc, options.root.as_slice(), options.min) {
+        Ok(mut session) => answer(rt, &mut source, &mut sink, &mut session),
+        Err(_) => out_of_memory(rt),
+    }
 }
 
 /// Runs the job once, in the folder that the program was started in.

@@ -6,7 +6,7 @@ ghost use Rattle.bt_style.specs.Fault.{Gives};
 ghost use Rattle.bt_style.specs.Token.{count};
 ghost use Rattle.bt_style.specs.Program.{program_of};
 ghost use Rattle.bt_style.specs.Names.{target_named};
-ghost use Rattle.bt_style.specs.Draft.{preset, with_name};
+ghost use Rattle.bt_style.specs.Draft.{bare, preset, with_name};
 ghost use Rattle.bt_style.specs.Reader.{command_word, commands_at, style_of};
 
 use crate::arguments::fault;
@@ -35,15 +35,23 @@ fn declare_preset(
     draft.declare(alloc, names, name)
 }
 
+/// Declares all names that are there before the first command.
+fn declare_presets(alloc: Global, draft: &mut Draft) -> Result<(), AllocError>
+    requires { program_of draft.old ≡ bare }
+    ensures { OnOk result (program_of draft.new ≡ preset) }
+{
+    declare_preset(alloc, draft, Names::Fields, b"crossref")?;
+    declare_preset(alloc, draft, Names::EntryTexts, b"sort.key$")?;
+    declare_preset(alloc, draft, Names::GlobalNumbers, b"entry.max$")?;
+    declare_preset(alloc, draft, Names::GlobalNumbers, b"global.max$")
+}
+
 /// The style before its first command.
 fn preset(alloc: Global) -> Result<Draft, AllocError>
     ensures { IfOk result (λ draft. program_of draft ≡ preset) }
 {
     let mut draft = Draft::bare(alloc)?;
-    declare_preset(alloc, &mut draft, Names::Fields, b"crossref")?;
-    declare_preset(alloc, &mut draft, Names::EntryTexts, b"sort.key$")?;
-    declare_preset(alloc, &mut draft, Names::GlobalNumbers, b"entry.max$")?;
-    declare_preset(alloc, &mut draft, Names::GlobalNumbers, b"global.max$")?;
+    declare_presets(alloc, &mut draft)?;
     Ok(draft)
 }
 

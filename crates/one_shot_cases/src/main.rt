@@ -37,31 +37,60 @@ fn give<'a>(
     }
 }
 
+/// A case as far as it is told.
+#[derive(Drop)]
+struct Case<'a> {
+    folder: Memory<'a>,
+    /// How many bytes standard output takes.
+    out: usize,
+    /// How many bytes standard error takes.
+    err: usize,
+}
+
+impl<'a> Case<'a> {
+    /// A case with an empty folder, in which everything can be printed.
+    fn new(alloc: Global) -> Case<'a> {
+        Case {
+            folder: Memory::new(alloc),
+            out: usize::MAX,
+            err: usize::MAX,
+        }
+    }
+
+    /// Carries out a step.
+    fn carry_out(&mut self, rt: &HostRuntime, step: Step<'a>) -> Result<()> {
+        let alloc = rt.alloc();
+        match step {
+            Step::Case(name) => {
+                println!(rt; "case {name}")?;
+                *self = Case::new(alloc);
+            }
+            Step::File(name, content) => give(&mut self.folder, name, content)?,
+            Step::Out(room) => self.out = room,
+            Step::Err(room) => self.err = room,
+            Step::Options(words) => tell_options(rt, &words_of(alloc, words)?)?,
+            Step::Faults(words) => show_faults(rt, &words_of(alloc, words)?)?,
+            Step::Run(words) => {
+                let words = words_of(alloc, words)?;
+                tell_run(rt, &words, &mut self.folder, (self.out, self.err))?;
+            }
+        }
+        Ok(())
+    }
+}
+
 fn main(rt: HostRuntime) -> Result<()> {
     let alloc = rt.alloc();
     let mut input = Vec::new(alloc);
     BufReader::new(alloc, rt.reader())?.read_to_end(&mut input)?;
     let mut rest = input.as_slice();
-    let mut folder = Memory::new(alloc);
-    let (mut out, mut err) = (usize::MAX, usize::MAX);
+    let mut case = Case::new(alloc);
     for _ in 0..u32::MAX {
-        let Some((step, behind)) = first_step(rest) else {
+        let Some((step, after)) = first_step(rest) else {
             break;
         };
-        match step {
-            Step::Case(name) => {
-                println!(rt; "case {name}")?;
-                folder = Memory::new(alloc);
-                (out, err) = (usize::MAX, usize::MAX);
-            }
-            Step::File(name, content) => give(&mut folder, name, content)?,
-            Step::Out(room) => out = room,
-            Step::Err(room) => err = room,
-            Step::Options(words) => tell_options(&rt, &words_of(alloc, words)?)?,
-            Step::Faults(words) => show_faults(&rt, &words_of(alloc, words)?)?,
-            Step::Run(words) => tell_run(&rt, &words_of(alloc, words)?, &mut folder, (out, err))?,
-        }
-        rest = behind;
+        case.carry_out(&rt, step)?;
+        rest = after;
     }
     println!(rt; "{} bytes left", rest.len())?;
     Ok(())

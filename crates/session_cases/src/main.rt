@@ -11,7 +11,7 @@ mod worked;
 use crate::dice::Dice;
 use crate::edits::{Change, next_change};
 use crate::texts::NAMES;
-use bibtex::{Edit, Refusal, Report, Session};
+use bibtex::{Bytes, Edit, Refusal, Report, Session};
 use std::alloc::Global;
 use std::env;
 use std::process::ExitCode;
@@ -130,41 +130,72 @@ impl Trial {
         Ok(Some(report))
     }
 
-    /// What a new session with the present texts answers differently from this one, whose last report is given.
-    fn difference(&self, alloc: Global, report: Report) -> Result<Option<&'static str>, Refusal> {
-        let mut anew = begin(alloc, self.setting)?;
-        let last = give_texts(&mut anew, &self.session)?;
+    /// What a new session, which is given the present texts, answers differently from this one, whose last report is
+    /// given.
+    fn difference_from(
+        &self,
+        anew: &mut Session,
+        report: Report,
+    ) -> Result<Option<&'static str>, Refusal> {
+        let last = give_texts(anew, &self.session)?;
         if last.is_some() && steps(Some(report)) != steps(last) {
             return Ok(Some("the number of steps"));
         }
-        Ok(difference(&self.session, &anew))
+        Ok(difference(&self.session, anew))
     }
-}
 
-/// Makes edits from a seed. The answer is none where something differs after one of them, which is printed.
-fn make_edits(rt: &HostRuntime, seed: u64, edits: u32) -> anyhow::Result<Option<Tally>> {
-    let alloc = rt.alloc();
-    let mut trial = Trial::new(alloc, seed)?;
-    for number in 0..edits {
-        let Some(report) = trial.edit(alloc, number)? else {
-            continue;
-        };
-        if let Some(what) = trial.difference(alloc, report)? {
-            println!(rt; "seed {seed}: after edit {number} {what} differs from a new session's")?;
-            return Ok(None);
+    /// What a new session with the present texts answers differently from this one, whose last report is given.
+    fn difference(&self, alloc: Global, report: Report) -> Result<Option<&'static str>, Refusal> {
+        let mut anew = begin(alloc, self.setting)?;
+        self.difference_from(&mut anew, report)
+    }
+
+    /// Makes the next edit. The answer is what differs after it, if anything does.
+    fn try_edit(&mut self, alloc: Global, number: u32) -> Result<Option<&'static str>, Refusal> {
+        match self.edit(alloc, number)? {
+            Some(report) => self.difference(alloc, report),
+            None => Ok(None),
         }
     }
-    Ok(Some(trial.tally))
+
+    /// Makes edits from the seed, and says what came of them. The answer is false where something differs after one of
+    /// them.
+    fn make_edits(&mut self, rt: &HostRuntime, seed: u64, edits: u32) -> anyhow::Result<bool> {
+        for number in 0..edits {
+            if let Some(what) = self.try_edit(rt.alloc(), number)? {
+                println!(rt;
+                    "seed {seed}: after edit {number} {what} differs from a new session's"
+                )?;
+                return Ok(false);
+            }
+        }
+        println!(rt;
+            "seed {seed}: {} of {edits} edits accepted, {} steps reused, as from scratch",
+            self.tally.accepted, self.tally.reused
+        )?;
+        Ok(true)
+    }
 }
 
-/// Shows the worked examples, over a new session.
-fn show_examples(rt: &HostRuntime) -> anyhow::Result<()> {
+/// Makes edits of a new session from a seed. The answer is false where something differs after one of them.
+fn try_seed(rt: &HostRuntime, seed: u64, edits: u32) -> anyhow::Result<bool> {
+    let mut trial = Trial::new(rt.alloc(), seed)?;
+    trial.make_edits(rt, seed, edits)
+}
+
+/// What the worked examples show, over a new session.
+fn examples(alloc: Global) -> Result<Bytes, Refusal> {
     let setting = Setting {
         root: "job",
         min: 2,
     };
-    let mut session = begin(rt.alloc(), setting)?;
-    let shown = worked::examples(rt.alloc(), &mut session)?;
+    let mut session = begin(alloc, setting)?;
+    worked::examples(alloc, &mut session)
+}
+
+/// Shows the worked examples.
+fn show_examples(rt: &HostRuntime) -> anyhow::Result<()> {
+    let shown = examples(rt.alloc())?;
     print!(rt; "{}", str::from_utf8(shown.as_slice()).unwrap_or("no text"))?;
     Ok(())
 }
@@ -188,12 +219,8 @@ fn main(rt: HostRuntime) -> anyhow::Result<ExitCode> {
             println!(rt; "{word} is no seed")?;
             return Ok(ExitCode::FAILURE);
         };
-        match make_edits(&rt, seed, edits)? {
-            Some(tally) => println!(rt;
-                "seed {seed}: {} of {edits} edits accepted, {} steps reused, as from scratch",
-                tally.accepted, tally.reused
-            )?,
-            None => return Ok(ExitCode::FAILURE),
+        if !try_seed(&rt, seed, edits)? {
+            return Ok(ExitCode::FAILURE);
         }
     }
     Ok(ExitCode::SUCCESS)

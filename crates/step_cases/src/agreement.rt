@@ -70,14 +70,25 @@ fn shown_reuse(
     }
 }
 
+/// Whether two inputs agree, or what the one leaves for the other, by the kind of a case.
+fn told(
+    alloc: Global,
+    kind: &str,
+    style: &Style,
+    old: &Input,
+    new: &Input,
+) -> Result<Bytes, AllocError> {
+    match kind {
+        "agrees" => shown_agreement(alloc, style, old, new),
+        _ => shown_reuse(alloc, style, old, new),
+    }
+}
+
 /// The answer of a case in its style: of the input of an entry, and of the same but for a change.
 fn shown(alloc: Global, case: &str, style: &Style) -> Result<Bytes, Fault> {
     let old = input(alloc, word_at(case, 1), "-")?;
     let new = input(alloc, word_at(case, 1), word_at(case, 2))?;
-    match word_at(case, 0) {
-        "agrees" => Ok(shown_agreement(alloc, style, &old, &new)?),
-        _ => Ok(shown_reuse(alloc, style, &old, &new)?),
-    }
+    Ok(told(alloc, word_at(case, 0), style, &old, &new)?)
 }
 
 /// The answer of a case: whether an input and a changed one agree, or the variables that the step of the one leaves for

@@ -33,11 +33,16 @@ fn call_all(state: &mut State, alloc: Global, names: &str) -> Result<Flow, Fault
     Ok(Flow::Go)
 }
 
+/// What calls leave of a state.
+fn left(state: &mut State, alloc: Global, names: &str) -> Result<Bytes, Fault> {
+    let flow = call_all(state, alloc, names)?;
+    Ok(shown(alloc, state, flow)?)
+}
+
 /// What calls leave of the stack that a case spells, in a step for an entry or for none.
 fn called(alloc: Global, case: &str, entry: Option<&Entry>) -> Result<Bytes, Fault> {
     let mut state = state(alloc, entry, stack(alloc, part_at(case, 0), 2)?)?;
-    let flow = call_all(&mut state, alloc, part_at(case, 1))?;
-    Ok(shown(alloc, &state, flow)?)
+    left(&mut state, alloc, part_at(case, 1))
 }
 
 /// The answer of a case: what calls leave, of an entry that is shared.

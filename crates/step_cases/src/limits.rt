@@ -16,13 +16,18 @@ fn zeros<'a>(alloc: Global) -> Result<Vec<Value<'a>>, AllocError> {
     Ok(values)
 }
 
+/// What is said of a call.
+fn said_of_call(state: &mut State, alloc: Global, builtin: Builtin) -> Result<Bytes, AllocError> {
+    let flow = call_builtin(state, alloc, builtin)?;
+    let mut out = Bytes::new(alloc);
+    append_end(&mut out, alloc, state, flow)?;
+    Ok(out)
+}
+
 /// What is said of a call on a full stack.
 fn call_on_full_stack(alloc: Global, builtin: Builtin) -> Result<Bytes, AllocError> {
     let mut state = state(alloc, None, zeros(alloc)?)?;
-    let flow = call_builtin(&mut state, alloc, builtin)?;
-    let mut out = Bytes::new(alloc);
-    append_end(&mut out, alloc, &state, flow)?;
-    Ok(out)
+    said_of_call(&mut state, alloc, builtin)
 }
 
 /// This number of letters.
@@ -39,20 +44,22 @@ fn told(alloc: Global, flow: Flow, number: usize) -> Result<Bytes, AllocError> {
     Bytes::copied(alloc, format!(in alloc; "{word} {number}")?.as_bytes())
 }
 
-/// Calls a function over two texts with these numbers of letters.
+/// Calls a function over two texts with these numbers of letters: whether that stops the run, and how many errors are
+/// reported.
 fn call_over_texts(
     state: &mut State,
     alloc: Global,
     builtin: Builtin,
     lower: usize,
     upper: usize,
-) -> Result<Flow, AllocError> {
+) -> Result<Bytes, AllocError> {
     state.push_text(Text::Own(letters(alloc, lower)?))?;
     state.push_text(Text::Own(letters(alloc, upper)?))?;
-    call_builtin(state, alloc, builtin)
+    let flow = call_builtin(state, alloc, builtin)?;
+    told(alloc, flow, state.complaints.len())
 }
 
-/// Whether a call over two texts with these numbers of letters stops the run, and how many errors are reported.
+/// The same of a call on an empty stack.
 fn over_texts(
     alloc: Global,
     builtin: Builtin,
@@ -60,22 +67,21 @@ fn over_texts(
     upper: usize,
 ) -> Result<Bytes, AllocError> {
     let mut state = state(alloc, None, Vec::new(alloc))?;
-    let flow = call_over_texts(&mut state, alloc, builtin, lower, upper)?;
-    told(alloc, flow, state.complaints.len())
+    call_over_texts(&mut state, alloc, builtin, lower, upper)
 }
 
-/// Writes a letter where this number of letters is held.
-fn write_behind(state: &mut State, alloc: Global, held: usize) -> Result<Flow, AllocError> {
+/// Writes a letter where this number of letters is held: whether that stops the run, and how many bytes are held then.
+fn write_after(state: &mut State, alloc: Global, held: usize) -> Result<Bytes, AllocError> {
     state.write(alloc, letters(alloc, held)?.as_slice())?;
     state.push_text(Text::Own(letters(alloc, 1)?))?;
-    call_builtin(state, alloc, Builtin::Write)
+    let flow = call_builtin(state, alloc, Builtin::Write)?;
+    told(alloc, flow, state.held.bytes().len())
 }
 
-/// Whether writing a letter where this number is held stops the run, and how many bytes are held then.
-fn behind_held(alloc: Global, held: usize) -> Result<Bytes, AllocError> {
+/// The same of a step in which nothing is written before.
+fn after_held(alloc: Global, held: usize) -> Result<Bytes, AllocError> {
     let mut state = state(alloc, None, Vec::new(alloc))?;
-    let flow = write_behind(&mut state, alloc, held)?;
-    told(alloc, flow, state.held.bytes().len())
+    write_after(&mut state, alloc, held)
 }
 
 /// The answer of a case: what is said on a full stack, or whether the run goes on at the limit of texts or of the held
@@ -83,7 +89,7 @@ fn behind_held(alloc: Global, held: usize) -> Result<Bytes, AllocError> {
 pub fn answer(alloc: Global, case: &str) -> Result<Bytes, Fault> {
     match word_at(case, 0) {
         "full" => Ok(call_on_full_stack(alloc, builtin(word_at(case, 1))?)?),
-        "held" => Ok(behind_held(alloc, count(word_at(case, 1))?)?),
+        "held" => Ok(after_held(alloc, count(word_at(case, 1))?)?),
         _ => {
             let builtin = builtin(word_at(case, 1))?;
             let (lower, upper) = (count(word_at(case, 2))?, count(word_at(case, 3))?);

@@ -23,14 +23,18 @@ fn is_taken(state: &mut State, kind: &str) -> Result<bool, AllocError> {
     }
 }
 
-/// The answer of a case: the number that is taken, or whether functions are, with how many errors.
+/// The number that is taken, or whether functions are, with how many errors.
+fn taken(alloc: Global, state: &mut State, kind: &str) -> Result<Bytes, AllocError> {
+    if kind == "take_number" {
+        return number_taken(alloc, state);
+    }
+    let taken = is_taken(state, kind)?;
+    let errors = state.complaints.len();
+    Bytes::copied(alloc, format!(in alloc; "{taken} {errors}")?.as_bytes())
+}
+
+/// The answer of a case: what is taken from the stack that it spells.
 pub fn answer(alloc: Global, case: &str) -> Result<Bytes, Fault> {
     let mut state = state(alloc, None, stack(alloc, case, 1)?)?;
-    let kind = word_at(case, 0);
-    if kind == "take_number" {
-        return Ok(number_taken(alloc, &mut state)?);
-    }
-    let taken = is_taken(&mut state, kind)?;
-    let errors = state.complaints.len();
-    Ok(Bytes::copied(alloc, format!(in alloc; "{taken} {errors}")?.as_bytes())?)
+    Ok(taken(alloc, &mut state, word_at(case, 0))?)
 }
