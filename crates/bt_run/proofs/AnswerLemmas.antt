@@ -16,6 +16,7 @@ use Rattle.bt_log.specs.Log.{log_bytes}
 use Rattle.bt_job.specs.FileNames.{text_of}
 use Rattle.bt_job.specs.Citations.{citations}
 use Rattle.bt_job.specs.Fit.{IsWithin, IsFit}
+use Rattle.bt_run.specs.declared.answers.Report.{Report}
 use Rattle.bt_run.specs.declared.course.Course.{Course}
 use Rattle.bt_run.specs.declared.course.Step.{Step}
 use Rattle.bt_run.specs.declared.earlier.Earlier.{Earlier}
@@ -173,12 +174,12 @@ pub kept_steps : (files : List File) (root : List ℕ) (min : ℕ) (c : Citation
 unfolding trace run_of
 kept_steps files root min c r is is_cited = ap (λ (s : Course). s.trace) (is ∙ ap (λ (d : Citations). run_with files d min d.style) is_cited)
 
-pub reported : (files : List File) (root : List ℕ) (min : ℕ) (own : Option (List ℕ)) (earlier : List Step) (text : Option (List ℕ)) (steps : List Step) (reuse : Reuse) (status ran reused ticks : ℕ) → status ≡ (meaning files root min).status → text ≡ style_text files root → steps ≡ trace files root min → IsTaken own earlier text steps reuse → ran ≡ reuse.ran → reused ≡ length steps - reuse.ran → ticks ≡ reuse.meter → record { status = status; ran = ran; reused = reused; ticks = ticks } ≡ report_after own earlier files root min
-reported files root min own earlier text steps reuse status ran reused ticks is_status is_text are_steps h is_ran is_reused is_ticks =
+pub reported : (files : List File) (root : List ℕ) (min : ℕ) (own : Option (List ℕ)) (earlier : List Step) (text : Option (List ℕ)) (steps : List Step) (reuse : Reuse) (r : Report) → r.status ≡ (meaning files root min).status → text ≡ style_text files root → steps ≡ trace files root min → IsTaken own earlier text steps reuse → r.ran ≡ reuse.ran → r.reused ≡ length steps - reuse.ran → r.ticks ≡ reuse.meter → r ≡ report_after own earlier files root min
+reported files root min own earlier text steps reuse r is_status is_text are_steps h is_ran is_reused is_ticks =
     let work : work_after own earlier text steps ≡ run_work own earlier files root min = λ j. work_after own earlier (is_text j) (are_steps j) in
     let ran_is : reuse.ran ≡ length (run_work own earlier files root min) = h.ran ∙ ap length work in
     let statuses = is_status in
     let rans = is_ran ∙ ran_is in
-    let reuses : reused ≡ length (trace files root min) - length (run_work own earlier files root min) = is_reused ∙ (λ j. length (are_steps j) - ran_is j) in
+    let reuses : r.reused ≡ length (trace files root min) - length (run_work own earlier files root min) = is_reused ∙ (λ j. length (are_steps j) - ran_is j) in
     let ticks_are = is_ticks ∙ h.ticks ∙ ap total_cost work in
     λ j. record { status = statuses j; ran = rans j; reused = reuses j; ticks = ticks_are j }

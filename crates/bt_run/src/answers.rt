@@ -1,6 +1,6 @@
 //! What the files mean, with the steps of an earlier run taken over.
 
-ghost use Rattle.std.specs.Prelude.{◌≡◌, ◌≤◌, [], None, length, IfOk};
+ghost use Rattle.std.specs.Prelude.{◌≡◌, ◌≤◌, ◌-◌, [], None, length, IfOk};
 ghost use Rattle.std.specs.Option.{ForSome};
 ghost use Rattle.bt_style.specs.Program.{program_of};
 ghost use Rattle.bt_run.specs.inner.Earlier.{ArePlaced};
@@ -14,7 +14,7 @@ ghost use Rattle.bt_run.specs.Shown.{meaning_of};
 
 use crate::commands::run_commands;
 use crate::counts::tell_counts;
-use crate::course::Course;
+use crate::course::{Course, Step};
 use crate::job::{Job, shared_text};
 use crate::kept::{Kept, earlier_under};
 use crate::readings::Readings;
@@ -56,6 +56,24 @@ pub struct Report {
     pub reused: u64,
     /// The ticks of the steps that were carried out.
     pub ticks: u128,
+}
+
+impl Report {
+    /// What a run took that ended with this status after these steps, of which some were carried out.
+    fn of(status: u8, steps: &[Shared<Step>], reuse: &Reuse) -> Report
+        requires fewer { reuse.now.ran ≤ length steps.now }
+        ensures status { result.status ≡ status }
+        ensures ran { result.ran ≡ reuse.now.ran }
+        ensures reused { result.reused ≡ length steps.now - reuse.now.ran }
+        ensures ticks { result.ticks ≡ reuse.now.meter }
+    {
+        Report {
+            status,
+            ran: reuse.ran as u64,
+            reused: steps.len() as u64 - reuse.ran as u64,
+            ticks: reuse.meter.value(),
+        }
+    }
 }
 
 /// No variables. They take no memory.
@@ -255,13 +273,7 @@ pub fn answers_after(
         ..
     } = course;
     let answers = show(alloc, &lines, log, wanted)?;
-    let steps = trace.len();
-    let report = Report {
-        status: answers.status,
-        ran: reuse.ran as u64,
-        reused: steps as u64 - reuse.ran as u64,
-        ticks: reuse.meter.value(),
-    };
+    let report = Report::of(answers.status, trace.as_slice(), &reuse);
     let readings = reuse.readings.present(alloc, files)?;
     let kept = Kept {
         text,

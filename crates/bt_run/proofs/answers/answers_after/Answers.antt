@@ -1,4 +1,5 @@
-use Rattle.std.proofs.Common.{◌-◌, refl, ap}
+use Rattle.std.proofs.Common.{◌-◌, List, length, ◌∙◌, ap}
+use Rattle.bt_run.specs.declared.course.Step.{Step}
 use Rattle.bt_run.specs.Shown.{meaning_of}
 use Rattle.bt_run.specs.Meaning.{Meaning}
 use Rattle.bt_run.proofs.AnswerLemmas.{meant, kept_text, kept_steps, reported}
@@ -19,5 +20,7 @@ pub returns-clause-report : goal.returns-clause-report
 returns-clause-report c =
     let ran = c.in_ok-ran.ran in
     let own = c.run_with.new.reuse in
-    reported c.args.files.now c.args.root.now c.args.min c.args.kept.now.text c.args.kept.now.steps ran.text ran.course.trace own c.in_ok-answers.answers.status own.ran _ c.value.result
-    (ap (λ (m : Meaning). m.status) (returns-clause-shown c)) (returns-clause-text c) (returns-clause-steps c) c.in_ok-ran.ensures.taken refl (ap (λ n. n - own.ran) c.len-steps.ensures) c.value.ensures
+    let told = c.of-report.ensures in
+    reported c.args.files.now c.args.root.now c.args.min c.args.kept.now.text c.args.kept.now.steps ran.text ran.course.trace own c.of-report.result
+    (told.status ∙ ap (λ (m : Meaning). m.status) (returns-clause-shown c)) (returns-clause-text c) (returns-clause-steps c) c.in_ok-ran.ensures.taken told.ran
+    (told.reused ∙ ap (λ (steps : List Step). length steps - own.ran) c.as_slice.ensures) told.ticks
