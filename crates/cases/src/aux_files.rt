@@ -1,18 +1,22 @@
 //! Cases of `.aux` files: what is asked for from a root on, nested files in their places, and what the log says.
 
 use crate::logs::log_told;
-use crate::spelling::{unspelled, word_at};
+use crate::spelling::{part_at, unspelled, word_at};
 use bt_job::{AuxTexts, Citations, File, read_citations};
 use bt_text::{Bytes, Shared};
 use std::alloc::{AllocError, Global};
 
-/// The file of a word: its name, a colon, and its text to base 16.
+/// The text of a file, to base 16.
+fn text(alloc: Global, word: &str) -> Result<Shared<Bytes>, AllocError> {
+    let text = unspelled(alloc, word)?;
+    Shared::<Bytes>::copied(alloc, &text)
+}
+
+/// The file of a word: its name, a colon, and its text.
 fn file(alloc: Global, word: &str) -> Result<File, AllocError> {
-    let (name, text) = word.split_once(':').unwrap_or((word, ""));
-    Ok(File {
-        name: Shared::<Bytes>::copied(alloc, name.as_bytes())?,
-        text: Shared::<Bytes>::copied(alloc, &unspelled(alloc, text)?)?,
-    })
+    let name = Shared::<Bytes>::copied(alloc, part_at(word, 0).as_bytes())?;
+    let text = text(alloc, part_at(word, 1))?;
+    Ok(File { name, text })
 }
 
 /// The files of a case's words after the second.
@@ -35,10 +39,14 @@ fn told(alloc: Global, citations: &Citations) -> Result<Bytes, AllocError> {
     Ok(told)
 }
 
+/// The same of what files ask for from a root on.
+fn told_of_files(alloc: Global, files: &[File], root: &str) -> Result<Bytes, AllocError> {
+    let citations = read_citations(alloc, files, root.as_bytes(), &mut AuxTexts::new(alloc))?;
+    told(alloc, &citations)
+}
+
 /// The answer of a case: what is asked for by its files from a root on.
 pub fn answer(alloc: Global, case: &str) -> Result<Bytes, AllocError> {
     let files = files(alloc, case)?;
-    let root = word_at(case, 1).as_bytes();
-    let citations = read_citations(alloc, files.as_slice(), root, &mut AuxTexts::new(alloc))?;
-    told(alloc, &citations)
+    told_of_files(alloc, files.as_slice(), word_at(case, 1))
 }

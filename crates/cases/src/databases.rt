@@ -3,8 +3,8 @@
 
 use crate::spelling::{number, push_spelled, unspelled, word_at};
 use bt_bib::{
-    Closing, Content, Field, Item, ItemFault, Items, KeptItems, NameRole, Part, Piece, Spot,
-    read_bib,
+    Closing, Content, Definition, Entry, Field, Item, ItemFault, Items, KeptItems, NameRole, Part,
+    Piece, Spot, read_bib,
 };
 use bt_text::{Bytes, Sequence, Shared};
 use std::alloc::{AllocError, Global};
@@ -137,29 +137,33 @@ impl Spelled {
     fn content(&mut self, item: &Item) -> Result<(), AllocError> {
         let close = closing_words(item.close);
         match &item.content {
-            Content::Entry(entry) => {
-                self.out.append(b"Entry type=")?;
-                self.text(&entry.kind)?;
-                self.out.append(b" key=")?;
-                self.text(&entry.key)?;
-                self.out.append(close)?;
-                self.fields(&entry.fields)?;
-                self.out.append(b"] value=.")
-            }
-            Content::Define(definition) => {
-                self.out.append(b"Define type=. key=")?;
-                self.text(&definition.name)?;
-                self.out.append(close)?;
-                self.out.append(b"] value=")?;
-                self.value(&definition.value)
-            }
+            Content::Entry(entry) => self.entry(entry, close),
+            Content::Define(definition) => self.definition(definition, close),
             Content::Preamble(value) => {
-                self.out.append(b"Preamble type=. key=.")?;
-                self.out.append(close)?;
-                self.out.append(b"] value=")?;
+                self.out
+                    .append_all(&[b"Preamble type=. key=.", close, b"] value="])?;
                 self.value(value)
             }
         }
+    }
+
+    /// An entry, with its closing sign.
+    fn entry(&mut self, entry: &Entry, close: &[u8]) -> Result<(), AllocError> {
+        self.out.append(b"Entry type=")?;
+        self.text(&entry.kind)?;
+        self.out.append(b" key=")?;
+        self.text(&entry.key)?;
+        self.out.append(close)?;
+        self.fields(&entry.fields)?;
+        self.out.append(b"] value=.")
+    }
+
+    /// The definition of a macro, with its closing sign.
+    fn definition(&mut self, definition: &Definition, close: &[u8]) -> Result<(), AllocError> {
+        self.out.append(b"Define type=. key=")?;
+        self.text(&definition.name)?;
+        self.out.append_all(&[close, b"] value="])?;
+        self.value(&definition.value)
     }
 
     /// A fault, with its line, its byte, and what is missing or followed.

@@ -1,7 +1,9 @@
 //! Cases of names: how many a text lists, the parts of one, and one in a pattern, within a limit too.
 
 use crate::spelling::{number, number_at, place_at, push_spelled, spelled, unspelled, word_at};
-use bt_names::{FormatFault, Formatted, NameFault, Token, count, format, format_within, parts};
+use bt_names::{
+    FormatFault, Formatted, NameFault, Parts, Token, count, format, format_within, parts,
+};
 use bt_text::{Bytes, Sequence};
 use std::alloc::{AllocError, Global};
 
@@ -20,6 +22,15 @@ fn push_part(out: &mut Bytes, name: &[u8], tokens: &Sequence<Token>) -> Result<(
     out.append(b"]")
 }
 
+fn parts_told(alloc: Global, parts: &Parts) -> Result<Bytes, AllocError> {
+    let mut out = Bytes::new(alloc);
+    push_part(&mut out, b"first", &parts.first)?;
+    push_part(&mut out, b" von", &parts.von)?;
+    push_part(&mut out, b" last", &parts.last)?;
+    push_part(&mut out, b" jr", &parts.jr)?;
+    Ok(out)
+}
+
 fn parts_answer(alloc: Global, names: &[u8], n: i32) -> Result<Bytes, AllocError> {
     let parts = match parts(alloc, names, n) {
         Ok(parts) => parts,
@@ -27,12 +38,7 @@ fn parts_answer(alloc: Global, names: &[u8], n: i32) -> Result<Bytes, AllocError
         Err(NameFault::TooManyCommas) => return Bytes::copied(alloc, b"TooManyCommas"),
         Err(NameFault::OutOfMemory) => return Err(AllocError),
     };
-    let mut out = Bytes::new(alloc);
-    push_part(&mut out, b"first", &parts.first)?;
-    push_part(&mut out, b" von", &parts.von)?;
-    push_part(&mut out, b" last", &parts.last)?;
-    push_part(&mut out, b" jr", &parts.jr)?;
-    Ok(out)
+    parts_told(alloc, &parts)
 }
 
 /// The name of a fault, and its place where it has one.

@@ -10,17 +10,26 @@ use bt_resolve::{Cites, Declared, Entry, Macro, Resolved, are_apart, resolve};
 use bt_text::{Bytes, NameList, Sequence, Shared};
 use std::alloc::{AllocError, Global};
 
-fn declared(alloc: Global) -> Result<Declared, AllocError> {
-    let mut fields = Sequence::new(alloc);
-    fields.push(Bytes::copied(alloc, b"crossref")?)?;
-    fields.push(Bytes::copied(alloc, b"title")?)?;
-    let mut types = Sequence::new(alloc);
-    types.push(Bytes::copied(alloc, b"misc")?)?;
+fn names(alloc: Global, names: &[&str]) -> Result<Sequence<Bytes>, AllocError> {
+    let mut all = Sequence::new(alloc);
+    for name in names {
+        all.push(Bytes::copied(alloc, name.as_bytes())?)?;
+    }
+    Ok(all)
+}
+
+fn macros(alloc: Global) -> Result<Sequence<Macro>, AllocError> {
+    let name = Bytes::copied(alloc, b"s")?;
+    let value = Bytes::copied(alloc, b"S")?;
     let mut macros = Sequence::new(alloc);
-    macros.push(Macro {
-        name: Bytes::copied(alloc, b"s")?,
-        value: Bytes::copied(alloc, b"S")?,
-    })?;
+    macros.push(Macro { name, value })?;
+    Ok(macros)
+}
+
+fn declared(alloc: Global) -> Result<Declared, AllocError> {
+    let fields = names(alloc, &["crossref", "title"])?;
+    let types = names(alloc, &["misc"])?;
+    let macros = macros(alloc)?;
     Ok(Declared {
         fields,
         types,
@@ -28,18 +37,25 @@ fn declared(alloc: Global) -> Result<Declared, AllocError> {
     })
 }
 
-/// The keys of a word, parted by commas, and how many stand before a `*`, which cites all entries.
-fn cited(alloc: Global, word: &str) -> Result<(NameList, Option<usize>), AllocError> {
-    let mut keys = NameList::new(alloc);
+/// Puts a key after others where it is new.
+fn cite(alloc: Global, keys: &mut NameList, key: &str) -> Result<(), AllocError> {
+    if keys.find(alloc, key.as_bytes())?.is_none() {
+        keys.push(alloc, key.as_bytes())?;
+    }
+    Ok(())
+}
+
+/// Puts the keys of a word, parted by commas, after others; how many stand before a `*`, which cites all entries.
+fn cite_all(alloc: Global, keys: &mut NameList, word: &str) -> Result<Option<usize>, AllocError> {
     let mut star = None;
     for key in word.split(',') {
         if key == "*" {
             star = Some(keys.as_slice().len());
-        } else if keys.find(alloc, key.as_bytes())?.is_none() {
-            keys.push(alloc, key.as_bytes())?;
+        } else {
+            cite(alloc, keys, key)?;
         }
     }
-    Ok((keys, star))
+    Ok(star)
 }
 
 /// How many keys stand before a `*`, if there are so many.
@@ -117,7 +133,8 @@ fn shown(alloc: Global, resolved: &Resolved) -> Result<Bytes, AllocError> {
 fn cites_of(alloc: Global, word: &str) -> Result<Cites, AllocError>
     ensures { IfOk result (λ cites. IfSome cites.star (λ before. before ≤ length cites.keys)) }
 {
-    let (keys, star) = cited(alloc, word)?;
+    let mut keys = NameList::new(alloc);
+    let star = cite_all(alloc, &mut keys, word)?;
     let star = star_within(star, &keys);
     let keys = Shared::new(alloc, keys)?;
     Ok(Cites { keys, star })
@@ -140,11 +157,30 @@ fn told(
     shown(alloc, &resolved)
 }
 
-/// The answer of a case: what its keys and its two databases give, with its `min`.
+/// The items of the database that a word spells.
+fn items(alloc: Global, word: &str) -> Result<KeptItems, AllocError> {
+    let text = unspelled(alloc, word)?;
+    KeptItems::read(alloc, &text)
+}
+
+/// What citations and the two databases of a case give, with its `min`.
+fn told_of_case(
+    alloc: Global,
+    declared: &Declared,
+    cites: &Cites,
+    case: &str,
+) -> Result<Bytes, AllocError>
+    requires { IfSome cites.now.star (λ before. before ≤ length cites.now.keys) }
+{
+    let min = place_at(case, 2).min(65_535) as u32;
+    let first = items(alloc, word_at(case, 3))?;
+    let second = items(alloc, word_at(case, 4))?;
+    told(alloc, declared, cites, &[&first, &second], min)
+}
+
+/// The answer of a case: what its keys and its two databases give.
 pub fn answer(alloc: Global, case: &str) -> Result<Bytes, AllocError> {
     let cites = cites_of(alloc, word_at(case, 1))?;
-    let min = place_at(case, 2).min(65_535) as u32;
-    let first = KeptItems::read(alloc, &unspelled(alloc, word_at(case, 3))?)?;
-    let second = KeptItems::read(alloc, &unspelled(alloc, word_at(case, 4))?)?;
-    told(alloc, &declared(alloc)?, &cites, &[&first, &second], min)
+    let declared = declared(alloc)?;
+    told_of_case(alloc, &declared, &cites, case)
 }

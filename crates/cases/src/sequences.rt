@@ -56,17 +56,22 @@ fn carry_out(alloc: Global, word: &str, numbers: &mut Sequence<usize>) -> Result
 }
 
 /// The numbers of a list, parted by commas, after how many there are.
+fn numbers_told(alloc: Global, numbers: &[usize]) -> Result<Bytes, AllocError> {
+    let mut out = number(alloc, numbers.len())?;
+    for (place, n) in numbers.iter().enumerate() {
+        out.append(if 0 < place { b"," } else { b" " })?;
+        out.append(number(alloc, *n)?.as_slice())?;
+    }
+    Ok(out)
+}
+
+/// The same of a list that the words of a case change.
 fn listed(alloc: Global, case: &str) -> Result<Bytes, AllocError> {
     let mut numbers = Sequence::new(alloc);
     for word in case.split_whitespace().skip(1) {
         carry_out(alloc, word, &mut numbers)?;
     }
-    let mut out = number(alloc, numbers.len())?;
-    for (place, n) in numbers.as_slice().iter().enumerate() {
-        out.append(if 0 < place { b"," } else { b" " })?;
-        out.append(number(alloc, *n)?.as_slice())?;
-    }
-    Ok(out)
+    numbers_told(alloc, numbers.as_slice())
 }
 
 /// The answer of a case.

@@ -65,6 +65,17 @@ fn respliced(
     })
 }
 
+/// Whether items are the same to each field.
+fn are_spelled_alike(
+    alloc: Global,
+    items: &KeptItems,
+    others: &KeptItems,
+) -> Result<bool, AllocError> {
+    let one = format!(in alloc; "{items:?}")?;
+    let other = format!(in alloc; "{others:?}")?;
+    Ok(one.as_str() == other.as_str())
+}
+
 /// Whether the items of a spliced text are those of the same text read from its beginning, to each field.
 fn is_alike(
     alloc: Global,
@@ -78,9 +89,7 @@ fn is_alike(
 {
     let again = respliced(alloc, text, begin, end, bytes)?;
     let whole = KeptItems::read(alloc, again.text.as_slice())?;
-    let again = format!(in alloc; "{:?}", again.items)?;
-    let whole = format!(in alloc; "{whole:?}")?;
-    Ok(again.as_str() == whole.as_str())
+    are_spelled_alike(alloc, &again.items, &whole)
 }
 
 /// The answer of a case `respliced_anywhere`: whether the items of a text are the same read again and read whole, where
@@ -104,6 +113,23 @@ fn answer_anywhere(alloc: Global, case: &str) -> Result<Bytes, AllocError> {
     Ok(told)
 }
 
+/// The number of bytes that are read again, and after it the items of the new text as those of `read_bib`.
+fn respliced_told(
+    alloc: Global,
+    text: &[u8],
+    begin: usize,
+    end: usize,
+    bytes: &[u8],
+) -> Result<Bytes, AllocError>
+    requires order { begin ≤ end }
+    requires inside { end ≤ length text.now }
+{
+    let again = respliced(alloc, text, begin, end, bytes)?;
+    let mut told = Bytes::copied(alloc, format!(in alloc; "{} ", again.read)?.as_bytes())?;
+    told.append(spelled_kept(alloc, &again.items)?.as_slice())?;
+    Ok(told)
+}
+
 /// The answer of a case `respliced`: the number of bytes that are read again, and after it the items of the new text as
 /// those of `read_bib`; or that the splice lies outside the text.
 fn answer_at(alloc: Global, case: &str) -> Result<Bytes, AllocError> {
@@ -114,10 +140,7 @@ fn answer_at(alloc: Global, case: &str) -> Result<Bytes, AllocError> {
     if end < begin || text.len() < end {
         return Bytes::copied(alloc, b"outside");
     }
-    let again = respliced(alloc, &text, begin, end, &bytes)?;
-    let mut told = Bytes::copied(alloc, format!(in alloc; "{} ", again.read)?.as_bytes())?;
-    told.append(spelled_kept(alloc, &again.items)?.as_slice())?;
-    Ok(told)
+    respliced_told(alloc, &text, begin, end, &bytes)
 }
 
 /// The answer of a case.

@@ -1,7 +1,7 @@
 //! Cases of the style reader.
 
 use crate::spelling::{number, push_spelled, unspelled, word_at};
-use bt_style::{Action, Op, Style, StyleRefusal, Target, read_style};
+use bt_style::{Action, Op, Style, StyleFault, StyleRefusal, Target, read_style};
 use bt_text::{Bytes, Sequence};
 use std::alloc::{AllocError, Global};
 
@@ -155,16 +155,18 @@ fn shown(alloc: Global, style: &Style) -> Result<Bytes, AllocError> {
     Ok(out)
 }
 
+/// A fault, and its line.
+fn fault_told(alloc: Global, fault: StyleFault) -> Result<Bytes, AllocError> {
+    let told = format!(in alloc; "{} {}", fault.kind, fault.line)?;
+    Bytes::copied(alloc, told.as_bytes())
+}
+
 /// The answer of a case: what the style has, or its first fault with its line.
 pub fn answer(alloc: Global, case: &str) -> Result<Bytes, AllocError> {
     let text = unspelled(alloc, word_at(case, 1))?;
     match read_style(alloc, &text) {
         Ok(style) => shown(alloc, &style),
-        Err(StyleRefusal::StyleFault(fault)) => {
-            let kind = fault.kind;
-            let line = fault.line;
-            Bytes::copied(alloc, format!(in alloc; "{kind} {line}")?.as_bytes())
-        }
+        Err(StyleRefusal::StyleFault(fault)) => fault_told(alloc, fault),
         Err(StyleRefusal::OutOfMemory) => Err(AllocError),
     }
 }

@@ -40,17 +40,33 @@ fn change(alloc: Global, numbers: &mut Values<i32>, place: usize) -> Result<(), 
     numbers.set(alloc, numbers.len(), -3)
 }
 
+/// Puts values after `out`.
+fn push_listed(out: &mut Bytes, alloc: Global, numbers: &Values<i32>) -> Result<(), AllocError> {
+    let listed = listed(alloc, numbers)?;
+    push_word(out, &listed)
+}
+
 /// Whether a copy is the same, before and after its value at a place is set; then the values of the copy and of what
 /// was copied.
+fn copy_told(
+    alloc: Global,
+    copy: &mut Values<i32>,
+    numbers: &Values<i32>,
+    place: usize,
+) -> Result<Bytes, AllocError> {
+    let mut out = is_same_told(alloc, copy, numbers)?;
+    change(alloc, copy, place)?;
+    push_same(&mut out, alloc, copy, numbers)?;
+    push_listed(&mut out, alloc, copy)?;
+    push_listed(&mut out, alloc, numbers)?;
+    Ok(out)
+}
+
+/// The same of so many values.
 fn copy_answer(alloc: Global, count: usize, place: usize) -> Result<Bytes, AllocError> {
     let numbers = places(alloc, count)?;
     let mut copy = numbers.copied(alloc)?;
-    let mut out = is_same_told(alloc, &copy, &numbers)?;
-    change(alloc, &mut copy, place)?;
-    push_word(&mut out, &is_same_told(alloc, &copy, &numbers)?)?;
-    push_word(&mut out, &listed(alloc, &copy)?)?;
-    push_word(&mut out, &listed(alloc, &numbers)?)?;
-    Ok(out)
+    copy_told(alloc, &mut copy, &numbers, place)
 }
 
 /// Whether a copy is the same.
@@ -60,6 +76,17 @@ fn is_same_told<T: Element>(
     values: &Values<T>,
 ) -> Result<Bytes, AllocError> {
     truth(alloc, copy.is_same(values))
+}
+
+/// Puts after `out` whether a copy is the same.
+fn push_same<T: Element>(
+    out: &mut Bytes,
+    alloc: Global,
+    copy: &Values<T>,
+    values: &Values<T>,
+) -> Result<(), AllocError> {
+    let told = is_same_told(alloc, copy, values)?;
+    push_word(out, &told)
 }
 
 /// The text at a place of some values, to base 16; a full stop where there is none.
@@ -72,6 +99,17 @@ fn text_at(
         Some(text) => spelled(alloc, text.as_slice()),
         None => Bytes::copied(alloc, b"."),
     }
+}
+
+/// Puts the text at a place of some values after `out`.
+fn push_text_at(
+    out: &mut Bytes,
+    alloc: Global,
+    texts: &Values<Shared<Bytes>>,
+    place: usize,
+) -> Result<(), AllocError> {
+    let told = text_at(alloc, texts, place)?;
+    push_word(out, &told)
 }
 
 /// A text at each of so many places.
@@ -97,17 +135,27 @@ fn changed(
     Ok(copy)
 }
 
-/// A text at each of so many places, and a copy that gets another at one place: the text there in the copy and in what
-/// was copied, whether both are the same, and whether what was copied is the same as itself.
+/// The text at a place of a copy and of what was copied, whether both are the same, and whether what was copied is the
+/// same as itself.
+fn texts_told(
+    alloc: Global,
+    copy: &Values<Shared<Bytes>>,
+    texts: &Values<Shared<Bytes>>,
+    place: usize,
+) -> Result<Bytes, AllocError> {
+    let mut out = text_at(alloc, copy, place)?;
+    push_text_at(&mut out, alloc, texts, place)?;
+    push_same(&mut out, alloc, copy, texts)?;
+    push_same(&mut out, alloc, texts, texts)?;
+    Ok(out)
+}
+
+/// The same of texts and of a copy that gets another one at a place.
 fn texts_answer(alloc: Global, case: &str) -> Result<Bytes, AllocError> {
     let place = place_at(case, 2);
     let texts = texts_of(alloc, place_at(case, 1), word_at(case, 3))?;
     let copy = changed(alloc, &texts, place, word_at(case, 4))?;
-    let mut out = text_at(alloc, &copy, place)?;
-    push_word(&mut out, &text_at(alloc, &texts, place)?)?;
-    push_word(&mut out, &is_same_told(alloc, &copy, &texts)?)?;
-    push_word(&mut out, &is_same_told(alloc, &texts, &texts)?)?;
-    Ok(out)
+    texts_told(alloc, &copy, &texts, place)
 }
 
 /// The answer of a case.

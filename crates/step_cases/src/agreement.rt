@@ -34,8 +34,8 @@ fn reused(
     old: &Input,
     new: &Input,
 ) -> Result<Option<Outcome>, AllocError> {
-    let left = activate(alloc, style, old, &mut Meter::new())?;
     let reach = reach_of(alloc, style, old)?;
+    let left = activate(alloc, style, old, &mut Meter::new())?;
     if !agrees(style, old, new, &reach) {
         return Ok(None);
     }
@@ -84,11 +84,16 @@ fn told(
     }
 }
 
-/// The answer of a case in its style: of the input of an entry, and of the same but for a change.
+/// The answer of a case in its style: of an input, and of the same but for a change.
+fn shown_beside(alloc: Global, case: &str, style: &Style, old: &Input) -> Result<Bytes, Fault> {
+    let new = input(alloc, word_at(case, 1), word_at(case, 2))?;
+    Ok(told(alloc, word_at(case, 0), style, old, &new)?)
+}
+
+/// The same of the input of an entry.
 fn shown(alloc: Global, case: &str, style: &Style) -> Result<Bytes, Fault> {
     let old = input(alloc, word_at(case, 1), "-")?;
-    let new = input(alloc, word_at(case, 1), word_at(case, 2))?;
-    Ok(told(alloc, word_at(case, 0), style, &old, &new)?)
+    shown_beside(alloc, case, style, &old)
 }
 
 /// The answer of a case: whether an input and a changed one agree, or the variables that the step of the one leaves for

@@ -130,14 +130,21 @@ fn held(alloc: Global, text: &str) -> Result<Held, Fault> {
     }
 }
 
-/// The input of an entry or of none that differs in one thing.
-pub fn input(alloc: Global, entry: &str, change: &str) -> Result<Input, Fault> {
-    let recipe = recipe_of(entry, change)?;
+fn input_of(alloc: Global, recipe: Recipe<'_>) -> Result<Input, Fault> {
+    let preamble = shared(alloc, recipe.preamble)?;
+    let globals = values(alloc, recipe.counts, recipe.all)?;
+    let held = held(alloc, recipe.held)?;
+    let entry = maybe_entry(alloc, recipe)?;
     Ok(Input {
         target: Target::Function(recipe.target),
-        entry: maybe_entry(alloc, recipe)?,
-        globals: values(alloc, recipe.counts, recipe.all)?,
-        held: held(alloc, recipe.held)?,
-        preamble: shared(alloc, recipe.preamble)?,
+        entry,
+        globals,
+        held,
+        preamble,
     })
+}
+
+/// The input of an entry or of none that differs in one thing.
+pub fn input(alloc: Global, entry: &str, change: &str) -> Result<Input, Fault> {
+    input_of(alloc, recipe_of(entry, change)?)
 }

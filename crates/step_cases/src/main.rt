@@ -37,13 +37,18 @@ fn answer_or_fault(alloc: Global, case: &str) -> Result<Bytes, AllocError> {
     }
 }
 
+/// Writes the answer of a case, and a line feed.
+fn write_answer<W: Write>(alloc: Global, out: &mut W, case: &str) -> io::Result<()> {
+    let told = answer_or_fault(alloc, case)?;
+    out.write_all(told.as_slice())?;
+    out.write_all(b"\n")
+}
+
 fn main(rt: HostRuntime) -> io::Result<()> {
     let alloc = rt.alloc();
     let mut out = BufWriter::new(alloc, io::writer(&rt))?;
     for line in BufReader::new(alloc, rt.reader())?.lines(alloc) {
-        let told = answer_or_fault(alloc, line?.as_str())?;
-        out.write_all(told.as_slice())?;
-        out.write_all(b"\n")?;
+        write_answer(alloc, &mut out, line?.as_str())?;
     }
     out.flush()
 }

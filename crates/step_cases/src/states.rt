@@ -73,35 +73,57 @@ fn names(alloc: Global, names: &[&str]) -> Result<Sequence<Bytes>, AllocError> {
     Ok(all)
 }
 
-/// A style with a name of each kind.
-fn style(alloc: Global) -> Result<Style, AllocError> {
+/// The function `f`, which does nothing.
+fn functions(alloc: Global) -> Result<Vec<Function>, AllocError> {
+    let name = Bytes::copied(alloc, b"f")?;
     let mut functions = Vec::new(alloc);
     functions.push(Function {
-        name: Bytes::copied(alloc, b"f")?,
+        name,
         body: Vec::new(alloc),
     })?;
+    Ok(functions)
+}
+
+/// A style with a name of each kind.
+fn style(alloc: Global) -> Result<Style, AllocError> {
+    let fields = names(alloc, &["crossref", "title"])?;
+    let entry_numbers = names(alloc, &["n"])?;
+    let entry_texts = names(alloc, &["sort.key$"])?;
+    let global_numbers = names(alloc, &["entry.max$"])?;
+    let global_texts = names(alloc, &["s"])?;
+    let functions = functions(alloc)?;
     Ok(Style {
-        fields: names(alloc, &["crossref", "title"])?,
-        entry_numbers: names(alloc, &["n"])?,
-        entry_texts: names(alloc, &["sort.key$"])?,
-        global_numbers: names(alloc, &["entry.max$"])?,
-        global_texts: names(alloc, &["s"])?,
+        fields,
+        entry_numbers,
+        entry_texts,
+        global_numbers,
+        global_texts,
         macros: Sequence::new(alloc),
         functions,
         commands: Sequence::new(alloc),
     })
 }
 
+/// A title, and no cross reference.
+fn fields(alloc: Global) -> Result<Shared<SparseTexts>, AllocError> {
+    let title = Shared::<Bytes>::copied(alloc, b"B title")?;
+    let mut fields = SparseTexts::new(alloc, 2);
+    fields.set(1, Some(title))?;
+    Shared::new(alloc, fields)
+}
+
 /// The entry `b`, a book with a title and without a cross reference.
 fn book(alloc: Global, function: Option<usize>) -> Result<Entry, AllocError> {
-    let mut fields = SparseTexts::new(alloc, 2);
-    fields.set(1, Some(Shared::<Bytes>::copied(alloc, b"B title")?))?;
+    let key = Shared::<Bytes>::copied(alloc, b"b")?;
+    let kind = Shared::<Bytes>::copied(alloc, b"book")?;
+    let fields = fields(alloc)?;
+    let variables = Shared::new(alloc, variables(alloc, &[7], "label")?)?;
     Ok(Entry {
-        key: Shared::<Bytes>::copied(alloc, b"b")?,
-        kind: Shared::<Bytes>::copied(alloc, b"book")?,
+        key,
+        kind,
         function,
-        fields: Shared::new(alloc, fields)?,
-        variables: Shared::new(alloc, variables(alloc, &[7], "label")?)?,
+        fields,
+        variables,
     })
 }
 

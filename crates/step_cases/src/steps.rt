@@ -54,6 +54,20 @@ fn append_said(out: &mut Bytes, outcome: &Outcome) -> Result<(), AllocError> {
     Ok(())
 }
 
+/// Puts after `out` how often a step calls the built-in functions that a case names after its entry.
+fn append_calls(
+    out: &mut Bytes,
+    alloc: Global,
+    case: &str,
+    outcome: &Outcome,
+) -> Result<(), Fault> {
+    for name in part_at(case, 0).split_whitespace().skip(2) {
+        let calls = outcome.calls[builtin(name)?.place()];
+        out.append(format!(in alloc; " {calls}")?.as_bytes())?;
+    }
+    Ok(())
+}
+
 /// The ticks of a step, `key` where it leaves an entry's variables, what it says, and how often it calls the built-in
 /// functions that a case names after its entry.
 fn shown(alloc: Global, case: &str, outcome: &Outcome, ticks: u128) -> Result<Bytes, Fault> {
@@ -64,29 +78,36 @@ fn shown(alloc: Global, case: &str, outcome: &Outcome, ticks: u128) -> Result<By
     let mut out = Bytes::copied(alloc, format!(in alloc; "{ticks} {owner} \"")?.as_bytes())?;
     append_said(&mut out, outcome)?;
     out.append(b"\"")?;
-    for name in part_at(case, 0).split_whitespace().skip(2) {
-        let calls = outcome.calls[builtin(name)?.place()];
-        out.append(format!(in alloc; " {calls}")?.as_bytes())?;
-    }
+    append_calls(&mut out, alloc, case, outcome)?;
     Ok(out)
+}
+
+/// What a step left or said.
+fn left_told(alloc: Global, case: &str, outcome: &Outcome, ticks: u128) -> Result<Bytes, Fault> {
+    match word_at(case, 0) {
+        "values" => Ok(shown_variables(alloc, outcome)?),
+        _ => shown(alloc, case, outcome, ticks),
+    }
 }
 
 /// What a step leaves or says.
 fn told(alloc: Global, case: &str, style: &Style, input: &Input) -> Result<Bytes, Fault> {
     let (outcome, ticks) = step(alloc, style, input)?;
+    left_told(alloc, case, &outcome, ticks)
+}
+
+/// The answer of a case in its style, for an input.
+fn answer_for(alloc: Global, case: &str, style: &Style, input: &Input) -> Result<Bytes, Fault> {
     match word_at(case, 0) {
-        "values" => Ok(shown_variables(alloc, &outcome)?),
-        _ => shown(alloc, case, &outcome, ticks),
+        "twice" => Ok(meter_after_two(alloc, style, input)?),
+        _ => told(alloc, case, style, input),
     }
 }
 
 /// The answer of a case in its style.
 fn answer_in(alloc: Global, case: &str, style: &Style) -> Result<Bytes, Fault> {
     let input = input(alloc, word_at(case, 1), "-")?;
-    match word_at(case, 0) {
-        "twice" => Ok(meter_after_two(alloc, style, &input)?),
-        _ => told(alloc, case, style, &input),
-    }
+    answer_for(alloc, case, style, &input)
 }
 
 /// The answer of a case: what a step leaves or says, or the meter after two.

@@ -2,7 +2,7 @@
 
 use crate::spelling::{Fault, word_at};
 use crate::states::{stack, state};
-use bt_actions::{State, take_choice, take_number, take_two_codes};
+use bt_actions::{State, Value, take_choice, take_number, take_two_codes};
 use bt_style::Builtin;
 use bt_text::Bytes;
 use std::alloc::{AllocError, Global};
@@ -33,8 +33,14 @@ fn taken(alloc: Global, state: &mut State, kind: &str) -> Result<Bytes, AllocErr
     Bytes::copied(alloc, format!(in alloc; "{taken} {errors}")?.as_bytes())
 }
 
+/// What is taken from a stack.
+fn taken_from(alloc: Global, stack: Vec<Value<'_>>, kind: &str) -> Result<Bytes, AllocError> {
+    let mut state = state(alloc, None, stack)?;
+    taken(alloc, &mut state, kind)
+}
+
 /// The answer of a case: what is taken from the stack that it spells.
 pub fn answer(alloc: Global, case: &str) -> Result<Bytes, Fault> {
-    let mut state = state(alloc, None, stack(alloc, case, 1)?)?;
-    Ok(taken(alloc, &mut state, word_at(case, 0))?)
+    let stack = stack(alloc, case, 1)?;
+    Ok(taken_from(alloc, stack, word_at(case, 0))?)
 }
