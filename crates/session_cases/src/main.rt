@@ -1,227 +1,83 @@
-//! Shows worked examples of sessions, by the word `worked`. By any other word, which is a seed, it makes random edits of
-//! a session, and compares it after each with a new session that is given the present texts; a word `N:SEED` makes N
-//! edits.
+//! Tests of what stands on a session, each by its word:
+//!
+//! - `worked` shows worked examples of sessions;
+//! - `scripts` answers the script of standard input: runs of the command loop, a line `jobs`, and cases of the one-shot
+//!   form;
+//! - `calls` makes each call of `refused`, where no memory is refused;
+//! - any other word is a seed, by which random edits are made, or `N:SEED` for N of them.
+//!
+//! By `refused GROUP.NAME [PART]` it makes one call, for memory that is refused by others, and tells by its exit status
+//! what came of it; `refused names` shows the names of all calls.
 #![tactic(auto)]
 
 mod dice;
 mod edits;
+mod jobs;
+mod loops;
+mod refused;
 mod texts;
+mod trial;
 mod worked;
 
-use crate::dice::Dice;
-use crate::edits::{Change, next_change};
-use crate::texts::NAMES;
-use bibtex::{Bytes, Edit, Refusal, Report, Session};
-use std::alloc::Global;
+use anyhow::Result;
 use std::env;
+use std::io::Read;
 use std::process::ExitCode;
 
-/// How many edits a seed makes where its word doesn't say so.
-const EDITS: u32 = 150;
-
-/// The root name and min-crossrefs of a session.
-#[derive(Clone, Copy)]
-struct Setting {
-    root: &'static str,
-    min: u32,
-}
-
-/// A new session. What is proved of it isn't used here, and would be dear to carry.
-fn begin(alloc: Global, setting: Setting) -> Result<Session, Refusal> {
-    Session::new(alloc, setting.root.as_bytes(), setting.min)
-}
-
-/// Makes an edit, of which the same holds.
-fn make(session: &mut Session, edit: Edit<'_>) -> Result<Report, Refusal> {
-    session.edit(edit)
-}
-
-/// Gives a new session the present texts of another one; what its last edit reported, if there was one.
-fn give_texts(anew: &mut Session, session: &Session) -> Result<Option<Report>, Refusal> {
-    let mut last = None;
-    for name in NAMES {
-        if let Some(text) = session.file(name.as_bytes()) {
-            last = Some(make(anew, Edit::Write(name.as_bytes(), text))?);
-        }
-    }
-    Ok(last)
-}
-
-/// How many steps a report has.
-fn steps(report: Option<Report>) -> u64 {
-    match report {
-        Some(report) => report.ran.saturating_add(report.reused),
-        None => 0,
-    }
-}
-
-/// What two sessions answer differently, if anything.
-fn difference(session: &Session, anew: &Session) -> Option<&'static str> {
-    if session.bbl() != anew.bbl() {
-        return Some("bbl");
-    }
-    if session.blg() != anew.blg() {
-        return Some("blg");
-    }
-    if session.terse() != anew.terse() {
-        return Some("terse");
-    }
-    if session.status() != anew.status() {
-        return Some("status");
-    }
-    if session.wanted().len() != anew.wanted().len() {
-        return Some("wanted");
-    }
-    for (one, other) in session.wanted().iter().zip(anew.wanted()) {
-        if one.as_slice() != other.as_slice() {
-            return Some("wanted");
-        }
-    }
-    None
-}
-
-/// What came of some edits.
-#[derive(Clone, Copy)]
-struct Tally {
-    accepted: u32,
-    reused: u64,
-}
-
-/// A session under random edits.
-#[derive(Drop)]
-struct Trial {
-    dice: Dice,
-    session: Session,
-    setting: Setting,
-    tally: Tally,
-}
-
-impl Trial {
-    /// A new session, and the edits that a seed gives.
-    fn new(alloc: Global, seed: u64) -> Result<Trial, Refusal> {
-        let setting = Setting {
-            root: "job",
-            min: 2,
-        };
-        Ok(Trial {
-            dice: Dice::new(seed),
-            session: begin(alloc, setting)?,
-            setting,
-            tally: Tally {
-                accepted: 0,
-                reused: 0,
-            },
-        })
-    }
-
-    /// Makes the next edit, and gives its report, if it isn't refused.
-    fn edit(&mut self, alloc: Global, number: u32) -> Result<Option<Report>, Refusal> {
-        let (change, bytes) = next_change(alloc, &mut self.dice, &self.session, number)?;
-        let Ok(report) = make(&mut self.session, change.with(bytes.as_slice())) else {
-            return Ok(None);
-        };
-        match change {
-            Change::Root(root) => self.setting.root = root,
-            Change::MinCrossrefs(min) => self.setting.min = min,
-            Change::Write(_) | Change::Splice(_, _, _) | Change::Remove(_) => {}
-        }
-        self.tally.accepted = self.tally.accepted.saturating_add(1);
-        self.tally.reused = self.tally.reused.saturating_add(report.reused);
-        Ok(Some(report))
-    }
-
-    /// What a new session, which is given the present texts, answers differently from this one, whose last report is
-    /// given.
-    fn difference_from(
-        &self,
-        anew: &mut Session,
-        report: Report,
-    ) -> Result<Option<&'static str>, Refusal> {
-        let last = give_texts(anew, &self.session)?;
-        if last.is_some() && steps(Some(report)) != steps(last) {
-            return Ok(Some("the number of steps"));
-        }
-        Ok(difference(&self.session, anew))
-    }
-
-    /// What a new session with the present texts answers differently from this one, whose last report is given.
-    fn difference(&self, alloc: Global, report: Report) -> Result<Option<&'static str>, Refusal> {
-        let mut anew = begin(alloc, self.setting)?;
-        self.difference_from(&mut anew, report)
-    }
-
-    /// Makes the next edit. The answer is what differs after it, if anything does.
-    fn try_edit(&mut self, alloc: Global, number: u32) -> Result<Option<&'static str>, Refusal> {
-        match self.edit(alloc, number)? {
-            Some(report) => self.difference(alloc, report),
-            None => Ok(None),
-        }
-    }
-
-    /// Makes edits from the seed, and says what came of them. The answer is false where something differs after one of
-    /// them.
-    fn make_edits(&mut self, rt: &HostRuntime, seed: u64, edits: u32) -> anyhow::Result<bool> {
-        for number in 0..edits {
-            if let Some(what) = self.try_edit(rt.alloc(), number)? {
-                println!(rt;
-                    "seed {seed}: after edit {number} {what} differs from a new session's"
-                )?;
-                return Ok(false);
-            }
-        }
-        println!(rt;
-            "seed {seed}: {} of {edits} edits accepted, {} steps reused, as from scratch",
-            self.tally.accepted, self.tally.reused
-        )?;
-        Ok(true)
-    }
-}
-
-/// Makes edits of a new session from a seed. The answer is false where something differs after one of them.
-fn try_seed(rt: &HostRuntime, seed: u64, edits: u32) -> anyhow::Result<bool> {
-    let mut trial = Trial::new(rt.alloc(), seed)?;
-    trial.make_edits(rt, seed, edits)
-}
-
-/// What the worked examples show, over a new session.
-fn examples(alloc: Global) -> Result<Bytes, Refusal> {
-    let setting = Setting {
-        root: "job",
-        min: 2,
-    };
-    let mut session = begin(alloc, setting)?;
-    worked::examples(alloc, &mut session)
-}
-
-/// Shows the worked examples.
-fn show_examples(rt: &HostRuntime) -> anyhow::Result<()> {
-    let shown = examples(rt.alloc())?;
-    print!(rt; "{}", str::from_utf8(shown.as_slice()).unwrap_or("no text"))?;
+/// Answers the script of standard input, and says how much of it is no script.
+fn answer_script(rt: &HostRuntime) -> Result<()> {
+    let mut script = Vec::new(rt.alloc());
+    rt.stdin().read_to_end(&mut script)?;
+    let rest = loops::answer_all(rt, script.as_slice())?;
+    let rest = jobs::answer_all(rt, rest.strip_prefix(b"jobs\n").unwrap_or(rest))?;
+    println!(rt; "{} bytes left", rest.len())?;
     Ok(())
 }
 
-/// The seed and the number of edits of a word.
-fn parts_of(word: &str) -> Option<(u64, u32)> {
-    match word.split_once(':') {
-        Some((edits, seed)) => Some((seed.parse::<u64>().ok()?, edits.parse::<u32>().ok()?)),
-        None => Some((word.parse::<u64>().ok()?, EDITS)),
-    }
+/// Makes all calls, and says whether each gave the right answer.
+fn make_calls(rt: &HostRuntime) -> Result<bool> {
+    let are_right = refused::all_are_right(rt.alloc())?;
+    println!(rt; "calls: {}", if are_right { "right" } else { "wrong" })?;
+    Ok(are_right)
 }
 
-fn main(rt: HostRuntime) -> anyhow::Result<ExitCode> {
-    let words: Vec<String> = env::args(&rt)?.collect(rt.alloc())?;
-    for word in words.iter().skip(1) {
-        if word.as_str() == "worked" {
-            show_examples(&rt)?;
-            continue;
-        }
-        let Some((seed, edits)) = parts_of(word.as_str()) else {
-            println!(rt; "{word} is no seed")?;
-            return Ok(ExitCode::FAILURE);
-        };
-        if !try_seed(&rt, seed, edits)? {
+/// Does what a word says. The answer is false where something isn't as it must be.
+fn answer(rt: &HostRuntime, word: &str) -> Result<bool> {
+    match word {
+        "worked" => worked::show_examples(rt)?,
+        "scripts" => answer_script(rt)?,
+        "calls" => return make_calls(rt),
+        _ => return trial::try_word(rt, word),
+    }
+    Ok(true)
+}
+
+/// Does what words say, up to the first that shows something that isn't as it must be.
+fn answer_all(rt: &HostRuntime, words: &[String]) -> Result<ExitCode> {
+    for word in words {
+        if !answer(rt, word.as_str())? {
             return Ok(ExitCode::FAILURE);
         }
     }
     Ok(ExitCode::SUCCESS)
+}
+
+/// Makes the call that words name, or shows the names of all.
+fn call(rt: &HostRuntime, words: &[String]) -> Result<ExitCode> {
+    match words.first() {
+        Some(word) if word.as_str() == "names" => {
+            refused::show_names(rt)?;
+            Ok(ExitCode::SUCCESS)
+        }
+        _ => Ok(refused::status_of(rt.alloc(), words)),
+    }
+}
+
+fn main(rt: HostRuntime) -> Result<ExitCode> {
+    let words: Vec<String> = env::args(&rt)?.collect(rt.alloc())?;
+    match words.as_slice() {
+        [_, first, rest @ ..] if first.as_str() == "refused" => call(&rt, rest),
+        [_, rest @ ..] => answer_all(&rt, rest),
+        [] => Ok(ExitCode::SUCCESS),
+    }
 }

@@ -155,9 +155,27 @@ fn logged(alloc: Global, out: &mut Bytes, session: &mut Session) -> Result<(), R
 }
 
 /// What all examples show.
-pub fn examples(alloc: Global, session: &mut Session) -> Result<Bytes, Refusal> {
+fn examples_over(alloc: Global, session: &mut Session) -> Result<Bytes, Refusal> {
     let mut out = Bytes::new(alloc);
     edited(alloc, &mut out, session)?;
     logged(alloc, &mut out, session)?;
     Ok(out)
+}
+
+/// A new session. What is proved of it isn't used here, and would be dear to carry.
+fn begin(alloc: Global) -> Result<Session, Refusal> {
+    Session::new(alloc, b"job", 2)
+}
+
+/// What the worked examples show, over a new session.
+fn examples(alloc: Global) -> Result<Bytes, Refusal> {
+    let mut session = begin(alloc)?;
+    examples_over(alloc, &mut session)
+}
+
+/// Shows the worked examples.
+pub fn show_examples(rt: &HostRuntime) -> anyhow::Result<()> {
+    let shown = examples(rt.alloc())?;
+    print!(rt; "{}", str::from_utf8(shown.as_slice()).unwrap_or("no text"))?;
+    Ok(())
 }

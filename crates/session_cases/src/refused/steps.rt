@@ -1,6 +1,6 @@
 //! A step of a style, and what it may come to.
 
-use crate::attempt::Case;
+use crate::refused::attempt::Case;
 use bt_machine::{Entry, Input, Meter, Outcome, Variables, activate, agrees};
 use bt_style::{Reach, Style, Target, read_style};
 use bt_text::{Bytes, Held, Shared, SparseTexts, Values};
@@ -24,22 +24,22 @@ fn text(alloc: Global, bytes: &[u8]) -> Result<Shared<Bytes>, AllocError> {
     Shared::<Bytes>::copied(alloc, bytes)
 }
 
-/// Three numbers and two texts.
-fn variables(alloc: Global) -> Result<Shared<Variables>, AllocError> {
+fn numbers(alloc: Global) -> Result<Values<i32>, AllocError> {
     let mut numbers = Vec::new(alloc);
     for _ in 0..3 {
         numbers.push(0)?;
     }
+    Values::from_vec(alloc, numbers)
+}
+
+/// Three numbers and two texts.
+fn variables(alloc: Global) -> Result<Shared<Variables>, AllocError> {
     let mut texts = Vec::new(alloc);
     texts.push(text(alloc, b"")?)?;
     texts.push(text(alloc, b"")?)?;
-    Shared::new(
-        alloc,
-        Variables {
-            numbers: Values::from_vec(alloc, numbers)?,
-            texts: Values::from_vec(alloc, texts)?,
-        },
-    )
+    let texts = Values::from_vec(alloc, texts)?;
+    let numbers = numbers(alloc)?;
+    Shared::new(alloc, Variables { numbers, texts })
 }
 
 /// A title, and no `crossref`.
@@ -60,28 +60,68 @@ fn entry(alloc: Global) -> Result<Entry, AllocError> {
 }
 
 fn input(alloc: Global) -> Result<Input, AllocError> {
+    let preamble = text(alloc, b"pre")?;
+    let globals = variables(alloc)?;
+    let entry = entry(alloc)?;
     Ok(Input {
         target: Target::Function(0),
-        entry: Some(entry(alloc)?),
-        globals: variables(alloc)?,
+        entry: Some(entry),
+        globals,
         held: Held::new(alloc),
-        preamble: text(alloc, b"pre")?,
+        preamble,
     })
+}
+
+fn style(alloc: Global) -> Result<Style, AllocError> {
+    match read_style(alloc, STYLE) {
+        Ok(style) => Ok(style),
+        Err(_) => Err(AllocError),
+    }
+}
+
+/// What is reached, where the group wants it.
+fn reach(alloc: Global, style: &Style, group: &str) -> Result<Option<Reach>, AllocError> {
+    if group != "reached" {
+        return Ok(None);
+    }
+    let reach = style.reach(alloc, Target::Function(0), None)?;
+    Ok(Some(reach))
+}
+
+impl Step {
+    /// Whether the input agrees with itself, where it is known what is reached.
+    fn agree(&mut self) {
+        if let Some(reach) = &self.reach {
+            self.agrees = Some(agrees(&self.style, &self.input, &self.input, reach));
+        }
+    }
+
+    /// Works out what is reached.
+    fn work_out(&mut self, alloc: Global) -> Result<(), AllocError> {
+        let reach = self.style.reach(alloc, Target::Function(0), None)?;
+        self.reach = Some(reach);
+        Ok(())
+    }
+
+    /// Carries the step out.
+    fn carry_out(&mut self, alloc: Global) -> Result<(), AllocError> {
+        if self.meter.value() > 1_000_000 {
+            return Err(AllocError);
+        }
+        let outcome = activate(alloc, &self.style, &self.input, &mut self.meter)?;
+        self.outcome = Some(outcome);
+        Ok(())
+    }
 }
 
 impl Case for Step {
     fn begun(alloc: Global, group: &str) -> Result<Self, AllocError> {
-        let Ok(style) = read_style(alloc, STYLE) else {
-            return Err(AllocError);
-        };
-        let reach = if group == "reached" {
-            Some(style.reach(alloc, Target::Function(0), None)?)
-        } else {
-            None
-        };
+        let input = input(alloc)?;
+        let style = style(alloc)?;
+        let reach = reach(alloc, &style, group)?;
         Ok(Step {
             style,
-            input: input(alloc)?,
+            input,
             meter: Meter::new(),
             reach,
             outcome: None,
@@ -92,21 +132,12 @@ impl Case for Step {
     fn call(&mut self, alloc: Global, name: &str) -> Result<(), AllocError> {
         match name {
             "agrees" => {
-                let (style, input) = (&self.style, &self.input);
-                if let Some(reach) = &self.reach {
-                    self.agrees = Some(agrees(style, input, input, reach));
-                }
+                self.agree();
+                Ok(())
             }
-            "reach" => self.reach = Some(self.style.reach(alloc, Target::Function(0), None)?),
-            _ => {
-                if self.meter.value() > 1_000_000 {
-                    return Err(AllocError);
-                }
-                let outcome = activate(alloc, &self.style, &self.input, &mut self.meter)?;
-                self.outcome = Some(outcome);
-            }
+            "reach" => self.work_out(alloc),
+            _ => self.carry_out(alloc),
         }
-        Ok(())
     }
 
     fn seen(&self, alloc: Global) -> Result<Bytes, AllocError> {

@@ -1,11 +1,6 @@
-//! Makes calls of the libraries where one request for memory may be refused, and tells by its exit status what came of
-//! it. Its words are `GROUP.NAME`, a case, and how much of it is run: `setup` only makes what its call is made on,
-//! `call` then makes the call, and without a word what comes of it is judged too. `names` writes the names of all
-//! cases. With no word all of them are run.
-//!
-//! 0: the call was not refused memory. 10: it was, what it was made on was as before, and it gave the right answer when
-//! it was made once more. 11: something was lost. 12: a request outside of the call was refused.
-#![tactic(auto)]
+//! Calls of the libraries where one request for memory may be refused, and what came of them. The words are
+//! `GROUP.NAME`, a case, and how much of it is run: `setup` only makes what its call is made on, `call` then makes the
+//! call, and without a word what comes of it is judged too.
 
 mod attempt;
 mod databases;
@@ -14,14 +9,12 @@ mod sessions;
 mod steps;
 mod texts;
 
-use crate::attempt::{Part, Verdict, verdict_on};
-use crate::databases::Rereading;
-use crate::growing::Growing;
-use crate::sessions::{Beginning, Edited};
-use crate::steps::Step;
-use anyhow::Result;
+use crate::refused::attempt::{Part, Verdict, verdict_on};
+use crate::refused::databases::Rereading;
+use crate::refused::growing::Growing;
+use crate::refused::sessions::{Beginning, Edited};
+use crate::refused::steps::Step;
 use std::alloc::{AllocError, Global};
-use std::env;
 use std::process::ExitCode;
 
 /// All cases, by groups. Those of `empty`, `plain`, `parents` and `wrong` are calls of a session in such a state.
@@ -103,15 +96,14 @@ fn verdict_of(alloc: Global, case: &str, part: Part) -> Result<Verdict, AllocErr
     }
 }
 
-/// What comes of all cases: of the first in which memory is refused or something is lost.
-fn verdict_of_all(alloc: Global) -> Result<Verdict, AllocError> {
+/// Whether each call gives the right answer, and none is refused memory.
+pub fn all_are_right(alloc: Global) -> Result<bool, AllocError> {
     for case in CASES {
-        let told = verdict_of(alloc, case, Part::Whole)?;
-        if told != Verdict::NotRefused {
-            return Ok(told);
+        if verdict_of(alloc, case, Part::Whole)? != Verdict::NotRefused {
+            return Ok(false);
         }
     }
-    Ok(Verdict::NotRefused)
+    Ok(true)
 }
 
 /// The part that a word names.
@@ -126,27 +118,28 @@ fn part_of(word: &str) -> Part {
 /// What comes of the case and the part that the words name.
 fn told(alloc: Global, words: &[String]) -> Result<Verdict, AllocError> {
     match words {
-        [_, case, part] => verdict_of(alloc, case.as_str(), part_of(part.as_str())),
-        [_, case] => verdict_of(alloc, case.as_str(), Part::Whole),
-        _ => verdict_of_all(alloc),
+        [case, part] => verdict_of(alloc, case.as_str(), part_of(part.as_str())),
+        [case] => verdict_of(alloc, case.as_str(), Part::Whole),
+        _ => Ok(Verdict::Lost),
     }
 }
 
-fn main(rt: HostRuntime) -> Result<ExitCode> {
-    let alloc = rt.alloc();
-    let words: Vec<String> = env::args(&rt)?.collect(alloc)?;
-    if let [_, word] = words.as_slice()
-        && word.as_str() == "names"
-    {
-        for case in CASES {
-            println!(rt; "{case}")?;
-        }
-        return Ok(ExitCode::SUCCESS);
+/// The names of all cases, a line each.
+pub fn show_names(rt: &HostRuntime) -> anyhow::Result<()> {
+    for case in CASES {
+        println!(rt; "{case}")?;
     }
-    Ok(match told(alloc, words.as_slice()) {
+    Ok(())
+}
+
+/// What comes of the case that the words name, as an exit status. 0: its call was not refused memory. 10: it was, what
+/// it was made on was as before, and it gave the right answer when it was made once more. 11: something was lost. 12: a
+/// request outside of the call was refused.
+pub fn status_of(alloc: Global, words: &[String]) -> ExitCode {
+    match told(alloc, words) {
         Ok(Verdict::NotRefused) => ExitCode::SUCCESS,
         Ok(Verdict::Kept) => ExitCode::from(10),
         Ok(Verdict::Lost) => ExitCode::from(11),
         Err(AllocError) => ExitCode::from(12),
-    })
+    }
 }

@@ -4,7 +4,7 @@ ghost use Rattle.std.specs.Prelude.{◌≡◌, ◌+◌, ◌<◌, length, IfOk};
 ghost use Rattle.bt_bib.specs.BibText.{pieces_of};
 ghost use Rattle.bt_bib.specs.Splice.{IsSplice};
 
-use crate::attempt::Case;
+use crate::refused::attempt::Case;
 use bt_bib::{KeptItems, ReadMeter, Splice};
 use bt_text::Bytes;
 use std::alloc::{AllocError, Global};

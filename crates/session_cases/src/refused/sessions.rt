@@ -1,7 +1,7 @@
 //! A session: its beginning, its edits, and what it is asked.
 
-use crate::attempt::Case;
-use crate::texts::{EDITS, Text, texts_of};
+use crate::refused::attempt::Case;
+use crate::refused::texts::{EDITS, Text, texts_of};
 use bibtex::{Bytes, Change, Draft, Edit, Refusal, Report, Session, edit_all};
 use bt_log::{log_bytes, status, terse_bytes};
 use std::alloc::{AllocError, Global};
@@ -85,16 +85,22 @@ fn shown(alloc: Global, session: &Session) -> Result<Bytes, AllocError> {
     Ok(seen)
 }
 
-/// A session of these texts, which is run once.
-fn begun(alloc: Global, texts: &[Text]) -> Result<Session, AllocError> {
-    let Ok(mut draft) = Draft::new(alloc, b"job", 2) else {
-        return Err(AllocError);
-    };
+/// Gives a draft these texts.
+fn fill(draft: &mut Draft, texts: &[Text]) -> Result<(), AllocError> {
     for (name, text) in texts {
         if draft.edit(Edit::Write(name, text)).is_err() {
             return Err(AllocError);
         }
     }
+    Ok(())
+}
+
+/// A session of these texts, which is run once.
+fn begun(alloc: Global, texts: &[Text]) -> Result<Session, AllocError> {
+    let Ok(mut draft) = Draft::new(alloc, b"job", 2) else {
+        return Err(AllocError);
+    };
+    fill(&mut draft, texts)?;
     Session::of(draft)
 }
 

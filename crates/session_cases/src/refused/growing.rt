@@ -1,6 +1,6 @@
 //! Texts, lists, tables of names, and the held line: what grows.
 
-use crate::attempt::Case;
+use crate::refused::attempt::Case;
 use bt_text::{ByName, Bytes, Held, HeldFault, NameList, Sequence, Shared, SparseTexts};
 use std::alloc::{AllocError, Global};
 
@@ -68,11 +68,39 @@ fn texts(alloc: Global) -> Result<SparseTexts, AllocError> {
     Ok(texts)
 }
 
+/// Gives another place a text.
+fn set(alloc: Global, texts: &mut SparseTexts) -> Result<(), AllocError> {
+    let line = Shared::<Bytes>::copied(alloc, LINE)?;
+    texts.set(9, Some(line))
+}
+
 /// A line that holds a word.
 fn held(alloc: Global) -> Result<Held, AllocError> {
     let mut held = Held::new(alloc);
     felt(held.write(alloc, b"held ", &mut Sequence::new(alloc)))?;
     Ok(held)
+}
+
+/// How a name is spelled in a list.
+fn found_name(alloc: Global, names: &NameList) -> Result<Bytes, AllocError> {
+    match names.find(alloc, b"NAME 1")? {
+        Some(name) => Bytes::copied(alloc, name.as_slice()),
+        None => Bytes::copied(alloc, b"none"),
+    }
+}
+
+/// Whether a name has a value.
+fn found_value(alloc: Global, values: &ByName<usize>) -> Result<Bytes, AllocError> {
+    match values.get(alloc, b"C")? {
+        Some(_) => Bytes::copied(alloc, b"there"),
+        None => Bytes::copied(alloc, b"none"),
+    }
+}
+
+/// A copy of what a line holds.
+fn copied(alloc: Global, held: &Held) -> Result<Bytes, AllocError> {
+    let copy = held.copy(alloc)?;
+    Bytes::copied(alloc, copy.bytes())
 }
 
 impl Growing {
@@ -81,34 +109,42 @@ impl Growing {
         match name {
             "copy" => Bytes::copied(alloc, LINE),
             "join" => Bytes::of(alloc, &[LINE, b" and ", LINE]),
-            "copy-held" => Bytes::copied(alloc, self.held.copy(alloc)?.bytes()),
-            "find-name" => Bytes::copied(
-                alloc,
-                match self.names.find(alloc, b"NAME 1")? {
-                    Some(name) => name.as_slice(),
-                    None => b"none",
-                },
-            ),
-            _ => Bytes::copied(
-                alloc,
-                match self.values.get(alloc, b"C")? {
-                    Some(_) => b"there",
-                    None => b"none",
-                },
-            ),
+            "copy-held" => copied(alloc, &self.held),
+            "find-name" => found_name(alloc, &self.names),
+            _ => found_value(alloc, &self.values),
+        }
+    }
+
+    /// Makes those calls that change names, or give a text.
+    fn call_on_names(&mut self, alloc: Global, name: &str) -> Result<(), AllocError> {
+        match name {
+            "push-name" => push_name(alloc, &mut self.names, LINE),
+            "insert" => self.values.insert(alloc, LINE, 7),
+            "make-room" => self.values.make_room(),
+            _ => {
+                self.found = Some(self.given(alloc, name)?);
+                Ok(())
+            }
         }
     }
 }
 
 impl Case for Growing {
     fn begun(alloc: Global, _group: &str) -> Result<Self, AllocError> {
+        // The parts with the largest types come last: fewer requests for memory can fail where they are there.
+        let text = Bytes::copied(alloc, b"text")?;
+        let list = listed(alloc, 4)?;
+        let held = held(alloc)?;
+        let texts = texts(alloc)?;
+        let values = values(alloc)?;
+        let names = names(alloc)?;
         Ok(Growing {
-            text: Bytes::copied(alloc, b"text")?,
-            list: listed(alloc, 4)?,
-            names: names(alloc)?,
-            values: values(alloc)?,
-            texts: texts(alloc)?,
-            held: held(alloc)?,
+            text,
+            list,
+            names,
+            values,
+            texts,
+            held,
             lines: Sequence::new(alloc),
             found: None,
         })
@@ -119,19 +155,11 @@ impl Case for Growing {
             "append" => self.text.append(LINE),
             "push" => Ok(self.list.push(Bytes::new(alloc))?),
             "append-list" => self.list.append(listed(alloc, 5)?),
-            "push-name" => push_name(alloc, &mut self.names, LINE),
-            "insert" => self.values.insert(alloc, LINE, 7),
-            "make-room" => self.values.make_room(),
-            "set" => self
-                .texts
-                .set(9, Some(Shared::<Bytes>::copied(alloc, LINE)?)),
+            "set" => set(alloc, &mut self.texts),
             "write" => felt(self.held.write(alloc, LINE, &mut self.lines)),
             "write-a-word" => felt(self.held.write(alloc, b"word", &mut self.lines)),
             "newline" => felt(self.held.newline(alloc, &mut self.lines)),
-            _ => {
-                self.found = Some(self.given(alloc, name)?);
-                Ok(())
-            }
+            _ => self.call_on_names(alloc, name),
         }
     }
 

@@ -73,6 +73,24 @@ fn run_job<F: Folder, O: Sink, E: Sink>(
     one_shot(alloc, options, folder, out, err)
 }
 
+/// Tells how a job ended, and all that it read and wrote.
+fn tell_ended(
+    rt: &HostRuntime,
+    status: u8,
+    folder: &Memory<'_>,
+    out: &[u8],
+    err: &[u8],
+) -> Result<()> {
+    println!(rt; "exit {status}")?;
+    tell_bytes(rt, "read", folder.read_lines())?;
+    for file in folder.written() {
+        let name = str::from_utf8(file.name.as_slice()).unwrap_or("no text");
+        tell_bytes(rt, name, file.bytes.as_slice())?;
+    }
+    tell_bytes(rt, "out", out)?;
+    tell_bytes(rt, "err", err)
+}
+
 /// Runs a job, and tells all that it read and wrote.
 fn run<'a>(
     rt: &HostRuntime,
@@ -88,14 +106,7 @@ fn run<'a>(
     let mut out = Taker::new(alloc, Limits::writes_up_to(room.0), &handed_on);
     let mut err = Taker::new(alloc, Limits::writes_up_to(room.1), &handed_on);
     let status = run_job(alloc, options, &mut out, &mut err, folder)?;
-    println!(rt; "exit {status}")?;
-    tell_bytes(rt, "read", folder.read_lines())?;
-    for file in folder.written() {
-        let name = str::from_utf8(file.name.as_slice()).unwrap_or("no text");
-        tell_bytes(rt, name, file.bytes.as_slice())?;
-    }
-    tell_bytes(rt, "out", out.bytes())?;
-    tell_bytes(rt, "err", err.bytes())
+    tell_ended(rt, status, folder, out.bytes(), err.bytes())
 }
 
 /// Runs the job that words ask for, and tells all that it read and wrote.

@@ -1,11 +1,10 @@
-//! Runs the command loop over sources and sinks that fail, or move few bytes at a time, and tells what came of it.
-#![tactic(auto)]
+//! Runs of the command loop over sources and sinks that fail, or move few bytes at a time, and what came of each.
 
 mod script;
 
 ghost use Rattle.std.specs.Prelude.{◌≡◌, ◌<◌, ◌-◌, ◌^◌};
 
-use crate::script::{Step, first_step};
+use crate::loops::script::{Step, first_step};
 use anyhow::Result;
 use bibtex::{Refusal, Session};
 use bt_serve::{ServeFault, serve};
@@ -13,13 +12,12 @@ use bt_streams::{Sink, Source, StreamFailed};
 use fakes::{Giver, Limits, Taker};
 use std::alloc::{AllocError, Global};
 use std::cell::Cell;
-use std::io::Read;
 
 /// The names of which it is said whether their files are there.
 const NAMES: [&str; 4] = ["job.aux", "s.bst", "x.bib", "y.bib"];
 
 /// Answers the commands of a source, of any kind: what is proved of that isn't used here, and would be dear to carry.
-fn answer_all<S: Source, K: Sink>(
+fn answer_input<S: Source, K: Sink>(
     alloc: Global,
     source: &mut S,
     sink: &mut K,
@@ -65,7 +63,7 @@ fn answer(rt: &HostRuntime, title: &str, input: &[u8], limits: Limits<'_>) -> Re
     let handed_on = Cell::new(0);
     let mut source = Giver::new(alloc, input, limits, &handed_on);
     let mut sink = Taker::new(alloc, limits, &handed_on);
-    let ended = answer_all(alloc, &mut source, &mut sink, &mut session);
+    let ended = answer_input(alloc, &mut source, &mut sink, &mut session);
     tell(rt, title, ended, &session, &source, &sink)
 }
 
@@ -186,12 +184,10 @@ impl Case {
     }
 }
 
-fn main(rt: HostRuntime) -> Result<()> {
-    let alloc = rt.alloc();
-    let mut script = Vec::new(alloc);
-    rt.stdin().read_to_end(&mut script)?;
-    let mut rest = script.as_slice();
-    let mut case = Case::new(alloc);
+/// Answers the runs of a script up to its first line that is no step of one, and gives the script from there on.
+pub fn answer_all<'a>(rt: &HostRuntime, script: &'a [u8]) -> Result<&'a [u8]> {
+    let mut rest = script;
+    let mut case = Case::new(rt.alloc());
     for _ in 0..u32::MAX {
         let Some((step, behind)) = first_step(rest) else {
             break;
@@ -199,12 +195,11 @@ fn main(rt: HostRuntime) -> Result<()> {
         match step {
             Step::Case(name) => {
                 println!(rt; "case {name}")?;
-                case = Case::new(alloc);
+                case = Case::new(rt.alloc());
             }
-            _ => case.take(&rt, step)?,
+            _ => case.take(rt, step)?,
         }
         rest = behind;
     }
-    println!(rt; "{} bytes left", rest.len())?;
-    Ok(())
+    Ok(rest)
 }

@@ -1,15 +1,13 @@
-//! Runs the command line and the one-shot form on cases, over a folder in memory, and tells what came of each.
-#![tactic(auto)]
+//! Cases of the command line and of the one-shot form, over a folder in memory, and what came of each.
 
 mod script;
 mod telling;
 
-use crate::script::{Content, Step, first_step};
-use crate::telling::{show_faults, tell_options, tell_run};
+use crate::jobs::script::{Content, Step, first_step};
+use crate::jobs::telling::{show_faults, tell_options, tell_run};
 use anyhow::Result;
 use fakes::Memory;
 use std::alloc::{AllocError, Global};
-use std::io::{BufReader, Read};
 
 /// The words of a command line, of which the first is the program's name.
 fn words_of(alloc: Global, words: Option<&str>) -> Result<Vec<String>, AllocError> {
@@ -35,6 +33,18 @@ fn give<'a>(
         Content::NoRoom => folder.deny_room(name),
         Content::Unwritable => folder.seal(name),
     }
+}
+
+/// Tells what words ask for.
+fn options(rt: &HostRuntime, words: Option<&str>) -> Result<()> {
+    let words = words_of(rt.alloc(), words)?;
+    tell_options(rt, &words)
+}
+
+/// Shows the fault that words have, and each other one.
+fn faults(rt: &HostRuntime, words: Option<&str>) -> Result<()> {
+    let words = words_of(rt.alloc(), words)?;
+    show_faults(rt, &words)
 }
 
 /// A case as far as it is told.
@@ -68,30 +78,30 @@ impl<'a> Case<'a> {
             Step::File(name, content) => give(&mut self.folder, name, content)?,
             Step::Out(room) => self.out = room,
             Step::Err(room) => self.err = room,
-            Step::Options(words) => tell_options(rt, &words_of(alloc, words)?)?,
-            Step::Faults(words) => show_faults(rt, &words_of(alloc, words)?)?,
-            Step::Run(words) => {
-                let words = words_of(alloc, words)?;
-                tell_run(rt, &words, &mut self.folder, (self.out, self.err))?;
-            }
+            Step::Options(words) => options(rt, words)?,
+            Step::Faults(words) => faults(rt, words)?,
+            Step::Run(words) => self.run(rt, words)?,
         }
         Ok(())
     }
+
+    /// Runs the job that words ask for.
+    fn run(&mut self, rt: &HostRuntime, words: Option<&str>) -> Result<()> {
+        let words = words_of(rt.alloc(), words)?;
+        tell_run(rt, &words, &mut self.folder, (self.out, self.err))
+    }
 }
 
-fn main(rt: HostRuntime) -> Result<()> {
-    let alloc = rt.alloc();
-    let mut input = Vec::new(alloc);
-    BufReader::new(alloc, rt.reader())?.read_to_end(&mut input)?;
-    let mut rest = input.as_slice();
-    let mut case = Case::new(alloc);
+/// Answers the cases of a script up to its first line that is no step of one, and gives the script from there on.
+pub fn answer_all<'a>(rt: &HostRuntime, script: &'a [u8]) -> Result<&'a [u8]> {
+    let mut rest = script;
+    let mut case = Case::new(rt.alloc());
     for _ in 0..u32::MAX {
         let Some((step, after)) = first_step(rest) else {
             break;
         };
-        case.carry_out(&rt, step)?;
+        case.carry_out(rt, step)?;
         rest = after;
     }
-    println!(rt; "{} bytes left", rest.len())?;
-    Ok(())
+    Ok(rest)
 }
