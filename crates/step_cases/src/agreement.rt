@@ -8,7 +8,7 @@ use crate::inputs::input;
 use crate::spelling::{Fault, word_at};
 use crate::steps::shown_variables;
 use crate::styles::style;
-use bt_machine::{Input, Meter, Outcome, activate, agrees, left_over};
+use bt_machine::{Input, Meter, activate, agrees, left_over};
 use bt_style::{Reach, Style};
 use bt_text::Bytes;
 use std::alloc::{AllocError, Global};
@@ -25,21 +25,6 @@ fn reach_of(alloc: Global, style: &Style, input: &Input) -> Result<Reach, AllocE
 fn agree(alloc: Global, style: &Style, old: &Input, new: &Input) -> Result<bool, AllocError> {
     let reach = reach_of(alloc, style, old)?;
     Ok(agrees(style, old, new, &reach))
-}
-
-/// What an earlier step on the one input leaves for the other one, where they agree.
-fn reused(
-    alloc: Global,
-    style: &Style,
-    old: &Input,
-    new: &Input,
-) -> Result<Option<Outcome>, AllocError> {
-    let reach = reach_of(alloc, style, old)?;
-    let left = activate(alloc, style, old, &mut Meter::new())?;
-    if !agrees(style, old, new, &reach) {
-        return Ok(None);
-    }
-    Ok(Some(left_over(alloc, old, &left, new, &reach)?))
 }
 
 /// Whether two inputs agree.
@@ -64,10 +49,13 @@ fn shown_reuse(
     old: &Input,
     new: &Input,
 ) -> Result<Bytes, AllocError> {
-    match reused(alloc, style, old, new)? {
-        None => Bytes::copied(alloc, b"false"),
-        Some(outcome) => shown_variables(alloc, &outcome),
+    let reach = reach_of(alloc, style, old)?;
+    if !agrees(style, old, new, &reach) {
+        return Bytes::copied(alloc, b"false");
     }
+    let left = activate(alloc, style, old, &mut Meter::new())?;
+    let outcome = left_over(alloc, old, &left, new, &reach)?;
+    shown_variables(alloc, &outcome)
 }
 
 /// Whether two inputs agree, or what the one leaves for the other, by the kind of a case.

@@ -44,11 +44,17 @@ fn write_answer<W: Write>(alloc: Global, out: &mut W, case: &str) -> io::Result<
     out.write_all(b"\n")
 }
 
-fn main(rt: HostRuntime) -> io::Result<()> {
+/// Writes the answers of all lines of standard input.
+fn write_answers<W: Write>(rt: &HostRuntime, out: &mut W) -> io::Result<()> {
     let alloc = rt.alloc();
-    let mut out = BufWriter::new(alloc, io::writer(&rt))?;
     for line in BufReader::new(alloc, rt.reader())?.lines(alloc) {
-        write_answer(alloc, &mut out, line?.as_str())?;
+        write_answer(alloc, out, line?.as_str())?;
     }
+    Ok(())
+}
+
+fn main(rt: HostRuntime) -> io::Result<()> {
+    let mut out = BufWriter::new(rt.alloc(), io::writer(&rt))?;
+    write_answers(&rt, &mut out)?;
     out.flush()
 }
