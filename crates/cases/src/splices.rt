@@ -113,18 +113,8 @@ fn answer_anywhere(alloc: Global, case: &str) -> Result<Bytes, AllocError> {
     Ok(told)
 }
 
-/// The number of bytes that are read again, and after it the items of the new text as those of `read_bib`.
-fn respliced_told(
-    alloc: Global,
-    text: &[u8],
-    begin: usize,
-    end: usize,
-    bytes: &[u8],
-) -> Result<Bytes, AllocError>
-    requires order { begin ≤ end }
-    requires inside { end ≤ length text.now }
-{
-    let again = respliced(alloc, text, begin, end, bytes)?;
+/// The number of bytes that were read again, and after it the items of the new text as those of `read_bib`.
+fn reread_told(alloc: Global, again: &Reread) -> Result<Bytes, AllocError> {
     let mut told = Bytes::copied(alloc, format!(in alloc; "{} ", again.read)?.as_bytes())?;
     told.append(spelled_kept(alloc, &again.items)?.as_slice())?;
     Ok(told)
@@ -140,7 +130,8 @@ fn answer_at(alloc: Global, case: &str) -> Result<Bytes, AllocError> {
     if end < begin || text.len() < end {
         return Bytes::copied(alloc, b"outside");
     }
-    respliced_told(alloc, &text, begin, end, &bytes)
+    let again = respliced(alloc, &text, begin, end, &bytes)?;
+    reread_told(alloc, &again)
 }
 
 /// The answer of a case.
