@@ -5,6 +5,7 @@ ghost use Rattle.std.specs.Prelude.{◌≡◌, ℤ, ℕ, List, Option, IfOk, OnO
 ghost use Rattle.bt_style.specs.declared.style.Target.{Target as Aim};
 ghost use Rattle.bt_actions.specs.Item.{Item, Code as Run};
 ghost use Rattle.bt_actions.specs.Arguments.{as_number, as_text, as_field_text, as_code, as_target, as_any, is_wrong, taken, taken_two, taken_three};
+ghost use Rattle.bt_actions.specs.State.{popped};
 ghost use Rattle.bt_actions.specs.View.{world_of, item_of, code_seen};
 
 use crate::short_text::ShortText;
@@ -147,6 +148,19 @@ pub fn take<'a, A: Argument<'a>>(
     Ok(argument)
 }
 
+/// Pops two values, of which the second was the topmost one.
+fn pop_two<'a>(state: &mut State<'a>) -> Result<(Option<Value<'a>>, Option<Value<'a>>), AllocError>
+    ensures lower { IfOk result (λ pair. option_map item_of pair.0
+        ≡ (popped (popped (world_of state.old)).1).0) }
+    ensures upper { IfOk result (λ pair. option_map item_of pair.1 ≡ (popped (world_of state.old)).0) }
+    ensures world { OnOk result (world_of state.new ≡ (popped (popped (world_of state.old)).1).1) }
+    ensures tally { state.new.tally ≡ state.old.tally }
+{
+    let upper = state.pop()?;
+    let lower = state.pop()?;
+    Ok((lower, upper))
+}
+
 /// Takes two arguments, of which the second was the topmost value.
 pub fn take_two<'a, A: Argument<'a>, B: Argument<'a>>(
     state: &mut State<'a>,
@@ -157,8 +171,9 @@ pub fn take_two<'a, A: Argument<'a>, B: Argument<'a>>(
     ensures world { OnOk result (world_of state.new ≡ (taken_two builtin A.kind B.kind (world_of state.old)).1) }
     ensures tally { state.new.tally ≡ state.old.tally }
 {
-    let (upper, wrong_upper) = judged(state.pop()?);
-    let (lower, wrong_lower) = judged(state.pop()?);
+    let (lower, upper) = pop_two(state)?;
+    let (upper, wrong_upper) = judged(upper);
+    let (lower, wrong_lower) = judged(lower);
     state.judge(builtin, wrong_upper || wrong_lower)?;
     match (lower, upper) {
         (Some(lower), Some(upper)) => Ok(Some((lower, upper))),
@@ -177,8 +192,9 @@ pub fn take_three<'a, A: Argument<'a>, B: Argument<'a>, C: Argument<'a>>(
         ≡ (taken_three builtin A.kind B.kind C.kind (world_of state.old)).1) }
     ensures tally { state.new.tally ≡ state.old.tally }
 {
-    let (last, wrong_last) = judged(state.pop()?);
-    let (middle, wrong_middle) = judged(state.pop()?);
+    let (middle, last) = pop_two(state)?;
+    let (last, wrong_last) = judged(last);
+    let (middle, wrong_middle) = judged(middle);
     let (first, wrong_first) = judged(state.pop()?);
     state.judge(builtin, wrong_last || wrong_middle || wrong_first)?;
     match (first, middle, last) {

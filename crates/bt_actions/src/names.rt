@@ -6,6 +6,7 @@ ghost use Rattle.bt_actions.specs.Given.{valued, answered, zero_item, empty_item
 ghost use Rattle.bt_actions.specs.Names.{names_counted, name_formatted};
 ghost use Rattle.bt_actions.specs.inner.Names.{pushed_within};
 ghost use Rattle.bt_actions.specs.View.{world_of, Acts};
+ghost use Rattle.bt_names.specs.FormattedName.{formatted_name, IsFormatFault};
 ghost use Rattle.bt_style.specs.declared.builtin.Builtin.TheVariants as builtin;
 
 use crate::arguments::{take, take_three};
@@ -41,6 +42,37 @@ fn push_within(state: &mut State, formatted: Formatted) -> Result<Flow, AllocErr
     }
 }
 
+/// Reports what is wrong with a list of names or a pattern, and puts the empty text on the stack.
+fn push_fault(
+    state: &mut State,
+    alloc: Global,
+    names: ShortText,
+    number: i32,
+    pattern: ShortText,
+    fault: FormatFault,
+) -> Result<Flow, AllocError>
+    requires { IsFormatFault (formatted_name names number pattern) fault }
+    ensures world { IfOk result (Acts (answered (name_formatted (names.entry, number, pattern.entry))) state.old
+        state.new) }
+    ensures tally { state.new.tally ≡ state.old.tally }
+{
+    match fault {
+        FormatFault::NoSuchName => {
+            let complaint = Complaint::NoSuchName(number, names.into_bytes(alloc)?);
+            state.push_text_in_error(complaint, Text::Lent(b""))
+        }
+        FormatFault::TooManyCommas => {
+            let complaint = Complaint::TooManyCommas(number, names.into_bytes(alloc)?);
+            state.push_text_in_error(complaint, Text::Lent(b""))
+        }
+        FormatFault::PatternFault(place) => {
+            let complaint = Complaint::PatternFault(pattern.into_bytes(alloc)?, place);
+            state.push_text_in_error(complaint, Text::Lent(b""))
+        }
+        FormatFault::OutOfMemory => Err(AllocError),
+    }
+}
+
 /// Puts a name in the form of a pattern on the stack, or reports what is wrong with the list of names or the pattern.
 fn push_formatted(
     state: &mut State,
@@ -61,19 +93,7 @@ fn push_formatted(
         TEXT_BYTES,
     ) {
         Ok(formatted) => push_within(state, formatted),
-        Err(FormatFault::NoSuchName) => {
-            let complaint = Complaint::NoSuchName(number, names.into_bytes(alloc)?);
-            state.push_text_in_error(complaint, Text::Lent(b""))
-        }
-        Err(FormatFault::TooManyCommas) => {
-            let listed = names.into_bytes(alloc)?;
-            state.push_text_in_error(Complaint::TooManyCommas(number, listed), Text::Lent(b""))
-        }
-        Err(FormatFault::PatternFault(place)) => {
-            let complaint = Complaint::PatternFault(pattern.into_bytes(alloc)?, place);
-            state.push_text_in_error(complaint, Text::Lent(b""))
-        }
-        Err(FormatFault::OutOfMemory) => Err(AllocError),
+        Err(fault) => push_fault(state, alloc, names, number, pattern, fault),
     }
 }
 

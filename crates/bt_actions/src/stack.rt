@@ -1,14 +1,31 @@
 //! The functions that look at the stack alone.
 
-ghost use Rattle.std.specs.Prelude.{◌≡◌, IfOk};
-ghost use Rattle.bt_actions.specs.World.{Goes};
-ghost use Rattle.bt_actions.specs.State.{popped};
+ghost use Rattle.std.specs.Prelude.{◌≡◌, ◌∷◌, IfOk};
+ghost use Rattle.bt_actions.specs.World.{Goes, with_stack};
+ghost use Rattle.bt_actions.specs.State.{popped, pushed};
 ghost use Rattle.bt_actions.specs.Stack.{duplicated, swapped};
-ghost use Rattle.bt_actions.specs.View.{world_of, Acts};
+ghost use Rattle.bt_actions.specs.View.{world_of, item_of, Acts};
 
 use crate::complaint::Complaint;
 use crate::state::{Flow, State};
+use crate::value::Value;
 use std::alloc::{AllocError, Global};
+
+/// Puts a value on the stack twice, where one more may pass its limit.
+fn push_twice<'a>(
+    state: &mut State<'a>,
+    alloc: Global,
+    value: Value<'a>,
+) -> Result<Flow, AllocError>
+    ensures world { IfOk result
+        (Acts (λ world. pushed (item_of value.entry) (with_stack (item_of value.entry ∷ world.stack) world))
+        state.old state.new) }
+    ensures tally { state.new.tally ≡ state.old.tally }
+{
+    let (lower, upper) = value.twice(alloc)?;
+    state.stack.push(lower)?;
+    state.push(upper)
+}
 
 /// `duplicate$`.
 pub fn duplicate(state: &mut State, alloc: Global) -> Result<Flow, AllocError>
@@ -20,11 +37,7 @@ pub fn duplicate(state: &mut State, alloc: Global) -> Result<Flow, AllocError>
             state.tell(Complaint::EmptyStack)?;
             Ok(Flow::Go)
         }
-        Some(value) => {
-            let (lower, upper) = value.twice(alloc)?;
-            state.stack.push(lower)?;
-            state.push(upper)
-        }
+        Some(value) => push_twice(state, alloc, value),
     }
 }
 

@@ -111,6 +111,9 @@ impl Reader<'_> {
         let kind = kind_of(entry);
         let function = self.asked.types.place(self.alloc, kind)?;
         self.tell_type(function, line, key.as_slice(), messages)?;
+        let small = to_ascii_lowercase(self.alloc, kind)?;
+        let small = Shared::new(self.alloc, small)?;
+        let own = key.share()?;
         let reader = FieldReader {
             alloc: self.alloc,
             declared: &self.asked.fields,
@@ -120,8 +123,8 @@ impl Reader<'_> {
         };
         let given = reader.fields(entry.fields.as_slice(), messages)?;
         Ok(Stored {
-            key: key.share()?,
-            kind: Shared::new(self.alloc, to_ascii_lowercase(self.alloc, kind)?)?,
+            key: own,
+            kind: small,
             function,
             crossref: given.crossref,
             values: given.values.into_shared(self.alloc)?,

@@ -19,7 +19,7 @@ use crate::references::Teller;
 use crate::view::View;
 use bt_bib::KeptItems;
 use bt_log::Message;
-use bt_text::{Sequence, Shared};
+use bt_text::{Bytes, Sequence, Shared};
 use std::alloc::{AllocError, Global};
 
 /// The list of entries, with its messages put after the others.
@@ -52,6 +52,29 @@ fn resolve_list(
     Ok(entries)
 }
 
+/// What a family of entries gives, after this preamble and these messages.
+fn resolve_family(
+    alloc: Global,
+    asked: &Asked<'_>,
+    min: u32,
+    family: &Family,
+    preamble: Shared<Bytes>,
+    messages: Sequence<Message>,
+) -> Result<Resolved, AllocError>
+    requires { IfSome asked.now.star (λ before. before ≤ length asked.now.keys) }
+    ensures entries { IfOk result (λ all. all.entries ≡ entries_seen asked.now min family.now) }
+    ensures preamble { IfOk result (λ all. all.preamble ≡ preamble) }
+    ensures messages { IfOk result (λ all. all.messages ≡ messages ++ list_messages asked.now family.now) }
+{
+    let mut messages = messages;
+    let entries = resolve_list(alloc, asked, min, family, &mut messages)?;
+    Ok(Resolved {
+        entries,
+        preamble,
+        messages,
+    })
+}
+
 /// Resolves with look-ups at hand.
 #[tactic(auto, unfolding(crate::specs::Resolved::messages))]
 fn resolve_asked(
@@ -70,15 +93,11 @@ fn resolve_asked(
         macros: _,
         store,
         preamble,
-        mut messages,
-    } = read_databases(alloc, asked, macros, databases)?;
-    let family = Family::new(alloc, store)?;
-    let entries = resolve_list(alloc, asked, min, &family, &mut messages)?;
-    Ok(Resolved {
-        entries,
-        preamble: Shared::new(alloc, preamble)?,
         messages,
-    })
+    } = read_databases(alloc, asked, macros, databases)?;
+    let preamble = Shared::new(alloc, preamble)?;
+    let family = Family::new(alloc, store)?;
+    resolve_family(alloc, asked, min, &family, preamble, messages)
 }
 
 /// The list of entries that a style sees, the preamble, and all messages, from the items of the databases in their
@@ -96,10 +115,13 @@ pub fn resolve(
     ensures { IfOk result (λ all. all
         ≡ resolved declared.now cites.now (map (λ d. items_of d.now) databases.now) min) }
 {
+    let keys = cites.keys.share()?;
+    let fields = Index::new(alloc, declared.fields.as_slice())?;
+    let types = Index::new(alloc, declared.types.as_slice())?;
     let asked = Asked {
-        fields: Index::new(alloc, declared.fields.as_slice())?,
-        types: Index::new(alloc, declared.types.as_slice())?,
-        keys: cites.keys.share()?,
+        fields,
+        types,
+        keys,
         star: cites.star,
     };
     resolve_asked(alloc, &asked, declared.macros.as_slice(), databases, min)

@@ -7,7 +7,8 @@ ghost use Rattle.bt_style.specs.Program.{program_of};
 ghost use Rattle.bt_style.specs.Names.{target_named, macro_named, is_taken, is_macro};
 ghost use Rattle.bt_style.specs.Arguments.{braced_word};
 ghost use Rattle.bt_style.specs.Declares.{new_name};
-ghost use Rattle.bt_style.specs.Commands.{run_target, variables_at, arguments_at, command_at};
+ghost use Rattle.bt_style.specs.declared.style.Action.TheVariants as actions;
+ghost use Rattle.bt_style.specs.Commands.{run_target, run_at, variables_at, arguments_at, command_at};
 
 use crate::arguments::{close, literal, open, word};
 use crate::bodies::body;
@@ -143,6 +144,54 @@ fn variables(
     Ok(())
 }
 
+/// `EXECUTE`: what is run once.
+fn execute(
+    alloc: Global,
+    cursor: &mut Cursor,
+    draft: &mut Draft,
+    line: usize,
+) -> Result<(), StyleRefusal>
+    ensures gives { Gives (λ _. (program_of draft.new, cursor.new)) result
+        (run_at actions.Execute line (program_of draft.old) cursor.old) }
+    ensures shorter { OnOk result (count cursor.new ≤ count cursor.old) }
+{
+    let target = run_target(alloc, cursor, draft)?;
+    draft.add_command(Action::Execute(target), line)?;
+    Ok(())
+}
+
+/// `ITERATE`: what is run for each entry in turn.
+fn iterate(
+    alloc: Global,
+    cursor: &mut Cursor,
+    draft: &mut Draft,
+    line: usize,
+) -> Result<(), StyleRefusal>
+    ensures gives { Gives (λ _. (program_of draft.new, cursor.new)) result
+        (run_at actions.Iterate line (program_of draft.old) cursor.old) }
+    ensures shorter { OnOk result (count cursor.new ≤ count cursor.old) }
+{
+    let target = run_target(alloc, cursor, draft)?;
+    draft.add_command(Action::Iterate(target), line)?;
+    Ok(())
+}
+
+/// `REVERSE`: what is run for each entry, the last one first.
+fn reverse(
+    alloc: Global,
+    cursor: &mut Cursor,
+    draft: &mut Draft,
+    line: usize,
+) -> Result<(), StyleRefusal>
+    ensures gives { Gives (λ _. (program_of draft.new, cursor.new)) result
+        (run_at actions.Reverse line (program_of draft.old) cursor.old) }
+    ensures shorter { OnOk result (count cursor.new ≤ count cursor.old) }
+{
+    let target = run_target(alloc, cursor, draft)?;
+    draft.add_command(Action::Reverse(target), line)?;
+    Ok(())
+}
+
 /// A command's arguments, and the command.
 #[tactic(auto, unfolding(crate::specs::Commands::arguments_at))]
 pub fn arguments(
@@ -158,28 +207,16 @@ pub fn arguments(
 {
     match verb {
         Verb::Entry => entry(alloc, cursor, draft, line),
-        Verb::Execute => {
-            let target = run_target(alloc, cursor, draft)?;
-            draft.add_command(Action::Execute(target), line)?;
-            Ok(())
-        }
+        Verb::Execute => execute(alloc, cursor, draft, line),
         Verb::Function => function(alloc, cursor, draft, line),
         Verb::Integers => {
             let (names, action) = (Names::GlobalNumbers, Action::Integers);
             variables(alloc, cursor, draft, names, action, line)
         }
-        Verb::Iterate => {
-            let target = run_target(alloc, cursor, draft)?;
-            draft.add_command(Action::Iterate(target), line)?;
-            Ok(())
-        }
+        Verb::Iterate => iterate(alloc, cursor, draft, line),
         Verb::Macro => define_macro(alloc, cursor, draft, line),
         Verb::Read => Ok(draft.add_command(Action::Read, line)?),
-        Verb::Reverse => {
-            let target = run_target(alloc, cursor, draft)?;
-            draft.add_command(Action::Reverse(target), line)?;
-            Ok(())
-        }
+        Verb::Reverse => reverse(alloc, cursor, draft, line),
         Verb::Sort => Ok(draft.add_command(Action::Sort, line)?),
         Verb::Strings => {
             let (names, action) = (Names::GlobalTexts, Action::Strings);
