@@ -1,7 +1,11 @@
 -- Steps of the loops over places.
-use Rattle.std.proofs.Common.{◌≡◌, ◌∙◌, ap, sym, refl, ℕ, suc, ◌+◌, ◌-◌, ◌<◌, List, [], ◌∷◌, ◌++◌, map, append_assoc, arith, Bool, true, false, Option}
-use Rattle.std.specs.Prelude.{filter, filter_map, cond, if◌then◌else◌}
+use Rattle.std.proofs.Common.{◌≡◌, ◌∙◌, ap, sym, refl, ℕ, suc, ◌+◌, ◌-◌, ◌<◌, List, [], ◌∷◌, ◌++◌, length, take, get_or, map, append_assoc, append-nil, arith, Bool, true, false, Option}
+use Rattle.std.specs.Prelude.{◌==◌, ◌||◌, filter, filter_map, cond, if◌then◌else◌}
 use Rattle.std.specs.List.{range_with_len, cons_option}
+use Rattle.std.proofs.lemmas.Bool.Decides.{Decides-eqb}
+use Rattle.std.proofs.lemmas.List.{take_more}
+use Rattle.std.proofs.lemmas.List.Folds.{list_any-append}
+use Rattle.bt_resolve.specs.Listed.{firsts, is_among}
 
 range_more : (i n : ℕ) → i < n → range_with_len i (n - i) ≡ i ∷ range_with_len (i + 1) (n - (i + 1))
 range_more i n less =
@@ -21,3 +25,39 @@ others_more test xs i n less =
 pub filter_map-map : {X : Type 0} (f : X → Option ℕ) (xs : List X) → filter_map (λ (o : Option ℕ). o) (map f xs) ≡ filter_map f xs
 filter_map-map f [] = refl
 filter_map-map f (x ∷ xs) = ap (λ (ps : List ℕ). cons_option (f x) ps) (filter_map-map f xs)
+
+or_last : (a b : Bool) → cond a true b ≡ b || (a || false)
+or_last true true = refl
+or_last true false = refl
+or_last false true = refl
+or_last false false = refl
+
+-- one place more is among those
+among_last : (these : List ℕ) (x p : ℕ) → cond (x == p) true (is_among these p) ≡ is_among (these ++ x ∷ []) p
+among_last these x p = or_last (x == p) (is_among these p) ∙ sym (list_any-append (λ q. q == p) these (x ∷ []))
+
+pub among_next : (xs : List ℕ) (i d : ℕ) (old new : ℕ → Bool) → i < length xs → ((p : ℕ) → new p ≡ cond (get_or xs i d == p) true (old p)) →
+    ((p : ℕ) → old p ≡ is_among (take i xs) p) → (p : ℕ) → new p ≡ is_among (take (i + 1) xs) p
+among_next xs i d old new less step before p =
+    step p ∙ ap (λ (b : Bool). cond (get_or xs i d == p) true b) (before p) ∙ among_last (take i xs) (get_or xs i d) p
+    ∙ ap (λ (ps : List ℕ). is_among ps p) (sym (take_more xs i d less))
+
+among_again : (c : Bool) (these : List ℕ) (x p : ℕ) → (x == p) ≡ c → is_among these x ≡ true → cond c true (is_among these p) ≡ is_among these p
+among_again true these x p same there =
+    let is : x ≡ p = (Decides-eqb x p).0 same in
+    sym there ∙ ap (λ (q : ℕ). is_among these q) is
+among_again false these x p other there = refl
+
+-- a place is put after those found, unless it is among them
+pub among_first : (b : Bool) (found : List ℕ) (x p : ℕ) → is_among found x ≡ b → cond (x == p) true (is_among found p) ≡ is_among (found ++ (if b then [] else x ∷ [])) p
+among_first true found x p there = among_again (x == p) found x p refl there ∙ ap (λ (ps : List ℕ). is_among ps p) (sym (append-nil found))
+among_first false found x p other = among_last found x p
+
+pub firsts_next : (b : Bool) (found : List ℕ) (x : ℕ) (rest : List ℕ) → is_among found x ≡ b →
+    (found ++ (if b then [] else x ∷ [])) ++ firsts (found ++ (if b then [] else x ∷ [])) rest ≡ found ++ firsts found (x ∷ rest)
+firsts_next true found x rest there =
+    ap (λ (ps : List ℕ). ps ++ firsts ps rest) (append-nil found)
+    ∙ ap (λ (b : Bool). found ++ (if b then firsts found rest else x ∷ firsts (found ++ x ∷ []) rest)) (sym there)
+firsts_next false found x rest other =
+    append_assoc found (x ∷ []) (firsts (found ++ x ∷ []) rest)
+    ∙ ap (λ (b : Bool). found ++ (if b then firsts found rest else x ∷ firsts (found ++ x ∷ []) rest)) (sym other)

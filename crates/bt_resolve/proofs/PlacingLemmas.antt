@@ -15,7 +15,9 @@ use Rattle.bt_resolve.specs.inner.Databases.{State, after_item, after_items, aft
 use Rattle.std.specs.List.{flat_map}
 use Rattle.bt_resolve.specs.Listed.{listed}
 use Rattle.bt_resolve.specs.References.{reference_messages, missing_messages, list_messages}
-use Rattle.bt_resolve.specs.Resolved.{all_items, stored_entries, preamble}
+use Rattle.bt_resolve.specs.declared.entry.Resolved.{Resolved}
+use Rattle.bt_resolve.specs.Inherited.{entries_seen}
+use Rattle.bt_resolve.specs.Resolved.{all_items, stored_entries, preamble, messages, resolved_by}
 
 -- the state stands after these items, the last of them first
 pub record StandsBehind (a : Asked) (ms : List Macro) (before : List Item) (s : State) : Type 0 where
@@ -93,23 +95,30 @@ all_add a ms databases =
       messages = all.messages;
     }
 
--- what was read, once no database is left
-pub whole_is : (a : Asked) (ms : List Macro) (databases rest : List (List Item)) (number : ℕ) (first read : State) → rest ≡ [] → first ≡ nothing_read ms →
-    after_databases a number read rest ≡ after_databases a 1 first databases → read ≡ after_databases a 1 (nothing_read ms) databases
-whole_is a ms databases rest number first read none nothing whole =
-    ap (λ (left : List (List Item)). after_databases a number read left) (sym none)
-    ∙ whole ∙ ap (λ (s : State). after_databases a 1 s databases) nothing
-
-pub stored_is : (a : Asked) (ms : List Macro) (databases : List (List Item)) → (after_databases a 1 (nothing_read ms) databases).stored ≡ stored_entries a ms databases
+stored_is : (a : Asked) (ms : List Macro) (databases : List (List Item)) → (after_databases a 1 (nothing_read ms) databases).stored ≡ stored_entries a ms databases
 unfolding stored_entries
 stored_is a ms databases = (all_add a ms databases).stands.stored
 
-pub preamble_is : (a : Asked) (ms : List Macro) (databases : List (List Item)) → (after_databases a 1 (nothing_read ms) databases).preamble ≡ preamble ms databases
+preamble_is : (a : Asked) (ms : List Macro) (databases : List (List Item)) → (after_databases a 1 (nothing_read ms) databases).preamble ≡ preamble ms databases
 unfolding preamble
 preamble_is a ms databases = (all_add a ms databases).preamble
 
-pub messages_are : (a : Asked) (ms : List Macro) (databases : List (List Item)) → (after_databases a 1 (nothing_read ms) databases).messages ≡ database_messages a ms 1 [] databases
+messages_are : (a : Asked) (ms : List Macro) (databases : List (List Item)) → (after_databases a 1 (nothing_read ms) databases).messages ≡ database_messages a ms 1 [] databases
 messages_are a ms databases = (all_add a ms databases).messages
+
+abbrev resolved_of : Asked → ℕ → List Stored → List ℕ → List Message → Resolved
+resolved_of a min stored text told = record { entries = entries_seen a min stored; preamble = text; messages = told ++ list_messages a stored }
+
+-- what is resolved, once no database is left
+pub resolved_is : (a : Asked) (ms : List Macro) (min : ℕ) (databases : List (List Item)) (s : State) → s ≡ after_databases a 1 (nothing_read ms) databases →
+    record { entries = entries_seen a min s.stored; preamble = s.preamble; messages = s.messages ++ list_messages a s.stored } ≡ resolved_by a ms databases min
+unfolding messages
+resolved_is a ms min databases s is =
+    let read = after_databases a 1 (nothing_read ms) databases in
+    ap (λ (t : State). resolved_of a min t.stored t.preamble t.messages) is
+    ∙ ap (λ (stored : List Stored). resolved_of a min stored read.preamble read.messages) (stored_is a ms databases)
+    ∙ ap (λ (text : List ℕ). resolved_of a min (stored_entries a ms databases) text read.messages) (preamble_is a ms databases)
+    ∙ ap (λ (told : List Message). resolved_of a min (stored_entries a ms databases) (preamble ms databases) told) (messages_are a ms databases)
 
 -- the messages of the list after others
 pub list_told : (a : Asked) (stored : List Stored) (places : List ℕ) (m : List Message) → places ≡ listed a stored → m ++ flat_map (reference_messages a.keys stored) places ++ flat_map (missing_messages stored) a.keys ≡ m ++ list_messages a stored

@@ -1,7 +1,12 @@
 //! What items are looked up in: the declared fields and types, and the cited keys.
 
+ghost use Rattle.std.specs.Prelude.{◌≡◌, IfOk};
+ghost use Rattle.bt_resolve.specs.Resolved.{asked};
+
+use crate::declared::{Cites, Declared};
 use crate::index::Index;
 use bt_text::{NameList, Shared};
+use std::alloc::{AllocError, Global};
 
 /// What the style and the citations ask for, with hashed look-ups.
 #[derive(Drop)]
@@ -14,4 +19,21 @@ pub struct Asked<'a> {
     pub keys: Shared<NameList>,
     /// How many of the keys stood before `*`; none where `*` isn't cited.
     pub star: Option<usize>,
+}
+
+impl<'a> Asked<'a> {
+    /// What a style declares and a document cites.
+    pub fn new(alloc: Global, declared: &'a Declared, cites: &Cites) -> Result<Self, AllocError>
+        ensures { IfOk result (λ known. known ≡ asked declared.now cites.now) }
+    {
+        let keys = cites.keys.share()?;
+        let fields = Index::new(alloc, declared.fields.as_slice())?;
+        let types = Index::new(alloc, declared.types.as_slice())?;
+        Ok(Asked {
+            fields,
+            types,
+            keys,
+            star: cites.star,
+        })
+    }
 }

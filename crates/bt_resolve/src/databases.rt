@@ -1,13 +1,11 @@
 //! The databases are read, item for item.
 
-ghost use Rattle.std.specs.Prelude.{◌≡◌, ◌+◌, ◌∷◌, [], IfOk, IsTrue, OnOk, map};
+ghost use Rattle.std.specs.Prelude.{◌≡◌, ◌∷◌, [], IfOk, IsTrue, OnOk, map};
 ghost use Rattle.bt_bib.specs.Items.{items_of};
 ghost use Rattle.bt_bib.specs.Moved.{moved_item, nowhere};
 ghost use Rattle.bt_bib.specs.Shift.{FitsItem};
 ghost use Rattle.bt_text.specs.NameList.{are_apart};
-ghost use Rattle.bt_resolve.specs.Messages.{database_messages};
-ghost use Rattle.bt_resolve.specs.inner.Databases.{after_content, after_item, after_items, nothing_read, state_of};
-ghost use Rattle.bt_resolve.specs.Resolved.{preamble, stored_entries};
+ghost use Rattle.bt_resolve.specs.inner.Databases.{after_content, after_databases, after_item, after_items, nothing_read, state_of};
 
 use crate::asked::Asked;
 use crate::declared::Macro;
@@ -100,7 +98,7 @@ fn read_pieces(
 }
 
 /// What is known before the first item.
-fn nothing_read(alloc: Global, macros: &[Macro]) -> Result<Reading, AllocError>
+pub fn nothing_read(alloc: Global, macros: &[Macro]) -> Result<Reading, AllocError>
     ensures { IfOk result (λ read. state_of read ≡ nothing_read macros.now) }
 {
     Ok(Reading {
@@ -115,20 +113,15 @@ fn nothing_read(alloc: Global, macros: &[Macro]) -> Result<Reading, AllocError>
 pub fn read_databases(
     alloc: Global,
     asked: &Asked<'_>,
-    macros: &[Macro],
     databases: &[&KeptItems],
-) -> Result<Reading, AllocError>
+    reading: &mut Reading,
+) -> Result<(), AllocError>
     requires { IsTrue (are_apart asked.now.fields) }
-    ensures stored { IfOk result (λ read. read.store
-        ≡ stored_entries asked.now macros.now (map (λ d. items_of d.now) databases.now)) }
-    ensures preamble { IfOk result (λ read. read.preamble
-        ≡ preamble macros.now (map (λ d. items_of d.now) databases.now)) }
-    ensures messages { IfOk result (λ read. read.messages
-        ≡ database_messages asked.now macros.now 1 [] (map (λ d. items_of d.now) databases.now)) }
+    ensures { OnOk result (state_of reading.new ≡ after_databases asked.now 1 (state_of reading.old)
+        (map (λ d. items_of d.now) databases.now)) }
 {
-    let mut read = nothing_read(alloc, macros)?;
     'databases: for i in 0..databases.len() {
-        read_pieces(alloc, asked, i + 1, databases[i].pieces(), &mut read)?;
+        read_pieces(alloc, asked, i + 1, databases[i].pieces(), reading)?;
     }
-    Ok(read)
+    Ok(())
 }

@@ -3,7 +3,7 @@
 use bt_text::{Bytes, NameList, Sequence, Shared};
 
 /// A macro, and what it stands for.
-#[derive(Debug, Drop)]
+#[derive(Drop)]
 pub struct Macro {
     /// Its name.
     pub name: Bytes,
@@ -12,7 +12,7 @@ pub struct Macro {
 }
 
 /// What the style declares before its databases are read. No two names of one list match.
-#[derive(Debug, Drop)]
+#[derive(Drop)]
 pub struct Declared {
     /// Its fields.
     pub fields: Sequence<Bytes>,

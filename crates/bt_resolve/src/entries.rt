@@ -1,18 +1,22 @@
 //! Entries as they are read: which are stored, and as what.
 
-ghost use Rattle.std.specs.Prelude.{◌≡◌, ◌++◌, ◌∷◌, [], All, IfOk, IsTrue, OnOk};
-ghost use Rattle.bt_bib.specs.Moved.{moved_entry, nowhere};
+ghost use Rattle.std.specs.Prelude.{◌≡◌, ◌++◌, ◌∷◌, [], All, IfOk, IsTrue, OnOk, map};
+ghost use Rattle.bt_bib.specs.Moved.{moved_entry, moved_field, nowhere};
 ghost use Rattle.bt_bib.specs.Shift.{FitsField, FitsLine};
 ghost use Rattle.bt_text.specs.ByName.{known};
+ghost use Rattle.bt_text.specs.CaseFolding.{folded};
+ghost use Rattle.bt_resolve.specs.Fields.{fields_messages};
 ghost use Rattle.bt_resolve.specs.inner.Entries.{standing_of};
+ghost use Rattle.bt_resolve.specs.inner.Slots.{given_by};
 ghost use Rattle.bt_resolve.specs.Messages.{key_messages, stored_messages, type_messages};
 ghost use Rattle.bt_text.specs.NameList.{are_apart};
 ghost use Rattle.bt_resolve.specs.Stored.{is_wanted, kind_of, stored_of, with_entry};
 ghost use Rattle.bt_resolve.specs.inner.Warnings.{line_at};
 
 use crate::faults::repeated;
-use crate::fields::FieldReader;
+use crate::fields::{FieldReader, Given};
 use crate::macro_text::MacroText;
+use crate::messages::add_message;
 use crate::reader::Reader;
 use crate::store::Store;
 use crate::stored::Stored;
@@ -20,7 +24,7 @@ use crate::warnings::no_function;
 use bt_bib::Entry;
 use bt_log::Message;
 use bt_text::{ByName, Bytes, Sequence, Shared, to_ascii_lowercase};
-use std::alloc::AllocError;
+use std::alloc::{AllocError, Global};
 
 /// The type of an entry, as written.
 fn kind_of(entry: &Entry) -> &[u8]
@@ -30,6 +34,39 @@ fn kind_of(entry: &Entry) -> &[u8]
         None => &[],
         Some(kind) => kind.as_slice(),
     }
+}
+
+/// A text in small letters.
+fn small_letters(alloc: Global, text: &[u8]) -> Result<Shared<Bytes>, AllocError>
+    ensures { IfOk result (λ small. small ≡ folded text.now) }
+{
+    Shared::new(alloc, to_ascii_lowercase(alloc, text)?)
+}
+
+/// An entry of this key, type and function, with what its fields give.
+fn with_given(
+    alloc: Global,
+    key: &Shared<Bytes>,
+    kind: &[u8],
+    function: Option<usize>,
+    given: Given,
+) -> Result<Stored, AllocError>
+    ensures { IfOk result (λ stored. stored ≡ record {
+      key = key.now;
+      kind = folded kind.now;
+      function = function;
+      crossref = given.crossref;
+      values = given.values;
+    }) }
+{
+    let values = given.values.into_shared(alloc)?;
+    Ok(Stored {
+        key: key.share()?,
+        kind: small_letters(alloc, kind)?,
+        function,
+        crossref: given.crossref,
+        values,
+    })
 }
 
 /// How an entry stands to those that are stored.
@@ -80,12 +117,35 @@ impl Reader<'_> {
             ++ type_messages function (line_at self.now.origin line) key.now) }
     {
         match function {
-            None => {
-                messages.push(no_function(self.alloc, self.place(line), key)?)?;
-                Ok(())
-            }
+            None => add_message(messages, no_function(self.alloc, self.place(line), key)?),
             Some(_) => Ok(()),
         }
+    }
+
+    /// What the fields of an entry give, with their messages.
+    fn given(
+        &self,
+        entry: &Entry,
+        key: &[u8],
+        macros: &ByName<MacroText>,
+        messages: &mut Sequence<Message>,
+    ) -> Result<Given, AllocError>
+        requires apart { IsTrue (are_apart self.now.asked.now.fields) }
+        requires fits { All (FitsField nowhere self.now.origin.start) entry.now.fields }
+        ensures given { IfOk result (λ given. given ≡ given_by self.now.asked.now.fields (known macros.now)
+            (map (moved_field self.now.origin.start) entry.now.fields)) }
+        ensures messages { OnOk result (messages.new ≡ messages.old ++ fields_messages self.now.asked.now.fields
+            (known macros.now) self.now.origin.database key.now []
+            (map (moved_field self.now.origin.start) entry.now.fields)) }
+    {
+        let reader = FieldReader {
+            alloc: self.alloc,
+            declared: &self.asked.fields,
+            macros,
+            origin: self.origin,
+            key,
+        };
+        reader.fields(entry.fields.as_slice(), messages)
     }
 
     /// An entry as it is stored, with its messages.
@@ -111,24 +171,8 @@ impl Reader<'_> {
         let kind = kind_of(entry);
         let function = self.asked.types.place(self.alloc, kind)?;
         self.tell_type(function, line, key.as_slice(), messages)?;
-        let small = to_ascii_lowercase(self.alloc, kind)?;
-        let small = Shared::new(self.alloc, small)?;
-        let own = key.share()?;
-        let reader = FieldReader {
-            alloc: self.alloc,
-            declared: &self.asked.fields,
-            macros,
-            origin: self.origin,
-            key: key.as_slice(),
-        };
-        let given = reader.fields(entry.fields.as_slice(), messages)?;
-        Ok(Stored {
-            key: own,
-            kind: small,
-            function,
-            crossref: given.crossref,
-            values: given.values.into_shared(self.alloc)?,
-        })
+        let given = self.given(entry, key.as_slice(), macros, messages)?;
+        with_given(self.alloc, key, kind, function, given)
     }
 
     /// Reads an entry: it is stored if it is the first wanted one of its key.
@@ -155,8 +199,7 @@ impl Reader<'_> {
         match self.standing_of(store, key.as_slice())? {
             Standing::Unwanted => Ok(()),
             Standing::Repeated => {
-                messages.push(repeated(self.alloc, self.place(line), key)?)?;
-                Ok(())
+                add_message(messages, repeated(self.alloc, self.place(line), key)?)
             }
             Standing::First => {
                 let stored = self.stored(line, entry, key, macros, messages)?;

@@ -4,7 +4,7 @@ use bt_log::Message;
 use bt_text::{Bytes, Sequence, Shared, SparseTexts};
 
 /// An entry of the list. Its texts and its values have several owners, and are shared without copying.
-#[derive(Debug, Drop)]
+#[derive(Drop)]
 pub struct Entry {
     /// Its key, as it is cited; as in the database where it isn't.
     pub key: Shared<Bytes>,
@@ -17,7 +17,7 @@ pub struct Entry {
 }
 
 /// The list of entries, what the preambles say, and every message, in the order of the log.
-#[derive(Debug, Drop)]
+#[derive(Drop)]
 pub struct Resolved {
     /// The entries, in the order of the list.
     pub entries: Sequence<Entry>,

@@ -14,13 +14,13 @@ use std::marker::Model;
 
 /// The stored entries, with the entry that each refers to, and how many refer to each. Contracts see their list.
 #[derive(Drop)]
-pub struct Family {
-    store: Store,
+pub struct Family<'a> {
+    store: &'a Store,
     parents: Vec<Option<usize>>,
     counts: HashMap<usize, usize>,
 }
 
-impl Model for Family {
+impl<'a> Model for Family<'a> {
     ghost use Rattle.std.specs.Prelude.{List};
     ghost use Rattle.bt_resolve.specs.declared.stored.Stored.{Stored};
 
@@ -28,9 +28,9 @@ impl Model for Family {
 
     ghost use Rattle.bt_resolve.specs.inner.Family.{IsFamily};
 
-    ghost view = { λ family. family.store };
+    ghost view = { λ family. family.store.now };
 
-    ghost invariant = { λ family. IsFamily family.store family.parents.items family.counts };
+    ghost invariant = { λ family. IsFamily family.store.now family.parents.items family.counts };
 }
 
 /// The entry that an entry refers to.
@@ -84,12 +84,12 @@ fn count_parents(
     Ok(counts)
 }
 
-impl Family {
+impl<'a> Family<'a> {
     /// These entries.
-    pub fn new(alloc: Global, store: Store) -> Result<Self, AllocError>
-        ensures { IfOk result (λ family. family ≡ store) }
+    pub fn new(alloc: Global, store: &'a Store) -> Result<Self, AllocError>
+        ensures { IfOk result (λ family. family ≡ store.now) }
     {
-        let parents = all_parents(alloc, &store)?;
+        let parents = all_parents(alloc, store)?;
         let counts = count_parents(alloc, parents.as_slice())?;
         Ok(Family {
             store,
@@ -140,7 +140,7 @@ impl Family {
     pub fn parent_of(&self, alloc: Global, entry: &Stored) -> Result<Option<usize>, AllocError>
         ensures { IfOk result (λ parent. parent ≡ parent_of self.now entry.now) }
     {
-        parent_of(alloc, &self.store, entry)
+        parent_of(alloc, self.store, entry)
     }
 
     /// How many entries refer to the entry of a place.

@@ -5,6 +5,7 @@ ghost use Rattle.bt_bib.specs.Moved.{moved, moved_content, nowhere};
 ghost use Rattle.bt_bib.specs.Shift.{FitsSpot};
 ghost use Rattle.bt_resolve.specs.Faults.{dropped_name, fault_error, fault_messages, fault_words, key_of, repeated, sign_of, unclosed, unclosed_command, unclosed_entry, what_name};
 
+use crate::messages::add_message;
 use crate::place::Origin;
 use bt_bib::{Closing, Content, Item, ItemFault, NameRole};
 use bt_log::{Message, Place};
@@ -151,7 +152,7 @@ pub fn tell_fault(
     match item.fault {
         None => Ok(()),
         Some(fault) => {
-            messages.push(fault_error(alloc, origin, item, fault)?)?;
+            add_message(messages, fault_error(alloc, origin, item, fault)?)?;
             Ok(())
         }
     }

@@ -12,6 +12,7 @@ ghost use Rattle.bt_resolve.specs.inner.Warnings.{line_at};
 
 use crate::index::Index;
 use crate::macro_text::MacroText;
+use crate::messages::add_message;
 use crate::place::Origin;
 use crate::stored::FieldValues;
 use crate::values::{ValueReader, trimmed};
@@ -145,8 +146,8 @@ impl FieldReader<'_> {
     {
         if is_filled(given, slot) {
             let place = self.origin.place(field.line);
-            messages.push(extra_field(self.alloc, place, self.key, field.name.as_slice())?)?;
-            Ok(())
+            let message = extra_field(self.alloc, place, self.key, field.name.as_slice())?;
+            add_message(messages, message)
         } else {
             fill(given, slot, value)
         }

@@ -1,6 +1,7 @@
 //! What entries inherit from those that they refer to.
 
-ghost use Rattle.std.specs.Prelude.{◌≡◌, IfOk, OnOk};
+ghost use Rattle.std.specs.Prelude.{◌≡◌, [], IfOk, OnOk};
+ghost use Rattle.std.specs.List.{slice_index_or};
 ghost use Rattle.bt_resolve.specs.Inherited.{inherited};
 ghost use Rattle.bt_resolve.specs.inner.Inheritance.{all_inherit, inherits_at, values_read};
 
@@ -46,10 +47,25 @@ pub fn values_read(alloc: Global, stored: &[Stored]) -> Result<Vec<Shared<FieldV
     Ok(values)
 }
 
+/// The values of the entry of a place, once it inherits from a parent, as that is now.
+fn inherited_from(
+    alloc: Global,
+    values: &[Shared<FieldValues>],
+    place: usize,
+    parent: usize,
+) -> Result<Shared<FieldValues>, AllocError>
+    ensures { IfOk result (λ filled. filled
+        ≡ inherited (slice_index_or values.now place []) (slice_index_or values.now parent [])) }
+{
+    let mine = shared_at(alloc, values, place)?;
+    let theirs = shared_at(alloc, values, parent)?;
+    inherited(alloc, &mine, &theirs)
+}
+
 /// The entry of a place inherits from its parent, as that is now.
 fn inherit_at(
     alloc: Global,
-    family: &Family,
+    family: &Family<'_>,
     place: usize,
     values: &mut Vec<Shared<FieldValues>>,
 ) -> Result<(), AllocError>
@@ -58,9 +74,7 @@ fn inherit_at(
     let Some(parent) = family.parent_at(place) else {
         return Ok(());
     };
-    let mine = shared_at(alloc, values.as_slice(), place)?;
-    let theirs = shared_at(alloc, values.as_slice(), parent)?;
-    let filled = inherited(alloc, &mine, &theirs)?;
+    let filled = inherited_from(alloc, values.as_slice(), place, parent)?;
     if place < values.len() {
         values[place] = filled;
     }
@@ -70,7 +84,7 @@ fn inherit_at(
 /// The entries of some places inherit, one after another.
 pub fn all_inherit(
     alloc: Global,
-    family: &Family,
+    family: &Family<'_>,
     places: &[usize],
     values: &mut Vec<Shared<FieldValues>>,
 ) -> Result<(), AllocError>

@@ -112,8 +112,7 @@ impl JoinedParts {
         ensures { OnOk result (self.new ≡ self.old ++ more) }
     {
         if self.as_slice().is_empty() {
-            let JoinedParts { holder } = more;
-            self.holder = holder;
+            *self = more;
             Ok(())
         } else if more.as_slice().is_empty() {
             Ok(())

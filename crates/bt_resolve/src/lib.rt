@@ -17,6 +17,7 @@ mod laws;
 mod list;
 mod macro_text;
 mod macros;
+mod messages;
 mod place;
 mod reader;
 mod reading;

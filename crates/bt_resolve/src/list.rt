@@ -15,7 +15,7 @@ use std::collections::HashSet;
 pub fn is_cited_at(
     alloc: Global,
     keys: &NameList,
-    family: &Family,
+    family: &Family<'_>,
     place: usize,
 ) -> Result<bool, AllocError>
     ensures { IfOk result (λ cited. cited ≡ is_cited_at keys.now family.now place) }
@@ -27,7 +27,11 @@ pub fn is_cited_at(
 }
 
 /// The entries of the keys that have one.
-fn cited_places(alloc: Global, keys: &[Bytes], family: &Family) -> Result<Vec<usize>, AllocError>
+fn cited_places(
+    alloc: Global,
+    keys: &[Bytes],
+    family: &Family<'_>,
+) -> Result<Vec<usize>, AllocError>
     ensures { IfOk result (λ places. places.items ≡ cited_places keys.now family.now) }
 {
     let mut places = Vec::new(alloc);
@@ -53,7 +57,7 @@ fn known_places(alloc: Global, places: &[Option<usize>]) -> Result<Vec<usize>, A
 }
 
 /// The entries that entries refer to.
-fn parents(alloc: Global, family: &Family) -> Result<Vec<usize>, AllocError>
+fn parents(alloc: Global, family: &Family<'_>) -> Result<Vec<usize>, AllocError>
     ensures { IfOk result (λ places. places.items ≡ parents family.now) }
 {
     known_places(alloc, family.parents())
@@ -63,7 +67,7 @@ fn parents(alloc: Global, family: &Family) -> Result<Vec<usize>, AllocError>
 fn uncited(
     alloc: Global,
     keys: &NameList,
-    family: &Family,
+    family: &Family<'_>,
     places: &[usize],
 ) -> Result<Vec<usize>, AllocError>
     ensures { IfOk result (λ found. found.items
@@ -78,6 +82,16 @@ fn uncited(
     Ok(found)
 }
 
+/// Puts a place into a set, and says whether it is new there.
+fn insert_place(set: &mut HashSet<usize>, place: usize) -> Result<bool, AllocError>
+    ensures new { IfOk result (λ new. new ≡ not (contains nat_eq set.old place)) }
+    ensures set { OnOk result ((p : ℕ) → contains nat_eq set.new p
+        ≡ cond (place == p) true (contains nat_eq set.old p)) }
+{
+    let new = set.insert(place)?;
+    Ok(new)
+}
+
 /// Puts a place after those found, unless it is among them.
 fn add_first(
     place: usize,
@@ -89,7 +103,7 @@ fn add_first(
     ensures found { OnOk result (found.new.items ≡ found.old.items
         ++ (if contains nat_eq seen.old place then [] else place ∷ [])) }
 {
-    if seen.insert(place)? {
+    if insert_place(seen, place)? {
         found.push(place)?;
         Ok(())
     } else {
@@ -113,7 +127,7 @@ fn firsts(alloc: Global, places: &[usize]) -> Result<Vec<usize>, AllocError>
 fn uncited_parents(
     alloc: Global,
     keys: &NameList,
-    family: &Family,
+    family: &Family<'_>,
 ) -> Result<Vec<usize>, AllocError>
     ensures { IfOk result (λ found. found.items ≡ uncited_parents keys.now family.now) }
 {
@@ -128,7 +142,7 @@ fn place_set(alloc: Global, places: &[usize]) -> Result<HashSet<usize>, AllocErr
 {
     let mut set = HashSet::new(alloc);
     'places: for place in places {
-        set.insert(*place)?;
+        insert_place(&mut set, *place)?;
     }
     Ok(set)
 }
@@ -159,7 +173,11 @@ fn others(alloc: Global, set: &HashSet<usize>, count: usize) -> Result<Vec<usize
 }
 
 /// All entries but those of some places.
-fn others_than(alloc: Global, these: &[usize], family: &Family) -> Result<Vec<usize>, AllocError>
+fn others_than(
+    alloc: Global,
+    these: &[usize],
+    family: &Family<'_>,
+) -> Result<Vec<usize>, AllocError>
     ensures { IfOk result (λ found. found.items ≡ others_than these.now family.now) }
 {
     let set = place_set(alloc, these)?;
@@ -168,7 +186,11 @@ fn others_than(alloc: Global, these: &[usize], family: &Family) -> Result<Vec<us
 
 /// The list: what is cited, then what entries refer to, or what else there is.
 #[tactic(auto, unfolding(crate::specs::Listed::listed))]
-pub fn listed(alloc: Global, asked: &Asked<'_>, family: &Family) -> Result<Vec<usize>, AllocError>
+pub fn listed(
+    alloc: Global,
+    asked: &Asked<'_>,
+    family: &Family<'_>,
+) -> Result<Vec<usize>, AllocError>
     requires { IfSome asked.now.star (λ before. before ≤ length asked.now.keys) }
     ensures { IfOk result (λ places. places.items ≡ listed asked.now family.now) }
 {

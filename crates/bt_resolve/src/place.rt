@@ -9,7 +9,7 @@ ghost use Rattle.bt_resolve.specs.inner.Warnings.{line_at};
 use bt_bib::Spot;
 
 /// A line of a database.
-#[derive(Clone, Copy, Debug, PartialEq, Eq)]
+#[derive(Clone, Copy, PartialEq, Eq)]
 pub struct BibLine {
     /// The number of the database, from 1.
     pub database: usize,
@@ -31,7 +31,7 @@ impl BibLine {
 }
 
 /// Where an item stands, from which its lines count.
-#[derive(Clone, Copy, Debug, PartialEq, Eq)]
+#[derive(Clone, Copy, PartialEq, Eq)]
 pub struct Origin {
     /// The number of its database, from 1.
     pub database: usize,

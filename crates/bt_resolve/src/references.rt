@@ -7,6 +7,7 @@ ghost use Rattle.bt_resolve.specs.Listed.{place_of_key};
 ghost use Rattle.bt_resolve.specs.References.{about, bad_reference, crossref_messages, entry_messages, missing_messages, nested, no_entry, parent_messages, reference_messages};
 
 use crate::family::Family;
+use crate::messages::add_message;
 use crate::stored::Stored;
 use bt_log::{Message, Rank};
 use bt_text::{Bytes, NameList, Sequence, Shared};
@@ -110,14 +111,10 @@ fn tell_parent(
         ++ parent_messages key.now name.now (option_copied parent.entry)) }
 {
     match parent {
-        None => {
-            messages.push(bad_reference(alloc, key, name)?)?;
-            Ok(())
-        }
+        None => add_message(messages, bad_reference(alloc, key, name)?),
         Some(parent) => {
             if parent.crossref.is_some() {
-                messages.push(nested(alloc, key, name)?)?;
-                Ok(())
+                add_message(messages, nested(alloc, key, name)?)
             } else {
                 Ok(())
             }
@@ -132,7 +129,7 @@ pub struct Teller<'a> {
     /// The cited keys.
     pub keys: &'a NameList,
     /// The stored entries.
-    pub family: &'a Family,
+    pub family: &'a Family<'a>,
 }
 
 impl<'a> Teller<'a> {
@@ -217,8 +214,7 @@ impl<'a> Teller<'a> {
         if self.family.has(self.alloc, key)? {
             Ok(())
         } else {
-            messages.push(no_entry(self.alloc, key)?)?;
-            Ok(())
+            add_message(messages, no_entry(self.alloc, key)?)
         }
     }
 

@@ -2,7 +2,6 @@
 
 ghost use Rattle.std.specs.Prelude.{◌≡◌, [], true, slice_set, None, IfOk};
 ghost use Rattle.std.specs.List.{slice_index_or};
-ghost use Rattle.bt_resolve.specs.Inherited.{with_crossref};
 
 use crate::stored::FieldValues;
 use bt_text::{Bytes, Shared, SparseTexts};
@@ -44,23 +43,18 @@ fn with_value(
     Shared::new(alloc, all)
 }
 
-/// The values with `crossref` in its place, if the style has that field. They are shared where nothing changes.
+/// The values with that of `crossref` in its place. They are shared where nothing changes.
 pub fn put_crossref(
     alloc: Global,
-    place: Option<usize>,
+    place: usize,
     name: Option<Shared<Bytes>>,
     values: Shared<FieldValues>,
 ) -> Result<Shared<FieldValues>, AllocError>
-    ensures { IfOk result (λ all. all ≡ with_crossref place name values) }
+    ensures { IfOk result (λ all. all ≡ slice_set values place name) }
 {
-    match place {
-        None => Ok(values),
-        Some(place) => {
-            if name.is_none() && is_missing(&values, place) {
-                Ok(values)
-            } else {
-                with_value(alloc, place, name, &values)
-            }
-        }
+    if name.is_none() && is_missing(&values, place) {
+        Ok(values)
+    } else {
+        with_value(alloc, place, name, &values)
     }
 }

@@ -6,7 +6,7 @@ use bt_text::{Bytes, Shared, SparseTexts};
 pub type FieldValues = SparseTexts;
 
 /// An entry as it is stored, before it inherits. What the entries of the list have of it is shared, and not copied.
-#[derive(Debug, Drop)]
+#[derive(Drop)]
 pub struct Stored {
     /// Its key, as in the database.
     pub key: Shared<Bytes>,

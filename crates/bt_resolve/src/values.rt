@@ -1,16 +1,17 @@
 //! The value of parts joined by `#`, and the warnings that it gives.
 
-ghost use Rattle.std.specs.Prelude.{◌≡◌, ◌++◌, [], ◌∷◌, All, Some, None, map, option_copied, option_and_then, unwrap_or, IfOk, OnOk};
+ghost use Rattle.std.specs.Prelude.{◌≡◌, ◌++◌, [], ◌∷◌, All, Some, None, map, not, option_copied, option_and_then, unwrap_or, IfOk, OnOk};
 ghost use Rattle.std.specs.List.{flat_map};
 ghost use Rattle.bt_bib.specs.Moved.{moved_part, nowhere};
 ghost use Rattle.bt_bib.specs.Shift.{FitsLine, FitsPart};
 ghost use Rattle.bt_text.specs.ByName.{known};
-ghost use Rattle.bt_resolve.specs.Values.{joined_or_empty, is_named, joined_parts, length_warnings, macro_warnings, others, part_text, part_warnings, value, value_warnings, within_limit, without_first_space, without_last_space};
+ghost use Rattle.bt_resolve.specs.Values.{joined_or_empty, is_named, is_too_long, joined_parts, length_warnings, macro_warnings, others, part_text, part_warnings, value, value_warnings, within_limit, without_first_space, without_last_space};
 ghost use Rattle.bt_resolve.specs.inner.Values.{with_part};
 ghost use Rattle.bt_resolve.specs.inner.Warnings.{line_at};
 
 use crate::joined_parts::JoinedParts;
 use crate::macro_text::MacroText;
+use crate::messages::add_message;
 use crate::place::Origin;
 use crate::warnings::{own_macro, too_long, undefined_macro};
 use bt_bib::Part;
@@ -40,6 +41,13 @@ fn is_named(text: Option<&[u8]>, name: &[u8]) -> bool
     }
 }
 
+/// Whether a text fits after another one, within the limit.
+fn fits_after(front: &[u8], text: &[u8]) -> bool
+    ensures { result ≡ not (is_too_long (front.now ++ text.now)) }
+{
+    text.len() <= TEXT_BYTES && front.len() <= TEXT_BYTES - text.len()
+}
+
 /// Puts a text after what was joined so far, or drops everything where both together are over the limit.
 fn join_part(
     alloc: Global,
@@ -48,15 +56,17 @@ fn join_part(
 ) -> Result<(), AllocError>
     ensures { OnOk result (joined.new ≡ option_and_then (with_part text) joined.old) }
 {
-    if let Some(front) = joined {
-        let len = text.as_slice().len();
-        if len <= TEXT_BYTES && front.as_slice().len() <= TEXT_BYTES - len {
-            front.append(alloc, text)?;
-        } else {
-            *joined = None;
+    match joined {
+        None => Ok(()),
+        Some(front) => {
+            if fits_after(front.as_slice(), text.as_slice()) {
+                front.append(alloc, text)
+            } else {
+                *joined = None;
+                Ok(())
+            }
         }
     }
-    Ok(())
 }
 
 impl<'a> ValueReader<'a> {
@@ -104,7 +114,7 @@ impl<'a> ValueReader<'a> {
     {
         match self.macro_text(name)? {
             None => {
-                messages.push(self.empty_macro(name, line)?)?;
+                add_message(messages, self.empty_macro(name, line)?)?;
                 join_part(self.alloc, joined, JoinedParts::new(self.alloc))
             }
             Some(text) => join_part(self.alloc, joined, JoinedParts::of_macro(text)?),
@@ -168,7 +178,10 @@ impl<'a> ValueReader<'a> {
     {
         match joined {
             None => {
-                messages.push(too_long(self.alloc, self.origin.place(line), name)?)?;
+                add_message(
+                    messages,
+                    too_long(self.alloc, self.origin.place(line), name)?,
+                )?;
                 Shared::new(self.alloc, Bytes::new(self.alloc))
             }
             Some(joined) => joined.into_value(self.alloc),

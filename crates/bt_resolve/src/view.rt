@@ -2,7 +2,8 @@
 
 ghost use Rattle.std.specs.Prelude.{◌≡◌, ◌++◌, ◌∷◌, [], slice_get, IfOk, OnOk};
 ghost use Rattle.std.specs.List.{slice_index_or};
-ghost use Rattle.bt_resolve.specs.Inherited.{entries_by, entry_at, entry_seen, final_crossref, is_left_out};
+ghost use Rattle.bt_resolve.specs.Inherited.{entries_by, entry_at, entry_seen, final_crossref, is_left_out, with_crossref};
+ghost use Rattle.bt_resolve.specs.Names.{crossref, place_of_name};
 ghost use Rattle.bt_resolve.specs.inner.Inheritance.{all_inherit, values_read};
 
 use crate::asked::Asked;
@@ -24,7 +25,7 @@ pub struct View<'a> {
     pub asked: &'a Asked<'a>,
     /// The least number of references.
     pub min: u32,
-    pub family: &'a Family,
+    pub family: &'a Family<'a>,
 }
 
 impl View<'_> {
@@ -59,21 +60,34 @@ impl View<'_> {
         }
     }
 
+    /// The values of a stored entry as the style sees them, with `crossref` in its place, if the style has that field.
+    fn fields_seen(
+        &self,
+        values: Shared<FieldValues>,
+        entry: &Stored,
+    ) -> Result<Shared<FieldValues>, AllocError>
+        ensures { IfOk result (λ fields. fields ≡ with_crossref (place_of_name self.now.asked.now.fields crossref)
+            (final_crossref self.now.asked.now self.now.min self.now.family.now entry.now) values) }
+    {
+        match self.asked.fields.place(self.alloc, CROSSREF)? {
+            None => Ok(values),
+            Some(place) => {
+                let crossref = self.final_crossref(entry)?;
+                put_crossref(self.alloc, place, crossref, values)
+            }
+        }
+    }
+
     /// A stored entry with these values, as the style sees it.
     fn entry_seen(&self, values: Shared<FieldValues>, entry: &Stored) -> Result<Entry, AllocError>
         ensures { IfOk result (λ seen. seen
             ≡ entry_seen self.now.asked.now self.now.min self.now.family.now values entry.now) }
     {
-        let key = spelled(self.alloc, &self.asked.keys, &entry.key)?;
-        let kind = entry.kind.share()?;
-        let function = entry.function;
-        let place = self.asked.fields.place(self.alloc, CROSSREF)?;
-        let crossref = self.final_crossref(entry)?;
-        let fields = put_crossref(self.alloc, place, crossref, values)?;
+        let fields = self.fields_seen(values, entry)?;
         Ok(Entry {
-            key,
-            kind,
-            function,
+            key: spelled(self.alloc, &self.asked.keys, &entry.key)?,
+            kind: entry.kind.share()?,
+            function: entry.function,
             fields,
         })
     }
