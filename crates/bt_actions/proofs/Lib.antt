@@ -9,4 +9,5 @@ mod WritingRows
 mod LoggingRows
 pub mod LoggingLemmas
 pub mod NameLemmas
+pub mod StackLemmas
 pub mod GivenLemmas

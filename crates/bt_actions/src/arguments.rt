@@ -174,11 +174,9 @@ pub fn take_two<'a, A: Argument<'a>, B: Argument<'a>>(
     let (lower, upper) = pop_two(state)?;
     let (upper, wrong_upper) = judged(upper);
     let (lower, wrong_lower) = judged(lower);
+    let pair = lower.zip(upper);
     state.judge(builtin, wrong_upper || wrong_lower)?;
-    match (lower, upper) {
-        (Some(lower), Some(upper)) => Ok(Some((lower, upper))),
-        _ => Ok(None),
-    }
+    Ok(pair)
 }
 
 /// Takes three arguments, of which the last was the topmost value.
@@ -196,10 +194,11 @@ pub fn take_three<'a, A: Argument<'a>, B: Argument<'a>, C: Argument<'a>>(
     let (last, wrong_last) = judged(last);
     let (middle, wrong_middle) = judged(middle);
     let (first, wrong_first) = judged(state.pop()?);
+    let all = first.zip(middle).zip(last);
     state.judge(builtin, wrong_last || wrong_middle || wrong_first)?;
-    match (first, middle, last) {
-        (Some(first), Some(middle), Some(last)) => Ok(Some((first, middle, last))),
-        _ => Ok(None),
+    match all {
+        None => Ok(None),
+        Some(((first, middle), last)) => Ok(Some((first, middle, last))),
     }
 }
 

@@ -30,17 +30,14 @@ fn assign_global_number(
     state: &mut State,
     alloc: Global,
     n: usize,
-    value: Value,
+    value: &Value,
 ) -> Result<(), AllocError>
     ensures world { OnOk result (world_of state.new
-        ≡ assigned (item_of value.entry, target.GlobalNumber n) (world_of state.old)) }
+        ≡ assigned (item_of value.now, target.GlobalNumber n) (world_of state.old)) }
     ensures tally { state.new.tally ≡ state.old.tally }
 {
     match value {
-        Value::Number(number) => {
-            state.globals.set_number(alloc, n, number)?;
-            Ok(())
-        }
+        Value::Number(number) => state.globals.set_number(alloc, n, *number),
         _ => tell_wrong_kind(state),
     }
 }
@@ -59,8 +56,7 @@ fn assign_global_text(
     match value {
         Value::Text(text) => {
             let text = text.into_shared(alloc)?;
-            state.globals.set_text(alloc, n, text)?;
-            Ok(())
+            state.globals.set_text(alloc, n, text)
         }
         _ => tell_wrong_kind(state),
     }
@@ -71,19 +67,16 @@ fn assign_entry_number(
     state: &mut State,
     alloc: Global,
     n: usize,
-    value: Value,
+    value: &Value,
 ) -> Result<(), AllocError>
     ensures world { OnOk result (world_of state.new
-        ≡ assigned (item_of value.entry, target.EntryNumber n) (world_of state.old)) }
+        ≡ assigned (item_of value.now, target.EntryNumber n) (world_of state.old)) }
     ensures tally { state.new.tally ≡ state.old.tally }
 {
     match &mut state.current {
         None => state.tell(Complaint::NoEntry),
         Some(current) => match value {
-            Value::Number(number) => {
-                current.variables.set_number(alloc, n, number)?;
-                Ok(())
-            }
+            Value::Number(number) => current.variables.set_number(alloc, n, *number),
             _ => tell_wrong_kind(state),
         },
     }
@@ -105,8 +98,7 @@ fn assign_entry_text(
         Some(current) => match value {
             Value::Text(text) => {
                 let text = text.into_shared(alloc)?;
-                current.variables.set_text(alloc, n, text)?;
-                Ok(())
+                current.variables.set_text(alloc, n, text)
             }
             _ => tell_wrong_kind(state),
         },
@@ -124,9 +116,9 @@ fn assign_to(
     ensures tally { state.new.tally ≡ state.old.tally }
 {
     match target {
-        Target::EntryNumber(n) => assign_entry_number(state, alloc, n, value),
+        Target::EntryNumber(n) => assign_entry_number(state, alloc, n, &value),
         Target::EntryText(n) => assign_entry_text(state, alloc, n, value),
-        Target::GlobalNumber(n) => assign_global_number(state, alloc, n, value),
+        Target::GlobalNumber(n) => assign_global_number(state, alloc, n, &value),
         Target::GlobalText(n) => assign_global_text(state, alloc, n, value),
         Target::Builtin(_) | Target::Field(_) | Target::Function(_) => {
             state.tell(Complaint::NotVariable)

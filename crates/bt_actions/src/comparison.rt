@@ -19,13 +19,13 @@ use bt_text::is_white;
 use std::alloc::AllocError;
 
 /// Compares two numbers or two texts.
-fn compare(state: &mut State, lower: Value, upper: Value) -> Result<Flow, AllocError>
+fn compare(state: &mut State, lower: &Value, upper: &Value) -> Result<Flow, AllocError>
     ensures world { IfOk result
-        (Acts (answered (equality_of (item_of lower.entry, item_of upper.entry))) state.old state.new) }
+        (Acts (answered (equality_of (item_of lower.now, item_of upper.now))) state.old state.new) }
     ensures tally { state.new.tally ≡ state.old.tally }
 {
     match (lower, upper) {
-        (Value::Number(n), Value::Number(m)) => state.push_truth(n == m),
+        (Value::Number(n), Value::Number(m)) => state.push_truth(*n == *m),
         (Value::Text(t), Value::Text(u)) => state.push_truth(t.as_slice() == u.as_slice()),
         _ => state.push_zero_in_error(Complaint::WrongKind(Builtin::Equals)),
     }
@@ -39,7 +39,7 @@ pub fn equals(state: &mut State) -> Result<Flow, AllocError>
 {
     match take_two::<Value, Value>(state, Builtin::Equals)? {
         None => state.push_number(0),
-        Some((lower, upper)) => compare(state, lower, upper),
+        Some((lower, upper)) => compare(state, &lower, &upper),
     }
 }
 

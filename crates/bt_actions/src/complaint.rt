@@ -11,7 +11,7 @@ use itoa::Buffer;
 use std::alloc::{AllocError, Global};
 
 /// What a step reports: errors, what the style logs, and the limits that stop a run.
-#[derive(Debug, Drop)]
+#[derive(Drop)]
 pub enum Complaint {
     /// An argument was taken from an empty stack.
     EmptyStack,

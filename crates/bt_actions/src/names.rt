@@ -2,7 +2,7 @@
 
 ghost use Rattle.std.specs.Prelude.{◌≡◌, IfOk, pos, ℤ, List, ℕ};
 ghost use Rattle.bt_actions.specs.Arguments.{as_number, as_text, taken, taken_three};
-ghost use Rattle.bt_actions.specs.Given.{valued, answered, zero_item, empty_item};
+ghost use Rattle.bt_actions.specs.Given.{Errs, valued, answered, zero_item, empty_item};
 ghost use Rattle.bt_actions.specs.Names.{names_counted, name_formatted};
 ghost use Rattle.bt_actions.specs.inner.Names.{pushed_within};
 ghost use Rattle.bt_actions.specs.View.{world_of, Acts};
@@ -16,7 +16,7 @@ use crate::state::{Flow, State};
 use crate::texts::push_count;
 use bt_names::{FormatFault, Formatted, count, format_within};
 use bt_style::Builtin;
-use bt_text::TEXT_BYTES;
+use bt_text::{Bytes, TEXT_BYTES};
 use std::alloc::{AllocError, Global};
 
 /// `num.names$`.
@@ -42,32 +42,30 @@ fn push_within(state: &mut State, formatted: Formatted) -> Result<Flow, AllocErr
     }
 }
 
-/// Reports what is wrong with a list of names or a pattern, and puts the empty text on the stack.
-fn push_fault(
-    state: &mut State,
+/// What is reported of a list of names or a pattern in which there is a fault.
+fn fault_complaint(
     alloc: Global,
-    names: ShortText,
+    names: &[u8],
     number: i32,
-    pattern: ShortText,
+    pattern: &[u8],
     fault: FormatFault,
-) -> Result<Flow, AllocError>
-    requires { IsFormatFault (formatted_name names number pattern) fault }
-    ensures world { IfOk result (Acts (answered (name_formatted (names.entry, number, pattern.entry))) state.old
-        state.new) }
-    ensures tally { state.new.tally ≡ state.old.tally }
+) -> Result<Complaint, AllocError>
+    requires { IsFormatFault (formatted_name names.now number pattern.now) fault }
+    ensures { IfOk result (λ complaint.
+        name_formatted (names.now, number, pattern.now) ≡ Errs complaint empty_item) }
 {
     match fault {
         FormatFault::NoSuchName => {
-            let complaint = Complaint::NoSuchName(number, names.into_bytes(alloc)?);
-            state.push_text_in_error(complaint, Text::Lent(b""))
+            let names = Bytes::copied(alloc, names)?;
+            Ok(Complaint::NoSuchName(number, names))
         }
         FormatFault::TooManyCommas => {
-            let complaint = Complaint::TooManyCommas(number, names.into_bytes(alloc)?);
-            state.push_text_in_error(complaint, Text::Lent(b""))
+            let names = Bytes::copied(alloc, names)?;
+            Ok(Complaint::TooManyCommas(number, names))
         }
         FormatFault::PatternFault(place) => {
-            let complaint = Complaint::PatternFault(pattern.into_bytes(alloc)?, place);
-            state.push_text_in_error(complaint, Text::Lent(b""))
+            let pattern = Bytes::copied(alloc, pattern)?;
+            Ok(Complaint::PatternFault(pattern, place))
         }
         FormatFault::OutOfMemory => Err(AllocError),
     }
@@ -77,23 +75,20 @@ fn push_fault(
 fn push_formatted(
     state: &mut State,
     alloc: Global,
-    names: ShortText,
+    names: &[u8],
     number: i32,
-    pattern: ShortText,
+    pattern: &[u8],
 ) -> Result<Flow, AllocError>
-    ensures world { IfOk result (Acts (answered (name_formatted (names.entry, number, pattern.entry))) state.old
+    ensures world { IfOk result (Acts (answered (name_formatted (names.now, number, pattern.now))) state.old
         state.new) }
     ensures tally { state.new.tally ≡ state.old.tally }
 {
-    match format_within(
-        alloc,
-        names.as_slice(),
-        number,
-        pattern.as_slice(),
-        TEXT_BYTES,
-    ) {
+    match format_within(alloc, names, number, pattern, TEXT_BYTES) {
         Ok(formatted) => push_within(state, formatted),
-        Err(fault) => push_fault(state, alloc, names, number, pattern, fault),
+        Err(fault) => {
+            let complaint = fault_complaint(alloc, names, number, pattern, fault)?;
+            state.push_text_in_error(complaint, Text::Lent(b""))
+        }
     }
 }
 
@@ -106,6 +101,8 @@ pub fn format_name(state: &mut State, alloc: Global) -> Result<Flow, AllocError>
 {
     match take_three::<ShortText, i32, ShortText>(state, Builtin::FormatName)? {
         None => state.push_text(Text::Lent(b"")),
-        Some((names, number, pattern)) => push_formatted(state, alloc, names, number, pattern),
+        Some((names, number, pattern)) => {
+            push_formatted(state, alloc, names.as_slice(), number, pattern.as_slice())
+        }
     }
 }

@@ -21,7 +21,7 @@ pub enum Text<'a> {
 }
 
 impl<'a> Text<'a> {
-    ghost use Rattle.std.specs.Prelude.{◌≡◌, IfOk};
+    ghost use Rattle.std.specs.Prelude.{◌≡◌, ◌++◌, IfOk};
     ghost use Rattle.bt_actions.specs.ShortText.{bytes_of};
 
     /// The bytes.
@@ -49,6 +49,22 @@ impl<'a> Text<'a> {
                 let bytes = Shared::new(alloc, bytes)?;
                 Ok((Text::Shared(bytes.share()?), Text::Shared(bytes)))
             }
+        }
+    }
+
+    /// The text with more bytes after it. Bytes that it alone has are not copied.
+    fn followed_by(self, alloc: Global, more: &[u8]) -> Result<Text<'a>, AllocError>
+        ensures { IfOk result (λ text. bytes_of text ≡ bytes_of self.entry ++ more.now) }
+    {
+        if more.is_empty() {
+            return Ok(self);
+        }
+        match self {
+            Text::Own(mut bytes) => {
+                bytes.append(more)?;
+                Ok(Text::Own(bytes))
+            }
+            text => copied_with(alloc, text.as_slice(), more),
         }
     }
 }
@@ -120,19 +136,10 @@ impl<'a> ShortText<'a> {
     pub fn joined(self, alloc: Global, upper: ShortText<'a>) -> Result<Text<'a>, AllocError>
         ensures { IfOk result (λ text. bytes_of text ≡ self.entry ++ upper.entry) }
     {
-        if upper.as_slice().is_empty() {
-            return Ok(self.into_text());
-        }
-        let ShortText { text } = self;
-        match text {
-            Text::Lent([]) => Ok(upper.into_text()),
-            Text::Lent(bytes) => copied_with(alloc, bytes, upper.as_slice()),
-            Text::Given(bytes) => copied_with(alloc, bytes.as_slice(), upper.as_slice()),
-            Text::Shared(bytes) => copied_with(alloc, bytes.as_slice(), upper.as_slice()),
-            Text::Own(mut bytes) => {
-                bytes.append(upper.as_slice())?;
-                Ok(Text::Own(bytes))
-            }
+        if self.as_slice().is_empty() {
+            Ok(upper.into_text())
+        } else {
+            self.into_text().followed_by(alloc, upper.as_slice())
         }
     }
 

@@ -55,16 +55,11 @@ pub fn swap(state: &mut State) -> Result<Flow, AllocError>
     ensures world { IfOk result (Acts (λ world. Goes (swapped world.stack world)) state.old state.new) }
     ensures tally { state.new.tally ≡ state.old.tally }
 {
-    match (state.stack.pop(), state.stack.pop()) {
-        (Some(upper), Some(lower)) => {
-            state.stack.push(upper)?;
-            state.stack.push(lower)?;
-        }
-        (Some(only), None) => {
-            state.stack.push(only)?;
-            state.tell(Complaint::EmptyStack)?;
-        }
-        (None, _) => state.tell(Complaint::EmptyStack)?,
+    let count = state.stack.len();
+    if count < 2 {
+        state.tell(Complaint::EmptyStack)?;
+    } else {
+        state.stack.swap(count - 1, count - 2);
     }
     Ok(Flow::Go)
 }

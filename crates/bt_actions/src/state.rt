@@ -12,7 +12,7 @@ use bt_text::{Bytes, Held, HeldFault, Sequence};
 use std::alloc::{AllocError, Global};
 
 /// Whether the run goes on.
-#[derive(Clone, Copy, PartialEq, Eq, Debug)]
+#[derive(Clone, Copy, PartialEq, Eq)]
 pub enum Flow {
     Go,
     Stop,
@@ -45,7 +45,7 @@ pub struct State<'a> {
 impl<'a> State<'a> {
     ghost use Rattle.std.specs.Prelude.{◌≡◌, ◌≤◌, ◌<◌, [], ◌∷◌, length, IfOk, OnOk, IfNone, IfSome, OnSome, option_map, vec_len};
     ghost use Rattle.bt_actions.specs.Item.{Num, Txt};
-    ghost use Rattle.bt_actions.specs.World.{say, with_stack};
+    ghost use Rattle.bt_actions.specs.World.{Stops, say, with_stack};
     ghost use Rattle.bt_actions.specs.State.{popped, pushed, pushed_in_error, limit_passed, appended, held_line_ended, text_len};
     ghost use Rattle.bt_actions.specs.inner.State.{told_with_room};
     ghost use Rattle.bt_actions.specs.Arguments.{judged};
@@ -95,9 +95,19 @@ impl<'a> State<'a> {
         ensures tally { self.new.tally ≡ self.old.tally }
     {
         if wrong {
-            self.tell(Complaint::WrongKind(builtin))?;
+            self.tell(Complaint::WrongKind(builtin))
+        } else {
+            Ok(())
         }
-        Ok(())
+    }
+
+    /// Reports a limit that was passed, at which the run stops.
+    fn stop(&mut self, limit: Complaint) -> Result<Flow, AllocError>
+        ensures world { IfOk result (Acts (λ world. Stops (say limit world)) self.old self.new) }
+        ensures tally { self.new.tally ≡ self.old.tally }
+    {
+        self.tell(limit)?;
+        Ok(Flow::Stop)
     }
 
     /// Puts a value on the stack, unless that would pass its limit.
@@ -111,8 +121,7 @@ impl<'a> State<'a> {
             self.stack.push(value)?;
             Ok(Flow::Go)
         } else {
-            self.tell(Complaint::StackPassed)?;
-            Ok(Flow::Stop)
+            self.stop(Complaint::StackPassed)
         }
     }
 
@@ -134,11 +143,10 @@ impl<'a> State<'a> {
         ensures tally { self.new.tally ≡ self.old.tally }
     {
         if self.stack.len() < STACK_LIMIT {
-            self.tell(Complaint::TextPassed)?;
+            self.stop(Complaint::TextPassed)
         } else {
-            self.tell(Complaint::StackPassed)?;
+            self.stop(Complaint::StackPassed)
         }
-        Ok(Flow::Stop)
     }
 
     /// Puts a number on the stack, unless it is full.
@@ -163,9 +171,10 @@ impl<'a> State<'a> {
         ensures tally { self.new.tally ≡ self.old.tally }
     {
         if self.stack.len() < STACK_LIMIT {
-            self.tell(complaint)?;
+            self.tell(complaint)
+        } else {
+            Ok(())
         }
-        Ok(())
     }
 
     /// Reports an error, and puts 0 on the stack. Where it is full only the limit is reported.
@@ -198,10 +207,7 @@ impl<'a> State<'a> {
     {
         match self.held.write(alloc, text, &mut self.lines) {
             Ok(()) => Ok(Flow::Go),
-            Err(HeldFault::TooLong) => {
-                self.tell(Complaint::TextPassed)?;
-                Ok(Flow::Stop)
-            }
+            Err(HeldFault::TooLong) => self.stop(Complaint::TextPassed),
             Err(HeldFault::OutOfMemory) => Err(AllocError),
         }
     }

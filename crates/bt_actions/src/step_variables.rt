@@ -73,10 +73,10 @@ impl<'a> StepVariables<'a> {
                 let mut own = variables.copy(alloc)?;
                 own.numbers.set(alloc, n, number)?;
                 self.holder = Holder::Own(own);
+                Ok(())
             }
-            Holder::Own(variables) => variables.numbers.set(alloc, n, number)?,
+            Holder::Own(variables) => variables.numbers.set(alloc, n, number),
         }
-        Ok(())
     }
 
     /// Gives the text variable at a place a value, if there is one.
@@ -93,10 +93,10 @@ impl<'a> StepVariables<'a> {
                 let mut own = variables.copy(alloc)?;
                 own.texts.set(alloc, n, text)?;
                 self.holder = Holder::Own(own);
+                Ok(())
             }
-            Holder::Own(variables) => variables.texts.set(alloc, n, text)?,
+            Holder::Own(variables) => variables.texts.set(alloc, n, text),
         }
-        Ok(())
     }
 
     /// The variables for many owners: those of the input where the step gave none a value.
