@@ -25,6 +25,7 @@ mod FaultRows
 mod StyleRows
 mod LawRows
 pub mod ReachLemmas
+pub mod NotedLemmas
 pub mod FoundLemmas
 pub mod SearchLemmas
 pub mod ReachedLemmas

@@ -8,7 +8,7 @@ pub const BUILTIN_COUNT: usize = 37;
 
 /// A function that needs no definition: the built-in functions of *Designing BibTeX Styles*, in the order of their
 /// table. Arguments are named from the lowest on the literal stack to the top.
-#[derive(Clone, Copy, PartialEq, Eq, Hash, Debug)]
+#[derive(Clone, Copy, Debug, PartialEq, Eq, Hash)]
 pub enum Builtin {
     /// `>`. Two numbers: 1 where the lower one on the stack is greater, else 0.
     Greater,

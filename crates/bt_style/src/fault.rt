@@ -4,53 +4,40 @@ ghost use Rattle.std.specs.Prelude.{◌≡◌};
 ghost use Rattle.bt_style.specs.Fault.{words_of};
 
 use std::alloc::AllocError;
+use std::fmt;
 use thiserror::Error;
 
 /// What is wrong with a style's text.
-#[derive(Clone, Copy, PartialEq, Eq, Debug, Error)]
+#[derive(Clone, Copy, PartialEq, Eq, Debug)]
 pub enum FaultKind {
     /// A word stands where a command must stand, and is no command's.
-    #[error("UnknownCommand")]
     UnknownCommand,
     /// MACRO stands after READ, or EXECUTE, ITERATE, REVERSE or SORT before it.
-    #[error("CommandOrder")]
     CommandOrder,
     /// A second ENTRY.
-    #[error("SecondEntry")]
     SecondEntry,
     /// A second READ.
-    #[error("SecondRead")]
     SecondRead,
     /// READ stands before ENTRY.
-    #[error("NoEntry")]
     NoEntry,
     /// A name is used that isn't defined before.
-    #[error("UnknownName")]
     UnknownName,
     /// A name or a macro is declared that exists.
-    #[error("NameTaken")]
     NameTaken,
     /// A number doesn't fit 32 signed bits.
-    #[error("NumberTooLarge")]
     NumberTooLarge,
     /// A text has no second quote on its line.
-    #[error("UnclosedText")]
     UnclosedText,
     /// The end or something else stands where a right brace must stand, or braces stand over 100 deep.
-    #[error("UnclosedBrace")]
     UnclosedBrace,
     /// A word is declared that is no name, or nothing is quoted.
-    #[error("BadName")]
     BadName,
     /// A number has no digits or a wrong byte after it, a text has a wrong byte after it, or a brace stands where a
     /// command must stand.
-    #[error("StrayByte")]
     StrayByte,
     /// A field or variable is to be run.
-    #[error("NotAFunction")]
     NotAFunction,
     /// An argument, the name in it or a macro's text is missing.
-    #[error("MissingArgument")]
     MissingArgument,
 }
 
@@ -75,6 +62,13 @@ impl FaultKind {
             FaultKind::NotAFunction => b"This isn't a function",
             FaultKind::MissingArgument => b"An argument is missing",
         }
+    }
+}
+
+impl fmt::Display for FaultKind {
+    /// The kind's name.
+    fn fmt<W: fmt::Write>(&self, f: &mut fmt::Formatter<W>) -> fmt::Result {
+        fmt::Debug::fmt(self, f)
     }
 }
 

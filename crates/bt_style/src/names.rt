@@ -13,7 +13,7 @@ use bt_text::ByName;
 use std::alloc::{AllocError, Global};
 
 /// A list of names that a command fills.
-#[derive(Clone, Copy, PartialEq, Eq, Debug)]
+#[derive(Clone, Copy, PartialEq, Eq)]
 pub enum Names {
     Fields,
     EntryNumbers,

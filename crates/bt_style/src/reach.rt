@@ -2,12 +2,12 @@
 
 ghost use Rattle.std.specs.Prelude.{◌≡◌, ◌+◌, ◌<◌, ◌++◌, ◌↔◌, ◌||◌, ◌⊎◌, IsTrue, IfOk, OnOk, MatchOption, Contains, [], map, filter_map, codes, slice_get};
 ghost use Rattle.std.specs.List.{IsDistinct};
-ghost use Rattle.bt_style.specs.Tree.{ops_body};
+ghost use Rattle.bt_style.specs.Tree.{ops_body, element_of};
 ghost use Rattle.bt_style.specs.Program.{program_of, definitions_of};
 ghost use Rattle.bt_style.specs.Names.{place_in};
 ghost use Rattle.bt_style.specs.Numbers.{as_field, as_entry_number, as_entry_text, as_global_number, as_global_text};
-ghost use Rattle.bt_style.specs.Reach.{Reaches, noted, noted_all, body_names, function_body_names, maybe_function, is_call_type, default_type, leads_to, target_eq, is_among, keeps_held, keeps_preamble, keeps_kind};
-ghost use Rattle.bt_style.specs.inner.Reach.{Knows, waiting_names, waiting_size, body_size};
+ghost use Rattle.bt_style.specs.Reach.{Reaches, noted, noted_all, element_names, body_names, function_body_names, maybe_function, is_call_type, default_type, leads_to, target_eq, is_among, keeps_held, keeps_preamble, keeps_kind};
+ghost use Rattle.bt_style.specs.inner.Reach.{Knows, waiting_names, waiting_size, element_size, body_size};
 
 use crate::builtin::Builtin;
 use crate::names::Names;
@@ -87,6 +87,27 @@ fn take_up<'a>(waiting: &mut Vec<&'a [Op]>) -> Option<&'a [Op]>
     waiting.pop()
 }
 
+/// Notes the name in an element, and leaves what stands in its braces for later.
+fn note_element<'a>(
+    found: &mut Sequence<Target>,
+    seen: &mut HashSet<Target>,
+    waiting: &mut Vec<&'a [Op]>,
+    element: &'a Op,
+) -> Result<(), AllocError>
+    requires { Knows seen.old found.old }
+    ensures same { OnOk result (noted_all found.new (waiting_names waiting.new.items)
+        ≡ noted_all found.old (element_names (element_of element.now) ++ waiting_names waiting.old.items)) }
+    ensures seen { OnOk result (Knows seen.new found.new) }
+    ensures shorter { OnOk result
+        (waiting_size waiting.new.items < element_size (element_of element.now) + waiting_size waiting.old.items) }
+{
+    match element {
+        Op::Number(_) | Op::Text(_) => Ok(()),
+        Op::Quote(target) | Op::Call(target) => note(found, seen, *target),
+        Op::Block(inner) => put_off(waiting, inner.as_slice()),
+    }
+}
+
 /// Goes over the first element of a part of a body, and leaves what stands in it and after it for later.
 fn go_over<'a>(
     found: &mut Sequence<Target>,
@@ -105,12 +126,7 @@ fn go_over<'a>(
         return Ok(());
     };
     put_off(waiting, rest)?;
-    match first {
-        Op::Number(_) | Op::Text(_) => Ok(()),
-        Op::Quote(target) => note(found, seen, *target),
-        Op::Block(inner) => put_off(waiting, inner.as_slice()),
-        Op::Call(target) => note(found, seen, *target),
-    }
+    note_element(found, seen, waiting, first)
 }
 
 /// Notes the names in a body, inner braces too.

@@ -46,15 +46,6 @@ fn declare_presets(alloc: Global, draft: &mut Draft) -> Result<(), AllocError>
     declare_preset(alloc, draft, Names::GlobalNumbers, b"global.max$")
 }
 
-/// The style before its first command.
-fn preset(alloc: Global) -> Result<Draft, AllocError>
-    ensures { IfOk result (λ draft. program_of draft ≡ preset) }
-{
-    let mut draft = Draft::bare(alloc)?;
-    declare_presets(alloc, &mut draft)?;
-    Ok(draft)
-}
-
 /// The word with which a command begins, or none at the end.
 fn command_word<'a>(cursor: &mut Cursor<'a>) -> Result<Option<(&'a [u8], usize)>, StyleRefusal>
     ensures gives { Gives (option_map (λ r. (r.0.now, r.1, cursor.new))) result (command_word cursor.old) }
@@ -85,13 +76,22 @@ fn commands(alloc: Global, cursor: &mut Cursor, draft: &mut Draft) -> Result<(),
     }
 }
 
-/// The style that a text spells, or its first fault.
+/// Reads all of a text into a style in which nothing is declared.
 #[tactic(auto, unfolding(crate::specs::Reader::style_of, crate::specs::Reader::reading))]
+fn read_into(alloc: Global, draft: &mut Draft, text: &[u8]) -> Result<(), StyleRefusal>
+    requires { program_of draft.old ≡ bare }
+    ensures { Gives (λ _. program_of draft.new) result (style_of text.now) }
+{
+    declare_presets(alloc, draft)?;
+    let mut cursor = Cursor::new(text);
+    commands(alloc, &mut cursor, draft)
+}
+
+/// The style that a text spells, or its first fault.
 pub fn read_style(alloc: Global, text: &[u8]) -> Result<Style, StyleRefusal>
     ensures { Gives program_of result (style_of text.now) }
 {
-    let mut draft = preset(alloc)?;
-    let mut cursor = Cursor::new(text);
-    commands(alloc, &mut cursor, &mut draft)?;
+    let mut draft = Draft::bare(alloc)?;
+    read_into(alloc, &mut draft, text)?;
     Ok(draft.into_style())
 }

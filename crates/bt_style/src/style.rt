@@ -4,7 +4,7 @@ use crate::builtin::Builtin;
 use bt_text::{Bytes, Sequence};
 
 /// What a name stands for, with its number among its kind.
-#[derive(Clone, Copy, PartialEq, Eq, Hash, Debug)]
+#[derive(Clone, Copy, Debug, PartialEq, Eq, Hash)]
 pub enum Target {
     Builtin(Builtin),
     Field(usize),
@@ -16,7 +16,7 @@ pub enum Target {
 }
 
 /// An element of a function's body.
-#[derive(Debug, Drop)]
+#[derive(Drop)]
 pub enum Op {
     /// A number, which is put on the literal stack.
     Number(i32),
@@ -31,7 +31,7 @@ pub enum Op {
 }
 
 /// A function of the style.
-#[derive(Debug, Drop)]
+#[derive(Drop)]
 pub struct Function {
     /// Its name, in small letters.
     pub name: Bytes,
@@ -39,7 +39,7 @@ pub struct Function {
 }
 
 /// A macro of the style.
-#[derive(Debug, Drop)]
+#[derive(Drop)]
 pub struct Macro {
     /// Its name, in small letters.
     pub name: Bytes,
@@ -47,7 +47,7 @@ pub struct Macro {
 }
 
 /// What a command does.
-#[derive(Clone, Copy, PartialEq, Eq, Debug)]
+#[derive(Clone, Copy, PartialEq, Eq)]
 pub enum Action {
     /// Declares fields and variables of entries.
     Entry,
@@ -72,7 +72,7 @@ pub enum Action {
 }
 
 /// A command.
-#[derive(Clone, Copy, PartialEq, Eq, Debug)]
+#[derive(Clone, Copy, PartialEq, Eq)]
 pub struct Command {
     pub action: Action,
     /// The line of its word, from 1.
@@ -82,7 +82,7 @@ pub struct Command {
 /// A style. A name's number is its place in the list of its kind; names are in small letters.
 ///
 /// Fields begin with `crossref`, entry texts with `sort.key$`, global numbers with `entry.max$` and `global.max$`.
-#[derive(Debug, Drop)]
+#[derive(Drop)]
 pub struct Style {
     pub fields: Sequence<Bytes>,
     pub entry_numbers: Sequence<Bytes>,

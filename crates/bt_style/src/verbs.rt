@@ -9,7 +9,7 @@ use crate::fault::{FaultKind, StyleRefusal};
 use bt_text::eq_ignore_ascii_case;
 
 /// A command's word.
-#[derive(Clone, Copy, PartialEq, Eq, Debug)]
+#[derive(Clone, Copy, PartialEq, Eq)]
 pub enum Verb {
     Entry,
     Execute,
@@ -24,7 +24,7 @@ pub enum Verb {
 }
 
 /// How far the commands have come.
-#[derive(Clone, Copy, PartialEq, Eq, Debug)]
+#[derive(Clone, Copy, PartialEq, Eq)]
 pub enum Stage {
     BeforeEntry,
     BeforeRead,
