@@ -1,6 +1,5 @@
 -- What an earlier step leaves for an input that agrees with its own.
-use Rattle.std.proofs.Common.{◌≡◌, ℕ, zero, suc, ◌<◌, ◌≤◌, Bool, true, ◌&&◌, List, [], ◌∷◌, length, refl, sym, ap, ◌∙◌, arith}
-use Rattle.std.proofs.lemmas.Slice.Eq.{bytes_eq-Decides}
+use Rattle.std.proofs.Common.{◌≡◌, ℕ, Bool, true, ◌&&◌, List, refl, sym, ap, ◌∙◌}
 use Rattle.bt_style.specs.declared.style.Target.{Target}
 use Rattle.bt_style.specs.Program.{Program}
 use Rattle.bt_style.specs.Reach.{is_among}
@@ -11,7 +10,7 @@ use Rattle.bt_machine.specs.Step.{step_in, outcome_of}
 use Rattle.bt_machine.specs.Footprint.{blend_variables}
 use Rattle.bt_machine.specs.inner.Footprint.{among}
 use Rattle.bt_machine.specs.AgreementLaws.{Agree, IsFootprint, outcome_over}
-use Rattle.bt_machine.specs.Agreement.{same_text_at, same_counts, same_variables}
+use Rattle.bt_machine.specs.Agreement.{same_counts, same_variables}
 use Rattle.bt_machine.proofs.Truths.{and_both}
 use Rattle.bt_machine.proofs.Comparing.{variables_equal}
 use Rattle.bt_machine.proofs.Agreeing.{agreeing_inputs, agreeing_reach, rest_stays}

@@ -3,7 +3,7 @@
 use std::marker::Model;
 
 /// How many ticks were taken. Only steps raise it, and nothing sets it back.
-#[derive(Debug, Drop)]
+#[derive(Drop)]
 pub struct Meter {
     ticks: u128,
 }
