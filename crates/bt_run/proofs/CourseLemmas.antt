@@ -11,7 +11,6 @@ use Rattle.bt_actions.specs.declared.entry.Entry.{Entry}
 use Rattle.bt_actions.specs.declared.entry.Variables.{Variables}
 use Rattle.bt_actions.specs.World.{World, no_entry}
 use Rattle.bt_machine.specs.declared.input.Input.{Input}
-use Rattle.bt_machine.specs.declared.outcome.Outcome.{Outcome}
 use Rattle.bt_machine.specs.Step.{Finish, step, step_in, first_variables, outcome_of, Own, own}
 use Rattle.bt_machine.specs.OwnEntry.{IsPlace, DependsOnInput, alone, cut, finish_back}
 use Rattle.bt_log.specs.declared.message.Message.{Message}

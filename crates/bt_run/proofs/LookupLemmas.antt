@@ -1,5 +1,5 @@
 -- What the .aux files ask for depends on the text of each name alone.
-use Rattle.std.proofs.Common.{◌≡◌, ◌∙◌, ap, refl, sym, ◌+◌, ◌≤◌, ℕ, zero, suc, List, [], ◌∷◌, ◌++◌, length, Option, Some, None, arith}
+use Rattle.std.proofs.Common.{◌≡◌, ◌∙◌, ap, refl, sym, ◌+◌, ℕ, zero, suc, List, [], ◌∷◌, ◌++◌, length, Option, Some, None, arith}
 use Rattle.std.specs.Prelude.{if◌then◌else◌, not, eqb, codes, map, flat_map, slice_get}
 use Rattle.std.specs.List.{ends_with}
 use Rattle.std.specs.Option.{is_some, option_or, option_map}
@@ -11,9 +11,9 @@ use Rattle.bt_log.specs.declared.message.Message.{Message}
 use Rattle.bt_job.specs.declared.files.File.{File}
 use Rattle.bt_job.specs.declared.citations.Citations.{Citations}
 use Rattle.bt_job.specs.FileNames.{is_file_name, is_among, text_of, each_once}
-use Rattle.bt_job.specs.Faults.{LineFault, PartFault, WrongExtension, NoFileName, DatabaseTwice, FileTwice, NotThere, IllEnded, key_fault, database_fault, style_fault, input_fault, right_parts, first_fault}
+use Rattle.bt_job.specs.Faults.{LineFault, PartFault, WrongExtension, NoFileName, DatabaseTwice, FileTwice, NotThere, IllEnded, database_fault, style_fault, input_fault, right_parts, first_fault}
 use Rattle.bt_job.specs.Lines.{JobLine, lines_in, lines_of, has_command, first_with, line_parts, cited, database_names, style_names, input_names, unless_second, command_fault, line_fault, lines_opened, opened_by, read_on, line_count, job_lines}
-use Rattle.bt_job.specs.Citations.{keys_of, star_of, databases, styles, missed, along, line_messages, file_line, missing_of, lacks, told_missing, asked_by, asked_from, citations}
+use Rattle.bt_job.specs.Citations.{keys_of, star_of, databases, styles, missed, along, line_messages, file_line, missing_of, told_missing, asked_by, asked_from, citations}
 use Rattle.bt_job.proofs.BoundLemmas.{any_bound_serves, read_end, read_more, unopened_all}
 use Rattle.bt_log.specs.declared.message.Rank.TheVariants.{FileLine}
 use Rattle.bt_log.specs.Message.{plain}

@@ -8,6 +8,7 @@ ghost use Rattle.bt_run.specs.inner.Work.{IsConsistent};
 ghost use Rattle.bt_run.specs.inner.Steps.{IsTaken};
 ghost use Rattle.bt_run.specs.Kept.{named_text, style_text, report_after};
 ghost use Rattle.bt_actions.specs.World.{no_variables};
+ghost use Rattle.bt_log.specs.Log.{lines_bytes, log_bytes, terse_bytes};
 ghost use Rattle.bt_run.specs.Meaning.{style_run, faulty_run, run_with, shown_of, meaning, trace};
 ghost use Rattle.bt_run.specs.inner.JobView.{job_of};
 ghost use Rattle.bt_run.specs.Shown.{meaning_of};
@@ -29,7 +30,7 @@ use bt_text::{Bytes, Sequence, Shared, Values};
 use std::alloc::{AllocError, Global};
 
 /// What a run shows.
-#[derive(Debug, Drop)]
+#[derive(Drop)]
 pub struct Answers {
     /// The bytes of the bibliography, the `.bbl` file.
     pub bbl: Bytes,
@@ -209,6 +210,26 @@ fn run_with(
     }
 }
 
+/// The bytes of a bibliography and of its log.
+struct Printed {
+    bbl: Bytes,
+    blg: Bytes,
+    terse: Bytes,
+}
+
+/// The bytes of these lines and of this log.
+fn print(alloc: Global, lines: &[Shared<Bytes>], log: &[Message]) -> Result<Printed, AllocError>
+    ensures bbl { IfOk result (λ printed. printed.bbl ≡ lines_bytes lines.now) }
+    ensures blg { IfOk result (λ printed. printed.blg ≡ log_bytes log.now) }
+    ensures terse { IfOk result (λ printed. printed.terse ≡ terse_bytes log.now) }
+{
+    Ok(Printed {
+        bbl: lines_bytes(alloc, lines)?,
+        blg: log_bytes(alloc, log)?,
+        terse: terse_bytes(alloc, log)?,
+    })
+}
+
 /// What a run of these lines, this log and these wanted names shows.
 fn show(
     alloc: Global,
@@ -218,10 +239,11 @@ fn show(
 ) -> Result<Answers, AllocError>
     ensures { IfOk result (λ answers. meaning_of answers ≡ shown_of lines.now log wanted) }
 {
+    let Printed { bbl, blg, terse } = print(alloc, lines.as_slice(), log.as_slice())?;
     Ok(Answers {
-        bbl: lines_bytes(alloc, lines.as_slice())?,
-        blg: log_bytes(alloc, log.as_slice())?,
-        terse: terse_bytes(alloc, log.as_slice())?,
+        bbl,
+        blg,
+        terse,
         status: status(log.as_slice()),
         messages: log,
         wanted,
@@ -229,7 +251,7 @@ fn show(
 }
 
 /// What a run gives: what it shows, what is kept of it for the next one, and what it took.
-#[derive(Debug, Drop)]
+#[derive(Drop)]
 pub struct Run {
     pub answers: Answers,
     pub kept: Kept,

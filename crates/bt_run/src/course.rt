@@ -6,7 +6,7 @@ use bt_machine::{Input, Outcome};
 use bt_text::{Bytes, Held, Sequence, Shared};
 
 /// A step of a run: which command ran it, for which entry, what it was given and left, and its cost in ticks.
-#[derive(Debug, Drop)]
+#[derive(Drop)]
 pub struct Step {
     /// The number of its command in the style, from 0.
     pub command: usize,
@@ -21,7 +21,7 @@ pub struct Step {
 }
 
 /// How far a run has come.
-#[derive(Debug, Drop)]
+#[derive(Drop)]
 pub struct Course {
     /// The entries, in the order of the list.
     pub entries: Sequence<Entry>,
@@ -44,7 +44,7 @@ pub struct Course {
 }
 
 /// The command that runs a step.
-#[derive(Debug, Drop)]
+#[derive(Drop)]
 pub struct CommandPlace {
     /// The name of the style's file.
     pub style: Shared<Bytes>,

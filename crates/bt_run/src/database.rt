@@ -13,7 +13,7 @@ use bt_text::{Bytes, Sequence, Shared};
 use std::alloc::{AllocError, Global};
 
 /// A database as it was read: its text and the items of it.
-#[derive(Debug, Drop)]
+#[derive(Drop)]
 pub struct Database {
     pub text: Shared<Bytes>,
     pub items: Shared<KeptItems>,

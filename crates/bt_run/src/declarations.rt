@@ -65,16 +65,23 @@ fn names_of(alloc: Global, functions: &[Function]) -> Result<Sequence<Bytes>, Al
     Ok(names)
 }
 
+/// A macro as the databases know it.
+fn known_macro(alloc: Global, one: &bt_style::Macro) -> Result<Macro, AllocError>
+    ensures { IfOk result (λ known. known ≡ known_macro one.now) }
+{
+    Ok(Macro {
+        name: Bytes::copied(alloc, one.name.as_slice())?,
+        value: Bytes::copied(alloc, one.text.as_slice())?,
+    })
+}
+
 /// The macros as the databases know them.
 fn known_macros(alloc: Global, macros: &[bt_style::Macro]) -> Result<Sequence<Macro>, AllocError>
     ensures { IfOk result (λ known. known ≡ map known_macro macros.now) }
 {
     let mut known = Sequence::new(alloc);
     'macros: for one in macros {
-        known.push(Macro {
-            name: Bytes::copied(alloc, one.name.as_slice())?,
-            value: Bytes::copied(alloc, one.text.as_slice())?,
-        })?;
+        known.push(known_macro(alloc, one)?)?;
     }
     Ok(known)
 }

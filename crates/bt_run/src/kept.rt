@@ -13,7 +13,7 @@ use std::alloc::Global;
 
 /// What is kept of an earlier run: the text of its style, if it had one, its steps with the places of their entries,
 /// and its entries.
-#[derive(Debug, Drop)]
+#[derive(Drop)]
 pub struct Kept {
     pub text: Option<Shared<Bytes>>,
     pub steps: Sequence<Shared<Step>>,

@@ -13,7 +13,7 @@ use bt_text::{Bytes, Sequence, Shared};
 use std::alloc::{AllocError, Global};
 
 /// What runs have read. Each reading is that of its own text.
-#[derive(Debug, Drop)]
+#[derive(Drop)]
 pub struct Readings {
     pub aux_texts: AuxTexts,
     pub styles: Sequence<ReadStyle>,

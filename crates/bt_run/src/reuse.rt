@@ -10,7 +10,7 @@ use bt_text::{Sequence, Shared};
 use std::alloc::Global;
 
 /// What is reached from a name, with this function of the entry's type or none.
-#[derive(Debug, Drop)]
+#[derive(Drop)]
 pub struct KnownReach {
     pub target: Target,
     pub function: Option<usize>,

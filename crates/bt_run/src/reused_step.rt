@@ -23,7 +23,7 @@ use std::alloc::{AllocError, Global};
 const SCANS: usize = 16;
 
 /// What a step left, and its cost.
-#[derive(Debug, Drop)]
+#[derive(Drop)]
 pub struct Done {
     pub outcome: Outcome,
     pub cost: u128,

@@ -14,7 +14,7 @@ use bt_text::{Bytes, Sequence, Shared};
 use std::alloc::{AllocError, Global};
 
 /// A style as it was read: its text, and the style or its first fault.
-#[derive(Debug, Drop)]
+#[derive(Drop)]
 pub struct ReadStyle {
     pub text: Shared<Bytes>,
     pub style: Result<Shared<Style>, StyleFault>,

@@ -1,4 +1,4 @@
-use Rattle.std.proofs.Common.{◌∙◌, ap, subst, map, List, Option, None}
+use Rattle.std.proofs.Common.{◌∙◌, ap, subst, map, List, None}
 use Rattle.bt_style.specs.Program.{program_of}
 use Rattle.bt_actions.specs.declared.entry.Entry.{Entry}
 use Rattle.bt_run.specs.declared.course.Step.{Step}
