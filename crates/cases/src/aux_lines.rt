@@ -1,8 +1,8 @@
 //! Cases of the lines of `.aux` texts that count.
 
-use crate::spelling::{number, push_list, unspelled, word_at};
+use crate::answer::Answer;
+use crate::spelling::text_at;
 use bt_bib::{AuxFault, AuxItem, Command, read_aux};
-use bt_text::Bytes;
 use std::alloc::{AllocError, Global};
 
 fn command_name(command: Command) -> &'static [u8] {
@@ -23,26 +23,27 @@ fn fault_name(fault: Option<AuxFault>) -> &'static [u8] {
     }
 }
 
-fn push_line(alloc: Global, out: &mut Bytes, item: &AuxItem) -> Result<(), AllocError> {
-    out.append(number(alloc, item.line)?.as_slice())?;
-    out.append(command_name(item.command))?;
-    push_list(out, item.parts.as_slice())?;
-    out.append(fault_name(item.fault))
+fn push_line(out: &mut Answer, item: &AuxItem) {
+    out.count(item.line);
+    out.put(command_name(item.command));
+    out.list(item.parts.as_slice());
+    out.put(fault_name(item.fault));
 }
 
-/// The answer of a case: the lines that count.
-pub fn answer(alloc: Global, case: &str) -> Result<Bytes, AllocError> {
-    let text = unspelled(alloc, word_at(case, 1))?;
-    let items = read_aux(alloc, &text)?;
-    if items.as_slice().is_empty() {
-        return Bytes::copied(alloc, b".");
+/// Puts lines after `out`, with ` ; ` between them, or a full stop where there is none.
+fn push_lines(out: &mut Answer, items: &[AuxItem]) {
+    if items.is_empty() {
+        out.put(b".");
     }
-    let mut out = Bytes::new(alloc);
-    for (place, item) in items.as_slice().iter().enumerate() {
-        if 0 < place {
-            out.append(b" ; ")?;
-        }
-        push_line(alloc, &mut out, item)?;
+    for (place, item) in items.iter().enumerate() {
+        out.separator(place, b" ; ");
+        push_line(out, item);
     }
-    Ok(out)
+}
+
+/// Puts the answer of a case after `out`: the lines that count.
+pub fn push_answer(alloc: Global, out: &mut Answer, case: &str) -> Result<(), AllocError> {
+    let items = read_aux(alloc, &text_at(alloc, case, 1)?)?;
+    push_lines(out, items.as_slice());
+    Ok(())
 }

@@ -1,7 +1,8 @@
 //! Cases of databases: their items, each with its span, what was read of it, and its fault; and those of a text that
 //! was spliced, from the items that it had.
 
-use crate::spelling::{number, push_spelled, unspelled, word_at};
+use crate::answer::Answer;
+use crate::spelling::{text_at, word_at};
 use bt_bib::{
     Closing, Content, Definition, Entry, Field, Item, ItemFault, Items, KeptItems, NameRole, Part,
     Piece, Spot, read_bib,
@@ -11,23 +12,23 @@ use std::alloc::{AllocError, Global};
 
 fn what_word(what: NameRole) -> &'static [u8] {
     match what {
-        NameRole::EntryType => b"type",
-        NameRole::StringName => b"string_name",
-        NameRole::FieldName => b"field_name",
-        NameRole::FieldPart => b"field_part",
+        NameRole::EntryType => b":type",
+        NameRole::StringName => b":string_name",
+        NameRole::FieldName => b":field_name",
+        NameRole::FieldPart => b":field_part",
     }
 }
 
 fn fault_word(fault: ItemFault) -> &'static [u8] {
     match fault {
-        ItemFault::EndOfFile => b"EndOfFile",
-        ItemFault::MissingName(_) => b"MissingName",
-        ItemFault::BadNameEnd(_, _) => b"BadNameEnd",
-        ItemFault::ExpectedOpen => b"ExpectedOpen",
-        ItemFault::ExpectedCommaOrClose => b"ExpectedCommaOrClose",
-        ItemFault::ExpectedEquals => b"ExpectedEquals",
-        ItemFault::UnbalancedBraces => b"UnbalancedBraces",
-        ItemFault::MissingPart => b"MissingPart",
+        ItemFault::EndOfFile => b"EndOfFile:",
+        ItemFault::MissingName(_) => b"MissingName:",
+        ItemFault::BadNameEnd(_, _) => b"BadNameEnd:",
+        ItemFault::ExpectedOpen => b"ExpectedOpen:",
+        ItemFault::ExpectedCommaOrClose => b"ExpectedCommaOrClose:",
+        ItemFault::ExpectedEquals => b"ExpectedEquals:",
+        ItemFault::UnbalancedBraces => b"UnbalancedBraces:",
+        ItemFault::MissingPart => b"MissingPart:",
     }
 }
 
@@ -42,175 +43,185 @@ fn closing_words(close: Option<Closing>) -> &'static [u8] {
 /// Items as they are spelled. Their places and lines count from a spot.
 #[derive(Drop)]
 struct Spelled {
-    alloc: Global,
     from: Spot,
-    out: Bytes,
+    out: Answer,
 }
 
 impl Spelled {
     /// Nothing, in a text from its beginning.
     fn new(alloc: Global) -> Spelled {
         Spelled {
-            alloc,
             from: Spot { place: 0, line: 0 },
-            out: Bytes::new(alloc),
+            out: Answer::new(alloc),
         }
     }
 
     /// What was spelled, or a full stop where there is nothing.
     fn end(self) -> Result<Bytes, AllocError> {
         let mut out = self.out;
-        if out.len() == 0 {
-            out.append(b".")?;
+        if out.is_empty() {
+            out.put(b".");
         }
-        Ok(out)
+        out.end()
     }
 
-    fn number(&mut self, n: usize) -> Result<(), AllocError> {
-        self.out.append(number(self.alloc, n)?.as_slice())
+    fn line(&mut self, line: usize) {
+        self.out.count(self.from.line.saturating_add(line));
     }
 
-    fn place(&mut self, place: usize) -> Result<(), AllocError> {
-        self.number(self.from.place.saturating_add(place))
-    }
-
-    fn line(&mut self, line: usize) -> Result<(), AllocError> {
-        self.number(self.from.line.saturating_add(line))
-    }
-
-    /// A text to base 16, or a full stop where there is none.
-    fn text(&mut self, text: &Option<Shared<Bytes>>) -> Result<(), AllocError> {
+    /// A text to base 16, or a full stop where there is none, after its label.
+    fn text(&mut self, label: &[u8], text: &Option<Shared<Bytes>>) {
+        self.out.put(label);
         match text {
-            Some(text) => push_spelled(&mut self.out, text.as_slice()),
-            None => self.out.append(b"."),
+            Some(text) => self.out.spelled(text.as_slice()),
+            None => self.out.put(b"."),
         }
     }
 
-    fn part(&mut self, part: &Part) -> Result<(), AllocError> {
+    fn name_and_line(&mut self, name: &Bytes, line: usize) {
+        self.out.spelled(name.as_slice());
+        self.out.put(b":");
+        self.line(line);
+    }
+
+    fn part(&mut self, part: &Part) {
         match part {
             Part::Text(text) => {
-                self.out.append(b"text:")?;
-                push_spelled(&mut self.out, text.as_slice())
+                self.out.put(b"text:");
+                self.out.spelled(text.as_slice());
             }
             Part::Macro(name, line) => {
-                self.out.append(b"macro:")?;
-                push_spelled(&mut self.out, name.as_slice())?;
-                self.out.append(b":")?;
-                self.line(*line)
+                self.out.put(b"macro:");
+                self.name_and_line(name, *line);
             }
         }
     }
 
-    fn parts(&mut self, parts: &Sequence<Part>) -> Result<(), AllocError> {
-        self.out.append(b"(")?;
+    fn parts(&mut self, parts: &Sequence<Part>) {
+        self.out.put(b"(");
         for (place, part) in parts.as_slice().iter().enumerate() {
-            if 0 < place {
-                self.out.append(b" ")?;
-            }
-            self.part(part)?;
+            self.out.separator(place, b" ");
+            self.part(part);
         }
-        self.out.append(b")")
+        self.out.put(b")");
     }
 
-    fn value(&mut self, value: &Option<Sequence<Part>>) -> Result<(), AllocError> {
+    fn value(&mut self, value: &Option<Sequence<Part>>) {
         match value {
             Some(parts) => self.parts(parts),
-            None => self.out.append(b"."),
+            None => self.out.put(b"."),
         }
     }
 
-    fn fields(&mut self, fields: &Sequence<Field>) -> Result<(), AllocError> {
+    fn field(&mut self, field: &Field) {
+        self.name_and_line(&field.name, field.line);
+        self.out.put(b":");
+        self.parts(&field.value);
+    }
+
+    fn fields(&mut self, fields: &Sequence<Field>) {
         for (place, field) in fields.as_slice().iter().enumerate() {
-            if 0 < place {
-                self.out.append(b",")?;
-            }
-            push_spelled(&mut self.out, field.name.as_slice())?;
-            self.out.append(b":")?;
-            self.line(field.line)?;
-            self.out.append(b":")?;
-            self.parts(&field.value)?;
+            self.out.separator(place, b",");
+            self.field(field);
         }
-        Ok(())
     }
 
     /// Kind, type, key or name, closing sign, fields and value.
-    fn content(&mut self, item: &Item) -> Result<(), AllocError> {
+    fn content(&mut self, item: &Item) {
         let close = closing_words(item.close);
         match &item.content {
             Content::Entry(entry) => self.entry(entry, close),
             Content::Define(definition) => self.definition(definition, close),
             Content::Preamble(value) => {
-                self.out
-                    .append_all(&[b"Preamble type=. key=.", close, b"] value="])?;
-                self.value(value)
+                self.out.put(b"Preamble type=. key=.");
+                self.out.put(close);
+                self.out.put(b"] value=");
+                self.value(value);
             }
         }
     }
 
     /// An entry, with its closing sign.
-    fn entry(&mut self, entry: &Entry, close: &[u8]) -> Result<(), AllocError> {
-        self.out.append(b"Entry type=")?;
-        self.text(&entry.kind)?;
-        self.out.append(b" key=")?;
-        self.text(&entry.key)?;
-        self.out.append(close)?;
-        self.fields(&entry.fields)?;
-        self.out.append(b"] value=.")
+    fn entry(&mut self, entry: &Entry, close: &[u8]) {
+        self.text(b"Entry type=", &entry.kind);
+        self.text(b" key=", &entry.key);
+        self.out.put(close);
+        self.fields(&entry.fields);
+        self.out.put(b"] value=.");
     }
 
     /// The definition of a macro, with its closing sign.
-    fn definition(&mut self, definition: &Definition, close: &[u8]) -> Result<(), AllocError> {
-        self.out.append(b"Define type=. key=")?;
-        self.text(&definition.name)?;
-        self.out.append_all(&[close, b"] value="])?;
-        self.value(&definition.value)
+    fn definition(&mut self, definition: &Definition, close: &[u8]) {
+        self.text(b"Define type=. key=", &definition.name);
+        self.out.put(close);
+        self.out.put(b"] value=");
+        self.value(&definition.value);
     }
 
     /// A fault, with its line, its byte, and what is missing or followed.
-    fn fault(&mut self, fault: ItemFault, line: usize) -> Result<(), AllocError> {
-        self.out.append(fault_word(fault))?;
-        self.out.append(b":")?;
-        self.line(line)?;
-        self.out.append(b":")?;
+    fn fault(&mut self, fault: ItemFault, line: usize) {
+        self.out.put(fault_word(fault));
+        self.line(line);
+        self.cause(fault);
+    }
+
+    /// The byte of a fault, and what is missing or followed.
+    fn cause(&mut self, fault: ItemFault) {
         match fault {
             ItemFault::BadNameEnd(what, byte) => {
-                push_spelled(&mut self.out, &[byte])?;
-                self.out.append(b":")?;
-                self.out.append(what_word(what))
+                self.out.put(b":");
+                self.out.spelled(&[byte]);
+                self.out.put(what_word(what));
             }
             ItemFault::MissingName(what) => {
-                self.out.append(b".:")?;
-                self.out.append(what_word(what))
+                self.out.put(b":.");
+                self.out.put(what_word(what));
             }
-            ItemFault::MissingPart => self.out.append(b".:field_part"),
-            _ => self.out.append(b".:."),
+            ItemFault::MissingPart => self.out.put(b":.:field_part"),
+            _ => self.out.put(b":.:."),
         }
     }
 
-    fn item(&mut self, item: &Item) -> Result<(), AllocError> {
-        self.place(item.start.place)?;
-        self.out.append(b"..")?;
-        self.place(item.end.place)?;
-        self.out.append(b" line=")?;
-        self.line(item.line)?;
-        self.out.append(b" ")?;
-        self.content(item)?;
-        self.out.append(b" fault=")?;
+    /// From where to where an item goes, and its line.
+    fn span(&mut self, item: &Item) {
+        let start = self.from.place.saturating_add(item.start.place);
+        let end = self.from.place.saturating_add(item.end.place);
+        let line = self.from.line.saturating_add(item.line);
+        self.out.count(start);
+        self.out.put(b"..");
+        self.out.count(end);
+        self.out.put(b" line=");
+        self.out.count(line);
+        self.out.put(b" ");
+    }
+
+    fn item(&mut self, item: &Item) {
+        self.span(item);
+        self.content(item);
+        self.out.put(b" fault=");
         match item.fault {
             Some(fault) => self.fault(fault, item.end.line),
-            None => self.out.append(b"."),
+            None => self.out.put(b"."),
+        }
+    }
+
+    /// The place of an item's fault, and the fault; nothing where it has none.
+    fn place_and_fault(&mut self, item: &Item) {
+        if let Some(fault) = item.fault {
+            self.out.count(item.end.place);
+            self.out.put(b" ");
+            self.fault(fault, item.end.line);
         }
     }
 
     /// An item after others, with ` ; ` before it; a comment word is left out.
-    fn piece(&mut self, piece: &Piece) -> Result<(), AllocError> {
+    fn piece(&mut self, piece: &Piece) {
         if let Piece::Item(item) = piece {
-            if 0 < self.out.len() {
-                self.out.append(b" ; ")?;
+            if !self.out.is_empty() {
+                self.out.put(b" ; ");
             }
-            self.item(item)?;
+            self.item(item);
         }
-        Ok(())
     }
 }
 
@@ -219,49 +230,52 @@ pub fn spelled_kept(alloc: Global, items: &KeptItems) -> Result<Bytes, AllocErro
     let mut spelled = Spelled::new(alloc);
     for placed in items.pieces() {
         spelled.from = placed.start();
-        spelled.piece(placed.piece())?;
+        spelled.piece(placed.piece());
     }
     spelled.end()
 }
 
 /// The items, with ` ; ` between them, or a full stop where there is none.
-fn items_answer(alloc: Global, items: &Items) -> Result<Bytes, AllocError> {
+fn items_told(alloc: Global, items: &Items) -> Result<Bytes, AllocError> {
     let mut spelled = Spelled::new(alloc);
     for piece in items.pieces() {
-        spelled.piece(piece)?;
+        spelled.piece(piece);
     }
     spelled.end()
 }
 
 /// The place of the last item's fault, and the fault; a full stop where the last piece is no item or has no fault.
-fn last_fault_answer(alloc: Global, items: &Items) -> Result<Bytes, AllocError> {
+fn last_fault(alloc: Global, items: &Items) -> Result<Bytes, AllocError> {
     let mut spelled = Spelled::new(alloc);
     if let Some(Piece::Item(item)) = items.pieces().last() {
-        if let Some(fault) = item.fault {
-            spelled.place(item.end.place)?;
-            spelled.out.append(b" ")?;
-            spelled.fault(fault, item.end.line)?;
-        }
+        spelled.place_and_fault(item);
     }
     spelled.end()
 }
 
 /// How many items there are; a comment word is none.
 fn item_count(items: &Items) -> usize {
-    items
-        .pieces()
-        .iter()
-        .filter(|piece| matches!(piece, Piece::Item(_)))
-        .count()
+    let mut count: usize = 0;
+    for piece in items.pieces() {
+        if let Piece::Item(_) = piece {
+            count = count.saturating_add(1);
+        }
+    }
+    count
 }
 
-/// The answer of a case: the items of a text, how many there are, or the last one's fault.
-pub fn answer(alloc: Global, case: &str) -> Result<Bytes, AllocError> {
-    let text = unspelled(alloc, word_at(case, 1))?;
-    let items = read_bib(alloc, &text)?;
-    match word_at(case, 0) {
-        "item_count" => number(alloc, item_count(&items)),
-        "last_fault" => last_fault_answer(alloc, &items),
-        _ => items_answer(alloc, &items),
+/// Puts after `out` the items, how many there are, or the last one's fault.
+fn push_told(alloc: Global, out: &mut Answer, items: &Items, call: &str) -> Result<(), AllocError> {
+    match call {
+        "item_count" => out.count(item_count(items)),
+        "last_fault" => out.put(last_fault(alloc, items)?.as_slice()),
+        _ => out.put(items_told(alloc, items)?.as_slice()),
     }
+    Ok(())
+}
+
+/// Puts the answer of a case after `out`: the items of a text, how many there are, or the last one's fault.
+pub fn push_answer(alloc: Global, out: &mut Answer, case: &str) -> Result<(), AllocError> {
+    let items = read_bib(alloc, &text_at(alloc, case, 1)?)?;
+    push_told(alloc, out, &items, word_at(case, 0))
 }

@@ -1,9 +1,10 @@
 //! Cases of how faults show: each by the name of its case.
 
+use crate::answer::Answer;
 use crate::spelling::word_at;
 use bt_names::{FormatFault, NameFault};
 use bt_style::{FaultKind, StyleFault, StyleRefusal};
-use bt_text::{Bytes, HeldFault};
+use bt_text::HeldFault;
 use std::alloc::{AllocError, Global};
 
 /// How the faults of names show.
@@ -34,13 +35,18 @@ fn style_refusals(alloc: Global) -> Result<String, AllocError> {
     format!(in alloc; "{fault} {}", StyleRefusal::OutOfMemory)
 }
 
-/// The answer of a case: the faults of a type, parted by spaces.
-pub fn answer(alloc: Global, case: &str) -> Result<Bytes, AllocError> {
-    let told = match word_at(case, 1) {
-        "NameFault" => name_faults(alloc)?,
-        "FormatFault" => format_faults(alloc)?,
-        "StyleRefusal" => style_refusals(alloc)?,
-        _ => format!(in alloc; "{} {}", HeldFault::TooLong, HeldFault::OutOfMemory)?,
-    };
-    Bytes::copied(alloc, told.as_bytes())
+/// How the faults of a type show, parted by spaces.
+fn faults(alloc: Global, name: &str) -> Result<String, AllocError> {
+    match name {
+        "NameFault" => name_faults(alloc),
+        "FormatFault" => format_faults(alloc),
+        "StyleRefusal" => style_refusals(alloc),
+        _ => format!(in alloc; "{} {}", HeldFault::TooLong, HeldFault::OutOfMemory),
+    }
+}
+
+/// Puts the answer of a case after `out`: the faults of a type.
+pub fn push_answer(alloc: Global, out: &mut Answer, case: &str) -> Result<(), AllocError> {
+    out.put(faults(alloc, word_at(case, 1))?.as_bytes());
+    Ok(())
 }

@@ -1,8 +1,22 @@
 //! Cases of the held line: scripts of what is done with it.
 
-use crate::spelling::{number, push_list, push_spelled, push_word, unspelled, word_at};
+use crate::answer::Answer;
+use crate::spelling::unspelled;
 use bt_text::{Bytes, Held, HeldFault, Sequence};
 use std::alloc::{AllocError, Global};
+
+/// Writes each byte of a text by itself.
+fn write_bytes(
+    alloc: Global,
+    text: &[u8],
+    line: &mut Held,
+    lines: &mut Sequence<Bytes>,
+) -> Result<(), HeldFault> {
+    for byte in text {
+        line.write(alloc, &[*byte], lines)?;
+    }
+    Ok(())
+}
 
 /// Writes a text, writes each of its bytes by itself, or ends the line.
 fn carry_out(
@@ -13,76 +27,82 @@ fn carry_out(
 ) -> Result<(), HeldFault> {
     match op.split_once(':') {
         Some(("write", word)) => line.write(alloc, &unspelled(alloc, word)?, lines),
-        Some((_, word)) => {
-            let text = unspelled(alloc, word)?;
-            for byte in &text {
-                line.write(alloc, &[*byte], lines)?;
-            }
-            Ok(())
-        }
+        Some((_, word)) => write_bytes(alloc, &unspelled(alloc, word)?, line, lines),
         None => line.newline(alloc, lines),
     }
 }
 
-fn shown_lines(alloc: Global, line: &Held, lines: &Sequence<Bytes>) -> Result<Bytes, AllocError> {
-    let mut out = Bytes::new(alloc);
-    push_list(&mut out, lines.as_slice())?;
-    out.append(b" ")?;
-    push_spelled(&mut out, line.bytes())?;
-    Ok(out)
-}
-
-/// The lines and the held line after all that is done, or where it stopped.
-fn held(alloc: Global, case: &str) -> Result<Bytes, AllocError> {
-    let mut line = Held::new(alloc);
-    let mut lines = Sequence::new(alloc);
+/// Does what the words of a case say, up to the first that is too long; gives its place, if there is one.
+fn carry_out_all(
+    alloc: Global,
+    case: &str,
+    line: &mut Held,
+    lines: &mut Sequence<Bytes>,
+) -> Result<Option<usize>, AllocError> {
     for (place, op) in case.split_whitespace().skip(1).enumerate() {
-        match carry_out(alloc, op, &mut line, &mut lines) {
+        match carry_out(alloc, op, line, lines) {
             Ok(()) => {}
-            Err(HeldFault::TooLong) => {
-                return Bytes::copied(alloc, format!(in alloc; "TooLong {place}")?.as_bytes());
-            }
+            Err(HeldFault::TooLong) => return Ok(Some(place)),
             Err(HeldFault::OutOfMemory) => return Err(AllocError),
         }
     }
-    shown_lines(alloc, &line, &lines)
+    Ok(None)
 }
 
-/// What is told of one word of a script: how many bytes are held, how many a copy has, how many lines there are, or
-/// whether what is done is too long.
-fn told(
+fn push_shown(out: &mut Answer, line: &Held, lines: &Sequence<Bytes>) {
+    out.list(lines.as_slice());
+    out.put(b" ");
+    out.spelled(line.bytes());
+}
+
+/// Puts the answer of a case `held` after `out`: the lines and the held line after all that is done, or where it
+/// stopped.
+pub fn push_held(alloc: Global, out: &mut Answer, case: &str) -> Result<(), AllocError> {
+    let mut line = Held::new(alloc);
+    let mut lines = Sequence::new(alloc);
+    match carry_out_all(alloc, case, &mut line, &mut lines)? {
+        Some(place) => {
+            out.put(b"TooLong ");
+            out.count(place);
+        }
+        None => push_shown(out, &line, &lines),
+    }
+    Ok(())
+}
+
+/// Puts after `out` what is told of one word of a script: how many bytes are held, how many a copy has, how many lines
+/// there are, or whether what is done is too long.
+fn push_told(
     alloc: Global,
+    out: &mut Answer,
     op: &str,
     line: &mut Held,
     lines: &mut Sequence<Bytes>,
-) -> Result<Bytes, AllocError> {
+) -> Result<(), AllocError> {
+    out.space();
     match op {
-        "bytes" => number(alloc, line.bytes().len()),
-        "copied" => number(alloc, line.copy(alloc)?.bytes().len()),
-        "lines" => number(alloc, lines.len()),
+        "bytes" => out.count(line.bytes().len()),
+        "copied" => out.count(line.copy(alloc)?.bytes().len()),
+        "lines" => out.count(lines.len()),
         _ => match carry_out(alloc, op, line, lines) {
-            Ok(()) => Bytes::copied(alloc, b"ok"),
-            Err(HeldFault::TooLong) => Bytes::copied(alloc, b"TooLong"),
-            Err(HeldFault::OutOfMemory) => Err(AllocError),
+            Ok(()) => out.put(b"ok"),
+            Err(HeldFault::TooLong) => out.put(b"TooLong"),
+            Err(HeldFault::OutOfMemory) => return Err(AllocError),
         },
     }
+    Ok(())
 }
 
-/// What is told of each word of a script, parted by spaces.
-fn held_step_by_step(alloc: Global, case: &str) -> Result<Bytes, AllocError> {
+/// Puts the answer of a case `held_step_by_step` after `out`: what is told of each word of a script, parted by spaces.
+pub fn push_held_step_by_step(
+    alloc: Global,
+    out: &mut Answer,
+    case: &str,
+) -> Result<(), AllocError> {
     let mut line = Held::new(alloc);
     let mut lines = Sequence::new(alloc);
-    let mut out = Bytes::new(alloc);
     for op in case.split_whitespace().skip(1) {
-        push_word(&mut out, &told(alloc, op, &mut line, &mut lines)?)?;
+        push_told(alloc, out, op, &mut line, &mut lines)?;
     }
-    Ok(out)
-}
-
-/// The answer of a case.
-pub fn answer(alloc: Global, case: &str) -> Result<Bytes, AllocError> {
-    match word_at(case, 0) {
-        "held" => held(alloc, case),
-        _ => held_step_by_step(alloc, case),
-    }
+    Ok(())
 }

@@ -1,6 +1,7 @@
 //! Cases of logs, and of the lines of a bibliography.
 
-use crate::spelling::{number, push_spelled, spelled, unspelled, word_at};
+use crate::answer::Answer;
+use crate::spelling::{shared_text, unspelled};
 use bt_log::{Message, Rank, lines_bytes, log_bytes, status, terse_bytes};
 use bt_text::{Bytes, Sequence, Shared};
 use std::alloc::{AllocError, Global};
@@ -16,47 +17,55 @@ fn rank_of(word: &str) -> Rank {
     }
 }
 
-/// The status of a log, and its bytes.
-pub fn log_told(alloc: Global, log: &[Message]) -> Result<Bytes, AllocError> {
-    let mut out = number(alloc, status(log) as usize)?;
-    out.append(b" ")?;
-    push_spelled(&mut out, log_bytes(alloc, log)?.as_slice())?;
-    Ok(out)
+/// Puts the status of a log, and its bytes, after `out`.
+pub fn push_log(alloc: Global, out: &mut Answer, log: &[Message]) -> Result<(), AllocError> {
+    out.count(status(log) as usize);
+    out.put(b" ");
+    out.spelled(log_bytes(alloc, log)?.as_slice());
+    Ok(())
+}
+
+/// The message of a word: its rank, a colon, and its text.
+fn message(alloc: Global, word: &str) -> Result<Message, AllocError> {
+    let (rank, words) = word.split_once(':').unwrap_or((word, ""));
+    Message::of(alloc, rank_of(rank), &[&unspelled(alloc, words)?])
 }
 
 /// A log of messages, each a word of its rank and text.
 fn log_of(alloc: Global, case: &str) -> Result<Sequence<Message>, AllocError> {
     let mut log = Sequence::new(alloc);
     for word in case.split_whitespace().skip(1) {
-        let (rank, words) = word.split_once(':').unwrap_or((word, ""));
-        let words = unspelled(alloc, words)?;
-        log.push(Message::of(alloc, rank_of(rank), &[&words])?)?;
+        log.push(message(alloc, word)?)?;
     }
     Ok(log)
 }
 
-/// The status of a log, its bytes, and those of the terse one.
-fn log_answer(alloc: Global, case: &str) -> Result<Bytes, AllocError> {
-    let log = log_of(alloc, case)?;
-    let mut out = log_told(alloc, log.as_slice())?;
-    out.append(b" ")?;
-    push_spelled(&mut out, terse_bytes(alloc, log.as_slice())?.as_slice())?;
-    Ok(out)
+/// Puts the status of a log, its bytes, and those of the terse one, after `out`.
+fn push_both_logs(alloc: Global, out: &mut Answer, log: &[Message]) -> Result<(), AllocError> {
+    push_log(alloc, out, log)?;
+    out.put(b" ");
+    out.spelled(terse_bytes(alloc, log)?.as_slice());
+    Ok(())
 }
 
-/// The bytes of some lines.
-fn lines_answer(alloc: Global, case: &str) -> Result<Bytes, AllocError> {
+/// Puts the answer of a case `log` after `out`: the status, the bytes and the terse ones of a log.
+pub fn push_log_answer(alloc: Global, out: &mut Answer, case: &str) -> Result<(), AllocError> {
+    let log = log_of(alloc, case)?;
+    push_both_logs(alloc, out, log.as_slice())
+}
+
+/// The lines of a case's words after the first.
+fn lines_of(alloc: Global, case: &str) -> Result<Vec<Shared<Bytes>>, AllocError> {
     let mut lines = Vec::new(alloc);
     for word in case.split_whitespace().skip(1) {
-        lines.push(Shared::<Bytes>::copied(alloc, &unspelled(alloc, word)?)?)?;
+        lines.push(shared_text(alloc, word)?)?;
     }
-    spelled(alloc, lines_bytes(alloc, &lines)?.as_slice())
+    Ok(lines)
 }
 
-/// The answer of a case.
-pub fn answer(alloc: Global, case: &str) -> Result<Bytes, AllocError> {
-    match word_at(case, 0) {
-        "log" => log_answer(alloc, case),
-        _ => lines_answer(alloc, case),
-    }
+/// Puts the answer of a case `lines` after `out`: the bytes of some lines.
+pub fn push_lines_answer(alloc: Global, out: &mut Answer, case: &str) -> Result<(), AllocError> {
+    let bytes = lines_bytes(alloc, &lines_of(alloc, case)?)?;
+    out.spelled(bytes.as_slice());
+    Ok(())
 }

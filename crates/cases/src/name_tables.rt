@@ -1,93 +1,140 @@
 //! Cases of names that match without regard to case: scripts of what is done with a list of names, or with a table of
 //! values by names.
 
-use crate::spelling::{number, number_in, part_at, push_word, spelled, truth, unspelled, word_at};
-use bt_text::{ByName, Bytes, NameList};
+use crate::answer::Answer;
+use crate::spelling::{number_in, part_at, unspelled};
+use bt_text::{ByName, NameList};
 use std::alloc::{AllocError, Global};
 
-/// A number, or a full stop where there is none.
-fn number_if_some(alloc: Global, n: Option<usize>) -> Result<Bytes, AllocError> {
+/// Puts a number after `out`, or a full stop where there is none.
+fn push_number_if_some(out: &mut Answer, n: Option<usize>) {
     match n {
-        Some(n) => number(alloc, n),
-        None => Bytes::copied(alloc, b"."),
+        Some(n) => out.count(n),
+        None => out.put(b"."),
     }
 }
 
-/// What is told of one word about a list: a name that is put after the others if it is new, whether one is among them,
-/// how it was spelled first, or how many there are.
-fn listed(alloc: Global, word: &str, names: &mut NameList) -> Result<Bytes, AllocError> {
+/// Puts a name after those of a list if it is new, and whether it is after `out`.
+fn push_name(
+    alloc: Global,
+    out: &mut Answer,
+    name: &[u8],
+    names: &mut NameList,
+) -> Result<(), AllocError> {
+    if names.find(alloc, name)?.is_some() {
+        out.put(b"old");
+    } else {
+        names.push(alloc, name)?;
+        out.put(b"new");
+    }
+    Ok(())
+}
+
+/// Puts after `out` how a name was spelled first in a list; a full stop where it isn't there.
+fn push_found(
+    alloc: Global,
+    out: &mut Answer,
+    name: &[u8],
+    names: &NameList,
+) -> Result<(), AllocError> {
+    match names.find(alloc, name)? {
+        Some(found) => out.spelled(found.as_slice()),
+        None => out.put(b"."),
+    }
+    Ok(())
+}
+
+/// Puts after `out` what is told of one word about a list: a name that is put after the others if it is new, whether
+/// one is among them, how it was spelled first, or how many there are.
+fn push_listed(
+    alloc: Global,
+    out: &mut Answer,
+    word: &str,
+    names: &mut NameList,
+) -> Result<(), AllocError> {
     let name = unspelled(alloc, part_at(word, 1))?;
+    out.space();
     match part_at(word, 0) {
-        "push" if names.find(alloc, &name)?.is_some() => Bytes::copied(alloc, b"old"),
-        "push" => {
-            names.push(alloc, &name)?;
-            Bytes::copied(alloc, b"new")
-        }
-        "has" => truth(alloc, names.has(alloc, &name)?),
-        "find" => match names.find(alloc, &name)? {
-            Some(found) => spelled(alloc, found.as_slice()),
-            None => Bytes::copied(alloc, b"."),
-        },
-        _ => number(alloc, names.as_slice().len()),
+        "push" => push_name(alloc, out, &name, names)?,
+        "has" => out.truth(names.has(alloc, &name)?),
+        "find" => push_found(alloc, out, &name, names)?,
+        _ => out.count(names.as_slice().len()),
     }
+    Ok(())
 }
 
-/// The values of a table in the order of their names, parted by commas.
-fn values_told(alloc: Global, table: &ByName<usize>) -> Result<Bytes, AllocError> {
-    let mut out = Bytes::new(alloc);
+/// Puts the values of a table after `out`, in the order of their names, parted by commas.
+fn push_values(out: &mut Answer, table: &ByName<usize>) {
     for (place, value) in table.values().iter().enumerate() {
-        if 0 < place {
-            out.append(b",")?;
+        if place == 0 {
+            out.space();
+        } else {
+            out.put(b",");
         }
-        out.append(number(alloc, *value)?.as_slice())?;
+        out.count(*value);
     }
-    Ok(out)
 }
 
-/// What is told of one word about a table: a name that gets a value, by `put` where there is room and it is in small
-/// letters; the value of a name, or of one in small letters; its place; whether it has a value; or all values.
-fn tabled(alloc: Global, word: &str, table: &mut ByName<usize>) -> Result<Bytes, AllocError> {
+/// Gives a name a value in a table, by `put` where there is room and it is in small letters.
+fn put(name: Vec<u8>, value: usize, table: &mut ByName<usize>) -> Result<(), AllocError> {
+    table.make_room()?;
+    table.put(name, value);
+    Ok(())
+}
+
+/// Puts after `out` what a table has of a name: its value, or that of one in small letters, its place, or whether it
+/// has a value.
+fn push_asked(
+    alloc: Global,
+    out: &mut Answer,
+    call: &str,
+    name: &[u8],
+    table: &ByName<usize>,
+) -> Result<(), AllocError> {
+    out.space();
+    match call {
+        "get" => push_number_if_some(out, table.get(alloc, name)?.copied()),
+        "get_small" => push_number_if_some(out, table.get_small(name).copied()),
+        "place" => push_number_if_some(out, table.place(alloc, name)?),
+        _ => out.truth(table.has(alloc, name)?),
+    }
+    Ok(())
+}
+
+/// Puts after `out` what is told of one word about a table: nothing of a name that gets a value, what it has of a name,
+/// or all values.
+fn push_tabled(
+    alloc: Global,
+    out: &mut Answer,
+    word: &str,
+    table: &mut ByName<usize>,
+) -> Result<(), AllocError> {
     let name = unspelled(alloc, part_at(word, 1))?;
     match part_at(word, 0) {
-        "insert" => {
-            table.insert(alloc, &name, number_in(word, 2))?;
-            Ok(Bytes::new(alloc))
+        "insert" => table.insert(alloc, &name, number_in(word, 2))?,
+        "put" => put(name, number_in(word, 2), table)?,
+        "get" | "get_small" | "place" | "has" => {
+            push_asked(alloc, out, part_at(word, 0), &name, table)?;
         }
-        "put" => {
-            table.make_room()?;
-            table.put(name, number_in(word, 2));
-            Ok(Bytes::new(alloc))
-        }
-        "get" => number_if_some(alloc, table.get(alloc, &name)?.copied()),
-        "get_small" => number_if_some(alloc, table.get_small(&name).copied()),
-        "place" => number_if_some(alloc, table.place(alloc, &name)?),
-        "has" => truth(alloc, table.has(alloc, &name)?),
-        _ => values_told(alloc, table),
+        _ => push_values(out, table),
     }
+    Ok(())
 }
 
-fn list_answer(alloc: Global, case: &str) -> Result<Bytes, AllocError> {
+/// Puts the answer of a case `name_list` after `out`: what is told of each word, parted by spaces.
+pub fn push_list_answer(alloc: Global, out: &mut Answer, case: &str) -> Result<(), AllocError> {
     let mut names = NameList::new(alloc);
-    let mut out = Bytes::new(alloc);
     for word in case.split_whitespace().skip(1) {
-        push_word(&mut out, &listed(alloc, word, &mut names)?)?;
+        push_listed(alloc, out, word, &mut names)?;
     }
-    Ok(out)
+    Ok(())
 }
 
-fn table_answer(alloc: Global, case: &str) -> Result<Bytes, AllocError> {
+/// Puts the answer of a case `name_table` after `out`: what is told of each word, parted by spaces.
+pub fn push_table_answer(alloc: Global, out: &mut Answer, case: &str) -> Result<(), AllocError> {
     let mut table = ByName::new(alloc);
-    let mut out = Bytes::new(alloc);
     for word in case.split_whitespace().skip(1) {
-        push_word(&mut out, &tabled(alloc, word, &mut table)?)?;
+        push_tabled(alloc, out, word, &mut table)?;
     }
-    Ok(out)
-}
-
-/// The answer of a case: what is told of each word, parted by spaces.
-pub fn answer(alloc: Global, case: &str) -> Result<Bytes, AllocError> {
-    match word_at(case, 0) {
-        "name_list" => list_answer(alloc, case),
-        _ => table_answer(alloc, case),
-    }
+    Ok(())
 }

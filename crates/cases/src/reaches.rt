@@ -1,36 +1,25 @@
 //! Cases of what is reached from a function of a style.
 
-use crate::spelling::{number, place_at, unspelled, word_at};
+use crate::answer::Answer;
+use crate::spelling::{place_at, text_at, word_at};
 use crate::styles::target_name;
 use bt_style::{Reach, Style, StyleRefusal, Target, read_style};
-use bt_text::Bytes;
 use std::alloc::{AllocError, Global};
 
-/// How many names are reached, and whether the held line, the preamble and the entry's type are.
-fn counted(alloc: Global, reach: &Reach) -> Result<Bytes, AllocError> {
-    let mut out = number(alloc, reach.targets.len())?;
-    for (is_reached, word) in [
-        (reach.held, " held"),
-        (reach.preamble, " preamble"),
-        (reach.kind, " type"),
-    ] {
-        if is_reached {
-            out.append(word.as_bytes())?;
-        }
-    }
-    Ok(out)
+/// Puts after `out` how many names are reached, and whether the held line, the preamble and the entry's type are.
+fn push_count(out: &mut Answer, reach: &Reach) {
+    out.count(reach.targets.len());
+    out.put(if reach.held { b" held" } else { b"" });
+    out.put(if reach.preamble { b" preamble" } else { b"" });
+    out.put(if reach.kind { b" type" } else { b"" });
 }
 
-/// The names that are reached, parted by spaces.
-fn named(alloc: Global, style: &Style, reach: &Reach) -> Result<Bytes, AllocError> {
-    let mut out = Bytes::new(alloc);
+/// Puts the names that are reached after `out`, parted by spaces.
+fn push_names(out: &mut Answer, style: &Style, reach: &Reach) {
     for (place, target) in reach.targets.as_slice().iter().enumerate() {
-        if 0 < place {
-            out.append(b" ")?;
-        }
-        out.append(target_name(style, *target))?;
+        out.separator(place, b" ");
+        out.put(target_name(style, *target));
     }
-    Ok(out)
 }
 
 /// What is reached from a function by its number, where the entry's type has the function of another number, or none.
@@ -39,21 +28,22 @@ fn reach_of(alloc: Global, style: &Style, case: &str) -> Result<Reach, AllocErro
     style.reach(alloc, Target::Function(place_at(case, 2)), kind)
 }
 
-/// Of what is reached only how many names, or each name.
-fn told(alloc: Global, style: &Style, case: &str) -> Result<Bytes, AllocError> {
+/// Puts after `out`, of what is reached, only how many names, or each name.
+fn push_told(alloc: Global, out: &mut Answer, style: &Style, case: &str) -> Result<(), AllocError> {
     let reach = reach_of(alloc, style, case)?;
     match word_at(case, 0) {
-        "reach" => counted(alloc, &reach),
-        _ => named(alloc, style, &reach),
+        "reach" => push_count(out, &reach),
+        _ => push_names(out, style, &reach),
     }
+    Ok(())
 }
 
-/// The answer of a case.
-pub fn answer(alloc: Global, case: &str) -> Result<Bytes, AllocError> {
-    let text = unspelled(alloc, word_at(case, 1))?;
-    match read_style(alloc, &text) {
-        Ok(style) => told(alloc, &style, case),
-        Err(StyleRefusal::StyleFault(_)) => Bytes::copied(alloc, b"refused"),
-        Err(StyleRefusal::OutOfMemory) => Err(AllocError),
+/// Puts the answer of a case after `out`.
+pub fn push_answer(alloc: Global, out: &mut Answer, case: &str) -> Result<(), AllocError> {
+    match read_style(alloc, &text_at(alloc, case, 1)?) {
+        Ok(style) => push_told(alloc, out, &style, case)?,
+        Err(StyleRefusal::StyleFault(_)) => out.put(b"refused"),
+        Err(StyleRefusal::OutOfMemory) => return Err(AllocError),
     }
+    Ok(())
 }

@@ -3,7 +3,8 @@
 
 ghost use Rattle.std.specs.Prelude.{◌≤◌, length, IfOk, IfSome};
 
-use crate::spelling::{number, place_at, unspelled, word_at};
+use crate::answer::Answer;
+use crate::spelling::{place_at, unspelled, word_at};
 use bt_bib::KeptItems;
 use bt_log::{Message, Place, Rank};
 use bt_resolve::{Cites, Declared, Entry, Macro, Resolved, are_apart, resolve};
@@ -69,64 +70,72 @@ fn star_within(star: Option<usize>, keys: &NameList) -> Option<usize>
 }
 
 /// Puts the end of a line after what stands there.
-fn push_end(out: &mut Bytes) -> Result<(), AllocError> {
-    if 0 < out.len() {
-        out.append(b" ; ")?;
+fn push_end(out: &mut Answer) {
+    if !out.is_empty() {
+        out.put(b" ; ");
     }
-    Ok(())
 }
 
-/// Puts an entry after `out`: its key, its type and the type's function, and in brackets each value that isn't missing.
-fn push_entry(alloc: Global, out: &mut Bytes, entry: &Entry) -> Result<(), AllocError> {
-    push_end(out)?;
-    out.append_all(&[entry.key.as_slice(), b" ", entry.kind.as_slice()])?;
-    if let Some(function) = entry.function {
-        out.append(b" ")?;
-        out.append(number(alloc, function)?.as_slice())?;
-    }
+/// Puts after `out`, in brackets, each value of an entry that isn't missing.
+fn push_fields(out: &mut Answer, entry: &Entry) {
     for place in 0..entry.fields.len() {
         match entry.fields.get(place) {
-            None => out.append(b" -")?,
-            Some(text) => out.append_all(&[b" [", text.as_slice(), b"]"])?,
+            None => out.put(b" -"),
+            Some(text) => {
+                out.put(b" [");
+                out.put(text.as_slice());
+                out.put(b"]");
+            }
         }
     }
-    Ok(())
+}
+
+/// Puts an entry after `out`: its key, its type and the type's function, and its values.
+fn push_entry(out: &mut Answer, entry: &Entry) {
+    push_end(out);
+    out.put(entry.key.as_slice());
+    out.put(b" ");
+    out.put(entry.kind.as_slice());
+    if let Some(function) = entry.function {
+        out.put(b" ");
+        out.count(function);
+    }
+    push_fields(out, entry);
 }
 
 /// Puts a message after `out`: its rank, its place, its words, and its second line after a bar.
-fn push_message(alloc: Global, out: &mut Bytes, message: &Message) -> Result<(), AllocError> {
-    push_end(out)?;
+fn push_message(out: &mut Answer, message: &Message) {
+    push_end(out);
     match message.rank {
-        Rank::Error => out.append(b"error ")?,
-        _ => out.append(b"warning ")?,
+        Rank::Error => out.put(b"error "),
+        _ => out.put(b"warning "),
     }
     if let Some(Place::DatabaseLine { database, line, .. }) = &message.place {
-        out.append(number(alloc, *database)?.as_slice())?;
-        out.append(b":")?;
-        out.append(number(alloc, *line)?.as_slice())?;
-        out.append(b" ")?;
+        out.count(*database);
+        out.put(b":");
+        out.count(*line);
+        out.put(b" ");
     }
-    out.append(message.words.as_slice())?;
+    out.put(message.words.as_slice());
     if let Some(second) = &message.second {
-        out.append_all(&[b" | ", second.as_slice()])?;
+        out.put(b" | ");
+        out.put(second.as_slice());
     }
-    Ok(())
 }
 
-/// The entries, the preamble if there is one, and the messages, with ` ; ` between them.
-fn shown(alloc: Global, resolved: &Resolved) -> Result<Bytes, AllocError> {
-    let mut out = Bytes::new(alloc);
+/// Puts the entries, the preamble if there is one, and the messages, after `out`, with ` ; ` between them.
+fn push_resolved(out: &mut Answer, resolved: &Resolved) {
     for entry in resolved.entries.as_slice() {
-        push_entry(alloc, &mut out, entry)?;
+        push_entry(out, entry);
     }
     if resolved.preamble.len() > 0 {
-        push_end(&mut out)?;
-        out.append_all(&[b"preamble ", resolved.preamble.as_slice()])?;
+        push_end(out);
+        out.put(b"preamble ");
+        out.put(resolved.preamble.as_slice());
     }
     for message in resolved.messages.as_slice() {
-        push_message(alloc, &mut out, message)?;
+        push_message(out, message);
     }
-    Ok(out)
 }
 
 /// What is cited by a word: its keys, and how many of them stand before a `*`.
@@ -140,21 +149,23 @@ fn cites_of(alloc: Global, word: &str) -> Result<Cites, AllocError>
     Ok(Cites { keys, star })
 }
 
-/// What citations and databases give.
-fn told(
+/// Puts what citations and databases give after `out`.
+fn push_told(
     alloc: Global,
+    out: &mut Answer,
     declared: &Declared,
     cites: &Cites,
     databases: &[&KeptItems],
     min: u32,
-) -> Result<Bytes, AllocError>
+) -> Result<(), AllocError>
     requires { IfSome cites.now.star (λ before. before ≤ length cites.now.keys) }
 {
     if !are_apart(alloc, declared.fields.as_slice())? {
-        return Ok(Bytes::new(alloc));
+        return Ok(());
     }
     let resolved = resolve(alloc, declared, cites, databases, min)?;
-    shown(alloc, &resolved)
+    push_resolved(out, &resolved);
+    Ok(())
 }
 
 /// The items of the database that a word spells.
@@ -163,24 +174,25 @@ fn items(alloc: Global, word: &str) -> Result<KeptItems, AllocError> {
     KeptItems::read(alloc, &text)
 }
 
-/// What citations and the two databases of a case give, with its `min`.
-fn told_of_case(
+/// Puts after `out` what citations and the two databases of a case give, with its `min`.
+fn push_told_of_case(
     alloc: Global,
+    out: &mut Answer,
     declared: &Declared,
     cites: &Cites,
     case: &str,
-) -> Result<Bytes, AllocError>
+) -> Result<(), AllocError>
     requires { IfSome cites.now.star (λ before. before ≤ length cites.now.keys) }
 {
     let min = place_at(case, 2).min(65_535) as u32;
     let first = items(alloc, word_at(case, 3))?;
     let second = items(alloc, word_at(case, 4))?;
-    told(alloc, declared, cites, &[&first, &second], min)
+    push_told(alloc, out, declared, cites, &[&first, &second], min)
 }
 
-/// The answer of a case: what its keys and its two databases give.
-pub fn answer(alloc: Global, case: &str) -> Result<Bytes, AllocError> {
+/// Puts the answer of a case after `out`: what its keys and its two databases give.
+pub fn push_answer(alloc: Global, out: &mut Answer, case: &str) -> Result<(), AllocError> {
     let cites = cites_of(alloc, word_at(case, 1))?;
     let declared = declared(alloc)?;
-    told_of_case(alloc, &declared, &cites, case)
+    push_told_of_case(alloc, out, &declared, &cites, case)
 }

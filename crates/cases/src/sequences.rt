@@ -1,6 +1,7 @@
 //! Cases of byte texts and lists: scripts of what is done with one.
 
-use crate::spelling::{number, number_in, part_at, spelled, unspelled, word_at};
+use crate::answer::Answer;
+use crate::spelling::{number_in, part_at, unspelled};
 use bt_text::{Bytes, Sequence};
 use std::alloc::{AllocError, Global};
 
@@ -13,16 +14,23 @@ fn texts_of(alloc: Global, case: &str) -> Result<Vec<Vec<u8>>, AllocError> {
     Ok(texts)
 }
 
-/// Pieces, joined in one call.
+/// Texts, joined in one call.
 fn joined(alloc: Global, texts: &[Vec<u8>]) -> Result<Bytes, AllocError> {
     let mut pieces = Vec::new(alloc);
     for text in texts {
         pieces.push(text.as_slice())?;
     }
-    spelled(alloc, Bytes::of(alloc, &pieces)?.as_slice())
+    Bytes::of(alloc, &pieces)
 }
 
-/// The first text, with the others appended, its length, and that of the same bytes out of a vector.
+/// Puts the answer of a case `joined` after `out`: its texts, joined in one call.
+pub fn push_joined(alloc: Global, out: &mut Answer, case: &str) -> Result<(), AllocError> {
+    let text = joined(alloc, &texts_of(alloc, case)?)?;
+    out.spelled(text.as_slice());
+    Ok(())
+}
+
+/// The first text, with the others appended.
 fn appended(alloc: Global, texts: &[Vec<u8>]) -> Result<Bytes, AllocError> {
     let mut text = Bytes::new(alloc);
     for (place, more) in texts.iter().enumerate() {
@@ -32,11 +40,26 @@ fn appended(alloc: Global, texts: &[Vec<u8>]) -> Result<Bytes, AllocError> {
             text.append(more)?;
         }
     }
-    let mut out = spelled(alloc, text.as_slice())?;
-    let len = text.len();
-    let again = Bytes::from_vec(text.into_vec()).len();
-    out.append(format!(in alloc; " {len} {again}")?.as_bytes())?;
-    Ok(out)
+    Ok(text)
+}
+
+/// Puts the answer of a case `appended` after `out`: its first text, with the others appended, the length, and that of
+/// the same bytes out of a vector.
+pub fn push_appended(alloc: Global, out: &mut Answer, case: &str) -> Result<(), AllocError> {
+    let text = appended(alloc, &texts_of(alloc, case)?)?;
+    out.spelled(text.as_slice());
+    out.put(b" ");
+    out.count(text.len());
+    out.put(b" ");
+    out.count(Bytes::from_vec(text.into_vec()).len());
+    Ok(())
+}
+
+/// A list of one number.
+fn list_of(alloc: Global, n: usize) -> Result<Sequence<usize>, AllocError> {
+    let mut numbers = Sequence::new(alloc);
+    numbers.push(n)?;
+    Ok(numbers)
 }
 
 /// Pushes a number, puts one in a place that is there, appends a list of one number, or begins anew with such a list.
@@ -45,40 +68,27 @@ fn carry_out(alloc: Global, word: &str, numbers: &mut Sequence<usize>) -> Result
     match part_at(word, 0) {
         "push" => numbers.push(n)?,
         "set" if n < numbers.len() => numbers.set(n, number_in(word, 2)),
-        "append" => {
-            let mut more = Sequence::new(alloc);
-            more.push(n)?;
-            numbers.append(more)?;
-        }
+        "append" => numbers.append(list_of(alloc, n)?)?,
         _ => *numbers = Sequence::from_vec(vec![in alloc; n]?),
     }
     Ok(())
 }
 
-/// The numbers of a list, parted by commas, after how many there are.
-fn numbers_told(alloc: Global, numbers: &[usize]) -> Result<Bytes, AllocError> {
-    let mut out = number(alloc, numbers.len())?;
+/// Puts the numbers of a list after `out`, parted by commas, after how many there are.
+fn push_numbers(out: &mut Answer, numbers: &[usize]) {
+    out.count(numbers.len());
     for (place, n) in numbers.iter().enumerate() {
-        out.append(if 0 < place { b"," } else { b" " })?;
-        out.append(number(alloc, *n)?.as_slice())?;
+        out.put(if 0 < place { b"," } else { b" " });
+        out.count(*n);
     }
-    Ok(out)
 }
 
-/// The same of a list that the words of a case change.
-fn listed(alloc: Global, case: &str) -> Result<Bytes, AllocError> {
+/// Puts the answer of a case `sequence` after `out`: the same of a list that its words change.
+pub fn push_listed(alloc: Global, out: &mut Answer, case: &str) -> Result<(), AllocError> {
     let mut numbers = Sequence::new(alloc);
     for word in case.split_whitespace().skip(1) {
         carry_out(alloc, word, &mut numbers)?;
     }
-    numbers_told(alloc, numbers.as_slice())
-}
-
-/// The answer of a case.
-pub fn answer(alloc: Global, case: &str) -> Result<Bytes, AllocError> {
-    match word_at(case, 0) {
-        "joined" => joined(alloc, &texts_of(alloc, case)?),
-        "appended" => appended(alloc, &texts_of(alloc, case)?),
-        _ => listed(alloc, case),
-    }
+    push_numbers(out, numbers.as_slice());
+    Ok(())
 }

@@ -1,9 +1,9 @@
-//! How a case and its answer are spelled: words parted by one space, texts to base 16, `-` for the empty one. In a case
-//! a text may also be spelled in pieces, each so many times.
+//! How a case is spelled: words parted by one space, texts to base 16, `-` for the empty one, or in pieces, each so many
+//! times.
 
 ghost use Rattle.std.specs.Prelude.{◌<◌};
 
-use bt_text::Bytes;
+use bt_text::{Bytes, Shared};
 use std::alloc::{AllocError, Global};
 
 /// The value of a digit to base 16.
@@ -40,33 +40,9 @@ pub fn unspelled(alloc: Global, word: &str) -> Result<Vec<u8>, AllocError> {
     Ok(bytes)
 }
 
-/// Puts bytes after `out`, spelled to base 16.
-pub fn push_spelled(out: &mut Bytes, bytes: &[u8]) -> Result<(), AllocError> {
-    let digits = b"0123456789abcdef";
-    if bytes.is_empty() {
-        return out.append(b"-");
-    }
-    for byte in bytes {
-        out.append(&[digits[(*byte / 16) as usize], digits[(*byte % 16) as usize]])?;
-    }
-    Ok(())
-}
-
-/// Bytes, spelled to base 16.
-pub fn spelled(alloc: Global, bytes: &[u8]) -> Result<Bytes, AllocError> {
-    let mut out = Bytes::new(alloc);
-    push_spelled(&mut out, bytes)?;
-    Ok(out)
-}
-
-/// `true` or `false`.
-pub fn truth(alloc: Global, is_true: bool) -> Result<Bytes, AllocError> {
-    Bytes::copied(alloc, if is_true { b"true" } else { b"false" })
-}
-
-/// A number in decimal digits.
-pub fn number(alloc: Global, n: usize) -> Result<Bytes, AllocError> {
-    Bytes::copied(alloc, format!(in alloc; "{n}")?.as_bytes())
+/// The text that a word spells, for many owners.
+pub fn shared_text(alloc: Global, word: &str) -> Result<Shared<Bytes>, AllocError> {
+    Shared::<Bytes>::copied(alloc, &unspelled(alloc, word)?)
 }
 
 /// The word at a place of a case.
@@ -84,16 +60,9 @@ pub fn place_at(case: &str, place: usize) -> usize {
     word_at(case, place).parse::<usize>().unwrap_or(0)
 }
 
-/// Puts texts after `out`: in brackets, parted by commas.
-pub fn push_list(out: &mut Bytes, texts: &[Bytes]) -> Result<(), AllocError> {
-    out.append(b"[")?;
-    for (place, text) in texts.iter().enumerate() {
-        if 0 < place {
-            out.append(b",")?;
-        }
-        push_spelled(out, text.as_slice())?;
-    }
-    out.append(b"]")
+/// The bytes that the word at a place of a case spells.
+pub fn text_at(alloc: Global, case: &str, place: usize) -> Result<Vec<u8>, AllocError> {
+    unspelled(alloc, word_at(case, place))
 }
 
 /// The part at a place of a word, whose parts have colons between them.
@@ -104,12 +73,4 @@ pub fn part_at(word: &str, place: usize) -> &str {
 /// The number at a place of a word, or 0.
 pub fn number_in(word: &str, place: usize) -> usize {
     part_at(word, place).parse::<usize>().unwrap_or(0)
-}
-
-/// Puts a word after others, with a space before it; nothing if it is empty.
-pub fn push_word(out: &mut Bytes, word: &Bytes) -> Result<(), AllocError> {
-    if 0 < out.len() && 0 < word.len() {
-        out.append(b" ")?;
-    }
-    out.append(word.as_slice())
 }

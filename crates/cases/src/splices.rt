@@ -4,8 +4,9 @@
 ghost use Rattle.std.specs.Prelude.{◌≤◌, length, IfOk};
 ghost use Rattle.bt_bib.specs.Splice.{IsSplice};
 
+use crate::answer::Answer;
 use crate::databases::spelled_kept;
-use crate::spelling::{place_at, unspelled, word_at};
+use crate::spelling::{place_at, text_at};
 use bt_bib::{KeptItems, ReadMeter, Splice};
 use bt_text::Bytes;
 use std::alloc::{AllocError, Global};
@@ -65,18 +66,18 @@ fn respliced(
     })
 }
 
-/// Whether items are the same to each field.
+/// Whether items are spelled the same.
 fn are_spelled_alike(
     alloc: Global,
     items: &KeptItems,
     others: &KeptItems,
 ) -> Result<bool, AllocError> {
-    let one = format!(in alloc; "{items:?}")?;
-    let other = format!(in alloc; "{others:?}")?;
-    Ok(one.as_str() == other.as_str())
+    let one = spelled_kept(alloc, items)?;
+    let other = spelled_kept(alloc, others)?;
+    Ok(one.as_slice() == other.as_slice())
 }
 
-/// Whether the items of a spliced text are those of the same text read from its beginning, to each field.
+/// Whether the items of a spliced text are those of the same text read from its beginning.
 fn is_alike(
     alloc: Global,
     text: &[u8],
@@ -92,52 +93,79 @@ fn is_alike(
     are_spelled_alike(alloc, &again.items, &whole)
 }
 
-/// The answer of a case `respliced_anywhere`: whether the items of a text are the same read again and read whole, where
-/// `count` of its bytes are replaced at each place with so many after it; a line of `a` for alike, `d` for different
-/// and `o` for outside the text.
-fn answer_anywhere(alloc: Global, case: &str) -> Result<Bytes, AllocError> {
-    let text = unspelled(alloc, word_at(case, 1))?;
-    let count = place_at(case, 2);
-    let bytes = unspelled(alloc, word_at(case, 3))?;
-    let mut told = Bytes::new(alloc);
-    for begin in 0..text.len() {
-        let end = begin.saturating_add(count);
-        if end < begin || text.len() < end {
-            told.append(b"o")?;
-        } else if is_alike(alloc, &text, begin, end, &bytes)? {
-            told.append(b"a")?;
-        } else {
-            told.append(b"d")?;
-        }
+/// Whether the items of a text, where `count` of its bytes from `begin` on are replaced, are the same read again and read
+/// whole: `a` for alike, `d` for different and `o` for outside the text.
+fn alike_sign(
+    alloc: Global,
+    text: &[u8],
+    begin: usize,
+    count: usize,
+    bytes: &[u8],
+) -> Result<&'static [u8], AllocError> {
+    let end = begin.saturating_add(count);
+    if end < begin || text.len() < end {
+        return Ok(b"o");
     }
-    Ok(told)
+    Ok(if is_alike(alloc, text, begin, end, bytes)? {
+        b"a"
+    } else {
+        b"d"
+    })
 }
 
-/// The number of bytes that were read again, and after it the items of the new text as those of `read_bib`.
-fn reread_told(alloc: Global, again: &Reread) -> Result<Bytes, AllocError> {
-    let mut told = Bytes::copied(alloc, format!(in alloc; "{} ", again.read)?.as_bytes())?;
-    told.append(spelled_kept(alloc, &again.items)?.as_slice())?;
-    Ok(told)
+/// Puts the sign of each place of a text after `out`.
+fn push_alike_signs(
+    alloc: Global,
+    out: &mut Answer,
+    text: &[u8],
+    count: usize,
+    bytes: &[u8],
+) -> Result<(), AllocError> {
+    for begin in 0..text.len() {
+        out.put(alike_sign(alloc, text, begin, count, bytes)?);
+    }
+    Ok(())
 }
 
-/// The answer of a case `respliced`: the number of bytes that are read again, and after it the items of the new text as
-/// those of `read_bib`; or that the splice lies outside the text.
-fn answer_at(alloc: Global, case: &str) -> Result<Bytes, AllocError> {
-    let text = unspelled(alloc, word_at(case, 1))?;
+/// Puts the answer of a case `respliced_anywhere` after `out`: whether the items of a text are the same read again and
+/// read whole, where `count` of its bytes are replaced at each place with so many after it.
+pub fn push_answer_anywhere(alloc: Global, out: &mut Answer, case: &str) -> Result<(), AllocError> {
+    let text = text_at(alloc, case, 1)?;
+    let bytes = text_at(alloc, case, 3)?;
+    push_alike_signs(alloc, out, &text, place_at(case, 2), &bytes)
+}
+
+/// Puts the number of bytes that were read again after `out`, and after it the items of the new text as those of
+/// `read_bib`.
+fn push_reread(alloc: Global, out: &mut Answer, again: &Reread) -> Result<(), AllocError> {
+    out.put(format!(in alloc; "{} ", again.read)?.as_bytes());
+    out.put(spelled_kept(alloc, &again.items)?.as_slice());
+    Ok(())
+}
+
+/// Puts after `out` what is read again of a text that is spliced as a case says; or that the splice lies outside the
+/// text.
+fn push_respliced(
+    alloc: Global,
+    out: &mut Answer,
+    text: &[u8],
+    bytes: &[u8],
+    case: &str,
+) -> Result<(), AllocError> {
     let begin = place_at(case, 2);
     let end = place_at(case, 3);
-    let bytes = unspelled(alloc, word_at(case, 4))?;
     if end < begin || text.len() < end {
-        return Bytes::copied(alloc, b"outside");
+        out.put(b"outside");
+        return Ok(());
     }
-    let again = respliced(alloc, &text, begin, end, &bytes)?;
-    reread_told(alloc, &again)
+    let again = respliced(alloc, text, begin, end, bytes)?;
+    push_reread(alloc, out, &again)
 }
 
-/// The answer of a case.
-pub fn answer(alloc: Global, case: &str) -> Result<Bytes, AllocError> {
-    match word_at(case, 0) {
-        "respliced" => answer_at(alloc, case),
-        _ => answer_anywhere(alloc, case),
-    }
+/// Puts the answer of a case `respliced` after `out`: the number of bytes that are read again, and after it the items of
+/// the new text as those of `read_bib`; or that the splice lies outside the text.
+pub fn push_answer_at(alloc: Global, out: &mut Answer, case: &str) -> Result<(), AllocError> {
+    let text = text_at(alloc, case, 1)?;
+    let bytes = text_at(alloc, case, 4)?;
+    push_respliced(alloc, out, &text, &bytes, case)
 }

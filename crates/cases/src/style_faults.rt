@@ -1,8 +1,9 @@
 //! Cases of the style reader of which the first fault counts, or how many functions there are.
 
-use crate::spelling::{number, place_at, unspelled, word_at};
+use crate::answer::Answer;
+use crate::spelling::{place_at, text_at, word_at};
+use crate::styles::push_fault;
 use bt_style::{StyleFault, StyleRefusal, read_style};
-use bt_text::Bytes;
 use std::alloc::{AllocError, Global};
 
 /// The first fault of a text, if it has one.
@@ -14,15 +15,15 @@ fn first_fault(alloc: Global, text: &[u8]) -> Result<Option<StyleFault>, AllocEr
     }
 }
 
-/// A fault's name and line, or its words; a full stop where there is none.
-fn fault_told(alloc: Global, call: &str, fault: Option<StyleFault>) -> Result<Bytes, AllocError> {
-    let Some(StyleFault { kind, line }) = fault else {
-        return Bytes::copied(alloc, b".");
-    };
-    match call {
-        "fault_words" => Bytes::copied(alloc, kind.words()),
-        _ => Bytes::copied(alloc, format!(in alloc; "{kind} {line}")?.as_bytes()),
+/// Puts the answer of a case `first_fault` or `fault_words` after `out`: a fault's name and line, or its words; a full
+/// stop where there is none.
+pub fn push_first_fault(alloc: Global, out: &mut Answer, case: &str) -> Result<(), AllocError> {
+    match first_fault(alloc, &text_at(alloc, case, 1)?)? {
+        None => out.put(b"."),
+        Some(fault) if word_at(case, 0) == "fault_words" => out.put(fault.kind.words()),
+        Some(fault) => push_fault(alloc, out, fault)?,
     }
+    Ok(())
 }
 
 /// How many beginnings of a text are read or refused, the empty one and the whole text among them.
@@ -35,6 +36,16 @@ fn count_of_beginnings(alloc: Global, text: &[u8]) -> Result<usize, AllocError> 
     Ok(count)
 }
 
+/// Puts the answer of a case `beginnings` after `out`: how many of a text are read or refused.
+pub fn push_count_of_beginnings(
+    alloc: Global,
+    out: &mut Answer,
+    case: &str,
+) -> Result<(), AllocError> {
+    out.count(count_of_beginnings(alloc, &text_at(alloc, case, 1)?)?);
+    Ok(())
+}
+
 /// A style with so many functions of different names after the first, each of which calls the one before.
 fn chain(alloc: Global, functions: usize) -> Result<Vec<u8>, AllocError> {
     let mut text = Vec::from_slice(alloc, b"FUNCTION {f0}{}")?;
@@ -45,24 +56,12 @@ fn chain(alloc: Global, functions: usize) -> Result<Vec<u8>, AllocError> {
     Ok(text)
 }
 
-/// How many functions of a chain are read, none where it is refused.
-fn chain_answer(alloc: Global, functions: usize) -> Result<Bytes, AllocError> {
-    match read_style(alloc, &chain(alloc, functions)?) {
-        Ok(style) => number(alloc, style.functions.len()),
-        Err(StyleRefusal::StyleFault(_)) => number(alloc, 0),
-        Err(StyleRefusal::OutOfMemory) => Err(AllocError),
+/// Puts the answer of a case `chain` after `out`: how many functions of a chain are read, none where it is refused.
+pub fn push_chain_answer(alloc: Global, out: &mut Answer, case: &str) -> Result<(), AllocError> {
+    match read_style(alloc, &chain(alloc, place_at(case, 1))?) {
+        Ok(style) => out.count(style.functions.len()),
+        Err(StyleRefusal::StyleFault(_)) => out.count(0),
+        Err(StyleRefusal::OutOfMemory) => return Err(AllocError),
     }
-}
-
-/// The answer of a case.
-pub fn answer(alloc: Global, case: &str) -> Result<Bytes, AllocError> {
-    let call = word_at(case, 0);
-    if call == "chain" {
-        return chain_answer(alloc, place_at(case, 1));
-    }
-    let text = unspelled(alloc, word_at(case, 1))?;
-    match call {
-        "beginnings" => number(alloc, count_of_beginnings(alloc, &text)?),
-        _ => fault_told(alloc, call, first_fault(alloc, &text)?),
-    }
+    Ok(())
 }

@@ -1,7 +1,8 @@
 //! Cases of the style reader.
 
-use crate::spelling::{number, push_spelled, unspelled, word_at};
-use bt_style::{Action, Op, Style, StyleFault, StyleRefusal, Target, read_style};
+use crate::answer::Answer;
+use crate::spelling::text_at;
+use bt_style::{Action, Command, Op, Style, StyleFault, StyleRefusal, Target, read_style};
 use bt_text::{Bytes, Sequence};
 use std::alloc::{AllocError, Global};
 
@@ -33,81 +34,74 @@ pub fn target_name(style: &Style, target: Target) -> &[u8] {
     }
 }
 
-fn push_names(out: &mut Bytes, label: &[u8], names: &Sequence<Bytes>) -> Result<(), AllocError> {
-    out.append(label)?;
-    out.append(b"=[")?;
+fn push_names(out: &mut Answer, label: &[u8], names: &Sequence<Bytes>) {
+    out.put(label);
+    out.put(b"=[");
     for (place, name) in names.as_slice().iter().enumerate() {
-        if 0 < place {
-            out.append(b",")?;
-        }
-        out.append(name.as_slice())?;
+        out.separator(place, b",");
+        out.put(name.as_slice());
     }
-    out.append(b"] ")
+    out.put(b"] ");
 }
 
-fn push_op(alloc: Global, out: &mut Bytes, style: &Style, op: &Op) -> Result<(), AllocError> {
+/// Puts the name that something has after `out`, with a label before it.
+fn push_target(out: &mut Answer, label: &[u8], style: &Style, target: Target) {
+    out.put(label);
+    out.put(target_name(style, target));
+}
+
+fn push_op(out: &mut Answer, style: &Style, op: &Op) {
     match op {
-        Op::Number(n) => out.append(format!(in alloc; "number:{n}")?.as_bytes()),
+        Op::Number(n) => {
+            out.put(b"number:");
+            out.number(*n);
+        }
         Op::Text(text) => {
-            out.append(b"text:")?;
-            push_spelled(out, text.as_slice())
+            out.put(b"text:");
+            out.spelled(text.as_slice());
         }
-        Op::Quote(target) => {
-            out.append(b"quote:")?;
-            out.append(target_name(style, *target))
-        }
-        Op::Call(target) => {
-            out.append(b"call:")?;
-            out.append(target_name(style, *target))
-        }
+        Op::Quote(target) => push_target(out, b"quote:", style, *target),
+        Op::Call(target) => push_target(out, b"call:", style, *target),
         Op::Block(inner) => {
-            out.append(b"{")?;
+            out.put(b"{");
             for (place, op) in inner.as_slice().iter().enumerate() {
-                if 0 < place {
-                    out.append(b" ")?;
-                }
-                push_op(alloc, out, style, op)?;
+                out.separator(place, b" ");
+                push_op(out, style, op);
             }
-            out.append(b"}")
+            out.put(b"}");
         }
     }
 }
 
-fn push_body(alloc: Global, out: &mut Bytes, style: &Style, body: &[Op]) -> Result<(), AllocError> {
-    out.append(b"{")?;
+fn push_body(out: &mut Answer, style: &Style, body: &[Op]) {
+    out.put(b"{");
     for (place, op) in body.iter().enumerate() {
-        if 0 < place {
-            out.append(b" ")?;
-        }
-        push_op(alloc, out, style, op)?;
+        out.separator(place, b" ");
+        push_op(out, style, op);
     }
-    out.append(b"}")
+    out.put(b"}");
 }
 
-fn push_macros(out: &mut Bytes, style: &Style) -> Result<(), AllocError> {
-    out.append(b"macros=[")?;
+fn push_macros(out: &mut Answer, style: &Style) {
+    out.put(b"macros=[");
     for (place, defined) in style.macros.as_slice().iter().enumerate() {
-        if 0 < place {
-            out.append(b",")?;
-        }
-        out.append(defined.name.as_slice())?;
-        out.append(b":")?;
-        push_spelled(out, defined.text.as_slice())?;
+        out.separator(place, b",");
+        out.put(defined.name.as_slice());
+        out.put(b":");
+        out.spelled(defined.text.as_slice());
     }
-    out.append(b"] ")
+    out.put(b"] ");
 }
 
-fn push_functions(alloc: Global, out: &mut Bytes, style: &Style) -> Result<(), AllocError> {
-    out.append(b"functions=[")?;
+fn push_functions(out: &mut Answer, style: &Style) {
+    out.put(b"functions=[");
     for (place, function) in style.functions.as_slice().iter().enumerate() {
-        if 0 < place {
-            out.append(b",")?;
-        }
-        out.append(function.name.as_slice())?;
-        out.append(b":")?;
-        push_body(alloc, out, style, &function.body)?;
+        out.separator(place, b",");
+        out.put(function.name.as_slice());
+        out.put(b":");
+        push_body(out, style, &function.body);
     }
-    out.append(b"] ")
+    out.put(b"] ");
 }
 
 /// A command's word, and the name that it runs.
@@ -126,47 +120,48 @@ fn command_words(style: &Style, action: Action) -> (&'static [u8], &[u8]) {
     }
 }
 
-fn push_commands(alloc: Global, out: &mut Bytes, style: &Style) -> Result<(), AllocError> {
-    out.append(b"commands=[")?;
+/// Puts a command after `out`: its word, its line, and the name that it runs.
+fn push_command(out: &mut Answer, style: &Style, command: &Command) {
+    let (word, name) = command_words(style, command.action);
+    out.put(word);
+    out.put(b":");
+    out.count(command.line);
+    out.put(b":");
+    out.put(name);
+}
+
+fn push_commands(out: &mut Answer, style: &Style) {
+    out.put(b"commands=[");
     for (place, command) in style.commands.as_slice().iter().enumerate() {
-        if 0 < place {
-            out.append(b",")?;
-        }
-        let (word, name) = command_words(style, command.action);
-        out.append(word)?;
-        out.append(b":")?;
-        out.append(number(alloc, command.line)?.as_slice())?;
-        out.append(b":")?;
-        out.append(name)?;
+        out.separator(place, b",");
+        push_command(out, style, command);
     }
-    out.append(b"]")
+    out.put(b"]");
 }
 
-fn shown(alloc: Global, style: &Style) -> Result<Bytes, AllocError> {
-    let mut out = Bytes::new(alloc);
-    push_names(&mut out, b"fields", &style.fields)?;
-    push_names(&mut out, b"entry_numbers", &style.entry_numbers)?;
-    push_names(&mut out, b"entry_texts", &style.entry_texts)?;
-    push_names(&mut out, b"global_numbers", &style.global_numbers)?;
-    push_names(&mut out, b"global_texts", &style.global_texts)?;
-    push_macros(&mut out, style)?;
-    push_functions(alloc, &mut out, style)?;
-    push_commands(alloc, &mut out, style)?;
-    Ok(out)
+fn push_style(out: &mut Answer, style: &Style) {
+    push_names(out, b"fields", &style.fields);
+    push_names(out, b"entry_numbers", &style.entry_numbers);
+    push_names(out, b"entry_texts", &style.entry_texts);
+    push_names(out, b"global_numbers", &style.global_numbers);
+    push_names(out, b"global_texts", &style.global_texts);
+    push_macros(out, style);
+    push_functions(out, style);
+    push_commands(out, style);
 }
 
-/// A fault, and its line.
-fn fault_told(alloc: Global, fault: StyleFault) -> Result<Bytes, AllocError> {
-    let told = format!(in alloc; "{} {}", fault.kind, fault.line)?;
-    Bytes::copied(alloc, told.as_bytes())
+/// Puts a fault, and its line, after `out`.
+pub fn push_fault(alloc: Global, out: &mut Answer, fault: StyleFault) -> Result<(), AllocError> {
+    out.put(format!(in alloc; "{} {}", fault.kind, fault.line)?.as_bytes());
+    Ok(())
 }
 
-/// The answer of a case: what the style has, or its first fault with its line.
-pub fn answer(alloc: Global, case: &str) -> Result<Bytes, AllocError> {
-    let text = unspelled(alloc, word_at(case, 1))?;
-    match read_style(alloc, &text) {
-        Ok(style) => shown(alloc, &style),
-        Err(StyleRefusal::StyleFault(fault)) => fault_told(alloc, fault),
-        Err(StyleRefusal::OutOfMemory) => Err(AllocError),
+/// Puts the answer of a case after `out`: what the style has, or its first fault with its line.
+pub fn push_answer(alloc: Global, out: &mut Answer, case: &str) -> Result<(), AllocError> {
+    match read_style(alloc, &text_at(alloc, case, 1)?) {
+        Ok(style) => push_style(out, &style),
+        Err(StyleRefusal::StyleFault(fault)) => push_fault(alloc, out, fault)?,
+        Err(StyleRefusal::OutOfMemory) => return Err(AllocError),
     }
+    Ok(())
 }

@@ -1,6 +1,7 @@
 //! Cases of the functions on texts.
 
-use crate::spelling::{number, number_at, spelled, truth, unspelled, word_at};
+use crate::answer::Answer;
+use crate::spelling::{number_at, text_at, word_at};
 use bt_text::{
     Bytes, Class, Mode, add_period, balanced, change_case, class, eq_ignore_ascii_case, is_name,
     is_white_joined, join_white, name_len, purify, substring, text_length, text_prefix,
@@ -26,56 +27,73 @@ fn mode_of(word: &str) -> Mode {
     }
 }
 
-fn width_of(alloc: Global, text: &[u8]) -> Result<Bytes, AllocError> {
+fn push_width(out: &mut Answer, text: &[u8]) {
     if text.len() <= 65_536 {
-        number(alloc, width(text) as usize)
+        out.count(width(text) as usize);
     } else {
-        Bytes::copied(alloc, b"too long")
+        out.put(b"too long");
     }
 }
 
-/// The answer of a call that gives a text.
-fn text_answer(alloc: Global, case: &str, text: &[u8]) -> Result<Bytes, AllocError> {
-    let made = match word_at(case, 0) {
-        "purify" => purify(alloc, text)?,
-        "add_period" => add_period(alloc, text)?,
-        "text_prefix" => text_prefix(alloc, text, number_at(case, 2))?,
-        "to_ascii_lowercase" => to_ascii_lowercase(alloc, text)?,
-        "join_white" => join_white(alloc, text)?,
-        "trim_end" => Bytes::copied(alloc, trim_end(text))?,
-        _ => substring(alloc, text, number_at(case, 2), number_at(case, 3))?,
-    };
-    spelled(alloc, made.as_slice())
+/// The text that a call gives.
+fn made(alloc: Global, case: &str, text: &[u8]) -> Result<Bytes, AllocError> {
+    match word_at(case, 0) {
+        "purify" => purify(alloc, text),
+        "add_period" => add_period(alloc, text),
+        "text_prefix" => text_prefix(alloc, text, number_at(case, 2)),
+        "to_ascii_lowercase" => to_ascii_lowercase(alloc, text),
+        "join_white" => join_white(alloc, text),
+        "trim_end" => Bytes::copied(alloc, trim_end(text)),
+        _ => substring(alloc, text, number_at(case, 2), number_at(case, 3)),
+    }
 }
 
-/// The answer of a call about small and capital letters: the changed text, whether it is the text itself, or whether
-/// two texts match.
-fn case_answer(alloc: Global, case: &str) -> Result<Bytes, AllocError> {
-    let text = unspelled(alloc, word_at(case, 2))?;
-    if word_at(case, 0) == "eq_ignore_ascii_case" {
-        let other = unspelled(alloc, word_at(case, 1))?;
-        return truth(alloc, eq_ignore_ascii_case(&other, &text));
-    }
+/// Puts the answer of a call that gives a text after `out`.
+fn push_made(alloc: Global, out: &mut Answer, case: &str, text: &[u8]) -> Result<(), AllocError> {
+    out.spelled(made(alloc, case, text)?.as_slice());
+    Ok(())
+}
+
+/// Puts after `out` the text of a case with its letters changed, or whether this is the text itself.
+fn push_changed(alloc: Global, out: &mut Answer, case: &str) -> Result<(), AllocError> {
+    let text = text_at(alloc, case, 2)?;
     let changed = change_case(alloc, &text, mode_of(word_at(case, 1)))?;
     match word_at(case, 0) {
-        "keeps_case" => truth(alloc, changed.as_slice() == text.as_slice()),
-        _ => spelled(alloc, changed.as_slice()),
+        "keeps_case" => out.truth(changed.as_slice() == text.as_slice()),
+        _ => out.spelled(changed.as_slice()),
     }
+    Ok(())
 }
 
-/// The answer of a case.
-pub fn answer(alloc: Global, case: &str) -> Result<Bytes, AllocError> {
-    let text = unspelled(alloc, word_at(case, 1))?;
+/// Puts after `out` whether the two texts of a case match without regard to case.
+fn push_is_match(alloc: Global, out: &mut Answer, case: &str) -> Result<(), AllocError> {
+    let text = text_at(alloc, case, 1)?;
+    let other = text_at(alloc, case, 2)?;
+    out.truth(eq_ignore_ascii_case(&text, &other));
+    Ok(())
+}
+
+/// Puts after `out` what a call tells of a text.
+fn push_told(alloc: Global, out: &mut Answer, case: &str, text: &[u8]) -> Result<(), AllocError> {
     match word_at(case, 0) {
-        "class" => Bytes::copied(alloc, class_name(class(text.first().copied().unwrap_or(0)))),
-        "balanced" => truth(alloc, balanced(&text)),
-        "is_name" => truth(alloc, is_name(&text)),
-        "is_white_joined" => truth(alloc, is_white_joined(&text)),
-        "text_length" => number(alloc, text_length(&text)),
-        "name_len" => number(alloc, name_len(&text)),
-        "white_run" => number(alloc, white_run(&text)),
-        "width" => width_of(alloc, &text),
-        "change_case" | "keeps_case" | "eq_ignore_ascii_case" => case_answer(alloc, case),
-        _ => text_answer(alloc, case, &text),
+        "class" => out.put(class_name(class(text.first().copied().unwrap_or(0)))),
+        "balanced" => out.truth(balanced(text)),
+        "is_name" => out.truth(is_name(text)),
+        "is_white_joined" => out.truth(is_white_joined(text)),
+        "text_length" => out.count(text_length(text)),
+        "name_len" => out.count(name_len(text)),
+        "white_run" => out.count(white_run(text)),
+        "width" => push_width(out, text),
+        _ => push_made(alloc, out, case, text)?,
+    }
+    Ok(())
+}
+
+/// Puts the answer of a case after `out`.
+pub fn push_answer(alloc: Global, out: &mut Answer, case: &str) -> Result<(), AllocError> {
+    match word_at(case, 0) {
+        "change_case" | "keeps_case" => push_changed(alloc, out, case),
+        "eq_ignore_ascii_case" => push_is_match(alloc, out, case),
+        _ => push_told(alloc, out, case, &text_at(alloc, case, 1)?),
     }
 }
