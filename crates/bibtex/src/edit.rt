@@ -54,25 +54,20 @@ impl<'a> Change<'a> {
 
 /// Why an edit is refused. A refused edit changes nothing.
 #[derive(Clone, Copy, PartialEq, Eq, Debug, Error)]
+#[error("{:?}", self)]
 pub enum Refusal {
     /// The name isn't one of 1 to 64 bytes, each an ASCII letter, a digit or one of `. - _ + /`; or a root name isn't
     /// one of 1 to 60 such bytes.
-    #[error("BadName")]
     BadName,
     /// No file has the name.
-    #[error("NoSuchFile")]
     NoSuchFile,
     /// The bytes to be replaced end before they begin, or after the end of the text.
-    #[error("RangeOutside")]
     RangeOutside,
     /// The text would have more than 1,048,576 bytes.
-    #[error("FileTooLarge")]
     FileTooLarge,
     /// The name is new, and 64 files are there.
-    #[error("TooManyFiles")]
     TooManyFiles,
     /// There was no room.
-    #[error("OutOfMemory")]
     OutOfMemory,
 }
 

@@ -15,7 +15,7 @@ use std::alloc::{AllocError, Global};
 
 /// What a session is about: the present texts, each under its name, the root name, and how many entries have to refer
 /// to an uncited one for it to be listed.
-#[derive(Debug, Drop)]
+#[derive(Drop)]
 pub struct State {
     pub texts: Sequence<File>,
     pub root: Shared<Bytes>,

@@ -8,7 +8,7 @@ use bt_text::{Bytes, Sequence, is_white};
 use std::alloc::{AllocError, Global};
 
 /// What is wrong with an argument.
-#[derive(Clone, Copy, Debug, PartialEq, Eq)]
+#[derive(Clone, Copy, PartialEq, Eq)]
 pub enum AuxFault {
     /// No brace ends it.
     NoBrace,
@@ -19,7 +19,7 @@ pub enum AuxFault {
 }
 
 /// How an argument is parted.
-#[derive(Clone, Copy, Debug, PartialEq, Eq)]
+#[derive(Clone, Copy, PartialEq, Eq)]
 pub enum Parting {
     /// At its commas.
     Commas,

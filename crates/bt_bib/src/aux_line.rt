@@ -10,7 +10,7 @@ use memchr::memchr;
 use std::alloc::{AllocError, Global};
 
 /// The commands that count.
-#[derive(Clone, Copy, Debug, PartialEq, Eq)]
+#[derive(Clone, Copy, PartialEq, Eq)]
 pub enum Command {
     /// `\citation{..}`
     Citation,
@@ -47,7 +47,7 @@ impl Command {
 }
 
 /// A line that counts: its command, and the parts before its fault, if it has one.
-#[derive(Debug, Drop)]
+#[derive(Drop)]
 pub struct AuxItem {
     pub line: usize,
     pub command: Command,

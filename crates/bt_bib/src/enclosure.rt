@@ -16,7 +16,7 @@ use bt_text::{Bytes, Shared};
 use memchr::memchr3;
 
 /// What a byte does inside braces or quotes.
-#[derive(Clone, Copy, Debug, PartialEq, Eq)]
+#[derive(Clone, Copy, PartialEq, Eq)]
 pub enum Turn {
     /// It ends what they enclose.
     Closes,

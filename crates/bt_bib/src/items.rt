@@ -9,7 +9,7 @@ use std::marker::Model;
 
 /// The items of a database in the order of its text, with the comment words among them. Contracts see the list of
 /// these pieces. A run keeps `KeptItems`; only the program `cases` reads a database whole in this way.
-#[derive(Debug, Drop)]
+#[derive(Drop)]
 pub struct Items {
     pieces: Sequence<Piece>,
 }

@@ -6,7 +6,7 @@ ghost use Rattle.bt_bib.specs.Keywords.{keyword_of};
 use bt_text::eq_ignore_ascii_case;
 
 /// What a type begins.
-#[derive(Clone, Copy, Debug, PartialEq, Eq)]
+#[derive(Clone, Copy, PartialEq, Eq)]
 pub enum Keyword {
     Comment,
     String,

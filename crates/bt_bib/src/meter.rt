@@ -5,7 +5,7 @@ ghost use Rattle.std.specs.Prelude.{◌≡◌, ◌<◌, ◌+◌, ◌^◌};
 use std::marker::Model;
 
 /// A count of the bytes that were read again. Contracts see the number.
-#[derive(Debug, Drop)]
+#[derive(Drop)]
 pub struct ReadMeter {
     count: u128,
 }

@@ -17,7 +17,7 @@ use memchr::memchr;
 use std::alloc::AllocError;
 
 /// Bytes that stand in one run.
-#[derive(Clone, Copy, Debug, PartialEq, Eq)]
+#[derive(Clone, Copy, PartialEq, Eq)]
 pub enum Class {
     White,
     Digit,

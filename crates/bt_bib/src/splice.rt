@@ -11,7 +11,7 @@ use crate::spot::Spot;
 use std::alloc::{AllocError, Global};
 
 /// A splice of a text: `inserted` bytes came in the place of those from `begin` up to `end`.
-#[derive(Clone, Copy, Debug)]
+#[derive(Clone, Copy)]
 pub struct Splice {
     pub begin: usize,
     pub end: usize,

@@ -8,7 +8,7 @@ use crate::spot::Spot;
 use std::alloc::{AllocError, AllocFailed};
 
 /// Why a reader gives no value.
-#[derive(Debug, Drop)]
+#[derive(Drop)]
 pub enum ReadStop {
     /// There is no memory left.
     OutOfMemory,

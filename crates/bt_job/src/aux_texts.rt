@@ -9,7 +9,7 @@ use bt_text::{Bytes, Sequence, Shared};
 use std::alloc::{AllocError, Global};
 
 /// An `.aux` text as it was read: the text and those of its lines that count.
-#[derive(Debug, Drop)]
+#[derive(Drop)]
 pub struct AuxText {
     text: Shared<Bytes>,
     lines: Shared<Sequence<AuxItem>>,
@@ -37,7 +37,7 @@ impl AuxText {
 }
 
 /// The `.aux` texts that runs have read.
-#[derive(Debug, Drop)]
+#[derive(Drop)]
 pub struct AuxTexts {
     known: Sequence<AuxText>,
 }

@@ -3,7 +3,7 @@
 use bt_text::{Bytes, Shared};
 
 /// A file that is there.
-#[derive(Debug, Drop)]
+#[derive(Drop)]
 pub struct File {
     pub name: Shared<Bytes>,
     pub text: Shared<Bytes>,

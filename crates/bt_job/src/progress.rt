@@ -26,7 +26,7 @@ pub struct Progress {
 }
 
 /// What a part of a command comes to.
-#[derive(Debug, Drop)]
+#[derive(Drop)]
 pub enum Outcome {
     /// It is taken, or nothing new.
     Taken,

@@ -7,15 +7,13 @@ use thiserror::Error;
 
 /// Why a name has no parts. The first that holds is reported.
 #[derive(Clone, Copy, PartialEq, Eq, Debug, Error)]
+#[error("{:?}", self)]
 pub enum NameFault {
     /// The text doesn't list so many names, or the number is 0 or less.
-    #[error("NoSuchName")]
     NoSuchName,
     /// The name has more than two commas outside of braces.
-    #[error("TooManyCommas")]
     TooManyCommas,
     /// There is no memory left.
-    #[error("OutOfMemory")]
     OutOfMemory,
 }
 

@@ -17,7 +17,7 @@ use bt_text::Bytes;
 use std::alloc::Global;
 
 /// A formatted name, or that it is longer than the limit.
-#[derive(Debug, Drop)]
+#[derive(Drop)]
 pub enum Formatted {
     /// The whole text, which has no more bytes than the limit says.
     Text(Bytes),

@@ -6,7 +6,7 @@ ghost use Rattle.bt_names.specs.inner.Growth.{StopsAt};
 use std::alloc::AllocError;
 
 /// Why a text was not finished.
-#[derive(Clone, Copy, PartialEq, Eq, Debug)]
+#[derive(Clone, Copy, PartialEq, Eq)]
 pub enum GrowthFault {
     /// It gets longer than the limit.
     Longer,

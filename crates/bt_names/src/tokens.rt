@@ -3,7 +3,7 @@
 use bt_text::{Bytes, Sequence};
 
 /// A token of a name.
-#[derive(Debug, Drop)]
+#[derive(Drop)]
 pub struct Token {
     /// Its bytes.
     pub text: Bytes,
@@ -13,7 +13,7 @@ pub struct Token {
 }
 
 /// The four parts of a name, each a list of tokens in their order.
-#[derive(Debug, Drop)]
+#[derive(Drop)]
 pub struct Parts {
     /// The first names.
     pub first: Sequence<Token>,

@@ -3,7 +3,7 @@
 use bt_text::Bytes;
 
 /// What a folder gives for a name.
-#[derive(Debug, Drop)]
+#[derive(Drop)]
 pub enum Found {
     /// The file's bytes, at most its first 1,048,577.
     Bytes(Bytes),

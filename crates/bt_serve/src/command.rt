@@ -8,7 +8,7 @@ ghost use Rattle.bt_serve.specs.inner.Asked.{request_seen};
 use bibtex::Change;
 
 /// What a line asks for.
-#[derive(Clone, Copy, Debug)]
+#[derive(Clone, Copy)]
 pub enum Request<'a> {
     /// A change of the session's state, and how many bytes follow the line.
     Edit(Change<'a>, usize),

@@ -7,15 +7,13 @@ use thiserror::Error;
 
 /// Why the loop ended before its input did.
 #[derive(Clone, Copy, Debug, PartialEq, Eq, Error)]
+#[error("{:?}", self)]
 pub enum ServeFault {
     /// A read failed. What was read whole is carried out and answered.
-    #[error("ReadFailed")]
     ReadFailed,
     /// A write failed. The command whose answer it was is carried out.
-    #[error("WriteFailed")]
     WriteFailed,
     /// The input ended inside the bytes of a command, which isn't carried out.
-    #[error("Truncated")]
     Truncated,
 }
 

@@ -1,7 +1,7 @@
 //! The classes of bytes.
 
 /// The class of a byte.
-#[derive(Clone, Copy, PartialEq, Eq, Debug)]
+#[derive(Clone, Copy, PartialEq, Eq)]
 pub enum Class {
     /// Tab, line feed, carriage return and space.
     White,

@@ -20,12 +20,11 @@ pub const TEXT_BYTES: usize = 65_536;
 
 /// Why nothing was written.
 #[derive(Clone, Copy, PartialEq, Eq, Debug, Error)]
+#[error("{:?}", self)]
 pub enum HeldFault {
     /// The held line and the new bytes together would have more than 65,536 bytes.
-    #[error("TooLong")]
     TooLong,
     /// There is no memory left.
-    #[error("OutOfMemory")]
     OutOfMemory,
 }
 

@@ -1,7 +1,7 @@
 //! How the case of a text can be changed.
 
 /// How the case of a text is changed.
-#[derive(Clone, Copy, PartialEq, Eq, Debug)]
+#[derive(Clone, Copy, PartialEq, Eq)]
 pub enum Mode {
     /// As `Lower`, but a letter at depth 0, or a whole special character, is spared at place 0 and after white space
     /// with a colon before it.
