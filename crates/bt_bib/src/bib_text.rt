@@ -8,9 +8,7 @@ ghost use Rattle.bt_bib.specs.Scan.{after_run};
 ghost use Rattle.bt_bib.specs.Pieces.{is_text, next_piece, piece};
 ghost use Rattle.bt_bib.specs.BibText.{pieces_from, pieces_of};
 
-use crate::item::Piece;
 use crate::items::Items;
-use crate::kept_items::KeptItems;
 use crate::placed_pieces::PlacedPiece;
 use crate::reader::{Reader, common_names};
 use crate::spot::Spot;
@@ -30,9 +28,28 @@ impl Reader<'_> {
         self.ahead(from, count)
     }
 
-    /// The next `@` with what it begins, or none.
+    /// The piece that begins with the `@` at `start`, stored as read from there, and the place after it.
+    pub fn placed_piece(&self, start: Spot) -> Result<(PlacedPiece, Spot), AllocError>
+        requires { IsIn self.now.text.now start }
+        ensures { Makes self.now.text.now start result (piece (here self.now.text.now start)) }
+    {
+        let own = Reader {
+            alloc: self.alloc,
+            text: &self.text[start.place..],
+            known: self.known,
+        };
+        let (piece, reached) = own.piece(Spot::NOWHERE)?;
+        let end = Spot {
+            place: reached.place + start.place,
+            line: reached.line + start.line,
+        };
+        let piece = PlacedPiece::new(start, end, Shared::new(self.alloc, piece)?);
+        Ok((piece, end))
+    }
+
+    /// The next piece and the place after it, or none and the text's end.
     #[tactic(auto, unfolding(crate::specs::Pieces::next_piece))]
-    pub fn next_piece(&self, from: Spot) -> Result<(Option<Piece>, Spot), AllocError>
+    pub fn next_piece(&self, from: Spot) -> Result<(Option<PlacedPiece>, Spot), AllocError>
         requires { IsIn self.now.text.now from }
         ensures { Makes self.now.text.now from result (next_piece (here self.now.text.now from)) }
     {
@@ -40,7 +57,7 @@ impl Reader<'_> {
         let Some(_) = self.peek(at) else {
             return Ok((None, at));
         };
-        let (piece, end) = self.piece(at)?;
+        let (piece, end) = self.placed_piece(at)?;
         Ok((Some(piece), end))
     }
 
@@ -62,61 +79,8 @@ impl Reader<'_> {
     }
 }
 
-impl Reader<'_> {
-    /// What begins with an `@`, from it on, kept apart from where it stands.
-    pub fn placed_piece(&self, start: Spot) -> Result<(PlacedPiece, Spot), AllocError>
-        requires { IsIn self.now.text.now start }
-        ensures { Makes self.now.text.now start result (piece (here self.now.text.now start)) }
-    {
-        let own = Reader {
-            alloc: self.alloc,
-            text: &self.text[start.place..],
-            known: self.known,
-        };
-        let (piece, reached) = own.piece(Spot::NOWHERE)?;
-        let end = Spot {
-            place: reached.place + start.place,
-            line: reached.line + start.line,
-        };
-        let piece = PlacedPiece::new(start, end, Shared::new(self.alloc, piece)?);
-        Ok((piece, end))
-    }
-
-    /// The next `@` with what it begins, kept apart from where it stands, or none.
-    #[tactic(auto, unfolding(crate::specs::Pieces::next_piece))]
-    pub fn next_placed(&self, from: Spot) -> Result<(Option<PlacedPiece>, Spot), AllocError>
-        requires { IsIn self.now.text.now from }
-        ensures { Makes self.now.text.now from result (next_piece (here self.now.text.now from)) }
-    {
-        let at = self.seek(from);
-        let Some(_) = self.peek(at) else {
-            return Ok((None, at));
-        };
-        let (piece, end) = self.placed_piece(at)?;
-        Ok((Some(piece), end))
-    }
-
-    /// The comment words and items from a place on, each kept apart from where it stands.
-    pub fn kept_from(&self, from: Spot) -> Result<KeptItems, AllocError>
-        requires { IsIn self.now.text.now from }
-        ensures { IfOk result (λ items. items ≡ pieces_from (here self.now.text.now from)) }
-    {
-        let mut items = KeptItems::new(self.alloc);
-        let mut at = from;
-        'pieces: loop {
-            let (next, end) = self.next_placed(at)?;
-            match next {
-                None => return Ok(items),
-                Some(piece) => items.push(piece)?,
-            }
-            at = end;
-        }
-    }
-}
-
-/// The items of a database, in the order of its text. Any bytes are a database: what can't be read is an item with a
-/// fault, and reading goes on at the next `@` from the fault's place on. A run reads by `KeptItems::read`; only the
-/// program `cases` calls this.
+/// The items of a database, in the order of its text. Any bytes are a database: where no rule goes on, the item ends with
+/// a fault, and reading resumes at the next `@` from the fault's place on. The only error is out of memory.
 #[tactic(auto, unfolding(crate::specs::BibText::pieces_of))]
 pub fn read_bib(alloc: Global, text: &[u8]) -> Result<Items, AllocError>
     ensures { IfOk result (λ items. items ≡ pieces_of text.now) }

@@ -10,7 +10,7 @@ ghost use Rattle.bt_bib.specs.Splice.{is_common};
 ghost use Rattle.bt_bib.specs.inner.CommonBoundary.{until, IsJoint};
 
 use crate::boundaries::{count_below, last_boundary};
-use crate::kept_items::KeptItems;
+use crate::items::Items;
 use crate::placed_pieces::PlacedPiece;
 use crate::reader::Reader;
 use crate::splice::Splice;
@@ -41,11 +41,11 @@ impl Reader<'_> {
     /// Reads on from a place, after the pieces that are there, up to a boundary of both texts, or to the text's end.
     pub fn reread(
         &self,
-        items: KeptItems,
+        items: Items,
         from: Spot,
         old: &[PlacedPiece],
         splice: Splice,
-    ) -> Result<(KeptItems, Spot, Option<usize>), AllocError>
+    ) -> Result<(Items, Spot, Option<usize>), AllocError>
         requires at { IsIn self.now.text.now from }
         requires order { InOrder old.now }
         requires first { splice.begin + splice.inserted < 2 ^ 64 }
@@ -66,7 +66,7 @@ impl Reader<'_> {
             if let Some(count) = joint(old, splice, at.place) {
                 return Ok((items, at, Some(count)));
             }
-            let (next, end) = self.next_placed(at)?;
+            let (next, end) = self.next_piece(at)?;
             match next {
                 None => return Ok((items, at, None)),
                 Some(piece) => items.push(piece)?,

@@ -1,17 +1,22 @@
 //! The items of a whole database.
 
-ghost use Rattle.std.specs.Prelude.{◌≡◌, [], ◌++◌, ◌∷◌, OnOk, OnErr};
+ghost use Rattle.std.specs.Prelude.{◌≡◌, [], ◌++◌, ◌∷◌, map, All, IfOk, OnOk, OnErr};
+ghost use Rattle.bt_bib.specs.Shift.{FitsPiece};
+ghost use Rattle.bt_bib.specs.inner.Shift.{rebased_piece};
+ghost use Rattle.bt_bib.specs.inner.PlacedPieces.{BeginsAfter};
 
-use crate::item::Piece;
+use crate::placed_pieces::PlacedPiece;
+use crate::spot::Spot;
 use bt_text::Sequence;
-use std::alloc::{AllocFailed, Global};
+use std::alloc::{AllocError, AllocFailed, Global};
 use std::marker::Model;
 
-/// The items of a database in the order of its text, with the comment words among them. Contracts see the list of
-/// these pieces. A run keeps `KeptItems`; only the program `cases` reads a database whole in this way.
-#[derive(Drop)]
+/// The items of a database in the order of its text, with the comment words among them. Each is stored as read from its
+/// own `@`, beside its place in the text, so that an edit before it changes its place alone. Contracts see the list of the
+/// pieces with their places in the text.
+#[derive(Debug, Drop)]
 pub struct Items {
-    pieces: Sequence<Piece>,
+    pieces: Sequence<PlacedPiece>,
 }
 
 impl Model for Items {
@@ -34,17 +39,35 @@ impl Items {
     }
 
     /// The items and comment words, in the order of the text.
-    pub fn pieces(&self) -> &[Piece]
+    pub fn pieces(&self) -> &[PlacedPiece]
         ensures { result.now ≡ self.now }
     {
         self.pieces.as_slice()
     }
 
     /// Puts a piece after the others. After out of memory they are as before.
-    pub(crate) fn push(&mut self, piece: Piece) -> Result<(), AllocFailed<Piece>>
+    pub(crate) fn push(&mut self, piece: PlacedPiece) -> Result<(), AllocFailed<PlacedPiece>>
         ensures ok { OnOk result (self.new ≡ self.old ++ piece ∷ []) }
         ensures err { OnErr result (self.new ≡ self.old) }
     {
         self.pieces.push(piece)
+    }
+
+    /// Takes others over after these, where the text from `a` on stands from `b` on. They are not copied.
+    pub(crate) fn with_rebased(
+        self,
+        others: &[PlacedPiece],
+        a: Spot,
+        b: Spot,
+    ) -> Result<Items, AllocError>
+        requires fits { All (FitsPiece a b) others.now }
+        requires after_byte { All (BeginsAfter a) others.now }
+        ensures { IfOk result (λ all. all ≡ self ++ map (rebased_piece a b) others.now) }
+    {
+        let mut items = self;
+        'pieces: for piece in others {
+            items.push(piece.rebased(a, b)?)?;
+        }
+        Ok(items)
     }
 }

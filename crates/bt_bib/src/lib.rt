@@ -11,7 +11,6 @@ mod fault;
 mod fields;
 mod item;
 mod items;
-mod kept_items;
 mod keywords;
 mod laws;
 mod meter;
@@ -32,7 +31,6 @@ pub use bib_text::read_bib;
 pub use fault::{ItemFault, NameRole};
 pub use item::{Closing, Content, Definition, Entry, Field, Item, Part, Piece};
 pub use items::Items;
-pub use kept_items::KeptItems;
 pub use laws::{
     any_bound_serves, boundary_stays, enclosed_texts_are_read, fault_is_final, fault_is_first,
     faultless_databases_are_spelled, faultless_items_are_spelled, lines_lie_inside, rest_is_moved,

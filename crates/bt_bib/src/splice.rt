@@ -4,7 +4,7 @@ ghost use Rattle.std.specs.Prelude.{◌≡◌, ◌<◌, ◌+◌, ◌-◌, ◌^�
 ghost use Rattle.bt_bib.specs.BibText.{pieces_of};
 
 use crate::boundaries::{count_below, last_boundary};
-use crate::kept_items::KeptItems;
+use crate::items::Items;
 use crate::meter::ReadMeter;
 use crate::reader::Reader;
 use crate::spot::Spot;
@@ -18,40 +18,46 @@ pub struct Splice {
     pub inserted: usize,
 }
 
-impl KeptItems {
+impl Items {
     ghost use Rattle.bt_bib.specs.Splice.{reread_from, reread_upto, IsSplice};
 
-    /// The items of `new_text`, which is `old_text` with this splice. These are the items of `old_text`. Only a part of
-    /// the new text is read: from the greatest boundary below the splice up to the least one after it that both texts
-    /// have. The meter rises by the number of its bytes. The other items are taken over as they are; only where each
-    /// stands is new. The one error is out of memory; the meter is then as before.
+    /// The items of `new_text`, from these, which are those of `old_text`. The new text is the old one with `inserted`
+    /// bytes in place of its bytes from `start` up to `end`. Only a part of it is read: from the last boundary below the
+    /// splice up to the first one after it that both texts have. The meter rises by the number of bytes in that part. All
+    /// other items are shared, with new places. The only error is out of memory; the meter is then as before.
     pub fn respliced(
         &self,
         alloc: Global,
         old_text: &[u8],
         new_text: &[u8],
-        splice: Splice,
+        start: usize,
+        end: usize,
+        inserted: usize,
         meter: &mut ReadMeter,
-    ) -> Result<KeptItems, AllocError>
+    ) -> Result<Items, AllocError>
         requires old { self.now ≡ pieces_of old_text.now }
-        requires splice { IsSplice old_text.now new_text.now splice.begin splice.end splice.inserted }
+        requires splice { IsSplice old_text.now new_text.now start end inserted }
         requires meter { meter.old + length new_text.now < 2 ^ 128 }
         ensures pieces { IfOk result (λ items. items ≡ pieces_of new_text.now) }
         ensures read { OnOk result (meter.new
-            ≡ meter.old + (reread_upto old_text.now new_text.now splice.begin splice.end splice.inserted - reread_from
-            old_text.now splice.begin)) }
+            ≡ meter.old + (reread_upto old_text.now new_text.now start end inserted - reread_from old_text.now start)) }
         ensures err { OnErr result (meter.new ≡ meter.old) }
     {
         let old = self.pieces();
-        let kept = count_below(old, splice.begin);
+        let kept = count_below(old, start);
         let from = last_boundary(old, kept);
         let reader = Reader {
             alloc,
             text: new_text,
             known: &[],
         };
-        let front = KeptItems::new(alloc);
+        let front = Items::new(alloc);
         let items = front.with_rebased(&old[..kept], Spot::NOWHERE, Spot::NOWHERE)?;
+        let splice = Splice {
+            begin: start,
+            end,
+            inserted,
+        };
         let (items, at, joint) = reader.reread(items, from, old, splice)?;
         match joint {
             Some(passed) => {

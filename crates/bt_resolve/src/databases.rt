@@ -15,7 +15,7 @@ use crate::place::Origin;
 use crate::reader::Reader;
 use crate::reading::Reading;
 use crate::store::Store;
-use bt_bib::{Content, Item, KeptItems, Piece, PlacedPiece};
+use bt_bib::{Content, Item, Items, Piece, PlacedPiece};
 use bt_text::{Bytes, Sequence};
 use std::alloc::{AllocError, Global};
 
@@ -113,7 +113,7 @@ pub fn nothing_read(alloc: Global, macros: &[Macro]) -> Result<Reading, AllocErr
 pub fn read_databases(
     alloc: Global,
     asked: &Asked<'_>,
-    databases: &[&KeptItems],
+    databases: &[&Items],
     reading: &mut Reading,
 ) -> Result<(), AllocError>
     requires { IsTrue (are_apart asked.now.fields) }

@@ -20,7 +20,7 @@ use crate::reading::Reading;
 use crate::references::Teller;
 use crate::store::Store;
 use crate::view::View;
-use bt_bib::KeptItems;
+use bt_bib::Items;
 use bt_log::Message;
 use bt_text::{Bytes, Sequence, Shared};
 use std::alloc::{AllocError, Global};
@@ -142,7 +142,7 @@ fn resolve_read(
 fn resolve_databases(
     alloc: Global,
     asked: &Asked<'_>,
-    databases: &[&KeptItems],
+    databases: &[&Items],
     min: u32,
     read: &mut Reading,
 ) -> Result<Resolved, AllocError>
@@ -160,7 +160,7 @@ fn resolve_asked(
     alloc: Global,
     asked: &Asked<'_>,
     macros: &[Macro],
-    databases: &[&KeptItems],
+    databases: &[&Items],
     min: u32,
 ) -> Result<Resolved, AllocError>
     requires fields { IsTrue (are_apart asked.now.fields) }
@@ -179,7 +179,7 @@ pub fn resolve(
     alloc: Global,
     declared: &Declared,
     cites: &Cites,
-    databases: &[&KeptItems],
+    databases: &[&Items],
     min: u32,
 ) -> Result<Resolved, AllocError>
     requires fields { IsTrue (are_apart declared.now.fields) }

@@ -7,7 +7,7 @@ ghost use Rattle.bt_bib.specs.Splice.{IsSplice};
 ghost use Rattle.bt_run.specs.ReadCommand.{text_in};
 
 use crate::job::shared_text;
-use bt_bib::{KeptItems, ReadMeter, Splice};
+use bt_bib::{Items, ReadMeter, Splice, read_bib};
 use bt_job::File;
 use bt_text::{Bytes, Sequence, Shared};
 use std::alloc::{AllocError, Global};
@@ -16,7 +16,7 @@ use std::alloc::{AllocError, Global};
 #[derive(Drop)]
 pub struct Database {
     pub text: Shared<Bytes>,
-    pub items: Shared<KeptItems>,
+    pub items: Shared<Items>,
     ghost read: { items ≡ pieces_of text },
 }
 
@@ -25,7 +25,7 @@ impl Database {
     pub fn read(alloc: Global, text: Shared<Bytes>) -> Result<Database, AllocError>
         ensures { IfOk result (λ database. database.text ≡ text) }
     {
-        let items = Shared::new(alloc, KeptItems::read(alloc, text.as_slice())?)?;
+        let items = Shared::new(alloc, read_bib(alloc, text.as_slice())?)?;
         Ok(Database { text, items })
     }
 
@@ -53,9 +53,14 @@ impl Database {
         ensures { IfOk result (λ database. database.text ≡ text) }
     {
         let old = self.text.as_slice();
+        let Splice {
+            begin,
+            end,
+            inserted,
+        } = splice;
         let items = self
             .items
-            .respliced(alloc, old, text.as_slice(), splice, meter)?;
+            .respliced(alloc, old, text.as_slice(), begin, end, inserted, meter)?;
         let items = Shared::new(alloc, items)?;
         Ok(Database { text, items })
     }
@@ -105,10 +110,7 @@ pub fn databases_in(
 }
 
 /// The items of databases, as they are kept.
-pub fn all_items<'a>(
-    alloc: Global,
-    databases: &'a [Database],
-) -> Result<Vec<&'a KeptItems>, AllocError>
+pub fn all_items<'a>(alloc: Global, databases: &'a [Database]) -> Result<Vec<&'a Items>, AllocError>
     ensures { IfOk result (λ items. map (λ kept. items_of kept.now) items.items
         ≡ map (λ database. items_of (pieces_of database.text)) databases.now) }
 {

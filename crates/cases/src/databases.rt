@@ -4,8 +4,8 @@
 use crate::answer::Answer;
 use crate::spelling::{text_at, word_at};
 use bt_bib::{
-    Closing, Content, Definition, Entry, Field, Item, ItemFault, Items, KeptItems, NameRole, Part,
-    Piece, Spot, read_bib,
+    Closing, Content, Definition, Entry, Field, Item, ItemFault, Items, NameRole, Part, Piece,
+    PlacedPiece, Spot, read_bib,
 };
 use bt_text::{Bytes, Sequence, Shared};
 use std::alloc::{AllocError, Global};
@@ -205,18 +205,28 @@ impl Spelled {
         }
     }
 
+    /// The place of an item's fault, and the fault; nothing for a comment word or an item without a fault.
+    fn last_fault(&mut self, placed: &PlacedPiece) {
+        self.from = placed.start();
+        if let Piece::Item(item) = placed.piece() {
+            self.place_and_fault(item);
+        }
+    }
+
     /// The place of an item's fault, and the fault; nothing where it has none.
     fn place_and_fault(&mut self, item: &Item) {
         if let Some(fault) = item.fault {
-            self.out.count(item.end.place);
+            self.out
+                .count(self.from.place.saturating_add(item.end.place));
             self.out.put(b" ");
             self.fault(fault, item.end.line);
         }
     }
 
     /// An item after others, with ` ; ` before it; a comment word is left out.
-    fn piece(&mut self, piece: &Piece) {
-        if let Piece::Item(item) = piece {
+    fn piece(&mut self, placed: &PlacedPiece) {
+        self.from = placed.start();
+        if let Piece::Item(item) = placed.piece() {
             if !self.out.is_empty() {
                 self.out.put(b" ; ");
             }
@@ -225,21 +235,11 @@ impl Spelled {
     }
 }
 
-/// Items with ` ; ` between them, or a full stop where there is none, as they stand in their text.
-pub fn spelled_kept(alloc: Global, items: &KeptItems) -> Result<Bytes, AllocError> {
+/// The items with their places in the text and ` ; ` between them, or a full stop if there are none.
+pub fn spelled_items(alloc: Global, items: &Items) -> Result<Bytes, AllocError> {
     let mut spelled = Spelled::new(alloc);
     for placed in items.pieces() {
-        spelled.from = placed.start();
-        spelled.piece(placed.piece());
-    }
-    spelled.end()
-}
-
-/// The items, with ` ; ` between them, or a full stop where there is none.
-fn items_told(alloc: Global, items: &Items) -> Result<Bytes, AllocError> {
-    let mut spelled = Spelled::new(alloc);
-    for piece in items.pieces() {
-        spelled.piece(piece);
+        spelled.piece(placed);
     }
     spelled.end()
 }
@@ -247,8 +247,8 @@ fn items_told(alloc: Global, items: &Items) -> Result<Bytes, AllocError> {
 /// The place of the last item's fault, and the fault; a full stop where the last piece is no item or has no fault.
 fn last_fault(alloc: Global, items: &Items) -> Result<Bytes, AllocError> {
     let mut spelled = Spelled::new(alloc);
-    if let Some(Piece::Item(item)) = items.pieces().last() {
-        spelled.place_and_fault(item);
+    if let Some(placed) = items.pieces().last() {
+        spelled.last_fault(placed);
     }
     spelled.end()
 }
@@ -257,7 +257,7 @@ fn last_fault(alloc: Global, items: &Items) -> Result<Bytes, AllocError> {
 fn item_count(items: &Items) -> usize {
     let mut count: usize = 0;
     for piece in items.pieces() {
-        if let Piece::Item(_) = piece {
+        if let Piece::Item(_) = piece.piece() {
             count = count.saturating_add(1);
         }
     }
@@ -269,7 +269,7 @@ fn push_told(alloc: Global, out: &mut Answer, items: &Items, call: &str) -> Resu
     match call {
         "item_count" => out.count(item_count(items)),
         "last_fault" => out.put(last_fault(alloc, items)?.as_slice()),
-        _ => out.put(items_told(alloc, items)?.as_slice()),
+        _ => out.put(spelled_items(alloc, items)?.as_slice()),
     }
     Ok(())
 }

@@ -5,7 +5,7 @@ ghost use Rattle.std.specs.Prelude.{◌≤◌, length, IfOk, IfSome};
 
 use crate::answer::Answer;
 use crate::spelling::{place_at, unspelled, word_at};
-use bt_bib::KeptItems;
+use bt_bib::{Items, read_bib};
 use bt_log::{Message, Place, Rank};
 use bt_resolve::{Cites, Declared, Entry, Macro, Resolved, are_apart, resolve};
 use bt_text::{Bytes, NameList, Sequence, Shared};
@@ -155,7 +155,7 @@ fn push_told(
     out: &mut Answer,
     declared: &Declared,
     cites: &Cites,
-    databases: &[&KeptItems],
+    databases: &[&Items],
     min: u32,
 ) -> Result<(), AllocError>
     requires { IfSome cites.now.star (λ before. before ≤ length cites.now.keys) }
@@ -169,9 +169,9 @@ fn push_told(
 }
 
 /// The items of the database that a word spells.
-fn items(alloc: Global, word: &str) -> Result<KeptItems, AllocError> {
+fn items(alloc: Global, word: &str) -> Result<Items, AllocError> {
     let text = unspelled(alloc, word)?;
-    KeptItems::read(alloc, &text)
+    read_bib(alloc, &text)
 }
 
 /// Puts after `out` what citations and the two databases of a case give, with its `min`.

@@ -5,9 +5,9 @@ ghost use Rattle.std.specs.Prelude.{◌≤◌, length, IfOk};
 ghost use Rattle.bt_bib.specs.Splice.{IsSplice};
 
 use crate::answer::Answer;
-use crate::databases::spelled_kept;
+use crate::databases::spelled_items;
 use crate::spelling::{place_at, text_at};
-use bt_bib::{KeptItems, ReadMeter, Splice};
+use bt_bib::{Items, ReadMeter, read_bib};
 use bt_text::Bytes;
 use std::alloc::{AllocError, Global};
 
@@ -34,7 +34,7 @@ fn spliced(
 struct Reread {
     text: Bytes,
     /// Its items, of which those were read again that the splice can have changed.
-    items: KeptItems,
+    items: Items,
     /// How many bytes were read again.
     read: u128,
 }
@@ -51,14 +51,10 @@ fn respliced(
     requires inside { end ≤ length text.now }
 {
     let new = spliced(alloc, text, begin, end, bytes)?;
-    let splice = Splice {
-        begin,
-        end,
-        inserted: bytes.len(),
-    };
     let mut meter = ReadMeter::new();
-    let old = KeptItems::read(alloc, text)?;
-    let items = old.respliced(alloc, text, new.as_slice(), splice, &mut meter)?;
+    let old = read_bib(alloc, text)?;
+    let count = bytes.len();
+    let items = old.respliced(alloc, text, new.as_slice(), begin, end, count, &mut meter)?;
     Ok(Reread {
         text: new,
         items,
@@ -67,13 +63,9 @@ fn respliced(
 }
 
 /// Whether items are spelled the same.
-fn are_spelled_alike(
-    alloc: Global,
-    items: &KeptItems,
-    others: &KeptItems,
-) -> Result<bool, AllocError> {
-    let one = spelled_kept(alloc, items)?;
-    let other = spelled_kept(alloc, others)?;
+fn are_spelled_alike(alloc: Global, items: &Items, others: &Items) -> Result<bool, AllocError> {
+    let one = spelled_items(alloc, items)?;
+    let other = spelled_items(alloc, others)?;
     Ok(one.as_slice() == other.as_slice())
 }
 
@@ -89,7 +81,7 @@ fn is_alike(
     requires inside { end ≤ length text.now }
 {
     let again = respliced(alloc, text, begin, end, bytes)?;
-    let whole = KeptItems::read(alloc, again.text.as_slice())?;
+    let whole = read_bib(alloc, again.text.as_slice())?;
     are_spelled_alike(alloc, &again.items, &whole)
 }
 
@@ -139,7 +131,7 @@ pub fn push_answer_anywhere(alloc: Global, out: &mut Answer, case: &str) -> Resu
 /// `read_bib`.
 fn push_reread(alloc: Global, out: &mut Answer, again: &Reread) -> Result<(), AllocError> {
     out.put(format!(in alloc; "{} ", again.read)?.as_bytes());
-    out.put(spelled_kept(alloc, &again.items)?.as_slice());
+    out.put(spelled_items(alloc, &again.items)?.as_slice());
     Ok(())
 }
 

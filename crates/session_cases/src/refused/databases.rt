@@ -5,7 +5,7 @@ ghost use Rattle.bt_bib.specs.BibText.{pieces_of};
 ghost use Rattle.bt_bib.specs.Splice.{IsSplice};
 
 use crate::refused::attempt::Case;
-use bt_bib::{KeptItems, ReadMeter, Splice};
+use bt_bib::{Items, ReadMeter, read_bib};
 use bt_text::Bytes;
 use std::alloc::{AllocError, Global};
 
@@ -21,10 +21,10 @@ const INSERTED: &[u8] = b"Q, R";
 /// A database as it was read, its text, a meter of what is read again, and what came of that.
 #[derive(Drop)]
 pub struct Rereading {
-    items: KeptItems,
+    items: Items,
     text: Bytes,
     meter: ReadMeter,
-    again: Option<KeptItems>,
+    again: Option<Items>,
     ghost read: { items ≡ pieces_of text },
 }
 
@@ -47,7 +47,7 @@ fn with_inserted(
 impl Case for Rereading {
     fn begun(alloc: Global, _group: &str) -> Result<Self, AllocError> {
         let text = Bytes::copied(alloc, DATABASE)?;
-        let items = KeptItems::read(alloc, text.as_slice())?;
+        let items = read_bib(alloc, text.as_slice())?;
         Ok(Rereading {
             items,
             text,
@@ -63,14 +63,8 @@ impl Case for Rereading {
         }
         let new = with_inserted(alloc, old, begin, INSERTED)?;
         let inserted = INSERTED.len();
-        let splice = Splice {
-            begin,
-            end,
-            inserted,
-        };
-        let again = self
-            .items
-            .respliced(alloc, old, new.as_slice(), splice, &mut self.meter)?;
+        let (items, new, meter) = (&self.items, new.as_slice(), &mut self.meter);
+        let again = items.respliced(alloc, old, new, begin, end, inserted, meter)?;
         self.again = Some(again);
         Ok(())
     }

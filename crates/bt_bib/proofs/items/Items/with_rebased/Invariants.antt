@@ -1,6 +1,6 @@
 use Rattle.std.proofs.Common.{◌≡◌, ◌++◌, take, map}
 use Rattle.bt_bib.specs.inner.Shift.{rebased_piece}
-use Rattle.bt_bib.proofs.kept_items.KeptItems.with_rebased.Given as goal
+use Rattle.bt_bib.proofs.items.Items.with_rebased.Given as goal
 
 abbrev pub invariant-pieces : goal.invariant-pieces
 invariant-pieces l = l.items ≡ l.fn.self ++ map (rebased_piece l.a l.b) (take l.piece-index l.others)

@@ -15,7 +15,7 @@ use Rattle.bt_bib.specs.inner.PlacedPieces.{BeginsAfter}
 use Rattle.bt_bib.proofs.PlacedLemmas.{rest_behind}
 use Rattle.bt_bib.proofs.SmallLemmas.{last_ones_fit}
 use Rattle.bt_bib.proofs.SpliceLemmas.{all_still, in_order, law_of, joined_back, final_common, final_end}
-use Rattle.bt_bib.proofs.kept_items.KeptItems.respliced.Goals as goal
+use Rattle.bt_bib.proofs.items.Items.respliced.Goals as goal
 
 pub count_below-kept-requires : goal.count_below-kept-requires
 count_below-kept-requires c = in_order c.args.old_text.now c.pieces-old.result.now (c.pieces-old.ensures ∙ c.requires.old)
@@ -31,7 +31,7 @@ reread-requires-clause-at c =
     let ps = c.pieces-old.result.now in
     let from = c.last_boundary-from.result in
     let is_from = c.last_boundary-from.ensures ∙ ap (last_end start) (sym c.count_below-kept.ensures.value) in
-    (law_of c.args.old_text.now c.args.new_text.now c.args.splice.begin c.args.splice.end c.args.splice.inserted ps c.requires.splice (c.pieces-old.ensures ∙ c.requires.old) from _ is_from refl).3
+    (law_of c.args.old_text.now c.args.new_text.now c.args.start c.args.end c.args.inserted ps c.requires.splice (c.pieces-old.ensures ∙ c.requires.old) from _ is_from refl).3
 
 pub reread-requires-clause-order : goal.reread-requires-clause-order
 reread-requires-clause-order c = in_order c.args.old_text.now c.pieces-old.result.now (c.pieces-old.ensures ∙ c.requires.old)
@@ -40,9 +40,9 @@ pub with_rebased-requires-in-Some-clause-fits : goal.with_rebased-requires-in-So
 with_rebased-requires-in-Some-clause-fits c =
     let ps = c.pieces-old.result.now in
     let new = c.args.new_text.now in
-    let b = c.args.splice.begin in
-    let e = c.args.splice.end in
-    let n = c.args.splice.inserted in
+    let b = c.args.start in
+    let e = c.args.end in
+    let n = c.args.inserted in
     let is = c.pieces-old.ensures ∙ c.requires.old in
     let from = c.last_boundary-from.result in
     let stop = c.in_ok-items-2.at in
@@ -66,9 +66,9 @@ pub returns-in_ok-items-in-Some-clause-pieces : goal.returns-in_ok-items-in-Some
 returns-in_ok-items-in-Some-clause-pieces c =
     let ps = c.pieces-old.result.now in
     let new = c.args.new_text.now in
-    let b = c.args.splice.begin in
-    let e = c.args.splice.end in
-    let n = c.args.splice.inserted in
+    let b = c.args.start in
+    let e = c.args.end in
+    let n = c.args.inserted in
     let is = c.pieces-old.ensures ∙ c.requires.old in
     let from = c.last_boundary-from.result in
     let stop = c.in_ok-items-2.at in
@@ -88,9 +88,9 @@ pub returns-in_ok-items-in-Some-clause-read : goal.returns-in_ok-items-in-Some-c
 returns-in_ok-items-in-Some-clause-read c =
     let ps = c.pieces-old.result.now in
     let new = c.args.new_text.now in
-    let b = c.args.splice.begin in
-    let e = c.args.splice.end in
-    let n = c.args.splice.inserted in
+    let b = c.args.start in
+    let e = c.args.end in
+    let n = c.args.inserted in
     let is = c.pieces-old.ensures ∙ c.requires.old in
     let from = c.last_boundary-from.result in
     let stop = c.in_ok-items-2.at in
@@ -104,9 +104,9 @@ pub returns-in-None-clause-pieces : goal.returns-in-None-clause-pieces
 returns-in-None-clause-pieces c =
     let ps = c.pieces-old.result.now in
     let new = c.args.new_text.now in
-    let b = c.args.splice.begin in
-    let e = c.args.splice.end in
-    let n = c.args.splice.inserted in
+    let b = c.args.start in
+    let e = c.args.end in
+    let n = c.args.inserted in
     let is = c.pieces-old.ensures ∙ c.requires.old in
     let from = c.last_boundary-from.result in
     let stop = c.in_ok-items-2.at in
@@ -120,9 +120,9 @@ pub returns-in-None-clause-read : goal.returns-in-None-clause-read
 returns-in-None-clause-read c =
     let ps = c.pieces-old.result.now in
     let new = c.args.new_text.now in
-    let b = c.args.splice.begin in
-    let e = c.args.splice.end in
-    let n = c.args.splice.inserted in
+    let b = c.args.start in
+    let e = c.args.end in
+    let n = c.args.inserted in
     let is = c.pieces-old.ensures ∙ c.requires.old in
     let from = c.last_boundary-from.result in
     let stop = c.in_ok-items-2.at in
