@@ -33,7 +33,7 @@ item_stands h (pieces.Item j, k) i is faultless stands =
     let same : j ≡ i = cc is in
     subst (λ i. Stands (ItemOf i) h k) same (stands (ap (λ (i : Item). i.fault) same ∙ faultless))
 
-at_sign : (b : ℕ) → is_text b ≡ false → b ≡ 64
+pub at_sign : (b : ℕ) → is_text b ≡ false → b ≡ 64
 at_sign b is = eqb-true b 64 (is_true (b == 64) is)
   where
     is_true : (v : Bool) → not v ≡ false → v ≡ true

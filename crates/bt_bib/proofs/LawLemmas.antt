@@ -24,7 +24,7 @@ use Rattle.bt_bib.proofs.KeptLemmas.{kept_law}
 use Rattle.bt_bib.proofs.RiseLemmas.{spans_rise, one_of, none_there}
 use Rattle.bt_bib.proofs.SpliceLemmas.{kept_pieces}
 
-from_offset : (a : Spot) → start.line ≤ a.line → moved (offset a) start ≡ a
+pub from_offset : (a : Spot) → start.line ≤ a.line → moved (offset a) start ≡ a
 from_offset a le = same_spot _ _ _ _ (omega arith) (omega arith)
 
 line_least : (text : List ℕ) (a : Spot) → Reaches (here text start) (here text a) → start.line ≤ a.line

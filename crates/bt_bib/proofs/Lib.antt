@@ -22,6 +22,8 @@ pub mod SmallLemmas
 pub mod SpliceLemmas
 pub mod PlacedLemmas
 pub mod LawLemmas
+pub mod PartLemmas
+pub mod SplitLemmas
 pub mod LineLemmas
 pub mod CutLemmas
 pub mod FitLemmas

@@ -18,6 +18,8 @@ pub mod Splice
 pub mod Shift
 pub mod PlacedPieces
 pub mod Laws
+pub mod Parts
+pub mod Split
 pub mod Spelling
 pub mod Spelled
 pub mod SpelledLaws

@@ -1,6 +1,7 @@
 //! Laws of the items of a text. The functions do nothing: what they promise is about the definitions alone.
 
 ghost use Rattle.bt_bib.specs.Laws.{AnyBoundServes, BoundaryStays, FaultIsFinal, FaultIsFirst};
+ghost use Rattle.bt_bib.specs.Parts.{ClosedPartsJoin, PartEditStays, PartsAreRead};
 ghost use Rattle.bt_bib.specs.Laws.{LinesLieInside, RestIsMoved, SpansRise};
 ghost use Rattle.bt_bib.specs.SpelledLaws.{EnclosedTextsAreRead, SpelledPartsAreRead, SpelledValuesAreRead};
 ghost use Rattle.bt_bib.specs.SpelledLaws.{SpelledFieldsAreRead, SpelledItemsAreRead, SpelledDatabasesAreRead};
@@ -80,4 +81,20 @@ pub fn faultless_databases_are_spelled()
 /// Any number of readings above that of the bytes left serves the definitions as well: it is never reached.
 pub fn any_bound_serves()
     ensures { AnyBoundServes }
+{}
+
+/// If no item lies across a cut, each part can be read as a text of its own: its items, moved to where the part begins,
+/// are those of the whole text.
+pub fn parts_are_read()
+    ensures { PartsAreRead }
+{}
+
+/// Closed texts, joined, have the items that each has alone, moved to where it begins.
+pub fn closed_parts_join()
+    ensures { ClosedPartsJoin }
+{}
+
+/// An edit inside a part that stays closed changes the items of no other part.
+pub fn part_edit_stays()
+    ensures { PartEditStays }
 {}

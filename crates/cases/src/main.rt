@@ -12,6 +12,7 @@ mod held_lines;
 mod logs;
 mod name_tables;
 mod names;
+mod parts;
 mod reaches;
 mod resolved;
 mod sequences;
@@ -72,6 +73,8 @@ fn push_answer(alloc: Global, out: &mut Answer, case: &str) -> Result<(), AllocE
         "read_bib" | "item_count" | "last_fault" => databases::push_answer(alloc, out, case),
         "respliced" => splices::push_answer_at(alloc, out, case),
         "respliced_anywhere" => splices::push_answer_anywhere(alloc, out, case),
+        "split_places" => parts::push_answer(alloc, out, case),
+        "is_closed" => parts::push_closed(alloc, out, case),
         "resolve" => resolved::push_answer(alloc, out, case),
         _ => push_answer_of_parts(alloc, out, case),
     }
