@@ -14,7 +14,6 @@
 PREFIX ?= /usr/local
 DESTDIR ?=
 
-NEEDS_RT := command -v rt > /dev/null || { echo "The toolchain's command 'rt' isn't on PATH: put its folder there and try again." >&2; exit 1; }
 # The proved program: `make build` leaves it here, and so does `rt ci`.
 PROGRAM := crates/bibtex_program/out/bibtex_program
 SOURCES := crates.txt $(shell find crates/*/src crates/*/specs crates/*/proofs 2>/dev/null)
@@ -25,14 +24,13 @@ build: $(PROGRAM)
 
 # Every crate is proved, lowest first, and the program is built only then.
 $(PROGRAM): $(SOURCES)
-	@$(NEEDS_RT)
 	@tools/build $(JOBS)
 
 run:
 	@examples/run
 
 test:
-	@$(NEEDS_RT)
+	@tools/kit
 	RT_JOBS=$${RT_JOBS:-$$(tools/at_once)} rt ci
 	tests/sources
 	tests/run
@@ -40,7 +38,7 @@ test:
 	tests/memory
 
 check:
-	@$(NEEDS_RT)
+	@tools/kit
 	rt all check
 
 # It builds nothing, so that root needs no toolchain: `make build` does. (The program is written only once it and all that it stands on are proved.)
