@@ -202,8 +202,8 @@ fn run_with(
             let course = carry_out_style(alloc, job, log, reuse)?;
             Ok(StyleRun::new(course, wanted, Some(text)))
         }
-        Err(StyleRefusal::StyleFault(fault)) => {
-            let course = refuse_style(alloc, name, fault, log)?;
+        Err(StyleRefusal::Fault { kind, line }) => {
+            let course = refuse_style(alloc, name, StyleFault { kind, line }, log)?;
             Ok(StyleRun::new(course, wanted, Some(text)))
         }
         Err(StyleRefusal::OutOfMemory) => Err(AllocError),

@@ -28,7 +28,7 @@ impl ReadStyle {
     {
         let style = match read_style(alloc, text.as_slice()) {
             Ok(style) => Ok(Shared::new(alloc, style)?),
-            Err(StyleRefusal::StyleFault(fault)) => Err(fault),
+            Err(StyleRefusal::Fault { kind, line }) => Err(StyleFault { kind, line }),
             Err(StyleRefusal::OutOfMemory) => return Err(AllocError),
         };
         Ok(ReadStyle { text, style })
@@ -54,7 +54,10 @@ impl ReadStyle {
     {
         match &self.style {
             Ok(style) => Ok(style.share()?),
-            Err(fault) => Err(StyleRefusal::StyleFault(*fault)),
+            Err(StyleFault { kind, line }) => Err(StyleRefusal::Fault {
+                kind: *kind,
+                line: *line,
+            }),
         }
     }
 }

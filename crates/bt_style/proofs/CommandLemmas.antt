@@ -69,10 +69,11 @@ one_command stage p tokens word line rest stage' p' rest' k w f s =
 pub word_fails : {whole : Result Program StyleFault} (e : StyleRefusal) (stage : Stage) (p : Program) (tokens : Tokens) → Kept whole stage p tokens →
     Fails e (command_word tokens) → Fails e whole
 word_fails refusals.OutOfMemory stage p tokens k f = tt
-word_fails (refusals.StyleFault fault) stage p tokens k f = no_word stage p tokens fault k f
+word_fails (refusals.Fault kind line) stage p tokens k f = no_word stage p tokens (record { kind = kind; line = line }) k f
 
 pub command_fails : {whole : Result Program StyleFault} (e : StyleRefusal) (stage : Stage) (p : Program) (tokens : Tokens) (word : List ℕ) (line : ℕ) (rest : Tokens) →
     Kept whole stage p tokens → command_word tokens ≡ Ok (Some (word, line, rest)) →
     Fails e (command_at stage p word line rest) → Fails e whole
 command_fails refusals.OutOfMemory stage p tokens word line rest k w f = tt
-command_fails (refusals.StyleFault fault) stage p tokens word line rest k w f = no_command stage p tokens word line rest fault k w f
+command_fails (refusals.Fault kind at) stage p tokens word line rest k w f =
+    no_command stage p tokens word line rest (record { kind = kind; line = at }) k w f

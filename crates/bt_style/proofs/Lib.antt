@@ -1,3 +1,4 @@
+pub mod SeekLemmas
 pub mod TokenLemmas
 pub mod DecimalLemmas
 pub mod BodyLemmas

@@ -36,7 +36,7 @@ abbrev pub ◌>>=◌ : {A B : Type 0} → Result A StyleFault → (A → Result 
 -- the same fault, unless memory ran out
 abbrev pub Fails : {Y : Type 0} → StyleRefusal → Result Y StyleFault → Type 0
 Fails refusals.OutOfMemory read = Unit {0}
-Fails (refusals.StyleFault fault) read = read ≡ Err fault
+Fails (refusals.Fault kind line) read = read ≡ fault kind line
 
 -- the same value, seen by view, or the same fault, unless memory ran out
 abbrev pub Gives : {X Y : Type 0} → (X → Y) → Result X StyleRefusal → Result Y StyleFault → Type 0

@@ -6,14 +6,14 @@ ghost use Rattle.bt_style.specs.Token.{count};
 ghost use Rattle.bt_style.specs.Arguments.{open_at, close_at, word_at, literal_at};
 
 use crate::cursor::Cursor;
-use crate::fault::{FaultKind, StyleFault, StyleRefusal};
+use crate::fault::{FaultKind, StyleRefusal};
 use crate::token::Token;
 
 /// A fault on a line.
 pub fn fault(kind: FaultKind, line: usize) -> StyleRefusal
-    ensures { result ≡ StyleRefusal.StyleFault (record { kind = kind; line = line }) }
+    ensures { result ≡ StyleRefusal.Fault kind line }
 {
-    StyleRefusal::StyleFault(StyleFault { kind, line })
+    StyleRefusal::Fault { kind, line }
 }
 
 /// The brace that opens an argument.

@@ -85,7 +85,11 @@ pub struct StyleFault {
 pub enum StyleRefusal {
     /// The text has a fault, and this is the first one.
     #[error("Fault")]
-    StyleFault(StyleFault),
+    Fault {
+        kind: FaultKind,
+        /// The line of the token at which it was found, from 1.
+        line: usize,
+    },
     /// There is no memory left.
     #[error("OutOfMemory")]
     OutOfMemory,

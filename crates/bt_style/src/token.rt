@@ -6,6 +6,7 @@ ghost use Rattle.bt_style.specs.Token.{ends_word, is_line_feed, ends_literal, ma
 ghost use Rattle.bt_style.specs.inner.Cursor.{IsPiece, front_piece};
 
 use bt_text::is_white;
+use memchr::{memchr, memchr2};
 
 /// A token with its line, or the end with its line.
 #[derive(Clone, Copy)]
@@ -34,20 +35,19 @@ fn word_length(bytes: &[u8]) -> usize
 }
 
 /// How many bytes stand before the line's end.
+#[tactic(auto, using(crate::proofs::SeekLemmas::stands_before))]
 fn comment_length(bytes: &[u8]) -> usize
     ensures { result ≡ length (before_first is_line_feed bytes.now) }
 {
-    bytes.iter().take_while(|b| **b != b'\n').count()
+    memchr(b'\n', bytes).unwrap_or(bytes.len())
 }
 
 /// How many bytes stand before a quote or the line's end.
+#[tactic(auto, using(crate::proofs::SeekLemmas::stands_before))]
 fn literal_length(bytes: &[u8]) -> usize
     ensures { result ≡ length (before_first ends_literal bytes.now) }
 {
-    bytes
-        .iter()
-        .take_while(|b| !(**b == b'"' || **b == b'\n'))
-        .count()
+    memchr2(b'"', b'\n', bytes).unwrap_or(bytes.len())
 }
 
 /// Whether these bytes may stand after a literal.

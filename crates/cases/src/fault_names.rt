@@ -3,7 +3,7 @@
 use crate::answer::Answer;
 use crate::spelling::word_at;
 use bt_names::{FormatFault, NameFault};
-use bt_style::{FaultKind, StyleFault, StyleRefusal};
+use bt_style::{FaultKind, StyleRefusal};
 use bt_text::HeldFault;
 use std::alloc::{AllocError, Global};
 
@@ -31,7 +31,7 @@ fn format_faults(alloc: Global) -> Result<String, AllocError> {
 /// How the refusals of a style show.
 fn style_refusals(alloc: Global) -> Result<String, AllocError> {
     let kind = FaultKind::MissingArgument;
-    let fault = StyleRefusal::StyleFault(StyleFault { kind, line: 7 });
+    let fault = StyleRefusal::Fault { kind, line: 7 };
     format!(in alloc; "{fault} {}", StyleRefusal::OutOfMemory)
 }
 

@@ -42,7 +42,7 @@ fn push_told(alloc: Global, out: &mut Answer, style: &Style, case: &str) -> Resu
 pub fn push_answer(alloc: Global, out: &mut Answer, case: &str) -> Result<(), AllocError> {
     match read_style(alloc, &text_at(alloc, case, 1)?) {
         Ok(style) => push_told(alloc, out, &style, case)?,
-        Err(StyleRefusal::StyleFault(_)) => out.put(b"refused"),
+        Err(StyleRefusal::Fault { .. }) => out.put(b"refused"),
         Err(StyleRefusal::OutOfMemory) => return Err(AllocError),
     }
     Ok(())

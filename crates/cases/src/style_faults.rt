@@ -10,7 +10,7 @@ use std::alloc::{AllocError, Global};
 fn first_fault(alloc: Global, text: &[u8]) -> Result<Option<StyleFault>, AllocError> {
     match read_style(alloc, text) {
         Ok(_) => Ok(None),
-        Err(StyleRefusal::StyleFault(fault)) => Ok(Some(fault)),
+        Err(StyleRefusal::Fault { kind, line }) => Ok(Some(StyleFault { kind, line })),
         Err(StyleRefusal::OutOfMemory) => Err(AllocError),
     }
 }
@@ -60,7 +60,7 @@ fn chain(alloc: Global, functions: usize) -> Result<Vec<u8>, AllocError> {
 pub fn push_chain_answer(alloc: Global, out: &mut Answer, case: &str) -> Result<(), AllocError> {
     match read_style(alloc, &chain(alloc, place_at(case, 1))?) {
         Ok(style) => out.count(style.functions.len()),
-        Err(StyleRefusal::StyleFault(_)) => out.count(0),
+        Err(StyleRefusal::Fault { .. }) => out.count(0),
         Err(StyleRefusal::OutOfMemory) => return Err(AllocError),
     }
     Ok(())

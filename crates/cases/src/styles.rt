@@ -160,7 +160,9 @@ pub fn push_fault(alloc: Global, out: &mut Answer, fault: StyleFault) -> Result<
 pub fn push_answer(alloc: Global, out: &mut Answer, case: &str) -> Result<(), AllocError> {
     match read_style(alloc, &text_at(alloc, case, 1)?) {
         Ok(style) => push_style(out, &style),
-        Err(StyleRefusal::StyleFault(fault)) => push_fault(alloc, out, fault)?,
+        Err(StyleRefusal::Fault { kind, line }) => {
+            push_fault(alloc, out, StyleFault { kind, line })?;
+        }
         Err(StyleRefusal::OutOfMemory) => return Err(AllocError),
     }
     Ok(())

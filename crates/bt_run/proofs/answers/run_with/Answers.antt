@@ -28,9 +28,9 @@ returns-in-Ok-clause-taken c =
     (run_taken (program_of style) k.text k.steps c.in_ok-text.text c.earlier_under-earlier.result c.in_ok-course-in-Ok.course c.carry_out_style.new.reuse
     read (c.earlier_under-earlier.ensures ∙ ap (steps_under k.text k.steps) is) c.in_ok-course-in-Ok.ensures.consistent)
 
-pub returns-in-Err-StyleFault-clause-taken : goal.returns-in-Err-StyleFault-clause-taken
-returns-in-Err-StyleFault-clause-taken c =
+pub returns-in-Err-Fault-clause-taken : goal.returns-in-Err-Fault-clause-taken
+returns-in-Err-Fault-clause-taken c =
     let k = c.args.kept.now in
-    let refused = c.in_ok-course-in-Err-StyleFault in
-    rw (c.new-in-Err-StyleFault.ensures.text, c.new-in-Err-StyleFault.ensures.course)
+    let refused = c.in_ok-course-in-Err-Fault in
+    rw (c.new-in-Err-Fault.ensures.text, c.new-in-Err-Fault.ensures.course)
     (nothing_taken k.text k.steps (Some c.in_ok-text.text) _ _ refused.course (record c.args.reuse.now { readings = c.style.new.self }) refused.ensures c.requires.meter c.requires.ran)
