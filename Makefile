@@ -5,11 +5,14 @@
 # make install    puts it into PREFIX/bin as bibtex, and bibtex-collect beside it (PREFIX=/usr/local; DESTDIR goes before it)
 # make uninstall  takes both away
 # make check      proves what has changed since the last check
-# make measure    times the built program, beside TeX Live's where that is installed, and writes docs/SPEED.md
+#
+# These need more than the kit (tests/README.md says what), and their last line counts what they skipped:
+#
+# make measure    times the built program beside TeX Live's, and writes docs/SPEED.md
 # make hostile    times the worst inputs that we could think of
-# make compare    runs it and TeX Live's bibtex over the TeX tree's styles and databases, where these are installed
-# make try-latex  tries bibtex-collect with LaTeX and latexmk, where these are installed
-# make try-editors   drives Vim, Neovim and Emacs with the plugins of editors/, where they are installed
+# make compare    runs it and TeX Live's bibtex over the TeX tree's styles and databases
+# make try-latex  tries bibtex-collect with LaTeX and latexmk
+# make try-editors   drives Vim, Neovim and Emacs with the plugins of editors/
 
 PREFIX ?= /usr/local
 DESTDIR ?=
@@ -33,7 +36,7 @@ test:
 	@tools/kit
 	RT_JOBS=$${RT_JOBS:-$$(tools/at_once)} rt ci
 	tests/sources
-	tests/run
+	tests/run $(PROGRAM) $(PROGRAM).by-rattle
 	tests/originals
 	tests/memory
 
