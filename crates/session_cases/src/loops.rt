@@ -67,15 +67,43 @@ fn answer(rt: &HostRuntime, title: &str, input: &[u8], limits: Limits<'_>) -> Re
     tell(rt, title, ended, &session, &source, &sink)
 }
 
-/// Answers an input where the write after so many bytes fails, for each number of them.
+/// Answers the first bytes of an input, for each number of them from the first on and below the end.
+fn cut(rt: &HostRuntime, input: &[u8], limits: Limits<'_>, first: usize, end: usize) -> Result<()> {
+    for place in first..end {
+        answer(rt, "cut", input.get(..place).unwrap_or(&[]), limits)?;
+    }
+    Ok(())
+}
+
+/// Answers an input where the read after so many bytes fails, for each number of them from the first on and below the
+/// end.
+fn fail_reads(
+    rt: &HostRuntime,
+    input: &[u8],
+    limits: Limits<'_>,
+    first: usize,
+    end: usize,
+) -> Result<()> {
+    for place in first..end {
+        let limits = Limits {
+            read_fails: place,
+            ..limits
+        };
+        answer(rt, "read fails", input, limits)?;
+    }
+    Ok(())
+}
+
+/// Answers an input where the write after so many bytes fails, for each number of them from the first on and below the
+/// end.
 fn fail_writes(
     rt: &HostRuntime,
     input: &[u8],
     limits: Limits<'_>,
     first: usize,
-    last: usize,
+    end: usize,
 ) -> Result<()> {
-    for place in first..last {
+    for place in first..end {
         let limits = Limits {
             write_fails: place,
             ..limits
@@ -112,15 +140,9 @@ fn show_faults(rt: &HostRuntime) -> Result<()> {
 fn answer_as(rt: &HostRuntime, step: Step<'_>, input: &[u8], limits: Limits<'_>) -> Result<()> {
     match step {
         Step::Serve => answer(rt, "whole input", input, limits),
-        Step::Cut(place) => answer(rt, "cut", input.get(..place).unwrap_or(&[]), limits),
-        Step::ReadFails(place) => {
-            let limits = Limits {
-                read_fails: place,
-                ..limits
-            };
-            answer(rt, "read fails", input, limits)
-        }
-        Step::WriteFails(first, last) => fail_writes(rt, input, limits, first, last),
+        Step::Cut(first, end) => cut(rt, input, limits, first, end),
+        Step::ReadFails(first, end) => fail_reads(rt, input, limits, first, end),
+        Step::WriteFails(first, end) => fail_writes(rt, input, limits, first, end),
         Step::Faults => show_faults(rt),
         _ => Ok(()),
     }

@@ -1,8 +1,8 @@
 //! Tests of what stands on a session, each by its word:
 //!
 //! - `worked` shows worked examples of sessions;
-//! - `scripts` answers the script of standard input: runs of the command loop, a line `jobs`, and cases of the one-shot
-//!   form;
+//! - `scripts` answers the script of standard input: runs of the command loop, a line `jobs`, cases of the one-shot form,
+//!   a line `sessions`, and sessions that are edited;
 //! - `calls` makes each call of `refused`, where no memory is refused;
 //! - any other word is a seed, by which random edits are made, or `N:SEED` for N of them.
 //!
@@ -10,11 +10,13 @@
 //! what came of it; `refused names` shows the names of all calls.
 #![tactic(auto)]
 
+mod answers;
 mod dice;
 mod edits;
 mod jobs;
 mod loops;
 mod refused;
+mod sessions;
 mod texts;
 mod trial;
 mod worked;
@@ -30,6 +32,7 @@ fn answer_script(rt: &HostRuntime) -> Result<()> {
     rt.stdin().read_to_end(&mut script)?;
     let rest = loops::answer_all(rt, script.as_slice())?;
     let rest = jobs::answer_all(rt, rest.strip_prefix(b"jobs\n").unwrap_or(rest))?;
+    let rest = sessions::answer_all(rt, rest.strip_prefix(b"sessions\n").unwrap_or(rest))?;
     println!(rt; "{} bytes left", rest.len())?;
     Ok(())
 }

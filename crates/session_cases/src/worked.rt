@@ -1,7 +1,8 @@
-//! Worked examples of what the command loop doesn't show: the names that are wanted, lists of edits, present texts,
-//! messages with their places, and reasons that are asked for before an edit. One session goes through all of them.
+//! Worked examples of what no script shows: lists of edits, messages with their places, and reasons that are asked for
+//! before an edit. One session goes through all of them.
 
-use bibtex::{Bytes, Change, Edit, Message, Place, Refusal, Report, Session, edit_all};
+use crate::answers::{push_answer, push_bibliography};
+use bibtex::{Bytes, Change, Edit, Message, Place, Refusal, Session, edit_all};
 use std::alloc::{AllocError, Global};
 
 const AUX: &[u8] = b"\\citation{b,a}\n\\bibdata{x}\n\\bibstyle{s}\n";
@@ -38,46 +39,12 @@ fn make(session: &mut Session, edit: Edit<'_>) -> Result<(), Refusal> {
     Ok(())
 }
 
-/// The names that are wanted.
-fn wanted(out: &mut Bytes, session: &Session) -> Result<(), AllocError> {
-    out.append(b"wanted:")?;
-    for name in session.wanted() {
-        out.append_all(&[b" ", name.as_slice()])?;
-    }
-    out.append(b"\n")
-}
-
-/// The answer to an edit.
-fn answer(
-    alloc: Global,
-    out: &mut Bytes,
-    answer: &Result<Report, Refusal>,
-) -> Result<(), AllocError> {
-    match answer {
-        Ok(
-            Report {
-                status,
-                ran,
-                reused,
-                ticks,
-            },
-        ) => { out.append(format!(in alloc; "ok {status} {ran} {reused} {ticks}\n")?.as_bytes()) }
-        Err(refusal) => out.append(format!(in alloc; "refused {refusal}\n")?.as_bytes()),
-    }
-}
-
 /// The answers to a list of edits.
 fn answers(alloc: Global, out: &mut Bytes, session: &mut Session) -> Result<(), AllocError> {
     for each in edit_all(alloc, session, LIST)?.iter() {
-        answer(alloc, out, each)?;
+        push_answer(alloc, out, each)?;
     }
     Ok(())
-}
-
-/// The text that a name has.
-fn text(out: &mut Bytes, session: &Session, name: &[u8]) -> Result<(), AllocError> {
-    let text = session.file(name).unwrap_or(b"none");
-    out.append_all(&[name, b": ", text, b"\n"])
 }
 
 /// A message: its rank, its words, and the file and line where it belongs.
@@ -101,19 +68,6 @@ fn last_message(alloc: Global, out: &mut Bytes, session: &Session) -> Result<(),
     }
 }
 
-/// The bibliography.
-fn bibliography(out: &mut Bytes, session: &Session) -> Result<(), AllocError> {
-    out.append_all(&[b"bibliography:\n", session.bbl()])
-}
-
-/// The status, the bibliography, and both logs.
-fn all(alloc: Global, out: &mut Bytes, session: &Session) -> Result<(), AllocError> {
-    out.append(format!(in alloc; "status {}\n", session.status())?.as_bytes())?;
-    bibliography(out, session)?;
-    out.append_all(&[b"log:\n", session.blg()])?;
-    out.append_all(&[b"terse log:\n", session.terse()])
-}
-
 /// The first reason against each of some changes.
 fn reasons(alloc: Global, out: &mut Bytes, session: &Session) -> Result<(), AllocError> {
     for (change, size) in CHANGES {
@@ -123,34 +77,19 @@ fn reasons(alloc: Global, out: &mut Bytes, session: &Session) -> Result<(), Allo
     Ok(())
 }
 
-/// The examples of names that are wanted, lists of edits, and texts, over a new session.
+/// The examples of lists of edits, over a new session.
 fn edited(alloc: Global, out: &mut Bytes, session: &mut Session) -> Result<(), Refusal> {
-    wanted(out, session)?;
     make(session, Edit::Write(b"job.aux", AUX))?;
-    wanted(out, session)?;
-    text(out, session, b"x.bib")?;
     answers(alloc, out, session)?;
-    bibliography(out, session)?;
-    make(session, Edit::Remove(b"x.bib"))?;
-    wanted(out, session)?;
-    text(out, session, b"x.bib")?;
-    make(session, Edit::Write(b"x.bib", b"@misc{a}"))?;
-    make(session, Edit::Splice(b"x.bib", 6, 7, b"bcd"))?;
-    text(out, session, b"x.bib")?;
-    make(session, Edit::Remove(b"x.bib"))?;
-    text(out, session, b"x.bib")?;
-    Ok(text(out, session, b"s.bst")?)
+    Ok(push_bibliography(out, session)?)
 }
 
-/// The examples of messages, logs and reasons, over the same session after that.
+/// The examples of messages and reasons, over the same session after that.
 fn logged(alloc: Global, out: &mut Bytes, session: &mut Session) -> Result<(), Refusal> {
+    make(session, Edit::Remove(b"x.bib"))?;
     make(session, WRITE_FAULT)?;
     last_message(alloc, out, session)?;
     make(session, WRITE_STYLE)?;
-    make(session, Edit::Root(b"no"))?;
-    wanted(out, session)?;
-    all(alloc, out, session)?;
-    make(session, Edit::Root(b"job"))?;
     Ok(reasons(alloc, out, session)?)
 }
 

@@ -17,12 +17,12 @@ pub enum Step<'a> {
     Watch(&'a str),
     /// `serve`: answers the whole input.
     Serve,
-    /// `cut PLACE`: answers the input up to this place.
-    Cut(usize),
-    /// `read_fails PLACE`: answers the input, where the read at this place fails.
-    ReadFails(usize),
-    /// `write_fails FIRST PLACE`: answers the input, where the write after so many bytes fails, for each number from
-    /// the first up to the place.
+    /// `cut FIRST END`: answers the first bytes of the input, for each number of them from the first on and below the
+    /// end.
+    Cut(usize, usize),
+    /// `read_fails FIRST END`: answers the input, where the read after so many bytes fails, for each such number.
+    ReadFails(usize, usize),
+    /// `write_fails FIRST END`: answers the input, where the write after so many bytes fails, for each such number.
     WriteFails(usize, usize),
     /// `faults`: shows each fault and each refusal.
     Faults,
@@ -44,26 +44,28 @@ fn counted_step<'a>(word: &str, count: usize) -> Option<Step<'a>> {
     match word {
         "letters" => Some(Step::Letters(count)),
         "most" => Some(Step::Most(count)),
-        "cut" => Some(Step::Cut(count)),
-        "read_fails" => Some(Step::ReadFails(count)),
         _ => None,
     }
 }
 
 /// A step that names two numbers.
-fn range_step(rest: &str) -> Option<Step<'_>> {
-    let (first, last) = rest.split_once(' ')?;
-    Some(Step::WriteFails(number(first)?, number(last)?))
+fn range_step<'a>(word: &str, rest: &'a str) -> Option<Step<'a>> {
+    let (first, end) = rest.split_once(' ')?;
+    let (first, end) = (number(first)?, number(end)?);
+    match word {
+        "cut" => Some(Step::Cut(first, end)),
+        "read_fails" => Some(Step::ReadFails(first, end)),
+        "write_fails" => Some(Step::WriteFails(first, end)),
+        _ => None,
+    }
 }
 
 /// A step that stands in its line alone.
 fn line_step<'a>(word: &str, rest: &'a str) -> Option<Step<'a>> {
-    if word == "write_fails" {
-        return range_step(rest);
-    }
-    match plain_step(word, rest) {
-        Some(step) => Some(step),
-        None => counted_step(word, number(rest)?),
+    match word {
+        "case" | "watch" | "serve" | "faults" => plain_step(word, rest),
+        "letters" | "most" => counted_step(word, number(rest)?),
+        _ => range_step(word, rest),
     }
 }
 
