@@ -1,42 +1,47 @@
 -- The places of steps by their names.
-use Rattle.std.specs.Prelude.{codes, decimal, unwrap_or, if◌then◌else◌, slice_get, slice_index_or, MatchOption, Contains}
-use Rattle.std.specs.Option.{option_map}
+use Rattle.std.specs.Prelude.{unwrap_or, if◌then◌else◌, slice_get, slice_index_or, MatchOption, Contains}
+use Rattle.std.specs.Cmp.{IsEquivalence, and_equiv, on_equiv, nat_eq_equiv}
+use Rattle.std.specs.Cmp.Lexicographic.{on_texts_equal}
+use Rattle.std.specs.HashMap as hashed
 use Rattle.std.proofs.Common.{◌≡◌, refl, sym, ap, ◌∙◌, subst, ◌⊎◌, inl, inr, ◌+◌, ◌<◌, ℕ, Bool, true, false, List, [], ◌∷◌, ◌++◌, Option, Some, None, All, length, arith}
 use Rattle.std.proofs.lemmas.Bool.{cases_lt}
 use Rattle.std.proofs.lemmas.List.Elements.{Contains-append_left, Contains-append_right}
 use Rattle.std.proofs.lemmas.Option.{slice_get_within, slice_get-get_or, get_or_from_slice_get}
-use Rattle.std.proofs.lemmas.Slice.Eq.{bytes_eq-Decides}
-use Rattle.bt_text.specs.CaseFolding.{folded, is_same_folded}
-use Rattle.bt_text.specs.ByName.{at_small, known, with_value}
 use Rattle.bt_style.specs.declared.style.Target.{Target}
 use Rattle.bt_style.specs.Reach.{is_among}
-use Rattle.bt_actions.specs.declared.entry.Entry.{Entry}
 use Rattle.bt_machine.specs.declared.input.Input.{Input}
 use Rattle.bt_run.specs.declared.course.Step.{Step}
+use Rattle.bt_run.specs.declared.index.StepName.{StepName}
 use Rattle.bt_run.specs.declared.index.Index.{Index}
-use Rattle.bt_run.specs.inner.Index.{key_or_none, step_name, places_at, IsIndex}
+use Rattle.bt_run.specs.Work.{key_in}
+use Rattle.bt_run.specs.inner.Index.{key_or_none, same_name, step_name, places_at, IsIndex}
 use Rattle.bt_run.specs.inner.Work.{IsLike, IsUnlikeAt}
 use Rattle.bt_run.proofs.WorkLemmas.{key_same}
 
 -- One more place
 
 -- a place has come to those at a name
-abbrev pub IsAdded : Index → Index → List ℕ → ℕ → Type 0
-IsAdded old new name place = (other : List ℕ) → places_at new other ≡ (if is_same_folded name other then places_at old name ++ place ∷ [] else places_at old other)
+abbrev pub IsAdded : Index → Index → StepName → ℕ → Type 0
+IsAdded old new name place = (other : StepName) → places_at new other ≡ (if same_name name other then places_at old name ++ place ∷ [] else places_at old other)
 
 unwrapped : (b : Bool) (xs : List ℕ) (o : Option (List ℕ)) → unwrap_or (if b then Some xs else o) [] ≡ (if b then xs else unwrap_or o [])
 unwrapped true xs o = refl
 unwrapped false xs o = refl
 
-pub added : (old new : Index) (name more : List ℕ) (place : ℕ) → known new.places ≡ with_value name more (known old.places) → more ≡ places_at old name ++ place ∷ [] → IsAdded old new name place
+pub added : (old new : Index) (name : StepName) (more : List ℕ) (place : ℕ) →
+    ((other : StepName) → hashed.get same_name new.places other ≡ (if same_name name other then Some more else hashed.get same_name old.places other)) →
+    more ≡ places_at old name ++ place ∷ [] → IsAdded old new name place
 added old new name more place is are = λ other.
-    ap (λ (f : List ℕ → Option (List ℕ)). unwrap_or (f other) []) is
-    ∙ unwrapped (is_same_folded name other) more (known old.places other)
-    ∙ ap (λ (xs : List ℕ). if is_same_folded name other then xs else places_at old other) are
+    ap (λ (o : Option (List ℕ)). unwrap_or o []) (is other)
+    ∙ unwrapped (same_name name other) more (hashed.get same_name old.places other)
+    ∙ ap (λ (xs : List ℕ). if same_name name other then xs else places_at old other) are
 
--- names that match have the same places
-one_name : (index : Index) (name other : List ℕ) → is_same_folded name other ≡ true → places_at index name ≡ places_at index other
-one_name index name other h = ap (λ (small : List ℕ). unwrap_or (at_small index.places small) []) ((bytes_eq-Decides (folded name) (folded other)).0 h)
+same_name_equiv : IsEquivalence same_name
+same_name_equiv = and_equiv (on_equiv (λ (a : StepName). a.command) nat_eq_equiv) (on_texts_equal (λ (a : StepName). key_or_none a.key))
+
+-- names that are the same have the same places
+one_name : (index : Index) (name other : StepName) → same_name name other ≡ true → places_at index name ≡ places_at index other
+one_name index name other h = λ j. unwrap_or (hashed.get_by (λ z. same_name_equiv.congr name other z h j) index.places) []
 
 kept_if : (b : Bool) (here there : List ℕ) (place k : ℕ) → (b ≡ true → here ≡ there) → Contains there k → Contains (if b then here ++ place ∷ [] else there) k
 kept_if true here there place k same among = Contains-append_left here (place ∷ []) k (subst (λ (xs : List ℕ). Contains xs k) (sym (same refl)) among)
@@ -55,26 +60,27 @@ IsIndexTo n steps index = (k : ℕ) (s : Step) → k < n → slice_get steps k �
 below_or_at : (k n : ℕ) → k < n + 1 → (k < n) ⊎ (k ≡ n)
 below_or_at k n lt = elim (cases_lt k n) [ inl below ↦ inl below | inr past ↦ inr (omega (arith, lt, past)) ]
 
-old_place : (steps : List Step) (old new : Index) (n k : ℕ) (t : Step) (name : List ℕ) → IsIndexTo n steps old → IsAdded old new name n → k < n → slice_get steps k ≡ Some t → Contains (places_at new (step_name t.command t.input)) k
+old_place : (steps : List Step) (old new : Index) (n k : ℕ) (t : Step) (name : StepName) → IsIndexTo n steps old → IsAdded old new name n → k < n → slice_get steps k ≡ Some t → Contains (places_at new (step_name t.command t.input)) k
 old_place steps old new n k t name so_far more lt at =
     let now = step_name t.command t.input in
-    subst (λ (xs : List ℕ). Contains xs k) (sym (more now)) (kept_if (is_same_folded name now) (places_at old name) (places_at old now) n k (one_name old name now) (so_far k t lt at))
+    subst (λ (xs : List ℕ). Contains xs k) (sym (more now))
+    (kept_if (same_name name now) (places_at old name) (places_at old now) n k (one_name old name now) (so_far k t lt at))
 
-new_place : (old new : Index) (n : ℕ) (t : Step) (name : List ℕ) → IsAdded old new name n → name ≡ step_name t.command t.input → Contains (places_at new (step_name t.command t.input)) n
+new_place : (old new : Index) (n : ℕ) (t : Step) (name : StepName) → IsAdded old new name n → name ≡ step_name t.command t.input → Contains (places_at new (step_name t.command t.input)) n
 new_place old new n t name more same =
     let now = step_name t.command t.input in
-    let matched : is_same_folded name now ≡ true = (bytes_eq-Decides (folded name) (folded now)).1 (ap folded same) in
-    subst (λ (xs : List ℕ). Contains xs n) (sym (more now)) (new_if (is_same_folded name now) (places_at old name) (places_at old now) n matched)
+    let matched : same_name name now ≡ true = subst (λ (m : StepName). same_name name m ≡ true) same (same_name_equiv.refl name) in
+    subst (λ (xs : List ℕ). Contains xs n) (sym (more now)) (new_if (same_name name now) (places_at old name) (places_at old now) n matched)
 
-pub indexed_more : (steps : List Step) (old new : Index) (n : ℕ) (s d : Step) (name bytes : List ℕ) → IsIndexTo n steps old → s ≡ slice_index_or steps n d → name ≡ step_name s.command s.input → bytes ≡ name → IsAdded old new bytes n → IsIndexTo (n + 1) steps new
-indexed_more steps old new n s d name bytes so_far here named same more = λ k t lt at.
+pub indexed_more : (steps : List Step) (old new : Index) (n : ℕ) (s d : Step) (name : StepName) → IsIndexTo n steps old → s ≡ slice_index_or steps n d → name ≡ step_name s.command s.input → IsAdded old new name n → IsIndexTo (n + 1) steps new
+indexed_more steps old new n s d name so_far here named more = λ k t lt at.
     elim (below_or_at k n lt) [
-      | inl below ↦ old_place steps old new n k t bytes so_far more below at
+      | inl below ↦ old_place steps old new n k t name so_far more below at
       | inr is ↦
           let found : slice_get steps n ≡ Some t = subst (λ (m : ℕ). slice_get steps m ≡ Some t) is at in
           let one : s ≡ t = here ∙ get_or_from_slice_get steps n t d found in
-          let called : bytes ≡ step_name t.command t.input = same ∙ named ∙ ap (λ (u : Step). step_name u.command u.input) one in
-          subst (λ (m : ℕ). Contains (places_at new (step_name t.command t.input)) m) (sym is) (new_place old new n t bytes more called)
+          let called : name ≡ step_name t.command t.input = named ∙ ap (λ (u : Step). step_name u.command u.input) one in
+          subst (λ (m : ℕ). Contains (places_at new (step_name t.command t.input)) m) (sym is) (new_place old new n t name more called)
     ]
 
 pub indexed_all : (steps : List Step) (index : Index) (n : ℕ) → (length steps < n + 1) → IsIndexTo n steps index → IsIndex steps index
@@ -84,15 +90,11 @@ indexed_all steps index n past so_far = λ k s at.
 
 -- What is found by it
 
-key_here : (e : Option Entry) → key_or_none e ≡ unwrap_or (option_map (λ (d : Entry). d.key) e) []
-key_here None = refl
-key_here (Some e) = refl
-
 -- like steps have one name
 one_step_name : (command : ℕ) (names : List Target) (i : Input) (s : Step) → IsLike command names i s → step_name s.command s.input ≡ step_name command i
 one_step_name command names i s like =
-    let keys : key_or_none s.input.entry ≡ key_or_none i.entry = key_here s.input.entry ∙ ap (λ (k : Option (List ℕ)). unwrap_or k []) (key_same (is_among names) s.input i like.agree) ∙ sym (key_here i.entry) in
-    λ j. decimal (like.of_command j) ++ codes " " ++ keys j
+    let keys : key_in s.input ≡ key_in i = key_same (is_among names) s.input i like.agree in
+    λ j. record { command = like.of_command j; key = keys j }
 
 -- where no step at the places of a name is like, none is
 pub none_like : (command : ℕ) (names : List Target) (i : Input) (steps : List Step) (index : Index) (places : List ℕ) → IsIndex steps index → places ≡ places_at index (step_name command i) → All (IsUnlikeAt command names i steps) places → All (λ s. IsLike command names i s → ⊥) steps

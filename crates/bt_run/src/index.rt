@@ -1,33 +1,77 @@
 //! Where earlier steps stand, which is found by hashing.
 
-ghost use Rattle.std.specs.Prelude.{◌≡◌, ◌++◌, [], ◌∷◌, ℕ, List, IfOk, OnOk, option_copied, unwrap_or, if◌then◌else◌};
-ghost use Rattle.bt_text.specs.CaseFolding.{is_same_folded};
-ghost use Rattle.bt_run.specs.inner.Index.{step_name, places_at, IsIndex};
+ghost use Rattle.std.specs.Prelude.{◌≡◌, ◌++◌, [], ◌∷◌, IfOk, OnOk, option_copied, unwrap_or, if◌then◌else◌};
+ghost use Rattle.std.proofs.Common.{rules};
+ghost use Rattle.std.specs.Cmp.Rules.{comparing, hashing};
+ghost use Rattle.bt_run.specs.inner.Index.{key_or_none, same_name, name_writes, step_name, places_at, IsIndex};
 
 use crate::course::Step;
 use bt_machine::Input;
-use bt_text::{ByName, Bytes, Sequence, Shared};
-use itoa::Buffer;
+use bt_text::{Bytes, Sequence, Shared};
 use std::alloc::{AllocError, Global};
+use std::collections::HashMap;
+use std::hash::{Hash, Hasher};
+
+/// What a step is found by: the number of its command, and the key of its entry, if it is for one.
+#[derive(Drop)]
+pub struct StepName {
+    command: usize,
+    key: Option<Shared<Bytes>>,
+}
+
+impl PartialEq for StepName {
+    ghost eq = { same_name };
+
+    ghost laws = { Prim.search (comparing, rules) };
+
+    fn eq(&self, other: &StepName) -> bool {
+        self.command == other.command && self.key() == other.key()
+    }
+}
+
+impl Eq for StepName {
+    ghost laws = { Prim.search (comparing, rules) };
+}
+
+impl Hash for StepName {
+    ghost hash_input = { name_writes };
+
+    ghost respects_eq = { Prim.search (hashing, rules) };
+
+    fn hash<H: Hasher>(&self, state: &mut H) {
+        self.command.hash(state);
+        self.key().hash(state);
+    }
+}
+
+impl StepName {
+    /// The key, nothing where there is none.
+    fn key(&self) -> &[u8]
+        ensures { result.now ≡ key_or_none self.now.key }
+    {
+        match &self.key {
+            None => &[],
+            Some(key) => key.as_slice(),
+        }
+    }
+
+    /// The name of a step of this command with this input. Its key is shared.
+    fn of(command: usize, input: &Input) -> Result<StepName, AllocError>
+        ensures { IfOk result (λ name. name ≡ step_name command input.now) }
+    {
+        let key = match &input.entry {
+            None => None,
+            Some(entry) => Some(entry.key.share()?),
+        };
+        Ok(StepName { command, key })
+    }
+}
 
 /// The places of steps, by the command and the key of each. A command takes one step for a key, so a name has few
 /// places.
 #[derive(Drop)]
 pub struct Index {
-    places: ByName<Sequence<usize>>,
-}
-
-/// The name of a step: the number of its command, and the key of its entry.
-fn step_name(alloc: Global, command: usize, input: &Input) -> Result<Bytes, AllocError>
-    ensures { IfOk result (λ name. name ≡ step_name command input.now) }
-{
-    let mut buffer = Buffer::new();
-    let mut name = Bytes::copied(alloc, buffer.format(command).as_bytes())?;
-    name.append(b" ")?;
-    if let Some(entry) = &input.entry {
-        name.append(entry.key.as_slice())?;
-    }
-    Ok(name)
+    places: HashMap<StepName, Sequence<usize>>,
 }
 
 /// These places, and one more.
@@ -48,13 +92,12 @@ fn with_place(
 
 impl Index {
     /// Adds a place to those at a name.
-    fn add(&mut self, alloc: Global, name: &[u8], place: usize) -> Result<(), AllocError>
-        ensures { OnOk result ((other : List ℕ) → places_at self.new other
-            ≡ (if is_same_folded name.now other then places_at self.old name.now ++ place ∷ []
-            else places_at self.old other)) }
+    fn add(&mut self, alloc: Global, name: StepName, place: usize) -> Result<(), AllocError>
+        ensures { OnOk result ((other : StepName) → places_at self.new other
+            ≡ (if same_name name other then places_at self.old name ++ place ∷ [] else places_at self.old other)) }
     {
-        let places = with_place(alloc, self.places.get(alloc, name)?, place)?;
-        self.places.insert(alloc, name, places)?;
+        let places = with_place(alloc, self.places.get(&name), place)?;
+        self.places.insert(name, places)?;
         Ok(())
     }
 
@@ -63,26 +106,21 @@ impl Index {
         ensures { IfOk result (λ index. IsIndex steps.now index) }
     {
         let mut index = Index {
-            places: ByName::new(alloc),
+            places: HashMap::new(alloc),
         };
         'steps: for (place, step) in steps.iter().enumerate() {
-            let name = step_name(alloc, step.command, &step.input)?;
-            index.add(alloc, name.as_slice(), place)?;
+            let name = StepName::of(step.command, &step.input)?;
+            index.add(alloc, name, place)?;
         }
         Ok(index)
     }
 
     /// The places at which a step of this command may stand, if its input has the same key.
-    pub fn places(
-        &self,
-        alloc: Global,
-        command: usize,
-        input: &Input,
-    ) -> Result<&[usize], AllocError>
+    pub fn places(&self, command: usize, input: &Input) -> Result<&[usize], AllocError>
         ensures { IfOk result (λ places. places.now ≡ places_at self.now (step_name command input.now)) }
     {
-        let name = step_name(alloc, command, input)?;
-        match self.places.get(alloc, name.as_slice())? {
+        let name = StepName::of(command, input)?;
+        match self.places.get(&name) {
             None => Ok(&[]),
             Some(places) => Ok(places.as_slice()),
         }

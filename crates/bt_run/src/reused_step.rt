@@ -198,7 +198,7 @@ fn meet<'a>(
         return Ok(find_anywhere(style, earlier, sought));
     }
     let made = index_of(alloc, earlier, lookup.index.take())?;
-    let places = made.places(alloc, sought.command, sought.input)?;
+    let places = made.places(sought.command, sought.input)?;
     let met = find_like(style, earlier, places, sought);
     lookup.index = Some(made);
     Ok(met)
