@@ -67,7 +67,7 @@ fn answer(rt: &HostRuntime, title: &str, input: &[u8], limits: Limits<'_>) -> Re
     tell(rt, title, ended, &session, &source, &sink)
 }
 
-/// Answers the first bytes of an input, for each number of them from the first on and below the end.
+/// Answers an input cut short after n bytes, for each n from `first` to `end` - 1.
 fn cut(rt: &HostRuntime, input: &[u8], limits: Limits<'_>, first: usize, end: usize) -> Result<()> {
     for place in first..end {
         answer(rt, "cut", input.get(..place).unwrap_or(&[]), limits)?;
@@ -75,8 +75,7 @@ fn cut(rt: &HostRuntime, input: &[u8], limits: Limits<'_>, first: usize, end: us
     Ok(())
 }
 
-/// Answers an input where the read after so many bytes fails, for each number of them from the first on and below the
-/// end.
+/// Answers an input where the read after n bytes fails, for each n from `first` to `end` - 1.
 fn fail_reads(
     rt: &HostRuntime,
     input: &[u8],
@@ -94,8 +93,7 @@ fn fail_reads(
     Ok(())
 }
 
-/// Answers an input where the write after so many bytes fails, for each number of them from the first on and below the
-/// end.
+/// Answers an input where the write after n bytes fails, for each n from `first` to `end` - 1.
 fn fail_writes(
     rt: &HostRuntime,
     input: &[u8],

@@ -1,5 +1,5 @@
 //! Sessions that are edited step by step, and what they show: names that no command can spell, the names that are
-//! wanted, the terse log; and that all is as before where an edit is refused.
+//! wanted, the terse log, and that nothing changes when an edit is refused.
 
 mod agreeing;
 mod script;
@@ -11,7 +11,7 @@ use anyhow::Result;
 use bibtex::{Bytes, Edit, Refusal, Report, Session};
 use std::alloc::{AllocError, Global};
 
-/// The names whose texts must be as before where an edit is refused.
+/// The names whose texts must stay when an edit is refused.
 const NAMES: [&str; 6] = ["job.aux", "two.aux", "s.bst", "x.bib", "y.bib", "a b"];
 
 /// Makes an edit, what is proved of which isn't used here.

@@ -17,12 +17,11 @@ pub enum Step<'a> {
     Watch(&'a str),
     /// `serve`: answers the whole input.
     Serve,
-    /// `cut FIRST END`: answers the first bytes of the input, for each number of them from the first on and below the
-    /// end.
+    /// `cut FIRST END`: answers the input cut short after n bytes, for each n from FIRST to END - 1.
     Cut(usize, usize),
-    /// `read_fails FIRST END`: answers the input, where the read after so many bytes fails, for each such number.
+    /// `read_fails FIRST END`: answers the input, where the read after n bytes fails, for each of these n.
     ReadFails(usize, usize),
-    /// `write_fails FIRST END`: answers the input, where the write after so many bytes fails, for each such number.
+    /// `write_fails FIRST END`: answers the input, where the write after n bytes fails, for each of these n.
     WriteFails(usize, usize),
     /// `faults`: shows each fault and each refusal.
     Faults,
