@@ -1,21 +1,32 @@
-/* Put before the C library by LD_PRELOAD (tests/memory does it): counts a program's requests for memory, and refuses some.
+/* Loaded before the C library by LD_PRELOAD (tests/memory does it): counts a program's requests for memory, and refuses some.
  *
- *   REFUSE=N       the Nth request, from 1, is answered with a null pointer, once; 0 or nothing: none is
- *   SPAN=K         so are those after it, K in all
- *   COUNT=FILE     gets the number of requests when the program ends
+ *   REFUSE=N       the Nth request, from 1, gets a null pointer, once; with 0, or without REFUSE, no request does
+ *   SPAN=K         so do the requests after it, K in all
+ *   COUNT=FILE     a file that is there: gets the number of requests when the program ends
+ *
+ * The toolchain's clang builds it, which has no C headers: so it declares what it uses of the C library of 64-bit Linux.
  */
-#define _GNU_SOURCE
-#include <dlfcn.h>
-#include <errno.h>
-#include <stdio.h>
-#include <stdlib.h>
+typedef unsigned long size_t;
+
+extern void *dlsym(void *library, const char *name);
+extern int *__errno_location(void);
+extern char *getenv(const char *name);
+extern long atol(const char *text);
+extern int open(const char *name, int flags, ...);
+extern int dprintf(int file, const char *format, ...);
+extern int close(int file);
+
+#define NULL ((void *)0)
+#define RTLD_NEXT ((void *)-1L)
+#define ENOMEM 12
+#define O_WRONLY 1
 
 static long requests;
 static long refused;
 static long span = 1;
 static int is_looking_up;
 
-/* dlsym itself may ask for memory before the real functions are known: it gets some of this. */
+/* dlsym itself may request memory before the real functions are known: it gets some of this. */
 static char early[65536];
 static size_t early_used;
 
@@ -39,8 +50,8 @@ static void *real(const char *name) {
 
 static int is_refused(void) {
   requests++;
-  if (refused == 0 || requests < refused || refused + span <= requests) return 0;
-  errno = ENOMEM;
+  if (refused == 0 || requests < refused || requests - refused >= span) return 0;
+  *__errno_location() = ENOMEM;
   return 1;
 }
 
@@ -83,14 +94,16 @@ void free(void *memory) {
   next(memory);
 }
 
-static void tell(void) {
+/* Writes the number of requests: those of its own aren't among them, nor refused. */
+__attribute__((destructor)) static void tell(void) {
   long all = requests;
   const char *name = getenv("COUNT");
-  FILE *file = name ? fopen(name, "w") : NULL;
-  if (file) {
-    fprintf(file, "%ld\n", all);
-    fclose(file);
-  }
+  int file;
+  refused = 0;
+  file = name ? open(name, O_WRONLY) : -1;
+  if (file < 0) return;
+  dprintf(file, "%ld\n", all);
+  close(file);
 }
 
 __attribute__((constructor)) static void start(void) {
@@ -98,6 +111,5 @@ __attribute__((constructor)) static void start(void) {
   const char *length = getenv("SPAN");
   refused = number ? atol(number) : 0;
   span = length ? atol(length) : 1;
-  if (getenv("COUNT")) atexit(tell);
   requests = 0;
 }
