@@ -12,7 +12,8 @@ use bibtex::Session;
 use bt_one_shot::{Options, OptionsFault, one_shot, parse_options};
 use bt_serve::serve;
 use bt_streams::{ReaderSource, Sink, Source, WriterSink};
-use std::io::{BufReader, BufWriter};
+use std::alloc::AllocError;
+use std::io::{BufReader, BufWriter, ErrorKind};
 use std::process::ExitCode;
 use std::{env, io};
 
@@ -58,8 +59,14 @@ fn answer<S: Source, K: Sink>(
 /// Answers the commands of standard input on standard output.
 fn stay(rt: &HostRuntime, options: &Options) -> Result<ExitCode> {
     let alloc = rt.alloc();
-    let mut source = ReaderSource::new(BufReader::new(alloc, rt.stdin())?);
-    let mut sink = WriterSink::new(BufWriter::new(alloc, io::writer(rt))?);
+    let Ok(reader) = BufReader::new(alloc, rt.stdin()) else {
+        return out_of_memory(rt);
+    };
+    let Ok(writer) = BufWriter::new(alloc, io::writer(rt)) else {
+        return out_of_memory(rt);
+    };
+    let mut source = ReaderSource::new(reader);
+    let mut sink = WriterSink::new(writer);
     match Session::new(alloc, options.root.as_slice(), options.min) {
         Ok(mut session) => answer(rt, &mut source, &mut sink, &mut session),
         Err(_) => out_of_memory(rt),
@@ -80,8 +87,21 @@ fn run_once(rt: &HostRuntime, options: &Options) -> Result<ExitCode>
     }
 }
 
+/// The words of the command line; `None` if memory ran out.
+fn words(rt: &HostRuntime) -> Result<Option<Vec<String>>> {
+    let args = match env::args(rt) {
+        Ok(args) => args,
+        Err(fault) if fault.kind() == ErrorKind::OutOfMemory => return Ok(None),
+        Err(fault) => return Err(fault.into()),
+    };
+    let words: Result<Vec<String>, AllocError> = args.collect(rt.alloc());
+    Ok(words.ok())
+}
+
 fn main(rt: HostRuntime) -> Result<ExitCode> {
-    let words: Vec<String> = env::args(&rt)?.collect(rt.alloc())?;
+    let Some(words) = words(&rt)? else {
+        return out_of_memory(&rt);
+    };
     match parse_options(rt.alloc(), words.as_slice()) {
         Ok(options) if options.resident => stay(&rt, &options),
         Ok(options) => run_once(&rt, &options),
