@@ -3,21 +3,28 @@
 //! call, and without a word what comes of it is judged too.
 
 mod attempt;
+mod command_lines;
 mod databases;
+mod free;
 mod growing;
+mod one_shots;
 mod sessions;
 mod steps;
 mod texts;
 
 use crate::refused::attempt::{Part, Verdict, verdict_on};
+use crate::refused::command_lines::CommandLine;
 use crate::refused::databases::Rereading;
+use crate::refused::free::verdict_on_free;
 use crate::refused::growing::Growing;
+use crate::refused::one_shots::Job;
 use crate::refused::sessions::{Beginning, Edited};
 use crate::refused::steps::Step;
 use std::alloc::{AllocError, Global};
 use std::process::ExitCode;
 
-/// All cases, by groups. Those of `empty`, `plain`, `parents` and `wrong` are calls of a session in such a state.
+/// All cases, by groups. `empty`, `plain`, `one-line`, `parents`, `inherited` and `wrong` are calls of a session in such a
+/// state, and with `-job` the one-shot form on its files. The calls of `free` take no memory.
 const CASES: &[&str] = &[
     "growing.append",
     "growing.push",
@@ -37,7 +44,15 @@ const CASES: &[&str] = &[
     "databases.splice",
     "steps.activate",
     "steps.reach",
-    "reached.agrees",
+    "words.parse",
+    "help.parse",
+    "wrong-word.parse",
+    "wrong-name.parse",
+    "empty-job.one-shot",
+    "plain-job.one-shot",
+    "parents-job.one-shot",
+    "wrong-job.one-shot",
+    "beginning.new",
     "beginning.empty",
     "beginning.parents",
     "beginning.wrong",
@@ -55,6 +70,12 @@ const CASES: &[&str] = &[
     "plain.remove",
     "plain.root",
     "plain.min",
+    "one-line.write-new",
+    "one-line.write-present",
+    "one-line.write-style",
+    "one-line.splice",
+    "one-line.remove",
+    "inherited.splice-crossref",
     "parents.write-new",
     "parents.write-present",
     "parents.write-style",
@@ -79,7 +100,14 @@ const CASES: &[&str] = &[
     "parents.list",
     "wrong.log",
     "wrong.terse",
-    "wrong.ask",
+    "free.texts",
+    "free.names",
+    "free.full-line",
+    "free.meters",
+    "free.agreement",
+    "free.asked",
+    "free.refusing",
+    "free.answering",
 ];
 
 /// What comes of a case.
@@ -90,8 +118,23 @@ fn verdict_of(alloc: Global, case: &str, part: Part) -> Result<Verdict, AllocErr
     match group {
         "growing" => verdict_on::<Growing>(alloc, group, name, part),
         "databases" => verdict_on::<Rereading>(alloc, group, name, part),
-        "steps" | "reached" => verdict_on::<Step>(alloc, group, name, part),
+        "steps" => verdict_on::<Step>(alloc, group, name, part),
         "beginning" => verdict_on::<Beginning>(alloc, group, name, part),
+        "free" => verdict_on_free(alloc, name, part),
+        _ => verdict_on_program(alloc, group, name, part),
+    }
+}
+
+/// What comes of a case of a command line, a job or a session.
+fn verdict_on_program(
+    alloc: Global,
+    group: &str,
+    name: &str,
+    part: Part,
+) -> Result<Verdict, AllocError> {
+    match name {
+        "parse" => verdict_on::<CommandLine>(alloc, group, name, part),
+        "one-shot" => verdict_on::<Job>(alloc, group, name, part),
         _ => verdict_on::<Edited>(alloc, group, name, part),
     }
 }

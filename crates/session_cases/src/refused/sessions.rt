@@ -1,18 +1,17 @@
-//! A session: its beginning, its edits, and what it is asked.
+//! A session: its beginning, its edits, and its log.
 
 use crate::refused::attempt::Case;
 use crate::refused::texts::{EDITS, Text, texts_of};
-use bibtex::{Bytes, Change, Draft, Edit, Refusal, Report, Session, edit_all};
-use bt_log::{log_bytes, status, terse_bytes};
+use bibtex::{Bytes, Draft, Edit, Refusal, Report, Session, edit_all};
+use bt_log::{log_bytes, terse_bytes};
 use std::alloc::{AllocError, Global};
 
-/// A session, what its last edit answered, a log of its messages, and what it was asked.
+/// A session, what its last edit answered, and a log of its messages.
 #[derive(Drop)]
 pub struct Edited {
     session: Session,
     answer: Option<Result<Report, Refusal>>,
     log: Bytes,
-    asked: Option<[usize; 9]>,
 }
 
 /// The edit of a name.
@@ -43,23 +42,6 @@ fn listed(
         Some(answer) => told(*answer),
         None => Ok(None),
     }
-}
-
-/// What a session answers without memory.
-fn asked(session: &Session) -> [usize; 9] {
-    [
-        session.bbl().len(),
-        session.blg().len(),
-        session.terse().len(),
-        session.wanted().len(),
-        session.messages().len(),
-        session.status() as usize,
-        status(session.messages()) as usize,
-        session
-            .refusal(Change::Splice(b"x.bib", 1, 100_000), 9)
-            .is_some() as usize,
-        session.file(b"x.bib").is_some() as usize,
-    ]
 }
 
 /// All that a session shows.
@@ -95,13 +77,28 @@ fn fill(draft: &mut Draft, texts: &[Text]) -> Result<(), AllocError> {
     Ok(())
 }
 
-/// A session of these texts, which is run once.
-fn begun(alloc: Global, texts: &[Text]) -> Result<Session, AllocError> {
+/// A draft of these texts.
+pub fn drafted(alloc: Global, texts: &[Text]) -> Result<Draft, AllocError> {
     let Ok(mut draft) = Draft::new(alloc, b"job", 2) else {
         return Err(AllocError);
     };
     fill(&mut draft, texts)?;
+    Ok(draft)
+}
+
+/// A session of these texts, which is run once.
+pub fn begun(alloc: Global, texts: &[Text]) -> Result<Session, AllocError> {
+    let draft = drafted(alloc, texts)?;
     Session::of(draft)
+}
+
+/// A session without texts. `None` stands for a refusal other than for memory.
+fn new(alloc: Global) -> Result<Option<Session>, AllocError> {
+    match Session::new(alloc, b"job", 2) {
+        Ok(session) => Ok(Some(session)),
+        Err(Refusal::OutOfMemory) => Err(AllocError),
+        Err(_) => Ok(None),
+    }
 }
 
 impl Case for Edited {
@@ -111,13 +108,11 @@ impl Case for Edited {
             session,
             answer: None,
             log: Bytes::new(alloc),
-            asked: None,
         })
     }
 
     fn call(&mut self, alloc: Global, name: &str) -> Result<(), AllocError> {
         match name {
-            "ask" => self.asked = Some(asked(&self.session)),
             "log" => self.log = log_bytes(alloc, self.session.messages())?,
             "terse" => self.log = terse_bytes(alloc, self.session.messages())?,
             "list" => self.answer = listed(alloc, &mut self.session)?,
@@ -128,8 +123,8 @@ impl Case for Edited {
 
     fn seen(&self, alloc: Global) -> Result<Bytes, AllocError> {
         let mut seen = shown(alloc, &self.session)?;
-        let (answer, log, asked) = (&self.answer, &self.log, &self.asked);
-        let words = format!(in alloc; "{answer:?} {log:?} {asked:?}")?;
+        let (answer, log) = (&self.answer, &self.log);
+        let words = format!(in alloc; "{answer:?} {log:?}")?;
         seen.append(words.as_bytes())?;
         Ok(seen)
     }
@@ -147,7 +142,10 @@ impl Case for Beginning {
     }
 
     fn call(&mut self, alloc: Global, name: &str) -> Result<(), AllocError> {
-        self.session = Some(begun(alloc, texts_of(name))?);
+        match name {
+            "new" => self.session = new(alloc)?,
+            _ => self.session = Some(begun(alloc, texts_of(name))?),
+        }
         Ok(())
     }
 

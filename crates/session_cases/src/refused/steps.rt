@@ -1,7 +1,7 @@
-//! A step of a style, and what it may come to.
+//! A step of a style, and what it reaches.
 
 use crate::refused::attempt::Case;
-use bt_machine::{Entry, Input, Meter, Outcome, Variables, activate, agrees};
+use bt_machine::{Entry, Input, Meter, Outcome, Variables, activate};
 use bt_style::{Reach, Style, Target, read_style};
 use bt_text::{Bytes, Held, Shared, SparseTexts, Values};
 use std::alloc::{AllocError, Global};
@@ -17,7 +17,6 @@ pub struct Step {
     meter: Meter,
     reach: Option<Reach>,
     outcome: Option<Outcome>,
-    agrees: Option<bool>,
 }
 
 fn text(alloc: Global, bytes: &[u8]) -> Result<Shared<Bytes>, AllocError> {
@@ -49,9 +48,9 @@ fn fields(alloc: Global) -> Result<Shared<SparseTexts>, AllocError> {
     Shared::new(alloc, fields)
 }
 
-fn entry(alloc: Global) -> Result<Entry, AllocError> {
+fn entry(alloc: Global, key: &[u8]) -> Result<Entry, AllocError> {
     Ok(Entry {
-        key: text(alloc, b"key")?,
+        key: text(alloc, key)?,
         kind: text(alloc, b"misc")?,
         function: None,
         fields: fields(alloc)?,
@@ -59,10 +58,11 @@ fn entry(alloc: Global) -> Result<Entry, AllocError> {
     })
 }
 
-fn input(alloc: Global) -> Result<Input, AllocError> {
+/// What the step is given for the entry of a key.
+pub fn input(alloc: Global, key: &[u8]) -> Result<Input, AllocError> {
     let preamble = text(alloc, b"pre")?;
     let globals = variables(alloc)?;
-    let entry = entry(alloc)?;
+    let entry = entry(alloc, key)?;
     Ok(Input {
         target: Target::Function(0),
         entry: Some(entry),
@@ -72,30 +72,15 @@ fn input(alloc: Global) -> Result<Input, AllocError> {
     })
 }
 
-fn style(alloc: Global) -> Result<Style, AllocError> {
+/// The style.
+pub fn style(alloc: Global) -> Result<Style, AllocError> {
     match read_style(alloc, STYLE) {
         Ok(style) => Ok(style),
         Err(_) => Err(AllocError),
     }
 }
 
-/// What is reached, where the group wants it.
-fn reach(alloc: Global, style: &Style, group: &str) -> Result<Option<Reach>, AllocError> {
-    if group != "reached" {
-        return Ok(None);
-    }
-    let reach = style.reach(alloc, Target::Function(0), None)?;
-    Ok(Some(reach))
-}
-
 impl Step {
-    /// Whether the input agrees with itself, where it is known what is reached.
-    fn agree(&mut self) {
-        if let Some(reach) = &self.reach {
-            self.agrees = Some(agrees(&self.style, &self.input, &self.input, reach));
-        }
-    }
-
     /// Works out what is reached.
     fn work_out(&mut self, alloc: Global) -> Result<(), AllocError> {
         let reach = self.style.reach(alloc, Target::Function(0), None)?;
@@ -115,26 +100,20 @@ impl Step {
 }
 
 impl Case for Step {
-    fn begun(alloc: Global, group: &str) -> Result<Self, AllocError> {
-        let input = input(alloc)?;
+    fn begun(alloc: Global, _group: &str) -> Result<Self, AllocError> {
+        let input = input(alloc, b"key")?;
         let style = style(alloc)?;
-        let reach = reach(alloc, &style, group)?;
         Ok(Step {
             style,
             input,
             meter: Meter::new(),
-            reach,
+            reach: None,
             outcome: None,
-            agrees: None,
         })
     }
 
     fn call(&mut self, alloc: Global, name: &str) -> Result<(), AllocError> {
         match name {
-            "agrees" => {
-                self.agree();
-                Ok(())
-            }
             "reach" => self.work_out(alloc),
             _ => self.carry_out(alloc),
         }
@@ -142,8 +121,8 @@ impl Case for Step {
 
     fn seen(&self, alloc: Global) -> Result<Bytes, AllocError> {
         let (input, ticks, reach) = (&self.input, self.meter.value(), &self.reach);
-        let (outcome, agrees) = (&self.outcome, self.agrees);
-        let words = format!(in alloc; "{input:?} {ticks} {reach:?} {outcome:?} {agrees:?}")?;
+        let outcome = &self.outcome;
+        let words = format!(in alloc; "{input:?} {ticks} {reach:?} {outcome:?}")?;
         Ok(Bytes::from_vec(words.into_bytes()))
     }
 }

@@ -7,6 +7,9 @@ pub type Text = (&'static [u8], &'static [u8]);
 
 const JOB: &[u8] = b"\\citation{a,b,c}\n\\bibdata{x}\n\\bibstyle{s}\n";
 
+/// It cites two entries.
+const TWO_KEYS: &[u8] = b"\\citation{a,b}\n\\bibdata{x}\n\\bibstyle{s}\n";
+
 /// It cites others, and nests a file that isn't there.
 const TWO: &[u8] = b"\\citation{b,B,a}\n\\@input{n.aux}\n\\bibdata{x,y}\n\\bibstyle{s}\n";
 
@@ -16,6 +19,14 @@ const NESTS: &[u8] = b"\\@input{two.aux}\n\\citation{*}\n\\@input{job.aux}\n";
 /// A style that writes the titles into one line.
 const ONE_LINE: &[u8] =
     b"ENTRY {title}{}{}\nFUNCTION {misc} {title write$}\nREAD\nITERATE {call.type$}\nEXECUTE {newline$}\n";
+
+/// A style that writes each title in a line of its own.
+const LINES: &[u8] =
+    b"ENTRY {title}{}{}\nFUNCTION {misc} {title write$ newline$}\nREAD\nITERATE {call.type$}\n";
+
+/// A style that writes each title and whether its entry refers to another.
+const REFERENCES: &[u8] =
+    b"ENTRY {title}{}{}\nFUNCTION {misc} {title write$ crossref missing$ int.to.str$ write$ newline$}\nREAD\nITERATE {call.type$}\n";
 
 /// A style that sorts, and writes each title and whether its entry refers to another.
 const TITLES: &[u8] =
@@ -29,6 +40,9 @@ const ERRORS: &[u8] =
 const FAULT: &[u8] = b"ENTRY {title}{}{}\nFUNCTION {misc} {title write$\nREAD\n";
 
 const THREE: &[u8] = b"@misc{a, title = {A}}\n@misc{b, title = {B}}\n@misc{c, title = {C}}\n";
+
+/// Two entries.
+pub const TWO_TITLES: &[u8] = b"@misc{a, title = {A}}\n@misc{b, title = {B}}\n";
 
 const CHILDREN: &[u8] =
     b"@misc{a, crossref = {P}}\n@misc{p, title = {T}}\n@misc{b, crossref = {p}}\n";
@@ -46,6 +60,26 @@ const STATES: &[(&str, &[Text])] = &[
             (b"two.aux", TWO),
             (b"x.bib", THREE),
             (b"s.bst", ONE_LINE),
+        ],
+    ),
+    (
+        "one-line",
+        &[(b"job.aux", JOB), (b"s.bst", ONE_LINE), (b"x.bib", THREE)],
+    ),
+    (
+        "inherited",
+        &[
+            (b"job.aux", TWO_KEYS),
+            (b"s.bst", REFERENCES),
+            (b"x.bib", CHILDREN),
+        ],
+    ),
+    (
+        "two",
+        &[
+            (b"job.aux", TWO_KEYS),
+            (b"s.bst", LINES),
+            (b"x.bib", TWO_TITLES),
         ],
     ),
     (
