@@ -105,7 +105,9 @@ const CASES: &[&str] = &[
     "free.full-line",
     "free.meters",
     "free.agreement",
-    "free.asked",
+    "free.asked-of-none",
+    "free.asked-of-two",
+    "free.asked-of-errors",
     "free.refusing",
     "free.answering",
 ];

@@ -6,7 +6,7 @@ mod steps;
 mod texts;
 
 use crate::refused::attempt::{Part, Verdict};
-use crate::refused::free::sessions::{Answering, Asked, Refusing};
+use crate::refused::free::sessions::{Answering, AskedOfErrors, AskedOfNone, AskedOfTwo, Refusing};
 use crate::refused::free::steps::{Agreement, Meters};
 use crate::refused::free::texts::{FullLine, Names, Texts};
 use std::alloc::{AllocError, Global};
@@ -34,7 +34,9 @@ fn right_by_name(alloc: Global, name: &str, part: Part) -> Result<bool, AllocErr
         "full-line" => is_right::<FullLine>(alloc, part),
         "meters" => is_right::<Meters>(alloc, part),
         "agreement" => is_right::<Agreement>(alloc, part),
-        "asked" => is_right::<Asked>(alloc, part),
+        "asked-of-none" => is_right::<AskedOfNone>(alloc, part),
+        "asked-of-two" => is_right::<AskedOfTwo>(alloc, part),
+        "asked-of-errors" => is_right::<AskedOfErrors>(alloc, part),
         "refusing" => is_right::<Refusing>(alloc, part),
         "answering" => is_right::<Answering>(alloc, part),
         _ => Ok(false),

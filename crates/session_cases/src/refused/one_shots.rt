@@ -10,7 +10,7 @@ use bibtex::is_root_name;
 use bt_one_shot::{Folder, Options, one_shot};
 use bt_streams::{Sink, WriterSink};
 use bt_text::Bytes;
-use fakes::Memory;
+use fakes::{KeptFile, Memory};
 use std::alloc::{AllocError, Global};
 
 /// Room for all that a run prints, so that no sink asks for memory.
@@ -50,7 +50,7 @@ fn folder(alloc: Global, texts: &[Text], left_out: usize) -> Result<Memory<'stat
 }
 
 /// A run that hasn't begun.
-fn run(alloc: Global, texts: &[Text], left_out: usize) -> Result<Run, AllocError> {
+fn new_run(alloc: Global, texts: &[Text], left_out: usize) -> Result<Run, AllocError> {
     let out = Vec::with_capacity(alloc, ROOM)?;
     let err = Vec::with_capacity(alloc, ROOM)?;
     Ok(Run {
@@ -79,7 +79,7 @@ fn shoot<F: Folder, O: Sink, E: Sink>(
 
 /// Makes a run.
 fn carry_out(alloc: Global, options: &Options, run: &mut Run) -> Result<(), AllocError> {
-    if !is_root_name(options.root.as_slice()) || run.folder.failures() == u64::MAX {
+    if !is_root_name(options.root.as_slice()) || run.folder.failures() >= u64::MAX {
         return Err(AllocError);
     }
     let mut out = WriterSink::new(&mut run.out);
@@ -96,7 +96,7 @@ fn other(
     texts: &[Text],
     left_out: usize,
 ) -> Result<Run, AllocError> {
-    let mut other = run(alloc, texts, left_out)?;
+    let mut other = new_run(alloc, texts, left_out)?;
     carry_out(alloc, options, &mut other)?;
     Ok(other)
 }
@@ -110,16 +110,23 @@ fn others(alloc: Global, options: &Options, texts: &[Text]) -> Result<Vec<Run>, 
     Ok(others)
 }
 
-/// Whether two runs wrote the same files, up to so many, and each of them did.
-fn wrote_same(one: &Run, other: &Run, count: usize) -> bool {
-    let (one, other) = (one.folder.written(), other.folder.written());
-    let mut pairs = one.iter().zip(other);
-    one.len() == count
-        && other.len() >= count
-        && pairs.all(|(one, other)| {
+/// Whether two files are there, and are the same.
+fn same_file(one: Option<&KeptFile>, other: Option<&KeptFile>) -> bool {
+    match (one, other) {
+        (Some(one), Some(other)) => {
             one.name.as_slice() == other.name.as_slice()
                 && one.bytes.as_slice() == other.bytes.as_slice()
-        })
+        }
+        _ => false,
+    }
+}
+
+/// Whether a run wrote so many files, and these are the first that another wrote.
+fn wrote_same(run: &Run, other: &Run, count: usize) -> bool {
+    let (files, others) = (run.folder.written(), other.folder.written());
+    files.len() == count
+        && (count < 1 || same_file(files.first(), others.first()))
+        && (count < 2 || same_file(files.get(1), others.get(1)))
 }
 
 /// Whether a run did what another did.
@@ -131,10 +138,12 @@ fn did_same(one: &Run, other: &Run) -> bool {
 
 /// The place of a name among the texts; their number, if it isn't there.
 fn place_of(texts: &[Text], name: &[u8]) -> usize {
-    texts
-        .iter()
-        .position(|(each, _)| *each == name)
-        .unwrap_or(texts.len())
+    for (place, (each, _)) in texts.iter().enumerate() {
+        if *each == name {
+            return place;
+        }
+    }
+    texts.len()
 }
 
 /// Whether a run stopped where a file of this ending couldn't be written.
@@ -187,8 +196,8 @@ impl Case for Job {
             resident: false,
         };
         let others = others(alloc, &options, texts)?;
-        let first = run(alloc, texts, texts.len())?;
-        let second = run(alloc, texts, texts.len())?;
+        let first = new_run(alloc, texts, texts.len())?;
+        let second = new_run(alloc, texts, texts.len())?;
         Ok(Job {
             options,
             texts,

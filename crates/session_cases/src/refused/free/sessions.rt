@@ -61,24 +61,54 @@ fn shows_errors(session: &Session) -> bool {
         && session.refusal(SPLICE, 9) == Some(Refusal::RangeOutside)
 }
 
-/// A session without files, one of two entries, and one with errors.
+/// A session without files.
 #[derive(Drop)]
-pub struct Asked {
-    empty: Session,
-    two: Session,
-    wrong: Session,
+pub struct AskedOfNone {
+    session: Session,
 }
 
-impl Free for Asked {
+impl Free for AskedOfNone {
     fn made(alloc: Global) -> Result<Self, AllocError> {
-        let empty = begun(alloc, &[])?;
-        let two = begun(alloc, texts_of("two"))?;
-        let wrong = begun(alloc, texts_of("wrong"))?;
-        Ok(Asked { empty, two, wrong })
+        let session = begun(alloc, &[])?;
+        Ok(AskedOfNone { session })
     }
 
     fn is_right(&mut self, _alloc: Global) -> bool {
-        shows_no_files(&self.empty) && shows_two(&self.two) && shows_errors(&self.wrong)
+        shows_no_files(&self.session)
+    }
+}
+
+/// A session of the two entries.
+#[derive(Drop)]
+pub struct AskedOfTwo {
+    session: Session,
+}
+
+impl Free for AskedOfTwo {
+    fn made(alloc: Global) -> Result<Self, AllocError> {
+        let session = begun(alloc, texts_of("two"))?;
+        Ok(AskedOfTwo { session })
+    }
+
+    fn is_right(&mut self, _alloc: Global) -> bool {
+        shows_two(&self.session)
+    }
+}
+
+/// A session with errors.
+#[derive(Drop)]
+pub struct AskedOfErrors {
+    session: Session,
+}
+
+impl Free for AskedOfErrors {
+    fn made(alloc: Global) -> Result<Self, AllocError> {
+        let session = begun(alloc, texts_of("wrong"))?;
+        Ok(AskedOfErrors { session })
+    }
+
+    fn is_right(&mut self, _alloc: Global) -> bool {
+        shows_errors(&self.session)
     }
 }
 
@@ -89,6 +119,10 @@ const REFUSED: &[(Edit<'static>, Refusal)] = &[
     (Edit::Splice(b"a b", 0, 0, b"text"), Refusal::BadName),
     (Edit::Remove(b"a b"), Refusal::BadName),
     (Edit::Root(b"a b"), Refusal::BadName),
+    (
+        Edit::Root(b"aaaaaaaaaaaaaaaaaaaaaaaaaaaaaaaaaaaaaaaaaaaaaaaaaaaaaaaaaaaaa"),
+        Refusal::BadName,
+    ),
     (Edit::Splice(b"y.bib", 1, 0, b"text"), Refusal::NoSuchFile),
     (Edit::Remove(b"y.bib"), Refusal::NoSuchFile),
     (Edit::Splice(b"x.bib", 0, 45, b""), Refusal::RangeOutside),
@@ -148,6 +182,14 @@ fn refuses_many(session: &mut Session, many: &[u8]) -> bool {
         )
 }
 
+/// Whether no session begins with a name that no root has.
+fn refuses_root(alloc: Global) -> bool {
+    match Session::new(alloc, b"a b", 2) {
+        Err(refusal) => refusal == Refusal::BadName,
+        Ok(_) => false,
+    }
+}
+
 /// Whether each edit of the list is refused.
 fn refuses_listed(session: &mut Session) -> bool {
     for (edit, reason) in REFUSED {
@@ -165,8 +207,10 @@ impl Free for Refusing {
         Ok(Refusing { session, many })
     }
 
-    fn is_right(&mut self, _alloc: Global) -> bool {
-        refuses_listed(&mut self.session) && refuses_many(&mut self.session, self.many.as_slice())
+    fn is_right(&mut self, alloc: Global) -> bool {
+        refuses_root(alloc)
+            && refuses_listed(&mut self.session)
+            && refuses_many(&mut self.session, self.many.as_slice())
     }
 }
 
