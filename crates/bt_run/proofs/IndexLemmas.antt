@@ -84,9 +84,11 @@ indexed_more steps old new n s d name so_far here named more = λ k t lt at.
     ]
 
 pub indexed_all : (steps : List Step) (index : Index) (n : ℕ) → (length steps < n + 1) → IsIndexTo n steps index → IsIndex steps index
-indexed_all steps index n past so_far = λ k s at.
-    let within : k < length steps = slice_get_within steps k s at in
-    so_far k s (omega (arith, within, past)) at
+indexed_all steps index n past so_far = record {
+  finds = λ k s at.
+      let within : k < length steps = slice_get_within steps k s at in
+      so_far k s (omega (arith, within, past)) at;
+}
 
 -- What is found by it
 
@@ -101,7 +103,7 @@ pub none_like : (command : ℕ) (names : List Target) (i : Input) (steps : List 
 none_like command names i steps index places indexed are none = λ k d lt like.
     let s : Step = slice_index_or steps k d in
     let here : slice_get steps k ≡ Some s = slice_get-get_or steps k d lt in
-    let there : Contains places k = subst (λ (xs : List ℕ). Contains xs k) (ap (places_at index) (one_step_name command names i s like) ∙ sym are) (indexed k s here) in
+    let there : Contains places k = subst (λ (xs : List ℕ). Contains xs k) (ap (places_at index) (one_step_name command names i s like) ∙ sym are) (indexed.finds k s here) in
     (subst (IsUnlikeAt command names i steps) there.2 (none there.0 k there.1)) s here like
 
 met_if : {F : Type 0} (P Q : Type 0) (S : F → Type 0) (r : Option F) → (P → Q) → MatchOption r P S → MatchOption r Q S

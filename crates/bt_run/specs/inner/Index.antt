@@ -30,6 +30,5 @@ abbrev pub places_at : Index → StepName → List ℕ
 places_at index name = unwrap_or (hashed.get same_name index.places name) []
 
 -- the place of each step is among those at its name
-abbrev pub IsIndex : List Step → Index → Type 0
-IsIndex steps index = (k : ℕ) (s : Step) → slice_get steps k ≡ Some s →
-    Contains (places_at index (step_name s.command s.input)) k
+pub record IsIndex (steps : List Step) (index : Index) : Type 0 where
+  pub finds : (k : ℕ) (s : Step) → slice_get steps k ≡ Some s → Contains (places_at index (step_name s.command s.input)) k
