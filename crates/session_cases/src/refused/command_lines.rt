@@ -50,6 +50,11 @@ fn shown(alloc: Global, answer: &Result<Options, OptionsFault>) -> Result<String
     }
 }
 
+/// What words ask for: what is proved of that isn't used here, and would be slow to carry.
+fn parsed(alloc: Global, words: &[String]) -> Result<Options, OptionsFault> {
+    parse_options(alloc, words)
+}
+
 impl Case for CommandLine {
     fn begun(alloc: Global, group: &str) -> Result<Self, AllocError> {
         let mut words = Vec::new(alloc);
@@ -63,7 +68,7 @@ impl Case for CommandLine {
     }
 
     fn call(&mut self, alloc: Global, _name: &str) -> Result<(), AllocError> {
-        let answer = parse_options(alloc, self.words.as_slice());
+        let answer = parsed(alloc, self.words.as_slice());
         if matches!(answer, Err(OptionsFault::OutOfMemory)) {
             return Err(AllocError);
         }

@@ -30,12 +30,24 @@ pub struct Agreement {
     reach: Reach,
 }
 
+/// What the step reaches.
+fn reached(alloc: Global, style: &Style) -> Result<Reach, AllocError> {
+    style.reach(alloc, Target::Function(0), None)
+}
+
+impl Agreement {
+    /// Whether an input agrees with the first one.
+    fn agrees_with(&self, other: &Input) -> bool {
+        agrees(&self.style, &self.one, other, &self.reach)
+    }
+}
+
 impl Free for Agreement {
     fn made(alloc: Global) -> Result<Self, AllocError> {
         let one = input(alloc, b"key")?;
         let other = input(alloc, b"other")?;
         let style = style(alloc)?;
-        let reach = style.reach(alloc, Target::Function(0), None)?;
+        let reach = reached(alloc, &style)?;
         Ok(Agreement {
             style,
             one,
@@ -45,7 +57,6 @@ impl Free for Agreement {
     }
 
     fn is_right(&mut self, _alloc: Global) -> bool {
-        agrees(&self.style, &self.one, &self.one, &self.reach)
-            && !agrees(&self.style, &self.one, &self.other, &self.reach)
+        self.agrees_with(&self.one) && !self.agrees_with(&self.other)
     }
 }
