@@ -1,78 +1,137 @@
-# Draws the figures of tests/measure as a picture (SVG):
+# Reports the figures of tests/measure:
 #
-#   awk -v kind=growth -f tests/draw.awk FIGURES    time against entries, both axes by powers of ten
-#   awk -v kind=ratios -f tests/draw.awk FIGURES    a bar for each job: the time here by that of the original
+#   awk -v kind=answer -f tests/draw.awk FIGURES                        how fast it is, in a few lines
+#   awk -v kind=table -v names="here bibtex" -f tests/draw.awk FIGURES  a row for each job, a figure for each program
+#   awk -v kind=picture -f tests/draw.awk FIGURES                       a dot for each job (SVG)
 #
-# A line of the figures is `entries N here|edit|original MICROSECONDS`, or `ratio R WORDS`.
+# A line of the figures is WHERE|STYLE|PROGRAM|microseconds|instructions|kilobytes, WHERE|STYLE|edit|microseconds or
+# WHERE|STYLE|same|yes. All figures of a job come after one another, and all jobs of a WHERE.
 
-function x_of(n) { return 70 + 560 * (log(n) - log(least_n)) / (log(most_n) - log(least_n)) }
-function y_of(t) { return 350 - 310 * (log(t) - log(least_t)) / (log(most_t) - log(least_t)) }
+BEGIN { FS = "|" }
+
+{
+  if (!(($1, $2) in job)) {
+    job[$1, $2] = ++jobs
+    where_of[jobs] = $1
+    style_of[jobs] = $2
+    if (!($1 in place)) { place[$1] = ++places; name_of[places] = $1 }
+    if (!($2 in order)) { order[$2] = ++styles; style_name[styles] = $2 }
+  }
+  i = job[$1, $2]
+  if ($3 == "same") { same[i] = $4; next }
+  time[i, $3] = $4
+  instructions[i, $3] = $5
+  memory[i, $3] = $6
+}
+
+function number(n) { return sprintf(n < 10 ? "%.1f" : "%.0f", n) }
+function quotient(a, b) { return a && b ? a / b : 0 }
+function two(n) { return n ? sprintf("%.2f", n) : "-" }
+
+# add N: N among the numbers of which range() and median() speak; 0 is none.
+function clear() { count = 0 }
+function add(n,  i) {
+  if (!n) return
+  for (i = ++count; i > 1 && values[i - 1] > n; i--) values[i] = values[i - 1]
+  values[i] = n
+}
+function range(digits,  low, high) {
+  if (!count) return "-"
+  low = digits ? sprintf("%." digits "f", values[1]) : number(values[1])
+  high = digits ? sprintf("%." digits "f", values[count]) : number(values[count])
+  return low == high ? low : low " to " high
+}
+function median() { return count ? sprintf("%.2f", values[int((count + 1) / 2)]) : "-" }
+
+# collect WHAT PLACE: adds a figure of each job of that place, or of every place.
+function collect(what, where,  i) {
+  clear()
+  for (i = 1; i <= jobs; i++) {
+    if (where != "" && where_of[i] != where) continue
+    if (what == "ratio") add(quotient(time[i, "here"], time[i, "bibtex"]))
+    else if (what == "instructions") add(quotient(instructions[i, "here"], instructions[i, "bibtex"]))
+    else if (what == "memory") add(quotient(memory[i, "here"], memory[i, "bibtex"]))
+    else if (what == "part") add(quotient(time[i, "edit"], time[i, "bibtex"]))
+    else add(time[i, what] / 1000)
+  }
+}
+
+function answer(  i) {
+  collect("ratio")
+  if (count) printf "In %d jobs, a full run takes %s times as long as with `bibtex` (median %s)", count, range(2), median()
+  collect("instructions")
+  if (count) printf ", with %s times as many instructions", range(2)
+  collect("memory")
+  if (count) printf ", and needs %s times as much memory", range(1)
+  print "."
+  collect("part")
+  if (count) printf "In a session, changing a title takes %s times as long as `bibtex`'s full run (median %s).\n", range(2), median()
+  print ""
+  for (i = 1; i <= places; i++) {
+    collect("here", name_of[i])
+    printf "- **%s:** a full run takes %s ms", name_of[i], range()
+    collect("ratio", name_of[i])
+    if (count) printf ", %s times `bibtex`'s", range(2)
+    collect("edit", name_of[i])
+    if (count) printf "; changing a title in a session takes %s ms", range()
+    print "."
+  }
+}
+
+# cell I WHAT: the figures of all programs for a job.
+function cell(i, what,  j, n, text) {
+  for (j = 1; j <= programs; j++) {
+    n = what == "time" ? time[i, program[j]] / 1000 : what == "instructions" ? instructions[i, program[j]] / 1000000 : memory[i, program[j]] / 1000
+    text = text (j > 1 ? "/" : "") (n ? number(n) : "-")
+  }
+  return text
+}
+
+function table(  i) {
+  programs = split(names, program, " ")
+  print "| Database | Style | Time, ms | Here / `bibtex` | Title edit, ms | Million instructions | Memory, MB | Same `.bbl` |"
+  print "|---|---|---|---|---|---|---|---|"
+  for (i = 1; i <= jobs; i++)
+    printf "| %s | %s | %s | %s | %s | %s | %s | %s |\n", where_of[i], style_of[i], cell(i, "time"), \
+      two(quotient(time[i, "here"], time[i, "bibtex"])), time[i, "edit"] ? number(time[i, "edit"] / 1000) : "-", \
+      cell(i, "instructions"), cell(i, "memory"), same[i]
+}
+
 function text(x, y, anchor, words) { printf "<text x=\"%.1f\" y=\"%.1f\" text-anchor=\"%s\">%s</text>\n", x, y, anchor, words }
-function line(x1, y1, x2, y2, colour) { printf "<line x1=\"%.1f\" y1=\"%.1f\" x2=\"%.1f\" y2=\"%.1f\" stroke=\"%s\"/>\n", x1, y1, x2, y2, colour }
-function begin(width, height) {
-  printf "<svg xmlns=\"http://www.w3.org/2000/svg\" width=\"%d\" height=\"%d\" font-family=\"sans-serif\" font-size=\"12\">\n", width, height
+function line(x, top, bottom, colour) { printf "<line x1=\"%.1f\" y1=\"%d\" x2=\"%.1f\" y2=\"%d\" stroke=\"%s\"/>\n", x, top, x, bottom, colour }
+function dot(x, y, colour, filled) {
+  printf "<circle cx=\"%.1f\" cy=\"%.1f\" r=\"3.5\" stroke=\"%s\" stroke-width=\"1.5\" fill=\"%s\"/>\n", x, y, colour, filled ? colour : "white"
+}
+function x_of(ratio) { return 150 + 490 * ratio / most }
+
+# picture: a band for each database, in it a row for each style: a full dot for a full run, an empty one for an edit.
+function picture(  i, r, y, bottom, colours) {
+  split("#0072b2 #d55e00 #009e73 #cc79a7 #e69f00 #56b4e9 #000000", colours, " ")
+  collect("ratio")
+  for (most = 1.5; count && most < values[count]; most += 0.5);
+  bottom = 38 + 64 * places
+  printf "<svg xmlns=\"http://www.w3.org/2000/svg\" width=\"660\" height=\"%d\" font-family=\"sans-serif\" font-size=\"12\">\n", bottom + 84
   print "<rect width=\"100%\" height=\"100%\" fill=\"white\"/>"
-}
-
-$1 == "entries" {
-  time[$3, $2] = $4
-  if (!($2 in has)) { has[$2]; numbers[++count] = $2 }
-  if (!least_t || $4 < least_t) least_t = $4
-  if ($4 > most_t) most_t = $4
-}
-$1 == "ratio" { ratio[++bars] = $2; sub(/^ratio [^ ]+ /, ""); job[bars] = $0 }
-
-function growth(  i, j, t, n, names, colours, labels, points) {
-  split("original here edit", names, " ")
-  split("#b03030 #2050a0 #208040", colours, " ")
-  labels["original"] = "the original, from scratch"
-  labels["here"] = "this program, from scratch"
-  labels["edit"] = "this program, resident: a title is changed"
-  least_n = numbers[1]; most_n = numbers[count]
-  # Whole powers of ten, of a millisecond.
-  for (t = 1000; t > least_t; t /= 10);
-  least_t = t
-  for (t = 1000; t < most_t; t *= 10);
-  most_t = t
-  begin(660, 440)
-  text(70, 20, "start", "Processor time by number of entries, all cited, labels.bst")
-  for (t = least_t; t <= most_t * 1.001; t *= 10) {
-    line(70, y_of(t), 630, y_of(t), "#dddddd")
-    text(64, y_of(t) + 4, "end", t >= 1000000 ? t / 1000000 " s" : t / 1000 " ms")
+  for (i = 1; i <= places; i += 2) printf "<rect x=\"20\" y=\"%d\" width=\"620\" height=\"64\" fill=\"#f4f4f4\"/>\n", 64 * i - 26
+  text(20, 20, "start", "Time divided by that of bibtex&#8217;s full run (1: as long as bibtex)")
+  for (r = 0; r <= most; r += 0.25) {
+    line(x_of(r), 32, bottom, r == 1 ? "#b03030" : "#dddddd")
+    text(x_of(r), bottom + 16, "middle", r)
   }
-  for (i = 1; i <= count; i++) {
-    line(x_of(numbers[i]), 40, x_of(numbers[i]), 350, "#eeeeee")
-    text(x_of(numbers[i]), 368, "middle", numbers[i])
+  for (i = 1; i <= places; i++) text(140, 64 * i + 10, "end", name_of[i])
+  for (i = 1; i <= jobs; i++) {
+    y = 64 * place[where_of[i]] - 26 + 8 * order[style_of[i]]
+    r = quotient(time[i, "edit"], time[i, "bibtex"])
+    if (r) dot(x_of(r), y, colours[order[style_of[i]]], 0)
+    r = quotient(time[i, "here"], time[i, "bibtex"])
+    if (r) dot(x_of(r), y, colours[order[style_of[i]]], 1)
   }
-  for (j = 1; j <= 3; j++) {
-    points = ""
-    for (i = 1; i <= count; i++) {
-      n = numbers[i]
-      if (!((names[j], n) in time)) continue
-      points = points sprintf("%.1f,%.1f ", x_of(n), y_of(time[names[j], n]))
-      printf "<circle cx=\"%.1f\" cy=\"%.1f\" r=\"3\" fill=\"%s\"/>\n", x_of(n), y_of(time[names[j], n]), colours[j]
-    }
-    if (points == "") continue
-    printf "<polyline points=\"%s\" fill=\"none\" stroke=\"%s\" stroke-width=\"2\"/>\n", points, colours[j]
-    line(70, 375 + 17 * j, 90, 375 + 17 * j, colours[j])
-    text(96, 379 + 17 * j, "start", labels[names[j]])
+  for (i = 1; i <= styles; i++) {
+    dot(24 + 150 * ((i - 1) % 4), bottom + 36 + 18 * int((i - 1) / 4), colours[i], 1)
+    text(34 + 150 * ((i - 1) % 4), bottom + 40 + 18 * int((i - 1) / 4), "start", style_name[i])
   }
+  text(20, bottom + 76, "start", "Full dots: a full run. Empty dots: changing a title in a session.")
   print "</svg>"
 }
 
-function ratios(  i, most, width) {
-  most = 1
-  for (i = 1; i <= bars; i++) if (ratio[i] > most) most = ratio[i]
-  begin(660, 60 + 22 * bars)
-  text(20, 20, "start", "Time of this program by that of the original, from scratch (1: the same)")
-  for (i = 1; i <= bars; i++) {
-    width = 300 * ratio[i] / most
-    text(290, 45 + 22 * i - 22 + 4, "end", job[i])
-    printf "<rect x=\"300\" y=\"%d\" width=\"%.1f\" height=\"16\" fill=\"%s\"/>\n", 36 + 22 * (i - 1), width, ratio[i] <= 1 ? "#208040" : "#2050a0"
-    text(306 + width, 45 + 22 * (i - 1) + 4, "start", ratio[i])
-  }
-  line(300 + 300 / most, 30, 300 + 300 / most, 38 + 22 * bars, "#b03030")
-  print "</svg>"
-}
-
-END { if (kind == "growth") growth(); else ratios() }
+END { if (kind == "answer") answer(); else if (kind == "table") table(); else picture() }
