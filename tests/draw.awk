@@ -4,8 +4,8 @@
 #   awk -v kind=table -v names="here bibtex" -f tests/draw.awk FIGURES  a row for each job, a figure for each program
 #   awk -v kind=picture -f tests/draw.awk FIGURES                       a dot for each job (SVG)
 #
-# A line of the figures is WHERE|STYLE|PROGRAM|microseconds|instructions|kilobytes, WHERE|STYLE|edit|microseconds or
-# WHERE|STYLE|same|yes. All figures of a job come after one another, and all jobs of a WHERE.
+# A line of the figures is WHERE|STYLE|PROGRAM|microseconds|instructions|kilobytes, WHERE|STYLE|edit|microseconds,
+# WHERE|STYLE|ratio|ten thousandths or WHERE|STYLE|same|yes.
 
 BEGIN { FS = "|" }
 
@@ -19,6 +19,7 @@ BEGIN { FS = "|" }
   }
   i = job[$1, $2]
   if ($3 == "same") { same[i] = $4; next }
+  if ($3 == "ratio") { ratio[i] = $4 / 10000; next }
   time[i, $3] = $4
   instructions[i, $3] = $5
   memory[i, $3] = $6
@@ -48,7 +49,7 @@ function collect(what, where,  i) {
   clear()
   for (i = 1; i <= jobs; i++) {
     if (where != "" && where_of[i] != where) continue
-    if (what == "ratio") add(quotient(time[i, "here"], time[i, "bibtex"]))
+    if (what == "ratio") add(ratio[i])
     else if (what == "instructions") add(quotient(instructions[i, "here"], instructions[i, "bibtex"]))
     else if (what == "memory") add(quotient(memory[i, "here"], memory[i, "bibtex"]))
     else if (what == "part") add(quotient(time[i, "edit"], time[i, "bibtex"]))
@@ -89,11 +90,11 @@ function cell(i, what,  j, n, text) {
 
 function table(  i) {
   programs = split(names, program, " ")
-  print "| Database | Style | Time, ms | Here / `bibtex` | Title edit, ms | Million instructions | Memory, MB | Same `.bbl` |"
+  print "| Database | Style | Time, ms | Ratio | Title edit, ms | Million instructions | Memory, MB | Same `.bbl` |"
   print "|---|---|---|---|---|---|---|---|"
   for (i = 1; i <= jobs; i++)
     printf "| %s | %s | %s | %s | %s | %s | %s | %s |\n", where_of[i], style_of[i], cell(i, "time"), \
-      two(quotient(time[i, "here"], time[i, "bibtex"])), time[i, "edit"] ? number(time[i, "edit"] / 1000) : "-", \
+      two(ratio[i]), time[i, "edit"] ? number(time[i, "edit"] / 1000) : "-", \
       cell(i, "instructions"), cell(i, "memory"), same[i]
 }
 
@@ -102,7 +103,7 @@ function line(x, top, bottom, colour) { printf "<line x1=\"%.1f\" y1=\"%d\" x2=\
 function dot(x, y, colour, filled) {
   printf "<circle cx=\"%.1f\" cy=\"%.1f\" r=\"3.5\" stroke=\"%s\" stroke-width=\"1.5\" fill=\"%s\"/>\n", x, y, colour, filled ? colour : "white"
 }
-function x_of(ratio) { return 150 + 490 * ratio / most }
+function x_of(r) { return 150 + 490 * r / most }
 
 # picture: a band for each database, in it a row for each style: a full dot for a full run, an empty one for an edit.
 function picture(  i, r, y, bottom, colours) {
@@ -123,8 +124,7 @@ function picture(  i, r, y, bottom, colours) {
     y = 64 * place[where_of[i]] - 26 + 8 * order[style_of[i]]
     r = quotient(time[i, "edit"], time[i, "bibtex"])
     if (r) dot(x_of(r), y, colours[order[style_of[i]]], 0)
-    r = quotient(time[i, "here"], time[i, "bibtex"])
-    if (r) dot(x_of(r), y, colours[order[style_of[i]]], 1)
+    if (ratio[i]) dot(x_of(ratio[i]), y, colours[order[style_of[i]]], 1)
   }
   for (i = 1; i <= styles; i++) {
     dot(24 + 150 * ((i - 1) % 4), bottom + 36 + 18 * int((i - 1) / 4), colours[i], 1)
