@@ -34,7 +34,7 @@ run:
 
 test:
 	@tools/kit
-	RT_JOBS=$${RT_JOBS:-$$(tools/at_once)} rt ci
+	tools/gate
 	tests/sources
 	tests/run $(PROGRAM) $(PROGRAM).by-rattle
 	tests/originals
