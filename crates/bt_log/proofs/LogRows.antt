@@ -3,9 +3,11 @@ use Rattle.std.proofs.Common.{◌≡◌, ℕ, List, [], ◌∷◌, ◌++◌, Som
 use Rattle.std.specs.Prelude.{codes}
 use Rattle.std.specs.Fmt.{digits}
 use Rattle.bt_log.specs.declared.message.Rank.TheVariants.{FileLine, Note, CallCount, Warning, Error, Fatal}
+use Rattle.bt_log.specs.declared.message.FileKind.TheVariants.{Aux, Bib, Bst}
+use Rattle.bt_log.specs.declared.message.FileNote.TheVariants.{RootAux, NestedAux, StyleFile, DatabaseFile, NotOpened, DatabaseTwice, AuxTwice, WrongExtension, BadFileName}
 use Rattle.bt_log.specs.declared.message.Place.TheVariants.{Line, DatabaseLine, WholeFile, Step}
 use Rattle.bt_log.specs.declared.message.Message.{Message}
-use Rattle.bt_log.specs.Message.{plain, at}
+use Rattle.bt_log.specs.Message.{plain, of_file, at}
 use Rattle.bt_log.specs.Wording.{spelled}
 use Rattle.bt_log.specs.Log.{status_of, last_line, lines_bytes, log_bytes, terse_bytes}
 
@@ -55,11 +57,46 @@ about_entry : spelled (record (plain Error (codes "A bad cross reference---entry
     ≡ codes "A bad cross reference---entry \"a\"\nrefers to entry \"p\", which doesn't exist"
 about_entry = refl
 
+-- Files that messages name
+
+nested_file : spelled (of_file FileLine (NestedAux 2) (codes "c.aux")) ≡ codes "A level-2 auxiliary file: c.aux"
+unfolding digits
+nested_file = refl
+
+style_file : spelled (of_file FileLine StyleFile (codes "s.bst")) ≡ codes "The style file: s.bst"
+style_file = refl
+
+database_file : spelled (of_file FileLine (DatabaseFile 12) (codes "x.bib")) ≡ codes "Database file #12: x.bib"
+unfolding digits
+database_file = refl
+
+missing_database : spelled (at (Line (codes "job.aux") 2 None) (of_file Error (NotOpened Bib) (codes "no.bib"))) ≡ codes "I couldn't open database file no.bib---line 2 of file job.aux"
+unfolding digits
+missing_database = refl
+
+missing_root : spelled (of_file Fatal (NotOpened Aux) (codes "job.aux")) ≡ codes "I couldn't open auxiliary file job.aux"
+missing_root = refl
+
+missing_style : spelled (of_file Error (NotOpened Bst) (codes "s.bst")) ≡ codes "I couldn't open style file s.bst"
+missing_style = refl
+
+named_twice : spelled (of_file Error DatabaseTwice (codes "x.bib")) ≡ codes "This database file appears more than once: x.bib"
+named_twice = refl
+
+read_twice : spelled (of_file Error AuxTwice (codes "job.aux")) ≡ codes "Already encountered file job.aux"
+read_twice = refl
+
+wrong_extension : spelled (of_file Error WrongExtension (codes "n.AUX")) ≡ codes "n.AUX has a wrong extension"
+wrong_extension = refl
+
+bad_name : spelled (of_file Error BadFileName (codes "a b.bib")) ≡ codes "a b.bib isn't a file name of this profile"
+bad_name = refl
+
 -- Logs
 
 -- the line of a file, and a note
 abbrev quiet : List Message
-quiet = plain FileLine (codes "The top-level auxiliary file: job.aux") ∷ plain Note (codes "note") ∷ []
+quiet = of_file FileLine RootAux (codes "job.aux") ∷ plain Note (codes "note") ∷ []
 
 -- a warning
 abbrev warning : Message

@@ -2,9 +2,38 @@
 use Rattle.std.specs.Prelude.{ℕ, List, [], ◌∷◌, ◌++◌, codes, decimal, Option, Some, None}
 use Rattle.bt_log.specs.declared.message.Rank.{Rank}
 use Rattle.bt_log.specs.declared.message.Rank.TheVariants.{FileLine, Note, CallCount, Warning, Error, Fatal}
+use Rattle.bt_log.specs.declared.message.FileKind.{FileKind}
+use Rattle.bt_log.specs.declared.message.FileKind.TheVariants.{Aux, Bib, Bst}
+use Rattle.bt_log.specs.declared.message.FileNote.{FileNote}
+use Rattle.bt_log.specs.declared.message.FileNote.TheVariants.{RootAux, NestedAux, StyleFile, DatabaseFile, NotOpened, DatabaseTwice, AuxTwice, WrongExtension, BadFileName}
+use Rattle.bt_log.specs.declared.message.Said.{Said}
+use Rattle.bt_log.specs.declared.message.Said.TheVariants.{Words, OfFile}
 use Rattle.bt_log.specs.declared.message.Place.{Place}
 use Rattle.bt_log.specs.declared.message.Place.TheVariants.{Line, DatabaseLine, WholeFile, Step}
 use Rattle.bt_log.specs.declared.message.Message.{Message}
+
+-- what a message calls a kind of file
+abbrev pub kind_words : FileKind → List ℕ
+kind_words Aux = codes "auxiliary"
+kind_words Bib = codes "database"
+kind_words Bst = codes "style"
+
+-- what a message says of a file
+abbrev pub note_words : FileNote → List ℕ → List ℕ
+note_words RootAux file = codes "The top-level auxiliary file: " ++ file
+note_words (NestedAux level) file = codes "A level-" ++ decimal level ++ codes " auxiliary file: " ++ file
+note_words StyleFile file = codes "The style file: " ++ file
+note_words (DatabaseFile number) file = codes "Database file #" ++ decimal number ++ codes ": " ++ file
+note_words (NotOpened kind) file = codes "I couldn't open " ++ kind_words kind ++ codes " file " ++ file
+note_words DatabaseTwice file = codes "This database file appears more than once: " ++ file
+note_words AuxTwice file = codes "Already encountered file " ++ file
+note_words WrongExtension file = file ++ codes " has a wrong extension"
+note_words BadFileName file = file ++ codes " isn't a file name of this profile"
+
+-- what a message says, without its place
+abbrev pub said_words : Said → List ℕ
+said_words (Words words) = words
+said_words (OfFile note file) = note_words note file
 
 -- The line of a warning is a line of its own, that of any other message goes on after its words.
 abbrev pub before_line : Rank → List ℕ
@@ -52,4 +81,4 @@ second_line (Some words) = 10 ∷ words
 
 -- a message in words
 abbrev pub spelled : Message → List ℕ
-spelled m = m.words ++ place_words m.rank m.entry m.place ++ second_line m.second
+spelled m = said_words m.said ++ place_words m.rank m.entry m.place ++ second_line m.second

@@ -6,4 +6,4 @@ mod message;
 mod wording;
 
 pub use log::{lines_bytes, log_bytes, status, terse_bytes};
-pub use message::{Message, Place, Rank};
+pub use message::{FileKind, FileNote, Message, Place, Rank, Said};

@@ -2,7 +2,7 @@
 
 ghost use Rattle.std.specs.Prelude.{◌≡◌, map, IfOk};
 ghost use Rattle.bt_text.specs.Joined.{joined};
-ghost use Rattle.bt_log.specs.Message.{plain, skipping, at};
+ghost use Rattle.bt_log.specs.Message.{plain, of_file, skipping, at};
 
 use bt_text::{Bytes, Shared};
 use std::alloc::{AllocError, Global};
@@ -20,6 +20,60 @@ pub enum Rank {
     Error,
     /// An error that ends the run.
     Fatal,
+}
+
+/// A kind of file that a job reads.
+#[derive(Clone, Copy, Debug, PartialEq, Eq)]
+pub enum FileKind {
+    Aux,
+    Bib,
+    Bst,
+}
+
+/// What a message says of a file.
+#[derive(Clone, Copy, Debug, PartialEq, Eq)]
+pub enum FileNote {
+    /// The job begins with this `.aux` file.
+    RootAux,
+    /// This `.aux` file is read, so many levels below the first.
+    NestedAux(usize),
+    /// This is the style.
+    StyleFile,
+    /// This is the database of this number, counted from 1.
+    DatabaseFile(usize),
+    /// No file of this kind has the name.
+    NotOpened(FileKind),
+    /// `\bibdata` names this database a second time.
+    DatabaseTwice,
+    /// This `.aux` file was read before.
+    AuxTwice,
+    /// The name doesn't end in `.aux`.
+    WrongExtension,
+    /// No file may have this name.
+    BadFileName,
+}
+
+/// What a message says, without its place. A file's name stays apart from the words, so that a caller who knows the
+/// file by another name can put that name in its place.
+#[derive(Debug, Drop)]
+pub enum Said {
+    Words(Shared<Bytes>),
+    OfFile { note: FileNote, file: Shared<Bytes> },
+}
+
+impl Said {
+    /// The same, whose text has one more owner.
+    pub fn share(&self) -> Result<Said, AllocError>
+        ensures { IfOk result (λ said. said ≡ self.now) }
+    {
+        match self {
+            Said::Words(words) => Ok(Said::Words(words.share()?)),
+            Said::OfFile { note, file } => Ok(Said::OfFile {
+                note: *note,
+                file: file.share()?,
+            }),
+        }
+    }
 }
 
 /// Where a message belongs. Lines and databases are numbered from 1, and a byte is the number of bytes before it in its
@@ -85,7 +139,7 @@ impl Place {
 pub struct Message {
     pub rank: Rank,
     /// What it says, without its place.
-    pub words: Shared<Bytes>,
+    pub said: Said,
     /// The key of the entry that it is about, if it is about one.
     pub entry: Option<Shared<Bytes>>,
     /// Where it belongs; none where it belongs to the run, or as long as that isn't known.
@@ -101,22 +155,35 @@ impl Message {
     {
         Ok(Message {
             rank,
-            words: Shared::<Bytes>::of(alloc, pieces)?,
+            said: Said::Words(Shared::<Bytes>::of(alloc, pieces)?),
             entry: None,
             place: None,
             second: None,
         })
     }
 
+    /// A message that says this of a file, about no entry and without a place.
+    pub fn of_file(rank: Rank, note: FileNote, file: Shared<Bytes>) -> Message
+        ensures { result ≡ of_file rank note file }
+    {
+        Message {
+            rank,
+            said: Said::OfFile { note, file },
+            entry: None,
+            place: None,
+            second: None,
+        }
+    }
+
     /// An error at a place, about no entry. Its second line says that the rest of `what` is skipped, such as `command`
     /// or `entry`.
     pub fn skipping(
         alloc: Global,
-        words: Bytes,
+        said: Said,
         place: Place,
         what: &[u8],
     ) -> Result<Message, AllocError>
-        ensures { IfOk result (λ message. message ≡ skipping words place what.now) }
+        ensures { IfOk result (λ message. message ≡ skipping said place what.now) }
     {
         let second = Shared::<Bytes>::of(
             alloc,
@@ -124,7 +191,7 @@ impl Message {
         )?;
         Ok(Message {
             rank: Rank::Error,
-            words: Shared::new(alloc, words)?,
+            said,
             entry: None,
             place: Some(place),
             second: Some(second),
@@ -141,7 +208,7 @@ impl Message {
         };
         Ok(Message {
             rank: self.rank,
-            words: self.words.share()?,
+            said: self.said.share()?,
             entry: shared(&self.entry)?,
             place,
             second: shared(&self.second)?,

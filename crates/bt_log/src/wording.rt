@@ -1,9 +1,9 @@
 //! A message in words.
 
 ghost use Rattle.std.specs.Prelude.{◌≡◌, ◌++◌, Some, codes, decimal, OnOk};
-ghost use Rattle.bt_log.specs.Wording.{while_reading, before_line, for_entry, while_executing, step_words, place_words, second_line, spelled};
+ghost use Rattle.bt_log.specs.Wording.{kind_words, note_words, said_words, while_reading, before_line, for_entry, while_executing, step_words, place_words, second_line, spelled};
 
-use crate::message::{Message, Place, Rank};
+use crate::message::{FileKind, FileNote, Message, Place, Rank, Said};
 use bt_text::{Bytes, Shared};
 use itoa::Buffer;
 use std::alloc::AllocError;
@@ -13,6 +13,76 @@ fn decimal(buffer: &mut Buffer, number: usize) -> &[u8]
     ensures { result.now ≡ decimal number }
 {
     buffer.format(number).as_bytes()
+}
+
+fn kind_words(kind: FileKind) -> &'static [u8]
+    ensures { result.now ≡ kind_words kind }
+{
+    match kind {
+        FileKind::Aux => b"auxiliary",
+        FileKind::Bib => b"database",
+        FileKind::Bst => b"style",
+    }
+}
+
+/// Adds the line of an `.aux` file below the first.
+fn add_nested(text: &mut Bytes, level: usize, file: &[u8]) -> Result<(), AllocError>
+    ensures { OnOk result (text.new ≡ text.old ++ (codes "A level-" ++ decimal level ++ codes " auxiliary file: " ++ file.now)) }
+{
+    let mut buffer = Buffer::new();
+    let level = decimal(&mut buffer, level);
+    text.append_all(&[b"A level-", level, b" auxiliary file: ", file])
+}
+
+/// Adds a number and a file, in that order, after what is before them.
+fn add_numbered(
+    text: &mut Bytes,
+    before: &[u8],
+    number: usize,
+    file: &[u8],
+) -> Result<(), AllocError>
+    ensures { OnOk result (text.new ≡ text.old ++ (before.now ++ decimal number ++ codes ": " ++ file.now)) }
+{
+    let mut buffer = Buffer::new();
+    let number = decimal(&mut buffer, number);
+    text.append_all(&[before, number, b": ", file])
+}
+
+/// Adds that a file of a kind isn't there.
+fn add_not_opened(text: &mut Bytes, kind: &[u8], file: &[u8]) -> Result<(), AllocError>
+    ensures { OnOk result (text.new
+        ≡ text.old ++ (codes "I couldn't open " ++ kind.now ++ codes " file " ++ file.now)) }
+{
+    text.append_all(&[b"I couldn't open ", kind, b" file ", file])
+}
+
+/// Adds what a message says of a file.
+fn add_note(text: &mut Bytes, note: FileNote, file: &[u8]) -> Result<(), AllocError>
+    ensures { OnOk result (text.new ≡ text.old ++ note_words note file.now) }
+{
+    match note {
+        FileNote::RootAux => text.append_all(&[b"The top-level auxiliary file: ", file]),
+        FileNote::NestedAux(level) => add_nested(text, level, file),
+        FileNote::StyleFile => text.append_all(&[b"The style file: ", file]),
+        FileNote::DatabaseFile(number) => add_numbered(text, b"Database file #", number, file),
+        FileNote::NotOpened(kind) => add_not_opened(text, kind_words(kind), file),
+        FileNote::DatabaseTwice => {
+            text.append_all(&[b"This database file appears more than once: ", file])
+        }
+        FileNote::AuxTwice => text.append_all(&[b"Already encountered file ", file]),
+        FileNote::WrongExtension => text.append_all(&[file, b" has a wrong extension"]),
+        FileNote::BadFileName => text.append_all(&[file, b" isn't a file name of this profile"]),
+    }
+}
+
+/// Adds what a message says.
+fn add_said(text: &mut Bytes, said: &Said) -> Result<(), AllocError>
+    ensures { OnOk result (text.new ≡ text.old ++ said_words said.now) }
+{
+    match said {
+        Said::Words(words) => text.append(words.as_slice()),
+        Said::OfFile { note, file } => add_note(text, *note, file.as_slice()),
+    }
 }
 
 fn before_line(rank: Rank) -> &'static [u8]
@@ -140,7 +210,7 @@ fn add_second(text: &mut Bytes, second: &Option<Shared<Bytes>>) -> Result<(), Al
 pub fn spell(text: &mut Bytes, message: &Message) -> Result<(), AllocError>
     ensures { OnOk result (text.new ≡ text.old ++ spelled message.now) }
 {
-    text.append(message.words.as_slice())?;
+    add_said(text, &message.said)?;
     if let Some(place) = &message.place {
         add_place(text, message.rank, &message.entry, place)?;
     }
