@@ -1,0 +1,86 @@
+-- A job over an author's files: what they mean under names that a session admits, told under the author's names.
+use Rattle.std.specs.Prelude.{◌≡◌, ℕ, true, eqb, List, [], ◌∷◌, ◌++◌, map, filter, fold, flat_map, codes, Option, unwrap_or, All, if◌then◌else◌}
+use Rattle.std.specs.List.{ends_with}
+use Rattle.bt_bib.specs.declared.aux_line.Command.TheVariants.{Citation, Database, Style, Nested}
+use Rattle.bt_bib.specs.declared.aux_line.Command.{Command}
+use Rattle.bt_bib.specs.declared.aux_line.AuxItem.{AuxItem}
+use Rattle.bt_bib.specs.AuxLine.{aux_lines}
+use Rattle.bt_log.specs.declared.message.Message.{Message}
+use Rattle.bt_log.specs.Log.{log_bytes, terse_bytes}
+use Rattle.bt_job.specs.declared.files.File.{File}
+use Rattle.bt_run.specs.Meaning.{Meaning, meaning}
+use Rattle.bt_files.specs.Names.{is_own_name, session_name, with_author}
+use Rattle.bt_files.specs.AuxText.{name_of, item_with, written}
+use Rattle.bt_files.specs.Messages.{name_back, put_back}
+
+-- The names of a job
+
+abbrev pub is_aux : File → Bool
+is_aux f = ends_with eqb f.name (codes ".aux")
+
+-- the names of files that the parts of a command give
+abbrev pub names_given : Command → List (List ℕ) → List (List ℕ)
+names_given Citation parts = []
+names_given Database parts = map (name_of Database) parts
+names_given Style parts = map (name_of Style) parts
+names_given Nested parts = map (name_of Nested) parts
+
+-- the names of files that an .aux text gives
+abbrev pub names_in : List ℕ → List (List ℕ)
+names_in text = flat_map (λ i. names_given i.command i.parts) (aux_lines text)
+
+-- the names that a job's files give, its root's first
+abbrev pub names_of : List File → List ℕ → List (List ℕ)
+names_of files root = (root ++ codes ".aux") ∷ flat_map (λ f. names_in f.text) (filter is_aux files)
+
+-- those that a session doesn't admit, each once
+unfoldable pub table_of : List File → List ℕ → List (List ℕ)
+table_of files root = fold with_author [] (names_of files root)
+
+-- The files under the session's names
+
+-- the session's name of an author's file
+abbrev pub renamed : List (List ℕ) → List ℕ → List ℕ
+renamed table author = unwrap_or (session_name table author) author
+
+-- An .aux text is written anew only where a name of the job changes.
+abbrev pub text_under : List (List ℕ) → List ℕ → List ℕ
+text_under [] text = text
+text_under table text = written (map (item_with (renamed table)) (aux_lines text))
+
+abbrev pub file_under : List (List ℕ) → File → File
+file_under table f =
+    record { name = renamed table f.name; text = if is_aux f then text_under table f.text else f.text }
+
+-- The root is the first name of a job, so it is number 1 where it needs another name.
+abbrev pub root_under : List ℕ → List ℕ
+root_under root = if is_own_name (root ++ codes ".aux") then root else codes "+/1"
+
+-- Meaning
+
+-- a meaning under the session's names, told under the author's
+abbrev pub told_under : List (List ℕ) → Meaning → Meaning
+told_under table m =
+    let messages = map (put_back table) m.messages in
+    record m {
+      blg = log_bytes messages;
+      terse = terse_bytes messages;
+      messages = messages;
+      wanted = map (name_back table) m.wanted;
+    }
+
+-- what a session's files mean, where this table gave them their names
+abbrev pub meaning_under : List (List ℕ) → List File → List ℕ → ℕ → Meaning
+meaning_under table files root min = told_under table (meaning (map (file_under table) files) (root_under root) min)
+
+-- what an author's files mean
+unfoldable pub job_meaning : List File → List ℕ → ℕ → Meaning
+job_meaning files root min = meaning_under (table_of files root) files root min
+
+-- Laws
+
+-- Where a session admits each name, the files mean what they mean in a session.
+abbrev pub PlainJobsStay : Type 0
+PlainJobsStay =
+    (files : List File) (root : List ℕ) (min : ℕ) → All (λ name. is_own_name name ≡ true) (names_of files root)
+    → job_meaning files root min ≡ meaning files root min

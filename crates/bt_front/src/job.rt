@@ -1,0 +1,251 @@
+//! What a job's files mean.
+
+ghost use Rattle.std.specs.Prelude.{◌≡◌, ◌∷◌, [], ℕ, map, fold, filter, flat_map, IfOk, OnOk};
+ghost use Rattle.bt_job.specs.declared.files.File.{File as FileSeen};
+ghost use Rattle.bt_bib.specs.AuxLine.{aux_lines};
+ghost use Rattle.bt_run.specs.Shown.{meaning_of};
+ghost use Rattle.bt_files.specs.Names.{with_author};
+ghost use Rattle.bt_files.specs.AuxText.{part_with, item_with};
+ghost use Rattle.bt_files.specs.Messages.{name_back};
+ghost use Rattle.bt_front.specs.Job.{is_aux, names_given, names_in, table_of, renamed, text_under, file_under, root_under, told_under, job_meaning, PlainJobsStay};
+
+use bt_bib::{AuxItem, Command, read_aux};
+use bt_files::{Names, all_put_back, is_own_name, name_of, written};
+use bt_job::{AuxTexts, File, read_citations};
+use bt_log::{log_bytes, terse_bytes};
+use bt_run::{Answers, Kept, Readings, answers_after};
+use bt_text::{Bytes, Sequence, Shared};
+use std::alloc::{AllocError, Global};
+
+fn is_aux(file: &File) -> bool
+    ensures { result ≡ is_aux file.now }
+{
+    file.name.as_slice().ends_with(b".aux")
+}
+
+/// Notes the names that the parts of a command give.
+fn note_parts(
+    alloc: Global,
+    names: &mut Names,
+    command: Command,
+    parts: &[Bytes],
+) -> Result<(), AllocError>
+    ensures { OnOk result (names.new ≡ fold with_author names.old (names_given command parts.now)) }
+{
+    if command == Command::Citation {
+        return Ok(());
+    }
+    'parts: for part in parts {
+        names.note(alloc, name_of(alloc, command, part.as_slice())?.as_slice())?;
+    }
+    Ok(())
+}
+
+/// Notes the names that an `.aux` text gives.
+fn note_text(alloc: Global, names: &mut Names, text: &[u8]) -> Result<(), AllocError>
+    ensures { OnOk result (names.new ≡ fold with_author names.old (names_in text.now)) }
+{
+    let items = read_aux(alloc, text)?;
+    'items: for item in items.as_slice() {
+        note_parts(alloc, names, item.command, item.parts.as_slice())?;
+    }
+    Ok(())
+}
+
+/// Notes the names that a file gives, if it is an `.aux` file.
+fn note_file(alloc: Global, names: &mut Names, file: &File) -> Result<(), AllocError>
+    ensures { OnOk result (names.new
+        ≡ fold with_author names.old (flat_map (λ (f : FileSeen). names_in f.text) (filter is_aux (file.now ∷ [])))) }
+{
+    if is_aux(file) {
+        note_text(alloc, names, file.text.as_slice())
+    } else {
+        Ok(())
+    }
+}
+
+/// The names of a job that need another name in a session.
+#[tactic(auto, unfolding(crate::specs::Job::table_of))]
+fn table_of(alloc: Global, files: &[File], root: &[u8]) -> Result<Names, AllocError>
+    ensures { IfOk result (λ names. names ≡ table_of files.now root.now) }
+{
+    let mut names = Names::new(alloc);
+    names.note(alloc, Bytes::of(alloc, &[root, b".aux"])?.as_slice())?;
+    'files: for file in files {
+        note_file(alloc, &mut names, file)?;
+    }
+    Ok(names)
+}
+
+/// The session's name of an author's file.
+fn renamed(alloc: Global, names: &Names, author: &[u8]) -> Result<Bytes, AllocError>
+    ensures { IfOk result (λ name. name ≡ renamed names.now author.now) }
+{
+    match names.session_name(alloc, author)? {
+        Some(name) => Ok(name),
+        None => Bytes::copied(alloc, author),
+    }
+}
+
+/// The part of a command for the same file under the session's name.
+fn part_under(
+    alloc: Global,
+    names: &Names,
+    command: Command,
+    part: &[u8],
+) -> Result<Bytes, AllocError>
+    ensures { IfOk result (λ under. under ≡ part_with (renamed names.now) command part.now) }
+{
+    match command {
+        Command::Citation => Bytes::copied(alloc, part),
+        Command::Database | Command::Style | Command::Nested => {
+            renamed(alloc, names, name_of(alloc, command, part)?.as_slice())
+        }
+    }
+}
+
+/// An item under the session's names.
+fn item_under(alloc: Global, names: &Names, item: &AuxItem) -> Result<AuxItem, AllocError>
+    ensures { IfOk result (λ under. under ≡ item_with (renamed names.now) item.now) }
+{
+    let mut parts = Sequence::new(alloc);
+    'parts: for part in item.parts.as_slice() {
+        parts.push(part_under(alloc, names, item.command, part.as_slice())?)?;
+    }
+    Ok(AuxItem {
+        line: item.line,
+        command: item.command,
+        parts,
+        fault: item.fault,
+    })
+}
+
+/// The items of an `.aux` text under the session's names.
+fn items_under(
+    alloc: Global,
+    names: &Names,
+    text: &[u8],
+) -> Result<Sequence<AuxItem>, AllocError>
+    ensures { IfOk result (λ items. items ≡ map (item_with (renamed names.now)) (aux_lines text.now)) }
+{
+    let items = read_aux(alloc, text)?;
+    let mut under = Sequence::new(alloc);
+    'items: for item in items.as_slice() {
+        under.push(item_under(alloc, names, item)?)?;
+    }
+    Ok(under)
+}
+
+/// An `.aux` text under the session's names.
+fn text_under(
+    alloc: Global,
+    names: &Names,
+    text: &Shared<Bytes>,
+) -> Result<Shared<Bytes>, AllocError>
+    ensures { IfOk result (λ under. under ≡ text_under names.now text.now) }
+{
+    if names.is_empty() {
+        return text.share();
+    }
+    let items = items_under(alloc, names, text.as_slice())?;
+    Shared::new(alloc, written(alloc, items.as_slice())?)
+}
+
+/// A file under the session's names.
+fn file_under(alloc: Global, names: &Names, file: &File) -> Result<File, AllocError>
+    ensures { IfOk result (λ under. under ≡ file_under names.now file.now) }
+{
+    let text = if is_aux(file) {
+        text_under(alloc, names, &file.text)?
+    } else {
+        file.text.share()?
+    };
+    let name = renamed(alloc, names, file.name.as_slice())?;
+    Ok(File {
+        name: Shared::new(alloc, name)?,
+        text,
+    })
+}
+
+/// A job's files under the session's names.
+fn files_under(
+    alloc: Global,
+    names: &Names,
+    files: &[File],
+) -> Result<Sequence<File>, AllocError>
+    ensures { IfOk result (λ under. under ≡ map (file_under names.now) files.now) }
+{
+    let mut under = Sequence::new(alloc);
+    'files: for file in files {
+        under.push(file_under(alloc, names, file)?)?;
+    }
+    Ok(under)
+}
+
+/// The root under the session's names.
+fn root_under(alloc: Global, root: &[u8]) -> Result<Bytes, AllocError>
+    ensures { IfOk result (λ under. under ≡ root_under root.now) }
+{
+    if is_own_name(Bytes::of(alloc, &[root, b".aux"])?.as_slice()) {
+        Bytes::copied(alloc, root)
+    } else {
+        Bytes::copied(alloc, b"+/1")
+    }
+}
+
+/// The author's names of files, in their order.
+fn names_back(alloc: Global, names: &Names, files: &[Bytes]) -> Result<Sequence<Bytes>, AllocError>
+    ensures { IfOk result (λ back. back ≡ map (name_back names.now) files.now) }
+{
+    let mut back = Sequence::new(alloc);
+    'files: for file in files {
+        let author = names.author_name(file.as_slice()).unwrap_or(file.as_slice());
+        back.push(Bytes::copied(alloc, author)?)?;
+    }
+    Ok(back)
+}
+
+/// The names of the files that a job looks for and that aren't among these files, in order, each once. `root` is the
+/// name of the job's first `.aux` file without its ending. The only error is out of memory.
+pub fn wanted(alloc: Global, files: &[File], root: &[u8]) -> Result<Sequence<Bytes>, AllocError>
+    ensures { IfOk result (λ names. (min : ℕ) → names ≡ (job_meaning files.now root.now min).wanted) }
+{
+    let names = table_of(alloc, files, root)?;
+    let under = files_under(alloc, &names, files)?;
+    let root = root_under(alloc, root)?;
+    let mut texts = AuxTexts::new(alloc);
+    let asked = read_citations(alloc, under.as_slice(), root.as_slice(), &mut texts)?;
+    names_back(alloc, &names, asked.wanted.as_slice())
+}
+
+/// What a run under the session's names shows, told under the author's.
+fn told_under(alloc: Global, names: &Names, shown: Answers) -> Result<Answers, AllocError>
+    ensures { IfOk result (λ told. meaning_of told ≡ told_under names.now (meaning_of shown)) }
+{
+    let messages = all_put_back(alloc, names, shown.messages.as_slice())?;
+    let mut told = shown;
+    told.blg = log_bytes(alloc, messages.as_slice())?;
+    told.terse = terse_bytes(alloc, messages.as_slice())?;
+    told.wanted = names_back(alloc, names, told.wanted.as_slice())?;
+    told.messages = messages;
+    Ok(told)
+}
+
+/// What a job's files mean, of any size and number and under any names. `root` is the name of the job's first `.aux` file
+/// without its ending. The only error is out of memory.
+pub fn run(alloc: Global, files: &[File], root: &[u8], min: u32) -> Result<Answers, AllocError>
+    ensures { IfOk result (λ shown. meaning_of shown ≡ job_meaning files.now root.now min) }
+{
+    let names = table_of(alloc, files, root)?;
+    let under = files_under(alloc, &names, files)?;
+    let root = root_under(alloc, root)?;
+    let (kept, readings) = (Kept::nothing(alloc), Readings::nothing(alloc));
+    let run = answers_after(alloc, under.as_slice(), root.as_slice(), min, &kept, readings)?;
+    told_under(alloc, &names, run.answers)
+}
+
+/// A law: where a session admits each name that a job's files give, they mean what they mean in a session, and the log
+/// is the same byte for byte.
+pub fn plain_jobs_stay()
+    ensures { PlainJobsStay }
+{}

@@ -1,0 +1,100 @@
+//! What to do about a message: at most ten lines on standard error, which no tool reads.
+
+mod entries;
+mod missing;
+mod source_lines;
+
+use crate::report::complain;
+use bt_files::Answered;
+use bt_job::File;
+use bt_log::{Message, Said};
+use std::alloc::{AllocError, Global};
+use std::fs;
+
+/// How many hints are printed: more than a screen of them nobody reads.
+const HINTS: usize = 10;
+
+/// The hints of a run: prints them until there are too many.
+#[derive(Drop)]
+struct Hints<'a> {
+    rt: &'a HostRuntime,
+    left: usize,
+}
+
+impl Hints<'_> {
+    /// Prints a hint, unless there were too many.
+    fn give(&mut self, pieces: &[&[u8]]) {
+        if self.left > 0 {
+            self.left -= 1;
+            complain(self.rt, pieces);
+        }
+    }
+
+    fn is_full(&self) -> bool {
+        self.left == 0
+    }
+}
+
+/// What a job's hints are made of.
+#[derive(Clone, Copy)]
+pub struct Job<'a> {
+    pub name: &'a str,
+    pub files: &'a [File],
+    pub answered: &'a Answered,
+}
+
+impl<'a> Job<'a> {
+    /// The text of a file.
+    fn text(&self, name: &[u8]) -> Option<&'a [u8]> {
+        let file = self
+            .files
+            .iter()
+            .find(|file| file.name.as_slice() == name)?;
+        Some(file.text.as_slice())
+    }
+
+    fn says(&self, words: &[u8]) -> bool {
+        self.answered
+            .messages
+            .as_slice()
+            .iter()
+            .any(|message| has_words(message, words))
+    }
+}
+
+fn has_words(message: &Message, words: &[u8]) -> bool {
+    match &message.said {
+        Said::Words(said) => said.as_slice() == words,
+        Said::OfFile { .. } => false,
+    }
+}
+
+/// Says so if the document's bibliography is biber's work.
+fn hint_at_biber(alloc: Global, hints: &mut Hints<'_>, job: Job<'_>) -> Result<(), AllocError> {
+    if !job.says(b"I found no \\bibdata command") {
+        return Ok(());
+    }
+    let control = format!(in alloc; "{}.bcf", job.name)?;
+    let is_biber = match fs::exists(hints.rt, control.as_str()) {
+        Ok(is_there) => is_there,
+        Err(_) => false,
+    };
+    if is_biber {
+        hints.give(&[
+            b"hint: this document uses biblatex with biber; run: biber ",
+            job.name.as_bytes(),
+            b"\n",
+        ]);
+    }
+    Ok(())
+}
+
+/// Prints the hints of a run. The one error is out of memory; some may have been printed then.
+pub fn print(rt: &HostRuntime, job: Job<'_>) -> Result<(), AllocError> {
+    let alloc = rt.alloc();
+    let mut hints = Hints { rt, left: HINTS };
+    hint_at_biber(alloc, &mut hints, job)?;
+    missing::hint(alloc, &mut hints, job)?;
+    source_lines::hint(alloc, &mut hints, job)?;
+    entries::hint(alloc, &mut hints, job)
+}

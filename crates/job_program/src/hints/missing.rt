@@ -1,0 +1,153 @@
+//! Files that weren't found: where they were looked for, and which others have such a name.
+
+use crate::hints::{Hints, Job};
+use bt_log::{FileKind, FileNote, Message, Said};
+use std::alloc::{AllocError, Global};
+use std::fs;
+use strsim::levenshtein;
+
+/// How many letters may differ between a name that wasn't found and one that is suggested.
+const NEAR: usize = 2;
+
+/// A style or database that a message says wasn't found.
+fn not_found(message: &Message) -> Option<(FileKind, &[u8])> {
+    match &message.said {
+        Said::OfFile {
+            note: FileNote::NotOpened(kind),
+            file,
+        } if *kind != FileKind::Aux => Some((*kind, file.as_slice())),
+        _ => None,
+    }
+}
+
+fn ending(kind: FileKind) -> &'static str {
+    match kind {
+        FileKind::Aux => ".aux",
+        FileKind::Bib => ".bib",
+        FileKind::Bst => ".bst",
+    }
+}
+
+/// The variable that names the folders to search.
+fn variable(kind: FileKind) -> &'static [u8] {
+    match kind {
+        FileKind::Bst => b"BSTINPUTS",
+        FileKind::Aux | FileKind::Bib => b"BIBINPUTS",
+    }
+}
+
+/// A file of a folder that comes closest to a name.
+#[derive(Drop)]
+struct Nearest<'a> {
+    name: &'a str,
+    best: Option<(usize, String)>,
+}
+
+impl Nearest<'_> {
+    /// Notes a file, if it is closer than those before.
+    fn note(&mut self, alloc: Global, name: &str) -> Result<(), AllocError> {
+        let distance = levenshtein(alloc, self.name, name)?;
+        let limit = match &self.best {
+            Some((distance, _)) => *distance,
+            None => NEAR + 1,
+        };
+        if distance < limit {
+            self.best = Some((distance, String::from_str(alloc, name)?));
+        }
+        Ok(())
+    }
+}
+
+/// What the folder offers in the place of a file.
+#[derive(Drop)]
+enum Offer {
+    /// The file lies in this folder.
+    Folder(String),
+    /// A file of this name is there.
+    Name(String),
+}
+
+/// Looks for a file in the folders of the folder, and for one whose name is nearly the same.
+fn offer(
+    alloc: Global,
+    rt: &HostRuntime,
+    name: &str,
+    ending: &str,
+) -> Result<Option<Offer>, AllocError> {
+    let Ok(entries) = fs::read_dir(rt, ".") else {
+        return Ok(None);
+    };
+    let mut nearest = Nearest { name, best: None };
+    'entries: for entry in entries {
+        let Ok(entry) = entry else {
+            return Ok(None);
+        };
+        let found = entry.file_name();
+        if found.ends_with(ending) {
+            nearest.note(alloc, found)?;
+        } else if let Ok(true) = fs::exists(rt, format!(in alloc; "{found}/{name}")?.as_str()) {
+            return Ok(Some(Offer::Folder(String::from_str(alloc, found)?)));
+        }
+    }
+    match nearest.best {
+        Some((_, found)) => Ok(Some(Offer::Name(found))),
+        None => Ok(None),
+    }
+}
+
+/// Says where a file was looked for, and what there is instead.
+fn hint_at(
+    alloc: Global,
+    hints: &mut Hints<'_>,
+    kind: FileKind,
+    name: &[u8],
+) -> Result<(), AllocError> {
+    let Ok(text) = str::from_utf8(name) else {
+        return Ok(());
+    };
+    let variable = variable(kind);
+    let looked: &[u8] = b" isn't in the folder or where kpsewhich looks";
+    match offer(alloc, hints.rt, text, ending(kind))? {
+        Some(Offer::Folder(folder)) => hints.give(&[
+            b"hint: ",
+            name,
+            looked,
+            b"; there is ",
+            folder.as_bytes(),
+            b"/",
+            name,
+            b" (set ",
+            variable,
+            b"=",
+            folder.as_bytes(),
+            b":)\n",
+        ]),
+        Some(Offer::Name(other)) => hints.give(&[
+            b"hint: ",
+            name,
+            looked,
+            b"; did you mean ",
+            other.as_bytes(),
+            b"?\n",
+        ]),
+        None => hints.give(&[
+            b"hint: ",
+            name,
+            looked,
+            b" (",
+            variable,
+            b" names more folders)\n",
+        ]),
+    }
+    Ok(())
+}
+
+/// A hint for each style and database that wasn't found.
+pub fn hint(alloc: Global, hints: &mut Hints<'_>, job: Job<'_>) -> Result<(), AllocError> {
+    'messages: for message in job.answered.messages.as_slice() {
+        if let Some((kind, name)) = not_found(message) {
+            hint_at(alloc, hints, kind, name)?;
+        }
+    }
+    Ok(())
+}

@@ -1,0 +1,146 @@
+//! The lines that messages speak of, with a mark under the place.
+
+use crate::hints::{Hints, Job};
+use bt_log::{Message, Place, Rank, Said};
+use bt_text::Bytes;
+use itoa::Buffer;
+use std::alloc::{AllocError, Global};
+
+/// How much of a line is shown: what a terminal shows in two of its lines.
+const SHOWN: usize = 160;
+
+/// A line of a text, and how many bytes stand before it.
+fn line_of(text: &[u8], number: usize) -> Option<(usize, &[u8])> {
+    let mut before = 0;
+    'lines: for (index, line) in text.split(|byte| *byte == b'\n').enumerate() {
+        if index + 1 == number {
+            return Some((before, line));
+        }
+        before += line.len() + 1;
+    }
+    None
+}
+
+/// The number of the line in which the item begins that reaches into a line, if that is an earlier one.
+fn item_line(text: &[u8], number: usize) -> Option<usize> {
+    let mut begun = None;
+    'lines: for (index, line) in text.split(|byte| *byte == b'\n').enumerate() {
+        if index + 1 >= number {
+            return if line.trim_ascii_start().starts_with(b"@") && index + 1 == number {
+                None
+            } else {
+                begun
+            };
+        }
+        if line.trim_ascii_start().starts_with(b"@") {
+            begun = Some(index + 1);
+        }
+    }
+    begun
+}
+
+/// What stands under a line up to a mark: its tabs, and a space for each other letter.
+fn indentation(alloc: Global, line: &[u8]) -> Result<Bytes, AllocError> {
+    let mut spaces = Bytes::new(alloc);
+    'letters: for byte in line {
+        match *byte {
+            b'\t' => spaces.append(b"\t")?,
+            0x80..=0xBF => {}
+            _ => spaces.append(b" ")?,
+        }
+    }
+    Ok(spaces)
+}
+
+/// The part of a message's place that is shown.
+#[derive(Drop)]
+struct Shown<'a> {
+    file: &'a [u8],
+    line: usize,
+    byte: Option<usize>,
+}
+
+/// The place of a message about a line.
+fn shown(message: &Message) -> Option<Shown<'_>> {
+    if !matches!(message.rank, Rank::Warning | Rank::Error | Rank::Fatal) {
+        return None;
+    }
+    match (&message.said, &message.place) {
+        (Said::Words(_), Some(Place::Line { file, line, byte })) => Some(Shown {
+            file: file.as_slice(),
+            line: *line,
+            byte: *byte,
+        }),
+        _ => None,
+    }
+}
+
+/// The line under a line, with a mark below a byte of the text; empty without one.
+fn mark(
+    alloc: Global,
+    line: &[u8],
+    before: usize,
+    byte: Option<usize>,
+) -> Result<Bytes, AllocError> {
+    let mut mark = Bytes::new(alloc);
+    if let Some(byte) = byte
+        && let Some(column) = byte.checked_sub(before)
+        && let Some(left) = line.get(..column)
+    {
+        mark.append_all(&[b"    ", indentation(alloc, left)?.as_slice(), b"^\n"])?;
+    }
+    Ok(mark)
+}
+
+/// Shows the line of a place.
+fn hint_at(
+    alloc: Global,
+    hints: &mut Hints<'_>,
+    text: &[u8],
+    place: &Shown<'_>,
+) -> Result<(), AllocError> {
+    let Some((before, line)) = line_of(text, place.line) else {
+        return Ok(());
+    };
+    if line.is_empty() || line.len() > SHOWN {
+        return Ok(());
+    }
+    let mut digits = Buffer::new();
+    let number = digits.format(place.line).as_bytes();
+    let mark = mark(alloc, line, before, place.byte)?;
+    let mut begun = Bytes::new(alloc);
+    if place.file.ends_with(b".bib")
+        && let Some(first) = item_line(text, place.line)
+    {
+        let mut digits = Buffer::new();
+        let first = digits.format(first).as_bytes();
+        begun.append_all(&[b" (the entry begins at line ", first, b")"])?;
+    }
+    hints.give(&[
+        b"hint: line ",
+        number,
+        b" of ",
+        place.file,
+        begun.as_slice(),
+        b":\n    ",
+        line,
+        b"\n",
+        mark.as_slice(),
+    ]);
+    Ok(())
+}
+
+/// Shows the lines that messages speak of.
+pub fn hint(alloc: Global, hints: &mut Hints<'_>, job: Job<'_>) -> Result<(), AllocError> {
+    'messages: for message in job.answered.messages.as_slice() {
+        if hints.is_full() {
+            return Ok(());
+        }
+        if let Some(place) = shown(message)
+            && let Some(text) = job.text(place.file)
+        {
+            hint_at(alloc, hints, text, &place)?;
+        }
+    }
+    Ok(())
+}

@@ -1,0 +1,89 @@
+//! What the terminal shows.
+
+use crate::options::Wrong;
+use anyhow::Result;
+use bt_files::Answered;
+use bt_log::{Message, Rank, log_bytes, terse_bytes};
+use bt_streams::{WriterSink, say};
+use bt_text::Bytes;
+use std::alloc::{AllocError, Global};
+use std::io;
+use bt_text::Sequence;
+
+/// The help.
+pub const HELP: &str = "\
+usage: bibtex [-terse] [-min-crossrefs N] [-quiet] [-no-fallback] JOB
+       bibtex --resident JOB
+
+Writes the bibliography of a LaTeX document: reads what JOB.aux cites, looks it up in the
+databases that it names, and writes JOB.bbl as its style says. JOB.blg gets the log.
+JOB is the document, with or without .aux.
+
+  -terse             don't print the names of the files
+  -min-crossrefs N   list an uncited entry once N entries refer to it (default 2)
+  -quiet             print no hints
+  -no-fallback       never let another bibtex do the job
+  -version           print the version, and which other bibtex there is
+  -help              print this
+  --resident         answer an editor's commands; read and write no file
+
+Options take one dash or two. Files are looked for in the folder, and then by kpsewhich
+(BIBINPUTS, BSTINPUTS).
+
+Exit status: 0 if there were warnings at most, 2 after errors, 3 after a fatal error or if
+a file can't be written, 1 if the job can't be run.";
+
+/// Prints bytes to standard error, as far as that succeeds.
+pub fn complain(rt: &HostRuntime, pieces: &[&[u8]]) {
+    let mut err = WriterSink::new(rt.stderr());
+    let _ = say(&mut err, pieces);
+}
+
+/// Says in a line what is wrong with a command line.
+pub fn refuse(rt: &HostRuntime, wrong: Wrong<'_>) -> Result<()> {
+    match wrong {
+        Wrong::NoJob => eprintln!(rt; "bibtex: which document? Try bibtex JOB, or bibtex -help")?,
+        Wrong::TwoJobs(first, second) => {
+            eprintln!(rt; "bibtex: one document at a time: {first} and {second} are two")?
+        }
+        Wrong::UnknownOption(word) => eprintln!(
+            rt;
+            "bibtex: there is no option {word}; there are -terse, -min-crossrefs N, -quiet, -no-fallback, -version, -help and --resident"
+        )?,
+        Wrong::NoNumber(None) => eprintln!(rt; "bibtex: -min-crossrefs needs a number, as in -min-crossrefs=2")?,
+        Wrong::NoNumber(Some(word)) => eprintln!(
+            rt;
+            "bibtex: -min-crossrefs needs a number from 0 to 65535, and {word} is none"
+        )?,
+    }
+    Ok(())
+}
+
+/// The messages but the counts of calls, which are for the log alone.
+fn without_counts(alloc: Global, messages: &[Message]) -> Result<Sequence<Message>, AllocError> {
+    let mut shown = Sequence::new(alloc);
+    'messages: for message in messages {
+        if message.rank != Rank::CallCount {
+            shown.push(message.share()?)?;
+        }
+    }
+    Ok(shown)
+}
+
+/// What a run prints.
+fn printed(alloc: Global, answered: &Answered, terse: bool) -> Result<Bytes, AllocError> {
+    let messages = answered.messages.as_slice();
+    if terse {
+        return terse_bytes(alloc, messages);
+    }
+    let shown = without_counts(alloc, messages)?;
+    log_bytes(alloc, shown.as_slice())
+}
+
+/// Prints what a run says, as far as that succeeds.
+pub fn print(rt: &HostRuntime, answered: &Answered, terse: bool) -> Result<(), AllocError> {
+    let text = printed(rt.alloc(), answered, terse)?;
+    let mut out = WriterSink::new(io::writer(rt));
+    let _ = say(&mut out, &[text.as_slice()]);
+    Ok(())
+}

@@ -1,0 +1,127 @@
+//! What the program and the shell script that starts it tell one another. The script knows `kpsewhich` and the other
+//! programs of the machine; it tells of them by environment variables, and reads what is asked of it from a file of its
+//! own that one of them names.
+
+use bt_text::Bytes;
+use std::alloc::{AllocError, Global};
+use std::env;
+use std::fs;
+use crate::disk;
+
+/// The exit status that asks the script for the places of files, and to start the program again.
+pub const FILES_WANTED: u8 = 75;
+
+/// The exit status that asks the script to let another `bibtex` do the job.
+pub const HAND_OVER: u8 = 76;
+
+/// A name, and the path that `kpsewhich` found for it.
+#[derive(Drop)]
+pub struct Place {
+    pub name: Bytes,
+    pub path: Bytes,
+}
+
+/// What the script said.
+#[derive(Drop)]
+pub struct Script {
+    /// The file that the script reads, if it does.
+    asking: Option<String>,
+    /// What `kpsewhich` found, if it was asked.
+    pub places: Option<Vec<Place>>,
+    /// Whether files in the folder have no precedence, since BIBINPUTS or BSTINPUTS is set.
+    pub search_all: bool,
+    /// The letter of TeX's rule for files that are written.
+    pub rule: Option<String>,
+    /// What keeps the files of two programs apart that run at once.
+    pub mark: Option<String>,
+}
+
+/// A variable of the environment, unless it is missing or empty.
+fn variable(rt: &HostRuntime, name: &str) -> Result<Option<String>, AllocError> {
+    match env::var(rt, name) {
+        Ok(value) if !value.is_empty() => Ok(Some(value)),
+        Ok(_) => Ok(None),
+        Err(env::VarError::OutOfMemory) => Err(AllocError),
+        Err(_) => Ok(None),
+    }
+}
+
+/// What stands between two answers of `kpsewhich`: it is asked for this file too, after each name.
+const BETWEEN: &[u8] = b"/dev/null";
+
+/// Names and what `kpsewhich` found: the names, a line each, an empty line, and its answers in the same order with a
+/// line `/dev/null` after each.
+fn places(alloc: Global, text: &[u8]) -> Result<Vec<Place>, AllocError> {
+    let mut lines = text.split(|byte| *byte == b'\n');
+    let mut names = Vec::new(alloc);
+    'names: for line in &mut lines {
+        if line.is_empty() {
+            break;
+        }
+        names.push(line)?;
+    }
+    let mut places = Vec::new(alloc);
+    'places: for name in names.iter() {
+        'answers: for line in &mut lines {
+            if line == BETWEEN {
+                break;
+            }
+            places.push(Place {
+                name: Bytes::copied(alloc, name)?,
+                path: Bytes::copied(alloc, line)?,
+            })?;
+        }
+    }
+    Ok(places)
+}
+
+/// What `kpsewhich` found, as a file tells it.
+fn places_in(alloc: Global, rt: &HostRuntime, path: &str) -> Result<Vec<Place>, AllocError> {
+    match disk::read(alloc, rt, path)? {
+        Some(text) => places(alloc, text.as_slice()),
+        None => Ok(Vec::new(alloc)),
+    }
+}
+
+impl Script {
+    /// What the environment says of the script. Without one, nothing.
+    pub fn of(rt: &HostRuntime) -> Result<Script, AllocError> {
+        let alloc = rt.alloc();
+        let places = match variable(rt, "DULSHENKO_FOUND")? {
+            Some(path) => Some(places_in(alloc, rt, path.as_str())?),
+            None => None,
+        };
+        Ok(Script {
+            asking: variable(rt, "DULSHENKO_ASK")?,
+            places,
+            search_all: variable(rt, "DULSHENKO_SEARCH_ALL")?.is_some(),
+            rule: variable(rt, "DULSHENKO_OPENOUT")?,
+            mark: variable(rt, "DULSHENKO_MARK")?,
+        })
+    }
+
+    /// Whether another `bibtex` may do the job: a script is there to start it, and the user hasn't ruled it out.
+    pub fn hands_over(&self, rt: &HostRuntime) -> Result<bool, AllocError> {
+        Ok(self.asking.is_some() && variable(rt, "DULSHENKO_NO_FALLBACK")?.is_none())
+    }
+
+    /// Whether the script can be asked where files are.
+    pub fn can_search(&self) -> bool {
+        self.asking.is_some() && self.places.is_none()
+    }
+
+    /// Writes what is asked of the script. It says whether that succeeded.
+    pub fn ask(&self, rt: &HostRuntime, text: &[u8]) -> bool {
+        match &self.asking {
+            Some(path) => fs::write(rt, path.as_str(), text).is_ok(),
+            None => false,
+        }
+    }
+
+    /// The path that `kpsewhich` found for a name.
+    pub fn path_of(&self, name: &[u8]) -> Option<&[u8]> {
+        let places = self.places.as_ref()?;
+        let place = places.iter().find(|place| place.name.as_slice() == name)?;
+        Some(place.path.as_slice())
+    }
+}

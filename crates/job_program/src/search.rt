@@ -1,0 +1,136 @@
+//! Looks up the files of a job by the author's names, in the order in which the job looks for them: in the folder that
+//! the program was started in, where `kpsewhich` found them, and beside the job's own `.aux` file.
+
+use crate::disk;
+use crate::script::Script;
+use bt_files::wanted;
+use bt_job::File;
+use bt_text::{Bytes, Sequence, Shared};
+use indexmap::IndexSet;
+use std::alloc::{AllocError, Global};
+
+/// A job's files as far as they were looked up.
+#[derive(Drop)]
+pub struct Search<'a> {
+    alloc: Global,
+    rt: &'a HostRuntime,
+    script: &'a Script,
+    /// The folder of the job's `.aux` file, with its last slash; empty for the folder the program was started in.
+    folder: &'a str,
+    met: IndexSet<Vec<u8>>,
+    files: Sequence<File>,
+    /// The names that weren't found.
+    missing: Sequence<Bytes>,
+}
+
+/// The part of a path up to its last slash.
+fn folder_of(path: &str) -> &str {
+    match path.rsplit_once('/') {
+        Some((folder, _)) => path.get(..folder.len() + 1).unwrap_or(""),
+        None => "",
+    }
+}
+
+impl<'a> Search<'a> {
+    /// Before any file of a job was looked up.
+    pub fn new(alloc: Global, rt: &'a HostRuntime, script: &'a Script, job: &'a str) -> Search<'a> {
+        Search {
+            alloc,
+            rt,
+            script,
+            folder: folder_of(job),
+            met: IndexSet::new(alloc),
+            files: Sequence::new(alloc),
+            missing: Sequence::new(alloc),
+        }
+    }
+
+    /// The files that were found.
+    pub fn files(&self) -> &[File] {
+        self.files.as_slice()
+    }
+
+    /// The names that weren't found.
+    pub fn missing(&self) -> &[Bytes] {
+        self.missing.as_slice()
+    }
+
+    fn read(&self, path: &[u8]) -> Result<Option<Bytes>, AllocError> {
+        match str::from_utf8(path) {
+            Ok(path) => disk::read(self.alloc, self.rt, path),
+            Err(_) => Ok(None),
+        }
+    }
+
+    /// A file beside the job's `.aux` file.
+    fn read_beside(&self, name: &[u8]) -> Result<Option<Bytes>, AllocError> {
+        if self.folder.is_empty() || name.starts_with(b"/") {
+            return Ok(None);
+        }
+        let path = Bytes::of(self.alloc, &[self.folder.as_bytes(), name])?;
+        self.read(path.as_slice())
+    }
+
+    /// A style or a database.
+    fn read_searched(&self, name: &[u8]) -> Result<Option<Bytes>, AllocError> {
+        if let Some(path) = self.script.path_of(name) {
+            return self.read(path);
+        }
+        if self.script.search_all {
+            return Ok(None);
+        }
+        if let Some(text) = self.read(name)? {
+            return Ok(Some(text));
+        }
+        if self.script.can_search() {
+            return Ok(None);
+        }
+        self.read_beside(name)
+    }
+
+    fn read_named(&self, name: &[u8]) -> Result<Option<Bytes>, AllocError> {
+        if !name.ends_with(b".aux") {
+            return self.read_searched(name);
+        }
+        match self.read(name)? {
+            Some(text) => Ok(Some(text)),
+            None => self.read_beside(name),
+        }
+    }
+
+    /// Looks up a file, and says whether it was found.
+    fn look_up(&mut self, name: &[u8]) -> Result<bool, AllocError> {
+        let _ = self.met.insert(Vec::from_slice(self.alloc, name)?)?;
+        let Some(text) = self.read_named(name)? else {
+            self.missing.push(Bytes::copied(self.alloc, name)?)?;
+            return Ok(false);
+        };
+        self.files.push(File {
+            name: Shared::<Bytes>::copied(self.alloc, name)?,
+            text: Shared::new(self.alloc, text)?,
+        })?;
+        Ok(true)
+    }
+
+    /// Looks up those names that are new, and says whether one was found.
+    fn look_up_new(&mut self, names: &[Bytes]) -> Result<bool, AllocError> {
+        let mut found = false;
+        'names: for name in names {
+            let name = name.as_slice();
+            if !self.met.contains(name) && self.look_up(name)? {
+                found = true;
+            }
+        }
+        Ok(found)
+    }
+
+    /// Looks up all files of a job. The one error is out of memory.
+    pub fn run(&mut self, job: &str) -> Result<(), AllocError> {
+        let mut goes_on = true;
+        'rounds: while goes_on {
+            let names = wanted(self.alloc, self.files.as_slice(), job.as_bytes())?;
+            goes_on = self.look_up_new(names.as_slice())?;
+        }
+        Ok(())
+    }
+}

@@ -1,0 +1,43 @@
+//! When another `bibtex` does a job better: this program ends a run at a style's first fault and at its limits, where the
+//! original goes on.
+
+use bt_files::Answered;
+use bt_log::{Message, Place, Rank, Said};
+
+/// The end of the warning of a value that is left out because it is too long.
+const TOO_LONG: &[u8] = b" is over 65536 bytes";
+
+/// Whether a message is a fault of a style.
+fn is_style_fault(message: &Message) -> bool {
+    match (&message.rank, &message.place) {
+        (Rank::Error, Some(Place::Line { file, .. })) => file.as_slice().ends_with(b".bst"),
+        _ => false,
+    }
+}
+
+/// Whether a message says that a step of the style reached a limit.
+fn is_step_limit(message: &Message) -> bool {
+    matches!(
+        (&message.rank, &message.place),
+        (Rank::Fatal, Some(Place::Step { .. }))
+    )
+}
+
+/// Whether a message says that a value was left out because it is too long.
+fn is_value_limit(message: &Message) -> bool {
+    match &message.said {
+        Said::Words(words) => {
+            message.rank == Rank::Warning
+                && message.entry.is_none()
+                && words.as_slice().ends_with(TOO_LONG)
+        }
+        Said::OfFile { .. } => false,
+    }
+}
+
+/// The message of what another program wouldn't have ended, or left out, if there is one.
+pub fn reason(answered: &Answered) -> Option<&Message> {
+    answered.messages.as_slice().iter().find(|message| {
+        is_style_fault(message) || is_step_limit(message) || is_value_limit(message)
+    })
+}
