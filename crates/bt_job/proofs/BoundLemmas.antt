@@ -10,9 +10,11 @@ use Rattle.bt_bib.specs.declared.aux_line.Command.{Command}
 use Rattle.bt_bib.specs.declared.aux_line.Command.TheVariants.{Citation, Database, Style, Nested}
 use Rattle.bt_bib.specs.declared.aux_argument.AuxFault.{AuxFault}
 use Rattle.bt_bib.specs.AuxLine.{aux_lines}
+use Rattle.bt_log.specs.declared.message.FileKind.TheVariants.{Aux}
+use Rattle.bt_log.specs.declared.message.FileNote.TheVariants.{NotOpened, AuxTwice, WrongExtension, BadFileName}
 use Rattle.bt_job.specs.declared.files.File.{File}
 use Rattle.bt_job.specs.FileNames.{is_file_name, is_among, text_of}
-use Rattle.bt_job.specs.Faults.{LineFault, WrongExtension, NoFileName, FileTwice, NotThere, IllEnded, input_fault, first_fault}
+use Rattle.bt_job.specs.Faults.{LineFault, WrongFile, IllEnded, input_fault, first_fault}
 use Rattle.bt_job.specs.Lines.{JobLine, lines_in, lines_of, has_command, input_names, line_fault, lines_opened, opened_by, read_on, line_count, unopened, AnyBoundServes, NestedInPlace}
 use Rattle.bt_job.proofs.NameLemmas.{is_among-append, same_bytes, name_itself}
 use Rattle.bt_job.proofs.PartLemmas.{first_wrong, first_more}
@@ -110,7 +112,7 @@ record IsNew (files : List File) (before : List (List ℕ)) (name : List ℕ) : 
   new : is_among before name ≡ false
 
 new_by : (files : List File) (before : List (List ℕ)) (name : List ℕ) (e f a : Bool) (t : Option (List ℕ)) → is_among before name ≡ a → text_of files name ≡ t
-    → cond (not e) (Some (WrongExtension name)) (cond (not f) (Some (NoFileName name)) (cond a (Some (FileTwice name)) (cond (not (is_some t)) (Some (NotThere (codes "auxiliary") name)) None))) ≡ None → IsNew files before name
+    → cond (not e) (Some (WrongFile WrongExtension name)) (cond (not f) (Some (WrongFile BadFileName name)) (cond a (Some (WrongFile AuxTwice name)) (cond (not (is_some t)) (Some (WrongFile (NotOpened Aux) name)) None))) ≡ None → IsNew files before name
 new_by files before name false f a t is_a is_t none = let wrong : true ≡ false = ap is_some none in cc
 new_by files before name true false a t is_a is_t none = let wrong : true ≡ false = ap is_some none in cc
 new_by files before name true true true t is_a is_t none = let wrong : true ≡ false = ap is_some none in cc

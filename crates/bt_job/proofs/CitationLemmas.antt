@@ -5,8 +5,6 @@ use Rattle.std.specs.Option.{is_some, is_none}
 use Rattle.std.proofs.lemmas.List.{map-append}
 use Rattle.std.proofs.Common.{◌≡◌, ℕ, suc, ◌+◌, Bool, true, false, cond, List, [], ◌∷◌, ◌++◌, length, map, append_assoc, append-nil, Option, Some, None, refl, sym, ap, ap₂, subst, ◌∙◌, arith}
 use Rattle.bt_log.specs.declared.message.Message.{Message}
-use Rattle.bt_log.specs.declared.message.Rank.TheVariants.{FileLine}
-use Rattle.bt_log.specs.Message.{plain}
 use Rattle.bt_bib.specs.declared.aux_line.Command.TheVariants.{Citation, Database, Style, Nested}
 use Rattle.bt_job.specs.declared.files.File.{File}
 use Rattle.bt_job.specs.declared.citations.Citations.{Citations}
@@ -30,7 +28,7 @@ unfolding cited
 no_cited = refl
 
 -- what holds before the root's lines
-holds_first : (files : List File) (root : List ℕ) → is_aux root ≡ true → Holds files root [] (told (plain FileLine (file_line 0 root)) (meeting Nested root nothing_met))
+holds_first : (files : List File) (root : List ℕ) → is_aux root ≡ true → Holds files root [] (told (file_line 0 root) (meeting Nested root nothing_met))
 holds_first files root ends = record {
   are_keys = ap keys_of (sym no_cited);
   is_star = ap star_of (sym no_cited);

@@ -5,9 +5,11 @@ use Rattle.std.specs.Fmt.{digits}
 use Rattle.bt_job.specs.declared.files.File.{File}
 use Rattle.bt_log.specs.declared.message.Rank.{Rank}
 use Rattle.bt_log.specs.declared.message.Rank.TheVariants.{FileLine, Error, Fatal}
+use Rattle.bt_log.specs.declared.message.FileKind.TheVariants.{Aux}
+use Rattle.bt_log.specs.declared.message.FileNote.TheVariants.{NotOpened}
 use Rattle.bt_job.specs.declared.citations.Citations.{Citations}
 use Rattle.bt_bib.specs.AuxLine.{aux_lines}
-use Rattle.bt_log.specs.Message.{plain}
+use Rattle.bt_log.specs.Message.{of_file}
 use Rattle.bt_log.specs.Wording.{spelled}
 use Rattle.bt_log.specs.Log.{status_of, log_bytes}
 use Rattle.bt_job.specs.Lines.{cited, line_fault, read_on, job_lines}
@@ -43,7 +45,7 @@ no_root : citations [] (codes "job") ≡ record {
   star = None;
   databases = [];
   style = None;
-  log = plain Fatal (codes "I couldn't open auxiliary file job.aux") ∷ [];
+  log = of_file Fatal (NotOpened Aux) (codes "job.aux") ∷ [];
   wanted = codes "job.aux" ∷ [];
 }
 unfolding citations

@@ -16,7 +16,7 @@ use Rattle.bt_job.specs.declared.progress.Progress.{Progress}
 use Rattle.bt_job.specs.declared.progress.Outcome.{Outcome}
 use Rattle.bt_job.specs.declared.progress.Outcome.TheVariants.{Taken, Wrong}
 use Rattle.bt_job.specs.FileNames.{is_among, with_name}
-use Rattle.bt_job.specs.Faults.{LineFault, SecondStar, OtherSpelling, IllEnded, words, key_fault, spelling_fault, right_parts}
+use Rattle.bt_job.specs.Faults.{LineFault, SecondStar, OtherSpelling, IllEnded, said, key_fault, spelling_fault, right_parts}
 use Rattle.bt_job.specs.Lines.{argument_fault}
 use Rattle.bt_job.specs.Citations.{is_star, keys_of, star_of}
 use Rattle.bt_job.specs.inner.LineEffects.{cited_all, cited_key, cited_part, going_on, parts_taken}
@@ -259,14 +259,14 @@ key_cited parts part r (Some old) keys star is found = go (bytes_eq old part) re
         let known : is_among r.keys part ≡ true = found_there part part r.keys (some ∙ ap Some one) in
         cited_by part r false is
         ∙ ap (λ o. cited_key part o r) some
-        ∙ ap (λ b. cond b (r, Taken) (r, Wrong (words (OtherSpelling part old)))) e
+        ∙ ap (λ b. cond b (r, Taken) (r, Wrong (said (OtherSpelling part old)))) e
         ∙ ap₂ (λ k s. (record r { keys = k; star = s }, Taken))
         (sym (ap (λ a. cond a r.keys (r.keys ++ part ∷ [])) known) ∙ ap (λ k. with_name k part) keys ∙ sym (keys_key parts part is))
         (star ∙ sym (star_key parts part is))
     go false e =
         cited_by part r false is
         ∙ ap (λ o. cited_key part o r) some
-        ∙ ap (λ b. cond b (r, Taken) (r, Wrong (words (OtherSpelling part old)))) e
+        ∙ ap (λ b. cond b (r, Taken) (r, Wrong (said (OtherSpelling part old)))) e
         ∙ ap (λ q. (q, outcome_of (Some (OtherSpelling part old)))) (cited_as r parts keys star)
 
 part_cited : (parts : List (List ℕ)) (part : List ℕ) (r : Progress) → r.keys ≡ keys_of parts → r.star ≡ star_of parts → IsCited r parts part (key_fault parts part)

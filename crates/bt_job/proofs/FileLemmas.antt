@@ -5,7 +5,10 @@ use Rattle.std.specs.Option.{is_some, option_or, option_map}
 use Rattle.std.specs.Str.{bytes_eq}
 use Rattle.std.proofs.Common.{◌≡◌, ℕ, Bool, true, false, cond, List, [], ◌∷◌, ◌++◌, append_assoc, append-nil, Option, Some, None, refl, sym, ap, ap₂, ◌∙◌}
 use Rattle.bt_log.specs.declared.message.Rank.TheVariants.{FileLine}
-use Rattle.bt_log.specs.Message.{plain}
+use Rattle.bt_log.specs.declared.message.FileKind.TheVariants.{Aux, Bib, Bst}
+use Rattle.bt_log.specs.declared.message.FileNote.{FileNote}
+use Rattle.bt_log.specs.declared.message.FileNote.TheVariants.{StyleFile, NotOpened, DatabaseTwice, AuxTwice, WrongExtension, BadFileName}
+use Rattle.bt_log.specs.Message.{of_file}
 use Rattle.bt_bib.specs.declared.aux_line.Command.{Command}
 use Rattle.bt_bib.specs.declared.aux_line.Command.TheVariants.{Database, Style, Nested}
 use Rattle.bt_bib.specs.declared.aux_argument.AuxFault.{AuxFault}
@@ -14,7 +17,7 @@ use Rattle.bt_job.specs.declared.progress.Progress.{Progress}
 use Rattle.bt_job.specs.declared.progress.Outcome.{Outcome}
 use Rattle.bt_job.specs.declared.progress.Outcome.TheVariants.{Taken, Wrong, Opens}
 use Rattle.bt_job.specs.FileNames.{is_file_name, is_among, text_of, with_ending, with_name}
-use Rattle.bt_job.specs.Faults.{LineFault, WrongExtension, NoFileName, DatabaseTwice, FileTwice, NotThere, IllEnded, words, database_fault, style_fault, input_fault, right_parts}
+use Rattle.bt_job.specs.Faults.{LineFault, WrongFile, IllEnded, said, database_fault, style_fault, input_fault, right_parts}
 use Rattle.bt_job.specs.Lines.{database_names, argument_fault}
 use Rattle.bt_job.specs.Citations.{missed}
 use Rattle.bt_job.specs.inner.FileNames.{has_ending, met_before, name_fault}
@@ -31,18 +34,17 @@ is_aux name = ends_with eqb name (codes ".aux")
 
 -- A name, by the tests that it passes
 
-abbrev fault_by : Command → List ℕ → Bool → Bool → Bool → Option (List ℕ)
-fault_by c name e f a =
-    cond (not e) (Some (name ++ codes " has a wrong extension")) (cond (not f) (Some (name ++ codes " isn't a file name of this profile")) (cond a (met_before c name) None))
+abbrev fault_by : Command → Bool → Bool → Bool → Option FileNote
+fault_by c e f a = cond (not e) (Some WrongExtension) (cond (not f) (Some BadFileName) (cond a (met_before c) None))
 
-fault_is : (c : Command) (met : List (List ℕ)) (name : List ℕ) (e f a : Bool) → has_ending c name ≡ e → is_file_name name ≡ f → is_among met name ≡ a → name_fault c met name ≡ fault_by c name e f a
+fault_is : (c : Command) (met : List (List ℕ)) (name : List ℕ) (e f a : Bool) → has_ending c name ≡ e → is_file_name name ≡ f → is_among met name ≡ a → name_fault c met name ≡ fault_by c e f a
 unfolding name_fault
 fault_is c met name e f a is_e is_f is_a =
-    ap (λ x. fault_by c name x (is_file_name name) (is_among met name)) is_e
-    ∙ ap (λ x. fault_by c name e x (is_among met name)) is_f
-    ∙ ap (λ x. fault_by c name e f x) is_a
+    ap (λ x. fault_by c x (is_file_name name) (is_among met name)) is_e
+    ∙ ap (λ x. fault_by c e x (is_among met name)) is_f
+    ∙ ap (λ x. fault_by c e f x) is_a
 
-named_is : (files : List File) (c : Command) (name : List ℕ) (r : Progress) (o : Option (List ℕ)) → name_fault c r.met name ≡ o → named files c name r ≡ unless_misnamed files c name o r
+named_is : (files : List File) (c : Command) (name : List ℕ) (r : Progress) (o : Option FileNote) → name_fault c r.met name ≡ o → named files c name r ≡ unless_misnamed files c name o r
 unfolding named
 named_is files c name r o is = ap (λ x. unless_misnamed files c name x r) is
 
@@ -73,21 +75,21 @@ no_base : (r : Progress) (f : LineFault) (met : List (List ℕ)) → (record r {
 no_base r f met = ap (λ d. (record r { databases = d; wanted = fold with_name r.wanted (missed (Some f)); met = met }, outcome_of (Some f))) (sym (append-nil r.databases))
 
 base_by : (files : List File) (r : Progress) (name : List ℕ) (f a : Bool) (t : Option (List ℕ)) → is_base name ≡ true → is_file_name name ≡ f → is_among r.met name ≡ a → text_of files name ≡ t
-    → IsBased files r name (cond (not f) (Some (NoFileName name)) (cond a (Some (DatabaseTwice name)) (cond (not (is_some t)) (Some (NotThere (codes "database") name)) None)))
+    → IsBased files r name (cond (not f) (Some (WrongFile BadFileName name)) (cond a (Some (WrongFile DatabaseTwice name)) (cond (not (is_some t)) (Some (WrongFile (NotOpened Bib) name)) None)))
 base_by files r name false a t ends is_f is_a is_t = record {
   met = r.met;
-  is = named_is files Database name r _ (fault_is Database r.met name true false a refl is_f is_a) ∙ no_base r (NoFileName name) r.met;
+  is = named_is files Database name r _ (fault_is Database r.met name true false a refl is_f is_a) ∙ no_base r (WrongFile BadFileName name) r.met;
   keeps = λ n h. refl;
 }
 base_by files r name true true t ends is_f is_a is_t = record {
   met = r.met;
-  is = named_is files Database name r _ (fault_is Database r.met name true true true refl is_f is_a) ∙ no_base r (DatabaseTwice name) r.met;
+  is = named_is files Database name r _ (fault_is Database r.met name true true true refl is_f is_a) ∙ no_base r (WrongFile DatabaseTwice name) r.met;
   keeps = λ n h. refl;
 }
 base_by files r name true false None ends is_f is_a is_t = record {
   met = r.met ++ name ∷ [];
   is = named_is files Database name r _ (fault_is Database r.met name true true false refl is_f is_a) ∙ well_is files Database name r None is_t
-      ∙ no_base r (NotThere (codes "database") name) (r.met ++ name ∷ []);
+      ∙ no_base r (WrongFile (NotOpened Bib) name) (r.met ++ name ∷ []);
   keeps = λ n h. base_keeps r.met name n ends h;
 }
 base_by files r name true false (Some text) ends is_f is_a is_t =
@@ -132,7 +134,7 @@ more_based files before part name later end r (Some f) named_so ends fault here 
 -- nothing but the end is left
 end_based : (r : Progress) (end : Option AuxFault) → (r, outcome_of (option_map IllEnded end)) ≡ based_to r [] (option_map IllEnded end) r.met
 end_based r None = ap (λ d. (record r { databases = d }, Taken)) (sym (append-nil r.databases))
-end_based r (Some f) = ap (λ d. (record r { databases = d }, Wrong (words (IllEnded f)))) (sym (append-nil r.databases))
+end_based r (Some f) = ap (λ d. (record r { databases = d }, Wrong (said (IllEnded f)))) (sym (append-nil r.databases))
 
 -- the code's steps over the parts of a \bibdata
 pub all_based : (files : List File) (end : Option AuxFault) (later before : List (List ℕ)) (r : Progress) → ((part : List ℕ) → is_base (with_ending (codes ".bib") part) ≡ true) → MetAs r.met before
@@ -152,11 +154,11 @@ all_based files end (part ∷ later) before r ends same =
 
 -- what a \bibstyle leaves by its fault
 abbrev pub IsStyled : List File → Progress → List ℕ → Option LineFault → Type 0
-IsStyled files r name None = named files Style name r ≡ (told (plain FileLine (codes "The style file: " ++ name)) (record r { style = Some name }), Taken)
+IsStyled files r name None = named files Style name r ≡ (told (of_file FileLine StyleFile name) (record r { style = Some name }), Taken)
 IsStyled files r name (Some f) = named files Style name r ≡ (record r { wanted = fold with_name r.wanted (missed (Some f)) }, outcome_of (Some f))
 
 style_by : (files : List File) (r : Progress) (name : List ℕ) (f a : Bool) (t : Option (List ℕ)) → is_file_name name ≡ f → is_among r.met name ≡ a → text_of files name ≡ t
-    → IsStyled files r name (cond (not f) (Some (NoFileName name)) (cond (not (is_some t)) (Some (NotThere (codes "style") name)) None))
+    → IsStyled files r name (cond (not f) (Some (WrongFile BadFileName name)) (cond (not (is_some t)) (Some (WrongFile (NotOpened Bst) name)) None))
 style_by files r name false a t is_f is_a is_t = named_is files Style name r _ (fault_is Style r.met name true false a refl is_f is_a)
 style_by files r name true true None is_f is_a is_t = named_is files Style name r _ (fault_is Style r.met name true true true refl is_f is_a) ∙ well_is files Style name r None is_t
 style_by files r name true true (Some text) is_f is_a is_t = named_is files Style name r _ (fault_is Style r.met name true true true refl is_f is_a) ∙ well_is files Style name r (Some text) is_t
@@ -219,7 +221,7 @@ aux_keeps met name n h k = is_among-append met name n ∙ ap (λ b. is_among met
 
 input_by : (files : List File) (r : Progress) (before : List (List ℕ)) (name : List ℕ) (e f a : Bool) (t : Option (List ℕ)) → MetInputs r.met before
     → is_aux name ≡ e → is_file_name name ≡ f → is_among before name ≡ a → text_of files name ≡ t
-    → IsInput files r before name (cond (not e) (Some (WrongExtension name)) (cond (not f) (Some (NoFileName name)) (cond a (Some (FileTwice name)) (cond (not (is_some t)) (Some (NotThere (codes "auxiliary") name)) None))))
+    → IsInput files r before name (cond (not e) (Some (WrongFile WrongExtension name)) (cond (not f) (Some (WrongFile BadFileName name)) (cond a (Some (WrongFile AuxTwice name)) (cond (not (is_some t)) (Some (WrongFile (NotOpened Aux) name)) None))))
 input_by files r before name false f a t same is_e is_f is_a is_t = record {
   met = r.met;
   is = named_is files Nested name r _ (fault_is Nested r.met name false f (is_among r.met name) is_e is_f refl);

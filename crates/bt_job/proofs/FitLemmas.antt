@@ -11,10 +11,12 @@ use Rattle.std.proofs.Common.{◌≡◌, ℕ, ◌≤◌, Bool, true, false, cond
 use Rattle.bt_text.specs.CaseFolding.{is_same_folded}
 use Rattle.bt_text.specs.NameList.{same_name}
 use Rattle.bt_bib.specs.declared.aux_line.Command.TheVariants.{Citation, Database, Style}
+use Rattle.bt_log.specs.declared.message.FileKind.TheVariants.{Bib, Bst}
+use Rattle.bt_log.specs.declared.message.FileNote.TheVariants.{NotOpened, DatabaseTwice, BadFileName}
 use Rattle.bt_job.specs.declared.files.File.{File}
 use Rattle.bt_job.specs.declared.citations.Citations.{Citations}
 use Rattle.bt_job.specs.FileNames.{is_file_name, is_among, text_of, with_name}
-use Rattle.bt_job.specs.Faults.{LineFault, NoFileName, DatabaseTwice, NotThere, SecondStar, OtherSpelling, PartFault, key_fault, spelling_fault, is_there, database_fault, style_fault, right_parts}
+use Rattle.bt_job.specs.Faults.{LineFault, WrongFile, SecondStar, OtherSpelling, PartFault, key_fault, spelling_fault, is_there, database_fault, style_fault, right_parts}
 use Rattle.bt_job.specs.Lines.{JobLine, has_command, first_with, line_parts, cited, database_names, style_names, job_lines}
 use Rattle.bt_job.specs.Citations.{is_star, keys_of, star_of, styles, asked_from, citations}
 use Rattle.bt_job.specs.Fit.{AreDistinct, AreThere, IsWithin, IsThere, IsFit, AlwaysFit}
@@ -135,13 +137,13 @@ right_there : (files : List File) (fault : PartFault) (names before : List (List
 right_there files fault [] before h = tt
 right_there files fault (n ∷ ns) before h = there_by files fault before n ns (fault before n) refl (h before n) (right_there files fault ns (before ++ n ∷ []) h)
 
-base_there : (name : List ℕ) (f a t : Bool) → cond (not f) (Some (NoFileName name)) (cond a (Some (DatabaseTwice name)) (cond (not t) (Some (NotThere (codes "database") name)) None)) ≡ None → t ≡ true
+base_there : (name : List ℕ) (f a t : Bool) → cond (not f) (Some (WrongFile BadFileName name)) (cond a (Some (WrongFile DatabaseTwice name)) (cond (not t) (Some (WrongFile (NotOpened Bib) name)) None)) ≡ None → t ≡ true
 base_there name f a true h = refl
 base_there name false a false h = let wrong : true ≡ false = ap is_some h in cc
 base_there name true true false h = let wrong : true ≡ false = ap is_some h in cc
 base_there name true false false h = let wrong : true ≡ false = ap is_some h in cc
 
-style_there : (name : List ℕ) (f t : Bool) → cond (not f) (Some (NoFileName name)) (cond (not t) (Some (NotThere (codes "style") name)) None) ≡ None → t ≡ true
+style_there : (name : List ℕ) (f t : Bool) → cond (not f) (Some (WrongFile BadFileName name)) (cond (not t) (Some (WrongFile (NotOpened Bst) name)) None) ≡ None → t ≡ true
 style_there name f true h = refl
 style_there name false false h = let wrong : true ≡ false = ap is_some h in cc
 style_there name true false h = let wrong : true ≡ false = ap is_some h in cc

@@ -7,8 +7,6 @@ use Rattle.std.proofs.lemmas.List.Sums.{fold-append}
 use Rattle.std.proofs.lemmas.List.Folds.{find-append}
 use Rattle.std.proofs.lemmas.Grind.{flat_map-append}
 use Rattle.std.proofs.Common.{◌≡◌, ℕ, ◌+◌, Bool, true, false, cond, List, [], ◌∷◌, ◌++◌, append_assoc, append-nil, Option, Some, None, refl, sym, ap, ◌∙◌}
-use Rattle.bt_log.specs.declared.message.Rank.TheVariants.{FileLine}
-use Rattle.bt_log.specs.Message.{plain}
 use Rattle.bt_bib.specs.declared.aux_line.Command.{Command}
 use Rattle.bt_bib.specs.declared.aux_line.Command.TheVariants.{Citation, Database, Style, Nested}
 use Rattle.bt_bib.specs.declared.aux_argument.AuxFault.{AuxFault}
@@ -17,7 +15,7 @@ use Rattle.bt_job.specs.declared.progress.Progress.{Progress}
 use Rattle.bt_job.specs.declared.progress.Outcome.{Outcome}
 use Rattle.bt_job.specs.declared.progress.Outcome.TheVariants.{Taken, Wrong, Opens}
 use Rattle.bt_job.specs.FileNames.{is_among, text_of, with_name, each_once}
-use Rattle.bt_job.specs.Faults.{LineFault, SecondStar, OtherSpelling, IllEnded, words, key_fault, spelling_fault, right_parts}
+use Rattle.bt_job.specs.Faults.{LineFault, SecondStar, OtherSpelling, IllEnded, key_fault, spelling_fault, right_parts}
 use Rattle.bt_job.specs.Lines.{JobLine, lines_of, has_command, first_with, cited, input_names, argument_fault, command_fault, line_fault, lines_opened, opened_by}
 use Rattle.bt_job.specs.Citations.{keys_of, star_of, databases, styles, missed, along, wanted, file_line, line_messages, messages}
 use Rattle.bt_job.specs.inner.LineEffects.{told, logged_at}
@@ -96,7 +94,7 @@ along-append f before (l ∷ ls) line =
 pub more_messages : (files : List File) (root : List ℕ) (lines : List JobLine) (line : JobLine) (o : Option LineFault) → line_fault files root lines line ≡ o
     → messages files root (lines ++ line ∷ []) ≡ messages files root lines ++ line_messages line o
 more_messages files root lines line o is =
-    ap (λ ms. plain FileLine (file_line 0 root) ∷ ms)
+    ap (λ ms. file_line 0 root ∷ ms)
     (along-append (λ before l. line_messages l (line_fault files root before l)) [] lines line
     ∙ ap (λ x. along (λ before l. line_messages l (line_fault files root before l)) [] lines ++ line_messages line x) is)
 
@@ -122,9 +120,9 @@ pub record Nests (files : List File) (root : List ℕ) (lines : List JobLine) (l
 -- What a line leaves: the same holds with it at the end, when its message is reported; and what it opens.
 abbrev pub Steps : List File → List ℕ → List JobLine → JobLine → Progress × Outcome → Type 0
 Steps files root lines line (r, Taken) = Holds files root (lines ++ line ∷ []) r × (opened_by files root lines line ≡ [])
-Steps files root lines line (r, Wrong words) = Holds files root (lines ++ line ∷ []) (logged_at line.file line.item.line words r) × (opened_by files root lines line ≡ [])
+Steps files root lines line (r, Wrong said) = Holds files root (lines ++ line ∷ []) (logged_at line.file line.item.line said r) × (opened_by files root lines line ≡ [])
 Steps files root lines line (r, Opens name) =
-    Nests files root lines line name (told (plain FileLine (file_line (line.level + 1) name)) r)
+    Nests files root lines line name (told (file_line (line.level + 1) name) r)
 
 -- a line that isn't wrong, of a command that opens nothing
 pub opens_nothing : (files : List File) (root : List ℕ) (lines : List JobLine) (line : JobLine) (o : Option LineFault) → line_fault files root lines line ≡ o → has_command Nested line ≡ false → opened_by files root lines line ≡ []

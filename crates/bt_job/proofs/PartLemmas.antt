@@ -5,13 +5,13 @@ use Rattle.bt_bib.specs.declared.aux_argument.AuxFault.{AuxFault}
 use Rattle.bt_bib.specs.declared.aux_argument.AuxFault.TheVariants.{NoBrace, WhiteSpace, StuffAfter}
 use Rattle.bt_job.specs.declared.progress.Outcome.{Outcome}
 use Rattle.bt_job.specs.declared.progress.Outcome.TheVariants.{Taken, Wrong}
-use Rattle.bt_job.specs.Faults.{LineFault, IllEnded, words, PartFault, right_parts, first_fault}
+use Rattle.bt_job.specs.Faults.{LineFault, IllEnded, said, PartFault, right_parts, first_fault}
 use Rattle.bt_job.specs.inner.LineEffects.{fault_outcome}
 
 -- what the code's step comes to, where this is wrong
 abbrev pub outcome_of : Option LineFault → Outcome
 outcome_of None = Taken
-outcome_of (Some fault) = Wrong (words fault)
+outcome_of (Some fault) = Wrong (said fault)
 
 -- the end of an argument
 pub end_outcome : (end : Option AuxFault) → fault_outcome end ≡ outcome_of (option_map IllEnded end)

@@ -1,7 +1,5 @@
 -- The code's steps over the files in their places, and the list of all lines.
 use Rattle.std.proofs.Common.{◌≡◌, ℕ, zero, suc, ◌+◌, ◌<◌, ◌≤◌, List, [], ◌∷◌, ◌++◌, length, map, Some, refl, sym, ap, subst, ◌∙◌, arith}
-use Rattle.bt_log.specs.declared.message.Rank.TheVariants.{FileLine}
-use Rattle.bt_log.specs.Message.{plain}
 use Rattle.bt_bib.specs.declared.aux_line.AuxItem.{AuxItem}
 use Rattle.bt_bib.specs.AuxLine.{aux_lines}
 use Rattle.bt_job.specs.declared.files.File.{File}
@@ -39,7 +37,7 @@ pub record Reaches (files : List File) (root : List ℕ) (bound : ℕ) (before n
 -- a nested file at this level
 abbrev ReadsFile : List File → List ℕ → ℕ → ℕ → (List ℕ → Progress → Progress) → Type 0
 ReadsFile files root files_left level nested =
-    (name text : List ℕ) (before later : List JobLine) (r : Progress) (bound : ℕ) → text_of files name ≡ Some text → Holds files root before (told (plain FileLine (file_line level name)) r)
+    (name text : List ℕ) (before later : List JobLine) (r : Progress) (bound : ℕ) → text_of files name ≡ Some text → Holds files root before (told (file_line level name) r)
     → closed files root before < files_left → to_come files root before (lines_in level name (Some text) ++ later) ≤ bound
     → Reaches files root bound before (lines_in level name (Some text) ++ later) later (nested name r)
 
@@ -87,10 +85,10 @@ line_reaches files root files_left nested level file item items before later bou
     let line : JobLine = record { level = level; file = file; item = item } in
     subst (λ ls. to_come files root (before ++ line ∷ []) (ls ++ (of_file level file items ++ later)) ≤ bound → Reaches files root bound (before ++ line ∷ []) (ls ++ (of_file level file items ++ later)) later (lines_taken nested files file items r)) (sym steps.1)
     (behind (before ++ line ∷ []) r bound steps.0 (omega (arith, few, weight_line (λ t. 1) files root before line))) fits
-line_reaches files root files_left nested level file item items before later bound (r, Wrong words) reads behind few steps fits =
+line_reaches files root files_left nested level file item items before later bound (r, Wrong said) reads behind few steps fits =
     let line : JobLine = record { level = level; file = file; item = item } in
-    subst (λ ls. to_come files root (before ++ line ∷ []) (ls ++ (of_file level file items ++ later)) ≤ bound → Reaches files root bound (before ++ line ∷ []) (ls ++ (of_file level file items ++ later)) later (lines_taken nested files file items (logged_at file item.line words r))) (sym steps.1)
-    (behind (before ++ line ∷ []) (logged_at file item.line words r) bound steps.0 (omega (arith, few, weight_line (λ t. 1) files root before line))) fits
+    subst (λ ls. to_come files root (before ++ line ∷ []) (ls ++ (of_file level file items ++ later)) ≤ bound → Reaches files root bound (before ++ line ∷ []) (ls ++ (of_file level file items ++ later)) later (lines_taken nested files file items (logged_at file item.line said r))) (sym steps.1)
+    (behind (before ++ line ∷ []) (logged_at file item.line said r) bound steps.0 (omega (arith, few, weight_line (λ t. 1) files root before line))) fits
 line_reaches files root files_left nested level file item items before later bound (r, Opens name) reads behind few steps fits =
     let line : JobLine = record { level = level; file = file; item = item } in
     let opens = steps.opens ∙ ap (lines_in (level + 1) name) steps.there in
@@ -134,4 +132,4 @@ file_reaches (suc files_left) files root level name text before later r bound th
     subst (Reaches files root bound before (lines_in level name (Some text) ++ later) later)
     (sym (file_suc files_left files level name r ∙ ap (λ t. opened nested files level name t r) there))
     (lines_reach files root files_left nested level name (aux_lines text) later (file_reaches files_left files root (level + 1)) (lines_parted text)
-    before (told (plain FileLine (file_line level name)) r) bound holds (omega (arith, few)) fits)
+    before (told (file_line level name) r) bound holds (omega (arith, few)) fits)

@@ -2,6 +2,7 @@
 use Rattle.std.specs.Prelude.{◌&&◌, codes, fold, slice_get}
 use Rattle.std.specs.Option.{is_some, option_or}
 use Rattle.std.proofs.Common.{◌≡◌, ℕ, Bool, true, false, cond, List, [], ◌∷◌, ◌++◌, append-nil, Option, Some, None, refl, sym, ap, subst, ◌∙◌}
+use Rattle.bt_log.specs.declared.message.Said.TheVariants.{Words}
 use Rattle.bt_log.specs.declared.message.Message.{Message}
 use Rattle.bt_bib.specs.declared.aux_line.Command.{Command}
 use Rattle.bt_bib.specs.declared.aux_line.Command.TheVariants.{Citation, Database, Style}
@@ -22,9 +23,9 @@ use Rattle.bt_job.proofs.LineLemmas.{line_at, Holds, Steps, same_first, new_firs
 
 -- a counted line, which is a second of its command or not
 pub item_is : (files : List File) (item : AuxItem) (r : Progress) (b : Bool) → is_second item.command r ≡ b
-    → item_taken files item r ≡ cond b (r, Wrong (second_words item.command)) (parts_taken files item.command item.fault item.parts (command_met item.command r))
+    → item_taken files item r ≡ cond b (r, Wrong (Words (second_words item.command))) (parts_taken files item.command item.fault item.parts (command_met item.command r))
 unfolding item_taken
-item_is files item r b is = ap (λ x. cond x (r, Wrong (second_words item.command)) (parts_taken files item.command item.fault item.parts (command_met item.command r))) is
+item_is files item r b is = ap (λ x. cond x (r, Wrong (Words (second_words item.command))) (parts_taken files item.command item.fault item.parts (command_met item.command r))) is
 
 -- the databases and the style, by the first line of their command
 abbrev pub bases_of : List File → Option JobLine → List (List ℕ)

@@ -1,17 +1,19 @@
 -- What the .aux files of a job ask for, said of the list of all their lines.
-use Rattle.std.specs.Prelude.{ℕ, ◌+◌, ◌==◌, Bool, not, List, [], ◌∷◌, ◌++◌, length, map, filter, codes, decimal, Option, Some, None, slice_get, if◌then◌else◌}
+use Rattle.std.specs.Prelude.{ℕ, ◌+◌, ◌==◌, Bool, not, List, [], ◌∷◌, ◌++◌, length, map, filter, codes, Option, Some, None, slice_get, if◌then◌else◌}
 use Rattle.std.specs.List.{before_first}
 use Rattle.std.specs.Str.{bytes_eq}
 use Rattle.bt_bib.specs.declared.aux_line.Command.{Command}
 use Rattle.bt_bib.specs.declared.aux_line.Command.TheVariants.{Citation, Database, Style, Nested}
 use Rattle.bt_log.specs.declared.message.Message.{Message}
 use Rattle.bt_log.specs.declared.message.Rank.TheVariants.{FileLine, Error, Fatal}
+use Rattle.bt_log.specs.declared.message.FileKind.TheVariants.{Aux}
+use Rattle.bt_log.specs.declared.message.FileNote.TheVariants.{RootAux, NestedAux, StyleFile, NotOpened}
 use Rattle.bt_log.specs.declared.message.Place.TheVariants.{Line, WholeFile}
-use Rattle.bt_log.specs.Message.{plain, skipping, at}
+use Rattle.bt_log.specs.Message.{plain, of_file, skipping, at}
 use Rattle.bt_job.specs.declared.files.File.{File}
 use Rattle.bt_job.specs.declared.citations.Citations.{Citations}
 use Rattle.bt_job.specs.FileNames.{is_among, text_of, each_once}
-use Rattle.bt_job.specs.Faults.{LineFault, NotThere, words, database_fault, style_fault, right_parts}
+use Rattle.bt_job.specs.Faults.{LineFault, WrongFile, said, database_fault, style_fault, right_parts}
 use Rattle.bt_job.specs.Lines.{JobLine, first_with, line_parts, cited, database_names, style_names, line_fault, job_lines}
 
 -- Keys
@@ -40,7 +42,7 @@ styles files lines = right_parts (style_fault files) [] (style_names (line_parts
 
 -- a name that was looked for and isn't there
 abbrev pub missed : Option LineFault → List (List ℕ)
-missed (Some (NotThere kind name)) = name ∷ []
+missed (Some (WrongFile (NotOpened kind) name)) = name ∷ []
 missed _ = []
 
 -- Lines one by one
@@ -58,29 +60,26 @@ wanted files root lines =
 -- Messages
 
 -- the line of the log where a file begins, by its level below the root
-abbrev pub file_line : ℕ → List ℕ → List ℕ
-file_line level file =
-    if level == 0 then codes "The top-level auxiliary file: " ++ file
-    else codes "A level-" ++ decimal level ++ codes " auxiliary file: " ++ file
+abbrev pub file_line : ℕ → List ℕ → Message
+file_line level file = of_file FileLine (if level == 0 then RootAux else NestedAux level) file
 
 -- what the log says of a command without a fault, in a file of this level
-abbrev pub file_lines_of : ℕ → Command → List (List ℕ) → List (List ℕ)
+abbrev pub file_lines_of : ℕ → Command → List (List ℕ) → List Message
 file_lines_of level Citation parts = []
 file_lines_of level Database parts = []
-file_lines_of level Style parts = map (λ name. codes "The style file: " ++ name) (style_names parts)
+file_lines_of level Style parts = map (of_file FileLine StyleFile) (style_names parts)
 file_lines_of level Nested parts = map (file_line (level + 1)) parts
 
 -- the messages of a line that has this fault
 abbrev pub line_messages : JobLine → Option LineFault → List Message
 line_messages line (Some fault) =
-    skipping (words fault) (Line line.file line.item.line None) (codes "command") ∷ []
-line_messages line None = map (plain FileLine) (file_lines_of line.level line.item.command line.item.parts)
+    skipping (said fault) (Line line.file line.item.line None) (codes "command") ∷ []
+line_messages line None = file_lines_of line.level line.item.command line.item.parts
 
 -- the messages of all lines, under that of the root file
 abbrev pub messages : List File → List ℕ → List JobLine → List Message
 messages files root lines =
-    plain FileLine (file_line 0 root)
-    ∷ along (λ before line. line_messages line (line_fault files root before line)) [] lines
+    file_line 0 root ∷ along (λ before line. line_messages line (line_fault files root before line)) [] lines
 
 -- what is missing of a command, where this is its first line and it named these
 abbrev pub missing_of : Option JobLine → List (List ℕ) → List ℕ → List ℕ → List (List ℕ)
@@ -119,7 +118,7 @@ without_root root = record {
   star = None;
   databases = [];
   style = None;
-  log = plain Fatal (codes "I couldn't open auxiliary file " ++ root) ∷ [];
+  log = of_file Fatal (NotOpened Aux) root ∷ [];
   wanted = root ∷ [];
 }
 

@@ -6,6 +6,11 @@ use Rattle.std.specs.Str.{bytes_eq}
 use Rattle.bt_text.specs.NameList.{same_name}
 use Rattle.bt_bib.specs.declared.aux_argument.AuxFault.{AuxFault}
 use Rattle.bt_bib.specs.declared.aux_argument.AuxFault.TheVariants.{NoBrace, WhiteSpace, StuffAfter}
+use Rattle.bt_log.specs.declared.message.FileKind.TheVariants.{Aux, Bib, Bst}
+use Rattle.bt_log.specs.declared.message.FileNote.{FileNote}
+use Rattle.bt_log.specs.declared.message.FileNote.TheVariants.{NotOpened, DatabaseTwice, AuxTwice, WrongExtension, BadFileName}
+use Rattle.bt_log.specs.declared.message.Said.{Said}
+use Rattle.bt_log.specs.declared.message.Said.TheVariants.{Words, OfFile}
 use Rattle.bt_job.specs.declared.files.File.{File}
 use Rattle.bt_job.specs.FileNames.{is_file_name, is_among, text_of}
 
@@ -16,26 +21,20 @@ pub data LineFault : Type 0 where
   SecondStar : LineFault
   -- a key, and how it was spelled first
   OtherSpelling : List ℕ → List ℕ → LineFault
-  -- a name
-  WrongExtension NoFileName DatabaseTwice FileTwice : List ℕ → LineFault
-  -- a kind of file, and a name
-  NotThere : List ℕ → List ℕ → LineFault
+  -- what is wrong with a file, and its name
+  WrongFile : FileNote → List ℕ → LineFault
   -- the end of the argument
   IllEnded : AuxFault → LineFault
 
 -- what the log says of it
-abbrev pub words : LineFault → List ℕ
-words (SecondCommand command) = codes "Illegal, another " ++ command ++ codes " command"
-words SecondStar = codes "Multiple inclusions of entire database"
-words (OtherSpelling key first) = codes "Case mismatch error between cite keys " ++ key ++ codes " and " ++ first
-words (WrongExtension name) = name ++ codes " has a wrong extension"
-words (NoFileName name) = name ++ codes " isn't a file name of this profile"
-words (DatabaseTwice name) = codes "This database file appears more than once: " ++ name
-words (FileTwice name) = codes "Already encountered file " ++ name
-words (NotThere kind name) = codes "I couldn't open " ++ kind ++ codes " file " ++ name
-words (IllEnded NoBrace) = codes "No \"}\""
-words (IllEnded WhiteSpace) = codes "White space in argument"
-words (IllEnded StuffAfter) = codes "Stuff after \"}\""
+abbrev pub said : LineFault → Said
+said (SecondCommand command) = Words (codes "Illegal, another " ++ command ++ codes " command")
+said SecondStar = Words (codes "Multiple inclusions of entire database")
+said (OtherSpelling key first) = Words (codes "Case mismatch error between cite keys " ++ key ++ codes " and " ++ first)
+said (WrongFile note name) = OfFile note name
+said (IllEnded NoBrace) = Words (codes "No \"}\"")
+said (IllEnded WhiteSpace) = Words (codes "White space in argument")
+said (IllEnded StuffAfter) = Words (codes "Stuff after \"}\"")
 
 -- Parts
 
@@ -61,25 +60,25 @@ is_there files name = is_some (text_of files name)
 -- a name of \bibdata
 abbrev pub database_fault : List File → PartFault
 database_fault files before name =
-    if not (is_file_name name) then Some (NoFileName name)
-    else if is_among before name then Some (DatabaseTwice name)
-    else if not (is_there files name) then Some (NotThere (codes "database") name)
+    if not (is_file_name name) then Some (WrongFile BadFileName name)
+    else if is_among before name then Some (WrongFile DatabaseTwice name)
+    else if not (is_there files name) then Some (WrongFile (NotOpened Bib) name)
     else None
 
 -- the name of \bibstyle
 abbrev pub style_fault : List File → PartFault
 style_fault files before name =
-    if not (is_file_name name) then Some (NoFileName name)
-    else if not (is_there files name) then Some (NotThere (codes "style") name)
+    if not (is_file_name name) then Some (WrongFile BadFileName name)
+    else if not (is_there files name) then Some (WrongFile (NotOpened Bst) name)
     else None
 
 -- the name of \@input
 abbrev pub input_fault : List File → PartFault
 input_fault files before name =
-    if not (ends_with eqb name (codes ".aux")) then Some (WrongExtension name)
-    else if not (is_file_name name) then Some (NoFileName name)
-    else if is_among before name then Some (FileTwice name)
-    else if not (is_there files name) then Some (NotThere (codes "auxiliary") name)
+    if not (ends_with eqb name (codes ".aux")) then Some (WrongFile WrongExtension name)
+    else if not (is_file_name name) then Some (WrongFile BadFileName name)
+    else if is_among before name then Some (WrongFile AuxTwice name)
+    else if not (is_there files name) then Some (WrongFile (NotOpened Aux) name)
     else None
 
 -- The first fault ends a command.

@@ -9,6 +9,7 @@ ghost use Rattle.bt_job.specs.inner.FileNames.{file_name_of, has_ending, met_bef
 use crate::files::File;
 use crate::reader::Reader;
 use bt_bib::Command;
+use bt_log::FileNote;
 use bt_text::{Bytes, Shared};
 use std::alloc::{AllocError, Global};
 
@@ -86,42 +87,30 @@ fn has_ending(command: Command, name: &[u8]) -> bool
 }
 
 /// What is wrong with a name that was met before.
-fn met_before(alloc: Global, command: Command, name: &[u8]) -> Result<Option<Bytes>, AllocError>
-    ensures { IfOk result (λ fault. fault ≡ met_before command name.now) }
+fn met_before(command: Command) -> Option<FileNote>
+    ensures { result ≡ met_before command }
 {
     match command {
-        Command::Database => {
-            let words = Bytes::of(
-                alloc,
-                &[b"This database file appears more than once: ", name],
-            )?;
-            Ok(Some(words))
-        }
-        Command::Nested => {
-            let words = Bytes::of(alloc, &[b"Already encountered file ", name])?;
-            Ok(Some(words))
-        }
-        Command::Style | Command::Citation => Ok(None),
+        Command::Database => Some(FileNote::DatabaseTwice),
+        Command::Nested => Some(FileNote::AuxTwice),
+        Command::Style | Command::Citation => None,
     }
 }
 
 impl Reader {
     /// What is wrong with a name, where the files were met that were met so far.
     #[tactic(auto, unfolding(crate::specs::inner::FileNames::name_fault))]
-    pub fn name_fault(&self, command: Command, name: &[u8]) -> Result<Option<Bytes>, AllocError>
-        ensures { IfOk result (λ fault. fault ≡ name_fault command self.now.progress.met name.now) }
+    pub fn name_fault(&self, command: Command, name: &[u8]) -> Option<FileNote>
+        ensures { result ≡ name_fault command self.now.progress.met name.now }
     {
-        let alloc = self.alloc;
         if !has_ending(command, name) {
-            let words = Bytes::of(alloc, &[name, b" has a wrong extension"])?;
-            Ok(Some(words))
+            Some(FileNote::WrongExtension)
         } else if !is_file_name(name) {
-            let words = Bytes::of(alloc, &[name, b" isn't a file name of this profile"])?;
-            Ok(Some(words))
+            Some(FileNote::BadFileName)
         } else if self.was_met(name) {
-            met_before(alloc, command, name)
+            met_before(command)
         } else {
-            Ok(None)
+            None
         }
     }
 }

@@ -1,6 +1,8 @@
 //! What a line that counts comes to.
 
 ghost use Rattle.std.specs.Prelude.{◌≡◌, ◌++◌, codes, IfOk};
+ghost use Rattle.bt_log.specs.declared.message.Said.TheVariants.{Words, OfFile};
+ghost use Rattle.bt_job.specs.declared.progress.Outcome.TheVariants.{Wrong};
 ghost use Rattle.bt_job.specs.inner.LineEffects.{told, cited_all, cited_key, cited_part, file_kind, file_found, looked_up, named, part_taken, argument_words};
 ghost use Rattle.bt_job.specs.inner.LineEffects.{fault_outcome, is_second, second_words, command_met, item_taken};
 
@@ -9,16 +11,32 @@ use crate::files::File;
 use crate::progress::Outcome;
 use crate::reader::Reader;
 use bt_bib::{AuxFault, AuxItem, Command};
-use bt_log::{Message, Rank};
-use bt_text::Bytes;
+use bt_log::{FileKind, FileNote, Message, Rank, Said};
+use bt_text::{Bytes, Shared};
 use std::alloc::{AllocError, Global};
 
-/// Says that a key was cited in another spelling.
-fn mismatch(alloc: Global, key: &[u8], old: &[u8]) -> Result<Bytes, AllocError>
-    ensures { IfOk result (λ words. words
-        ≡ codes "Case mismatch error between cite keys " ++ key.now ++ codes " and " ++ old.now) }
+/// An error in these words.
+fn wrong(alloc: Global, words: &[u8]) -> Result<Outcome, AllocError>
+    ensures { IfOk result (λ outcome. outcome ≡ Wrong (Words words.now)) }
 {
-    Bytes::of(
+    let words = Shared::<Bytes>::copied(alloc, words)?;
+    Ok(Outcome::Wrong(Said::Words(words)))
+}
+
+/// An error that says this of a file.
+fn wrong_file(alloc: Global, note: FileNote, name: &[u8]) -> Result<Outcome, AllocError>
+    ensures { IfOk result (λ outcome. outcome ≡ Wrong (OfFile note name.now)) }
+{
+    let file = Shared::<Bytes>::copied(alloc, name)?;
+    Ok(Outcome::Wrong(Said::OfFile { note, file }))
+}
+
+/// An error for a key that was cited in another spelling.
+fn mismatch(alloc: Global, key: &[u8], old: &[u8]) -> Result<Outcome, AllocError>
+    ensures { IfOk result (λ outcome. outcome
+        ≡ Wrong (Words (codes "Case mismatch error between cite keys " ++ key.now ++ codes " and " ++ old.now))) }
+{
+    let words = Shared::<Bytes>::of(
         alloc,
         &[
             b"Case mismatch error between cite keys ",
@@ -26,25 +44,19 @@ fn mismatch(alloc: Global, key: &[u8], old: &[u8]) -> Result<Bytes, AllocError>
             b" and ",
             old,
         ],
-    )
+    )?;
+    Ok(Outcome::Wrong(Said::Words(words)))
 }
 
-fn kind(command: Command) -> &'static [u8]
-    ensures { result.now ≡ file_kind command }
+/// The kind of file that a command names. A `\citation` names none.
+fn file_kind(command: Command) -> FileKind
+    ensures { result ≡ file_kind command }
 {
     match command {
-        Command::Database => b"database",
-        Command::Style => b"style",
-        Command::Nested => b"auxiliary",
-        Command::Citation => b"",
+        Command::Database => FileKind::Bib,
+        Command::Style => FileKind::Bst,
+        Command::Nested | Command::Citation => FileKind::Aux,
     }
-}
-
-/// Says that a file of this kind isn't there.
-fn not_opened(alloc: Global, kind: &[u8], name: &[u8]) -> Result<Bytes, AllocError>
-    ensures { IfOk result (λ words. words ≡ codes "I couldn't open " ++ kind.now ++ codes " file " ++ name.now) }
-{
-    Bytes::of(alloc, &[b"I couldn't open ", kind, b" file ", name])
 }
 
 fn argument_words(fault: AuxFault) -> &'static [u8]
@@ -62,7 +74,7 @@ fn fault_outcome(alloc: Global, fault: Option<AuxFault>) -> Result<Outcome, Allo
 {
     match fault {
         None => Ok(Outcome::Taken),
-        Some(fault) => Ok(Outcome::Wrong(Bytes::copied(alloc, argument_words(fault))?)),
+        Some(fault) => wrong(alloc, argument_words(fault)),
     }
 }
 
@@ -83,8 +95,7 @@ impl Reader {
             ≡ cited_all self.old.progress.star self.old.progress) }
     {
         if self.progress.star.is_some() {
-            let words = Bytes::copied(self.alloc, b"Multiple inclusions of entire database")?;
-            return Ok(Outcome::Wrong(words));
+            return wrong(self.alloc, b"Multiple inclusions of entire database");
         }
         self.progress.star = Some(self.progress.keys.as_slice().len());
         Ok(Outcome::Taken)
@@ -107,7 +118,7 @@ impl Reader {
         if old == part {
             Ok(Outcome::Taken)
         } else {
-            Ok(Outcome::Wrong(mismatch(alloc, part, old)?))
+            mismatch(alloc, part, old)
         }
     }
 
@@ -116,19 +127,23 @@ impl Reader {
         ensures { IfOk result (λ outcome. (self.new.progress, outcome)
             ≡ file_found command name.now self.old.progress) }
     {
-        let text = Bytes::copied(self.alloc, name)?;
         match command {
             Command::Database => {
-                self.progress.databases.push(text)?;
+                let name = Bytes::copied(self.alloc, name)?;
+                self.progress.databases.push(name)?;
                 Ok(Outcome::Taken)
             }
             Command::Style => {
-                self.progress.style = Some(text);
-                let line = Message::of(self.alloc, Rank::FileLine, &[b"The style file: ", name])?;
+                let file = Shared::<Bytes>::copied(self.alloc, name)?;
+                self.progress.style = Some(Bytes::copied(self.alloc, name)?);
+                let line = Message::of_file(Rank::FileLine, FileNote::StyleFile, file);
                 self.tell(line)?;
                 Ok(Outcome::Taken)
             }
-            Command::Nested => Ok(Outcome::Opens(text)),
+            Command::Nested => {
+                let file = Shared::<Bytes>::copied(self.alloc, name)?;
+                Ok(Outcome::Opens(file))
+            }
             Command::Citation => Ok(Outcome::Taken),
         }
     }
@@ -144,15 +159,15 @@ impl Reader {
         ensures { IfOk result (λ outcome. (self.new.progress, outcome)
             ≡ named files.now command name.now self.old.progress) }
     {
-        if let Some(words) = self.name_fault(command, name)? {
-            return Ok(Outcome::Wrong(words));
+        if let Some(note) = self.name_fault(command, name) {
+            return wrong_file(self.alloc, note, name);
         }
         self.meet(command, name)?;
         if text_of(files, name).is_some() {
             self.take_found(command, name)
         } else {
             self.want(name)?;
-            Ok(Outcome::Wrong(not_opened(self.alloc, kind(command), name)?))
+            wrong_file(self.alloc, FileNote::NotOpened(file_kind(command)), name)
         }
     }
 
@@ -205,8 +220,7 @@ impl Reader {
             ≡ item_taken files.now item.now self.old.progress) }
     {
         if self.is_second(item.command) {
-            let words = Bytes::copied(self.alloc, second_words(item.command))?;
-            return Ok(Outcome::Wrong(words));
+            return wrong(self.alloc, second_words(item.command));
         }
         self.enter(item.command);
         'parts: for part in item.parts.as_slice() {

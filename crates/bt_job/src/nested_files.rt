@@ -1,8 +1,6 @@
 //! The .aux files of a session, with the lines of each nested file in its place.
 
 ghost use Rattle.std.specs.Prelude.{◌≡◌, ◌<◌, ◌+◌, ◌^◌, IfOk, OnOk};
-ghost use Rattle.bt_log.specs.declared.message.Rank.TheVariants.{FileLine};
-ghost use Rattle.bt_log.specs.Message.{plain};
 ghost use Rattle.bt_job.specs.Fit.{IsFit, AlwaysFit};
 ghost use Rattle.bt_job.specs.FileNames.{text_of};
 ghost use Rattle.bt_job.specs.Citations.{file_line, citations};
@@ -16,30 +14,19 @@ use crate::files::File;
 use crate::progress::Outcome;
 use crate::reader::Reader;
 use bt_bib::Command;
-use bt_log::{Message, Place, Rank};
+use bt_log::{FileKind, FileNote, Message, Place, Rank};
 use bt_text::{Bytes, Shared};
-use itoa::Buffer;
 use std::alloc::{AllocError, Global};
 
 /// The line of the log where a file begins.
-fn file_line(alloc: Global, level: usize, file: &[u8]) -> Result<Message, AllocError>
-    ensures { IfOk result (λ line. line ≡ plain FileLine (file_line level file.now)) }
+fn file_line(level: usize, file: Shared<Bytes>) -> Message
+    ensures { result ≡ file_line level file }
 {
     if level == 0 {
-        return Message::of(
-            alloc,
-            Rank::FileLine,
-            &[b"The top-level auxiliary file: ", file],
-        );
+        Message::of_file(Rank::FileLine, FileNote::RootAux, file)
+    } else {
+        Message::of_file(Rank::FileLine, FileNote::NestedAux(level), file)
     }
-    let mut buffer = Buffer::new();
-    let level = buffer.format(level).as_bytes();
-    let line = Message::of(
-        alloc,
-        Rank::FileLine,
-        &[b"A level-", level, b" auxiliary file: ", file],
-    )?;
-    Ok(line)
 }
 
 impl Reader {
@@ -50,7 +37,7 @@ impl Reader {
         known: &mut AuxTexts,
         bound: usize,
         level: usize,
-        file: &[u8],
+        file: &Shared<Bytes>,
     ) -> Result<(), AllocError>
         requires { level + bound < 2 ^ 64 }
         ensures { OnOk result (self.new.progress ≡ file_taken bound files.now level file.now self.old.progress) }
@@ -58,18 +45,17 @@ impl Reader {
         if bound == 0 {
             return Ok(());
         }
-        let Some(text) = owned_text_of(files, file) else {
+        let Some(text) = owned_text_of(files, file.as_slice()) else {
             return Ok(());
         };
-        self.tell(file_line(self.alloc, level, file)?)?;
-        let name = Shared::<Bytes>::copied(self.alloc, file)?;
+        self.tell(file_line(level, file.share()?))?;
         let items = known.lines(self.alloc, text)?;
         'items: for item in items.as_slice() {
             match self.take_item(files, item)? {
                 Outcome::Taken => {}
-                Outcome::Wrong(words) => self.tell_at(&name, item.line, words)?,
+                Outcome::Wrong(said) => self.tell_at(file, item.line, said)?,
                 Outcome::Opens(name) => {
-                    self.take_file(files, known, bound - 1, level + 1, name.as_slice())?
+                    self.take_file(files, known, bound - 1, level + 1, &name)?
                 }
             }
         }
@@ -147,12 +133,12 @@ impl Reader {
     {
         let name = file.as_slice();
         if text_of(files, name).is_none() {
-            let words: &[&[u8]] = &[b"I couldn't open auxiliary file ", name];
-            self.tell(Message::of(self.alloc, Rank::Fatal, words)?)?;
+            let note = FileNote::NotOpened(FileKind::Aux);
+            self.tell(Message::of_file(Rank::Fatal, note, file.share()?))?;
             return self.want(name);
         }
         self.meet(Command::Nested, name)?;
-        self.take_file(files, known, files.len() + 1, 0, name)?;
+        self.take_file(files, known, files.len() + 1, 0, file)?;
         self.end(file)
     }
 }

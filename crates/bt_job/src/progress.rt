@@ -1,7 +1,7 @@
 //! How far a reading of the `.aux` files has come.
 
-use bt_log::Message;
-use bt_text::{Bytes, NameList, Sequence};
+use bt_log::{Message, Said};
+use bt_text::{Bytes, NameList, Sequence, Shared};
 
 /// What the .aux files have asked for so far, and which names and commands were met.
 #[derive(Drop)]
@@ -30,8 +30,8 @@ pub struct Progress {
 pub enum Outcome {
     /// It is taken, or nothing new.
     Taken,
-    /// It is an error with these words.
-    Wrong(Bytes),
+    /// It is an error that says this.
+    Wrong(Said),
     /// It opens the file of this name.
-    Opens(Bytes),
+    Opens(Shared<Bytes>),
 }

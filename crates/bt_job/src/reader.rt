@@ -10,7 +10,7 @@ use crate::citations::Citations;
 use crate::name_table::NameTable;
 use crate::progress::Progress;
 use bt_bib::Command;
-use bt_log::{Message, Place};
+use bt_log::{Message, Place, Said};
 use bt_text::{Bytes, NameList, Sequence, Shared};
 use std::alloc::{AllocError, Global};
 
@@ -88,9 +88,9 @@ impl Reader {
         &mut self,
         file: &Shared<Bytes>,
         line: usize,
-        words: Bytes,
+        said: Said,
     ) -> Result<(), AllocError>
-        ensures ok { OnOk result (self.new.progress ≡ logged_at file.now line words self.old.progress) }
+        ensures ok { OnOk result (self.new.progress ≡ logged_at file.now line said self.old.progress) }
         ensures err { OnErr result (self.new.progress ≡ self.old.progress) }
     {
         let place = Place::Line {
@@ -98,7 +98,7 @@ impl Reader {
             line,
             byte: None,
         };
-        let message = Message::skipping(self.alloc, words, place, b"command")?;
+        let message = Message::skipping(self.alloc, said, place, b"command")?;
         self.tell(message)?;
         Ok(())
     }

@@ -1,8 +1,10 @@
 -- The names that commands give, and what is wrong with one, as the code's steps tell it.
-use Rattle.std.specs.Prelude.{ℕ, Bool, true, not, eqb, List, ◌++◌, codes, Option, Some, None, if◌then◌else◌}
+use Rattle.std.specs.Prelude.{ℕ, Bool, true, not, eqb, List, codes, Option, Some, None, if◌then◌else◌}
 use Rattle.std.specs.List.{ends_with}
 use Rattle.bt_bib.specs.declared.aux_line.Command.{Command}
 use Rattle.bt_bib.specs.declared.aux_line.Command.TheVariants.{Citation, Database, Style, Nested}
+use Rattle.bt_log.specs.declared.message.FileNote.{FileNote}
+use Rattle.bt_log.specs.declared.message.FileNote.TheVariants.{DatabaseTwice, AuxTwice, WrongExtension, BadFileName}
 use Rattle.bt_job.specs.FileNames.{is_file_name, is_among, with_ending}
 
 -- the name that a part of a command stands for
@@ -20,16 +22,16 @@ has_ending Style name = true
 has_ending Citation name = true
 
 -- what is wrong with a name that was met before
-abbrev pub met_before : Command → List ℕ → Option (List ℕ)
-met_before Database name = Some (codes "This database file appears more than once: " ++ name)
-met_before Nested name = Some (codes "Already encountered file " ++ name)
-met_before Style name = None
-met_before Citation name = None
+abbrev pub met_before : Command → Option FileNote
+met_before Database = Some DatabaseTwice
+met_before Nested = Some AuxTwice
+met_before Style = None
+met_before Citation = None
 
 -- what is wrong with a name, where these files were met
-unfoldable pub name_fault : Command → List (List ℕ) → List ℕ → Option (List ℕ)
+unfoldable pub name_fault : Command → List (List ℕ) → List ℕ → Option FileNote
 name_fault c met name =
-    if not (has_ending c name) then Some (name ++ codes " has a wrong extension")
-    else if not (is_file_name name) then Some (name ++ codes " isn't a file name of this profile")
-    else if is_among met name then met_before c name
+    if not (has_ending c name) then Some WrongExtension
+    else if not (is_file_name name) then Some BadFileName
+    else if is_among met name then met_before c
     else None

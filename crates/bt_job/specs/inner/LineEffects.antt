@@ -10,9 +10,15 @@ use Rattle.bt_bib.specs.declared.aux_argument.AuxFault.TheVariants.{NoBrace, Whi
 use Rattle.bt_bib.specs.declared.aux_line.AuxItem.{AuxItem}
 use Rattle.bt_job.specs.declared.files.File.{File}
 use Rattle.bt_log.specs.declared.message.Rank.TheVariants.{FileLine}
+use Rattle.bt_log.specs.declared.message.FileKind.{FileKind}
+use Rattle.bt_log.specs.declared.message.FileKind.TheVariants.{Aux, Bib, Bst}
+use Rattle.bt_log.specs.declared.message.FileNote.{FileNote}
+use Rattle.bt_log.specs.declared.message.FileNote.TheVariants.{StyleFile, NotOpened}
+use Rattle.bt_log.specs.declared.message.Said.{Said}
+use Rattle.bt_log.specs.declared.message.Said.TheVariants.{Words, OfFile}
 use Rattle.bt_log.specs.declared.message.Place.TheVariants.{Line}
 use Rattle.bt_log.specs.declared.message.Message.{Message}
-use Rattle.bt_log.specs.Message.{plain, skipping}
+use Rattle.bt_log.specs.Message.{of_file, skipping}
 use Rattle.bt_job.specs.declared.progress.Progress.{Progress}
 use Rattle.bt_job.specs.declared.progress.Outcome.{Outcome}
 use Rattle.bt_job.specs.declared.progress.Outcome.TheVariants.{Taken, Wrong, Opens}
@@ -24,22 +30,22 @@ abbrev pub told : Message → Progress → Progress
 told m r = record r { log = r.log ++ m ∷ [] }
 
 -- with an error at a line of a file
-abbrev pub logged_at : List ℕ → ℕ → List ℕ → Progress → Progress
-logged_at file line words r = told (skipping words (Line file line None) (codes "command")) r
+abbrev pub logged_at : List ℕ → ℕ → Said → Progress → Progress
+logged_at file line said r = told (skipping said (Line file line None) (codes "command")) r
 
 -- Citations
 
 -- the part `*`, which may come once
 abbrev pub cited_all : Option ℕ → Progress → Progress × Outcome
 cited_all None r = (record r { star = Some (length r.keys) }, Taken)
-cited_all (Some n) r = (r, Wrong (codes "Multiple inclusions of entire database"))
+cited_all (Some n) r = (r, Wrong (Words (codes "Multiple inclusions of entire database")))
 
 -- a key, where this is how it was spelled before
 abbrev pub cited_key : List ℕ → Option (List ℕ) → Progress → Progress × Outcome
 cited_key key None r = (record r { keys = r.keys ++ key ∷ [] }, Taken)
 cited_key key (Some old) r =
     if bytes_eq old key then (r, Taken)
-    else (r, Wrong (codes "Case mismatch error between cite keys " ++ key ++ codes " and " ++ old))
+    else (r, Wrong (Words (codes "Case mismatch error between cite keys " ++ key ++ codes " and " ++ old)))
 
 -- a part of \citation
 unfoldable pub cited_part : List ℕ → Progress → Progress × Outcome
@@ -47,12 +53,12 @@ cited_part part r = if bytes_eq part (codes "*") then cited_all r.star r else ci
 
 -- Files that are named
 
--- what a message calls the file of a command
-abbrev pub file_kind : Command → List ℕ
-file_kind Database = codes "database"
-file_kind Style = codes "style"
-file_kind Nested = codes "auxiliary"
-file_kind Citation = []
+-- the kind of file that a command names; a \citation names none
+abbrev pub file_kind : Command → FileKind
+file_kind Database = Bib
+file_kind Style = Bst
+file_kind Nested = Aux
+file_kind Citation = Aux
 
 -- with a name that was met
 abbrev pub meeting : Command → List ℕ → Progress → Progress
@@ -68,19 +74,18 @@ wanting name r = record r { wanted = with_name r.wanted name }
 -- the name of a file that is there
 abbrev pub file_found : Command → List ℕ → Progress → Progress × Outcome
 file_found Database name r = (record r { databases = r.databases ++ name ∷ [] }, Taken)
-file_found Style name r =
-    (told (plain FileLine (codes "The style file: " ++ name)) (record r { style = Some name }), Taken)
+file_found Style name r = (told (of_file FileLine StyleFile name) (record r { style = Some name }), Taken)
 file_found Nested name r = (r, Opens name)
 file_found Citation name r = (r, Taken)
 
 -- a name that has this text
 abbrev pub looked_up : Command → List ℕ → Option (List ℕ) → Progress → Progress × Outcome
 looked_up c name (Some text) r = file_found c name r
-looked_up c name None r = (wanting name r, Wrong (codes "I couldn't open " ++ file_kind c ++ codes " file " ++ name))
+looked_up c name None r = (wanting name r, Wrong (OfFile (NotOpened (file_kind c)) name))
 
 -- a name with which this is wrong
-abbrev pub unless_misnamed : List File → Command → List ℕ → Option (List ℕ) → Progress → Progress × Outcome
-unless_misnamed files c name (Some words) r = (r, Wrong words)
+abbrev pub unless_misnamed : List File → Command → List ℕ → Option FileNote → Progress → Progress × Outcome
+unless_misnamed files c name (Some note) r = (r, Wrong (OfFile note name))
 unless_misnamed files c name None r = looked_up c name (text_of files name) (meeting c name r)
 
 -- a name of a file
@@ -105,12 +110,12 @@ argument_words StuffAfter = codes "Stuff after \"}\""
 -- what the end of an argument comes to
 abbrev pub fault_outcome : Option AuxFault → Outcome
 fault_outcome None = Taken
-fault_outcome (Some fault) = Wrong (argument_words fault)
+fault_outcome (Some fault) = Wrong (Words (argument_words fault))
 
 -- what comes later, unless an error or an opened file ends the command
 abbrev pub going_on : (Progress → Progress × Outcome) → Progress × Outcome → Progress × Outcome
 going_on later (r, Taken) = later r
-going_on later (r, Wrong words) = (r, Wrong words)
+going_on later (r, Wrong said) = (r, Wrong said)
 going_on later (r, Opens name) = (r, Opens name)
 
 -- the parts in order, then the fault after them; an error drops the rest
@@ -142,5 +147,5 @@ command_met Nested r = r
 -- a line that counts
 unfoldable pub item_taken : List File → AuxItem → Progress → Progress × Outcome
 item_taken files item r =
-    if is_second item.command r then (r, Wrong (second_words item.command))
+    if is_second item.command r then (r, Wrong (Words (second_words item.command)))
     else parts_taken files item.command item.fault item.parts (command_met item.command r)

@@ -4,9 +4,11 @@ use Rattle.std.specs.Option.{is_none}
 use Rattle.bt_bib.specs.declared.aux_line.Command.TheVariants.{Nested}
 use Rattle.bt_bib.specs.declared.aux_line.AuxItem.{AuxItem}
 use Rattle.bt_job.specs.declared.files.File.{File}
-use Rattle.bt_log.specs.declared.message.Rank.TheVariants.{FileLine, Error, Fatal}
+use Rattle.bt_log.specs.declared.message.Rank.TheVariants.{Error, Fatal}
+use Rattle.bt_log.specs.declared.message.FileKind.TheVariants.{Aux}
+use Rattle.bt_log.specs.declared.message.FileNote.TheVariants.{NotOpened}
 use Rattle.bt_log.specs.declared.message.Place.TheVariants.{WholeFile}
-use Rattle.bt_log.specs.Message.{plain, at}
+use Rattle.bt_log.specs.Message.{plain, of_file, at}
 use Rattle.bt_job.specs.declared.progress.Progress.{Progress}
 use Rattle.bt_job.specs.declared.citations.Citations.{Citations}
 use Rattle.bt_job.specs.declared.progress.Outcome.{Outcome}
@@ -21,7 +23,7 @@ use Rattle.bt_job.specs.inner.LineEffects.{told, logged_at, meeting, wanting, it
 -- What a line leaves after it: its error is reported, and the lines of a file that it opens stand in its place.
 abbrev pub in_place : (List ℕ → Progress → Progress) → List ℕ → ℕ → Progress × Outcome → Progress
 in_place nested file line (r, Taken) = r
-in_place nested file line (r, Wrong words) = logged_at file line words r
+in_place nested file line (r, Wrong said) = logged_at file line said r
 in_place nested file line (r, Opens name) = nested name r
 
 -- the lines of a file that count, in order
@@ -34,7 +36,7 @@ lines_taken nested files file (item ∷ items) r =
 abbrev pub opened : (List ℕ → Progress → Progress) → List File → ℕ → List ℕ → Option (List ℕ) → Progress → Progress
 opened nested files level file None r = r
 opened nested files level file (Some text) r =
-    lines_taken nested files file (aux_lines text) (told (plain FileLine (file_line level file)) r)
+    lines_taken nested files file (aux_lines text) (told (file_line level file) r)
 
 -- A file so many levels below the root, and below it as many levels as the bound allows. Which bound it is doesn't
 -- matter, where it is above the number of files that weren't met: a file is opened at most once.
@@ -85,7 +87,7 @@ ended file r =
 
 -- a root file that has this text
 abbrev pub rooted : List File → List ℕ → Option (List ℕ) → Progress
-rooted files file None = wanting file (told (plain Fatal (codes "I couldn't open auxiliary file " ++ file)) nothing_met)
+rooted files file None = wanting file (told (of_file Fatal (NotOpened Aux) file) nothing_met)
 rooted files file (Some text) =
     ended file (file_taken (length files + 1) files 0 file (meeting Nested file nothing_met))
 
