@@ -1,17 +1,16 @@
 //! What a job's files mean.
 
-ghost use Rattle.std.specs.Prelude.{◌≡◌, ◌∷◌, [], ℕ, map, fold, filter, flat_map, IfOk, OnOk};
+ghost use Rattle.std.specs.Prelude.{◌≡◌, ◌∷◌, [], ◌++◌, map, filter, flat_map, IfOk, OnOk};
 ghost use Rattle.bt_job.specs.declared.files.File.{File as FileSeen};
 ghost use Rattle.bt_bib.specs.AuxLine.{aux_lines};
 ghost use Rattle.bt_run.specs.Shown.{meaning_of};
-ghost use Rattle.bt_files.specs.Names.{with_author};
 ghost use Rattle.bt_files.specs.AuxText.{part_with, item_with};
 ghost use Rattle.bt_files.specs.Messages.{name_back};
-ghost use Rattle.bt_front.specs.Job.{is_aux, names_given, names_in, table_of, renamed, text_under, file_under, root_under, told_under, job_meaning, PlainJobsStay};
+ghost use Rattle.bt_front.specs.Job.{is_aux, names_given, names_in, names_of, table_of, renamed, text_under, file_under, root_under, told_under, job_meaning, PlainJobsStay};
 
 use bt_bib::{AuxItem, Command, read_aux};
 use bt_files::{Names, all_put_back, is_own_name, name_of, written};
-use bt_job::{AuxTexts, File, read_citations};
+use bt_job::File;
 use bt_log::{log_bytes, terse_bytes};
 use bt_run::{Answers, Kept, Readings, answers_after};
 use bt_text::{Bytes, Sequence, Shared};
@@ -23,58 +22,79 @@ fn is_aux(file: &File) -> bool
     file.name.as_slice().ends_with(b".aux")
 }
 
-/// Notes the names that the parts of a command give.
-fn note_parts(
+/// Adds the names that the parts of a command give.
+fn add_parts(
     alloc: Global,
-    names: &mut Names,
+    names: &mut Sequence<Bytes>,
     command: Command,
     parts: &[Bytes],
 ) -> Result<(), AllocError>
-    ensures { OnOk result (names.new ≡ fold with_author names.old (names_given command parts.now)) }
+    ensures { OnOk result (names.new ≡ names.old ++ names_given command parts.now) }
 {
     if command == Command::Citation {
         return Ok(());
     }
     'parts: for part in parts {
-        names.note(alloc, name_of(alloc, command, part.as_slice())?.as_slice())?;
+        names.push(name_of(alloc, command, part.as_slice())?)?;
     }
     Ok(())
 }
 
-/// Notes the names that an `.aux` text gives.
-fn note_text(alloc: Global, names: &mut Names, text: &[u8]) -> Result<(), AllocError>
-    ensures { OnOk result (names.new ≡ fold with_author names.old (names_in text.now)) }
+/// Adds the names that an `.aux` text gives.
+fn add_text(
+    alloc: Global,
+    names: &mut Sequence<Bytes>,
+    text: &[u8],
+) -> Result<(), AllocError>
+    ensures { OnOk result (names.new ≡ names.old ++ names_in text.now) }
 {
     let items = read_aux(alloc, text)?;
     'items: for item in items.as_slice() {
-        note_parts(alloc, names, item.command, item.parts.as_slice())?;
+        add_parts(alloc, names, item.command, item.parts.as_slice())?;
     }
     Ok(())
 }
 
-/// Notes the names that a file gives, if it is an `.aux` file.
-fn note_file(alloc: Global, names: &mut Names, file: &File) -> Result<(), AllocError>
+/// Adds the names that a file gives, if it is an `.aux` file.
+fn add_file(
+    alloc: Global,
+    names: &mut Sequence<Bytes>,
+    file: &File,
+) -> Result<(), AllocError>
     ensures { OnOk result (names.new
-        ≡ fold with_author names.old (flat_map (λ (f : FileSeen). names_in f.text) (filter is_aux (file.now ∷ [])))) }
+        ≡ names.old ++ flat_map (λ (f : FileSeen). names_in f.text) (filter is_aux (file.now ∷ []))) }
 {
     if is_aux(file) {
-        note_text(alloc, names, file.text.as_slice())
+        add_text(alloc, names, file.text.as_slice())
     } else {
         Ok(())
     }
 }
 
+/// The names that a job's files give, its root's first, in the order of the files and of their lines. `root` is the
+/// name of the job's first `.aux` file without its ending. The only error is out of memory.
+pub fn names_of(alloc: Global, files: &[File], root: &[u8]) -> Result<Sequence<Bytes>, AllocError>
+    ensures { IfOk result (λ names. names ≡ names_of files.now root.now) }
+{
+    let mut names = Sequence::new(alloc);
+    names.push(Bytes::of(alloc, &[root, b".aux"])?)?;
+    'files: for file in files {
+        add_file(alloc, &mut names, file)?;
+    }
+    Ok(names)
+}
+
 /// The names of a job that need another name in a session.
 #[tactic(auto, unfolding(crate::specs::Job::table_of))]
 fn table_of(alloc: Global, files: &[File], root: &[u8]) -> Result<Names, AllocError>
-    ensures { IfOk result (λ names. names ≡ table_of files.now root.now) }
+    ensures { IfOk result (λ table. table ≡ table_of files.now root.now) }
 {
-    let mut names = Names::new(alloc);
-    names.note(alloc, Bytes::of(alloc, &[root, b".aux"])?.as_slice())?;
-    'files: for file in files {
-        note_file(alloc, &mut names, file)?;
+    let names = names_of(alloc, files, root)?;
+    let mut table = Names::new(alloc);
+    'names: for name in names.as_slice() {
+        table.note(alloc, name.as_slice())?;
     }
-    Ok(names)
+    Ok(table)
 }
 
 /// The session's name of an author's file.
@@ -203,19 +223,6 @@ fn names_back(alloc: Global, names: &Names, files: &[Bytes]) -> Result<Sequence<
         back.push(Bytes::copied(alloc, author)?)?;
     }
     Ok(back)
-}
-
-/// The names of the files that a job looks for and that aren't among these files, in order, each once. `root` is the
-/// name of the job's first `.aux` file without its ending. The only error is out of memory.
-pub fn wanted(alloc: Global, files: &[File], root: &[u8]) -> Result<Sequence<Bytes>, AllocError>
-    ensures { IfOk result (λ names. (min : ℕ) → names ≡ (job_meaning files.now root.now min).wanted) }
-{
-    let names = table_of(alloc, files, root)?;
-    let under = files_under(alloc, &names, files)?;
-    let root = root_under(alloc, root)?;
-    let mut texts = AuxTexts::new(alloc);
-    let asked = read_citations(alloc, under.as_slice(), root.as_slice(), &mut texts)?;
-    names_back(alloc, &names, asked.wanted.as_slice())
 }
 
 /// What a run under the session's names shows, told under the author's.

@@ -4,4 +4,4 @@
 
 mod job;
 
-pub use job::{plain_jobs_stay, run, wanted};
+pub use job::{names_of, plain_jobs_stay, run};

@@ -18,14 +18,6 @@ pub fn read(alloc: Global, rt: &HostRuntime, path: &str) -> Result<Option<Bytes>
     }
 }
 
-/// The file that a name leads to, through links.
-fn target(alloc: Global, rt: &HostRuntime, path: &str) -> Result<String, AllocError> {
-    match fs::canonicalize(rt, path) {
-        Ok(target) => String::from_str(alloc, target.to_string_lossy()),
-        Err(_) => String::from_str(alloc, path),
-    }
-}
-
 /// Whether something other than a file has this name, such as a folder or a device.
 fn is_special(rt: &HostRuntime, path: &str) -> bool {
     match fs::metadata(rt, path) {
@@ -34,9 +26,30 @@ fn is_special(rt: &HostRuntime, path: &str) -> bool {
     }
 }
 
+/// The file that a name leads to, through links; none if something that isn't a file has the name, or the file isn't
+/// there yet and the name is a link.
+fn target(alloc: Global, rt: &HostRuntime, path: &str) -> Result<Option<String>, AllocError> {
+    if is_special(rt, path) {
+        return Ok(None);
+    }
+    match fs::canonicalize(rt, path) {
+        Ok(target) => Ok(Some(String::from_str(alloc, target.to_string_lossy())?)),
+        Err(_) if fs::read_link(rt, path).is_ok() => Ok(None),
+        Err(_) => Ok(Some(String::from_str(alloc, path)?)),
+    }
+}
+
+/// The part of a path up to its last slash.
+pub fn folder_of(path: &str) -> &str {
+    match path.rsplit_once('/') {
+        Some((folder, _)) => path.get(..folder.len() + 1).unwrap_or(""),
+        None => "",
+    }
+}
+
 /// Writes a file beside the one of this name, and gives it the name once it is whole. `mark` keeps apart what two
-/// programs write at once. Where no file can be made there, the old one is written over. It says whether it succeeded;
-/// the one error is out of memory.
+/// programs write at once. The old file is written over only where no other can be made beside it. It says whether it
+/// succeeded; the one error is out of memory.
 pub fn replace(
     alloc: Global,
     rt: &HostRuntime,
@@ -44,12 +57,11 @@ pub fn replace(
     bytes: &[u8],
     mark: &str,
 ) -> Result<bool, AllocError> {
-    let target = target(alloc, rt, path)?;
+    let Some(target) = target(alloc, rt, path)? else {
+        return Ok(fs::write(rt, path, bytes).is_ok());
+    };
     let target = target.as_str();
-    if is_special(rt, target) {
-        return Ok(fs::write(rt, target, bytes).is_ok());
-    }
-    let beside = format!(in alloc; "{target}.{mark}~")?;
+    let beside = format!(in alloc; "{}bibtex-{mark}~", folder_of(target))?;
     let beside = beside.as_str();
     match fs::write(rt, beside, bytes) {
         Ok(()) if fs::rename(rt, beside, target).is_ok() => Ok(true),

@@ -5,9 +5,9 @@ mod missing;
 mod source_lines;
 
 use crate::report::complain;
-use bt_files::Answered;
 use bt_job::File;
 use bt_log::{Message, Said};
+use bt_run::Answers;
 use std::alloc::{AllocError, Global};
 use std::fs;
 
@@ -40,7 +40,7 @@ impl Hints<'_> {
 pub struct Job<'a> {
     pub name: &'a str,
     pub files: &'a [File],
-    pub answered: &'a Answered,
+    pub answers: &'a Answers,
 }
 
 impl<'a> Job<'a> {
@@ -54,7 +54,7 @@ impl<'a> Job<'a> {
     }
 
     fn says(&self, words: &[u8]) -> bool {
-        self.answered
+        self.answers
             .messages
             .as_slice()
             .iter()

@@ -19,8 +19,8 @@ use crate::script::{FILES_WANTED, HAND_OVER, Script};
 use crate::search::Search;
 use crate::version::VERSION;
 use anyhow::Result;
-use bt_files::Answered;
 use bt_log::{Message, log_bytes};
+use bt_run::Answers;
 use bt_text::Bytes;
 use std::alloc::{AllocError, Global};
 use std::env;
@@ -104,15 +104,15 @@ fn finish(
     rt: &HostRuntime,
     script: &Script,
     options: &Options<'_>,
-    answered: &Answered,
+    answers: &Answers,
 ) -> Result<u8> {
-    let is_written = write(rt, script, options, ".bbl", answered.bbl.as_slice())?
-        && write(rt, script, options, ".blg", answered.blg.as_slice())?;
+    let is_written = write(rt, script, options, ".bbl", answers.bbl.as_slice())?
+        && write(rt, script, options, ".blg", answers.blg.as_slice())?;
     if !is_written {
         return Ok(NOT_WRITTEN);
     }
-    report::print(rt, answered, options.terse)?;
-    Ok(if answered.status <= 1 { 0 } else { answered.status })
+    report::print(rt, answers, options.terse)?;
+    Ok(if answers.status <= 1 { 0 } else { answers.status })
 }
 
 /// Runs the job over the files that were found.
@@ -124,22 +124,22 @@ fn run_found(
 ) -> Result<u8> {
     let alloc = rt.alloc();
     let files = search.files();
-    let answered = bt_files::run(alloc, files, options.job.as_bytes(), u32::from(options.min))?;
+    let answers = bt_front::run(alloc, files, options.job.as_bytes(), u32::from(options.min))?;
     if options.may_hand_over
         && script.hands_over(rt)?
-        && let Some(reason) = takeover::reason(&answered)
+        && let Some(reason) = takeover::reason(&answers)
         && ask_to_hand_over(rt, script, reason)?
     {
         return Ok(HAND_OVER);
     }
-    let status = finish(rt, script, options, &answered)?;
+    let status = finish(rt, script, options, &answers)?;
     if !options.quiet && status != NOT_WRITTEN {
         let name = options.job;
-        let answered = &answered;
-        hints::print(rt, hints::Job { name, files, answered })?;
+        let answers = &answers;
+        hints::print(rt, hints::Job { name, files, answers })?;
     }
     // The program ends here: what the run kept goes with it, at once.
-    forget(answered);
+    forget(answers);
     Ok(status)
 }
 

@@ -2,8 +2,8 @@
 
 use crate::options::Wrong;
 use anyhow::Result;
-use bt_files::Answered;
 use bt_log::{Message, Rank, log_bytes, terse_bytes};
+use bt_run::Answers;
 use bt_streams::{WriterSink, say};
 use bt_text::Bytes;
 use std::alloc::{AllocError, Global};
@@ -71,8 +71,8 @@ fn without_counts(alloc: Global, messages: &[Message]) -> Result<Sequence<Messag
 }
 
 /// What a run prints.
-fn printed(alloc: Global, answered: &Answered, terse: bool) -> Result<Bytes, AllocError> {
-    let messages = answered.messages.as_slice();
+fn printed(alloc: Global, answers: &Answers, terse: bool) -> Result<Bytes, AllocError> {
+    let messages = answers.messages.as_slice();
     if terse {
         return terse_bytes(alloc, messages);
     }
@@ -81,8 +81,8 @@ fn printed(alloc: Global, answered: &Answered, terse: bool) -> Result<Bytes, All
 }
 
 /// Prints what a run says, as far as that succeeds.
-pub fn print(rt: &HostRuntime, answered: &Answered, terse: bool) -> Result<(), AllocError> {
-    let text = printed(rt.alloc(), answered, terse)?;
+pub fn print(rt: &HostRuntime, answers: &Answers, terse: bool) -> Result<(), AllocError> {
+    let text = printed(rt.alloc(), answers, terse)?;
     let mut out = WriterSink::new(io::writer(rt));
     let _ = say(&mut out, &[text.as_slice()]);
     Ok(())

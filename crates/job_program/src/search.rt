@@ -1,9 +1,10 @@
-//! Looks up the files of a job by the author's names, in the order in which the job looks for them: in the folder that
-//! the program was started in, where `kpsewhich` found them, and beside the job's own `.aux` file.
+//! Looks up the files that a job names, each once: in the folder that the program was started in, where `kpsewhich` found
+//! them, and beside the job's own `.aux` file. All names are looked up, also those after one that is missing, so that
+//! `kpsewhich` is asked once.
 
-use crate::disk;
+use crate::disk::{self, folder_of};
 use crate::script::Script;
-use bt_files::wanted;
+use bt_front::names_of;
 use bt_job::File;
 use bt_text::{Bytes, Sequence, Shared};
 use indexmap::IndexSet;
@@ -21,14 +22,6 @@ pub struct Search<'a> {
     files: Sequence<File>,
     /// The names that weren't found.
     missing: Sequence<Bytes>,
-}
-
-/// The part of a path up to its last slash.
-fn folder_of(path: &str) -> &str {
-    match path.rsplit_once('/') {
-        Some((folder, _)) => path.get(..folder.len() + 1).unwrap_or(""),
-        None => "",
-    }
 }
 
 impl<'a> Search<'a> {
@@ -124,11 +117,11 @@ impl<'a> Search<'a> {
         Ok(found)
     }
 
-    /// Looks up all files of a job. The one error is out of memory.
+    /// Looks up all files that a job names. The one error is out of memory.
     pub fn run(&mut self, job: &str) -> Result<(), AllocError> {
         let mut goes_on = true;
         'rounds: while goes_on {
-            let names = wanted(self.alloc, self.files.as_slice(), job.as_bytes())?;
+            let names = names_of(self.alloc, self.files.as_slice(), job.as_bytes())?;
             goes_on = self.look_up_new(names.as_slice())?;
         }
         Ok(())

@@ -1,8 +1,8 @@
 //! When another `bibtex` does a job better: this program ends a run at a style's first fault and at its limits, where the
 //! original goes on.
 
-use bt_files::Answered;
 use bt_log::{Message, Place, Rank, Said};
+use bt_run::Answers;
 
 /// The end of the warning of a value that is left out because it is too long.
 const TOO_LONG: &[u8] = b" is over 65536 bytes";
@@ -36,8 +36,8 @@ fn is_value_limit(message: &Message) -> bool {
 }
 
 /// The message of what another program wouldn't have ended, or left out, if there is one.
-pub fn reason(answered: &Answered) -> Option<&Message> {
-    answered.messages.as_slice().iter().find(|message| {
+pub fn reason(answers: &Answers) -> Option<&Message> {
+    answers.messages.as_slice().iter().find(|message| {
         is_style_fault(message) || is_step_limit(message) || is_value_limit(message)
     })
 }

@@ -144,7 +144,7 @@ fn hint_at(
 
 /// A hint for each style and database that wasn't found.
 pub fn hint(alloc: Global, hints: &mut Hints<'_>, job: Job<'_>) -> Result<(), AllocError> {
-    'messages: for message in job.answered.messages.as_slice() {
+    'messages: for message in job.answers.messages.as_slice() {
         if let Some((kind, name)) = not_found(message) {
             hint_at(alloc, hints, kind, name)?;
         }

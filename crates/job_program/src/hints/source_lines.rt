@@ -132,7 +132,7 @@ fn hint_at(
 
 /// Shows the lines that messages speak of.
 pub fn hint(alloc: Global, hints: &mut Hints<'_>, job: Job<'_>) -> Result<(), AllocError> {
-    'messages: for message in job.answered.messages.as_slice() {
+    'messages: for message in job.answers.messages.as_slice() {
         if hints.is_full() {
             return Ok(());
         }
