@@ -5,7 +5,9 @@ use Rattle.bt_job.specs.declared.progress.Progress.{Progress}
 use Rattle.bt_job.specs.declared.reader.Reader.{Reader}
 use Rattle.bt_job.specs.declared.progress.Outcome.{Outcome}
 use Rattle.bt_bib.specs.AuxLine.{aux_lines}
-use Rattle.bt_job.specs.inner.LineEffects.{told, logged_at}
+use Rattle.bt_job.specs.FileNames.{text_of}
+use Rattle.bt_job.specs.Citations.{file_line}
+use Rattle.bt_job.specs.inner.LineEffects.{told}
 use Rattle.bt_job.specs.inner.NestedFiles.{lines_taken, file_taken, in_place}
 use Rattle.bt_job.proofs.NestingLemmas.{file_zero, file_opens, line_more, lines_end}
 use Rattle.bt_job.proofs.reader.Reader.+take_file.Goals.{in-Taken, in-Wrong+in_ok-tell_at-in-Wrong, in-Opens+in_ok-take_file-in-Opens}
@@ -15,26 +17,26 @@ pub returns-then-bound-eq0 : goal.returns-then-bound-eq0
 returns-then-bound-eq0 t c = file_zero c.args.bound c.args.files.now c.args.level c.args.file.now c.args.self.now.progress c.if-bound-eq0.true
 
 pub returns-in_default : goal.returns-in_default
-returns-in_default t c = sym (file_opens c.args.bound c.args.files.now c.args.level c.args.file.now None c.args.self.now.progress c.if-bound-eq0.false c.in_default.ensures)
+returns-in_default t c = sym (file_opens c.args.bound c.args.files.now c.args.level c.args.file.now None c.args.self.now.progress c.if-bound-eq0.false (c.in_default.ensures ∙ ap (text_of c.args.files.now) (c.as_slice.ensures ∙ c.deref.ensures)))
 
 pub items-init : goal.items-init
 items-init t c =
     let nested : List ℕ → Progress → Progress = file_taken (c.args.bound - 1) c.args.files.now (c.args.level + 1) in
-    ap (λ (is : List AuxItem). lines_taken nested c.args.files.now c.args.file.now is c.tell.new.self.progress) (c.as_slice-item-items.ensures ∙ c.deref.ensures ∙ c.in_ok-items.ensures)
-    ∙ ap (lines_taken nested c.args.files.now c.args.file.now (aux_lines c.in-Some.text.now)) (c.in_ok-tell.ensures.ok ∙ ap (λ (m : Message). told m c.args.self.now.progress) c.in_ok-file_line.ensures)
-    ∙ sym (file_opens c.args.bound c.args.files.now c.args.level c.args.file.now (Some c.in-Some.text.now) c.args.self.now.progress c.if-bound-eq0.false c.in-Some.ensures)
+    ap (λ (is : List AuxItem). lines_taken nested c.args.files.now c.args.file.now is c.tell.new.self.progress) (c.as_slice-item-items.ensures ∙ c.deref-2.ensures ∙ c.in_ok-items.ensures)
+    ∙ ap (lines_taken nested c.args.files.now c.args.file.now (aux_lines c.in-Some.text.now)) (c.in_ok-tell.ensures.ok ∙ ap (λ (m : Message). told m c.args.self.now.progress) (c.file_line.ensures ∙ ap (file_line c.args.level) c.in_ok-share.ensures))
+    ∙ sym (file_opens c.args.bound c.args.files.now c.args.level c.args.file.now (Some c.in-Some.text.now) c.args.self.now.progress c.if-bound-eq0.false (c.in-Some.ensures ∙ ap (text_of c.args.files.now) (c.as_slice.ensures ∙ c.deref.ensures)))
 
 pub items-preserved : goal.items-preserved
 items-preserved t c =
     let nested : List ℕ → Progress → Progress = file_taken (c.args.bound - 1) c.args.files.now (c.args.level + 1) in
     let asked : Reader → Progress = λ reader. reader.progress in
     let place : Outcome → Progress = λ o. in_place nested c.args.file.now c.item-item.result.line (c.take_item.new.self.progress, o) in
-    let placed : c.match-branch-6.self.progress ≡ place c.in_ok-take_item.field-0 = elim c.match-branch-6.branch [
+    let placed : c.match-branch-5.self.progress ≡ place c.in_ok-take_item.field-0 = elim c.match-branch-5.branch [
       | in-Taken w ↦ ap asked w.self-is ∙ sym (ap place w.in-Taken.is)
-      | in-Wrong+in_ok-tell_at-in-Wrong w ↦ ap asked w.self-is ∙ w.in_ok-tell_at-in-Wrong.ensures.ok ∙ ap (λ (file : List ℕ). logged_at file c.item-item.result.line w.in-Wrong.words c.take_item.new.self.progress) c.in_ok-name.ensures ∙ sym (ap place w.in-Wrong.is)
-      | in-Opens+in_ok-take_file-in-Opens w ↦ ap asked w.self-is ∙ w.in_ok-take_file-in-Opens.ensures ∙ ap (λ (name : List ℕ). nested name c.take_item.new.self.progress) w.as_slice.ensures ∙ sym (ap place w.in-Opens.is)
+      | in-Wrong+in_ok-tell_at-in-Wrong w ↦ ap asked w.self-is ∙ w.in_ok-tell_at-in-Wrong.ensures.ok ∙ sym (ap place w.in-Wrong.is)
+      | in-Opens+in_ok-take_file-in-Opens w ↦ ap asked w.self-is ∙ w.in_ok-take_file-in-Opens.ensures ∙ sym (ap place w.in-Opens.is)
     ] in
-    line_more nested c.args.files.now c.args.file.now c.as_slice-item-items.result.now c.items.item-index c.item-item.result c.items.self.progress c.take_item.new.self.progress c.match-branch-6.self.progress _ c.in_ok-take_item.field-0
+    line_more nested c.args.files.now c.args.file.now c.as_slice-item-items.result.now c.items.item-index c.item-item.result c.items.self.progress c.take_item.new.self.progress c.match-branch-5.self.progress _ c.in_ok-take_item.field-0
     c.items-test.true c.item-item.is c.in_ok-take_item.ensures placed c.items.invariant
 
 pub returns : goal.returns
