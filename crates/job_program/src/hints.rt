@@ -69,17 +69,35 @@ fn has_words(message: &Message, words: &[u8]) -> bool {
     }
 }
 
-/// Says so if the document's bibliography is biber's work.
-fn hint_at_biber(alloc: Global, hints: &mut Hints<'_>, job: Job<'_>) -> Result<(), AllocError> {
-    if !job.says(b"I found no \\bibdata command") {
-        return Ok(());
-    }
-    let control = format!(in alloc; "{}.bcf", job.name)?;
-    let is_biber = match fs::exists(hints.rt, control.as_str()) {
-        Ok(is_there) => is_there,
-        Err(_) => false,
+/// Whether biblatex wrote the `.aux` file of a job.
+fn is_biblatex(alloc: Global, job: Job<'_>) -> Result<bool, AllocError> {
+    let name = format!(in alloc; "{}.aux", job.name)?;
+    let Some(text) = job.text(name.as_bytes()) else {
+        return Ok(false);
     };
-    if is_biber {
+    Ok(text
+        .split(|byte| *byte == b'\n')
+        .any(|line| line.starts_with(b"\\abx@aux@")))
+}
+
+/// Whether biblatex left a file for biber beside a job.
+fn has_control_file(
+    alloc: Global,
+    rt: &HostRuntime,
+    job: Job<'_>,
+) -> Result<bool, AllocError> {
+    let name = format!(in alloc; "{}.bcf", job.name)?;
+    match fs::exists(rt, name.as_str()) {
+        Ok(is_there) => Ok(is_there),
+        Err(_) => Ok(false),
+    }
+}
+
+/// Says so if the document's bibliography is biber's work: nothing in it is BibTeX's.
+fn hint_at_biber(alloc: Global, hints: &mut Hints<'_>, job: Job<'_>) -> Result<(), AllocError> {
+    let is_bibers = job.says(b"I found no \\bibdata command")
+        && (is_biblatex(alloc, job)? || has_control_file(alloc, hints.rt, job)?);
+    if is_bibers {
         hints.give(&[
             b"hint: this document uses biblatex with biber; run: biber ",
             job.name.as_bytes(),

@@ -9,6 +9,9 @@ use strsim::levenshtein;
 /// How many letters may differ between a name that wasn't found and one that is suggested.
 const NEAR: usize = 2;
 
+/// How many bytes a name may have for which others are suggested: what a file system takes.
+const LONGEST: usize = 255;
+
 /// A style or database that a message says wasn't found.
 fn not_found(message: &Message) -> Option<(FileKind, &[u8])> {
     match &message.said {
@@ -85,7 +88,8 @@ fn offer(
         let found = entry.file_name();
         if found.ends_with(ending) {
             nearest.note(alloc, found)?;
-        } else if let Ok(true) = fs::exists(rt, format!(in alloc; "{found}/{name}")?.as_str()) {
+        } else if !found.starts_with('.')
+            && let Ok(true) = fs::exists(rt, format!(in alloc; "{found}/{name}")?.as_str()) {
             return Ok(Some(Offer::Folder(String::from_str(alloc, found)?)));
         }
     }
@@ -105,6 +109,9 @@ fn hint_at(
     let Ok(text) = str::from_utf8(name) else {
         return Ok(());
     };
+    if name.len() > LONGEST {
+        return Ok(());
+    }
     let variable = variable(kind);
     let looked: &[u8] = b" isn't in the folder or where kpsewhich looks";
     match offer(alloc, hints.rt, text, ending(kind))? {
@@ -145,6 +152,9 @@ fn hint_at(
 /// A hint for each style and database that wasn't found.
 pub fn hint(alloc: Global, hints: &mut Hints<'_>, job: Job<'_>) -> Result<(), AllocError> {
     'messages: for message in job.answers.messages.as_slice() {
+        if hints.is_full() {
+            return Ok(());
+        }
         if let Some((kind, name)) = not_found(message) {
             hint_at(alloc, hints, kind, name)?;
         }
