@@ -11,32 +11,37 @@ const SHOWN: usize = 160;
 
 /// A line of a text, and how many bytes stand before it.
 fn line_of(text: &[u8], number: usize) -> Option<(usize, &[u8])> {
-    let mut before = 0;
-    'lines: for (index, line) in text.split(|byte| *byte == b'\n').enumerate() {
-        if index + 1 == number {
+    let mut before = 0usize;
+    let mut left = number;
+    'lines: for line in text.split(|byte| *byte == b'\n') {
+        if left <= 1 {
             return Some((before, line));
         }
-        before += line.len() + 1;
+        left -= 1;
+        before = before.saturating_add(line.len()).saturating_add(1);
     }
     None
+}
+
+/// Whether an item seems to begin in a line.
+fn begins_item(line: &[u8]) -> bool {
+    line.trim_ascii_start().starts_with(b"@")
 }
 
 /// The number of the line in which the item begins that reaches into a line, if that is an earlier one.
 fn item_line(text: &[u8], number: usize) -> Option<usize> {
     let mut begun = None;
-    'lines: for (index, line) in text.split(|byte| *byte == b'\n').enumerate() {
-        if index + 1 >= number {
-            return if line.trim_ascii_start().starts_with(b"@") && index + 1 == number {
-                None
-            } else {
-                begun
-            };
+    let mut current = 1usize;
+    'lines: for line in text.split(|byte| *byte == b'\n') {
+        if begins_item(line) {
+            begun = Some(current);
         }
-        if line.trim_ascii_start().starts_with(b"@") {
-            begun = Some(index + 1);
+        if current >= number {
+            break;
         }
+        current = current.saturating_add(1);
     }
-    begun
+    begun.filter(|line| *line < number)
 }
 
 /// What stands under a line up to a mark: its tabs, and a space for each other letter.
