@@ -4,6 +4,7 @@ use Rattle.std.specs.Fmt.{decimal, signed_decimal}
 use Rattle.bt_style.specs.Builtins.{name_of}
 use Rattle.bt_log.specs.declared.message.Rank.{Rank}
 use Rattle.bt_log.specs.declared.message.Rank.TheVariants.{Note, Warning, Error, Fatal}
+use Rattle.bt_log.specs.declared.message.Said.TheVariants.{Words}
 use Rattle.bt_log.specs.declared.message.Message.{Message}
 use Rattle.bt_actions.specs.declared.complaint.Complaint.{Complaint}
 use Rattle.bt_actions.specs.declared.complaint.Complaint.TheVariants.{EmptyStack, WrongKind, NoEntry, OutOfRange, BadCase, NotOneCharacter, NotAscii, NoSuchName, TooManyCommas, PatternFault, NotVariable, LeftOver, Warned, Shown, TicksPassed, StackPassed, TextPassed}
@@ -51,4 +52,4 @@ complaint_words TextPassed = codes "The limit of 65536 bytes was passed"
 
 -- a complaint in a step for the entry with this key, or for none; the run knows the place of the step
 abbrev pub message_of : Option (List ℕ) → Complaint → Message
-message_of key m = record { rank = rank_of m; words = complaint_words m; entry = key; place = None; second = None }
+message_of key m = record { rank = rank_of m; said = Words (complaint_words m); entry = key; place = None; second = None }

@@ -4,7 +4,7 @@ ghost use Rattle.std.specs.Prelude.{◌≡◌, ◌++◌, codes, option_map, IfOk
 ghost use Rattle.std.specs.Fmt.{signed_decimal};
 ghost use Rattle.bt_actions.specs.Words.{complaint_words, message_of};
 
-use bt_log::{Message, Rank};
+use bt_log::{Message, Rank, Said};
 use bt_style::Builtin;
 use bt_text::{Bytes, Sequence, Shared};
 use itoa::Buffer;
@@ -219,7 +219,7 @@ impl Complaint {
     {
         Ok(Message {
             rank: self.rank(),
-            words: Shared::new(alloc, self.words(alloc)?)?,
+            said: Said::Words(Shared::new(alloc, self.words(alloc)?)?),
             entry: shared(key)?,
             place: None,
             second: None,
