@@ -7,6 +7,7 @@ use Rattle.bt_bib.specs.declared.item.Content.{Content}
 use Rattle.bt_bib.specs.declared.item.Content.TheVariants as contents
 use Rattle.bt_bib.specs.declared.spot.Spot.{Spot}
 use Rattle.bt_bib.specs.Moved.{moved_content}
+use Rattle.bt_log.specs.declared.message.Said.TheVariants.{Words}
 use Rattle.bt_log.specs.declared.message.Message.{Message}
 use Rattle.bt_log.specs.declared.message.Place.TheVariants.{DatabaseLine}
 use Rattle.bt_log.specs.Message.{skipping}
@@ -41,7 +42,7 @@ same_key m (contents.Preamble parts) = refl
 same_error : (m : Spot) (database : ℕ) (end : Spot) (c : Content) (close : Option Closing) (fault : ItemFault) →
     fault_error database end (moved_content m c) close fault ≡ fault_error database end c close fault
 same_error m database end c close fault = λ j.
-    record (skipping (same_words m c close fault j) (DatabaseLine database end.line (Some end.place)) (same_dropped m c j)) { entry = same_key m c j }
+    record (skipping (Words (same_words m c close fault j)) (DatabaseLine database end.line (Some end.place)) (same_dropped m c j)) { entry = same_key m c j }
 
 pub told_moved : (m : Spot) (database : ℕ) (end : Spot) (c : Content) (close : Option Closing) (o : Option ItemFault) (fault : ItemFault) (old new : List Message) (e : Message) →
     o ≡ Some fault → new ≡ old ++ e ∷ [] → e ≡ fault_error database end c close fault → new ≡ old ++ fault_messages database end (moved_content m c) close o

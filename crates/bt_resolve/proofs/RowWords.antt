@@ -5,6 +5,7 @@ use Rattle.bt_resolve.specs.declared.declared.Cites.{Cites}
 use Rattle.bt_resolve.specs.declared.declared.Declared.{Declared}
 use Rattle.bt_resolve.specs.declared.entry.Entry.{Entry}
 use Rattle.bt_resolve.specs.declared.entry.Resolved.{Resolved}
+use Rattle.bt_log.specs.declared.message.Said.TheVariants.{Words}
 use Rattle.bt_log.specs.declared.message.Message.{Message}
 use Rattle.bt_log.specs.declared.message.Place.TheVariants.{DatabaseLine}
 use Rattle.bt_log.specs.Message.{plain, at, skipping}
@@ -45,7 +46,7 @@ warning database line words = at (DatabaseLine database line None) (plain Warnin
 
 -- an error at a line of a database, and at a byte where that is known
 abbrev pub error : ℕ → ℕ → Option ℕ → List ℕ → List ℕ → Message
-error database line byte words second = skipping words (DatabaseLine database line byte) second
+error database line byte words second = skipping (Words words) (DatabaseLine database line byte) second
 
 -- a message about the entry of a key
 abbrev pub about : List ℕ → Message → Message

@@ -9,6 +9,7 @@ use Rattle.bt_bib.specs.declared.item.Closing.TheVariants.{Brace, Parenthesis}
 use Rattle.bt_bib.specs.declared.item.Content.{Content}
 use Rattle.bt_bib.specs.declared.item.Content.TheVariants as contents
 use Rattle.bt_bib.specs.declared.spot.Spot.{Spot}
+use Rattle.bt_log.specs.declared.message.Said.TheVariants.{Words}
 use Rattle.bt_log.specs.declared.message.Place.TheVariants.{DatabaseLine}
 use Rattle.bt_log.specs.declared.message.Message.{Message}
 use Rattle.bt_log.specs.Message.{skipping}
@@ -63,7 +64,7 @@ key_of (contents.Preamble parts) = None
 -- the error of a fault at a place of a database
 abbrev pub fault_error : ℕ → Spot → Content → Option Closing → ItemFault → Message
 fault_error database end content close fault =
-    record (skipping (fault_words content close fault) (DatabaseLine database end.line (Some end.place))
+    record (skipping (Words (fault_words content close fault)) (DatabaseLine database end.line (Some end.place))
     (dropped_name content)) { entry = key_of content }
 
 -- the error of an item with a fault, at the fault's place
@@ -73,5 +74,5 @@ fault_messages database end content close (Some fault) = fault_error database en
 
 abbrev pub repeated : BibLine → List ℕ → Message
 repeated place key =
-    record (skipping (codes "Repeated entry") (DatabaseLine place.database place.line None) (codes "entry"))
+    record (skipping (Words (codes "Repeated entry")) (DatabaseLine place.database place.line None) (codes "entry"))
     { entry = Some key }

@@ -4,6 +4,7 @@ use Rattle.std.specs.List.{flat_map}
 use Rattle.bt_resolve.specs.declared.asked.Asked.{Asked}
 use Rattle.bt_log.specs.declared.message.Rank.{Rank}
 use Rattle.bt_log.specs.declared.message.Rank.TheVariants.{Warning, Error}
+use Rattle.bt_log.specs.declared.message.Said.TheVariants.{Words}
 use Rattle.bt_log.specs.declared.message.Message.{Message}
 use Rattle.bt_resolve.specs.declared.stored.Stored.{Stored}
 use Rattle.bt_resolve.specs.Stored.{is_stored}
@@ -12,7 +13,7 @@ use Rattle.bt_resolve.specs.Inherited.{key_spelled}
 
 -- a message about the entry of a key
 abbrev pub about : Rank → List ℕ → List ℕ → Option (List ℕ) → Message
-about rank key words second = record { rank = rank; words = words; entry = Some key; place = None; second = second }
+about rank key words second = record { rank = rank; said = Words words; entry = Some key; place = None; second = second }
 
 abbrev pub bad_reference : List ℕ → List ℕ → Message
 bad_reference key parent =

@@ -2,6 +2,7 @@
 use Rattle.std.specs.Prelude.{ℕ, List, ◌++◌, codes, Option, Some, None}
 use Rattle.bt_text.specs.CaseFolding.{folded}
 use Rattle.bt_log.specs.declared.message.Rank.TheVariants.{Warning}
+use Rattle.bt_log.specs.declared.message.Said.TheVariants.{Words}
 use Rattle.bt_log.specs.declared.message.Place.TheVariants.{DatabaseLine}
 use Rattle.bt_log.specs.declared.message.Message.{Message}
 use Rattle.bt_resolve.specs.declared.place.BibLine.{BibLine}
@@ -15,7 +16,7 @@ abbrev pub warning_at : BibLine → List ℕ → Option (List ℕ) → Message
 warning_at place words entry =
     record {
       rank = Warning;
-      words = words;
+      said = Words words;
       entry = entry;
       place = Some (DatabaseLine place.database place.line None);
       second = None;

@@ -8,7 +8,7 @@ ghost use Rattle.bt_resolve.specs.Faults.{dropped_name, fault_error, fault_messa
 use crate::messages::add_message;
 use crate::place::Origin;
 use bt_bib::{Closing, Content, Item, ItemFault, NameRole};
-use bt_log::{Message, Place};
+use bt_log::{Message, Place, Said};
 use bt_text::{Bytes, Sequence, Shared};
 use std::alloc::{AllocError, Global};
 
@@ -128,12 +128,13 @@ fn fault_error(
         item.now.content item.now.close fault) }
 {
     let words = fault_words(alloc, &item.content, item.close, fault)?;
+    let said = Said::Words(Shared::new(alloc, words)?);
     let place = Place::DatabaseLine {
         database: origin.database,
         line: item.end.line + origin.start.line,
         byte: Some(item.end.place + origin.start.place),
     };
-    let mut message = Message::skipping(alloc, words, place, dropped_name(&item.content))?;
+    let mut message = Message::skipping(alloc, said, place, dropped_name(&item.content))?;
     message.entry = key_of(&item.content)?;
     Ok(message)
 }
@@ -166,8 +167,8 @@ pub fn repeated(
 ) -> Result<Message, AllocError>
     ensures { IfOk result (λ message. message ≡ repeated place key.now) }
 {
-    let words = Bytes::copied(alloc, b"Repeated entry")?;
-    let mut message = Message::skipping(alloc, words, place.of_message(), b"entry")?;
+    let said = Said::Words(Shared::<Bytes>::copied(alloc, b"Repeated entry")?);
+    let mut message = Message::skipping(alloc, said, place.of_message(), b"entry")?;
     message.entry = Some(key.share()?);
     Ok(message)
 }

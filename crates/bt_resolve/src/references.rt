@@ -9,7 +9,7 @@ ghost use Rattle.bt_resolve.specs.References.{about, bad_reference, crossref_mes
 use crate::family::Family;
 use crate::messages::add_message;
 use crate::stored::Stored;
-use bt_log::{Message, Rank};
+use bt_log::{Message, Rank, Said};
 use bt_text::{Bytes, NameList, Sequence, Shared};
 use std::alloc::{AllocError, Global};
 
@@ -25,7 +25,7 @@ fn about(
 {
     Ok(Message {
         rank,
-        words,
+        said: Said::Words(words),
         entry: Some(Shared::<Bytes>::copied(alloc, key)?),
         place: None,
         second,

@@ -5,7 +5,7 @@ ghost use Rattle.bt_text.specs.CaseFolding.{folded};
 ghost use Rattle.bt_resolve.specs.Warnings.{extra_field, no_function, own_macro, too_long, undefined_macro, warning_at};
 
 use crate::place::BibLine;
-use bt_log::{Message, Rank};
+use bt_log::{Message, Rank, Said};
 use bt_text::{Bytes, Shared, to_ascii_lowercase};
 use std::alloc::{AllocError, Global};
 
@@ -15,7 +15,7 @@ fn warning_at(place: BibLine, words: Shared<Bytes>, entry: Option<Shared<Bytes>>
 {
     Message {
         rank: Rank::Warning,
-        words,
+        said: Said::Words(words),
         entry,
         place: Some(place.of_message()),
         second: None,
