@@ -7,16 +7,16 @@ use Rattle.bt_bib.specs.declared.aux_line.Command.{Command}
 use Rattle.bt_bib.specs.declared.aux_line.Command.TheVariants.{Citation, Database, Style, Nested}
 use Rattle.bt_bib.specs.declared.aux_argument.AuxFault.{AuxFault}
 use Rattle.bt_bib.specs.AuxLine.{aux_lines}
+use Rattle.bt_log.specs.declared.message.FileKind.TheVariants.{Aux, Bib, Bst}
+use Rattle.bt_log.specs.declared.message.FileNote.TheVariants.{NotOpened, DatabaseTwice, AuxTwice, WrongExtension, BadFileName}
 use Rattle.bt_log.specs.declared.message.Message.{Message}
 use Rattle.bt_job.specs.declared.files.File.{File}
 use Rattle.bt_job.specs.declared.citations.Citations.{Citations}
 use Rattle.bt_job.specs.FileNames.{is_file_name, is_among, text_of, each_once}
-use Rattle.bt_job.specs.Faults.{LineFault, PartFault, WrongExtension, NoFileName, DatabaseTwice, FileTwice, NotThere, IllEnded, database_fault, style_fault, input_fault, right_parts, first_fault}
+use Rattle.bt_job.specs.Faults.{LineFault, PartFault, WrongFile, IllEnded, database_fault, style_fault, input_fault, right_parts, first_fault}
 use Rattle.bt_job.specs.Lines.{JobLine, lines_in, lines_of, has_command, first_with, line_parts, cited, database_names, style_names, input_names, unless_second, command_fault, line_fault, lines_opened, opened_by, read_on, line_count, job_lines}
 use Rattle.bt_job.specs.Citations.{keys_of, star_of, databases, styles, missed, along, line_messages, file_line, missing_of, told_missing, asked_by, asked_from, citations}
 use Rattle.bt_job.proofs.BoundLemmas.{any_bound_serves, read_end, read_more, unopened_all}
-use Rattle.bt_log.specs.declared.message.Rank.TheVariants.{FileLine}
-use Rattle.bt_log.specs.Message.{plain}
 use Rattle.bt_run.specs.ByName.{HaveSameTexts}
 
 -- Parts
@@ -27,15 +27,15 @@ FindSame f g = (before : List (List ℕ)) (part : List ℕ) → f before part �
 
 database_same : (files others : List File) → HaveSameTexts files others → FindSame (database_fault files) (database_fault others)
 database_same files others same before name =
-    ap (λ (o : Option (List ℕ)). if not (is_file_name name) then Some (NoFileName name) else if is_among before name then Some (DatabaseTwice name) else if not (is_some o) then Some (NotThere (codes "database") name) else None) (same name)
+    ap (λ (o : Option (List ℕ)). if not (is_file_name name) then Some (WrongFile BadFileName name) else if is_among before name then Some (WrongFile DatabaseTwice name) else if not (is_some o) then Some (WrongFile (NotOpened Bib) name) else None) (same name)
 
 style_same : (files others : List File) → HaveSameTexts files others → FindSame (style_fault files) (style_fault others)
 style_same files others same before name =
-    ap (λ (o : Option (List ℕ)). if not (is_file_name name) then Some (NoFileName name) else if not (is_some o) then Some (NotThere (codes "style") name) else None) (same name)
+    ap (λ (o : Option (List ℕ)). if not (is_file_name name) then Some (WrongFile BadFileName name) else if not (is_some o) then Some (WrongFile (NotOpened Bst) name) else None) (same name)
 
 input_same : (files others : List File) → HaveSameTexts files others → FindSame (input_fault files) (input_fault others)
 input_same files others same before name =
-    ap (λ (o : Option (List ℕ)). if not (ends_with eqb name (codes ".aux")) then Some (WrongExtension name) else if not (is_file_name name) then Some (NoFileName name) else if is_among before name then Some (FileTwice name) else if not (is_some o) then Some (NotThere (codes "auxiliary") name) else None) (same name)
+    ap (λ (o : Option (List ℕ)). if not (ends_with eqb name (codes ".aux")) then Some (WrongFile WrongExtension name) else if not (is_file_name name) then Some (WrongFile BadFileName name) else if is_among before name then Some (WrongFile AuxTwice name) else if not (is_some o) then Some (WrongFile (NotOpened Aux) name) else None) (same name)
 
 right_same : (f g : PartFault) → FindSame f g → (before parts : List (List ℕ)) → right_parts f before parts ≡ right_parts g before parts
 right_same f g same before [] = refl
@@ -127,7 +127,7 @@ asked root lines names style news missing = record {
   star = star_of (cited lines);
   databases = names;
   style = slice_get style 0;
-  log = (plain FileLine (file_line 0 root) ∷ news) ++ map (told_missing root)
+  log = (file_line 0 root ∷ news) ++ map (told_missing root)
       (missing_of (first_with Citation lines) (cited lines) (codes "\\citation commands") (codes "cite keys")
       ++ missing_of (first_with Database lines) names (codes "\\bibdata command") (codes "database files")
       ++ missing_of (first_with Style lines) style (codes "\\bibstyle command") (codes "style file"));

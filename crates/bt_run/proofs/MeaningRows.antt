@@ -4,8 +4,9 @@ use Rattle.std.proofs.Common.{◌≡◌, refl, ℕ, List, [], ◌∷◌, ◌++�
 use Rattle.bt_job.specs.declared.files.File.{File}
 use Rattle.bt_log.specs.declared.message.Message.{Message}
 use Rattle.bt_log.specs.declared.message.Rank.TheVariants.{FileLine, Error}
+use Rattle.bt_log.specs.declared.message.FileNote.TheVariants.{RootAux, StyleFile}
 use Rattle.bt_log.specs.declared.message.Place.TheVariants.{Line}
-use Rattle.bt_log.specs.Message.{plain, at}
+use Rattle.bt_log.specs.Message.{plain, of_file, at}
 use Rattle.bt_text.specs.LineBreaks.{near_break}
 use Rattle.bt_text.specs.Widths.{widths}
 use Rattle.bt_bib.specs.AuxLine.{aux_lines}
@@ -150,8 +151,8 @@ abbrev in_parts : Run → List Message
 in_parts (m, steps, ticks) = m.messages
 
 faulty_style_messages : in_parts (run faulty_texts 2) ≡
-    plain FileLine (codes "The top-level auxiliary file: job.aux")
-    ∷ plain FileLine (codes "The style file: s.bst")
+    of_file FileLine RootAux (codes "job.aux")
+    ∷ of_file FileLine StyleFile (codes "s.bst")
     ∷ at (Line (codes "s.bst") 2 None) (plain Error (codes "This name isn't defined"))
     ∷ []
 unfolding run

@@ -12,6 +12,7 @@ use Rattle.bt_style.specs.Program.{Program, Definition}
 use Rattle.bt_log.specs.declared.message.Message.{Message}
 use Rattle.bt_log.specs.declared.message.Rank.{Rank}
 use Rattle.bt_log.specs.declared.message.Rank.TheVariants.{FileLine, Warning, Error, CallCount}
+use Rattle.bt_log.specs.declared.message.Said.TheVariants.{Words}
 use Rattle.bt_log.specs.declared.message.Place.TheVariants.{DatabaseLine}
 use Rattle.bt_log.specs.Message.{plain, at, skipping}
 use Rattle.bt_log.specs.Wording.{spelled}
@@ -42,7 +43,7 @@ in_order = refl
 -- a warning of the second database, an error of the first, and an error about the list
 abbrev found_messages : List Message
 found_messages =
-    skipping (codes "Repeated entry") (DatabaseLine 1 2 None) (codes "entry")
+    skipping (Words (codes "Repeated entry")) (DatabaseLine 1 2 None) (codes "entry")
     ∷ at (DatabaseLine 2 1 None) (plain Warning (codes "Warning--string name \"nix\" is undefined"))
     ∷ record (plain Error (codes "A bad cross reference---entry \"a\"")) { second = Some (codes "refers to entry \"p\", which doesn't exist") }
     ∷ []

@@ -1,5 +1,5 @@
 -- READ: the entries that the databases give for the citations, and the messages.
-use Rattle.std.specs.Prelude.{ℕ, pos, ◌+◌, Bool, true, false, ◌==◌, List, [], ◌∷◌, ◌++◌, length, map, filter, take, count_by, codes, decimal, Option, Some, None, unwrap_or}
+use Rattle.std.specs.Prelude.{ℕ, pos, ◌+◌, Bool, true, false, ◌==◌, List, [], ◌∷◌, ◌++◌, length, map, filter, take, count_by, Option, Some, None, unwrap_or}
 use Rattle.std.specs.List.{range_with_len}
 use Rattle.bt_style.specs.declared.style.Action.{Action}
 use Rattle.bt_style.specs.declared.style.Action.TheVariants as actions
@@ -19,10 +19,11 @@ use Rattle.bt_resolve.specs.declared.entry.Resolved.{Resolved}
 use Rattle.bt_resolve.specs.Resolved.{resolved}
 use Rattle.bt_job.specs.declared.files.File.{File}
 use Rattle.bt_log.specs.declared.message.Message.{Message}
+use Rattle.bt_log.specs.declared.message.FileNote.TheVariants.{DatabaseFile}
 use Rattle.bt_log.specs.declared.message.Rank.TheVariants.{FileLine}
 use Rattle.bt_log.specs.declared.message.Place.{Place}
 use Rattle.bt_log.specs.declared.message.Place.TheVariants.{Line, DatabaseLine, WholeFile, Step}
-use Rattle.bt_log.specs.Message.{plain}
+use Rattle.bt_log.specs.Message.{of_file}
 use Rattle.bt_job.specs.FileNames.{text_of}
 use Rattle.bt_run.specs.declared.course.Course.{Course}
 
@@ -129,7 +130,7 @@ is_general (Some (Step style line)) = true
 
 -- the line of a database of this number
 abbrev pub file_line : ℕ → List ℕ → Message
-file_line number file = plain FileLine (codes "Database file #" ++ decimal number ++ codes ": " ++ file)
+file_line number file = of_file FileLine (DatabaseFile number) file
 
 -- a database of this number: its line, and the messages about it
 abbrev pub database_told : ℕ → List ℕ → List Message → List Message

@@ -4,9 +4,8 @@ ghost use Rattle.std.specs.Prelude.{◌≡◌, ◌++◌, ◌∷◌, [], map, fil
 ghost use Rattle.bt_log.specs.declared.message.Message.{Message as MessageSeen};
 ghost use Rattle.bt_run.specs.ReadCommand.{in_its_file, is_about, is_general, file_line, database_told, all_read};
 
-use bt_log::{Message, Place, Rank};
+use bt_log::{FileNote, Message, Place, Rank};
 use bt_text::{Bytes, Sequence, Shared};
-use itoa::Buffer;
 use std::alloc::{AllocError, Global};
 
 /// A message in the log, where it is one about a database in this file.
@@ -43,16 +42,11 @@ fn is_general(place: &Option<Place>) -> bool
 }
 
 /// The line of a database of this number.
-fn file_line(alloc: Global, number: usize, file: &Shared<Bytes>) -> Result<Message, AllocError>
+fn file_line(number: usize, file: &Shared<Bytes>) -> Result<Message, AllocError>
     ensures { IfOk result (λ message. message ≡ file_line number file.now) }
 {
-    let mut buffer = Buffer::new();
-    let number = buffer.format(number).as_bytes();
-    Message::of(
-        alloc,
-        Rank::FileLine,
-        &[b"Database file #", number, b": ", file.as_slice()],
-    )
+    let file = file.share()?;
+    Ok(Message::of_file(Rank::FileLine, FileNote::DatabaseFile(number), file))
 }
 
 /// Adds one message to the log, if it is about the database of this number.
@@ -74,7 +68,6 @@ fn tell_if_about(
 
 /// Logs a database: its line, and the messages about it.
 fn tell_database(
-    alloc: Global,
     log: &mut Sequence<Message>,
     number: usize,
     file: &Shared<Bytes>,
@@ -82,7 +75,7 @@ fn tell_database(
 ) -> Result<(), AllocError>
     ensures { OnOk result (log.new ≡ log.old ++ database_told number file.now messages.now) }
 {
-    log.push(file_line(alloc, number, file)?)?;
+    log.push(file_line(number, file)?)?;
     'messages: for message in messages {
         tell_if_about(log, number, file, message)?;
     }
@@ -120,7 +113,7 @@ pub fn tell_databases(
 {
     'databases: for (place, file) in databases.iter().enumerate() {
         let name = Shared::<Bytes>::copied(alloc, file.as_slice())?;
-        tell_database(alloc, log, place + 1, &name, messages)?;
+        tell_database(log, place + 1, &name, messages)?;
     }
     tell_general(log, messages)
 }

@@ -7,7 +7,7 @@ ghost use Rattle.bt_run.specs.Meaning.{first_number, first_globals, run_begun, f
 use crate::course::Course;
 use crate::declarations::empty_texts;
 use bt_actions::Variables;
-use bt_log::{Message, Place, Rank};
+use bt_log::{Message, Place, Rank, Said};
 use bt_style::{Style, StyleFault};
 use bt_text::{Bytes, Held, Sequence, Shared, Values};
 use std::alloc::{AllocError, Global};
@@ -78,7 +78,7 @@ pub fn fault_told(alloc: Global, file: &[u8], fault: StyleFault) -> Result<Messa
     };
     Ok(Message {
         rank: Rank::Error,
-        words: Shared::<Bytes>::copied(alloc, fault.kind.words())?,
+        said: Said::Words(Shared::<Bytes>::copied(alloc, fault.kind.words())?),
         entry: None,
         place: Some(place),
         second: None,
