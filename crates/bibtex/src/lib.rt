@@ -12,7 +12,7 @@ mod reread;
 mod session;
 mod state;
 
-pub use bt_log::{Message, Place, Rank};
+pub use bt_log::{FileKind, FileNote, Message, Place, Rank, Said};
 pub use bt_run::Report;
 pub use bt_text::Bytes;
 pub use draft::Draft;

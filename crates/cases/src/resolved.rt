@@ -6,7 +6,7 @@ ghost use Rattle.std.specs.Prelude.{◌≤◌, length, IfOk, IfSome};
 use crate::answer::Answer;
 use crate::spelling::{place_at, unspelled, word_at};
 use bt_bib::{Items, read_bib};
-use bt_log::{Message, Place, Rank};
+use bt_log::{Message, Place, Rank, Said};
 use bt_resolve::{Cites, Declared, Entry, Macro, Resolved, are_apart, resolve};
 use bt_text::{Bytes, NameList, Sequence, Shared};
 use std::alloc::{AllocError, Global};
@@ -116,7 +116,10 @@ fn push_message(out: &mut Answer, message: &Message) {
         out.count(*line);
         out.put(b" ");
     }
-    out.put(message.words.as_slice());
+    match &message.said {
+        Said::Words(words) => out.put(words.as_slice()),
+        Said::OfFile { file, .. } => out.put(file.as_slice()),
+    }
     if let Some(second) = &message.second {
         out.put(b" | ");
         out.put(second.as_slice());

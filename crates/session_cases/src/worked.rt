@@ -2,7 +2,7 @@
 //! before an edit. One session goes through all of them.
 
 use crate::answers::{push_answer, push_bibliography};
-use bibtex::{Bytes, Change, Edit, Message, Place, Refusal, Session, edit_all};
+use bibtex::{Bytes, Change, Edit, Message, Place, Refusal, Said, Session, edit_all};
 use std::alloc::{AllocError, Global};
 
 const AUX: &[u8] = b"\\citation{b,a}\n\\bibdata{x}\n\\bibstyle{s}\n";
@@ -47,10 +47,14 @@ fn answers(alloc: Global, out: &mut Bytes, session: &mut Session) -> Result<(), 
     Ok(())
 }
 
-/// A message: its rank, its words, and the file and line where it belongs.
+/// A message: its rank, its words or the file that it names, and the file and line where it belongs.
 fn told(alloc: Global, out: &mut Bytes, message: &Message) -> Result<(), AllocError> {
     out.append(format!(in alloc; "{:?} ", message.rank)?.as_bytes())?;
-    out.append(message.words.as_slice())?;
+    let said = match &message.said {
+        Said::Words(words) => words,
+        Said::OfFile { file, .. } => file,
+    };
+    out.append(said.as_slice())?;
     if let Some(Place::Line { file, line, .. }) = &message.place {
         let line = format!(in alloc; ":{line}")?;
         out.append_all(&[b" ", file.as_slice(), line.as_bytes()])?;
