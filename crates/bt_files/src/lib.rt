@@ -1,8 +1,10 @@
 //! A layer between an author's files and a session's, whose names the session chooses.
 #![tactic(auto)]
 
+mod laws;
 mod messages;
 mod names;
 
+pub use laws::{session_names_are_admitted, session_names_lead_back};
 pub use messages::{all_put_back, put_back};
 pub use names::Names;

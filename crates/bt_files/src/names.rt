@@ -1,6 +1,6 @@
 //! Names of files: the author's, which may be anything, and the session's.
 
-ghost use Rattle.std.specs.Prelude.{◌≡◌, ◌+◌, ◌<◌, [], IfOk, OnOk, OnErr};
+ghost use Rattle.std.specs.Prelude.{◌≡◌, ◌↔◌, ℕ, ◌<◌, ◌^◌, IsTrue, List, [], length, Some, IfOk, OnOk, OnErr};
 ghost use Rattle.std.specs.Option.{option_map};
 ghost use Rattle.bt_files.specs.Names.{is_stand_in, is_own_name, ending_of, numbered, session_name, author_name, with_author};
 
@@ -64,9 +64,23 @@ fn numbered(alloc: Global, number: usize, author: &[u8]) -> Result<Bytes, AllocE
     Bytes::of(alloc, &[b"+/", digits, ending_of(author)])
 }
 
+/// The number of a name that stands for an author's name.
+fn number_of(session: &[u8]) -> Option<usize>
+    ensures { (number : ℕ) (author : List ℕ) → number < 2 ^ 64 → session.now ≡ numbered number author → result ≡ Some number }
+{
+    let rest = session.strip_prefix(b"+/")?;
+    let end = rest
+        .iter()
+        .position(|byte| !byte.is_ascii_digit())
+        .unwrap_or(rest.len());
+    let (digits, _) = rest.split_at(end);
+    let digits = str::from_utf8(digits).ok()?;
+    digits.parse::<usize>().ok()
+}
+
 /// Whether a session's name is the one of this number, which stands for an author's name.
 fn is_numbered(number: usize, author: &[u8], session: &[u8]) -> bool
-    ensures { result ≡ bytes_eq (numbered number author.now) session.now }
+    ensures { IsTrue result ↔ (session.now ≡ numbered number author.now) }
 {
     let mut buffer = Buffer::new();
     let digits = buffer.format(number).as_bytes();
@@ -87,6 +101,14 @@ impl Names {
         Names {
             authors: IndexSet::new(alloc),
         }
+    }
+
+    /// How many names there are, of which no memory holds 2 ^ 63.
+    pub fn len(&self) -> usize
+        ensures value { result ≡ length self.now }
+        ensures small { result < 2 ^ 63 }
+    {
+        self.authors.len()
     }
 
     /// Notes an author's name: one that needs another name in the session, and was not met before, gets one. After out
@@ -111,8 +133,13 @@ impl Names {
         if is_own_name(author) {
             return Ok(Some(Bytes::copied(alloc, author)?));
         }
+        let count = self.len();
         match self.authors.get_index_of(author) {
-            Some(place) => Ok(Some(numbered(alloc, place + 1, author)?)),
+            Some(place) => {
+                prove!(place < count);
+                let name = numbered(alloc, place + 1, author)?;
+                Ok(Some(name))
+            }
             None => Ok(None),
         }
     }
@@ -125,11 +152,16 @@ impl Names {
         if !is_stand_in(session) {
             return Some(session);
         }
-        'authors: for (place, author) in self.authors.iter().enumerate() {
-            if is_numbered(place + 1, author, session) {
-                return Some(author);
-            }
+        let count = self.len();
+        let number = number_of(session)?;
+        if number == 0 || count < number {
+            return None;
         }
-        None
+        let author = self.authors.get_index(number - 1)?;
+        if is_numbered(number, author, session) {
+            Some(author)
+        } else {
+            None
+        }
     }
 }

@@ -1,0 +1,96 @@
+-- Tables of the author's names, and the names that stand for them.
+use Rattle.std.proofs.Common.{◌≡◌, refl, sym, ap, ◌∙◌, ℕ, zero, suc, ◌+◌, ◌<◌, ◌≤◌, ◌^◌, Bool, true, false, cond, List, [], ◌∷◌, ◌++◌, length, get_or, Option, Some, None, arith, add-zero, add_assoc, subst}
+use Rattle.std.specs.Prelude.{not, ◌&&◌, ◌||◌, position}
+use Rattle.std.specs.List.{list_any, position_from}
+use Rattle.std.specs.Option.{option_map, is_some}
+use Rattle.std.specs.Str.{bytes_eq}
+use Rattle.std.proofs.lemmas.Bool.{and_parts, not-true}
+use Rattle.std.proofs.lemmas.List.Quantifiers.{position-Some}
+use Rattle.std.proofs.lemmas.Iterator.Adapters.{position_from-zero}
+use Rattle.bt_job.specs.FileNames.{is_file_name, is_among, with_name}
+use Rattle.bt_job.proofs.NameLemmas.{same_bytes, name_itself, is_among-append}
+use Rattle.bt_files.specs.Names.{is_stand_in, is_own_name, numbered, session_name, stood_for, author_name, with_author}
+use Rattle.bt_files.proofs.NumberLemmas.{same_number, numbered_admitted}
+
+-- A name stands for an author's name, which is at a place of a table whose numbers begin here.
+pub record Stands (number : ℕ) (table : List (List ℕ)) (author session : List ℕ) : Type 0 where
+  pub place : ℕ
+  pub within : place < length table
+  pub there : get_or table place [] ≡ author
+  pub same : numbered (number + place) author ≡ session
+
+-- one name stands for one author's name
+pub stands : (number : ℕ) (table : List (List ℕ)) (author session : List ℕ) → number + length table ≤ 2 ^ 64 → Stands number table author session
+    → stood_for number table session ≡ Some author
+stands number [] author session few s = let w = s.within in absurd (omega arith)
+stands number (name ∷ table) author session few s =
+    go (bytes_eq (numbered number name) session) refl s.place s.within s.there s.same (λ (more : (number + 1) + length table ≤ 2 ^ 64) (t : Stands (number + 1) table author session). stands (number + 1) table author session more t)
+  where
+    go : (b : Bool) → bytes_eq (numbered number name) session ≡ b → (place : ℕ) → place < length (name ∷ table) → get_or (name ∷ table) place [] ≡ author
+        → numbered (number + place) author ≡ session
+        → ((number + 1) + length table ≤ 2 ^ 64 → Stands (number + 1) table author session → stood_for (number + 1) table session ≡ Some author)
+        → cond b (Some name) (stood_for (number + 1) table session) ≡ Some author
+    go true e zero within there same later = ap (λ (n : List ℕ). Some n) there
+    go true e (suc place) within there same later =
+        let one : number ≡ number + suc place =
+            same_number number (number + suc place) name author (omega arith) (omega arith) (same_bytes (numbered number name) session e ∙ sym same) in
+        absurd (omega arith)
+    go false e zero within there same later =
+        let is : numbered number name ≡ session = ap (λ (a : List ℕ). numbered number a) there ∙ ap (λ (n : ℕ). numbered n author) (sym (add-zero number)) ∙ same in
+        let wrong : bytes_eq (numbered number name) session ≡ true = ap (λ (s : List ℕ). bytes_eq (numbered number name) s) (sym is) ∙ name_itself (numbered number name) in
+        cc
+    go false e (suc place) within there same later =
+        let next : (number + 1) + place ≡ number + suc place = omega arith in
+        later (omega arith) (record { place = place; within = omega arith; there = there; same = ap (λ (n : ℕ). numbered n author) next ∙ same })
+
+-- the place of a name
+pub placed : (table : List (List ℕ)) (author session : List ℕ) (place : ℕ) → position (λ name. bytes_eq name author) table ≡ Some place
+    → numbered (place + 1) author ≡ session → Stands 1 table author session
+placed table author session place found same =
+    let at : (place < length table) × (bytes_eq (get_or table place []) author ≡ true) × ((k : ℕ) → k < place → bytes_eq (get_or table k []) author ≡ false) =
+        position-Some (λ name. bytes_eq name author) table place [] found in
+    let next : 1 + place ≡ place + 1 = omega arith in
+    record {
+      place = place;
+      within = at.0;
+      there = same_bytes (get_or table place []) author at.1;
+      same = ap (λ (n : ℕ). numbered n author) next ∙ same;
+    }
+
+-- what is known of a session's name
+pub data Known (table : List (List ℕ)) (author session : List ℕ) : Type 0 where
+  itself : is_own_name author ≡ true → author ≡ session → Known table author session
+  other : (place : ℕ) → position (λ name. bytes_eq name author) table ≡ Some place → numbered (place + 1) author ≡ session → Known table author session
+
+pub known : (table : List (List ℕ)) (author session : List ℕ) → session_name table author ≡ Some session → Known table author session
+known table author session h = go (is_own_name author) refl (position (λ name. bytes_eq name author) table) refl h
+  where
+    go : (b : Bool) → is_own_name author ≡ b → (p : Option ℕ) → position (λ name. bytes_eq name author) table ≡ p
+        → cond b (Some author) (option_map (λ place. numbered (place + 1) author) p) ≡ Some session → Known table author session
+    go true e p is same = itself e (cc)
+    go false e None is same = cc
+    go false e (Some place) is same = other place is (cc)
+
+pub leads_back : (table : List (List ℕ)) (author session : List ℕ) → length table < 2 ^ 64 → session_name table author ≡ Some session
+    → author_name table session ≡ Some author
+leads_back table author session few h = go (known table author session h)
+  where
+    go : Known table author session → author_name table session ≡ Some author
+    go (itself is same) =
+        let parts : (is_file_name author ≡ true) × (not (is_stand_in author) ≡ true) = and_parts (is_file_name author) (not (is_stand_in author)) is in
+        subst (λ (s : List ℕ). author_name table s ≡ Some author) same
+            (ap (λ (b : Bool). cond b (stood_for 1 table author) (Some author)) (not-true (is_stand_in author) parts.1))
+    go (other place found same) =
+        ap (λ (b : Bool). cond b (stood_for 1 table session) (Some session)) (ap is_stand_in (sym same))
+        ∙ stands 1 table author session (omega arith) (placed table author session place found same)
+
+pub is_admitted : (table : List (List ℕ)) (author session : List ℕ) → length table < 2 ^ 64 → session_name table author ≡ Some session
+    → is_file_name session ≡ true
+is_admitted table author session few h = go (known table author session h)
+  where
+    go : Known table author session → is_file_name session ≡ true
+    go (itself is same) = ap is_file_name (sym same) ∙ (and_parts (is_file_name author) (not (is_stand_in author)) is).0
+    go (other place found same) =
+        let s : Stands 1 table author session = placed table author session place found same in
+        let within : s.place < length table = s.within in
+        ap is_file_name (sym s.same) ∙ numbered_admitted (1 + s.place) author (omega arith)
