@@ -1,9 +1,11 @@
-# make build      proves everything and builds the program, and says how long it has still to go
+# make build      proves everything and builds the programs, and says how long it has still to go
 #                 (JOBS=N: N crates at a time)
 # make run        shows the bibliography of the paper in examples/: by the built program, or, where it isn't built, unproved
 # make test       the gate: every proof from nothing, the edits that must be refused, the tests, the built program's output
-# make install    puts it into PREFIX/bin as bibtex, and bibtex-collect beside it (PREFIX=/usr/local; DESTDIR goes before it)
-# make uninstall  takes both away
+# make install    puts bibtex into PREFIX/bin, and its parts into PREFIX/lib and PREFIX/share (PREFIX=/usr/local; DESTDIR goes before it)
+# make uninstall  removes exactly what `make install` put there
+# make deb        builds the Debian package out/dulshenko_VERSION_ARCH.deb from the built programs, and needs dpkg-deb
+# make dist       builds the archive out/dulshenko-VERSION-ARCH.tar.gz from them
 # make check      proves what has changed since the last check
 #
 # These need more than the kit (tests/README.md says what), and their last line counts what they skipped:
@@ -13,20 +15,22 @@
 # make compare    runs it and TeX Live's bibtex over the TeX tree's styles and databases
 # make try-latex  tries bibtex-collect with LaTeX and latexmk
 # make try-editors   drives Vim, Neovim and Emacs with the plugins of editors/
+# make try-packages  installs and removes the package and the archive in folders of their own
 
 PREFIX ?= /usr/local
 DESTDIR ?=
 
-# The proved program: `make build` leaves it here, and so does `rt ci`.
+# The proved programs: `make build` leaves them here, and so does `rt ci`. The first one serves an editor, the second one runs a job.
 PROGRAM := crates/bibtex_program/out/bibtex_program
+JOB_PROGRAM := crates/job_program/out/job_program
 SOURCES := crates.txt $(shell find crates/*/src crates/*/specs crates/*/proofs 2>/dev/null)
 
-.PHONY: build run test check install uninstall measure hostile compare try-latex try-editors
+.PHONY: build run test check built install uninstall deb dist measure hostile compare try-latex try-editors try-packages
 
-build: $(PROGRAM)
+build: $(PROGRAM) $(JOB_PROGRAM)
 
-# Every crate is proved, lowest first, and the program is built only then.
-$(PROGRAM): $(SOURCES)
+# Every crate is proved, lowest first, and the programs are built only then.
+$(PROGRAM) $(JOB_PROGRAM) &: $(SOURCES)
 	@tools/build $(JOBS)
 
 run:
@@ -44,19 +48,27 @@ check:
 	@tools/kit
 	rt all check
 
-# It builds nothing, so that root needs no toolchain: `make build` does. (The program is written only once it and all that it stands on are proved.)
-install:
-	@test -x $(PROGRAM) || { echo "The program isn't built: run 'make build' first." >&2; exit 1; }
-	@test -z "$$(find $(SOURCES) -newer $(PROGRAM) | head -1)" || \
-	{ echo "The program is older than its sources: run 'make build' first." >&2; exit 1; }
-	install -d "$(DESTDIR)$(PREFIX)/bin"
-	install -m 755 $(PROGRAM) "$(DESTDIR)$(PREFIX)/bin/bibtex"
-	install -m 755 scripts/bibtex-collect "$(DESTDIR)$(PREFIX)/bin/bibtex-collect"
+# Whether the programs are there and up to date. It builds nothing, so that root needs no toolchain: `make build` does. (A program is written only once it and all that it stands on are proved.)
+built:
+	@for program in $(PROGRAM) $(JOB_PROGRAM); do \
+	  test -x $$program || { echo "$$program isn't built: run 'make build' first." >&2; exit 1; }; \
+	  test -z "$$(find $(SOURCES) -newer $$program | head -1)" || \
+	  { echo "$$program is older than its sources: run 'make build' first." >&2; exit 1; }; \
+	done
 
-# A bibtex without bibtex-collect beside it is someone else's.
+# What is installed is laid out first, as in an archive, so that both are installed by one script. It refuses to overwrite another bibtex, and says how to go back.
+install: built
+	@room=$$(mktemp -d) && trap 'rm -rf "$$room"' EXIT && \
+	tools/tree "$$room" $(JOB_PROGRAM) $(PROGRAM) && DESTDIR="$(DESTDIR)" sh "$$room/install" "$(PREFIX)"
+
 uninstall:
-	@test -e "$(DESTDIR)$(PREFIX)/bin/bibtex-collect" || { echo "Nothing was installed in $(DESTDIR)$(PREFIX)/bin." >&2; exit 1; }
-	rm -f "$(DESTDIR)$(PREFIX)/bin/bibtex" "$(DESTDIR)$(PREFIX)/bin/bibtex-collect"
+	@DESTDIR="$(DESTDIR)" scripts/uninstall "$(PREFIX)"
+
+deb: built
+	@tools/deb $(JOB_PROGRAM) $(PROGRAM) out
+
+dist: built
+	@tools/dist $(JOB_PROGRAM) $(PROGRAM) out
 
 measure: build
 	tests/measure $(PROGRAM) --write
@@ -73,3 +85,6 @@ try-latex:
 # PROGRAM=.. drives another build of the program.
 try-editors:
 	tests/editors/run $(PROGRAM)
+
+try-packages: built
+	tests/packages $(JOB_PROGRAM) $(PROGRAM)
