@@ -6,7 +6,8 @@ use Rattle.bt_job.specs.declared.files.File.{File}
 use Rattle.bt_log.specs.declared.message.Rank.{Rank}
 use Rattle.bt_log.specs.declared.message.Rank.TheVariants.{FileLine, Error, Fatal}
 use Rattle.bt_log.specs.declared.message.FileKind.TheVariants.{Aux}
-use Rattle.bt_log.specs.declared.message.FileNote.TheVariants.{NotOpened}
+use Rattle.bt_log.specs.declared.message.FileNote.TheVariants.{RootAux, StyleFile, NotOpened, AuxTwice}
+use Rattle.bt_log.specs.declared.message.Said.TheVariants.{OfFile}
 use Rattle.bt_job.specs.declared.citations.Citations.{Citations}
 use Rattle.bt_bib.specs.AuxLine.{aux_lines}
 use Rattle.bt_log.specs.Message.{of_file}
@@ -138,6 +139,15 @@ gone_log : log gone
     ∷ style ∷ []
 unfolding digits aux_lines cited line_fault read_on job_lines citations
 gone_log = refl
+
+-- The names of files stay apart from the words.
+gone_said : map (λ m. m.said) gone.log
+    ≡ OfFile RootAux (codes "job.aux")
+    ∷ OfFile (NotOpened Aux) (codes "n.aux")
+    ∷ OfFile AuxTwice (codes "n.aux")
+    ∷ OfFile StyleFile (codes "s.bst") ∷ []
+unfolding digits aux_lines cited line_fault read_on job_lines citations
+gone_said = refl
 
 -- A database that is named twice: the rest of the command isn't read.
 abbrev twice : Citations
