@@ -1,11 +1,12 @@
 -- Names that are found by hashing, and the table that they are.
-use Rattle.std.proofs.Common.{◌≡◌, refl, sym, ap, ◌∙◌, ℕ, ◌+◌, Bool, true, false, cond, List, [], ◌∷◌, ◌++◌, Option, Some, None, map}
+use Rattle.std.proofs.Common.{◌≡◌, refl, sym, ap, ◌∙◌, ℕ, ◌+◌, Bool, true, false, cond, List, [], ◌∷◌, ◌++◌, Option, Some, None, map, get_or}
 use Rattle.std.specs.Prelude.{Vec, bytes_eq, ◌||◌, position}
-use Rattle.std.specs.List.{list_any, position_from}
+use Rattle.std.specs.List.{list_any, position_from, slice_get}
 use Rattle.std.specs.Option.{option_map}
 use Rattle.std.specs.declared.alloc.Global.{Global}
 use Rattle.std.specs.Cmp.Lexicographic.{nat_list_eq_equiv}
 use Rattle.std.proofs.lemmas.Iterator.Adapters.{position_from-zero}
+use Rattle.std.proofs.lemmas.Option.{slice_get-map, get_or_from_slice_get}
 use Rattle.indexmap.specs.IndexSet.{insert_key}
 use Rattle.bt_job.specs.FileNames.{is_among, with_name}
 use Rattle.bt_files.specs.Names.{is_own_name, numbered, session_name, with_author}
@@ -71,3 +72,11 @@ noted author keys after key table are own new is put =
     ∙ ap (λ (n : List ℕ). table_of keys ++ n ∷ []) is ∙ ap (λ (t : List (List ℕ)). t ++ author ∷ []) are
     ∙ ap (λ (b : Bool). cond b table (table ++ author ∷ [])) (sym lacks)
     ∙ ap (λ (b : Bool). cond b table (with_name table author)) (sym own)
+
+-- the name at a place
+pub at_key : (keys : Keys) (place : ℕ) (key : Vec ℕ Global) (table : List (List ℕ)) → table_of keys ≡ table → slice_get keys place ≡ Some key
+    → get_or table place [] ≡ key.items
+at_key keys place key table are is =
+    get_or_from_slice_get table place key.items []
+        (ap (λ (t : List (List ℕ)). slice_get t place) (sym are) ∙ slice_get-map (λ (name : Vec ℕ Global). name.items) keys place
+        ∙ ap (option_map (λ (name : Vec ℕ Global). name.items)) is)

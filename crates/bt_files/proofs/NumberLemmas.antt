@@ -1,15 +1,19 @@
 -- Names that stand for others: each has a number of its own, and is admitted.
-use Rattle.std.proofs.Common.{◌≡◌, refl, sym, ap, ◌∙◌, ℕ, ◌+◌, ◌<◌, ◌≤◌, ◌^◌, Bool, true, false, cond, List, [], ◌∷◌, ◌++◌, length, drop, arith, length-append}
+use Rattle.std.proofs.Common.{◌≡◌, refl, sym, ap, ◌∙◌, ℕ, ◌+◌, ◌<◌, ◌≤◌, ◌^◌, Bool, true, false, cond, List, [], ◌∷◌, ◌++◌, length, take, drop, arith, length-append, take-append-drop}
 use Rattle.std.specs.Prelude.{codes, decimal, ◌&&◌, ◌||◌, nat_le, eqb, ◌==◌}
-use Rattle.std.specs.List.{list_all, ends_with}
+use Rattle.std.specs.List.{list_all, ends_with, prefix_len}
 use Rattle.std.specs.Char.{is_ascii_digit}
-use Rattle.std.specs.Str.{all_ascii_digits}
+use Rattle.std.specs.Bool.{IsTrue}
+use Rattle.std.specs.Str.{all_ascii_digits, bytes_eq}
+use Rattle.std.proofs.Math.Seq.{drop-append_seam, take-append_seam}
+use Rattle.std.proofs.lemmas.List.Sums.{take_while-cons}
 use Rattle.std.proofs.lemmas.Bool.{and_parts, and_from, le-leb}
 use Rattle.std.proofs.lemmas.Fmt.{decimal_injective, digits_decimal, length-decimal-le}
 use Rattle.std.proofs.lemmas.List.Folds.{list_all-append}
 use Rattle.std.proofs.lemmas.Str.Parse.{IsNumeralModel, numerals_by_value, tells_all_ascii_digits}
 use Rattle.std.specs.Str.Parse.{digits_value}
 use Rattle.bt_job.specs.FileNames.{is_file_name, is_file_name_byte}
+use Rattle.bt_job.proofs.NameLemmas.{same_bytes, name_itself}
 use Rattle.bt_files.specs.Names.{ending_of, numbered}
 
 pub own : IsNumeralModel (λ ds. all_ascii_digits ds ≡ true) (digits_value 10)
@@ -88,3 +92,42 @@ numbered_admitted n name h =
     let few : length (decimal n ++ ending_of name) ≤ 24 = few_bytes n name h in
     let size : length (numbered n name) ≡ length (decimal n ++ ending_of name) + 2 = omega arith in
     and_from _ _ (and_from _ _ (le-leb 1 (length (numbered n name)) (omega arith)) (le-leb (length (numbered n name)) 64 (omega arith))) (bytes_admitted n name h)
+
+-- Reading a number
+
+front_is : (t : List ℕ) → take (prefix_len is_ascii_digit t) t ≡ front t
+front_is [] = refl
+front_is (c ∷ cs) = take_while-cons is_ascii_digit c cs ∙ ap (λ (t : List ℕ). cond (is_ascii_digit c) (c ∷ t) []) (front_is cs)
+
+-- the digits after the first two bytes of a name that stands for another
+pub number_digits : (n : ℕ) (author rest : List ℕ) → n < 2 ^ 64 → rest ≡ decimal n ++ ending_of author → take (prefix_len is_ascii_digit rest) rest ≡ decimal n
+number_digits n author rest h is = front_is rest ∙ ap front is ∙ front_of (decimal n) (ending_of author) (are_digits n h) (ending_front author)
+
+-- a text that another one begins
+pub stripped : (s p rest : List ℕ) → bytes_eq (take (length p) s) p ≡ true → rest ≡ drop (length p) s → s ≡ p ++ rest
+stripped s p rest h k =
+    sym (take-append-drop (length p) s) ∙ ap (λ (t : List ℕ). t ++ drop (length p) s) (same_bytes (take (length p) s) p h) ∙ ap (λ (t : List ℕ). p ++ t) (sym k)
+
+pub begins : (s p rest : List ℕ) → s ≡ p ++ rest → bytes_eq (take (length p) s) p ≡ true
+begins s p rest is = ap (λ (t : List ℕ). bytes_eq t p) (ap (take (length p)) is ∙ take-append_seam p rest) ∙ name_itself p
+
+-- a test of a name in pieces
+pub in_pieces : (n : ℕ) (author session rest digits ending own_ending : List ℕ) (b : Bool) → digits ≡ decimal n → own_ending ≡ ending_of author
+    → session ≡ 43 ∷ 47 ∷ rest → rest ≡ digits ++ ending → b ≡ bytes_eq ending own_ending
+    → (IsTrue b → session ≡ numbered n author) × (session ≡ numbered n author → IsTrue b)
+in_pieces n author session rest digits ending own_ending b are its is_session is_rest is_b =
+    ((λ (h : b ≡ true).
+        is_session ∙ ap (λ (t : List ℕ). 43 ∷ 47 ∷ t) (is_rest ∙ ap (λ (t : List ℕ). digits ++ t) (same_bytes ending own_ending (sym is_b ∙ h) ∙ its) ∙ ap (λ (t : List ℕ). t ++ ending_of author) are)),
+     (λ (h : session ≡ numbered n author).
+        let rests : digits ++ ending ≡ digits ++ ending_of author =
+            sym is_rest ∙ ap (drop 2) (sym is_session ∙ h) ∙ ap (λ (t : List ℕ). t ++ ending_of author) (sym are) in
+        let same : ending ≡ own_ending = sym (drop-append_seam digits ending) ∙ ap (drop (length digits)) rests ∙ drop-append_seam digits (ending_of author) ∙ sym its in
+        is_b ∙ ap (λ (t : List ℕ). bytes_eq t own_ending) same ∙ name_itself own_ending))
+
+pub not_in_pieces : (n : ℕ) (author session rest digits : List ℕ) → digits ≡ decimal n → session ≡ 43 ∷ 47 ∷ rest → bytes_eq (take (length digits) rest) digits ≡ false
+    → (IsTrue false → session ≡ numbered n author) × (session ≡ numbered n author → IsTrue false)
+not_in_pieces n author session rest digits are is_session not_begun =
+    ((λ (h : false ≡ true). cc),
+     (λ (h : session ≡ numbered n author).
+        let is : rest ≡ digits ++ ending_of author = ap (drop 2) (sym is_session ∙ h) ∙ ap (λ (t : List ℕ). t ++ ending_of author) (sym are) in
+        sym not_begun ∙ begins rest digits (ending_of author) is))

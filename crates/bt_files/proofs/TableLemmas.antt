@@ -1,5 +1,5 @@
 -- Tables of the author's names, and the names that stand for them.
-use Rattle.std.proofs.Common.{◌≡◌, refl, sym, ap, ◌∙◌, ℕ, zero, suc, ◌+◌, ◌<◌, ◌≤◌, ◌^◌, Bool, true, false, cond, List, [], ◌∷◌, ◌++◌, length, get_or, Option, Some, None, arith, add-zero, add_assoc, subst}
+use Rattle.std.proofs.Common.{◌≡◌, refl, sym, ap, ◌∙◌, ℕ, zero, suc, ◌+◌, ◌<◌, ◌≤◌, ◌^◌, Bool, true, false, cond, List, [], ◌∷◌, ◌++◌, length, get_or, Option, Some, None, arith, add-zero, subst}
 use Rattle.std.specs.Prelude.{not, ◌&&◌, ◌||◌, position}
 use Rattle.std.specs.List.{list_any, position_from}
 use Rattle.std.specs.Option.{option_map, is_some}
@@ -42,6 +42,44 @@ stands number (name ∷ table) author session few s =
     go false e (suc place) within there same later =
         let next : (number + 1) + place ≡ number + suc place = omega arith in
         later (omega arith) (record { place = place; within = omega arith; there = there; same = ap (λ (n : ℕ). numbered n author) next ∙ same })
+
+-- what is found
+pub data Found (number : ℕ) (table : List (List ℕ)) (session : List ℕ) : Type 0 where
+  nothing : stood_for number table session ≡ None → Found number table session
+  one : (author : List ℕ) → Stands number table author session → Found number table session
+
+pub found : (number : ℕ) (table : List (List ℕ)) (session : List ℕ) → Found number table session
+found number [] session = nothing refl
+found number (name ∷ table) session = go (bytes_eq (numbered number name) session) refl (found (number + 1) table session)
+  where
+    go : (b : Bool) → bytes_eq (numbered number name) session ≡ b → Found (number + 1) table session → Found number (name ∷ table) session
+    go true e later =
+        one name (record {
+          place = 0;
+          within = omega arith;
+          there = refl;
+          same = ap (λ (n : ℕ). numbered n name) (add-zero number) ∙ same_bytes (numbered number name) session e;
+        })
+    go false e (nothing is) = nothing (ap (λ (b : Bool). cond b (Some name) (stood_for (number + 1) table session)) e ∙ is)
+    go false e (one author s) =
+        let within : s.place < length table = s.within in
+        let next : number + suc s.place ≡ (number + 1) + s.place = omega arith in
+        one author (record { place = suc s.place; within = omega arith; there = s.there; same = ap (λ (n : ℕ). numbered n author) next ∙ s.same })
+
+-- no name where none is found
+pub lacks : (table : List (List ℕ)) (session : List ℕ) → is_stand_in session ≡ true → ((author : List ℕ) → Stands 1 table author session → ⊥)
+    → None ≡ author_name table session
+lacks table session form none = go (found 1 table session)
+  where
+    go : Found 1 table session → None ≡ author_name table session
+    go (nothing is) = sym (ap (λ (b : Bool). cond b (stood_for 1 table session) (Some session)) form ∙ is)
+    go (one author s) = absurd (none author s)
+
+-- the name that is found
+pub has : (table : List (List ℕ)) (author session : List ℕ) → is_stand_in session ≡ true → length table < 2 ^ 64 → Stands 1 table author session
+    → Some author ≡ author_name table session
+has table author session form few s =
+    sym (ap (λ (b : Bool). cond b (stood_for 1 table session) (Some session)) form ∙ stands 1 table author session (omega arith) s)
 
 -- the place of a name
 pub placed : (table : List (List ℕ)) (author session : List ℕ) (place : ℕ) → position (λ name. bytes_eq name author) table ≡ Some place

@@ -1,7 +1,9 @@
 //! Names of files: the author's, which may be anything, and the session's.
 
-ghost use Rattle.std.specs.Prelude.{◌≡◌, ◌↔◌, ℕ, ◌<◌, ◌^◌, IsTrue, List, [], length, Some, IfOk, OnOk, OnErr};
+ghost use Rattle.std.specs.Prelude.{◌≡◌, ◌↔◌, ℕ, ◌<◌, ◌≤◌, ◌^◌, IsTrue, List, [], length, Some, IfOk, OnOk, OnErr};
+ghost use Rattle.std.specs.List.{prefix_len};
 ghost use Rattle.std.specs.Option.{option_map};
+ghost use Rattle.std.specs.Char.{is_ascii_digit};
 ghost use Rattle.bt_files.specs.Names.{is_stand_in, is_own_name, ending_of, numbered, session_name, author_name, with_author};
 
 use bt_job::is_file_name;
@@ -64,18 +66,24 @@ fn numbered(alloc: Global, number: usize, author: &[u8]) -> Result<Bytes, AllocE
     Bytes::of(alloc, &[b"+/", digits, ending_of(author)])
 }
 
+/// How many digits a text begins with.
+fn digits_len(text: &[u8]) -> usize
+    ensures within { result ≤ length text.now }
+    ensures len { result ≡ prefix_len is_ascii_digit text.now }
+{
+    text.iter().take_while(|byte| byte.is_ascii_digit()).count()
+}
+
 /// The number of a name that stands for an author's name.
 fn number_of(session: &[u8]) -> Option<usize>
     ensures { (number : ℕ) (author : List ℕ) → number < 2 ^ 64 → session.now ≡ numbered number author → result ≡ Some number }
 {
     let rest = session.strip_prefix(b"+/")?;
-    let end = rest
-        .iter()
-        .position(|byte| !byte.is_ascii_digit())
-        .unwrap_or(rest.len());
-    let (digits, _) = rest.split_at(end);
-    let digits = str::from_utf8(digits).ok()?;
-    digits.parse::<usize>().ok()
+    let (digits, _) = rest.split_at(digits_len(rest));
+    match str::from_utf8(digits) {
+        Ok(digits) => digits.parse::<usize>().ok(),
+        Err(_) => None,
+    }
 }
 
 /// Whether a session's name is the one of this number, which stands for an author's name.
