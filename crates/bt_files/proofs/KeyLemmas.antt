@@ -66,7 +66,7 @@ pub noted : (author : List ℕ) (keys after : Keys) (key : Vec ℕ Global) (tabl
     → after ≡ insert_key (λ k m. bytes_eq k.items m.items) keys key → table_of after ≡ with_author table author
 noted author keys after key table are own new is put =
     let absent : list_any (λ (k : Vec ℕ Global). bytes_eq key.items k.items) keys ≡ false =
-        ap (λ (n : List ℕ). list_any (λ (k : Vec ℕ Global). bytes_eq n k.items) keys) is ∙ new in
+    ap (λ (n : List ℕ). list_any (λ (k : Vec ℕ Global). bytes_eq n k.items) keys) is ∙ new in
     let lacks : is_among table author ≡ false = ap (λ (t : List (List ℕ)). is_among t author) (sym are) ∙ sym (among_keys author keys) ∙ new in
     ap table_of (put ∙ ap (λ (b : Bool). cond b keys (keys ++ key ∷ [])) absent) ∙ table-append keys key
     ∙ ap (λ (n : List ℕ). table_of keys ++ n ∷ []) is ∙ ap (λ (t : List (List ℕ)). t ++ author ∷ []) are
@@ -78,5 +78,5 @@ pub at_key : (keys : Keys) (place : ℕ) (key : Vec ℕ Global) (table : List (L
     → get_or table place [] ≡ key.items
 at_key keys place key table are is =
     get_or_from_slice_get table place key.items []
-        (ap (λ (t : List (List ℕ)). slice_get t place) (sym are) ∙ slice_get-map (λ (name : Vec ℕ Global). name.items) keys place
-        ∙ ap (option_map (λ (name : Vec ℕ Global). name.items)) is)
+    (ap (λ (t : List (List ℕ)). slice_get t place) (sym are) ∙ slice_get-map (λ (name : Vec ℕ Global). name.items) keys place
+    ∙ ap (option_map (λ (name : Vec ℕ Global). name.items)) is)

@@ -1,3 +1,5 @@
 pub mod NumberLemmas
 pub mod TableLemmas
 pub mod KeyLemmas
+pub mod MessageLemmas
+mod NamesRows

@@ -58,8 +58,8 @@ pub same_number : (m n : ℕ) (a b : List ℕ) → m < 2 ^ 64 → n < 2 ^ 64 →
 same_number m n a b hm hn e =
     let rests : decimal m ++ ending_of a ≡ decimal n ++ ending_of b = ap (drop 2) e in
     decimal_injective m n hm hn
-        (sym (front_of (decimal m) (ending_of a) (are_digits m hm) (ending_front a)) ∙ ap front rests
-        ∙ front_of (decimal n) (ending_of b) (are_digits n hn) (ending_front b))
+    (sym (front_of (decimal m) (ending_of a) (are_digits m hm) (ending_front a)) ∙ ap front rests
+    ∙ front_of (decimal n) (ending_of b) (are_digits n hn) (ending_front b))
 
 -- a test among others
 third : (a b c d e f g h : Bool) → c ≡ true → (a || b || c || d || e || f || g || h) ≡ true
@@ -115,19 +115,21 @@ begins s p rest is = ap (λ (t : List ℕ). bytes_eq t p) (ap (take (length p)) 
 pub in_pieces : (n : ℕ) (author session rest digits ending own_ending : List ℕ) (b : Bool) → digits ≡ decimal n → own_ending ≡ ending_of author
     → session ≡ 43 ∷ 47 ∷ rest → rest ≡ digits ++ ending → b ≡ bytes_eq ending own_ending
     → (IsTrue b → session ≡ numbered n author) × (session ≡ numbered n author → IsTrue b)
-in_pieces n author session rest digits ending own_ending b are its is_session is_rest is_b =
-    ((λ (h : b ≡ true).
-        is_session ∙ ap (λ (t : List ℕ). 43 ∷ 47 ∷ t) (is_rest ∙ ap (λ (t : List ℕ). digits ++ t) (same_bytes ending own_ending (sym is_b ∙ h) ∙ its) ∙ ap (λ (t : List ℕ). t ++ ending_of author) are)),
-     (λ (h : session ≡ numbered n author).
-        let rests : digits ++ ending ≡ digits ++ ending_of author =
-            sym is_rest ∙ ap (drop 2) (sym is_session ∙ h) ∙ ap (λ (t : List ℕ). t ++ ending_of author) (sym are) in
-        let same : ending ≡ own_ending = sym (drop-append_seam digits ending) ∙ ap (drop (length digits)) rests ∙ drop-append_seam digits (ending_of author) ∙ sym its in
-        is_b ∙ ap (λ (t : List ℕ). bytes_eq t own_ending) same ∙ name_itself own_ending))
+in_pieces n author session rest digits ending own_ending b are its is_session is_rest is_b = (
+  (λ (h : b ≡ true).
+      is_session ∙ ap (λ (t : List ℕ). 43 ∷ 47 ∷ t) (is_rest ∙ ap (λ (t : List ℕ). digits ++ t) (same_bytes ending own_ending (sym is_b ∙ h) ∙ its) ∙ ap (λ (t : List ℕ). t ++ ending_of author) are)),
+  (λ (h : session ≡ numbered n author).
+      let rests : digits ++ ending ≡ digits ++ ending_of author =
+      sym is_rest ∙ ap (drop 2) (sym is_session ∙ h) ∙ ap (λ (t : List ℕ). t ++ ending_of author) (sym are) in
+      let same : ending ≡ own_ending = sym (drop-append_seam digits ending) ∙ ap (drop (length digits)) rests ∙ drop-append_seam digits (ending_of author) ∙ sym its in
+      is_b ∙ ap (λ (t : List ℕ). bytes_eq t own_ending) same ∙ name_itself own_ending),
+)
 
 pub not_in_pieces : (n : ℕ) (author session rest digits : List ℕ) → digits ≡ decimal n → session ≡ 43 ∷ 47 ∷ rest → bytes_eq (take (length digits) rest) digits ≡ false
     → (IsTrue false → session ≡ numbered n author) × (session ≡ numbered n author → IsTrue false)
-not_in_pieces n author session rest digits are is_session not_begun =
-    ((λ (h : false ≡ true). cc),
-     (λ (h : session ≡ numbered n author).
-        let is : rest ≡ digits ++ ending_of author = ap (drop 2) (sym is_session ∙ h) ∙ ap (λ (t : List ℕ). t ++ ending_of author) (sym are) in
-        sym not_begun ∙ begins rest digits (ending_of author) is))
+not_in_pieces n author session rest digits are is_session not_begun = (
+  (λ (h : false ≡ true). cc),
+  (λ (h : session ≡ numbered n author).
+      let is : rest ≡ digits ++ ending_of author = ap (drop 2) (sym is_session ∙ h) ∙ ap (λ (t : List ℕ). t ++ ending_of author) (sym are) in
+      sym not_begun ∙ begins rest digits (ending_of author) is),
+)

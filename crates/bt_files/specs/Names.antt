@@ -7,7 +7,7 @@ use Rattle.bt_job.specs.FileNames.{is_file_name, with_name}
 
 -- A table lists the author's names that need another name in the session, in the order in which they were first met.
 
--- whether a name has the form of those that stand for others
+-- whether a name has the form of the names that stand for others
 abbrev pub is_stand_in : List ℕ → Bool
 is_stand_in name = starts_with eqb name (codes "+/")
 

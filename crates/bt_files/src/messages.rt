@@ -10,7 +10,11 @@ use bt_text::{Bytes, Sequence, Shared};
 use std::alloc::{AllocError, Global};
 
 /// The author's name of a file; a name that stands for none stays.
-fn name_back(alloc: Global, names: &Names, file: &Shared<Bytes>) -> Result<Shared<Bytes>, AllocError>
+fn name_back(
+    alloc: Global,
+    names: &Names,
+    file: &Shared<Bytes>,
+) -> Result<Shared<Bytes>, AllocError>
     ensures { IfOk result (λ name. name ≡ name_back names.now file.now) }
 {
     match names.author_name(file.as_slice()) {

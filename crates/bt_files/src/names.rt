@@ -28,7 +28,7 @@ impl Model for Names {
     ghost view = { λ n. map (λ name. name.items) n.authors.keys };
 }
 
-/// Whether a name has the form of those that stand for others.
+/// Whether a name has the form of the names that stand for others.
 fn is_stand_in(name: &[u8]) -> bool
     ensures { result ≡ is_stand_in name.now }
 {
@@ -76,7 +76,8 @@ fn digits_len(text: &[u8]) -> usize
 
 /// The number of a name that stands for an author's name.
 fn number_of(session: &[u8]) -> Option<usize>
-    ensures { (number : ℕ) (author : List ℕ) → number < 2 ^ 64 → session.now ≡ numbered number author → result ≡ Some number }
+    ensures { (number : ℕ) (author : List ℕ) → number < 2 ^ 64 → session.now ≡ numbered number author →
+        result ≡ Some number }
 {
     let rest = session.strip_prefix(b"+/")?;
     let (digits, _) = rest.split_at(digits_len(rest));
@@ -111,7 +112,7 @@ impl Names {
         }
     }
 
-    /// How many names there are, of which no memory holds 2 ^ 63.
+    /// How many names there are: fewer than 2 ^ 63, as the laws on tables ask.
     pub fn len(&self) -> usize
         ensures value { result ≡ length self.now }
         ensures small { result < 2 ^ 63 }
@@ -119,8 +120,8 @@ impl Names {
         self.authors.len()
     }
 
-    /// Notes an author's name: one that needs another name in the session, and was not met before, gets one. After out
-    /// of memory the names are as before.
+    /// Notes an author's name: one that needs another name in the session, and was not met before, gets one. The only
+    /// error is out of memory, after which the names are as before.
     pub fn note(&mut self, alloc: Global, author: &[u8]) -> Result<(), AllocError>
         ensures ok { OnOk result (self.new ≡ with_author self.old author.now) }
         ensures err { OnErr result (self.new ≡ self.old) }
@@ -133,8 +134,8 @@ impl Names {
         Ok(())
     }
 
-    /// The session's name of an author's file. There is none if the name needs another one and was never noted. The only
-    /// error is out of memory.
+    /// The session's name of an author's file; none if the name needs another one and was never noted. The only error is
+    /// out of memory.
     pub fn session_name(&self, alloc: Global, author: &[u8]) -> Result<Option<Bytes>, AllocError>
         ensures { IfOk result (λ name. name ≡ session_name self.now author.now) }
     {
@@ -152,8 +153,7 @@ impl Names {
         }
     }
 
-    /// The author's name of a session's file. There is none if the name has the form of those that stand for others, and
-    /// stands for none.
+    /// The author's name of a session's file; none if the name begins with `+/` and stands for no author's name.
     pub fn author_name<'a>(&'a self, session: &'a [u8]) -> Option<&'a [u8]>
         ensures { option_map (λ name. name.now) result ≡ author_name self.now session.now }
     {
