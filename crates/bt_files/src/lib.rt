@@ -2,12 +2,14 @@
 #![tactic(auto)]
 
 mod laws;
+mod aux_text;
 mod messages;
 mod names;
 
+pub use aux_text::{name_of, written};
 pub use laws::{
     messages_stay_without_names, session_names_are_admitted, session_names_lead_back,
     session_names_stay, status_stays,
 };
 pub use messages::{all_put_back, put_back};
-pub use names::Names;
+pub use names::{Names, is_own_name};

@@ -35,8 +35,8 @@ fn is_stand_in(name: &[u8]) -> bool
     name.starts_with(b"+/")
 }
 
-/// Whether an author's name is its own name in the session.
-fn is_own_name(author: &[u8]) -> bool
+/// Whether an author's name is its own name in the session: the session admits it, and it doesn't begin with `+/`.
+pub fn is_own_name(author: &[u8]) -> bool
     ensures { result ≡ is_own_name author.now }
 {
     is_file_name(author) && !is_stand_in(author)
@@ -118,6 +118,13 @@ impl Names {
         ensures small { result < 2 ^ 63 }
     {
         self.authors.len()
+    }
+
+    /// Whether no name needs another one.
+    pub fn is_empty(&self) -> bool
+        ensures { result ≡ (length self.now == 0) }
+    {
+        self.authors.is_empty()
     }
 
     /// Notes an author's name: one that needs another name in the session, and was not met before, gets one. The only

@@ -1,11 +1,10 @@
 -- A job over an author's files: what they mean under names that a session admits, told under the author's names.
-use Rattle.std.specs.Prelude.{◌≡◌, ℕ, true, eqb, List, [], ◌∷◌, ◌++◌, map, filter, fold, flat_map, codes, Option, unwrap_or, All, if◌then◌else◌}
-use Rattle.std.specs.List.{ends_with}
+use Rattle.std.specs.Prelude.{◌≡◌, ℕ, true, eqb, List, [], ◌∷◌, ◌++◌, map, filter, fold, flat_map, codes, unwrap_or, length, ◌==◌, if◌then◌else◌}
+use Rattle.std.specs.List.{ends_with, list_all}
 use Rattle.bt_bib.specs.declared.aux_line.Command.TheVariants.{Citation, Database, Style, Nested}
 use Rattle.bt_bib.specs.declared.aux_line.Command.{Command}
 use Rattle.bt_bib.specs.declared.aux_line.AuxItem.{AuxItem}
 use Rattle.bt_bib.specs.AuxLine.{aux_lines}
-use Rattle.bt_log.specs.declared.message.Message.{Message}
 use Rattle.bt_log.specs.Log.{log_bytes, terse_bytes}
 use Rattle.bt_job.specs.declared.files.File.{File}
 use Rattle.bt_run.specs.Meaning.{Meaning, meaning}
@@ -45,8 +44,9 @@ renamed table author = unwrap_or (session_name table author) author
 
 -- An .aux text is written anew only where a name of the job changes.
 abbrev pub text_under : List (List ℕ) → List ℕ → List ℕ
-text_under [] text = text
-text_under table text = written (map (item_with (renamed table)) (aux_lines text))
+text_under table text =
+    if length table == 0 then text
+    else written (map (item_with (renamed table)) (aux_lines text))
 
 abbrev pub file_under : List (List ℕ) → File → File
 file_under table f =
@@ -82,5 +82,5 @@ job_meaning files root min = meaning_under (table_of files root) files root min
 -- Where a session admits each name, the files mean what they mean in a session.
 abbrev pub PlainJobsStay : Type 0
 PlainJobsStay =
-    (files : List File) (root : List ℕ) (min : ℕ) → All (λ name. is_own_name name ≡ true) (names_of files root)
+    (files : List File) (root : List ℕ) (min : ℕ) → list_all is_own_name (names_of files root) ≡ true
     → job_meaning files root min ≡ meaning files root min
