@@ -1,8 +1,8 @@
 //! A layer between an author's files and a session's, whose names the session chooses.
 #![tactic(auto)]
 
-mod laws;
 mod aux_text;
+mod laws;
 mod messages;
 mod names;
 

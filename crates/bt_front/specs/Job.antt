@@ -1,5 +1,5 @@
 -- A job over an author's files: what they mean under names that a session admits, told under the author's names.
-use Rattle.std.specs.Prelude.{◌≡◌, ℕ, true, eqb, List, [], ◌∷◌, ◌++◌, map, filter, fold, flat_map, codes, unwrap_or, length, ◌==◌, if◌then◌else◌}
+use Rattle.std.specs.Prelude.{◌≡◌, ℕ, Bool, true, eqb, List, [], ◌∷◌, ◌++◌, map, filter, fold, flat_map, codes, unwrap_or, length, ◌==◌, if◌then◌else◌}
 use Rattle.std.specs.List.{ends_with, list_all}
 use Rattle.bt_bib.specs.declared.aux_line.Command.TheVariants.{Citation, Database, Style, Nested}
 use Rattle.bt_bib.specs.declared.aux_line.Command.{Command}
