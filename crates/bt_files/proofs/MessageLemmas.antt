@@ -14,7 +14,7 @@ use Rattle.bt_files.specs.Messages.{name_back, said_back, place_back, put_back}
 
 -- An empty table
 
-name_stays : (file : List ℕ) → name_back [] file ≡ file
+pub name_stays : (file : List ℕ) → name_back [] file ≡ file
 name_stays file = go (is_stand_in file)
   where
     go : (b : Bool) → unwrap_or (cond b None (Some file)) file ≡ file

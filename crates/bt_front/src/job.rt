@@ -240,6 +240,7 @@ fn told_under(alloc: Global, names: &Names, shown: Answers) -> Result<Answers, A
 
 /// What a job's files mean, of any size and number and under any names. `root` is the name of the job's first `.aux` file
 /// without its ending. The only error is out of memory.
+#[tactic(auto, unfolding(crate::specs::Job::job_meaning))]
 pub fn run(alloc: Global, files: &[File], root: &[u8], min: u32) -> Result<Answers, AllocError>
     ensures { IfOk result (λ shown. meaning_of shown ≡ job_meaning files.now root.now min) }
 {
@@ -253,6 +254,7 @@ pub fn run(alloc: Global, files: &[File], root: &[u8], min: u32) -> Result<Answe
 
 /// A law: where a session admits each name that a job's files give, they mean what they mean in a session, and the log
 /// is the same byte for byte.
+#[tactic(auto, using(crate::proofs::JobLemmas::job_kept))]
 pub fn plain_jobs_stay()
     ensures { PlainJobsStay }
 {}
