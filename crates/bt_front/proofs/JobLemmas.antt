@@ -1,5 +1,5 @@
 -- A job whose names a session admits stays as it is.
-use Rattle.std.proofs.Common.{absurd, ◌≡◌, ◌∙◌, ℕ, Bool, true, false, cond, List, [], ◌∷◌, ◌++◌, map, fold, codes, Option, Some, None, refl, sym, ap}
+use Rattle.std.proofs.Common.{◌≡◌, ◌∙◌, ℕ, Bool, true, false, cond, List, [], ◌∷◌, ◌++◌, map, fold, codes, Option, Some, None, refl, sym, ap}
 use Rattle.std.specs.Prelude.{◌&&◌, unwrap_or}
 use Rattle.std.specs.List.{list_all}
 use Rattle.bt_job.specs.declared.files.File.{File}
