@@ -13,7 +13,7 @@
 # make measure    times the built program beside TeX Live's, and writes docs/SPEED.md
 # make hostile    times the worst inputs that we could think of
 # make compare    runs it and TeX Live's bibtex over the TeX tree's styles and databases
-# make try-latex  tries bibtex-collect with LaTeX and latexmk
+# make try-latex  builds papers with LaTeX's tools by this bibtex and by TeX Live's
 # make try-editors   drives Vim, Neovim and Emacs with the plugins of editors/
 # make try-packages  installs and removes the package and the archive in folders of their own
 
@@ -41,6 +41,7 @@ test:
 	tools/gate
 	tests/sources
 	tests/run $(PROGRAM) $(PROGRAM).by-rattle
+	tests/front $(JOB_PROGRAM) $(PROGRAM)
 	tests/originals
 	tests/memory
 
@@ -80,7 +81,7 @@ compare:
 	tests/compare $(PROGRAM)
 
 try-latex:
-	tests/latex $(PROGRAM)
+	tests/latex $(JOB_PROGRAM) $(PROGRAM)
 
 # PROGRAM=.. drives another build of the program.
 try-editors:
