@@ -3,5 +3,3 @@ pub mod TableLemmas
 pub mod KeyLemmas
 pub mod MessageLemmas
 mod NamesRows
-mod AuxTextRows
-pub mod AuxTextLemmas

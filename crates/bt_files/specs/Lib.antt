@@ -1,4 +1,2 @@
 pub mod Names
 pub mod Messages
-pub mod AuxText
-pub mod inner

@@ -1,12 +1,10 @@
 //! A layer between an author's files and a session's, whose names the session chooses.
 #![tactic(auto)]
 
-mod aux_text;
 mod laws;
 mod messages;
 mod names;
 
-pub use aux_text::{name_of, written};
 pub use laws::{
     messages_stay_without_names, session_names_are_admitted, session_names_lead_back,
     session_names_stay, status_stays,
