@@ -1,5 +1,5 @@
 -- Names that are found by hashing, and the table that they are.
-use Rattle.std.proofs.Common.{◌≡◌, refl, sym, ap, ◌∙◌, ℕ, ◌+◌, Bool, true, false, cond, List, [], ◌∷◌, ◌++◌, Option, Some, None, map, get_or}
+use Rattle.std.proofs.Common.{◌≡◌, refl, sym, ap, ◌∙◌, ℕ, ◌+◌, Bool, true, false, cond, List, [], ◌∷◌, ◌++◌, Option, Some, map, get_or}
 use Rattle.std.specs.Prelude.{Vec, bytes_eq, ◌||◌, position}
 use Rattle.std.specs.List.{list_any, position_from, slice_get}
 use Rattle.std.specs.Option.{option_map}

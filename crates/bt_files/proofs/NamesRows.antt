@@ -1,13 +1,13 @@
 -- Worked examples: names there and back, and messages with the author's names.
-use Rattle.std.proofs.Common.{◌≡◌, ℕ, List, [], ◌∷◌, ◌++◌, Option, Some, None, refl}
-use Rattle.std.specs.Prelude.{codes, replicate, true, false, length}
+use Rattle.std.proofs.Common.{◌≡◌, ℕ, List, [], ◌∷◌, ◌++◌, Some, None, refl}
+use Rattle.std.specs.Prelude.{codes, replicate, true}
 use Rattle.std.specs.Fmt.{digits}
 use Rattle.bt_log.specs.declared.message.Rank.TheVariants.{Warning, Error}
 use Rattle.bt_log.specs.declared.message.FileKind.TheVariants.{Bib}
 use Rattle.bt_log.specs.declared.message.FileNote.TheVariants.{NotOpened}
 use Rattle.bt_log.specs.declared.message.Place.TheVariants.{Line, DatabaseLine, WholeFile, Step}
 use Rattle.bt_log.specs.Message.{plain, of_file, at}
-use Rattle.bt_files.specs.Names.{is_own_name, ending_of, session_name, author_name, with_author}
+use Rattle.bt_files.specs.Names.{is_own_name, session_name, author_name, with_author}
 use Rattle.bt_files.specs.Messages.{put_back}
 
 -- the name größe.bib in UTF-8

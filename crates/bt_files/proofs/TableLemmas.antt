@@ -1,13 +1,13 @@
 -- Tables of the author's names, and the names that stand for them.
 use Rattle.std.proofs.Common.{◌≡◌, refl, sym, ap, ◌∙◌, ℕ, zero, suc, ◌+◌, ◌<◌, ◌≤◌, ◌^◌, Bool, true, false, cond, List, [], ◌∷◌, ◌++◌, length, get_or, Option, Some, None, arith, add-zero, subst}
-use Rattle.std.specs.Prelude.{not, ◌&&◌, ◌||◌, position}
-use Rattle.std.specs.List.{list_any, position_from}
+use Rattle.std.specs.Prelude.{not, ◌||◌, position}
+use Rattle.std.specs.List.{position_from}
 use Rattle.std.specs.Option.{option_map, is_some}
 use Rattle.std.specs.Str.{bytes_eq}
 use Rattle.std.proofs.lemmas.Bool.{and_parts, not-true}
 use Rattle.std.proofs.lemmas.List.Quantifiers.{position-Some}
 use Rattle.std.proofs.lemmas.Iterator.Adapters.{position_from-zero}
-use Rattle.bt_job.specs.FileNames.{is_file_name, is_among, with_name}
+use Rattle.bt_job.specs.FileNames.{is_file_name, is_among}
 use Rattle.bt_job.proofs.NameLemmas.{same_bytes, name_itself, is_among-append}
 use Rattle.bt_files.specs.Names.{is_stand_in, is_own_name, numbered, session_name, stood_for, author_name, with_author}
 use Rattle.bt_files.proofs.NumberLemmas.{same_number, numbered_admitted}

@@ -1,5 +1,5 @@
 -- Messages with the author's names of files in place of the session's.
-use Rattle.std.specs.Prelude.{ℕ, List, map, Option, unwrap_or}
+use Rattle.std.specs.Prelude.{ℕ, List, unwrap_or}
 use Rattle.std.specs.Option.{option_map}
 use Rattle.bt_log.specs.declared.message.Said.{Said}
 use Rattle.bt_log.specs.declared.message.Said.TheVariants.{Words, OfFile}

@@ -1,4 +1,4 @@
-use Rattle.std.proofs.Common.{◌≡◌, ◌∙◌, ℕ, List, [], ◌∷◌, ◌++◌}
+use Rattle.std.proofs.Common.{◌≡◌, ◌∙◌, [], ◌∷◌}
 use Rattle.std.specs.Prelude.{decimal}
 use Rattle.bt_files.proofs.NumberLemmas.{stripped, in_pieces, not_in_pieces}
 use Rattle.bt_files.proofs.names.is_numbered.Goals as goal

@@ -1,7 +1,7 @@
-use Rattle.std.proofs.Common.{◌≡◌, ◌∙◌, ap, sym, ℕ, suc, ◌+◌, ◌-◌, ◌<◌, ◌≤◌, ◌^◌, true, false, List, [], length, get_or, Option, Some, None, arith}
+use Rattle.std.proofs.Common.{◌≡◌, ◌∙◌, ap, sym, ℕ, ◌+◌, ◌-◌, ◌<◌, true, false, List, [], length, get_or, Some, None, arith}
 use Rattle.std.specs.List.{slice_get}
 use Rattle.std.specs.Option.{option_map}
-use Rattle.bt_files.specs.Names.{is_stand_in, numbered, author_name}
+use Rattle.bt_files.specs.Names.{numbered}
 use Rattle.bt_files.proofs.TableLemmas.{Stands, lacks, has}
 use Rattle.bt_files.proofs.KeyLemmas.{at_key}
 use Rattle.bt_files.proofs.names.Names.author_name.Goals as goal

@@ -1,5 +1,4 @@
-use Rattle.std.proofs.Common.{◌≡◌, ◌∙◌, sym}
-use Rattle.bt_files.specs.Names.{with_author}
+use Rattle.std.proofs.Common.{◌∙◌, sym}
 use Rattle.bt_files.proofs.KeyLemmas.{own_stays, met_stays, noted}
 use Rattle.bt_files.proofs.names.Names.note.Goals as goal
 use Rattle.bt_files.proofs.names.Names.note.Goals.{then-is_own_name-via-then-is_own_name, then-is_own_name-via-else-is_own_name+then-contains}

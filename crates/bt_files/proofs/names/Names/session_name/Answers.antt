@@ -1,5 +1,5 @@
 use Rattle.std.proofs.Common.{◌≡◌, ◌+◌, ◌∙◌, ap, sym, ℕ, List, Some, None}
-use Rattle.bt_files.specs.Names.{numbered, session_name}
+use Rattle.bt_files.specs.Names.{numbered}
 use Rattle.bt_files.proofs.KeyLemmas.{made}
 use Rattle.bt_files.proofs.names.Names.session_name.Goals as goal
 
