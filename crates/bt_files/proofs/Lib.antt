@@ -3,3 +3,8 @@ pub mod TableLemmas
 pub mod KeyLemmas
 pub mod MessageLemmas
 mod NamesRows
+pub mod AuxTextLemmas
+pub mod AuxReadLemmas
+pub mod AuxWriteLemmas
+pub mod AuxNameLemmas
+mod AuxTextRows

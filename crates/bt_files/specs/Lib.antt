@@ -1,2 +1,3 @@
 pub mod Names
 pub mod Messages
+pub mod AuxText

@@ -1,15 +1,12 @@
 -- A job over an author's files: what they mean under names that a session admits, told under the author's names.
 use Rattle.std.specs.Prelude.{◌≡◌, ℕ, Bool, true, eqb, List, [], ◌∷◌, ◌++◌, map, filter, fold, flat_map, codes, unwrap_or, length, ◌==◌, if◌then◌else◌}
 use Rattle.std.specs.List.{ends_with, list_all}
-use Rattle.bt_bib.specs.declared.aux_line.Command.TheVariants.{Citation, Database, Style, Nested}
-use Rattle.bt_bib.specs.declared.aux_line.Command.{Command}
-use Rattle.bt_bib.specs.declared.aux_line.AuxItem.{AuxItem}
 use Rattle.bt_bib.specs.AuxLine.{aux_lines}
 use Rattle.bt_log.specs.Log.{log_bytes, terse_bytes}
 use Rattle.bt_job.specs.declared.files.File.{File}
 use Rattle.bt_run.specs.Meaning.{Meaning, meaning}
 use Rattle.bt_files.specs.Names.{is_own_name, session_name, with_author}
-use Rattle.bt_files.specs.AuxText.{name_of, item_with, written}
+use Rattle.bt_files.specs.AuxText.{names_in, item_with, written}
 use Rattle.bt_files.specs.Messages.{name_back, put_back}
 
 -- The names of a job
@@ -17,20 +14,13 @@ use Rattle.bt_files.specs.Messages.{name_back, put_back}
 abbrev pub is_aux : File → Bool
 is_aux f = ends_with eqb f.name (codes ".aux")
 
--- the names of files that the parts of a command give
-abbrev pub names_given : Command → List (List ℕ) → List (List ℕ)
-names_given Citation parts = []
-names_given Database parts = map (name_of Database) parts
-names_given Style parts = map (name_of Style) parts
-names_given Nested parts = map (name_of Nested) parts
-
 -- the names of files that an .aux text gives
-abbrev pub names_in : List ℕ → List (List ℕ)
-names_in text = flat_map (λ i. names_given i.command i.parts) (aux_lines text)
+abbrev pub names_given : List ℕ → List (List ℕ)
+names_given text = flat_map names_in (aux_lines text)
 
 -- the names that a job's files give, its root's first
 abbrev pub names_of : List File → List ℕ → List (List ℕ)
-names_of files root = (root ++ codes ".aux") ∷ flat_map (λ f. names_in f.text) (filter is_aux files)
+names_of files root = (root ++ codes ".aux") ∷ flat_map (λ f. names_given f.text) (filter is_aux files)
 
 -- those that a session doesn't admit, each once
 unfoldable pub table_of : List File → List ℕ → List (List ℕ)

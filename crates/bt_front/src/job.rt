@@ -4,9 +4,9 @@ ghost use Rattle.std.specs.Prelude.{◌≡◌, ◌∷◌, [], ◌++◌, map, fil
 ghost use Rattle.bt_job.specs.declared.files.File.{File as FileSeen};
 ghost use Rattle.bt_bib.specs.AuxLine.{aux_lines};
 ghost use Rattle.bt_run.specs.Shown.{meaning_of};
-ghost use Rattle.bt_files.specs.AuxText.{part_with, item_with};
+ghost use Rattle.bt_files.specs.AuxText.{names_by, part_with, item_with};
 ghost use Rattle.bt_files.specs.Messages.{name_back};
-ghost use Rattle.bt_front.specs.Job.{is_aux, names_given, names_in, names_of, table_of, renamed, text_under, file_under, root_under, told_under, job_meaning, PlainJobsStay};
+ghost use Rattle.bt_front.specs.Job.{is_aux, names_given, names_of, table_of, renamed, text_under, file_under, root_under, told_under, job_meaning, PlainJobsStay};
 
 use bt_bib::{AuxItem, Command, read_aux};
 use bt_files::{Names, all_put_back, is_own_name, name_of, written};
@@ -29,7 +29,7 @@ fn add_parts(
     command: Command,
     parts: &[Bytes],
 ) -> Result<(), AllocError>
-    ensures { OnOk result (names.new ≡ names.old ++ names_given command parts.now) }
+    ensures { OnOk result (names.new ≡ names.old ++ names_by command parts.now) }
 {
     if command == Command::Citation {
         return Ok(());
@@ -46,7 +46,7 @@ fn add_text(
     names: &mut Sequence<Bytes>,
     text: &[u8],
 ) -> Result<(), AllocError>
-    ensures { OnOk result (names.new ≡ names.old ++ names_in text.now) }
+    ensures { OnOk result (names.new ≡ names.old ++ names_given text.now) }
 {
     let items = read_aux(alloc, text)?;
     'items: for item in items.as_slice() {
@@ -62,7 +62,7 @@ fn add_file(
     file: &File,
 ) -> Result<(), AllocError>
     ensures { OnOk result (names.new
-        ≡ names.old ++ flat_map (λ (f : FileSeen). names_in f.text) (filter is_aux (file.now ∷ []))) }
+        ≡ names.old ++ flat_map (λ (f : FileSeen). names_given f.text) (filter is_aux (file.now ∷ []))) }
 {
     if is_aux(file) {
         add_text(alloc, names, file.text.as_slice())

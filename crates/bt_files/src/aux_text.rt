@@ -1,0 +1,139 @@
+//! The text of an `.aux` file, written from its items.
+
+ghost use Rattle.std.specs.Prelude.{◌≡◌, ◌∷◌, ◌++◌, replicate, Some, IfOk, OnOk, if◌then◌else◌};
+ghost use Rattle.std.specs.List.{join_with_byte};
+ghost use Rattle.bt_job.specs.FileNames.{with_ending};
+ghost use Rattle.bt_files.specs.AuxText.{comma, line_feed, name_of, written_end, written_argument, written_item, written};
+ghost use Rattle.bt_files.specs.AuxText.{ReadItemsAreWritable, RenamedItemsAreRead, RenamedItemsAreWritable, RenamedItemsNameFiles, WrittenItemsAreRead};
+
+use bt_bib::{AuxFault, AuxItem, Command};
+use bt_text::Bytes;
+use std::alloc::{AllocError, Global};
+
+/// Writes a part, with a comma before it if it isn't the first.
+fn write_part(text: &mut Bytes, is_first: bool, part: &[u8]) -> Result<(), AllocError>
+    ensures { OnOk result (text.new ≡ text.old ++ (if is_first then part.now else comma ∷ part.now)) }
+{
+    if is_first {
+        text.append(part)
+    } else {
+        text.append_all(&[b",", part])
+    }
+}
+
+fn write_parts(text: &mut Bytes, parts: &[Bytes]) -> Result<(), AllocError>
+    ensures { OnOk result (text.new ≡ text.old ++ join_with_byte comma parts.now) }
+{
+    let mut is_first = true;
+    'parts: for part in parts {
+        write_part(text, is_first, part.as_slice())?;
+        is_first = false;
+    }
+    Ok(())
+}
+
+/// What is written after the last part, to make a fault.
+fn faulty_end(fault: AuxFault) -> &'static [u8]
+    ensures { result.now ≡ written_end (Some fault) }
+{
+    match fault {
+        AuxFault::NoBrace => b"",
+        AuxFault::WhiteSpace => b" }",
+        AuxFault::StuffAfter => b"}x",
+    }
+}
+
+fn write_argument(
+    text: &mut Bytes,
+    parts: &[Bytes],
+    fault: Option<AuxFault>,
+) -> Result<(), AllocError>
+    ensures { OnOk result (text.new ≡ text.old ++ written_argument parts.now fault) }
+{
+    write_parts(text, parts)?;
+    match fault {
+        None => text.append(b"}"),
+        Some(fault) => {
+            write_part(text, parts.is_empty(), b"x")?;
+            text.append(faulty_end(fault))
+        }
+    }
+}
+
+fn write_item(text: &mut Bytes, item: &AuxItem) -> Result<(), AllocError>
+    ensures { OnOk result (text.new ≡ text.old ++ written_item item.now) }
+{
+    text.append(item.command.word())?;
+    write_argument(text, item.parts.as_slice(), item.fault)
+}
+
+fn write_line_feeds(text: &mut Bytes, count: usize) -> Result<(), AllocError>
+    ensures { OnOk result (text.new ≡ text.old ++ replicate count line_feed) }
+{
+    'lines: for _ in 0..count {
+        text.append(b"\n")?;
+    }
+    Ok(())
+}
+
+/// The text of these items. Each item is on the line of its own number, so there may be empty lines before it. The
+/// only error is out of memory.
+#[tactic(auto, unfolding(crate::specs::AuxText::written))]
+pub fn written(alloc: Global, items: &[AuxItem]) -> Result<Bytes, AllocError>
+    ensures { IfOk result (λ text. text ≡ written items.now) }
+{
+    let mut text = Bytes::new(alloc);
+    let mut line = 1;
+    'items: for item in items {
+        write_line_feeds(&mut text, item.line.saturating_sub(line))?;
+        write_item(&mut text, item)?;
+        line = item.line;
+    }
+    Ok(text)
+}
+
+fn with_ending(alloc: Global, ending: &[u8], name: &[u8]) -> Result<Bytes, AllocError>
+    ensures { IfOk result (λ text. text ≡ with_ending ending.now name.now) }
+{
+    if name.ends_with(ending) {
+        Bytes::copied(alloc, name)
+    } else {
+        Bytes::of(alloc, &[name, ending])
+    }
+}
+
+/// The file's name for which a part of a command stands; a key stands for itself. The only error is out of memory.
+pub fn name_of(alloc: Global, command: Command, part: &[u8]) -> Result<Bytes, AllocError>
+    ensures { IfOk result (λ name. name ≡ name_of command part.now) }
+{
+    match command {
+        Command::Database => with_ending(alloc, b".bib", part),
+        Command::Style => with_ending(alloc, b".bst", part),
+        Command::Citation | Command::Nested => Bytes::copied(alloc, part),
+    }
+}
+
+/// Items that a text can have are those of the text that is written from them.
+pub fn written_items_are_read()
+    ensures { WrittenItemsAreRead }
+{}
+
+/// The items of a text are items that a text can have.
+pub fn read_items_are_writable()
+    ensures { ReadItemsAreWritable }
+{}
+
+/// They still are with other names of files.
+pub fn renamed_items_are_writable()
+    ensures { RenamedItemsAreWritable }
+{}
+
+/// A text that is written with other names of files is read as the old items with these names.
+pub fn renamed_items_are_read()
+    ensures { RenamedItemsAreRead }
+{}
+
+/// The item with other names of files names these.
+pub fn renamed_items_name_files()
+    ensures { RenamedItemsNameFiles }
+{}
