@@ -6,7 +6,7 @@ ghost use Rattle.bt_bib.specs.AuxLine.{aux_lines};
 ghost use Rattle.bt_run.specs.Shown.{meaning_of};
 ghost use Rattle.bt_files.specs.AuxText.{names_by, part_with, item_with};
 ghost use Rattle.bt_files.specs.Messages.{name_back};
-ghost use Rattle.bt_front.specs.Job.{is_aux, names_given, names_of, table_of, renamed, text_under, file_under, root_under, told_under, job_meaning, PlainJobsStay};
+ghost use Rattle.bt_front.specs.Job.{is_aux, names_given, names_of, table_of, renamed, text_under, file_under, root_under, told_under, job_meaning, PlainJobsStay, TextsKeepTheirLines};
 
 use bt_bib::{AuxItem, Command, read_aux};
 use bt_files::{Names, all_put_back, is_own_name, name_of, written};
@@ -257,4 +257,11 @@ pub fn run(alloc: Global, files: &[File], root: &[u8], min: u32) -> Result<Answe
 #[tactic(auto, using(crate::proofs::JobLemmas::job_kept))]
 pub fn plain_jobs_stay()
     ensures { PlainJobsStay }
+{}
+
+/// A law: an `.aux` text that is written under other names has the lines of the old one, in which each file has its
+/// session's name.
+#[tactic(auto, using(crate::proofs::TextLemmas::lines_kept))]
+pub fn texts_keep_their_lines()
+    ensures { TextsKeepTheirLines }
 {}
