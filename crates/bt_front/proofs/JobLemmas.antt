@@ -17,7 +17,7 @@ use Rattle.bt_front.specs.Job.{is_aux, renamed, file_under, root_under, names_of
 kept_after : (author : List ℕ) (authors : List (List ℕ)) (b : Bool) → (list_all is_own_name authors ≡ true → fold with_author [] authors ≡ [])
     → (b && list_all is_own_name authors) ≡ true → fold with_author (cond b [] (with_name [] author)) authors ≡ []
 kept_after author authors true later all = later all
-kept_after author authors false later all = absurd all
+kept_after author authors false later all = absurd cc
 
 empty_table : (authors : List (List ℕ)) → list_all is_own_name authors ≡ true → fold with_author [] authors ≡ []
 empty_table [] all = refl
@@ -45,7 +45,7 @@ files_kept (f ∷ files) = λ k. file_kept f k ∷ files_kept files k
 
 first_own : (b c : Bool) → (b && c) ≡ true → b ≡ true
 first_own true c both = refl
-first_own false c both = absurd both
+first_own false c both = absurd cc
 
 root_kept : (root : List ℕ) → is_own_name (root ++ codes ".aux") ≡ true → root_under root ≡ root
 root_kept root own = ap (λ (b : Bool). cond b root (codes "+/1")) own

@@ -13,7 +13,7 @@ use Rattle.bt_front.specs.Job.{renamed}
 
 last_holds : (b c : Bool) → (b && c) ≡ true → c ≡ true
 last_holds true c both = both
-last_holds false c both = absurd both
+last_holds false c both = absurd cc
 
 admitted_bytes : (name : List ℕ) → is_file_name name ≡ true → has_name_bytes name ≡ true
 admitted_bytes name admitted = last_holds _ _ admitted
