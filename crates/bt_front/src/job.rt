@@ -41,11 +41,7 @@ fn add_parts(
 }
 
 /// Adds the names that an `.aux` text gives.
-fn add_text(
-    alloc: Global,
-    names: &mut Sequence<Bytes>,
-    text: &[u8],
-) -> Result<(), AllocError>
+fn add_text(alloc: Global, names: &mut Sequence<Bytes>, text: &[u8]) -> Result<(), AllocError>
     ensures { OnOk result (names.new ≡ names.old ++ names_given text.now) }
 {
     let items = read_aux(alloc, text)?;
@@ -56,11 +52,7 @@ fn add_text(
 }
 
 /// Adds the names that a file gives, if it is an `.aux` file.
-fn add_file(
-    alloc: Global,
-    names: &mut Sequence<Bytes>,
-    file: &File,
-) -> Result<(), AllocError>
+fn add_file(alloc: Global, names: &mut Sequence<Bytes>, file: &File) -> Result<(), AllocError>
     ensures { OnOk result (names.new
         ≡ names.old ++ flat_map (λ (f : FileSeen). names_given f.text) (filter is_aux (file.now ∷ []))) }
 {
@@ -141,11 +133,7 @@ fn item_under(alloc: Global, names: &Names, item: &AuxItem) -> Result<AuxItem, A
 }
 
 /// The items of an `.aux` text under the session's names.
-fn items_under(
-    alloc: Global,
-    names: &Names,
-    text: &[u8],
-) -> Result<Sequence<AuxItem>, AllocError>
+fn items_under(alloc: Global, names: &Names, text: &[u8]) -> Result<Sequence<AuxItem>, AllocError>
     ensures { IfOk result (λ items. items ≡ map (item_with (renamed names.now)) (aux_lines text.now)) }
 {
     let items = read_aux(alloc, text)?;
@@ -188,11 +176,7 @@ fn file_under(alloc: Global, names: &Names, file: &File) -> Result<File, AllocEr
 }
 
 /// A job's files under the session's names.
-fn files_under(
-    alloc: Global,
-    names: &Names,
-    files: &[File],
-) -> Result<Sequence<File>, AllocError>
+fn files_under(alloc: Global, names: &Names, files: &[File]) -> Result<Sequence<File>, AllocError>
     ensures { IfOk result (λ under. under ≡ map (file_under names.now) files.now) }
 {
     let mut under = Sequence::new(alloc);
@@ -219,7 +203,9 @@ fn names_back(alloc: Global, names: &Names, files: &[Bytes]) -> Result<Sequence<
 {
     let mut back = Sequence::new(alloc);
     'files: for file in files {
-        let author = names.author_name(file.as_slice()).unwrap_or(file.as_slice());
+        let author = names
+            .author_name(file.as_slice())
+            .unwrap_or(file.as_slice());
         back.push(Bytes::copied(alloc, author)?)?;
     }
     Ok(back)
@@ -248,7 +234,14 @@ pub fn run(alloc: Global, files: &[File], root: &[u8], min: u32) -> Result<Answe
     let under = files_under(alloc, &names, files)?;
     let root = root_under(alloc, root)?;
     let (kept, readings) = (Kept::nothing(alloc), Readings::nothing(alloc));
-    let run = answers_after(alloc, under.as_slice(), root.as_slice(), min, &kept, readings)?;
+    let run = answers_after(
+        alloc,
+        under.as_slice(),
+        root.as_slice(),
+        min,
+        &kept,
+        readings,
+    )?;
     told_under(alloc, &names, run.answers)
 }
 

@@ -41,8 +41,7 @@ impl Rule {
 
 /// Whether a folder on the way or the file itself is hidden.
 fn is_hidden(path: &str) -> bool {
-    path.split('/')
-        .any(|part| part.starts_with('.') && part != "." && part != "..")
+    path.split('/').any(|part| part.starts_with('.') && part != "." && part != "..")
 }
 
 /// Whether a file lies in the folder that the program was started in, or below it.

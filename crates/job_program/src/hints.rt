@@ -46,10 +46,7 @@ pub struct Job<'a> {
 impl<'a> Job<'a> {
     /// The text of a file.
     fn text(&self, name: &[u8]) -> Option<&'a [u8]> {
-        let file = self
-            .files
-            .iter()
-            .find(|file| file.name.as_slice() == name)?;
+        let file = self.files.iter().find(|file| file.name.as_slice() == name)?;
         Some(file.text.as_slice())
     }
 
@@ -75,17 +72,14 @@ fn is_biblatex(alloc: Global, job: Job<'_>) -> Result<bool, AllocError> {
     let Some(text) = job.text(name.as_bytes()) else {
         return Ok(false);
     };
-    Ok(text
-        .split(|byte| *byte == b'\n')
-        .any(|line| line.starts_with(b"\\abx@aux@")))
+    Ok(
+        text.split(|byte| *byte == b'\n')
+            .any(|line| line.starts_with(b"\\abx@aux@")),
+    )
 }
 
 /// Whether biblatex left a file for biber beside a job.
-fn has_control_file(
-    alloc: Global,
-    rt: &HostRuntime,
-    job: Job<'_>,
-) -> Result<bool, AllocError> {
+fn has_control_file(alloc: Global, rt: &HostRuntime, job: Job<'_>) -> Result<bool, AllocError> {
     let name = format!(in alloc; "{}.bcf", job.name)?;
     match fs::exists(rt, name.as_str()) {
         Ok(is_there) => Ok(is_there),

@@ -112,7 +112,11 @@ fn finish(
         return Ok(NOT_WRITTEN);
     }
     report::print(rt, answers, options.terse)?;
-    Ok(if answers.status <= 1 { 0 } else { answers.status })
+    Ok(if answers.status <= 1 {
+        0
+    } else {
+        answers.status
+    })
 }
 
 /// Runs the job over the files that were found.
@@ -136,7 +140,14 @@ fn run_found(
     if !options.quiet && status != NOT_WRITTEN {
         let name = options.job;
         let answers = &answers;
-        hints::print(rt, hints::Job { name, files, answers })?;
+        hints::print(
+            rt,
+            hints::Job {
+                name,
+                files,
+                answers,
+            },
+        )?;
     }
     // The program ends here: what the run kept goes with it, at once.
     forget(answers);
@@ -165,8 +176,7 @@ fn run(rt: &HostRuntime, options: &Options<'_>) -> Result<u8> {
         None => Rule::Paranoid,
     };
     if !rule.admits(options.job) {
-        eprintln!(
-            rt;
+        eprintln!(rt;
             "bibtex: Not writing to {}.blg (openout_any = {}).",
             options.job,
             rule.letter()

@@ -5,10 +5,9 @@ use anyhow::Result;
 use bt_log::{Message, Rank, log_bytes, terse_bytes};
 use bt_run::Answers;
 use bt_streams::{WriterSink, say};
-use bt_text::Bytes;
+use bt_text::{Bytes, Sequence};
 use std::alloc::{AllocError, Global};
 use std::io;
-use bt_text::Sequence;
 
 /// The help.
 pub const HELP: &str = "\
@@ -46,13 +45,13 @@ pub fn refuse(rt: &HostRuntime, wrong: Wrong<'_>) -> Result<()> {
         Wrong::TwoJobs(first, second) => {
             eprintln!(rt; "bibtex: one document at a time: {first} and {second} are two")?
         }
-        Wrong::UnknownOption(word) => eprintln!(
-            rt;
+        Wrong::UnknownOption(word) => eprintln!(rt;
             "bibtex: there is no option {word}; there are -terse, -min-crossrefs N, -quiet, -no-fallback, -version, -help and --resident"
         )?,
-        Wrong::NoNumber(None) => eprintln!(rt; "bibtex: -min-crossrefs needs a number, as in -min-crossrefs=2")?,
-        Wrong::NoNumber(Some(word)) => eprintln!(
-            rt;
+        Wrong::NoNumber(None) => eprintln!(rt;
+            "bibtex: -min-crossrefs needs a number, as in -min-crossrefs=2"
+        )?,
+        Wrong::NoNumber(Some(word)) => eprintln!(rt;
             "bibtex: -min-crossrefs needs a number from 0 to 65535, and {word} is none"
         )?,
     }

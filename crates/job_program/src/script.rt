@@ -2,11 +2,10 @@
 //! programs of the machine; it tells of them by environment variables, and reads what is asked of it from a file of its
 //! own that one of them names.
 
+use crate::disk;
 use bt_text::Bytes;
 use std::alloc::{AllocError, Global};
-use std::env;
-use std::fs;
-use crate::disk;
+use std::{env, fs};
 
 /// The exit status that asks the script for the places of files, and to start the program again.
 pub const FILES_WANTED: u8 = 75;

@@ -89,7 +89,8 @@ fn offer(
         if found.ends_with(ending) {
             nearest.note(alloc, found)?;
         } else if !found.starts_with('.')
-            && let Ok(true) = fs::exists(rt, format!(in alloc; "{found}/{name}")?.as_str()) {
+            && let Ok(true) = fs::exists(rt, format!(in alloc; "{found}/{name}")?.as_str())
+        {
             return Ok(Some(Offer::Folder(String::from_str(alloc, found)?)));
         }
     }
