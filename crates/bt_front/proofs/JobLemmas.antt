@@ -68,6 +68,27 @@ told_kept m is_blg is_terse = λ k. record m {
   wanted = names_kept m.wanted k;
 }
 
+-- What the code tells
+
+pub told : (table : List (List ℕ)) (m : Meaning) (messages : List Message) (blg terse : List ℕ) (wanted : List (List ℕ))
+    → messages ≡ map (put_back table) m.messages → blg ≡ log_bytes messages → terse ≡ terse_bytes messages
+    → wanted ≡ map (name_back table) m.wanted
+    → record m { blg = blg; terse = terse; messages = messages; wanted = wanted } ≡ told_under table m
+told table m messages blg terse wanted are is_blg is_terse is_wanted = λ k. record m {
+  blg = (is_blg ∙ ap log_bytes are) k;
+  terse = (is_terse ∙ ap terse_bytes are) k;
+  messages = are k;
+  wanted = is_wanted k;
+}
+
+pub job_told : (table : List (List ℕ)) (files under : List File) (root root' : List ℕ) (min : ℕ) (shown told : Meaning)
+    → table ≡ table_of files root → under ≡ map (file_under table) files → root' ≡ root_under root
+    → shown ≡ meaning under root' min → told ≡ told_under table shown → told ≡ job_meaning files root min
+unfolding job_meaning
+job_told table files under root root' min shown told is_table is_under is_root is_shown is_told =
+    is_told ∙ ap (told_under table) (is_shown ∙ ap (λ (fs : List File). meaning fs root' min) is_under ∙ ap (λ (r : List ℕ). meaning (map (file_under table) files) r min) is_root)
+    ∙ ap (λ (t : List (List ℕ)). meaning_under t files root min) is_table
+
 -- The law
 
 under_kept : (files : List File) (root : List ℕ) (min : ℕ) → is_own_name (root ++ codes ".aux") ≡ true

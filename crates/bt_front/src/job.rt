@@ -242,7 +242,8 @@ pub fn run(alloc: Global, files: &[File], root: &[u8], min: u32) -> Result<Answe
         &kept,
         readings,
     )?;
-    told_under(alloc, &names, run.answers)
+    let told = told_under(alloc, &names, run.answers)?;
+    Ok(told)
 }
 
 /// A law: where a session admits each name that a job's files give, they mean what they mean in a session, and the log

@@ -1,0 +1,9 @@
+use Rattle.bt_run.specs.Shown.{meaning_of}
+use Rattle.bt_front.proofs.JobLemmas.{job_told}
+use Rattle.bt_front.proofs.job.run.Goals as goal
+
+pub returns : goal.returns
+returns c =
+    job_told c.in_ok-names.names c.args.files.now c.in_ok-under.under c.args.root.now c.in_ok-root.root c.args.min
+    (meaning_of c.in_ok-run.run'.answers) (meaning_of c.in_ok-told.told)
+    c.in_ok-names.ensures c.in_ok-under.ensures c.in_ok-root.ensures c.in_ok-run.ensures.shown c.in_ok-told.ensures
