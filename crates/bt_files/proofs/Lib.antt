@@ -1,5 +1,6 @@
 pub mod NumberLemmas
 pub mod TableLemmas
+pub mod MetLemmas
 pub mod KeyLemmas
 pub mod MessageLemmas
 mod NamesRows

@@ -133,7 +133,7 @@ is_admitted table author session few h = go (known table author session h)
         let within : s.place < length table = s.within in
         ap is_file_name (sym s.same) ∙ numbered_admitted (1 + s.place) author (omega arith)
 
--- A name more
+-- More names
 
 place_stays : (test : List ℕ → Bool) (i place : ℕ) (table more : List (List ℕ)) → position_from test i table ≡ Some place
     → position_from test i (table ++ more) ≡ Some place
@@ -152,7 +152,7 @@ place_more author place table more h =
     position_from-zero (λ (name : List ℕ). bytes_eq name author) (table ++ more)
     ∙ place_stays (λ (name : List ℕ). bytes_eq name author) 0 place table more (sym (position_from-zero (λ (name : List ℕ). bytes_eq name author) table) ∙ h)
 
-more_names : (table more : List (List ℕ)) (author session : List ℕ) → session_name table author ≡ Some session → session_name (table ++ more) author ≡ Some session
+pub more_names : (table more : List (List ℕ)) (author session : List ℕ) → session_name table author ≡ Some session → session_name (table ++ more) author ≡ Some session
 more_names table more author session h = go (is_own_name author) refl (position (λ name. bytes_eq name author) table) refl h
   where
     go : (b : Bool) → is_own_name author ≡ b → (p : Option ℕ) → position (λ name. bytes_eq name author) table ≡ p

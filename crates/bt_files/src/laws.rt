@@ -1,6 +1,6 @@
 //! Laws of the definitions.
 
-ghost use Rattle.std.specs.Prelude.{◌≡◌, ℕ, ◌<◌, ◌^◌, true, List, [], length, map, Some, is_some};
+ghost use Rattle.std.specs.Prelude.{◌≡◌, ℕ, ◌<◌, ◌^◌, true, List, [], length, map, fold, Some, is_some};
 ghost use Rattle.bt_log.specs.declared.message.Message.{Message};
 ghost use Rattle.bt_log.specs.Log.{status_of};
 ghost use Rattle.bt_job.specs.FileNames.{is_file_name};
@@ -11,6 +11,19 @@ ghost use Rattle.bt_files.specs.Messages.{put_back};
 pub fn session_names_lead_back()
     ensures { (table : List (List ℕ)) (author session : List ℕ) → length table < 2 ^ 64 →
         session_name table author ≡ Some session → author_name table session ≡ Some author }
+{}
+
+/// A law: two names of an author never have one name in the session.
+pub fn session_names_differ()
+    ensures { (table : List (List ℕ)) (author other session : List ℕ) → length table < 2 ^ 64 →
+        session_name table author ≡ Some session → session_name table other ≡ Some session → author ≡ other }
+{}
+
+/// A law: where a table has the names that were met, the author's name of a session's file leads back to that file.
+pub fn author_names_lead_back()
+    ensures { (met : List (List ℕ)) (author session : List ℕ) → is_file_name session ≡ true →
+        author_name (fold with_author [] met) session ≡ Some author →
+        session_name (fold with_author [] met) author ≡ Some session }
 {}
 
 /// A law: the session admits each name that is made for it.

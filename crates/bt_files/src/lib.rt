@@ -12,8 +12,8 @@ pub use aux_text::{
     renamed_items_name_files, written, written_items_are_read,
 };
 pub use laws::{
-    messages_stay_without_names, session_names_are_admitted, session_names_lead_back,
-    session_names_stay, status_stays,
+    author_names_lead_back, messages_stay_without_names, session_names_are_admitted,
+    session_names_differ, session_names_lead_back, session_names_stay, status_stays,
 };
 pub use messages::{all_put_back, put_back};
 pub use names::{Names, is_own_name};
