@@ -41,7 +41,7 @@ written_argument parts fault = join_with_byte comma (written_parts fault parts) 
 abbrev pub written_item : AuxItem → List ℕ
 written_item i = opening_of i.command ++ written_argument i.parts i.fault
 
--- items, each on the line of its own number, where the text stands on this line
+-- items, each on the line of its own number, in a text that is at this line now
 abbrev pub written_from : ℕ → List AuxItem → List ℕ
 written_from line [] = []
 written_from line (i ∷ is) = replicate (i.line - line) line_feed ++ (written_item i ++ written_from i.line is)
@@ -125,25 +125,25 @@ KeepsEnding f ending = (name : List ℕ) → ends_with eqb name ending ≡ true 
 
 -- Laws
 
--- Items that a text can have are those of the text that is written from them.
+-- Reading the text that is written from items gives these items, if some text can have them.
 abbrev pub WrittenItemsAreRead : Type 0
 WrittenItemsAreRead = (items : List AuxItem) → IsWritable items → aux_lines (written items) ≡ items
 
--- The items of a text are items that a text can have.
+-- The items that are read from a text can be written.
 abbrev pub ReadItemsAreWritable : Type 0
 ReadItemsAreWritable = (text : List ℕ) → IsWritable (aux_lines text)
 
--- They still are with other names of files.
+-- Items that can be written can still be written when their files get other names.
 abbrev pub RenamedItemsAreWritable : Type 0
 RenamedItemsAreWritable = (f : List ℕ → List ℕ) (items : List AuxItem) → GivesNames f →
     IsWritable items → IsWritable (map (item_with f) items)
 
--- So a text with other names of files is read as the items of the old one with these names.
+-- So reading the text that is written with other names of files gives the old items with these names.
 abbrev pub RenamedItemsAreRead : Type 0
 RenamedItemsAreRead = (f : List ℕ → List ℕ) (text : List ℕ) → GivesNames f →
     aux_lines (written (map (item_with f) (aux_lines text))) ≡ map (item_with f) (aux_lines text)
 
--- The item with other names of files names these.
+-- An item whose files get other names names its files by these, in the same order.
 abbrev pub RenamedItemsNameFiles : Type 0
 RenamedItemsNameFiles = (f : List ℕ → List ℕ) (i : AuxItem) → KeepsEnding f (codes ".bib") → KeepsEnding f (codes ".bst") →
     names_in (item_with f i) ≡ map f (names_in i)

@@ -113,27 +113,27 @@ pub fn name_of(alloc: Global, command: Command, part: &[u8]) -> Result<Bytes, Al
     }
 }
 
-/// Items that a text can have are those of the text that is written from them.
+/// Reading the text that is written from items gives these items, if some text can have them (`IsWritable`).
 pub fn written_items_are_read()
     ensures { WrittenItemsAreRead }
 {}
 
-/// The items of a text are items that a text can have.
+/// The items that are read from a text can be written.
 pub fn read_items_are_writable()
     ensures { ReadItemsAreWritable }
 {}
 
-/// They still are with other names of files.
+/// Items that can be written can still be written when their files get other names.
 pub fn renamed_items_are_writable()
     ensures { RenamedItemsAreWritable }
 {}
 
-/// A text that is written with other names of files is read as the old items with these names.
+/// Reading the text that is written with other names of files gives the old items with these names.
 pub fn renamed_items_are_read()
     ensures { RenamedItemsAreRead }
 {}
 
-/// The item with other names of files names these.
+/// An item whose files get other names names its files by these, in the same order.
 pub fn renamed_items_name_files()
     ensures { RenamedItemsNameFiles }
 {}
