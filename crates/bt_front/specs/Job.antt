@@ -1,5 +1,5 @@
 -- A job over an author's files: what they mean under names that a session admits, told under the author's names.
-use Rattle.std.specs.Prelude.{◌≡◌, ℕ, Bool, true, eqb, List, [], ◌∷◌, ◌++◌, map, filter, fold, flat_map, codes, unwrap_or, length, ◌==◌, ◌<◌, ◌^◌, if◌then◌else◌}
+use Rattle.std.specs.Prelude.{◌≡◌, ℕ, Bool, true, eqb, List, [], ◌∷◌, ◌++◌, map, fold, flat_map, codes, unwrap_or, length, ◌==◌, ◌<◌, ◌^◌, if◌then◌else◌}
 use Rattle.std.specs.List.{ends_with, list_all}
 use Rattle.bt_bib.specs.AuxLine.{aux_lines}
 use Rattle.bt_log.specs.Log.{log_bytes, terse_bytes}
@@ -18,9 +18,13 @@ is_aux f = ends_with eqb f.name (codes ".aux")
 abbrev pub names_given : List ℕ → List (List ℕ)
 names_given text = flat_map names_in (aux_lines text)
 
--- the names that a job's files give, its root's first
+-- the name of a file, and those that it gives
+abbrev pub names_with : File → List (List ℕ)
+names_with f = f.name ∷ (if is_aux f then names_given f.text else [])
+
+-- the names of a job and those that its files give, its root's first
 abbrev pub names_of : List File → List ℕ → List (List ℕ)
-names_of files root = (root ++ codes ".aux") ∷ flat_map (λ f. names_given f.text) (filter is_aux files)
+names_of files root = (root ++ codes ".aux") ∷ flat_map names_with files
 
 -- those that a session doesn't admit, each once
 unfoldable pub table_of : List File → List ℕ → List (List ℕ)

@@ -1,12 +1,11 @@
 //! What a job's files mean.
 
-ghost use Rattle.std.specs.Prelude.{◌≡◌, ◌∷◌, [], ◌++◌, map, filter, flat_map, IfOk, OnOk};
-ghost use Rattle.bt_job.specs.declared.files.File.{File as FileSeen};
+ghost use Rattle.std.specs.Prelude.{◌≡◌, ◌++◌, map, IfOk, OnOk};
 ghost use Rattle.bt_bib.specs.AuxLine.{aux_lines};
 ghost use Rattle.bt_run.specs.Shown.{meaning_of};
 ghost use Rattle.bt_files.specs.AuxText.{names_by, part_with, item_with};
 ghost use Rattle.bt_files.specs.Messages.{name_back};
-ghost use Rattle.bt_front.specs.Job.{is_aux, names_given, names_of, table_of, renamed, text_under, file_under, root_under, told_under, job_meaning, PlainJobsStay, TextsKeepTheirLines};
+ghost use Rattle.bt_front.specs.Job.{is_aux, names_given, names_with, names_of, table_of, renamed, text_under, file_under, root_under, told_under, job_meaning, PlainJobsStay, TextsKeepTheirLines};
 
 use bt_bib::{AuxItem, Command, read_aux};
 use bt_files::{Names, all_put_back, is_own_name, name_of, written};
@@ -51,20 +50,19 @@ fn add_text(alloc: Global, names: &mut Sequence<Bytes>, text: &[u8]) -> Result<(
     Ok(())
 }
 
-/// Adds the names that a file gives, if it is an `.aux` file.
+/// Adds the name of a file, and those that it gives.
 fn add_file(alloc: Global, names: &mut Sequence<Bytes>, file: &File) -> Result<(), AllocError>
-    ensures { OnOk result (names.new
-        ≡ names.old ++ flat_map (λ (f : FileSeen). names_given f.text) (filter is_aux (file.now ∷ []))) }
+    ensures { OnOk result (names.new ≡ names.old ++ names_with file.now) }
 {
+    names.push(Bytes::copied(alloc, file.name.as_slice())?)?;
     if is_aux(file) {
-        add_text(alloc, names, file.text.as_slice())
-    } else {
-        Ok(())
+        add_text(alloc, names, file.text.as_slice())?;
     }
+    Ok(())
 }
 
-/// The names that a job's files give, its root's first, in the order of the files and of their lines. `root` is the
-/// name of the job's first `.aux` file without its ending. The only error is out of memory.
+/// The names of a job's files and those that they give, its root's first, in the order of the files and of their lines.
+/// `root` is the name of the job's first `.aux` file without its ending. The only error is out of memory.
 pub fn names_of(alloc: Global, files: &[File], root: &[u8]) -> Result<Sequence<Bytes>, AllocError>
     ensures { IfOk result (λ names. names ≡ names_of files.now root.now) }
 {
