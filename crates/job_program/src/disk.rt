@@ -47,6 +47,13 @@ pub fn folder_of(path: &str) -> &str {
     }
 }
 
+/// Gives a file the permissions of another one, as far as that succeeds.
+fn copy_permissions(rt: &HostRuntime, from: &str, to: &str) {
+    if let Ok(found) = fs::metadata(rt, from) {
+        let _ = fs::set_permissions(rt, to, found.permissions());
+    }
+}
+
 /// Writes a file beside the one of this name, and gives it the name once it is whole. `mark` keeps apart what two
 /// programs write at once. The old file is written over only where no other can be made beside it. It says whether it
 /// succeeded; the one error is out of memory.
@@ -63,7 +70,9 @@ pub fn replace(
     let target = target.as_str();
     let beside = format!(in alloc; "{}bibtex-{mark}~", folder_of(target))?;
     let beside = beside.as_str();
-    match fs::write(rt, beside, bytes) {
+    let written = fs::write(rt, beside, bytes);
+    copy_permissions(rt, target, beside);
+    match written {
         Ok(()) if fs::rename(rt, beside, target).is_ok() => Ok(true),
         Err(fault) if fault.kind() == ErrorKind::PermissionDenied => {
             Ok(fs::write(rt, target, bytes).is_ok())

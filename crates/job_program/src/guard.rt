@@ -29,12 +29,12 @@ impl Rule {
         }
     }
 
-    /// Whether a file of this name may be written.
-    pub fn admits(self, path: &str) -> bool {
+    /// Whether a file of this name may be written, where `output` is the folder that TEXMFOUTPUT names.
+    pub fn admits(self, path: &str, output: Option<&str>) -> bool {
         match self {
             Rule::Any => true,
             Rule::Restricted => !is_hidden(path),
-            Rule::Paranoid => !is_hidden(path) && is_below(path),
+            Rule::Paranoid => !is_hidden(path) && (is_below(path) || is_output(path, output)),
         }
     }
 }
@@ -44,7 +44,23 @@ fn is_hidden(path: &str) -> bool {
     path.split('/').any(|part| part.starts_with('.') && part != "." && part != "..")
 }
 
+/// Whether a path leads up to a folder above.
+fn leads_up(path: &str) -> bool {
+    path.split('/').any(|part| part == "..")
+}
+
 /// Whether a file lies in the folder that the program was started in, or below it.
 fn is_below(path: &str) -> bool {
-    !path.starts_with('/') && !path.split('/').any(|part| part == "..")
+    !path.starts_with('/') && !leads_up(path)
+}
+
+/// Whether a file lies below the folder that TEXMFOUTPUT names.
+fn is_output(path: &str, output: Option<&str>) -> bool {
+    match output {
+        Some(folder) => {
+            let rest = path.strip_prefix(folder).unwrap_or("");
+            rest.starts_with('/') && !leads_up(path)
+        }
+        None => false,
+    }
 }

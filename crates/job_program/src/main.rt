@@ -18,7 +18,6 @@ use crate::report::complain;
 use crate::script::{FILES_WANTED, HAND_OVER, Script};
 use crate::search::Search;
 use crate::version::VERSION;
-use anyhow::Result;
 use bt_log::{Message, log_bytes};
 use bt_run::Answers;
 use bt_text::Bytes;
@@ -68,14 +67,24 @@ fn in_a_line(alloc: Global, message: &Message) -> Result<Bytes, AllocError> {
     Bytes::copied(alloc, first.unwrap_or(b""))
 }
 
-/// Asks the script to let another program do the job for this reason. It says whether that succeeded.
-fn ask_to_hand_over(
+/// Why another program should do the job, if one may and should.
+fn reason(
     rt: &HostRuntime,
     script: &Script,
-    reason: &Message,
-) -> Result<bool, AllocError> {
-    let reason = in_a_line(rt.alloc(), reason)?;
-    Ok(script.ask(rt, reason.as_slice()))
+    search: &Search<'_>,
+    answers: &Answers,
+) -> Result<Option<Bytes>, AllocError> {
+    let alloc = rt.alloc();
+    if !script.hands_over(rt)? {
+        return Ok(None);
+    }
+    if search.has_unreadable() {
+        return Ok(Some(Bytes::copied(alloc, b"a file's name isn't UTF-8")?));
+    }
+    match takeover::reason(answers) {
+        Some(message) => Ok(Some(in_a_line(alloc, message)?)),
+        None => Ok(None),
+    }
 }
 
 /// Writes a file of the job, or says why it can't.
@@ -85,7 +94,7 @@ fn write(
     options: &Options<'_>,
     ending: &str,
     bytes: &[u8],
-) -> Result<bool> {
+) -> Result<bool, AllocError> {
     let alloc = rt.alloc();
     let path = format!(in alloc; "{}{ending}", options.job)?;
     let mark = match &script.mark {
@@ -95,7 +104,7 @@ fn write(
     if disk::replace(alloc, rt, path.as_str(), bytes, mark)? {
         return Ok(true);
     }
-    eprintln!(rt; "bibtex: can't write {path}")?;
+    let _ = eprintln!(rt; "bibtex: can't write {path}");
     Ok(false)
 }
 
@@ -105,7 +114,7 @@ fn finish(
     script: &Script,
     options: &Options<'_>,
     answers: &Answers,
-) -> Result<u8> {
+) -> Result<u8, AllocError> {
     let is_written = write(rt, script, options, ".bbl", answers.bbl.as_slice())?
         && write(rt, script, options, ".blg", answers.blg.as_slice())?;
     if !is_written {
@@ -125,14 +134,13 @@ fn run_found(
     script: &Script,
     options: &Options<'_>,
     search: &Search<'_>,
-) -> Result<u8> {
+) -> Result<u8, AllocError> {
     let alloc = rt.alloc();
     let files = search.files();
     let answers = bt_front::run(alloc, files, options.job.as_bytes(), u32::from(options.min))?;
     if options.may_hand_over
-        && script.hands_over(rt)?
-        && let Some(reason) = takeover::reason(&answers)
-        && ask_to_hand_over(rt, script, reason)?
+        && let Some(reason) = reason(rt, script, search, &answers)?
+        && script.ask(rt, reason.as_slice())
     {
         return Ok(HAND_OVER);
     }
@@ -155,11 +163,11 @@ fn run_found(
 }
 
 /// Looks up the job's files and runs it, or asks the script for help.
-fn run_job(rt: &HostRuntime, script: &Script, options: &Options<'_>) -> Result<u8> {
+fn run_job(rt: &HostRuntime, script: &Script, options: &Options<'_>) -> Result<u8, AllocError> {
     let mut search = Search::new(rt.alloc(), rt, script, options.job);
     search.run(options.job)?;
     if search.files().is_empty() {
-        eprintln!(rt; "I couldn't open file name `{}.aux'", options.job)?;
+        let _ = eprintln!(rt; "I couldn't open file name `{}.aux'", options.job);
         return Ok(NOT_RUN);
     }
     if ask_for_files(rt, script, search.missing())? {
@@ -169,57 +177,75 @@ fn run_job(rt: &HostRuntime, script: &Script, options: &Options<'_>) -> Result<u
 }
 
 /// Runs the job, unless its files may not be written.
-fn run(rt: &HostRuntime, options: &Options<'_>) -> Result<u8> {
+fn run(rt: &HostRuntime, options: &Options<'_>) -> Result<u8, AllocError> {
     let script = Script::of(rt)?;
     let rule = match &script.rule {
         Some(letter) => Rule::of(letter.as_str()),
         None => Rule::Paranoid,
     };
-    if !rule.admits(options.job) {
-        eprintln!(rt;
+    let output = match &script.output {
+        Some(folder) => Some(folder.as_str()),
+        None => None,
+    };
+    if !rule.admits(options.job, output) {
+        let _ = eprintln!(rt;
             "bibtex: Not writing to {}.blg (openout_any = {}).",
             options.job,
             rule.letter()
-        )?;
+        );
         return Ok(NOT_RUN);
     }
     run_job(rt, &script, options)
 }
 
-/// The words of the command line; `None` if memory ran out.
-fn words(rt: &HostRuntime) -> Result<Option<Vec<String>>> {
-    let args = match env::args(rt) {
-        Ok(args) => args,
-        Err(fault) if fault.kind() == ErrorKind::OutOfMemory => return Ok(None),
-        Err(fault) => return Err(fault.into()),
-    };
-    let words: Result<Vec<String>, AllocError> = args.collect(rt.alloc());
-    Ok(words.ok())
+/// The words of the command line; none if they aren't UTF-8. The one error is out of memory.
+fn words(rt: &HostRuntime) -> Result<Option<Vec<String>>, AllocError> {
+    match env::args(rt) {
+        Ok(args) => {
+            let words: Result<Vec<String>, AllocError> = args.collect(rt.alloc());
+            Ok(Some(words?))
+        }
+        Err(fault) if fault.kind() == ErrorKind::OutOfMemory => Err(AllocError),
+        Err(_) => Ok(None),
+    }
 }
 
-/// Does what the words ask for, and tells the exit status.
-fn answer(rt: &HostRuntime, words: &[String]) -> Result<u8> {
-    match parse(words) {
+/// What becomes of a command line that isn't UTF-8, so that this program can't read its files.
+fn refuse_words(rt: &HostRuntime) -> Result<u8, AllocError> {
+    let fault: &[u8] = b"the command line isn't UTF-8";
+    let script = Script::of(rt)?;
+    if script.hands_over(rt)? && script.ask(rt, fault) {
+        return Ok(HAND_OVER);
+    }
+    complain(rt, &[b"bibtex: ", fault, b"\n"]);
+    Ok(NOT_RUN)
+}
+
+/// Does what the command line asks for, and tells the exit status.
+fn answer(rt: &HostRuntime) -> Result<u8, AllocError> {
+    let Some(words) = words(rt)? else {
+        return refuse_words(rt);
+    };
+    match parse(words.as_slice()) {
         Request::Run(options) => run(rt, &options),
         Request::Help => {
-            println!(rt; "{}", report::HELP)?;
+            let _ = println!(rt; "{}", report::HELP);
             Ok(0)
         }
         Request::Version => {
-            println!(rt; "dulshenko {VERSION} (BibTeX 0.99d)")?;
+            let _ = println!(rt; "dulshenko {VERSION} (BibTeX 0.99d)");
             Ok(0)
         }
         Request::Wrong(wrong) => {
-            report::refuse(rt, wrong)?;
+            report::refuse(rt, wrong);
             Ok(NOT_RUN)
         }
     }
 }
 
-fn main(rt: HostRuntime) -> Result<ExitCode> {
-    let Some(words) = words(&rt)? else {
-        return Ok(out_of_memory(&rt));
-    };
-    let status = answer(&rt, words.as_slice())?;
-    Ok(ExitCode::from(status))
+fn main(rt: HostRuntime) -> ExitCode {
+    match answer(&rt) {
+        Ok(status) => ExitCode::from(status),
+        Err(_) => out_of_memory(&rt),
+    }
 }

@@ -59,6 +59,25 @@ impl<'a> Word<'a> {
     }
 }
 
+/// The options, without their dashes.
+const NAMES: &[&str] = &[
+    "terse",
+    "quiet",
+    "no-fallback",
+    "min-crossrefs",
+    "help",
+    "version",
+];
+
+/// The option that begins so, if just one does.
+fn full_name(start: &str) -> &str {
+    let mut found = NAMES.iter().filter(|name| name.starts_with(start));
+    match (found.next(), found.next()) {
+        (Some(name), None) => name,
+        _ => start,
+    }
+}
+
 /// The name of a job without the ending of its `.aux` or `.tex` file.
 fn without_ending(job: &str) -> &str {
     let short = job.strip_suffix(".aux").or(job.strip_suffix(".tex"));
@@ -102,13 +121,13 @@ impl<'a> Reader<'a> {
         name: &str,
         value: Option<&'a str>,
     ) -> Result<(), Request<'a>> {
-        match (name, value) {
+        match (full_name(name), value) {
             ("terse", None) => self.options.terse = true,
             ("quiet", None) => self.options.quiet = true,
             ("no-fallback", None) => self.options.may_hand_over = false,
             ("min-crossrefs", Some(number)) => return self.take_number(number),
             ("min-crossrefs", None) => self.wants_number = true,
-            ("help" | "h", None) => return Err(Request::Help),
+            ("help", None) => return Err(Request::Help),
             ("version", None) => return Err(Request::Version),
             _ => return Err(Request::Wrong(Wrong::UnknownOption(word))),
         }

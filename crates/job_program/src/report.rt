@@ -1,8 +1,7 @@
 //! What the terminal shows.
 
 use crate::options::Wrong;
-use anyhow::Result;
-use bt_log::{Message, Rank, log_bytes, terse_bytes};
+use bt_log::{FileNote, Message, Rank, Said, log_bytes, terse_bytes};
 use bt_run::Answers;
 use bt_streams::{WriterSink, say};
 use bt_text::{Bytes, Sequence};
@@ -38,31 +37,43 @@ pub fn complain(rt: &HostRuntime, pieces: &[&[u8]]) {
     let _ = say(&mut err, pieces);
 }
 
-/// Says in a line what is wrong with a command line.
-pub fn refuse(rt: &HostRuntime, wrong: Wrong<'_>) -> Result<()> {
-    match wrong {
-        Wrong::NoJob => eprintln!(rt; "bibtex: which document? Try bibtex JOB, or bibtex -help")?,
+/// Says in a line what is wrong with a command line, as far as that succeeds.
+pub fn refuse(rt: &HostRuntime, wrong: Wrong<'_>) {
+    let _ = match wrong {
+        Wrong::NoJob => eprintln!(rt; "bibtex: which document? Try bibtex JOB, or bibtex -help"),
         Wrong::TwoJobs(first, second) => {
-            eprintln!(rt; "bibtex: one document at a time: {first} and {second} are two")?
+            eprintln!(rt; "bibtex: one document at a time: {first} and {second} are two")
         }
         Wrong::UnknownOption(word) => eprintln!(rt;
             "bibtex: there is no option {word}; there are -terse, -min-crossrefs N, -quiet, -no-fallback, -version, -help and --resident"
-        )?,
-        Wrong::NoNumber(None) => eprintln!(rt;
-            "bibtex: -min-crossrefs needs a number, as in -min-crossrefs=2"
-        )?,
+        ),
+        Wrong::NoNumber(None) => {
+            eprintln!(rt; "bibtex: -min-crossrefs needs a number, as in -min-crossrefs=2")
+        }
         Wrong::NoNumber(Some(word)) => eprintln!(rt;
             "bibtex: -min-crossrefs needs a number from 0 to 65535, and {word} is none"
-        )?,
-    }
-    Ok(())
+        ),
+    };
 }
 
-/// The messages but the counts of calls, which are for the log alone.
-fn without_counts(alloc: Global, messages: &[Message]) -> Result<Sequence<Message>, AllocError> {
+/// Whether the terminal shows a message: all but the counts of calls and the lines of nested files, which only the log
+/// has.
+fn is_shown(message: &Message) -> bool {
+    let is_nested = matches!(
+        &message.said,
+        Said::OfFile {
+            note: FileNote::NestedAux(_),
+            ..
+        }
+    );
+    message.rank != Rank::CallCount && !(message.rank == Rank::FileLine && is_nested)
+}
+
+/// The messages that the terminal shows.
+fn shown_of(alloc: Global, messages: &[Message]) -> Result<Sequence<Message>, AllocError> {
     let mut shown = Sequence::new(alloc);
     'messages: for message in messages {
-        if message.rank != Rank::CallCount {
+        if is_shown(message) {
             shown.push(message.share()?)?;
         }
     }
@@ -75,7 +86,7 @@ fn printed(alloc: Global, answers: &Answers, terse: bool) -> Result<Bytes, Alloc
     if terse {
         return terse_bytes(alloc, messages);
     }
-    let shown = without_counts(alloc, messages)?;
+    let shown = shown_of(alloc, messages)?;
     log_bytes(alloc, shown.as_slice())
 }
 

@@ -31,6 +31,8 @@ pub struct Script {
     pub search_all: bool,
     /// The letter of TeX's rule for files that are written.
     pub rule: Option<String>,
+    /// The folder that TEXMFOUTPUT names.
+    pub output: Option<String>,
     /// What keeps the files of two programs apart that run at once.
     pub mark: Option<String>,
 }
@@ -95,6 +97,7 @@ impl Script {
             places,
             search_all: variable(rt, "DULSHENKO_SEARCH_ALL")?.is_some(),
             rule: variable(rt, "DULSHENKO_OPENOUT")?,
+            output: variable(rt, "TEXMFOUTPUT")?,
             mark: variable(rt, "DULSHENKO_MARK")?,
         })
     }

@@ -1,5 +1,5 @@
 //! Looks up the files that a job names, each once: in the folder that the program was started in, where `kpsewhich` found
-//! them, and beside the job's own `.aux` file. All names are looked up, also those after one that is missing, so that
+//! them, and, for `.aux` files, beside the job's own. All names are looked up, also those after one that is missing, so that
 //! `kpsewhich` is asked once.
 
 use crate::disk::{self, folder_of};
@@ -22,6 +22,8 @@ pub struct Search<'a> {
     files: Sequence<File>,
     /// The names that weren't found.
     missing: Sequence<Bytes>,
+    /// Whether a name isn't UTF-8, so that the file can't be read.
+    has_unreadable: bool,
 }
 
 impl<'a> Search<'a> {
@@ -35,6 +37,7 @@ impl<'a> Search<'a> {
             met: IndexSet::new(alloc),
             files: Sequence::new(alloc),
             missing: Sequence::new(alloc),
+            has_unreadable: false,
         }
     }
 
@@ -46,6 +49,11 @@ impl<'a> Search<'a> {
     /// The names that weren't found.
     pub fn missing(&self) -> &[Bytes] {
         self.missing.as_slice()
+    }
+
+    /// Whether the job names a file whose name isn't UTF-8. Such a file counts as missing.
+    pub fn has_unreadable(&self) -> bool {
+        self.has_unreadable
     }
 
     fn read(&self, path: &[u8]) -> Result<Option<Bytes>, AllocError> {
@@ -72,13 +80,7 @@ impl<'a> Search<'a> {
         if self.script.search_all {
             return Ok(None);
         }
-        if let Some(text) = self.read(name)? {
-            return Ok(Some(text));
-        }
-        if self.script.can_search() {
-            return Ok(None);
-        }
-        self.read_beside(name)
+        self.read(name)
     }
 
     fn read_named(&self, name: &[u8]) -> Result<Option<Bytes>, AllocError> {
@@ -94,6 +96,9 @@ impl<'a> Search<'a> {
     /// Looks up a file, and says whether it was found.
     fn look_up(&mut self, name: &[u8]) -> Result<bool, AllocError> {
         let _ = self.met.insert(Vec::from_slice(self.alloc, name)?)?;
+        if str::from_utf8(name).is_err() {
+            self.has_unreadable = true;
+        }
         let Some(text) = self.read_named(name)? else {
             self.missing.push(Bytes::copied(self.alloc, name)?)?;
             return Ok(false);
