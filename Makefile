@@ -78,10 +78,10 @@ hostile: build
 	tests/hostile $(PROGRAM)
 
 compare:
-	tests/compare $(PROGRAM)
+	tests/compare
 
 try-latex:
-	tests/latex $(JOB_PROGRAM) $(PROGRAM)
+	tests/latex
 
 # PROGRAM=.. drives another build of the program.
 try-editors:
