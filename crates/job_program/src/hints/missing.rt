@@ -71,7 +71,7 @@ enum Offer {
 }
 
 /// Looks for a file in the folders of the folder, and for one whose name is nearly the same.
-fn offer(
+fn look_for(
     alloc: Global,
     rt: &HostRuntime,
     name: &str,
@@ -115,7 +115,7 @@ fn hint_at(
     }
     let variable = variable(kind);
     let looked: &[u8] = b" isn't in the folder or where kpsewhich looks";
-    match offer(alloc, hints.rt, text, ending(kind))? {
+    match look_for(alloc, hints.rt, text, ending(kind))? {
         Some(Offer::Folder(folder)) => hints.give(&[
             b"hint: ",
             name,

@@ -66,7 +66,7 @@ struct Shown<'a> {
 }
 
 /// The place of a message about a line.
-fn shown(message: &Message) -> Option<Shown<'_>> {
+fn place_of(message: &Message) -> Option<Shown<'_>> {
     if !matches!(message.rank, Rank::Warning | Rank::Error | Rank::Fatal) {
         return None;
     }
@@ -141,7 +141,7 @@ pub fn hint(alloc: Global, hints: &mut Hints<'_>, job: Job<'_>) -> Result<(), Al
         if hints.is_full() {
             return Ok(());
         }
-        if let Some(place) = shown(message)
+        if let Some(place) = place_of(message)
             && let Some(text) = job.text(place.file)
         {
             hint_at(alloc, hints, text, &place)?;
