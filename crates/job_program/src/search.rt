@@ -10,6 +10,9 @@ use bt_text::{Bytes, Sequence, Shared};
 use indexmap::IndexSet;
 use std::alloc::{AllocError, Global};
 
+/// How deep `.aux` files nest at most: each round of the search goes one level deeper. TeX nests far fewer.
+const DEEPEST: usize = 10_000;
+
 /// A job's files as far as they were looked up.
 #[derive(Drop)]
 pub struct Search<'a> {
@@ -124,10 +127,11 @@ impl<'a> Search<'a> {
 
     /// Looks up all files that a job names. The one error is out of memory.
     pub fn run(&mut self, job: &str) -> Result<(), AllocError> {
-        let mut goes_on = true;
-        'rounds: while goes_on {
+        'rounds: for _ in 0..DEEPEST {
             let names = names_of(self.alloc, self.files.as_slice(), job.as_bytes())?;
-            goes_on = self.look_up_new(names.as_slice())?;
+            if !self.look_up_new(names.as_slice())? {
+                break;
+            }
         }
         Ok(())
     }

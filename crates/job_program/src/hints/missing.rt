@@ -32,10 +32,10 @@ fn ending(kind: FileKind) -> &'static str {
 }
 
 /// The variable that names the folders to search.
-fn variable(kind: FileKind) -> &'static [u8] {
+fn variable(kind: FileKind) -> &'static str {
     match kind {
-        FileKind::Bst => b"BSTINPUTS",
-        FileKind::Aux | FileKind::Bib => b"BIBINPUTS",
+        FileKind::Bst => "BSTINPUTS",
+        FileKind::Aux | FileKind::Bib => "BIBINPUTS",
     }
 }
 
@@ -114,39 +114,17 @@ fn hint_at(
         return Ok(());
     }
     let variable = variable(kind);
-    let looked: &[u8] = b" isn't in the folder or where kpsewhich looks";
-    match look_for(alloc, hints.rt, text, ending(kind))? {
-        Some(Offer::Folder(folder)) => hints.give(&[
-            b"hint: ",
-            name,
-            looked,
-            b"; there is ",
-            folder.as_bytes(),
-            b"/",
-            name,
-            b" (set ",
-            variable,
-            b"=",
-            folder.as_bytes(),
-            b":)\n",
-        ]),
-        Some(Offer::Name(other)) => hints.give(&[
-            b"hint: ",
-            name,
-            looked,
-            b"; did you mean ",
-            other.as_bytes(),
-            b"?\n",
-        ]),
-        None => hints.give(&[
-            b"hint: ",
-            name,
-            looked,
-            b" (",
-            variable,
-            b" names more folders)\n",
-        ]),
-    }
+    let looked = "isn't in the folder or where kpsewhich looks";
+    let line = match look_for(alloc, hints.rt, text, ending(kind))? {
+        Some(Offer::Folder(folder)) => format!(in alloc;
+            "hint: {text} {looked}; there is {folder}/{text} (set {variable}={folder}:)\n"
+        )?,
+        Some(Offer::Name(other)) => {
+            format!(in alloc; "hint: {text} {looked}; did you mean {other}?\n")?
+        }
+        None => format!(in alloc; "hint: {text} {looked} ({variable} names more folders)\n")?,
+    };
+    hints.give(&[line.as_bytes()]);
     Ok(())
 }
 

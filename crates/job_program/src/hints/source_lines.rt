@@ -92,7 +92,10 @@ fn mark(
         && let Some(column) = byte.checked_sub(before)
         && let Some(left) = line.get(..column)
     {
-        mark.append_all(&[b"    ", indentation(alloc, left)?.as_slice(), b"^\n"])?;
+        let spaces = indentation(alloc, left)?;
+        mark.append(b"    ")?;
+        mark.append(spaces.as_slice())?;
+        mark.append(b"^\n")?;
     }
     Ok(mark)
 }
