@@ -12,10 +12,11 @@ mod search;
 mod takeover;
 mod version;
 
+use crate::disk::Output;
 use crate::guard::Rule;
 use crate::options::{Options, Request, parse};
 use crate::report::complain;
-use crate::script::{FILES_WANTED, HAND_OVER, Script};
+use crate::script::{BETWEEN, FILES_WANTED, HAND_OVER, Script};
 use crate::search::Search;
 use crate::version::VERSION;
 use bt_log::{Message, log_bytes};
@@ -38,25 +39,42 @@ fn out_of_memory(rt: &HostRuntime) -> ExitCode {
     ExitCode::FAILURE
 }
 
-/// The names that `kpsewhich` may find, a line each.
-fn searched_names(alloc: Global, missing: &[Bytes]) -> Result<Bytes, AllocError> {
-    let mut names = Bytes::new(alloc);
+/// What `kpsewhich` is asked for: the styles and databases that are missing, and `BETWEEN` after each.
+fn question(alloc: Global, missing: &[Bytes]) -> Result<Bytes, AllocError> {
+    let mut question = Bytes::new(alloc);
     'names: for name in missing {
         let name = name.as_slice();
         if !name.ends_with(b".aux") {
-            names.append_all(&[name, b"\n"])?;
+            question.append_all(&[name, b"\n", BETWEEN, b"\n"])?;
         }
     }
-    Ok(names)
+    Ok(question)
 }
 
-/// Asks the script for the places of missing files. It says whether there was something to ask, and that succeeded.
-fn ask_for_files(rt: &HostRuntime, script: &Script, missing: &[Bytes]) -> Result<bool, AllocError> {
+/// Asks the script to find missing files, if there are any that it hasn't looked for. The exit status says whether that
+/// succeeded.
+fn ask_for_files(
+    rt: &HostRuntime,
+    script: &Script,
+    missing: &[Bytes],
+) -> Result<Option<u8>, AllocError> {
     if !script.can_search() {
-        return Ok(false);
+        return Ok(None);
     }
-    let names = searched_names(rt.alloc(), missing)?;
-    Ok(names.len() > 0 && script.ask(rt, names.as_slice()))
+    let question = question(rt.alloc(), missing)?;
+    if question.len() == 0 {
+        return Ok(None);
+    }
+    if script.ask(rt, question.as_slice()) {
+        return Ok(Some(FILES_WANTED));
+    }
+    complain(
+        rt,
+        &[
+            b"bibtex: files are missing, and the script can't be asked for them, since /dev/fd is missing too\n",
+        ],
+    );
+    Ok(Some(NOT_RUN))
 }
 
 /// A message in one line.
@@ -87,25 +105,40 @@ fn reason(
     }
 }
 
-/// Writes a file of the job, or says why it can't.
+/// Says that a file can't be written.
+fn cannot_write(rt: &HostRuntime, path: &str) {
+    let _ = eprintln!(rt; "bibtex: can't write {path}");
+}
+
+/// Replaces both files of the job, or leaves both as they are and says which one can't be written.
 fn write(
     rt: &HostRuntime,
     script: &Script,
-    options: &Options<'_>,
-    ending: &str,
-    bytes: &[u8],
+    job: &str,
+    answers: &Answers,
 ) -> Result<bool, AllocError> {
     let alloc = rt.alloc();
-    let path = format!(in alloc; "{}{ending}", options.job)?;
-    let mark = match &script.mark {
-        Some(mark) => mark.as_str(),
-        None => "new",
+    let bbl_path = format!(in alloc; "{job}.bbl")?;
+    let blg_path = format!(in alloc; "{job}.blg")?;
+    let (bbl_path, blg_path) = (bbl_path.as_str(), blg_path.as_str());
+    let (bbl, blg) = (answers.bbl.as_slice(), answers.blg.as_slice());
+    let Some(bbl) = Output::new(alloc, rt, bbl_path, bbl, script.mark())? else {
+        cannot_write(rt, bbl_path);
+        return Ok(false);
     };
-    if disk::replace(alloc, rt, path.as_str(), bytes, mark)? {
-        return Ok(true);
+    let Some(blg) = Output::new(alloc, rt, blg_path, blg, script.mark())? else {
+        cannot_write(rt, blg_path);
+        return Ok(false);
+    };
+    if !bbl.put() {
+        cannot_write(rt, bbl_path);
+        return Ok(false);
     }
-    let _ = eprintln!(rt; "bibtex: can't write {path}");
-    Ok(false)
+    if !blg.put() {
+        cannot_write(rt, blg_path);
+        return Ok(false);
+    }
+    Ok(true)
 }
 
 /// Writes both files, prints what the run says, and tells the exit status.
@@ -115,12 +148,11 @@ fn finish(
     options: &Options<'_>,
     answers: &Answers,
 ) -> Result<u8, AllocError> {
-    let is_written = write(rt, script, options, ".bbl", answers.bbl.as_slice())?
-        && write(rt, script, options, ".blg", answers.blg.as_slice())?;
-    if !is_written {
+    let printed = report::printed(rt.alloc(), answers, options.terse)?;
+    if !write(rt, script, options.job, answers)? {
         return Ok(NOT_WRITTEN);
     }
-    report::print(rt, answers, options.terse)?;
+    report::print(rt, printed.as_slice());
     Ok(if answers.status <= 1 {
         0
     } else {
@@ -148,14 +180,15 @@ fn run_found(
     if !options.quiet && status != NOT_WRITTEN {
         let name = options.job;
         let answers = &answers;
-        hints::print(
+        // The files are written, whether or not memory is left for hints.
+        let _ = hints::print(
             rt,
             hints::Job {
                 name,
                 files,
                 answers,
             },
-        )?;
+        );
     }
     // The program ends here: what the run kept goes with it, at once.
     forget(answers);
@@ -170,10 +203,10 @@ fn run_job(rt: &HostRuntime, script: &Script, options: &Options<'_>) -> Result<u
         let _ = eprintln!(rt; "I couldn't open file name `{}.aux'", options.job);
         return Ok(NOT_RUN);
     }
-    if ask_for_files(rt, script, search.missing())? {
-        return Ok(FILES_WANTED);
+    match ask_for_files(rt, script, search.missing())? {
+        Some(status) => Ok(status),
+        None => run_found(rt, script, options, &search),
     }
-    run_found(rt, script, options, &search)
 }
 
 /// Runs the job, unless its files may not be written.
@@ -187,10 +220,11 @@ fn run(rt: &HostRuntime, options: &Options<'_>) -> Result<u8, AllocError> {
         Some(folder) => Some(folder.as_str()),
         None => None,
     };
-    if !rule.admits(options.job, output) {
+    // The .bbl lies in the same folder, and is hidden if the .blg is.
+    let log = format!(in rt.alloc(); "{}.blg", options.job)?;
+    if !rule.admits(log.as_str(), output) {
         let _ = eprintln!(rt;
-            "bibtex: Not writing to {}.blg (openout_any = {}).",
-            options.job,
+            "bibtex: Not writing to {log} (openout_any = {}).",
             rule.letter()
         );
         return Ok(NOT_RUN);

@@ -80,8 +80,8 @@ fn shown_of(alloc: Global, messages: &[Message]) -> Result<Sequence<Message>, Al
     Ok(shown)
 }
 
-/// What a run prints.
-fn printed(alloc: Global, answers: &Answers, terse: bool) -> Result<Bytes, AllocError> {
+/// What the terminal shows of a run. The one error is out of memory.
+pub fn printed(alloc: Global, answers: &Answers, terse: bool) -> Result<Bytes, AllocError> {
     let messages = answers.messages.as_slice();
     if terse {
         return terse_bytes(alloc, messages);
@@ -90,10 +90,8 @@ fn printed(alloc: Global, answers: &Answers, terse: bool) -> Result<Bytes, Alloc
     log_bytes(alloc, shown.as_slice())
 }
 
-/// Prints what a run says, as far as that succeeds.
-pub fn print(rt: &HostRuntime, answers: &Answers, terse: bool) -> Result<(), AllocError> {
-    let text = printed(rt.alloc(), answers, terse)?;
+/// Prints bytes to standard output, as far as that succeeds.
+pub fn print(rt: &HostRuntime, text: &[u8]) {
     let mut out = WriterSink::new(io::writer(rt));
-    let _ = say(&mut out, &[text.as_slice()]);
-    Ok(())
+    let _ = say(&mut out, &[text]);
 }

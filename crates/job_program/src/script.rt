@@ -4,6 +4,7 @@
 
 use crate::disk;
 use bt_text::Bytes;
+use indexmap::IndexMap;
 use std::alloc::{AllocError, Global};
 use std::{env, fs};
 
@@ -13,12 +14,8 @@ pub const FILES_WANTED: u8 = 75;
 /// The exit status that asks the script to let another `bibtex` do the job.
 pub const HAND_OVER: u8 = 76;
 
-/// A name, and the path that `kpsewhich` found for it.
-#[derive(Drop)]
-pub struct Place {
-    pub name: Bytes,
-    pub path: Bytes,
-}
+/// The paths that `kpsewhich` found, by the names that it was asked for.
+type Places = IndexMap<Vec<u8>, Bytes>;
 
 /// What the script said.
 #[derive(Drop)]
@@ -26,7 +23,7 @@ pub struct Script {
     /// The file that the script reads, if it does.
     asking: Option<String>,
     /// What `kpsewhich` found, if it was asked.
-    pub places: Option<Vec<Place>>,
+    places: Option<Places>,
     /// Whether files in the folder have no precedence, since BIBINPUTS or BSTINPUTS is set.
     pub search_all: bool,
     /// The letter of TeX's rule for files that are written.
@@ -34,7 +31,7 @@ pub struct Script {
     /// The folder that TEXMFOUTPUT names.
     pub output: Option<String>,
     /// What keeps the files of two programs apart that run at once.
-    pub mark: Option<String>,
+    mark: Option<String>,
 }
 
 /// A variable of the environment, unless it is missing or empty.
@@ -48,39 +45,40 @@ fn variable(rt: &HostRuntime, name: &str) -> Result<Option<String>, AllocError> 
 }
 
 /// What stands between two answers of `kpsewhich`: it is asked for this file too, after each name.
-const BETWEEN: &[u8] = b"/dev/null";
+pub const BETWEEN: &[u8] = b"/dev/null";
 
-/// Names and what `kpsewhich` found: the names, a line each, an empty line, and its answers in the same order with a
-/// line `/dev/null` after each.
-fn places(alloc: Global, text: &[u8]) -> Result<Vec<Place>, AllocError> {
+/// What `kpsewhich` was asked for up to an empty line, and behind it its answers in the same order. A file that it didn't
+/// find has none, and the first of several counts.
+fn places(alloc: Global, text: &[u8]) -> Result<Places, AllocError> {
     let mut lines = text.split(|byte| *byte == b'\n');
     let mut names = Vec::new(alloc);
     'names: for line in &mut lines {
         if line.is_empty() {
             break;
         }
-        names.push(line)?;
+        if line != BETWEEN {
+            names.push(line)?;
+        }
     }
-    let mut places = Vec::new(alloc);
+    let mut places = IndexMap::new(alloc);
     'places: for name in names.iter() {
         'answers: for line in &mut lines {
             if line == BETWEEN {
                 break;
             }
-            places.push(Place {
-                name: Bytes::copied(alloc, name)?,
-                path: Bytes::copied(alloc, line)?,
-            })?;
+            if !places.contains_key(*name) {
+                let _ = places.insert(Vec::from_slice(alloc, name)?, Bytes::copied(alloc, line)?)?;
+            }
         }
     }
     Ok(places)
 }
 
 /// What `kpsewhich` found, as a file tells it.
-fn places_in(alloc: Global, rt: &HostRuntime, path: &str) -> Result<Vec<Place>, AllocError> {
+fn places_in(alloc: Global, rt: &HostRuntime, path: &str) -> Result<Places, AllocError> {
     match disk::read(alloc, rt, path)? {
         Some(text) => places(alloc, text.as_slice()),
-        None => Ok(Vec::new(alloc)),
+        None => Ok(IndexMap::new(alloc)),
     }
 }
 
@@ -122,8 +120,14 @@ impl Script {
 
     /// The path that `kpsewhich` found for a name.
     pub fn path_of(&self, name: &[u8]) -> Option<&[u8]> {
-        let places = self.places.as_ref()?;
-        let place = places.iter().find(|place| place.name.as_slice() == name)?;
-        Some(place.path.as_slice())
+        Some(self.places.as_ref()?.get(name)?.as_slice())
+    }
+
+    /// What keeps this program's files apart from those of others that run at once.
+    pub fn mark(&self) -> &str {
+        match &self.mark {
+            Some(mark) => mark.as_str(),
+            None => "new",
+        }
     }
 }

@@ -10,7 +10,8 @@ use bt_text::{Bytes, Sequence, Shared};
 use indexmap::IndexSet;
 use std::alloc::{AllocError, Global};
 
-/// How deep `.aux` files nest at most: each round of the search goes one level deeper. TeX nests far fewer.
+/// How deep `.aux` files nest at most: each round of the search reads those that the round before found. TeX nests far
+/// fewer.
 const DEEPEST: usize = 10_000;
 
 /// A job's files as far as they were looked up.
@@ -96,40 +97,40 @@ impl<'a> Search<'a> {
         }
     }
 
-    /// Looks up a file, and says whether it was found.
-    fn look_up(&mut self, name: &[u8]) -> Result<bool, AllocError> {
+    fn look_up(&mut self, name: &[u8]) -> Result<(), AllocError> {
         let _ = self.met.insert(Vec::from_slice(self.alloc, name)?)?;
         if str::from_utf8(name).is_err() {
             self.has_unreadable = true;
         }
-        let Some(text) = self.read_named(name)? else {
-            self.missing.push(Bytes::copied(self.alloc, name)?)?;
-            return Ok(false);
-        };
-        self.files.push(File {
-            name: Shared::<Bytes>::copied(self.alloc, name)?,
-            text: Shared::new(self.alloc, text)?,
-        })?;
-        Ok(true)
+        match self.read_named(name)? {
+            Some(text) => self.files.push(File {
+                name: Shared::<Bytes>::copied(self.alloc, name)?,
+                text: Shared::new(self.alloc, text)?,
+            })?,
+            None => self.missing.push(Bytes::copied(self.alloc, name)?)?,
+        }
+        Ok(())
     }
 
-    /// Looks up those names that are new, and says whether one was found.
-    fn look_up_new(&mut self, names: &[Bytes]) -> Result<bool, AllocError> {
-        let mut found = false;
+    fn look_up_new(&mut self, names: &[Bytes]) -> Result<(), AllocError> {
         'names: for name in names {
             let name = name.as_slice();
-            if !self.met.contains(name) && self.look_up(name)? {
-                found = true;
+            if !self.met.contains(name) {
+                self.look_up(name)?;
             }
         }
-        Ok(found)
+        Ok(())
     }
 
     /// Looks up all files that a job names. The one error is out of memory.
     pub fn run(&mut self, job: &str) -> Result<(), AllocError> {
+        let mut done = 0usize;
         'rounds: for _ in 0..DEEPEST {
-            let names = names_of(self.alloc, self.files.as_slice(), job.as_bytes())?;
-            if !self.look_up_new(names.as_slice())? {
+            let found = self.files.as_slice().get(done..).unwrap_or(&[]);
+            let names = names_of(self.alloc, found, job.as_bytes())?;
+            done = self.files.len();
+            self.look_up_new(names.as_slice())?;
+            if self.files.len() == done {
                 break;
             }
         }

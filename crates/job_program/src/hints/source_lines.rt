@@ -1,6 +1,6 @@
 //! The lines that messages speak of, with a mark under the place.
 
-use crate::hints::{Hints, Job};
+use crate::hints::{HINTS, Hints, Job};
 use bt_log::{Message, Place, Rank, Said};
 use bt_text::Bytes;
 use itoa::Buffer;
@@ -138,15 +138,11 @@ fn hint_at(
     Ok(())
 }
 
-/// Shows the lines that messages speak of.
+/// Shows the lines that the first messages speak of: each takes a pass over its file.
 pub fn hint(alloc: Global, hints: &mut Hints<'_>, job: Job<'_>) -> Result<(), AllocError> {
-    'messages: for message in job.answers.messages.as_slice() {
-        if hints.is_full() {
-            return Ok(());
-        }
-        if let Some(place) = place_of(message)
-            && let Some(text) = job.text(place.file)
-        {
+    let messages = job.answers.messages.as_slice();
+    'places: for place in messages.iter().filter_map(place_of).take(HINTS) {
+        if let Some(text) = job.text(place.file) {
             hint_at(alloc, hints, text, &place)?;
         }
     }
