@@ -77,7 +77,6 @@ fn ask_for_files(
     Ok(Some(NOT_RUN))
 }
 
-/// A message in one line.
 fn in_a_line(alloc: Global, message: &Message) -> Result<Bytes, AllocError> {
     let shared = [message.share()?];
     let words = log_bytes(alloc, &shared)?;
@@ -105,7 +104,6 @@ fn reason(
     }
 }
 
-/// Says that a file can't be written.
 fn cannot_write(rt: &HostRuntime, path: &str) {
     let _ = eprintln!(rt; "bibtex: can't write {path}");
 }
@@ -201,6 +199,9 @@ fn run_job(rt: &HostRuntime, script: &Script, options: &Options<'_>) -> Result<u
     search.run(options.job)?;
     if search.files().is_empty() {
         let _ = eprintln!(rt; "I couldn't open file name `{}.aux'", options.job);
+        if !options.quiet {
+            let _ = eprintln!(rt; "hint: LaTeX writes {}.aux, so run it first", options.job);
+        }
         return Ok(NOT_RUN);
     }
     match ask_for_files(rt, script, search.missing())? {

@@ -13,23 +13,23 @@ pub const HELP: &str = "\
 usage: bibtex [-terse] [-min-crossrefs N] [-quiet] [-no-fallback] JOB
        bibtex --resident JOB
 
-Writes the bibliography of a LaTeX document: reads what JOB.aux cites, looks it up in the
-databases that it names, and writes JOB.bbl as its style says. JOB.blg gets the log.
-JOB is the document, with or without .aux.
+Writes the bibliography of a LaTeX document. It reads JOB.aux, looks up the cited entries in
+the databases, formats them in the document's style, and writes JOB.bbl. The log goes to
+JOB.blg. JOB is the document, with or without .aux or .tex.
 
-  -terse             don't print the names of the files
-  -min-crossrefs N   list an uncited entry once N entries refer to it (default 2)
+  -terse             print only messages, not the names of the files
+  -min-crossrefs N   include an uncited entry once N entries cross-reference it (default 2)
   -quiet             print no hints
   -no-fallback       never let another bibtex do the job
   -version           print the version, and which other bibtex there is
   -help              print this
   --resident         answer an editor's commands; read and write no file
 
-Options take one dash or two. Files are looked for in the folder, and then by kpsewhich
-(BIBINPUTS, BSTINPUTS).
+Options take one dash or two. Files are looked for in the current folder and then by kpsewhich,
+or by kpsewhich alone if BIBINPUTS or BSTINPUTS is set.
 
-Exit status: 0 if there were warnings at most, 2 after errors, 3 after a fatal error or if
-a file can't be written, 1 if the job can't be run.";
+Exit status: 0 for a clean run or warnings, 1 if the job can't be run or memory ran out, 2 for
+errors, 3 for a fatal error or a file that can't be written.";
 
 /// Prints bytes to standard error, as far as that succeeds.
 pub fn complain(rt: &HostRuntime, pieces: &[&[u8]]) {
@@ -40,9 +40,13 @@ pub fn complain(rt: &HostRuntime, pieces: &[&[u8]]) {
 /// Says in a line what is wrong with a command line, as far as that succeeds.
 pub fn refuse(rt: &HostRuntime, wrong: Wrong<'_>) {
     let _ = match wrong {
-        Wrong::NoJob => eprintln!(rt; "bibtex: which document? Try bibtex JOB, or bibtex -help"),
+        Wrong::NoJob => eprintln!(rt;
+            "bibtex: name a document, as in bibtex paper; bibtex -help shows more"
+        ),
         Wrong::TwoJobs(first, second) => {
-            eprintln!(rt; "bibtex: one document at a time: {first} and {second} are two")
+            eprintln!(rt;
+                "bibtex: one document at a time, not {first} and {second} (quote a name that has spaces)"
+            )
         }
         Wrong::UnknownOption(word) => eprintln!(rt;
             "bibtex: there is no option {word}; there are -terse, -min-crossrefs N, -quiet, -no-fallback, -version, -help and --resident"
@@ -51,7 +55,7 @@ pub fn refuse(rt: &HostRuntime, wrong: Wrong<'_>) {
             eprintln!(rt; "bibtex: -min-crossrefs needs a number, as in -min-crossrefs=2")
         }
         Wrong::NoNumber(Some(word)) => eprintln!(rt;
-            "bibtex: -min-crossrefs needs a number from 0 to 65535, and {word} is none"
+            "bibtex: -min-crossrefs needs a number from 0 to 65535, and {word} isn't one"
         ),
     };
 }

@@ -5,6 +5,9 @@
 " the texts as they are now with those that the program has, and sends the next difference. So the newest text wins, and
 " what was typed in between is never sent by itself.
 
+let s:cpo_save = &cpo
+set cpo&vim
+
 let s:papers = {}       " by the path of the .aux file
 let s:latest = {}       " the paper that was started last
 let s:resolved = {}     " paths without links, by path
@@ -745,3 +748,6 @@ function! s:Follow() abort
     call s:Show(paper)
   endif
 endfunction
+
+let &cpo = s:cpo_save
+unlet s:cpo_save

@@ -69,30 +69,50 @@ fn is_named(field: &Field, name: &[u8]) -> bool {
     eq_ignore_ascii_case(field.name.as_slice(), name)
 }
 
-/// The first name of a list that ends in a comma.
-fn with_comma(names: &[u8]) -> Option<&[u8]> {
-    let text = str::from_utf8(names).ok()?;
-    let found = text
-        .split(" and ")
-        .find(|name| name.trim_end().ends_with(','))?;
-    Some(found.trim().as_bytes())
+/// Whether a name has two commas, of which one is at its end: what stands between them is Jr then.
+fn ends_in_second_comma(name: &[u8]) -> bool {
+    name.ends_with(b",") && name.iter().filter(|byte| **byte == b',').count() == 2
 }
 
-fn hint_at_names(hints: &mut Hints<'_>, key: &[u8], field: &Field) {
+/// The first of these names that ends in a second comma.
+fn with_comma(alloc: Global, names: &[u8]) -> Result<Option<Bytes>, AllocError> {
+    let mut name = Bytes::new(alloc);
+    'words: for word in names.split(|byte| byte.is_ascii_whitespace()) {
+        if word.eq_ignore_ascii_case(b"and") && ends_in_second_comma(name.as_slice()) {
+            return Ok(Some(name));
+        }
+        if word.eq_ignore_ascii_case(b"and") {
+            name = Bytes::new(alloc);
+        } else if name.len() == 0 {
+            name.append(word)?;
+        } else if !word.is_empty() {
+            name.append_all(&[b" ", word])?;
+        }
+    }
+    Ok(Some(name).filter(|name| ends_in_second_comma(name.as_slice())))
+}
+
+fn hint_at_names(
+    alloc: Global,
+    hints: &mut Hints<'_>,
+    key: &[u8],
+    field: &Field,
+) -> Result<(), AllocError> {
     if !is_named(field, b"author") && !is_named(field, b"editor") {
-        return;
+        return Ok(());
     }
     if let Some(names) = plain(field)
-        && let Some(name) = with_comma(names)
+        && let Some(name) = with_comma(alloc, names)?
     {
         hints.give(&[
-            b"hint: in the entry ",
+            b"hint: delete the comma at the end of the name \"",
+            name.as_slice(),
+            b"\" in the entry ",
             key,
-            b" the name \"",
-            name,
-            b"\" ends in a comma, so its last part counts as Jr; leave the comma out\n",
+            b": because of it, the part before it counts as Jr\n",
         ]);
     }
+    Ok(())
 }
 
 /// The keys of all entries by their lower-case forms.
@@ -117,7 +137,7 @@ fn hint_at_parent(
             key,
             b" has crossref = {",
             parent,
-            b"}, and its parent's key is ",
+            b"}, but the key is ",
             spelling.as_slice(),
             b"; spell both alike\n",
         ]);
@@ -133,7 +153,7 @@ fn hint_at_fields(
     entry: &Entry,
 ) -> Result<(), AllocError> {
     'fields: for field in entry.fields.as_slice() {
-        hint_at_names(hints, key, field);
+        hint_at_names(alloc, hints, key, field)?;
         hint_at_parent(alloc, hints, spellings, key, field)?;
     }
     Ok(())

@@ -64,13 +64,15 @@ impl Nearest<'_> {
 /// What the folder offers in the place of a file.
 #[derive(Drop)]
 enum Offer {
-    /// The file lies in this folder.
+    /// The file itself, which wasn't looked for there, or can't be read.
+    Itself,
+    /// A file of this name in this folder.
     Folder(String),
-    /// A file of this name is there.
+    /// A file of nearly the same name.
     Name(String),
 }
 
-/// Looks for a file in the folders of the folder, and for one whose name is nearly the same.
+/// Looks for a file in the folder and its folders, and for one whose name is nearly the same.
 fn look_for(
     alloc: Global,
     rt: &HostRuntime,
@@ -86,6 +88,9 @@ fn look_for(
             return Ok(None);
         };
         let found = entry.file_name();
+        if found == name {
+            return Ok(Some(Offer::Itself));
+        }
         if found.ends_with(ending) {
             nearest.note(alloc, found)?;
         } else if !found.starts_with('.')
@@ -100,32 +105,28 @@ fn look_for(
     }
 }
 
-/// Says where a file was looked for, and what there is instead.
-fn hint_at(
+/// What to do about a file that wasn't found.
+fn advice(
     alloc: Global,
-    hints: &mut Hints<'_>,
+    rt: &HostRuntime,
     kind: FileKind,
-    name: &[u8],
-) -> Result<(), AllocError> {
-    let Ok(text) = str::from_utf8(name) else {
-        return Ok(());
-    };
-    if name.len() > LONGEST {
-        return Ok(());
-    }
+    name: &str,
+) -> Result<String, AllocError> {
     let variable = variable(kind);
-    let looked = "isn't in the folder or where kpsewhich looks";
-    let line = match look_for(alloc, hints.rt, text, ending(kind))? {
+    match look_for(alloc, rt, name, ending(kind))? {
+        Some(Offer::Itself) => format!(in alloc;
+            "is in the current folder, but can't be read there; is the folder named in {variable}?"
+        ),
         Some(Offer::Folder(folder)) => format!(in alloc;
-            "hint: {text} {looked}; there is {folder}/{text} (set {variable}={folder}:)\n"
-        )?,
+            "isn't in the current folder, but there is {folder}/{name}: set {variable}={folder}:"
+        ),
         Some(Offer::Name(other)) => {
-            format!(in alloc; "hint: {text} {looked}; did you mean {other}?\n")?
+            format!(in alloc; "isn't in the current folder; did you mean {other}?")
         }
-        None => format!(in alloc; "hint: {text} {looked} ({variable} names more folders)\n")?,
-    };
-    hints.give(&[line.as_bytes()]);
-    Ok(())
+        None => format!(in alloc;
+            "isn't in the current folder, and kpsewhich doesn't find it; to search more folders, set {variable}"
+        ),
+    }
 }
 
 /// A hint for each style and database that wasn't found.
@@ -134,8 +135,12 @@ pub fn hint(alloc: Global, hints: &mut Hints<'_>, job: Job<'_>) -> Result<(), Al
         if hints.is_full() {
             return Ok(());
         }
-        if let Some((kind, name)) = not_found(message) {
-            hint_at(alloc, hints, kind, name)?;
+        if let Some((kind, name)) = not_found(message)
+            && name.len() <= LONGEST
+            && let Ok(name) = str::from_utf8(name)
+        {
+            let advice = advice(alloc, hints.rt, kind, name)?;
+            hints.give(&[b"hint: ", name.as_bytes(), b" ", advice.as_bytes(), b"\n"]);
         }
     }
     Ok(())
