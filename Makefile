@@ -72,7 +72,7 @@ dist: built
 	@tools/dist $(JOB_PROGRAM) $(PROGRAM) out
 
 measure: build
-	tests/measure $(PROGRAM) --write
+	tests/measure $(JOB_PROGRAM) $(PROGRAM) --write
 
 hostile: build
 	tests/hostile $(PROGRAM)
