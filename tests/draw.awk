@@ -1,6 +1,6 @@
 # Reports the figures of tests/measure:
 #
-#   awk -v kind=answer -f tests/draw.awk FIGURES                        how fast it is, in a few lines
+#   awk -v kind=answer -f tests/draw.awk FIGURES                        a row for each database, with ranges over its styles
 #   awk -v kind=table -v names="here bibtex" -f tests/draw.awk FIGURES  a row for each job, a figure for each program
 #   awk -v kind=picture -f tests/draw.awk FIGURES                       a dot for each job (SVG)
 #
@@ -52,31 +52,35 @@ function collect(what, where,  i) {
     if (what == "ratio") add(ratio[i])
     else if (what == "instructions") add(quotient(instructions[i, "here"], instructions[i, "bibtex"]))
     else if (what == "memory") add(quotient(memory[i, "here"], memory[i, "bibtex"]))
-    else if (what == "part") add(quotient(time[i, "edit"], time[i, "bibtex"]))
+    else if (what == "part") add(quotient(time[i, "edit"], time[i, "here"]))
+    else if (what == "own") add(memory[i, "here"] / 1000)
+    else if (what == "its") add(memory[i, "bibtex"] / 1000)
     else add(time[i, what] / 1000)
   }
 }
 
-function answer(  i) {
-  collect("ratio")
-  if (count) printf "In %d jobs, a full run takes %s times as long as with `bibtex` (median %s)", count, range(2), median()
-  collect("instructions")
-  if (count) printf ", with %s times as many instructions", range(2)
-  collect("memory")
-  if (count) printf ", and needs %s times as much memory", range(1)
-  print "."
-  collect("part")
-  if (count) printf "In a session, changing a title takes %s times as long as `bibtex`'s full run (median %s).\n", range(2), median()
-  print ""
+# ranges WHAT PLACE: the figure of the fastest and of the slowest job of that place, or of the smallest and the largest.
+function ranges(what, where, digits) { collect(what, where); return range(digits) }
+
+# answer: a row for each database, and a line of all jobs.
+function answer(  i, j, alike, all) {
+  print "| Database, entries cited | Full run, ms | `bibtex`, ms | Ratio | Title edit, ms | Memory, MB | `bibtex`, MB | Same `.bbl` |"
+  print "|---|---|---|---|---|---|---|---|"
   for (i = 1; i <= places; i++) {
-    collect("here", name_of[i])
-    printf "- **%s:** a full run takes %s ms", name_of[i], range()
-    collect("ratio", name_of[i])
-    if (count) printf ", %s times `bibtex`'s", range(2)
-    collect("edit", name_of[i])
-    if (count) printf "; changing a title in a session takes %s ms", range()
-    print "."
+    alike = all = 0
+    for (j = 1; j <= jobs; j++) if (where_of[j] == name_of[i]) { all++; alike += same[j] == "yes" }
+    printf "| %s | %s | %s | %s | %s | %s | %s | %d of %d |\n", name_of[i], ranges("here", name_of[i]), ranges("bibtex", name_of[i]), \
+      ranges("ratio", name_of[i], 2), ranges("edit", name_of[i]), ranges("own", name_of[i]), ranges("its", name_of[i]), alike, all
   }
+  collect("ratio")
+  if (count) printf "\nThe median of the %d ratios is %s.", jobs, median()
+  collect("instructions")
+  if (count) printf " A full run takes %s times as many instructions as with `bibtex`.", range(2)
+  collect("memory")
+  if (count) printf " It needs %s times as much memory.", range(1)
+  collect("part")
+  if (count) printf " A title edit takes %s times as long as a full run here.", range(2)
+  print ""
 }
 
 # cell I WHAT: the figures of all programs for a job.
