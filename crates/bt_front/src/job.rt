@@ -11,7 +11,7 @@ use bt_bib::{AuxItem, Command, read_aux};
 use bt_files::{Names, all_put_back, is_own_name, name_of, written};
 use bt_job::File;
 use bt_log::{log_bytes, terse_bytes};
-use bt_run::{Answers, Kept, Readings, answers_after};
+use bt_run::{Answers, Kept, Readings, Run, answers_after};
 use bt_text::{Bytes, Sequence, Shared};
 use std::alloc::{AllocError, Global};
 
@@ -223,10 +223,11 @@ fn told_under(alloc: Global, names: &Names, shown: Answers) -> Result<Answers, A
 }
 
 /// What a job's files mean, of any size and number and under any names. `root` is the name of the job's first `.aux` file
-/// without its ending. The only error is out of memory.
+/// without its ending. The only error is out of memory. What the run kept, and what it read of the texts, is under the
+/// session's names; a program that ends with the job may forget it.
 #[tactic(auto, unfolding(crate::specs::Job::job_meaning))]
-pub fn run(alloc: Global, files: &[File], root: &[u8], min: u32) -> Result<Answers, AllocError>
-    ensures { IfOk result (λ shown. meaning_of shown ≡ job_meaning files.now root.now min) }
+pub fn run(alloc: Global, files: &[File], root: &[u8], min: u32) -> Result<Run, AllocError>
+    ensures { IfOk result (λ run. meaning_of run.answers ≡ job_meaning files.now root.now min) }
 {
     let names = table_of(alloc, files, root)?;
     let under = files_under(alloc, &names, files)?;
@@ -241,7 +242,12 @@ pub fn run(alloc: Global, files: &[File], root: &[u8], min: u32) -> Result<Answe
         readings,
     )?;
     let told = told_under(alloc, &names, run.answers)?;
-    Ok(told)
+    Ok(Run {
+        answers: told,
+        kept: run.kept,
+        readings: run.readings,
+        report: run.report,
+    })
 }
 
 /// A law: where a session admits each name that a job's files give, they mean what they mean in a session, and the log

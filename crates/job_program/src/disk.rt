@@ -1,12 +1,13 @@
 //! Reads whole files, and writes them so that a kill leaves the old file or the new one.
 //!
 //! A file's new text goes into a draft beside it, under a name that nothing has yet, and the draft takes the file's name once
-//! it is whole. Two kinds of files are written over instead: what isn't an ordinary file, such as a device, and a file
-//! that has a second name, which would keep the old text.
+//! it is whole. Some files are written over instead: what isn't an ordinary file, such as a device; a file that has a second
+//! name, which would keep the old text; somebody else's file, which would change hands; and one beside which nothing can be
+//! made.
 
 use bt_text::Bytes;
 use std::alloc::{AllocError, Global};
-use std::fs::{self, File, Metadata, OpenOptions};
+use std::fs::{self, File, OpenOptions};
 use std::io::{ErrorKind, Read, Write};
 use std::os::unix::fs::MetadataExt;
 
@@ -31,37 +32,55 @@ pub fn folder_of(path: &str) -> &str {
     }
 }
 
-/// Whether a file keeps its place when it gets a new text.
-fn is_written_over(found: &Metadata) -> bool {
-    !found.is_file() || found.nlink() > 1
+/// Whether a file can be opened for writing. One that isn't there is made if `create` says so.
+fn opens(rt: &HostRuntime, path: &str, create: bool) -> bool {
+    OpenOptions::new()
+        .write(true)
+        .create(create)
+        .open(rt, path)
+        .is_ok()
 }
 
-/// The ordinary file that a name leads to through links, whether or not it is there yet; none if what has the name is
-/// written over.
-fn target(alloc: Global, rt: &HostRuntime, path: &str) -> Result<Option<String>, AllocError> {
-    if let Ok(found) = fs::metadata(rt, path)
-        && is_written_over(&found)
-    {
-        return Ok(None);
+/// How a file gets a new text.
+#[derive(Drop)]
+enum Way {
+    /// By a draft that takes the place of this ordinary file, which is there or not.
+    Draft(String),
+    /// By writing it over: a device, a pipe, or a file with a second name.
+    Over,
+    /// It can't be written.
+    Nowhere,
+}
+
+/// The way for a file that isn't there. A link to nothing is followed.
+fn way_to_new(alloc: Global, rt: &HostRuntime, path: &str) -> Result<Way, AllocError> {
+    if fs::read_link(rt, path).is_err() {
+        return Ok(Way::Draft(String::from_str(alloc, path)?));
     }
-    match fs::canonicalize(rt, path) {
-        Ok(target) => Ok(Some(String::from_str(alloc, target.to_string_lossy())?)),
-        Err(fault) if fault.kind() == ErrorKind::OutOfMemory => Err(AllocError),
-        // A link that leads to nothing yet.
-        Err(_) if fs::read_link(rt, path).is_ok() => Ok(None),
-        Err(_) => Ok(Some(String::from_str(alloc, path)?)),
+    Ok(if opens(rt, path, true) {
+        Way::Over
+    } else {
+        Way::Nowhere
+    })
+}
+
+fn way_to(alloc: Global, rt: &HostRuntime, path: &str) -> Result<Way, AllocError> {
+    match fs::metadata(rt, path) {
+        Err(_) => way_to_new(alloc, rt, path),
+        Ok(found) if found.is_dir() => Ok(Way::Nowhere),
+        // It isn't opened: a pipe's reader would take that for the end.
+        Ok(found) if !found.is_file() => Ok(Way::Over),
+        Ok(_) if !opens(rt, path, false) => Ok(Way::Nowhere),
+        Ok(found) if found.nlink() > 1 => Ok(Way::Over),
+        Ok(_) => match fs::canonicalize(rt, path) {
+            Ok(target) => Ok(Way::Draft(String::from_str(alloc, target.to_string_lossy())?)),
+            Err(fault) if fault.kind() == ErrorKind::OutOfMemory => Err(AllocError),
+            Err(_) => Ok(Way::Over),
+        },
     }
 }
 
-/// Whether an ordinary file may be written, as far as its own permissions say.
-fn may_write(rt: &HostRuntime, path: &str) -> bool {
-    match OpenOptions::new().write(true).open(rt, path) {
-        Ok(_) => true,
-        Err(fault) => fault.kind() == ErrorKind::NotFound,
-    }
-}
-
-/// A new file beside the one whose text it gets. What isn't put in that one's place is removed.
+/// A new file beside the one whose text it gets. Unless it takes that one's place, it is removed.
 struct Draft<'a> {
     rt: &'a HostRuntime,
     file: File,
@@ -111,13 +130,34 @@ impl<'a> Draft<'a> {
         Ok(None)
     }
 
+    /// Whether the draft belongs to those whom its file belongs to, so that it may take that one's place.
+    fn has_same_owner(&self) -> bool {
+        match (
+            self.file.metadata(),
+            fs::metadata(self.rt, self.target.as_str()),
+        ) {
+            (Ok(own), Ok(found)) => own.uid() == found.uid() && own.gid() == found.gid(),
+            _ => true,
+        }
+    }
+
     /// Puts the draft in its file's place, with that one's permissions, and says whether that succeeded.
     fn put(self) -> bool {
         let target = self.target.as_str();
         if let Ok(found) = fs::metadata(self.rt, target) {
             let _ = self.file.set_permissions(found.permissions());
         }
-        fs::rename(self.rt, self.name.as_str(), target).is_ok()
+        if fs::rename(self.rt, self.name.as_str(), target).is_err() {
+            return false;
+        }
+        // Another program may have a draft of this name by now, so it isn't removed.
+        let Draft {
+            rt: _,
+            file: _,
+            name: _,
+            target: _,
+        } = self;
+        true
     }
 }
 
@@ -146,14 +186,15 @@ impl<'a> Output<'a> {
             bytes,
             draft: None,
         };
-        let Some(target) = target(alloc, rt, path)? else {
-            return Ok(Some(over));
+        let target = match way_to(alloc, rt, path)? {
+            Way::Draft(target) => target,
+            Way::Over => return Ok(Some(over)),
+            Way::Nowhere => return Ok(None),
         };
-        if !may_write(rt, target.as_str()) {
-            return Ok(None);
-        }
-        let Some(mut draft) = Draft::new(alloc, rt, target, mark)? else {
-            return Ok(Some(over));
+        let draft = Draft::new(alloc, rt, target, mark)?.filter(|draft| draft.has_same_owner());
+        let Some(mut draft) = draft else {
+            // No file can be made in the folder, so there has to be one.
+            return Ok(Some(over).filter(|_| fs::metadata(rt, path).is_ok()));
         };
         if draft.file.write_all(bytes).is_err() {
             return Ok(None);
@@ -164,11 +205,20 @@ impl<'a> Output<'a> {
         }))
     }
 
-    /// Gives the file its new text, and says whether that succeeded.
+    /// Gives the file its new text, and says whether that succeeded. Where no other file may take its place, it is written
+    /// over.
     pub fn put(self) -> bool {
-        match self.draft {
-            Some(draft) => draft.put(),
-            None => fs::write(self.rt, self.path, self.bytes).is_ok(),
+        let Output {
+            rt,
+            path,
+            bytes,
+            draft,
+        } = self;
+        if let Some(draft) = draft
+            && draft.put()
+        {
+            return true;
         }
+        fs::write(rt, path, bytes).is_ok()
     }
 }

@@ -11,11 +11,11 @@ pub enum Rule {
 }
 
 impl Rule {
-    /// The rule by its letter, as `kpsewhich -var-value=openout_any` gives it. The strictest is the default.
-    pub fn of(letter: &str) -> Rule {
-        match letter {
-            "a" | "y" | "1" => Rule::Any,
-            "r" | "n" | "0" => Rule::Restricted,
+    /// The rule by its first letter, as `kpsewhich -var-value=openout_any` gives it. The strictest is the default.
+    pub fn of(word: &str) -> Rule {
+        match word.as_bytes().first() {
+            Some(b'a' | b'y' | b'1') => Rule::Any,
+            Some(b'r' | b'n' | b'0') => Rule::Restricted,
             _ => Rule::Paranoid,
         }
     }

@@ -7,7 +7,7 @@ mod source_lines;
 use crate::report::complain;
 use bt_job::File;
 use bt_log::{Message, Said};
-use bt_run::Answers;
+use bt_run::Run;
 use std::alloc::{AllocError, Global};
 use std::fs;
 
@@ -40,7 +40,7 @@ impl Hints<'_> {
 pub struct Job<'a> {
     pub name: &'a str,
     pub files: &'a [File],
-    pub answers: &'a Answers,
+    pub run: &'a Run,
 }
 
 impl<'a> Job<'a> {
@@ -50,10 +50,12 @@ impl<'a> Job<'a> {
         Some(file.text.as_slice())
     }
 
+    fn messages(&self) -> &'a [Message] {
+        self.run.answers.messages.as_slice()
+    }
+
     fn says(&self, words: &[u8]) -> bool {
-        self.answers
-            .messages
-            .as_slice()
+        self.messages()
             .iter()
             .any(|message| has_words(message, words))
     }

@@ -19,14 +19,15 @@ use crate::report::complain;
 use crate::script::{BETWEEN, FILES_WANTED, HAND_OVER, Script};
 use crate::search::Search;
 use crate::version::VERSION;
+use bt_job::File;
 use bt_log::{Message, log_bytes};
-use bt_run::Answers;
+use bt_run::{Answers, Run};
 use bt_text::Bytes;
 use std::alloc::{AllocError, Global};
-use std::env;
 use std::io::ErrorKind;
 use std::mem::forget;
 use std::process::ExitCode;
+use std::{env, fs};
 
 /// The exit status where the job can't be run.
 const NOT_RUN: u8 = 1;
@@ -96,7 +97,7 @@ fn reason(
         return Ok(None);
     }
     if search.has_unreadable() {
-        return Ok(Some(Bytes::copied(alloc, b"a file's name isn't UTF-8")?));
+        return Ok(Some(Bytes::copied(alloc, b"a file's name or folder isn't UTF-8")?));
     }
     match takeover::reason(answers) {
         Some(message) => Ok(Some(in_a_line(alloc, message)?)),
@@ -158,6 +159,19 @@ fn finish(
     })
 }
 
+/// Prints hints, as far as memory suffices: the files are written by then.
+fn hint(rt: &HostRuntime, options: &Options<'_>, files: &[File], run: &Run, status: u8) {
+    if options.quiet || status == NOT_WRITTEN {
+        return;
+    }
+    let job = hints::Job {
+        name: options.job,
+        files,
+        run,
+    };
+    let _ = hints::print(rt, job);
+}
+
 /// Runs the job over the files that were found.
 fn run_found(
     rt: &HostRuntime,
@@ -165,32 +179,30 @@ fn run_found(
     options: &Options<'_>,
     search: &Search<'_>,
 ) -> Result<u8, AllocError> {
-    let alloc = rt.alloc();
     let files = search.files();
-    let answers = bt_front::run(alloc, files, options.job.as_bytes(), u32::from(options.min))?;
+    let run = bt_front::run(
+        rt.alloc(),
+        files,
+        options.job.as_bytes(),
+        u32::from(options.min),
+    )?;
     if options.may_hand_over
-        && let Some(reason) = reason(rt, script, search, &answers)?
+        && let Some(reason) = reason(rt, script, search, &run.answers)?
         && script.ask(rt, reason.as_slice())
     {
         return Ok(HAND_OVER);
     }
-    let status = finish(rt, script, options, &answers)?;
-    if !options.quiet && status != NOT_WRITTEN {
-        let name = options.job;
-        let answers = &answers;
-        // The files are written, whether or not memory is left for hints.
-        let _ = hints::print(
-            rt,
-            hints::Job {
-                name,
-                files,
-                answers,
-            },
-        );
-    }
+    let status = finish(rt, script, options, &run.answers)?;
+    hint(rt, options, files, &run, status);
     // The program ends here: what the run kept goes with it, at once.
-    forget(answers);
+    forget(run);
     Ok(status)
+}
+
+/// Whether something has the name of a job's `.aux` file.
+fn is_there(rt: &HostRuntime, job: &str) -> Result<bool, AllocError> {
+    let path = format!(in rt.alloc(); "{job}.aux")?;
+    Ok(fs::metadata(rt, path.as_str()).is_ok())
 }
 
 /// Looks up the job's files and runs it, or asks the script for help.
@@ -199,7 +211,7 @@ fn run_job(rt: &HostRuntime, script: &Script, options: &Options<'_>) -> Result<u
     search.run(options.job)?;
     if search.files().is_empty() {
         let _ = eprintln!(rt; "I couldn't open file name `{}.aux'", options.job);
-        if !options.quiet {
+        if !options.quiet && !is_there(rt, options.job)? {
             let _ = eprintln!(rt; "hint: LaTeX writes {}.aux, so run it first", options.job);
         }
         return Ok(NOT_RUN);

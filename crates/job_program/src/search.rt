@@ -26,7 +26,7 @@ pub struct Search<'a> {
     files: Sequence<File>,
     /// The names that weren't found.
     missing: Sequence<Bytes>,
-    /// Whether a name isn't UTF-8, so that the file can't be read.
+    /// Whether a name or a path isn't UTF-8, so that the file can't be read.
     has_unreadable: bool,
 }
 
@@ -55,7 +55,7 @@ impl<'a> Search<'a> {
         self.missing.as_slice()
     }
 
-    /// Whether the job names a file whose name isn't UTF-8. Such a file counts as missing.
+    /// Whether the job names a file whose name or path isn't UTF-8. Such a file counts as missing.
     pub fn has_unreadable(&self) -> bool {
         self.has_unreadable
     }
@@ -99,7 +99,8 @@ impl<'a> Search<'a> {
 
     fn look_up(&mut self, name: &[u8]) -> Result<(), AllocError> {
         let _ = self.met.insert(Vec::from_slice(self.alloc, name)?)?;
-        if str::from_utf8(name).is_err() {
+        let path = self.script.path_of(name).unwrap_or(name);
+        if str::from_utf8(path).is_err() {
             self.has_unreadable = true;
         }
         match self.read_named(name)? {

@@ -1,14 +1,12 @@
 //! What silently goes wrong in an entry: a name that ends in a comma, and a `crossref` spelled unlike its parent's key.
 
 use crate::hints::{Hints, Job};
-use bt_bib::{Content, Entry, Field, Items, Part, Piece, read_bib};
+use bt_bib::{Content, Entry, Field, Part, Piece};
 use bt_job::File;
+use bt_run::Database;
 use bt_text::{Bytes, eq_ignore_ascii_case};
 use indexmap::{IndexMap, IndexSet};
 use std::alloc::{AllocError, Global};
-
-/// How many bytes of databases are looked through: hints aren't worth more time than that.
-const MOST: usize = 1 << 21;
 
 /// Keys without regard to case.
 type Keys = IndexSet<Vec<u8>>;
@@ -45,7 +43,7 @@ fn cite_all(alloc: Global, keys: &mut Keys, text: &[u8]) -> Result<(), AllocErro
     Ok(())
 }
 
-/// The entries of a database that have a key.
+/// The entry of a piece of a database, and its key, if it has one.
 fn entry(piece: &Piece) -> Option<(&Entry, &[u8])> {
     let Piece::Item(item) = piece else {
         return None;
@@ -69,27 +67,83 @@ fn is_named(field: &Field, name: &[u8]) -> bool {
     eq_ignore_ascii_case(field.name.as_slice(), name)
 }
 
-/// Whether a name has two commas, of which one is at its end: what stands between them is Jr then.
-fn ends_in_second_comma(name: &[u8]) -> bool {
-    name.ends_with(b",") && name.iter().filter(|byte| **byte == b',').count() == 2
+/// A name of a list as far as it was read.
+#[derive(Drop)]
+struct Name {
+    text: Bytes,
+    /// How many braces are open.
+    depth: usize,
+    /// How many commas stand outside of braces.
+    commas: usize,
+}
+
+impl Name {
+    fn new(alloc: Global) -> Name {
+        Name {
+            text: Bytes::new(alloc),
+            depth: 0,
+            commas: 0,
+        }
+    }
+
+    fn push(&mut self, word: &[u8]) -> Result<(), AllocError> {
+        'bytes: for byte in word {
+            match *byte {
+                b'{' => self.depth = self.depth.saturating_add(1),
+                b'}' => self.depth = self.depth.saturating_sub(1),
+                b',' if self.depth == 0 => self.commas = self.commas.saturating_add(1),
+                _ => {}
+            }
+        }
+        if self.text.len() > 0 {
+            self.text.append(b" ")?;
+        }
+        self.text.append(word)
+    }
+
+    /// Whether `and` ends the name.
+    fn is_ended_by(&self, word: &[u8]) -> bool {
+        self.depth == 0 && word.eq_ignore_ascii_case(b"and")
+    }
+
+    /// Whether it has two commas, of which one is at its end: what stands between them is Jr then.
+    fn ends_in_second_comma(&self) -> bool {
+        self.depth == 0 && self.commas == 2 && self.text.as_slice().ends_with(b",")
+    }
+}
+
+/// Whether one of these names may end in a comma.
+fn may_end_in_comma(names: &[u8]) -> bool {
+    let mut is_behind_comma = false;
+    'words: for word in names.split(|byte| byte.is_ascii_whitespace()) {
+        if is_behind_comma && word.eq_ignore_ascii_case(b"and") {
+            return true;
+        }
+        if !word.is_empty() {
+            is_behind_comma = word.ends_with(b",");
+        }
+    }
+    is_behind_comma
 }
 
 /// The first of these names that ends in a second comma.
 fn with_comma(alloc: Global, names: &[u8]) -> Result<Option<Bytes>, AllocError> {
-    let mut name = Bytes::new(alloc);
+    let mut name = Name::new(alloc);
     'words: for word in names.split(|byte| byte.is_ascii_whitespace()) {
-        if word.eq_ignore_ascii_case(b"and") && ends_in_second_comma(name.as_slice()) {
-            return Ok(Some(name));
-        }
-        if word.eq_ignore_ascii_case(b"and") {
-            name = Bytes::new(alloc);
-        } else if name.len() == 0 {
-            name.append(word)?;
+        if name.is_ended_by(word) {
+            if name.ends_in_second_comma() {
+                return Ok(Some(name.text));
+            }
+            name = Name::new(alloc);
         } else if !word.is_empty() {
-            name.append_all(&[b" ", word])?;
+            name.push(word)?;
         }
     }
-    Ok(Some(name).filter(|name| ends_in_second_comma(name.as_slice())))
+    Ok(if name.ends_in_second_comma() {
+        Some(name.text)
+    } else {
+        None
+    })
 }
 
 fn hint_at_names(
@@ -102,6 +156,7 @@ fn hint_at_names(
         return Ok(());
     }
     if let Some(names) = plain(field)
+        && may_end_in_comma(names)
         && let Some(name) = with_comma(alloc, names)?
     {
         hints.give(&[
@@ -145,80 +200,93 @@ fn hint_at_parent(
     Ok(())
 }
 
-fn hint_at_fields(
-    alloc: Global,
-    hints: &mut Hints<'_>,
-    spellings: &Spellings,
-    key: &[u8],
-    entry: &Entry,
-) -> Result<(), AllocError> {
-    'fields: for field in entry.fields.as_slice() {
-        hint_at_names(alloc, hints, key, field)?;
-        hint_at_parent(alloc, hints, spellings, key, field)?;
-    }
-    Ok(())
-}
-
-/// Adds the keys of a database's entries. The first of a key counts.
-fn spell(alloc: Global, spellings: &mut Spellings, items: &Items) -> Result<(), AllocError> {
-    'pieces: for placed in items.pieces() {
-        if let Some((_, key)) = entry(placed.piece()) {
-            let low = folded(alloc, key)?;
-            if !spellings.contains_key(low.as_slice()) {
-                let _ = spellings.insert(low, Bytes::copied(alloc, key)?)?;
+/// The first of a key counts.
+fn spellings(alloc: Global, databases: &[Database]) -> Result<Spellings, AllocError> {
+    let mut spellings = IndexMap::new(alloc);
+    'databases: for database in databases {
+        'pieces: for placed in database.items.pieces() {
+            if let Some((_, key)) = entry(placed.piece()) {
+                let low = folded(alloc, key)?;
+                if !spellings.contains_key(low.as_slice()) {
+                    let _ = spellings.insert(low, Bytes::copied(alloc, key)?)?;
+                }
             }
         }
     }
-    Ok(())
+    Ok(spellings)
 }
 
-fn hint_at_entries(
+/// An entry, and its key.
+type Keyed<'a> = (&'a Entry, &'a [u8]);
+
+/// The entries that have one of these keys.
+fn entries_of<'a>(
+    alloc: Global,
+    keys: &Keys,
+    databases: &'a [Database],
+) -> Result<Vec<Keyed<'a>>, AllocError> {
+    let all = keys.contains(b"*".as_slice());
+    let mut entries = Vec::new(alloc);
+    'databases: for database in databases {
+        'pieces: for placed in database.items.pieces() {
+            if let Some((entry, key)) = entry(placed.piece())
+                && (all || keys.contains(folded(alloc, key)?.as_slice()))
+            {
+                entries.push((entry, key))?;
+            }
+        }
+    }
+    Ok(entries)
+}
+
+fn hint_at_all_names(
     alloc: Global,
     hints: &mut Hints<'_>,
-    spellings: &Spellings,
-    cited: &Keys,
-    items: &Items,
+    entries: &[Keyed<'_>],
 ) -> Result<(), AllocError> {
-    let all = cited.contains(b"*".as_slice());
-    'pieces: for placed in items.pieces() {
-        if let Some((entry, key)) = entry(placed.piece())
-            && (all || cited.contains(folded(alloc, key)?.as_slice()))
-        {
-            hint_at_fields(alloc, hints, spellings, key, entry)?;
+    'entries: for (entry, key) in entries {
+        'fields: for field in entry.fields.as_slice() {
+            hint_at_names(alloc, hints, key, field)?;
         }
     }
     Ok(())
 }
 
-/// The databases, unless they are too large to look through.
-fn databases(alloc: Global, files: &[File]) -> Result<Vec<Items>, AllocError> {
-    let mut read = Vec::new(alloc);
-    let mut size = 0usize;
-    'files: for file in files {
-        if file.name.as_slice().ends_with(b".bib") {
-            size = size.saturating_add(file.text.as_slice().len());
-            if size > MOST {
-                return Ok(Vec::new(alloc));
-            }
-            read.push(read_bib(alloc, file.text.as_slice())?)?;
+fn hint_at_all_parents(
+    alloc: Global,
+    hints: &mut Hints<'_>,
+    entries: &[Keyed<'_>],
+    spellings: &Spellings,
+) -> Result<(), AllocError> {
+    'entries: for (entry, key) in entries {
+        'fields: for field in entry.fields.as_slice() {
+            hint_at_parent(alloc, hints, spellings, key, field)?;
         }
     }
-    Ok(read)
+    Ok(())
 }
 
-/// Hints at the entries that the document cites.
+/// Whether an entry has a parent.
+fn has_parent(entry: &Entry) -> bool {
+    entry
+        .fields
+        .as_slice()
+        .iter()
+        .any(|field| is_named(field, b"crossref"))
+}
+
+/// Hints at the entries that the document cites, as the run read them.
 pub fn hint(alloc: Global, hints: &mut Hints<'_>, job: Job<'_>) -> Result<(), AllocError> {
     if hints.is_full() {
         return Ok(());
     }
-    let databases = databases(alloc, job.files)?;
-    let cited = cited(alloc, job.files)?;
-    let mut spellings = IndexMap::new(alloc);
-    'all: for items in databases.iter() {
-        spell(alloc, &mut spellings, items)?;
-    }
-    'databases: for items in databases.iter() {
-        hint_at_entries(alloc, hints, &spellings, &cited, items)?;
+    let databases = job.run.readings.databases.as_slice();
+    let keys = cited(alloc, job.files)?;
+    let entries = entries_of(alloc, &keys, databases)?;
+    hint_at_all_names(alloc, hints, entries.as_slice())?;
+    if entries.iter().any(|(entry, _)| has_parent(entry)) {
+        let spellings = spellings(alloc, databases)?;
+        hint_at_all_parents(alloc, hints, entries.as_slice(), &spellings)?;
     }
     Ok(())
 }

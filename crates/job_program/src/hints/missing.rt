@@ -84,8 +84,10 @@ fn look_for(
     };
     let mut nearest = Nearest { name, best: None };
     'entries: for entry in entries {
-        let Ok(entry) = entry else {
-            return Ok(None);
+        let entry = match entry {
+            Ok(entry) => entry,
+            // Such as a name that isn't UTF-8.
+            Err(_) => continue,
         };
         let found = entry.file_name();
         if found == name {
@@ -112,6 +114,9 @@ fn advice(
     kind: FileKind,
     name: &str,
 ) -> Result<String, AllocError> {
+    if name.contains('/') {
+        return format!(in alloc; "doesn't exist, or can't be read");
+    }
     let variable = variable(kind);
     match look_for(alloc, rt, name, ending(kind))? {
         Some(Offer::Itself) => format!(in alloc;
@@ -124,14 +129,14 @@ fn advice(
             format!(in alloc; "isn't in the current folder; did you mean {other}?")
         }
         None => format!(in alloc;
-            "isn't in the current folder, and kpsewhich doesn't find it; to search more folders, set {variable}"
+            "isn't in the current folder, and wasn't found elsewhere; to search more folders, set {variable}"
         ),
     }
 }
 
 /// A hint for each style and database that wasn't found.
 pub fn hint(alloc: Global, hints: &mut Hints<'_>, job: Job<'_>) -> Result<(), AllocError> {
-    'messages: for message in job.answers.messages.as_slice() {
+    'messages: for message in job.messages() {
         if hints.is_full() {
             return Ok(());
         }

@@ -140,7 +140,7 @@ fn hint_at(
 
 /// Shows the lines that the first messages speak of: each takes a pass over its file.
 pub fn hint(alloc: Global, hints: &mut Hints<'_>, job: Job<'_>) -> Result<(), AllocError> {
-    let messages = job.answers.messages.as_slice();
+    let messages = job.messages();
     'places: for place in messages.iter().filter_map(place_of).take(HINTS) {
         if let Some(text) = job.text(place.file) {
             hint_at(alloc, hints, text, &place)?;
