@@ -14,7 +14,7 @@ use Rattle.bibtex.specs.declared.state.State.{State}
 use Rattle.bibtex.specs.Change.{Change, write, splice, remove, root_name, min_crossrefs}
 use Rattle.bibtex.specs.Present.{EachOnce, place_of_file, with_text, replaced, shown, reported}
 use Rattle.bibtex.specs.Applied.{file_size_limit, file_count_limit, found_refusal, refusal_of, changed, unless_refused, outcome, applied, IsAnswer}
-use Rattle.bibtex.specs.Headline.{after_answer, AnswersInTurn, after_answers}
+use Rattle.bibtex.specs.Headline.{after_answer, AnswersInTurn, ReportsInTurn, after_answers}
 use Rattle.bibtex.specs.Order.{AreAlike, ComeToTheSame}
 use Rattle.bt_run.proofs.ByNameLemmas.{meaning_same, trace_same, style_text_same}
 use Rattle.bibtex.proofs.TextLemmas.{place_there, text_of_with, text_of_without, once_with, once_without, as_many}
@@ -158,9 +158,19 @@ answered_alike (e ∷ es) (a ∷ rest) s t once also alike told =
     let same = applied_alike e s t once also alike in
     let next = behind_alike (applied e s) (applied e t) a s t alike same in (
       answer_alike (applied e s) (applied e t) a same told.0,
-      report_alike a _ _ (reported_alike s t (after_answer a (applied e s) s) (after_answer a (applied e t) t) alike next) told.1,
       answered_alike es rest (after_answer a (applied e s) s) (after_answer a (applied e t) t)
-          (once_behind (applied e s) a s once (λ u is. once_applied e s u once is)) (once_behind (applied e t) a t also (λ u is. once_applied e t u also is)) next told.2,
+          (once_behind (applied e s) a s once (λ u is. once_applied e s u once is)) (once_behind (applied e t) a t also (λ u is. once_applied e t u also is)) next told.1,
+    )
+
+pub told_alike : (es : List Edit) (answers : List (Result Report Refusal)) (s t : State) → EachOnce s.texts → EachOnce t.texts → AreAlike s t →
+    ReportsInTurn es answers s → ReportsInTurn es answers t
+told_alike [] answers s t once also alike told = tt
+told_alike (e ∷ es) [] s t once also alike told = tt
+told_alike (e ∷ es) (a ∷ rest) s t once also alike told =
+    let next = behind_alike (applied e s) (applied e t) a s t alike (applied_alike e s t once also alike) in (
+      report_alike a _ _ (reported_alike s t (after_answer a (applied e s) s) (after_answer a (applied e t) t) alike next) told.0,
+      told_alike es rest (after_answer a (applied e s) s) (after_answer a (applied e t) t)
+          (once_behind (applied e s) a s once (λ u is. once_applied e s u once is)) (once_behind (applied e t) a t also (λ u is. once_applied e t u also is)) next told.1,
     )
 
 pub all_alike : (es : List Edit) (answers : List (Result Report Refusal)) (s t : State) → EachOnce s.texts → EachOnce t.texts → AreAlike s t →

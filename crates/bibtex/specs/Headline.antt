@@ -13,15 +13,21 @@ after_answer (Ok report) (Ok new) s = new
 after_answer (Ok report) (Err refusal) s = s
 after_answer (Err refusal) made s = s
 
--- Each edit in turn is answered as it must be: accepted, with the report of its work, or refused.
+-- Each edit in turn is answered as it must be: accepted, or refused for the first reason that holds.
 abbrev pub AnswersInTurn : List Edit → List (Result Report Refusal) → State → Type 0
 AnswersInTurn [] [] s = Unit {0}
 AnswersInTurn [] (a ∷ rest) s = ⊥
 AnswersInTurn (e ∷ es) [] s = ⊥
 AnswersInTurn (e ∷ es) (a ∷ rest) s =
-    IsAnswer (applied e s) a
-    × IfOk a (λ report. report ≡ reported s (after_answer a (applied e s) s))
-    × AnswersInTurn es rest (after_answer a (applied e s) s)
+    IsAnswer (applied e s) a × AnswersInTurn es rest (after_answer a (applied e s) s)
+
+-- Each edit in turn that is accepted reports its work.
+abbrev pub ReportsInTurn : List Edit → List (Result Report Refusal) → State → Type 0
+ReportsInTurn [] answers s = Unit {0}
+ReportsInTurn (e ∷ es) [] s = Unit {0}
+ReportsInTurn (e ∷ es) (a ∷ rest) s =
+    IfOk a (λ report. report ≡ reported s (after_answer a (applied e s) s))
+    × ReportsInTurn es rest (after_answer a (applied e s) s)
 
 -- the present state is the result of the accepted edits
 abbrev pub after_answers : List Edit → List (Result Report Refusal) → State → State

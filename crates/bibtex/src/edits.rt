@@ -1,7 +1,7 @@
 //! Lists of edits.
 
 ghost use Rattle.std.specs.Prelude.{◌≡◌, IfOk, OnErr};
-ghost use Rattle.bibtex.specs.Headline.{AnswersInTurn, after_answers};
+ghost use Rattle.bibtex.specs.Headline.{AnswersInTurn, ReportsInTurn, after_answers};
 
 use crate::edit::{Edit, Refusal};
 use crate::session::Session;
@@ -20,6 +20,7 @@ pub fn edit_all(
     edits: &[Edit<'_>],
 ) -> Result<Vec<Result<Report, Refusal>>, AllocError>
     ensures answers { IfOk result (λ answers. AnswersInTurn edits.now answers.items session.old) }
+    ensures reports { IfOk result (λ answers. ReportsInTurn edits.now answers.items session.old) }
     ensures state { IfOk result (λ answers. session.new ≡ after_answers edits.now answers.items session.old) }
     ensures err { OnErr result (session.new ≡ session.old) }
 {

@@ -6,7 +6,7 @@ ghost use Rattle.bibtex.specs.declared.edit.Refusal.{Refusal};
 ghost use Rattle.bibtex.specs.declared.state.State.{State};
 ghost use Rattle.bibtex.specs.Present.{EachOnce, shown, reported};
 ghost use Rattle.bibtex.specs.Applied.{applied};
-ghost use Rattle.bibtex.specs.Headline.{AnswersInTurn, after_answers};
+ghost use Rattle.bibtex.specs.Headline.{AnswersInTurn, ReportsInTurn, after_answers};
 ghost use Rattle.bibtex.specs.Order.{AreAlike, ComeToTheSame};
 
 /// A law: where each name stands once among the texts of a state, it does so after each edit.
@@ -25,6 +25,9 @@ pub fn order_is_never_seen()
     ensures answered { (es : List Edit) (answers : List (Result Report Refusal)) (s t : State) → EachOnce s.texts →
         EachOnce t.texts →
         AreAlike s t → AnswersInTurn es answers s → AnswersInTurn es answers t }
+    ensures told { (es : List Edit) (answers : List (Result Report Refusal)) (s t : State) → EachOnce s.texts →
+        EachOnce t.texts →
+        AreAlike s t → ReportsInTurn es answers s → ReportsInTurn es answers t }
     ensures left { (es : List Edit) (answers : List (Result Report Refusal)) (s t : State) → EachOnce s.texts →
         EachOnce t.texts →
         AreAlike s t → AreAlike (after_answers es answers s) (after_answers es answers t) }

@@ -9,7 +9,7 @@ use Rattle.bibtex.specs.declared.state.State.{State}
 use Rattle.bibtex.specs.Present.{reported}
 use Rattle.bibtex.specs.Change.{Change, write, splice, remove, root_name, min_crossrefs}
 use Rattle.bibtex.specs.Applied.{outcome, applied, IsAnswer, state_or, unless_out_of_memory}
-use Rattle.bibtex.specs.Headline.{after_answer, AnswersInTurn, after_answers}
+use Rattle.bibtex.specs.Headline.{after_answer, AnswersInTurn, ReportsInTurn, after_answers}
 use Rattle.bt_serve.specs.Commands.{Request, Command, edit, bbl, blg, status, quit, unreadable, too_long, request_of, refused, edit_answer, after, after_of, state_after, MayRunOut, MayRunOutInTurn}
 use Rattle.bt_serve.specs.Edits.{edit_with, edit_in, edits_of, brought, AreSame, Leads, LeadsBy}
 
@@ -35,7 +35,9 @@ applied_same e change bytes s is =
 -- An edit with this outcome is answered so, and then the others lead to a state.
 abbrev AnswersOne : List Edit → List (Result Report Refusal) → Result Report Refusal → State → State → Result State Refusal → Type 0
 AnswersOne es answers a s t made =
-    IsAnswer made a × IfOk a (λ report. report ≡ reported s (after_answer a made s)) × AnswersInTurn es answers (after_answer a made s) × (t ≡ after_answers es answers (after_answer a made s))
+    (IsAnswer made a × AnswersInTurn es answers (after_answer a made s)) ×
+    (IfOk a (λ report. report ≡ reported s (after_answer a made s)) × ReportsInTurn es answers (after_answer a made s)) ×
+    (t ≡ after_answers es answers (after_answer a made s))
 
 -- From commands to edits
 
@@ -43,14 +45,14 @@ one_answered : (e : Edit) (es : List Edit) (answers : List (Result Report Refusa
     AnswersOne es answers a s t made → Leads (e ∷ es) s t
 one_answered e es answers a s t made is one =
     let all = subst (AnswersOne es answers a s t) (sym is) one in
-    (a ∷ answers, (all.0, all.1, all.2), all.3)
+    (a ∷ answers, all.0, all.1, all.2)
 
 one_more : (e : Edit) (es : List Edit) (made : Result State Refusal) (m : Bool) (s t : State) → applied e s ≡ made →
     Leads es (state_or s (unless_out_of_memory m made)) t → Leads (e ∷ es) s t
-one_more e es (Ok u) false s t is later = one_answered e es later.0 (Ok (reported s u)) s t (Ok u) is (tt, refl, later.1, later.2)
-one_more e es (Ok u) true s t is later = one_answered e es later.0 (Err OutOfMemory) s t (Ok u) is (refl, tt, later.1, later.2)
-one_more e es (Err refusal) false s t is later = one_answered e es later.0 (Err refusal) s t (Err refusal) is (refl, tt, later.1, later.2)
-one_more e es (Err refusal) true s t is later = one_answered e es later.0 (Err refusal) s t (Err refusal) is (refl, tt, later.1, later.2)
+one_more e es (Ok u) false s t is later = one_answered e es later.0 (Ok (reported s u)) s t (Ok u) is ((tt, later.1), (refl, later.2), later.3)
+one_more e es (Ok u) true s t is later = one_answered e es later.0 (Err OutOfMemory) s t (Ok u) is ((refl, later.1), (tt, later.2), later.3)
+one_more e es (Err refusal) false s t is later = one_answered e es later.0 (Err refusal) s t (Err refusal) is ((refl, later.1), (tt, later.2), later.3)
+one_more e es (Err refusal) true s t is later = one_answered e es later.0 (Err refusal) s t (Err refusal) is ((refl, later.1), (tt, later.2), later.3)
 
 leads_one : (request : Request) (bytes : List ℕ) (m : Bool) (s t : State) (rest es : List Edit) → AreSame es (edit_in request bytes ++ rest) →
     ((fs : List Edit) → AreSame fs rest → Leads fs (after_of m s request bytes) t) → Leads es s t
@@ -68,7 +70,7 @@ leads_one too_long bytes m s t rest es is go = go es is
 
 -- The state after commands is one that their edits lead to.
 pub leads_by : (cs : List Command) (ms : List Bool) (s : State) → length ms ≡ length cs → LeadsBy cs s (state_after ms cs s)
-leads_by [] [] s len [] is = ([], tt, refl)
+leads_by [] [] s len [] is = ([], tt, tt, refl)
 leads_by [] [] s len (e ∷ es) is = absurd cc
 leads_by [] (m ∷ ms) s len es is = absurd (omega arith)
 leads_by (c ∷ cs) [] s len es is = absurd (omega arith)
@@ -85,14 +87,14 @@ record OneMade (es : List Edit) (s t : State) (made : Result State Refusal) : Ty
 
 one_less : (es : List Edit) (answers : List (Result Report Refusal)) (a : Result Report Refusal) (made : Result State Refusal) (s t : State) →
     AnswersOne es answers a s t made → OneMade es s t made
-one_less es answers (Ok report) (Ok u) s t (is, reports, turns, end) = record { ran_out = false; only = λ same. absurd cc; later = (answers, turns, end) }
-one_less es answers (Ok report) (Err refusal) s t (is, reports, turns, end) = absurd cc
-one_less es answers (Err refusal) (Ok u) s t (is, reports, turns, end) = record { ran_out = true; only = λ same. refl; later = (answers, turns, end) }
-one_less es answers (Err refusal) (Err other) s t (is, reports, turns, end) = record { ran_out = false; only = λ same. absurd cc; later = (answers, turns, end) }
+one_less es answers (Ok report) (Ok u) s t ((is, turns), (told, reports), end) = record { ran_out = false; only = λ same. absurd cc; later = (answers, turns, reports, end) }
+one_less es answers (Ok report) (Err refusal) s t ((is, turns), (told, reports), end) = absurd cc
+one_less es answers (Err refusal) (Ok u) s t ((is, turns), (told, reports), end) = record { ran_out = true; only = λ same. refl; later = (answers, turns, reports, end) }
+one_less es answers (Err refusal) (Err other) s t ((is, turns), (told, reports), end) = record { ran_out = false; only = λ same. absurd cc; later = (answers, turns, reports, end) }
 
 one_made : (e : Edit) (es : List Edit) (made : Result State Refusal) (s t : State) → applied e s ≡ made → Leads (e ∷ es) s t → OneMade es s t made
-one_made e es made s t is ([], turns, end) = absurd turns
-one_made e es made s t is (a ∷ answers, turns, end) = one_less es answers a made s t (subst (AnswersOne es answers a s t) is (turns.0, turns.1, turns.2, end))
+one_made e es made s t is ([], turns, reports, end) = absurd turns
+one_made e es made s t is (a ∷ answers, turns, reports, end) = one_less es answers a made s t (subst (AnswersOne es answers a s t) is (turns, reports, end))
 
 -- The same of any request.
 record OneDone (request : Request) (bytes : List ℕ) (rest : List Edit) (s t : State) : Type 0 where
@@ -123,8 +125,8 @@ done_one too_long bytes s t rest es is leads = done_none too_long bytes rest es 
 -- A state that the edits of commands lead to is one after these commands.
 pub led_by : (cs : List Command) (s t : State) (es : List Edit) → AreSame es (edits_of cs) → Leads es s t →
     (ms : List Bool) × (length ms ≡ length cs) × MayRunOutInTurn ms cs s × (t ≡ state_after ms cs s)
-led_by [] s t [] is ([], turns, end) = ([], refl, tt, end)
-led_by [] s t [] is (a ∷ answers, turns, end) = absurd turns
+led_by [] s t [] is ([], turns, reports, end) = ([], refl, tt, end)
+led_by [] s t [] is (a ∷ answers, turns, reports, end) = absurd turns
 led_by [] s t (e ∷ es) is leads = absurd cc
 led_by (c ∷ cs) s t es is leads =
     let one = done_one (request_of c.line) c.bytes s t (edits_of cs) es is leads in

@@ -7,7 +7,7 @@ use Rattle.bibtex.specs.declared.edit.Edit.TheVariants.{Write, Splice, Remove, R
 use Rattle.bibtex.specs.declared.edit.Refusal.{Refusal}
 use Rattle.bibtex.specs.declared.state.State.{State}
 use Rattle.bibtex.specs.Change.{Change, write, splice, remove, root_name, min_crossrefs}
-use Rattle.bibtex.specs.Headline.{AnswersInTurn, after_answers}
+use Rattle.bibtex.specs.Headline.{AnswersInTurn, ReportsInTurn, after_answers}
 use Rattle.bt_serve.specs.declared.fault.ServeFault.{ServeFault}
 use Rattle.bt_serve.specs.declared.fault.ServeFault.TheVariants.{ReadFailed, WriteFailed, Truncated}
 use Rattle.bt_serve.specs.Commands.{Request, edit, Command, request_of}
@@ -46,11 +46,11 @@ brought (MinCrossrefs n) = (min_crossrefs n, [])
 abbrev pub AreSame : List Edit → List Edit → Type 0
 AreSame es fs = map brought es ≡ map brought fs
 
--- `edit_all` of these edits may lead from one state to another: each is answered as it must be, and the second state is
--- the result of the accepted ones.
+-- `edit_all` of these edits may lead from one state to another: each is answered as it must be, with the report of its
+-- work, and the second state is the result of the accepted ones.
 abbrev pub Leads : List Edit → State → State → Type 0
 Leads es state state' =
-    (answers : List (Result Report Refusal)) × AnswersInTurn es answers state ×
+    (answers : List (Result Report Refusal)) × AnswersInTurn es answers state × ReportsInTurn es answers state ×
     (state' ≡ after_answers es answers state)
 
 -- the same of the edits that these commands ask for
