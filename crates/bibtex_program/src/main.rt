@@ -44,8 +44,8 @@ fn answer<S: Source, K: Sink>(
     sink: &mut K,
     session: &mut Session,
 ) -> Result<ExitCode>
-    requires reads { S.failure_count source.old < 2 ^ 64 - 1 }
-    requires writes { K.failure_count sink.old < 2 ^ 64 - 1 }
+    requires reads { (S.seen source.old).failures < 2 ^ 64 - 1 }
+    requires writes { (K.seen sink.old).failures < 2 ^ 64 - 1 }
 {
     match serve(rt.alloc(), source, sink, session) {
         Ok(()) => Ok(ExitCode::SUCCESS),

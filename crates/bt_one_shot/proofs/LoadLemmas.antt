@@ -11,7 +11,7 @@ use Rattle.bibtex.specs.Applied.{refusal_of, changed, unless_refused, state_or, 
 use Rattle.bt_one_shot.specs.declared.folder.Found.{Found}
 use Rattle.bt_one_shot.specs.declared.folder.Found.TheVariants as found
 use Rattle.bt_one_shot.specs.Folders.{Contents, Seen, Gains, LooksUp, looked_up}
-use Rattle.bt_one_shot.specs.Sinks.{Sunk}
+use Rattle.bt_streams.specs.Seen.{Sunk}
 use Rattle.bt_one_shot.specs.inner.Sinks.{GoesOn}
 use Rattle.bt_one_shot.specs.JobFiles.{LookedUp, name_of, next, taken_found, after_file, after_files, refusal_line, refusal_lines, InOrder, all_looked_up}
 use Rattle.bt_one_shot.specs.inner.Progress.{LooksUpName, Goes, LoadsAll, LoadsSome}

@@ -4,7 +4,8 @@ use Rattle.std.specs.Prelude.{bytes_eq, if◌then◌else◌}
 use Rattle.bibtex.specs.declared.state.State.{State}
 use Rattle.bibtex.specs.Present.{no_texts, shown}
 use Rattle.bt_one_shot.specs.Folders.{Contents, Written, Seen, Holds, HoldsBut, Writes, Fails, WritesOne}
-use Rattle.bt_one_shot.specs.Sinks.{Sunk, Tells}
+use Rattle.bt_streams.specs.Seen.{Sunk}
+use Rattle.bt_one_shot.specs.Sinks.{Tells}
 use Rattle.bt_one_shot.specs.JobFiles.{name_of, after_files, refusal_lines}
 use Rattle.bt_one_shot.specs.Shots.{exit_of, blg_file, unwritten_line, printed_log, Ends, Runs, Stops}
 use Rattle.bt_one_shot.specs.inner.Progress.{LoadsAll, LoadsSome}

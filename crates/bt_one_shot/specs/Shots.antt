@@ -4,7 +4,8 @@ use Rattle.std.specs.Prelude.{◌≡◌, ◌⊎◌, ℕ, Bool, true, false, nat_
 use Rattle.bibtex.specs.declared.state.State.{State}
 use Rattle.bibtex.specs.Present.{no_texts, shown}
 use Rattle.bt_one_shot.specs.Folders.{Written, Seen, LooksUp, Writes, Fails}
-use Rattle.bt_one_shot.specs.Sinks.{Sunk, Tells}
+use Rattle.bt_streams.specs.Seen.{Sunk}
+use Rattle.bt_one_shot.specs.Sinks.{Tells}
 use Rattle.bt_one_shot.specs.JobFiles.{LookedUp, name_of, next, after_files, refusal_lines, InOrder, all_looked_up}
 
 -- What is looked up

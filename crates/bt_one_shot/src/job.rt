@@ -1,9 +1,10 @@
 //! The one-shot form: reads the files of a job, writes its `.bbl` and its `.blg`, and prints the log.
 
-ghost use Rattle.std.specs.Prelude.{◌≡◌, ◌^◌, ◌-◌, ◌<◌, ◌++◌, ℕ, List, true, codes, IfOk, OnErr};
+ghost use Rattle.std.specs.Prelude.{◌≡◌, ◌^◌, ◌-◌, ◌<◌, ◌++◌, true, codes, IfOk, OnErr};
 ghost use Rattle.bibtex.specs.Present.{is_root_name};
-ghost use Rattle.bt_one_shot.specs.Sinks.{Sunk, sunk, Tells};
-ghost use Rattle.bt_one_shot.specs.Shots.{exit_of, printed_log, Ends, Runs, Stops};
+ghost use Rattle.bt_one_shot.specs.Sinks.{Tells};
+ghost use Rattle.bt_one_shot.specs.Shots.{exit_of, printed_log, Runs, Stops};
+ghost use Rattle.bt_one_shot.specs.inner.Progress.{EndsAfter};
 
 use crate::folder::Folder;
 use crate::job_files::{load, tell};
@@ -38,9 +39,8 @@ fn printed_log(session: &Session, terse: bool) -> &[u8]
 /// Prints a log, as far as that succeeds.
 #[tactic(auto, using(crate::proofs::TellLemmas::printed))]
 fn print_log<O: Sink>(out: &mut O, log: &[u8])
-    requires { O.failure_count out.old < 2 ^ 64 - 1 }
-    ensures { Tells (sunk (O.contents out.old) (O.failure_count out.old) (O.is_flushed out.old))
-        (sunk (O.contents out.new) (O.failure_count out.new) (O.is_flushed out.new)) log.now }
+    requires { (O.seen out.old).failures < 2 ^ 64 - 1 }
+    ensures { Tells (O.seen out.old) (O.seen out.new) log.now }
 {
     let _ = say(out, &[log]);
 }
@@ -65,15 +65,10 @@ fn write_out<F: Folder, O: Sink, E: Sink>(
     requires bbl { outputs.now.bbl.now ≡ outputs.now.session.now.root ++ codes ".bbl" }
     requires blg { outputs.now.blg.now ≡ outputs.now.session.now.root ++ codes ".blg" }
     requires folder { (F.seen folder.old).failures < 2 ^ 64 - 1 }
-    requires out { O.failure_count out.old < 2 ^ 64 - 1 }
+    requires out { (O.seen out.old).failures < 2 ^ 64 - 1 }
     requires err { failures_before < 2 ^ 64 - 1 }
-    ensures { (first : Sunk) (text : List ℕ) → first.failures ≡ failures_before → Tells first
-        (sunk (E.contents err.old) (E.failure_count err.old) (E.is_flushed err.old)) text →
-        Ends outputs.now.session.now outputs.now.log.now (F.seen folder.old) (F.seen folder.new)
-        (sunk (O.contents out.old) (O.failure_count out.old) (O.is_flushed out.old))
-        (sunk (O.contents out.new) (O.failure_count out.new) (O.is_flushed out.new))
-        (λ more. Tells first
-        (sunk (E.contents err.new) (E.failure_count err.new) (E.is_flushed err.new)) (text ++ more)) result }
+    ensures { EndsAfter failures_before outputs.now.session.now outputs.now.log.now (F.seen folder.old)
+        (F.seen folder.new) (O.seen out.old) (O.seen out.new) (E.seen err.old) (E.seen err.new) result }
 {
     let Outputs {
         session,
@@ -109,19 +104,15 @@ pub fn one_shot<F: Folder, O: Sink, E: Sink>(
 ) -> Result<u8, AllocError>
     requires root { is_root_name options.now.root ≡ true }
     requires folder { (F.seen folder.old).failures < 2 ^ 64 - 1 }
-    requires out { O.failure_count out.old < 2 ^ 64 - 1 }
-    requires err { E.failure_count err.old < 2 ^ 64 - 1 }
+    requires out { (O.seen out.old).failures < 2 ^ 64 - 1 }
+    requires err { (E.seen err.old).failures < 2 ^ 64 - 1 }
     ensures ok { IfOk result (Runs options.now.root options.now.min options.now.terse (F.seen folder.old)
         (F.seen folder.new)
-        (sunk (O.contents out.old) (O.failure_count out.old) (O.is_flushed out.old))
-        (sunk (O.contents out.new) (O.failure_count out.new) (O.is_flushed out.new))
-        (sunk (E.contents err.old) (E.failure_count err.old) (E.is_flushed err.old))
-        (sunk (E.contents err.new) (E.failure_count err.new) (E.is_flushed err.new))) }
+        (O.seen out.old) (O.seen out.new)
+        (E.seen err.old) (E.seen err.new)) }
     ensures err { OnErr result (Stops options.now.root options.now.min (F.seen folder.old) (F.seen folder.new)
-        (sunk (O.contents out.old) (O.failure_count out.old) (O.is_flushed out.old))
-        (sunk (O.contents out.new) (O.failure_count out.new) (O.is_flushed out.new))
-        (sunk (E.contents err.old) (E.failure_count err.old) (E.is_flushed err.old))
-        (sunk (E.contents err.new) (E.failure_count err.new) (E.is_flushed err.new))) }
+        (O.seen out.old) (O.seen out.new)
+        (E.seen err.old) (E.seen err.new)) }
 {
     let root = options.root.as_slice();
     let bbl = Bytes::of(alloc, &[root, b".bbl"])?;

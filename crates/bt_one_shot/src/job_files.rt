@@ -3,7 +3,6 @@
 ghost use Rattle.std.specs.Prelude.{◌≡◌, ◌^◌, ◌-◌, ◌<◌, Bool, true, false, length, None, IfOk, OnOk, OnErr, Ok, Err};
 ghost use Rattle.std.specs.List.{flat_map};
 ghost use Rattle.bibtex.specs.Present.{is_root_name};
-ghost use Rattle.bt_one_shot.specs.Sinks.{sunk};
 ghost use Rattle.bt_one_shot.specs.inner.Sinks.{GoesOn};
 ghost use Rattle.bt_one_shot.specs.JobFiles.{next, refusal_line};
 ghost use Rattle.bt_one_shot.specs.inner.Progress.{TakesIn, LooksUpName, Goes, LoadsAll, LoadsSome};
@@ -19,8 +18,7 @@ use std::alloc::{AllocError, Global};
 /// Writes pieces of a line to a sink, unless it failed since its failures were counted. A failure is left out.
 pub fn tell<E: Sink>(err: &mut E, failures_before: u64, pieces: &[&[u8]])
     requires { failures_before < 2 ^ 64 - 1 }
-    ensures { GoesOn failures_before (sunk (E.contents err.old) (E.failure_count err.old) (E.is_flushed err.old))
-        (sunk (E.contents err.new) (E.failure_count err.new) (E.is_flushed err.new))
+    ensures { GoesOn failures_before (E.seen err.old) (E.seen err.new)
         (flat_map (λ piece. piece.now) pieces.now) }
 {
     if err.failures() == failures_before {
@@ -31,8 +29,7 @@ pub fn tell<E: Sink>(err: &mut E, failures_before: u64, pieces: &[&[u8]])
 /// Reports that a file was refused.
 fn tell_refused<E: Sink>(err: &mut E, failures_before: u64, refusal: Refusal, name: &[u8])
     requires { failures_before < 2 ^ 64 - 1 }
-    ensures { GoesOn failures_before (sunk (E.contents err.old) (E.failure_count err.old) (E.is_flushed err.old))
-        (sunk (E.contents err.new) (E.failure_count err.new) (E.is_flushed err.new))
+    ensures { GoesOn failures_before (E.seen err.old) (E.seen err.new)
         (refusal_line name.now (Err refusal)) }
 {
     let mut code = Buffer::new();
@@ -68,8 +65,7 @@ fn look_up<F: Folder, E: Sink>(
 ) -> bool
     requires { failures_before < 2 ^ 64 - 1 }
     ensures looks { LooksUpName failures_before draft.old draft.new name.now (F.seen folder.old) (F.seen folder.new)
-        (sunk (E.contents err.old) (E.failure_count err.old) (E.is_flushed err.old))
-        (sunk (E.contents err.new) (E.failure_count err.new) (E.is_flushed err.new)) }
+        (E.seen err.old) (E.seen err.new) }
     ensures unchanged { result ≡ false → draft.new ≡ draft.old }
 {
     let found = folder.read(name);
@@ -95,8 +91,7 @@ fn look_up_wanted<F: Folder, E: Sink>(
 ) -> Result<bool, AllocError>
     requires { failures_before < 2 ^ 64 - 1 }
     ensures goes { Goes failures_before draft.old draft.new met.old met.new (F.seen folder.old) (F.seen folder.new)
-        (sunk (E.contents err.old) (E.failure_count err.old) (E.is_flushed err.old))
-        (sunk (E.contents err.new) (E.failure_count err.new) (E.is_flushed err.new)) }
+        (E.seen err.old) (E.seen err.new) }
     ensures end { result ≡ Ok false → next draft.new met.new ≡ None }
     ensures more { result ≡ Ok true → (length met.old < length met.new) × (length met.old < 2 ^ 63) }
 {
@@ -127,8 +122,7 @@ fn load_all<F: Folder, E: Sink>(
 ) -> Result<(), AllocError>
     requires { failures_before < 2 ^ 64 - 1 }
     ensures goes { Goes failures_before draft.old draft.new met.old met.new (F.seen folder.old) (F.seen folder.new)
-        (sunk (E.contents err.old) (E.failure_count err.old) (E.is_flushed err.old))
-        (sunk (E.contents err.new) (E.failure_count err.new) (E.is_flushed err.new)) }
+        (E.seen err.old) (E.seen err.new) }
     ensures end { OnOk result (next draft.new met.new ≡ None) }
 {
     'rounds: while look_up_wanted(alloc, draft, met, folder, err, failures_before)? {}
@@ -149,11 +143,9 @@ pub fn load<F: Folder, E: Sink>(
     requires failures { failures_before < 2 ^ 64 - 1 }
     ensures ok { IfOk result (λ session. LoadsAll failures_before root.now min session (F.seen folder.old)
         (F.seen folder.new)
-        (sunk (E.contents err.old) (E.failure_count err.old) (E.is_flushed err.old))
-        (sunk (E.contents err.new) (E.failure_count err.new) (E.is_flushed err.new))) }
+        (E.seen err.old) (E.seen err.new)) }
     ensures err { OnErr result (LoadsSome failures_before root.now min (F.seen folder.old) (F.seen folder.new)
-        (sunk (E.contents err.old) (E.failure_count err.old) (E.is_flushed err.old))
-        (sunk (E.contents err.new) (E.failure_count err.new) (E.is_flushed err.new))) }
+        (E.seen err.old) (E.seen err.new)) }
 {
     let Ok(mut draft) = Draft::new(alloc, root, min) else {
         return Err(AllocError);

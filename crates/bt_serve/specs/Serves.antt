@@ -1,8 +1,9 @@
 -- What one turn of the loop does, where the source and the sink tell their bytes.
-use Rattle.std.specs.Prelude.{◌≡◌, ℕ, ◌<◌, ◌++◌, ◌≢◌, ◌⊎◌, flat_map, Bool, true, false, List, [], ◌∷◌, length, Result, Ok, Err}
+use Rattle.std.specs.Prelude.{◌≡◌, ℕ, ◌<◌, ◌++◌, ◌≢◌, ◌⊎◌, flat_map, Bool, true, false, List, [], ◌∷◌, length, Some, Result, Ok, Err}
 use Rattle.std.specs.List.{AllByRecursion}
 use Rattle.bt_serve.specs.Reads.{HasNoFeed}
 use Rattle.bibtex.specs.declared.state.State.{State}
+use Rattle.bt_streams.specs.Seen.{Drawn, Sunk}
 use Rattle.bt_serve.specs.Commands.{bytes_brought, ends, request_of, Command, command_text, answer, after, answers_to, state_after, MayRunOut, MayRunOutInTurn}
 use Rattle.bt_serve.specs.declared.fault.ServeFault.{ServeFault}
 use Rattle.bt_serve.specs.declared.fault.ServeFault.TheVariants.{ReadFailed, WriteFailed, Truncated}
@@ -10,6 +11,10 @@ use Rattle.bt_serve.specs.declared.fault.ServeFault.TheVariants.{ReadFailed, Wri
 -- a line, and the bytes that it asks for
 abbrev pub IsCommand : Command → Type 0
 IsCommand c = HasNoFeed c.line × (length c.bytes ≡ bytes_brought (request_of c.line))
+
+-- a command whose line isn't empty and brings no bytes
+abbrev pub IsBare : Command → Type 0
+IsBare c = IsCommand c × (c.line ≢ []) × (c.bytes ≡ [])
 
 -- a command that stands at the end of an input, without a line feed
 abbrev pub IsLast : Command → List ℕ → List ℕ → Type 0
@@ -69,3 +74,10 @@ Ends input rest said said' state state' result =
 abbrev pub loop_ended : {A : Type 0} → Result A ServeFault → Result Bool ServeFault
 loop_ended (Ok x) = Ok true
 loop_ended (Err fault) = Err fault
+
+-- the same, where the source and the sink show their bytes
+abbrev pub Serves : {A : Type 0} → Drawn → Drawn → Sunk → Sunk → State → State → Result A ServeFault → Type 0
+Serves old new held held' state state' result = (input said : List ℕ) → old.rest ≡ Some input →
+    held.contents ≡ Some said →
+    (rest : List ℕ) × (said' : List ℕ) × (new.rest ≡ Some rest) × (held'.contents ≡ Some said') ×
+    Ends input rest said said' state state' (loop_ended result)

@@ -1,13 +1,12 @@
 //! One request of the loop: reads its bytes, carries it out and writes its answer.
 
-ghost use Rattle.std.specs.Prelude.{◌≡◌, ◌+◌, ◌-◌, ◌^◌, ◌<◌, ◌≤◌, [], length, codes, IfOk, OnOk, OnErr, Err, true, false};
-ghost use Rattle.std.specs.Io.KnownBytes.{Appends};
+ghost use Rattle.std.specs.Prelude.{◌≡◌, ◌+◌, ◌-◌, ◌^◌, ◌<◌, ◌≤◌, [], length, codes, IfOk, OnOk, Err, false};
 ghost use Rattle.bibtex.specs.Change.{change_of};
 ghost use Rattle.bt_serve.specs.inner.Asked.{request_seen};
 ghost use Rattle.bt_serve.specs.Commands.{edit, number_line, text_answer, answer_of, ends, accepted, refused};
 ghost use Rattle.bt_serve.specs.inner.Commands.{IsShown};
 ghost use Rattle.bt_serve.specs.inner.Serves.{CountsFailures, Takes, taken_text, Replies};
-ghost use Rattle.bt_streams.specs.Writes.{AppendsPart};
+ghost use Rattle.bt_streams.specs.Writes.{Says};
 ghost use Rattle.bt_serve.specs.Faults.{HandsOn};
 
 use crate::command::Request;
@@ -26,13 +25,13 @@ fn take_edit<S: Source>(
     change: Change<'_>,
     count: usize,
 ) -> Result<Result<Report, Refusal>, ServeFault>
-    requires { S.failure_count source.old < 2 ^ 64 - 1 }
-    ensures takes { Takes (change_of change.entry) count (S.remaining source.old) (S.remaining source.new)
+    requires { (S.seen source.old).failures < 2 ^ 64 - 1 }
+    ensures takes { Takes (change_of change.entry) count (S.seen source.old).rest (S.seen source.new).rest
         session.old session.new result }
-    ensures lowers { S.reads_left source.new ≤ S.reads_left source.old }
-    ensures ok { OnOk result (S.failure_count source.new ≡ S.failure_count source.old) }
+    ensures lowers { (S.seen source.new).reads_left ≤ (S.seen source.old).reads_left }
+    ensures ok { OnOk result ((S.seen source.new).failures ≡ (S.seen source.old).failures) }
     ensures read_failed { result ≡ Err ServeFault.ReadFailed →
-        S.failure_count source.new ≡ S.failure_count source.old + 1 }
+        (S.seen source.new).failures ≡ (S.seen source.old).failures + 1 }
 {
     let Ok(mut bytes) = room(alloc, count) else {
         let refusal = session.refusal(change, count);
@@ -68,14 +67,14 @@ fn answer_edit<S: Source, K: Sink>(
     change: Change<'_>,
     count: usize,
 ) -> Result<bool, ServeFault>
-    requires reads { S.failure_count source.old < 2 ^ 64 - 1 }
-    requires writes { K.failure_count sink.old < 2 ^ 64 - 1 }
-    ensures replies { Replies (edit (change_of change.entry) count) (S.remaining source.old) (S.remaining source.new)
-        (K.contents sink.old) (K.contents sink.new) session.old session.new result }
-    ensures lowers { S.reads_left source.new ≤ S.reads_left source.old }
-    ensures failures { CountsFailures (S.failure_count source.old) (S.failure_count source.new)
-        (K.failure_count sink.old) (K.failure_count sink.new) result }
-    ensures flushed { HandsOn (K.is_flushed sink.old) (K.is_flushed sink.new) result }
+    requires reads { (S.seen source.old).failures < 2 ^ 64 - 1 }
+    requires writes { (K.seen sink.old).failures < 2 ^ 64 - 1 }
+    ensures replies { Replies (edit (change_of change.entry) count) (S.seen source.old).rest (S.seen source.new).rest
+        (K.seen sink.old).contents (K.seen sink.new).contents session.old session.new result }
+    ensures lowers { (S.seen source.new).reads_left ≤ (S.seen source.old).reads_left }
+    ensures failures { CountsFailures (S.seen source.old).failures (S.seen source.new).failures
+        (K.seen sink.old).failures (K.seen sink.new).failures result }
+    ensures flushed { HandsOn (K.seen sink.old).is_flushed (K.seen sink.new).is_flushed result }
 {
     let taken = take_edit(alloc, source, session, change, count)?;
     match say_taken(sink, taken) {
@@ -92,14 +91,14 @@ pub fn answer_request<S: Source, K: Sink>(
     session: &mut Session,
     request: Request<'_>,
 ) -> Result<bool, ServeFault>
-    requires reads { S.failure_count source.old < 2 ^ 64 - 1 }
-    requires writes { K.failure_count sink.old < 2 ^ 64 - 1 }
-    ensures replies { Replies (request_seen request.entry) (S.remaining source.old) (S.remaining source.new)
-        (K.contents sink.old) (K.contents sink.new) session.old session.new result }
-    ensures lowers { S.reads_left source.new ≤ S.reads_left source.old }
-    ensures failures { CountsFailures (S.failure_count source.old) (S.failure_count source.new)
-        (K.failure_count sink.old) (K.failure_count sink.new) result }
-    ensures flushed { HandsOn (K.is_flushed sink.old) (K.is_flushed sink.new) result }
+    requires reads { (S.seen source.old).failures < 2 ^ 64 - 1 }
+    requires writes { (K.seen sink.old).failures < 2 ^ 64 - 1 }
+    ensures replies { Replies (request_seen request.entry) (S.seen source.old).rest (S.seen source.new).rest
+        (K.seen sink.old).contents (K.seen sink.new).contents session.old session.new result }
+    ensures lowers { (S.seen source.new).reads_left ≤ (S.seen source.old).reads_left }
+    ensures failures { CountsFailures (S.seen source.old).failures (S.seen source.new).failures
+        (K.seen sink.old).failures (K.seen sink.new).failures result }
+    ensures flushed { HandsOn (K.seen sink.old).is_flushed (K.seen sink.new).is_flushed result }
 {
     match request {
         Request::Edit(change, count) => answer_edit(alloc, source, sink, session, change, count),
@@ -112,12 +111,8 @@ pub fn answer_request<S: Source, K: Sink>(
 
 /// Reports that an edit was accepted, with its report.
 fn say_accepted<K: Sink>(sink: &mut K, report: Report) -> Result<(), StreamFailed>
-    requires { K.failure_count sink.old < 2 ^ 64 - 1 }
-    ensures all { OnOk result (Appends (K.contents sink.old) (K.contents sink.new) (accepted report)) }
-    ensures part { OnErr result (AppendsPart (K.contents sink.old) (K.contents sink.new) (accepted report)) }
-    ensures ok { OnOk result (K.failure_count sink.new ≡ K.failure_count sink.old) }
-    ensures err { OnErr result (K.failure_count sink.new ≡ K.failure_count sink.old + 1) }
-    ensures flushed { OnOk result (K.is_flushed sink.new ≡ true) }
+    requires { (K.seen sink.old).failures < 2 ^ 64 - 1 }
+    ensures { Says (K.seen sink.old) (K.seen sink.new) (accepted report) result }
 {
     let mut status = Buffer::new();
     let mut ran = Buffer::new();
@@ -135,12 +130,8 @@ fn say_accepted<K: Sink>(sink: &mut K, report: Report) -> Result<(), StreamFaile
 
 /// Writes why an edit was refused.
 fn say_refused<K: Sink>(sink: &mut K, refusal: Refusal) -> Result<(), StreamFailed>
-    requires { K.failure_count sink.old < 2 ^ 64 - 1 }
-    ensures all { OnOk result (Appends (K.contents sink.old) (K.contents sink.new) (refused refusal)) }
-    ensures part { OnErr result (AppendsPart (K.contents sink.old) (K.contents sink.new) (refused refusal)) }
-    ensures ok { OnOk result (K.failure_count sink.new ≡ K.failure_count sink.old) }
-    ensures err { OnErr result (K.failure_count sink.new ≡ K.failure_count sink.old + 1) }
-    ensures flushed { OnOk result (K.is_flushed sink.new ≡ true) }
+    requires { (K.seen sink.old).failures < 2 ^ 64 - 1 }
+    ensures { Says (K.seen sink.old) (K.seen sink.new) (refused refusal) result }
 {
     let mut code = Buffer::new();
     let code = code.format(code_of(refusal)).as_bytes();
@@ -149,12 +140,8 @@ fn say_refused<K: Sink>(sink: &mut K, refusal: Refusal) -> Result<(), StreamFail
 
 /// Writes how an edit ended.
 fn say_taken<K: Sink>(sink: &mut K, taken: Result<Report, Refusal>) -> Result<(), StreamFailed>
-    requires { K.failure_count sink.old < 2 ^ 64 - 1 }
-    ensures all { OnOk result (Appends (K.contents sink.old) (K.contents sink.new) (taken_text taken)) }
-    ensures part { OnErr result (AppendsPart (K.contents sink.old) (K.contents sink.new) (taken_text taken)) }
-    ensures ok { OnOk result (K.failure_count sink.new ≡ K.failure_count sink.old) }
-    ensures err { OnErr result (K.failure_count sink.new ≡ K.failure_count sink.old + 1) }
-    ensures flushed { OnOk result (K.is_flushed sink.new ≡ true) }
+    requires { (K.seen sink.old).failures < 2 ^ 64 - 1 }
+    ensures { Says (K.seen sink.old) (K.seen sink.new) (taken_text taken) result }
 {
     match taken {
         Ok(report) => say_accepted(sink, report),
@@ -164,14 +151,8 @@ fn say_taken<K: Sink>(sink: &mut K, taken: Result<Report, Refusal>) -> Result<()
 
 /// Writes a status.
 fn say_status<K: Sink>(sink: &mut K, status: u8) -> Result<(), StreamFailed>
-    requires { K.failure_count sink.old < 2 ^ 64 - 1 }
-    ensures all { OnOk result (Appends (K.contents sink.old) (K.contents sink.new)
-        (number_line (codes "status ") status)) }
-    ensures part { OnErr result (AppendsPart (K.contents sink.old) (K.contents sink.new)
-        (number_line (codes "status ") status)) }
-    ensures ok { OnOk result (K.failure_count sink.new ≡ K.failure_count sink.old) }
-    ensures err { OnErr result (K.failure_count sink.new ≡ K.failure_count sink.old + 1) }
-    ensures flushed { OnOk result (K.is_flushed sink.new ≡ true) }
+    requires { (K.seen sink.old).failures < 2 ^ 64 - 1 }
+    ensures { Says (K.seen sink.old) (K.seen sink.new) (number_line (codes "status ") status) result }
 {
     let mut number = Buffer::new();
     let number = number.format(status).as_bytes();
@@ -180,13 +161,8 @@ fn say_status<K: Sink>(sink: &mut K, status: u8) -> Result<(), StreamFailed>
 
 /// Writes a text, after a word and the number of its bytes.
 fn say_text<K: Sink>(sink: &mut K, word: &[u8], text: &[u8]) -> Result<(), StreamFailed>
-    requires { K.failure_count sink.old < 2 ^ 64 - 1 }
-    ensures all { OnOk result (Appends (K.contents sink.old) (K.contents sink.new) (text_answer word.now text.now)) }
-    ensures part { OnErr result (AppendsPart (K.contents sink.old) (K.contents sink.new)
-        (text_answer word.now text.now)) }
-    ensures ok { OnOk result (K.failure_count sink.new ≡ K.failure_count sink.old) }
-    ensures err { OnErr result (K.failure_count sink.new ≡ K.failure_count sink.old + 1) }
-    ensures flushed { OnOk result (K.is_flushed sink.new ≡ true) }
+    requires { (K.seen sink.old).failures < 2 ^ 64 - 1 }
+    ensures { Says (K.seen sink.old) (K.seen sink.new) (text_answer word.now text.now) result }
 {
     let mut size = Buffer::new();
     let size = size.format(text.len()).as_bytes();
@@ -199,16 +175,11 @@ fn say_shown<K: Sink>(
     session: &Session,
     request: Request<'_>,
 ) -> Result<bool, StreamFailed>
-    requires few { K.failure_count sink.old < 2 ^ 64 - 1 }
+    requires few { (K.seen sink.old).failures < 2 ^ 64 - 1 }
     requires shown { IsShown (request_seen request) }
-    ensures all { OnOk result (Appends (K.contents sink.old) (K.contents sink.new)
-        (answer_of false session.now (request_seen request.entry) [])) }
+    ensures says { Says (K.seen sink.old) (K.seen sink.new)
+        (answer_of false session.now (request_seen request.entry) []) result }
     ensures last { IfOk result (λ last. last ≡ ends (request_seen request.entry)) }
-    ensures part { OnErr result (AppendsPart (K.contents sink.old) (K.contents sink.new)
-        (answer_of false session.now (request_seen request.entry) [])) }
-    ensures ok { OnOk result (K.failure_count sink.new ≡ K.failure_count sink.old) }
-    ensures err { OnErr result (K.failure_count sink.new ≡ K.failure_count sink.old + 1) }
-    ensures flushed { OnOk result (K.is_flushed sink.new ≡ true) }
 {
     match request {
         // The clause `shown` requires another request.

@@ -20,13 +20,13 @@ pub enum LineEnd {
 
 /// The next byte; nothing at the end.
 fn read_byte<S: Source>(source: &mut S) -> Result<Option<u8>, StreamFailed>
-    requires { S.failure_count source.old < 2 ^ 64 - 1 }
-    ensures bytes { MatchResult result (ReadsByte (S.remaining source.old) (S.remaining source.new))
-        (λ _. Keeps (S.remaining source.old) (S.remaining source.new)) }
-    ensures lowers { OnOk result (S.reads_left source.new < S.reads_left source.old) }
-    ensures reads { S.reads_left source.new ≤ S.reads_left source.old }
-    ensures ok { OnOk result (S.failure_count source.new ≡ S.failure_count source.old) }
-    ensures err { OnErr result (S.failure_count source.new ≡ S.failure_count source.old + 1) }
+    requires { (S.seen source.old).failures < 2 ^ 64 - 1 }
+    ensures bytes { MatchResult result (ReadsByte (S.seen source.old).rest (S.seen source.new).rest)
+        (λ _. Keeps (S.seen source.old).rest (S.seen source.new).rest) }
+    ensures lowers { OnOk result ((S.seen source.new).reads_left < (S.seen source.old).reads_left) }
+    ensures reads { (S.seen source.new).reads_left ≤ (S.seen source.old).reads_left }
+    ensures ok { OnOk result ((S.seen source.new).failures ≡ (S.seen source.old).failures) }
+    ensures err { OnErr result ((S.seen source.new).failures ≡ (S.seen source.old).failures + 1) }
 {
     let mut byte = [0; 1];
     match source.read(&mut byte)? {
@@ -38,12 +38,13 @@ fn read_byte<S: Source>(source: &mut S) -> Result<Option<u8>, StreamFailed>
 /// Reads a line into the buffer. Its line feed is read and isn't stored. After a failure the buffer has what was read
 /// of the line.
 pub fn read_line<S: Source>(source: &mut S, buffer: &mut [u8]) -> Result<LineEnd, StreamFailed>
-    requires { S.failure_count source.old < 2 ^ 64 - 1 }
-    ensures line { IfOk result (ReadsLine (S.remaining source.old) (S.remaining source.new) buffer.new) }
-    ensures part { OnErr result (ReadsPart (S.remaining source.old) (S.remaining source.new)) }
-    ensures lowers { OnOk result (0 < length buffer.old → S.reads_left source.new < S.reads_left source.old) }
-    ensures ok { OnOk result (S.failure_count source.new ≡ S.failure_count source.old) }
-    ensures err { OnErr result (S.failure_count source.new ≡ S.failure_count source.old + 1) }
+    requires { (S.seen source.old).failures < 2 ^ 64 - 1 }
+    ensures line { IfOk result (ReadsLine (S.seen source.old).rest (S.seen source.new).rest buffer.new) }
+    ensures part { OnErr result (ReadsPart (S.seen source.old).rest (S.seen source.new).rest) }
+    ensures lowers { OnOk result (0 < length buffer.old →
+        (S.seen source.new).reads_left < (S.seen source.old).reads_left) }
+    ensures ok { OnOk result ((S.seen source.new).failures ≡ (S.seen source.old).failures) }
+    ensures err { OnErr result ((S.seen source.new).failures ≡ (S.seen source.old).failures + 1) }
 {
     'line: for i in 0..buffer.len() {
         match read_byte(source)? {
@@ -57,12 +58,12 @@ pub fn read_line<S: Source>(source: &mut S, buffer: &mut [u8]) -> Result<LineEnd
 
 /// Reads on to the end of the line, and says whether it has a line feed.
 pub fn skip_line<S: Source>(source: &mut S) -> Result<bool, StreamFailed>
-    requires { S.failure_count source.old < 2 ^ 64 - 1 }
-    ensures line { IfOk result (SkipsLine (S.remaining source.old) (S.remaining source.new)) }
-    ensures part { OnErr result (ReadsPart (S.remaining source.old) (S.remaining source.new)) }
-    ensures lowers { S.reads_left source.new ≤ S.reads_left source.old }
-    ensures ok { OnOk result (S.failure_count source.new ≡ S.failure_count source.old) }
-    ensures err { OnErr result (S.failure_count source.new ≡ S.failure_count source.old + 1) }
+    requires { (S.seen source.old).failures < 2 ^ 64 - 1 }
+    ensures line { IfOk result (SkipsLine (S.seen source.old).rest (S.seen source.new).rest) }
+    ensures part { OnErr result (ReadsPart (S.seen source.old).rest (S.seen source.new).rest) }
+    ensures lowers { (S.seen source.new).reads_left ≤ (S.seen source.old).reads_left }
+    ensures ok { OnOk result ((S.seen source.new).failures ≡ (S.seen source.old).failures) }
+    ensures err { OnErr result ((S.seen source.new).failures ≡ (S.seen source.old).failures + 1) }
 {
     'rest: while let Some(byte) = read_byte(source)? {
         if byte == b'\n' {
@@ -74,12 +75,12 @@ pub fn skip_line<S: Source>(source: &mut S) -> Result<bool, StreamFailed>
 
 /// Fills the buffer, and says whether the input was long enough. After a failure the buffer has what was read.
 pub fn read_bytes<S: Source>(source: &mut S, buffer: &mut [u8]) -> Result<bool, StreamFailed>
-    requires { S.failure_count source.old < 2 ^ 64 - 1 }
-    ensures all { IfOk result (ReadsAll (S.remaining source.old) (S.remaining source.new) buffer.new) }
-    ensures part { OnErr result (ReadsBelow (S.remaining source.old) (S.remaining source.new) (length buffer.old)) }
-    ensures lowers { S.reads_left source.new ≤ S.reads_left source.old }
-    ensures ok { OnOk result (S.failure_count source.new ≡ S.failure_count source.old) }
-    ensures err { OnErr result (S.failure_count source.new ≡ S.failure_count source.old + 1) }
+    requires { (S.seen source.old).failures < 2 ^ 64 - 1 }
+    ensures all { IfOk result (ReadsAll (S.seen source.old).rest (S.seen source.new).rest buffer.new) }
+    ensures part { OnErr result (ReadsBelow (S.seen source.old).rest (S.seen source.new).rest (length buffer.old)) }
+    ensures lowers { (S.seen source.new).reads_left ≤ (S.seen source.old).reads_left }
+    ensures ok { OnOk result ((S.seen source.new).failures ≡ (S.seen source.old).failures) }
+    ensures err { OnErr result ((S.seen source.new).failures ≡ (S.seen source.old).failures + 1) }
 {
     let mut filled = 0;
     'pieces: while filled < buffer.len() {
@@ -93,12 +94,12 @@ pub fn read_bytes<S: Source>(source: &mut S, buffer: &mut [u8]) -> Result<bool, 
 
 /// Reads `count` bytes and drops them, and says whether the input was long enough.
 pub fn drop_bytes<S: Source>(source: &mut S, count: usize) -> Result<bool, StreamFailed>
-    requires { S.failure_count source.old < 2 ^ 64 - 1 }
-    ensures all { IfOk result (DropsAll (S.remaining source.old) (S.remaining source.new) count) }
-    ensures part { OnErr result (ReadsBelow (S.remaining source.old) (S.remaining source.new) count) }
-    ensures lowers { S.reads_left source.new ≤ S.reads_left source.old }
-    ensures ok { OnOk result (S.failure_count source.new ≡ S.failure_count source.old) }
-    ensures err { OnErr result (S.failure_count source.new ≡ S.failure_count source.old + 1) }
+    requires { (S.seen source.old).failures < 2 ^ 64 - 1 }
+    ensures all { IfOk result (DropsAll (S.seen source.old).rest (S.seen source.new).rest count) }
+    ensures part { OnErr result (ReadsBelow (S.seen source.old).rest (S.seen source.new).rest count) }
+    ensures lowers { (S.seen source.new).reads_left ≤ (S.seen source.old).reads_left }
+    ensures ok { OnOk result ((S.seen source.new).failures ≡ (S.seen source.old).failures) }
+    ensures err { OnErr result ((S.seen source.new).failures ≡ (S.seen source.old).failures + 1) }
 {
     let mut buffer = [0; 1024];
     let mut to_drop = count;

@@ -9,5 +9,5 @@ mod laws;
 mod turns;
 
 pub use fault::ServeFault;
-pub use laws::{commands_of_joined, edits_of_commands};
+pub use laws::{commands_of_joined, edits_of_commands, turns_answer_commands};
 pub use turns::serve;

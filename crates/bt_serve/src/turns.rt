@@ -1,10 +1,9 @@
 //! The loop that reads commands, carries them out and answers them.
 
-ghost use Rattle.std.specs.Prelude.{◌≡◌, ℕ, ◌+◌, ◌-◌, ◌^◌, ◌<◌, ◌≤◌, [], OnOk, List, Some, Err};
-ghost use Rattle.bt_serve.specs.Serves.{loop_ended, Ends};
+ghost use Rattle.std.specs.Prelude.{◌≡◌, ℕ, ◌+◌, ◌-◌, ◌^◌, ◌<◌, OnOk, List, Some, Err};
+ghost use Rattle.bt_serve.specs.Serves.{Serves};
 ghost use Rattle.bt_serve.specs.inner.Serves.{CountsFailures, Turns};
 ghost use Rattle.bt_serve.specs.Faults.{HandsOn};
-ghost use Rattle.bt_serve.specs.Whole.{AnswersAll, AnswersBefore, AnswersPart};
 ghost use Rattle.bt_serve.specs.Edits.{IsEdited};
 
 use crate::answer::answer_request;
@@ -22,14 +21,14 @@ fn serve_one<S: Source, K: Sink>(
     sink: &mut K,
     session: &mut Session,
 ) -> Result<bool, ServeFault>
-    requires reads { S.failure_count source.old < 2 ^ 64 - 1 }
-    requires writes { K.failure_count sink.old < 2 ^ 64 - 1 }
-    ensures turns { Turns (S.remaining source.old) (S.remaining source.new)
-        (K.contents sink.old) (K.contents sink.new) session.old session.new result }
-    ensures lowers { OnOk result (S.reads_left source.new < S.reads_left source.old) }
-    ensures failures { CountsFailures (S.failure_count source.old) (S.failure_count source.new)
-        (K.failure_count sink.old) (K.failure_count sink.new) result }
-    ensures flushed { HandsOn (K.is_flushed sink.old) (K.is_flushed sink.new) result }
+    requires reads { (S.seen source.old).failures < 2 ^ 64 - 1 }
+    requires writes { (K.seen sink.old).failures < 2 ^ 64 - 1 }
+    ensures turns { Turns (S.seen source.old).rest (S.seen source.new).rest
+        (K.seen sink.old).contents (K.seen sink.new).contents session.old session.new result }
+    ensures lowers { OnOk result ((S.seen source.new).reads_left < (S.seen source.old).reads_left) }
+    ensures failures { CountsFailures (S.seen source.old).failures (S.seen source.new).failures
+        (K.seen sink.old).failures (K.seen sink.new).failures result }
+    ensures flushed { HandsOn (K.seen sink.old).is_flushed (K.seen sink.new).is_flushed result }
 {
     let mut buffer = [0; 257];
     match read_line(source, &mut buffer) {
@@ -67,28 +66,17 @@ pub fn serve<S: Source, K: Sink>(
     sink: &mut K,
     session: &mut Session,
 ) -> Result<(), ServeFault>
-    requires reads { S.failure_count source.old < 2 ^ 64 - 1 }
-    requires writes { K.failure_count sink.old < 2 ^ 64 - 1 }
-    ensures served { (input said : List ℕ) → S.remaining source.old ≡ Some input → K.contents sink.old ≡ Some said →
-        (rest : List ℕ) × (said' : List ℕ) × (S.remaining source.new ≡ Some rest) × (K.contents sink.new ≡ Some said') ×
-        Ends input rest said said' session.old session.new (loop_ended result) }
-    ensures all { (input said : List ℕ) → S.remaining source.old ≡ Some input → K.contents sink.old ≡ Some said →
-        OnOk result ((said' : List ℕ) × (K.contents sink.new ≡ Some said') ×
-        AnswersAll input said said' session.old session.new) }
-    ensures truncated { (input said : List ℕ) → S.remaining source.old ≡ Some input →
-        K.contents sink.old ≡ Some said → result ≡ Err ServeFault.Truncated →
-        (said' : List ℕ) × (S.remaining source.new ≡ Some []) × (K.contents sink.new ≡ Some said') ×
-        AnswersBefore input said said' session.old session.new }
-    ensures part { (input said : List ℕ) → S.remaining source.old ≡ Some input → K.contents sink.old ≡ Some said →
-        result ≡ Err ServeFault.WriteFailed →
-        (said' : List ℕ) × (K.contents sink.new ≡ Some said') × AnswersPart input said said' session.old session.new }
-    ensures edited { (input said : List ℕ) → S.remaining source.old ≡ Some input → K.contents sink.old ≡ Some said →
-        IsEdited result input session.old session.new }
+    requires reads { (S.seen source.old).failures < 2 ^ 64 - 1 }
+    requires writes { (K.seen sink.old).failures < 2 ^ 64 - 1 }
+    ensures served { Serves (S.seen source.old) (S.seen source.new) (K.seen sink.old) (K.seen sink.new)
+        session.old session.new result }
+    ensures edited { (input said : List ℕ) → (S.seen source.old).rest ≡ Some input →
+        (K.seen sink.old).contents ≡ Some said → IsEdited result input session.old session.new }
     ensures read_failed { result ≡ Err ServeFault.ReadFailed →
-        S.failure_count source.new ≡ S.failure_count source.old + 1 }
+        (S.seen source.new).failures ≡ (S.seen source.old).failures + 1 }
     ensures write_failed { result ≡ Err ServeFault.WriteFailed →
-        K.failure_count sink.new ≡ K.failure_count sink.old + 1 }
-    ensures flushed { HandsOn (K.is_flushed sink.old) (K.is_flushed sink.new) result }
+        (K.seen sink.new).failures ≡ (K.seen sink.old).failures + 1 }
+    ensures flushed { HandsOn (K.seen sink.old).is_flushed (K.seen sink.new).is_flushed result }
 {
     'turns: loop {
         match serve_one(alloc, source, sink, session) {

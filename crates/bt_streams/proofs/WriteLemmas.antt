@@ -1,11 +1,12 @@
 -- Writes, one after another.
-use Rattle.std.proofs.Common.{◌≡◌, ℕ, ◌+◌, ◌<◌, List, [], ◌∷◌, ◌++◌, length, take, drop, get_or, add-one, refl, ap, sym, ◌∙◌, append_assoc, append-nil, Option, None, Some, Result, Ok, Err, OnErr}
+use Rattle.std.proofs.Common.{◌≡◌, ℕ, ◌+◌, ◌<◌, List, [], ◌∷◌, ◌++◌, length, take, drop, get_or, add-one, refl, ap, sym, subst, ◌∙◌, append_assoc, append-nil, Option, None, Some, Result, Ok, Err, OnOk, OnErr, true}
 use Rattle.std.specs.List.{flat_map}
 use Rattle.std.proofs.lemmas.List.{take-append-drop}
 use Rattle.std.proofs.Math.Seq.{drop-cons}
 use Rattle.std.proofs.lemmas.Grind.{flat_map-append}
 use Rattle.std.specs.Io.KnownBytes.{Appends, Keeps}
-use Rattle.bt_streams.specs.Writes.{AppendsPart}
+use Rattle.bt_streams.specs.Seen.{Sunk}
+use Rattle.bt_streams.specs.Writes.{AppendsPart, WritesAll, Says}
 
 -- One write after another.
 pub appends_more : (a b c : Option (List ℕ)) (xs ys : List ℕ) → Appends a b xs → Appends b c ys → Appends a c (xs ++ ys)
@@ -26,6 +27,15 @@ part_behind a b c xs ys more whole e p q =
 
 pub part_kept : (a b c : Option (List ℕ)) (xs more whole : List ℕ) → whole ≡ xs ++ more → Appends a b xs → Keeps b c → AppendsPart a c whole
 part_kept a b c xs more whole e p q = part_behind a b c xs [] more whole e p ([], [], refl, appends_kept b c q)
+
+appended : (a b c : Option (List ℕ)) (xs : List ℕ) → Appends a b xs → Keeps b c → Appends a c xs
+appended a b c xs p q = subst (Appends a c) (append-nil xs) (appends_more a b c xs [] p (appends_kept b c q))
+
+-- Bytes that were written are handed on, or that fails.
+pub handed_on : {T E : Type 0} (old mid new : Sunk) (bytes : List ℕ) (result : Result T E) → WritesAll old mid bytes → Keeps mid.contents new.contents →
+    OnOk result (new.is_flushed ≡ true) → OnOk result (new.failures ≡ mid.failures) → OnErr result (new.failures ≡ mid.failures + 1) → Says old new bytes result
+handed_on old mid new bytes (Ok x) (all, same) keeps flushed ok err = ((appended _ _ _ bytes all keeps, ok ∙ same), flushed)
+handed_on old mid new bytes (Err e) (all, same) keeps flushed ok err = (part_kept _ _ _ bytes [] bytes (sym (append-nil bytes)) all keeps, err ∙ ap (λ n. n + 1) same)
 
 -- A fact that holds anyway.
 pub on_err_any : {T E P : Type 0} → (r : Result T E) → P → OnErr r P

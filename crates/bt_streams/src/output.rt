@@ -1,19 +1,15 @@
 //! Writes answers to a sink.
 
-ghost use Rattle.std.specs.Prelude.{◌≡◌, ℕ, true, ◌+◌, ◌-◌, ◌^◌, ◌<◌, OnOk, OnErr};
+ghost use Rattle.std.specs.Prelude.{◌-◌, ◌^◌, ◌<◌};
 ghost use Rattle.std.specs.List.{flat_map};
-ghost use Rattle.std.specs.Io.KnownBytes.{Appends};
-ghost use Rattle.bt_streams.specs.Writes.{AppendsPart};
+ghost use Rattle.bt_streams.specs.Writes.{Writes, Says};
 
 use crate::streams::{Sink, StreamFailed};
 
 /// Writes all the bytes, and hands nothing on. After a failure a beginning of them is written.
 pub fn write_all<K: Sink>(sink: &mut K, bytes: &[u8]) -> Result<(), StreamFailed>
-    requires { K.failure_count sink.old < 2 ^ 64 - 1 }
-    ensures all { OnOk result (Appends (K.contents sink.old) (K.contents sink.new) bytes.now) }
-    ensures part { OnErr result (AppendsPart (K.contents sink.old) (K.contents sink.new) bytes.now) }
-    ensures ok { OnOk result (K.failure_count sink.new ≡ K.failure_count sink.old) }
-    ensures err { OnErr result (K.failure_count sink.new ≡ K.failure_count sink.old + 1) }
+    requires { (K.seen sink.old).failures < 2 ^ 64 - 1 }
+    ensures { Writes (K.seen sink.old) (K.seen sink.new) bytes.now result }
 {
     let mut written = 0;
     'writes: while written < bytes.len() {
@@ -24,13 +20,8 @@ pub fn write_all<K: Sink>(sink: &mut K, bytes: &[u8]) -> Result<(), StreamFailed
 
 /// Writes pieces one after another.
 fn write_pieces<K: Sink>(sink: &mut K, pieces: &[&[u8]]) -> Result<(), StreamFailed>
-    requires { K.failure_count sink.old < 2 ^ 64 - 1 }
-    ensures all { OnOk result (Appends (K.contents sink.old) (K.contents sink.new)
-        (flat_map (λ piece. piece.now) pieces.now)) }
-    ensures part { OnErr result (AppendsPart (K.contents sink.old) (K.contents sink.new)
-        (flat_map (λ piece. piece.now) pieces.now)) }
-    ensures ok { OnOk result (K.failure_count sink.new ≡ K.failure_count sink.old) }
-    ensures err { OnErr result (K.failure_count sink.new ≡ K.failure_count sink.old + 1) }
+    requires { (K.seen sink.old).failures < 2 ^ 64 - 1 }
+    ensures { Writes (K.seen sink.old) (K.seen sink.new) (flat_map (λ piece. piece.now) pieces.now) result }
 {
     'each: for piece in pieces {
         write_all(sink, piece)?;
@@ -39,15 +30,10 @@ fn write_pieces<K: Sink>(sink: &mut K, pieces: &[&[u8]]) -> Result<(), StreamFai
 }
 
 /// Writes the pieces of an answer one after another, and hands them on. After a failure a beginning of them is written.
+#[tactic(auto, using(crate::proofs::WriteLemmas::handed_on))]
 pub fn say<K: Sink>(sink: &mut K, pieces: &[&[u8]]) -> Result<(), StreamFailed>
-    requires { K.failure_count sink.old < 2 ^ 64 - 1 }
-    ensures all { OnOk result (Appends (K.contents sink.old) (K.contents sink.new)
-        (flat_map (λ piece. piece.now) pieces.now)) }
-    ensures part { OnErr result (AppendsPart (K.contents sink.old) (K.contents sink.new)
-        (flat_map (λ piece. piece.now) pieces.now)) }
-    ensures ok { OnOk result (K.failure_count sink.new ≡ K.failure_count sink.old) }
-    ensures err { OnErr result (K.failure_count sink.new ≡ K.failure_count sink.old + 1) }
-    ensures flushed { OnOk result (K.is_flushed sink.new ≡ true) }
+    requires { (K.seen sink.old).failures < 2 ^ 64 - 1 }
+    ensures { Says (K.seen sink.old) (K.seen sink.new) (flat_map (λ piece. piece.now) pieces.now) result }
 {
     write_pieces(sink, pieces)?;
     sink.flush()

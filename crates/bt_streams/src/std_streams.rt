@@ -29,11 +29,7 @@ impl<R: Read + Drop> ReaderSource<R> {
 }
 
 impl<R: Read + Drop> Source for ReaderSource<R> {
-    ghost remaining = { λ s. R.remaining s.reader };
-
-    ghost failure_count = { λ s. s.failures };
-
-    ghost reads_left = { λ s. s.left };
+    ghost seen = { λ s. record { rest = R.remaining s.reader; failures = s.failures; reads_left = s.left } };
 
     fn read(&mut self, buffer: &mut [u8]) -> Result<usize, StreamFailed> {
         if self.left == 0 {
@@ -83,11 +79,7 @@ impl<W: Write + Drop> WriterSink<W> {
 }
 
 impl<W: Write + Drop> Sink for WriterSink<W> {
-    ghost contents = { λ s. W.contents s.writer };
-
-    ghost failure_count = { λ s. s.failures };
-
-    ghost is_flushed = { λ s. s.flushed };
+    ghost seen = { λ s. record { contents = W.contents s.writer; failures = s.failures; is_flushed = s.flushed } };
 
     #[tactic(auto, using(crate::proofs::WriteLemmas::keeps_none))]
     fn write(&mut self, bytes: &[u8]) -> Result<usize, StreamFailed> {

@@ -1,7 +1,8 @@
 //! What commands are read from, and what answers are written to.
 
-ghost use Rattle.std.specs.Prelude.{◌≡◌, ℕ, Bool, true, false, List, ◌+◌, ◌-◌, ◌^◌, ◌<◌, ◌≤◌, length, Option, None, IfOk, OnOk, OnErr, IsErr};
+ghost use Rattle.std.specs.Prelude.{◌≡◌, true, false, ◌+◌, ◌-◌, ◌^◌, ◌<◌, ◌≤◌, length, IfOk, OnOk, OnErr, IsErr};
 ghost use Rattle.std.specs.Io.KnownBytes.{ReadConsumes, WriteAppends, Keeps};
+ghost use Rattle.bt_streams.specs.Seen.{Drawn, Sunk};
 
 use thiserror::Error;
 
@@ -12,66 +13,54 @@ pub struct StreamFailed;
 
 /// What bytes are read from.
 pub trait Source {
-    /// The bytes that it has left to give, where it shows them.
-    ghost remaining: { Self → Option (List ℕ) };
-
-    /// How often it failed.
-    ghost failure_count: { Self → ℕ };
-
-    /// How often it can be read at most.
-    ghost reads_left: { Self → ℕ };
+    /// What is seen of it: the bytes that it has left, its failures, the reads that are left.
+    ghost seen: { Self → Drawn };
 
     /// Reads bytes into the buffer, and answers how many; 0 at the end. Each read lowers the bound on those that are
     /// left by one; at 0 a read fails. A read that fails gives no byte, and raises the count of failures by one.
     fn read(&mut self, buffer: &mut [u8]) -> Result<usize, StreamFailed>
-        requires { failure_count self.old < 2 ^ 64 - 1 }
+        requires { (seen self.old).failures < 2 ^ 64 - 1 }
         ensures bound { IfOk result (λ n. n ≤ length buffer.new) }
-        ensures bytes { ReadConsumes (remaining self.old) (remaining self.new) result buffer.new }
-        ensures lowers { reads_left self.new ≡ reads_left self.old - 1 }
-        ensures spent { reads_left self.old ≡ 0 → IsErr result }
-        ensures ok { OnOk result (failure_count self.new ≡ failure_count self.old) }
-        ensures err { OnErr result (failure_count self.new ≡ failure_count self.old + 1) };
+        ensures bytes { ReadConsumes (seen self.old).rest (seen self.new).rest result buffer.new }
+        ensures lowers { (seen self.new).reads_left ≡ (seen self.old).reads_left - 1 }
+        ensures spent { (seen self.old).reads_left ≡ 0 → IsErr result }
+        ensures ok { OnOk result ((seen self.new).failures ≡ (seen self.old).failures) }
+        ensures err { OnErr result ((seen self.new).failures ≡ (seen self.old).failures + 1) };
 
     /// How often it failed so far.
     fn failures(&self) -> u64
-        ensures { result ≡ failure_count self.now };
+        ensures { result ≡ (seen self.now).failures };
 
     /// How often it can be read at most from now on.
     fn left(&self) -> u64
-        ensures { result ≡ reads_left self.now };
+        ensures { result ≡ (seen self.now).reads_left };
 }
 
 /// What bytes are written to.
 pub trait Sink {
-    /// The bytes that were written to it, where it shows them.
-    ghost contents: { Self → Option (List ℕ) };
-
-    /// How often it failed.
-    ghost failure_count: { Self → ℕ };
-
-    /// Whether all that was written was handed on.
-    ghost is_flushed: { Self → Bool };
+    /// What is seen of it: the bytes that were written to it, its failures, whether all was handed on.
+    ghost seen: { Self → Sunk };
 
     /// Takes some of the bytes, and answers how many. To take none is a failure, and each failure raises their count by
     /// one.
     fn write(&mut self, bytes: &[u8]) -> Result<usize, StreamFailed>
-        requires { failure_count self.old < 2 ^ 64 - 1 }
+        requires { (seen self.old).failures < 2 ^ 64 - 1 }
         ensures some { IfOk result (λ n. 0 < n) }
         ensures bound { IfOk result (λ n. n ≤ length bytes.now) }
-        ensures bytes { WriteAppends (contents self.old) (contents self.new) result bytes.now }
-        ensures held { is_flushed self.new ≡ false }
-        ensures ok { OnOk result (failure_count self.new ≡ failure_count self.old) }
-        ensures err { OnErr result (failure_count self.new ≡ failure_count self.old + 1) };
+        ensures bytes { WriteAppends (seen self.old).contents (seen self.new).contents result bytes.now }
+        ensures held { (seen self.new).is_flushed ≡ false }
+        ensures ok { OnOk result ((seen self.new).failures ≡ (seen self.old).failures) }
+        ensures err { OnErr result ((seen self.new).failures ≡ (seen self.old).failures + 1) };
 
     /// Hands on what was written. After a failure some of it may be handed on.
     fn flush(&mut self) -> Result<(), StreamFailed>
-        requires { failure_count self.old < 2 ^ 64 - 1 }
-        ensures bytes { Keeps (contents self.old) (contents self.new) }
-        ensures flushed { OnOk result (is_flushed self.new ≡ true) }
-        ensures ok { OnOk result (failure_count self.new ≡ failure_count self.old) }
-        ensures err { OnErr result (failure_count self.new ≡ failure_count self.old + 1) };
+        requires { (seen self.old).failures < 2 ^ 64 - 1 }
+        ensures bytes { Keeps (seen self.old).contents (seen self.new).contents }
+        ensures flushed { OnOk result ((seen self.new).is_flushed ≡ true) }
+        ensures ok { OnOk result ((seen self.new).failures ≡ (seen self.old).failures) }
+        ensures err { OnErr result ((seen self.new).failures ≡ (seen self.old).failures + 1) };
 
     /// How often it failed so far.
     fn failures(&self) -> u64
-        ensures { result ≡ failure_count self.now };
+        ensures { result ≡ (seen self.now).failures };
 }

@@ -20,9 +20,9 @@ pub struct Taker<'a> {
 impl<'a> Taker<'a> {
     /// An empty sink.
     pub fn new(alloc: Global, limits: Limits<'a>, handed_on: &'a Cell<usize>) -> Self
-        ensures bytes { ⟦<Taker<'a> as Sink>⟧.contents result ≡ Some [] }
-        ensures failures { ⟦<Taker<'a> as Sink>⟧.failure_count result ≡ 0 }
-        ensures flushed { ⟦<Taker<'a> as Sink>⟧.is_flushed result ≡ true }
+        ensures bytes { (⟦<Taker<'a> as Sink>⟧.seen result).contents ≡ Some [] }
+        ensures failures { (⟦<Taker<'a> as Sink>⟧.seen result).failures ≡ 0 }
+        ensures flushed { (⟦<Taker<'a> as Sink>⟧.seen result).is_flushed ≡ true }
     {
         Taker {
             bytes: Vec::new(alloc),
@@ -35,18 +35,14 @@ impl<'a> Taker<'a> {
 
     /// What was written.
     pub fn bytes(&self) -> &[u8]
-        ensures { Some result.now ≡ ⟦<Taker<'a> as Sink>⟧.contents self.now }
+        ensures { Some result.now ≡ (⟦<Taker<'a> as Sink>⟧.seen self.now).contents }
     {
         self.bytes.as_slice()
     }
 }
 
 impl Sink for Taker<'_> {
-    ghost contents = { λ s. Some s.bytes.items };
-
-    ghost failure_count = { λ s. s.failures };
-
-    ghost is_flushed = { λ s. s.flushed };
+    ghost seen = { λ s. record { contents = Some s.bytes.items; failures = s.failures; is_flushed = s.flushed } };
 
     fn write(&mut self, bytes: &[u8]) -> Result<usize, StreamFailed> {
         self.flushed = false;

@@ -34,9 +34,9 @@ impl<'a> Giver<'a> {
         limits: Limits<'a>,
         handed_on: &'a Cell<usize>,
     ) -> Self
-        ensures bytes { ⟦<Giver<'a> as Source>⟧.remaining result ≡ Some text.now }
-        ensures failures { ⟦<Giver<'a> as Source>⟧.failure_count result ≡ 0 }
-        ensures left { ⟦<Giver<'a> as Source>⟧.reads_left result ≡ 2 ^ 64 - 1 }
+        ensures bytes { (⟦<Giver<'a> as Source>⟧.seen result).rest ≡ Some text.now }
+        ensures failures { (⟦<Giver<'a> as Source>⟧.seen result).failures ≡ 0 }
+        ensures left { (⟦<Giver<'a> as Source>⟧.seen result).reads_left ≡ 2 ^ 64 - 1 }
     {
         Giver {
             len: text.len(),
@@ -61,11 +61,7 @@ impl<'a> Giver<'a> {
 }
 
 impl Source for Giver<'_> {
-    ghost remaining = { λ s. Some s.rest.now };
-
-    ghost failure_count = { λ s. s.failures };
-
-    ghost reads_left = { λ s. s.left };
+    ghost seen = { λ s. record { rest = Some s.rest.now; failures = s.failures; reads_left = s.left } };
 
     fn read(&mut self, buffer: &mut [u8]) -> Result<usize, StreamFailed> {
         let place = self.given();

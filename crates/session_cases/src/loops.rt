@@ -23,8 +23,8 @@ fn answer_input<S: Source, K: Sink>(
     sink: &mut K,
     session: &mut Session,
 ) -> Result<(), ServeFault>
-    requires reads { S.failure_count source.old < 2 ^ 64 - 1 }
-    requires writes { K.failure_count sink.old < 2 ^ 64 - 1 }
+    requires reads { (S.seen source.old).failures < 2 ^ 64 - 1 }
+    requires writes { (K.seen sink.old).failures < 2 ^ 64 - 1 }
 {
     serve(alloc, source, sink, session)
 }

@@ -5,7 +5,9 @@ use Rattle.bibtex.specs.declared.state.State.{State}
 use Rattle.bibtex.specs.Present.{no_texts}
 use Rattle.bt_one_shot.specs.declared.folder.Found.{Found}
 use Rattle.bt_one_shot.specs.Folders.{Seen, Finds, looked_up, LooksUp}
-use Rattle.bt_one_shot.specs.Sinks.{Sunk}
+use Rattle.bt_streams.specs.Seen.{Sunk}
+use Rattle.bt_one_shot.specs.Sinks.{Tells}
+use Rattle.bt_one_shot.specs.Shots.{Ends}
 use Rattle.bt_one_shot.specs.inner.Sinks.{GoesOn}
 use Rattle.bibtex.specs.Applied.{state_or}
 use Rattle.bt_one_shot.specs.JobFiles.{LookedUp, name_of, next, taken_found, after_files, refusal_line, refusal_lines, InOrder, all_looked_up}
@@ -47,3 +49,9 @@ pub record LoadsSome (failures_before : ℕ) (root : List ℕ) (min : ℕ) (old 
   pub reached : State
   pub met : List (List ℕ)
   pub goes : Goes failures_before (no_texts root min) reached [] met old new err err'
+
+-- A run ends with this state and this log, after any text that was reported since the sink had failed so often.
+abbrev pub EndsAfter : ℕ → State → List ℕ → Seen → Seen → Sunk → Sunk → Sunk → Sunk → ℕ → Type 0
+EndsAfter failures_before s log old new out out' err err' exit = (first : Sunk) (text : List ℕ) →
+    first.failures ≡ failures_before → Tells first err text →
+    Ends s log old new out out' (λ more. Tells first err' (text ++ more)) exit

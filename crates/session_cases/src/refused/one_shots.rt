@@ -71,8 +71,8 @@ fn shoot<F: Folder, O: Sink, E: Sink>(
 ) -> Result<u8, AllocError>
     requires root { is_root_name options.now.root ≡ true }
     requires folder { (F.seen folder.old).failures < 2 ^ 64 - 1 }
-    requires out { O.failure_count out.old < 2 ^ 64 - 1 }
-    requires err { E.failure_count err.old < 2 ^ 64 - 1 }
+    requires out { (O.seen out.old).failures < 2 ^ 64 - 1 }
+    requires err { (E.seen err.old).failures < 2 ^ 64 - 1 }
 {
     one_shot(alloc, options, folder, out, err)
 }

@@ -1,5 +1,4 @@
 use Rattle.std.proofs.Common.{◌-◌, ◌^◌, length}
-use Rattle.bt_one_shot.specs.Sinks.{sunk}
 use Rattle.bt_one_shot.specs.inner.Progress.{Goes}
 use Rattle.bt_one_shot.proofs.job_files.load_all.Given as goal
 
@@ -9,7 +8,7 @@ invariant-rounds g l =
     let sink = g.E.Sink in
     record {
       goes : Goes l.fn.failures_before l.fn.draft l.draft l.fn.met l.met (folder.seen l.fn.folder) (folder.seen l.folder)
-          (sunk (sink.contents l.fn.err) (sink.failure_count l.fn.err) (sink.is_flushed l.fn.err)) (sunk (sink.contents l.err) (sink.failure_count l.err) (sink.is_flushed l.err));
+          (sink.seen l.fn.err) (sink.seen l.err);
     }
 
 abbrev pub decreases-rounds : goal.decreases-rounds

@@ -2,7 +2,6 @@ use Rattle.std.proofs.Common.{◌∙◌, ap, sym, subst, Result}
 use Rattle.bibtex.specs.declared.edit.Refusal.{Refusal}
 use Rattle.bibtex.specs.declared.state.State.{State}
 use Rattle.bibtex.specs.Applied.{state_or}
-use Rattle.bt_one_shot.specs.Sinks.{sunk}
 use Rattle.bt_one_shot.specs.inner.Sinks.{GoesOn}
 use Rattle.bt_one_shot.specs.JobFiles.{refusal_line}
 use Rattle.bt_one_shot.proofs.job_files.look_up.Goals as goal
@@ -16,6 +15,6 @@ returns-in-Err-clause-looks g c =
       finds = c.read-found.ensures.found;
       is_after = taken.1.1 ∙ sym (ap (state_or c.args.draft.now) taken.1.0);
       looked_up = c.read-found.ensures.looks_up;
-      tells = subst (λ (made : Result State Refusal). GoesOn c.args.failures_before (sunk (g.E.Sink.contents c.args.err.now) (g.E.Sink.failure_count c.args.err.now) (g.E.Sink.is_flushed c.args.err.now))
-          (sunk (g.E.Sink.contents c.tell_refused.new.err) (g.E.Sink.failure_count c.tell_refused.new.err) (g.E.Sink.is_flushed c.tell_refused.new.err)) (refusal_line c.args.name.now made)) (sym taken.1.0) c.tell_refused.ensures;
+      tells = subst (λ (made : Result State Refusal). GoesOn c.args.failures_before (g.E.Sink.seen c.args.err.now)
+          (g.E.Sink.seen c.tell_refused.new.err) (refusal_line c.args.name.now made)) (sym taken.1.0) c.tell_refused.ensures;
     }

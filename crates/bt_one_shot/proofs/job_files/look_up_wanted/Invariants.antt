@@ -1,7 +1,6 @@
 use Rattle.std.proofs.Common.{◌≡◌, ◌≤◌, true, length, take}
 use Rattle.std.specs.List.{list_all}
 use Rattle.bibtex.specs.Present.{shown}
-use Rattle.bt_one_shot.specs.Sinks.{sunk}
 use Rattle.bt_one_shot.specs.inner.Progress.{Goes}
 use Rattle.bt_one_shot.proofs.WantLemmas.{is_met}
 use Rattle.bt_one_shot.proofs.job_files.look_up_wanted.Given as goal
@@ -14,6 +13,6 @@ invariant-wanted g l =
       wanted : l.name-items ≡ (shown l.draft).wanted;
       front : list_all (is_met l.met) (take l.name-index l.name-items) ≡ true;
       goes : Goes l.fn.failures_before l.fn.draft l.draft l.fn.met l.met (folder.seen l.fn.folder) (folder.seen l.folder)
-          (sunk (sink.contents l.fn.err) (sink.failure_count l.fn.err) (sink.is_flushed l.fn.err)) (sunk (sink.contents l.err) (sink.failure_count l.err) (sink.is_flushed l.err));
+          (sink.seen l.fn.err) (sink.seen l.err);
       more : length l.fn.met ≤ length l.met;
     }

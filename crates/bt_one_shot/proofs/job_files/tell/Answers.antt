@@ -5,7 +5,7 @@ use Rattle.bt_one_shot.proofs.job_files.tell.Goals as goal
 pub returns-then-failures-failures_before : goal.returns-then-failures-failures_before
 returns-then-failures-failures_before g c = λ first text is told.
     said first _ _ text _ c.say.result told (sym c.failures.ensures ∙ c.if-failures-failures_before.true ∙ sym is)
-    c.say.ensures.all c.say.ensures.part c.say.ensures.ok c.say.ensures.err c.say.ensures.flushed
+    c.say.ensures
 
 pub returns-else-failures-failures_before : goal.returns-else-failures-failures_before
 returns-else-failures-failures_before g c = λ first text is told.

@@ -6,9 +6,9 @@ abbrev pub invariant-pieces : goal.invariant-pieces
 invariant-pieces g l =
     let source = g.S.Source in
     record {
-      failures : source.failure_count l.source ≡ source.failure_count l.fn.source;
-      reads : source.reads_left l.source ≤ source.reads_left l.fn.source;
-      part : (bytes : List ℕ) × (length bytes + l.to_drop ≡ l.count) × Consumes (source.remaining l.fn.source) (source.remaining l.source) bytes;
+      failures : (source.seen l.source).failures ≡ (source.seen l.fn.source).failures;
+      reads : (source.seen l.source).reads_left ≤ (source.seen l.fn.source).reads_left;
+      part : (bytes : List ℕ) × (length bytes + l.to_drop ≡ l.count) × Consumes (source.seen l.fn.source).rest (source.seen l.source).rest bytes;
     }
 
 abbrev pub decreases-pieces : goal.decreases-pieces

@@ -7,9 +7,9 @@ invariant-pieces g l =
     let source = g.S.Source in
     record {
       room : l.filled ≤ length l.buffer;
-      failures : source.failure_count l.source ≡ source.failure_count l.fn.source;
-      reads : source.reads_left l.source ≤ source.reads_left l.fn.source;
-      bytes : Consumes (source.remaining l.fn.source) (source.remaining l.source) (take l.filled l.buffer);
+      failures : (source.seen l.source).failures ≡ (source.seen l.fn.source).failures;
+      reads : (source.seen l.source).reads_left ≤ (source.seen l.fn.source).reads_left;
+      bytes : Consumes (source.seen l.fn.source).rest (source.seen l.source).rest (take l.filled l.buffer);
     }
 
 abbrev pub decreases-pieces : goal.decreases-pieces

@@ -7,8 +7,8 @@ abbrev pub invariant-line : goal.invariant-line
 invariant-line g l =
     let source = g.S.Source in
     record {
-      failures : source.failure_count l.source ≡ source.failure_count l.fn.source;
-      reads : source.reads_left l.source + l.i ≤ source.reads_left l.fn.source;
+      failures : (source.seen l.source).failures ≡ (source.seen l.fn.source).failures;
+      reads : (source.seen l.source).reads_left + l.i ≤ (source.seen l.fn.source).reads_left;
       line : HasNoFeed (take l.i l.buffer);
-      bytes : Consumes (source.remaining l.fn.source) (source.remaining l.source) (take l.i l.buffer);
+      bytes : Consumes (source.seen l.fn.source).rest (source.seen l.source).rest (take l.i l.buffer);
     }

@@ -6,10 +6,10 @@ abbrev pub invariant-rest : goal.invariant-rest
 invariant-rest g l =
     let source = g.S.Source in
     record {
-      failures : source.failure_count l.source ≡ source.failure_count l.fn.source;
-      reads : source.reads_left l.source ≤ source.reads_left l.fn.source;
-      part : ReadsPart (source.remaining l.fn.source) (source.remaining l.source);
+      failures : (source.seen l.source).failures ≡ (source.seen l.fn.source).failures;
+      reads : (source.seen l.source).reads_left ≤ (source.seen l.fn.source).reads_left;
+      part : ReadsPart (source.seen l.fn.source).rest (source.seen l.source).rest;
     }
 
 abbrev pub decreases-rest : goal.decreases-rest
-decreases-rest g l = g.S.Source.reads_left l.source
+decreases-rest g l = (g.S.Source.seen l.source).reads_left

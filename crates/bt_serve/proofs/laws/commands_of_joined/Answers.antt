@@ -8,4 +8,4 @@ pub returns-clause-cut : goal.returns-clause-cut
 returns-clause-cut c = cut_short
 
 pub returns-clause-last : goal.returns-clause-last
-returns-clause-last c = cut_last
+returns-clause-last c = λ cs d all bare. cut_last cs d all bare.0 bare.1 bare.2

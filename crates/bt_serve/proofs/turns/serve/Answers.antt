@@ -1,7 +1,6 @@
 use Rattle.std.proofs.Common.{◌≡◌, ◌++◌, ◌∷◌, [], refl, sym, append-nil, ◌∙◌}
-use Rattle.std.proofs.Common.{ap, Some, Err, ◌+◌}
-use Rattle.bt_serve.specs.declared.fault.ServeFault.TheVariants.{ReadFailed, WriteFailed, Truncated}
-use Rattle.bt_serve.proofs.ServedLemmas.{ends_answers_all, ends_answers_before, ends_answers_part}
+use Rattle.std.proofs.Common.{ap, Err, ◌+◌}
+use Rattle.bt_serve.specs.declared.fault.ServeFault.TheVariants.{ReadFailed, WriteFailed}
 use Rattle.bt_serve.proofs.EditedLemmas.{ends_edited, fails_edited}
 use Rattle.bt_serve.proofs.TurnLemmas.{answered_more}
 use Rattle.bt_serve.proofs.FaultLemmas.{handed_on_at_a_fault}
@@ -61,30 +60,6 @@ returns-in-Err-clause-served g c = λ input said known held.
     let before = c.turns.invariant.answered input said known held in
     let turn = c.in-Err.ensures.turns before.2 before.3 before.4 before.5 in
     (turn.0, turn.1, turn.2, turn.3, (before.0, before.1, before.2, before.3, c.turns.session, before.6, turn.4))
-
-pub returns-in-Ok-true-clause-all : goal.returns-in-Ok-true-clause-all
-returns-in-Ok-true-clause-all g c = λ input said known held.
-    let before = c.turns.invariant.answered input said known held in
-    let turns = rw c.in-Ok-true.field-0-test at c.in-Ok-true.ensures.turns in
-    let turn = turns before.2 before.3 before.4 before.5 in
-    (turn.1, turn.3, ends_answers_all input turn.0 said turn.1 c.args.session.now c.serve_one.new.session (before.0, before.1, before.2, before.3, c.turns.session, before.6, turn.4))
-
-pub returns-in-Err-clause-truncated : goal.returns-in-Err-clause-truncated
-returns-in-Err-clause-truncated g c = λ input said known held is.
-    let before = c.turns.invariant.answered input said known held in
-    let fault : c.in-Err.fault ≡ Truncated = cc in
-    let turns = rw fault at c.in-Err.ensures.turns in
-    let turn = turns before.2 before.3 before.4 before.5 in
-    let all = ends_answers_before input turn.0 said turn.1 c.args.session.now c.serve_one.new.session (before.0, before.1, before.2, before.3, c.turns.session, before.6, turn.4) in
-    (turn.1, turn.2 ∙ ap Some all.1, turn.3, all.0)
-
-pub returns-in-Err-clause-part : goal.returns-in-Err-clause-part
-returns-in-Err-clause-part g c = λ input said known held is.
-    let before = c.turns.invariant.answered input said known held in
-    let fault : c.in-Err.fault ≡ WriteFailed = cc in
-    let turns = rw fault at c.in-Err.ensures.turns in
-    let turn = turns before.2 before.3 before.4 before.5 in
-    (turn.1, turn.3, ends_answers_part input turn.0 said turn.1 c.args.session.now c.serve_one.new.session (before.0, before.1, before.2, before.3, c.turns.session, before.6, turn.4))
 
 pub returns-in-Ok-true-clause-edited : goal.returns-in-Ok-true-clause-edited
 returns-in-Ok-true-clause-edited g c = λ input said known held.

@@ -8,13 +8,13 @@ invariant-turns g l =
     let source = g.S.Source in
     let sink = g.K.Sink in
     record {
-      reads : source.failure_count l.source ≡ source.failure_count l.fn.source;
-      writes : sink.failure_count l.sink ≡ sink.failure_count l.fn.sink;
-      flushed : sink.is_flushed l.fn.sink ≡ true → sink.is_flushed l.sink ≡ true;
-      answered : (input : List ℕ) (said : List ℕ) → source.remaining l.fn.source ≡ Some input → sink.contents l.fn.sink ≡ Some said →
-          (cs : List Command) × (ms : List Bool) × (mid : List ℕ) × (told : List ℕ) × (source.remaining l.source ≡ Some mid) × (sink.contents l.sink ≡ Some told) ×
+      reads : (source.seen l.source).failures ≡ (source.seen l.fn.source).failures;
+      writes : (sink.seen l.sink).failures ≡ (sink.seen l.fn.sink).failures;
+      flushed : (sink.seen l.fn.sink).is_flushed ≡ true → (sink.seen l.sink).is_flushed ≡ true;
+      answered : (input : List ℕ) (said : List ℕ) → (source.seen l.fn.source).rest ≡ Some input → (sink.seen l.fn.sink).contents ≡ Some said →
+          (cs : List Command) × (ms : List Bool) × (mid : List ℕ) × (told : List ℕ) × ((source.seen l.source).rest ≡ Some mid) × ((sink.seen l.sink).contents ≡ Some told) ×
           Answered input mid said told l.fn.session l.session cs ms;
     }
 
 abbrev pub decreases-turns : goal.decreases-turns
-decreases-turns g l = g.S.Source.reads_left l.source
+decreases-turns g l = (g.S.Source.seen l.source).reads_left

@@ -1,15 +1,17 @@
-use Rattle.std.proofs.Common.{◌≡◌, ◌-◌, sym, length, take, drop, arith, length-drop}
+use Rattle.std.proofs.Common.{◌≡◌, ◌∙◌, ◌+◌, ◌-◌, ap, sym, length, take, drop, arith, length-drop}
+use Rattle.std.proofs.lemmas.Result.{MatchResult-from_err}
 use Rattle.std.proofs.lemmas.List.{take-append-drop}
 use Rattle.std.proofs.Math.Seq.{take-add, take-length}
-use Rattle.bt_streams.proofs.WriteLemmas.{appends_more, part_kept, on_err_any}
+use Rattle.bt_streams.proofs.WriteLemmas.{appends_more, part_kept}
 use Rattle.bt_streams.proofs.output.write_all.Goals as goal
 
-pub returns-in_err-written-clause-part : goal.returns-in_err-written-clause-part
-returns-in_err-written-clause-part g c =
+pub returns-in_err-written : goal.returns-in_err-written
+returns-in_err-written g c =
     let before = c.writes.invariant in
     let n = c.writes.written in
     let t = c.args.bytes.now in
-    on_err_any c.from_residual.result (part_kept _ _ _ (take n t) (drop n t) t (sym (take-append-drop n t)) before.bytes c.in_err-written.ensures.bytes)
+    let part = part_kept _ _ _ (take n t) (drop n t) t (sym (take-append-drop n t)) before.bytes c.in_err-written.ensures.bytes in
+    MatchResult-from_err c.from_residual.result _ _ c.from_residual.ensures.0 (λ _. (part, c.in_err-written.ensures.err ∙ ap (λ n. n + 1) before.failures))
 
 pub writes-preserved : goal.writes-preserved
 writes-preserved g c =

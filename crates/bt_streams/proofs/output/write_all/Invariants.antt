@@ -7,8 +7,8 @@ invariant-writes g l =
     let sink = g.K.Sink in
     record {
       room : l.written ≤ length l.bytes;
-      failures : sink.failure_count l.sink ≡ sink.failure_count l.fn.sink;
-      bytes : Appends (sink.contents l.fn.sink) (sink.contents l.sink) (take l.written l.bytes);
+      failures : (sink.seen l.sink).failures ≡ (sink.seen l.fn.sink).failures;
+      bytes : Appends (sink.seen l.fn.sink).contents (sink.seen l.sink).contents (take l.written l.bytes);
     }
 
 abbrev pub decreases-writes : goal.decreases-writes

@@ -7,6 +7,6 @@ abbrev pub invariant-each : goal.invariant-each
 invariant-each g l =
     let sink = g.K.Sink in
     record {
-      failures : sink.failure_count l.sink ≡ sink.failure_count l.fn.sink;
-      bytes : Appends (sink.contents l.fn.sink) (sink.contents l.sink) (flat_map (λ piece. piece.now) (take l.piece-index l.pieces));
+      failures : (sink.seen l.sink).failures ≡ (sink.seen l.fn.sink).failures;
+      bytes : Appends (sink.seen l.fn.sink).contents (sink.seen l.sink).contents (flat_map (λ piece. piece.now) (take l.piece-index l.pieces));
     }
