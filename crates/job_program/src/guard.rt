@@ -44,7 +44,6 @@ fn is_hidden(path: &str) -> bool {
     path.split('/').any(|part| part.starts_with('.') && part != "." && part != "..")
 }
 
-/// Whether a path leads up to a folder above.
 fn leads_up(path: &str) -> bool {
     path.split('/').any(|part| part == "..")
 }

@@ -199,7 +199,6 @@ fn run_found(
     Ok(status)
 }
 
-/// Whether something has the name of a job's `.aux` file.
 fn is_there(rt: &HostRuntime, job: &str) -> Result<bool, AllocError> {
     let path = format!(in rt.alloc(); "{job}.aux")?;
     Ok(fs::metadata(rt, path.as_str()).is_ok())

@@ -35,7 +35,6 @@ pub enum Request<'a> {
     Wrong(Wrong<'a>),
 }
 
-/// What a word is.
 enum Word<'a> {
     Job(&'a str),
     /// An option without its dashes, and what follows its `=`.
@@ -152,7 +151,6 @@ impl<'a> Reader<'a> {
         }
     }
 
-    /// What the words come to.
     fn end(self) -> Request<'a> {
         if self.wants_number {
             return Request::Wrong(Wrong::NoNumber(None));

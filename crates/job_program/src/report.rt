@@ -73,7 +73,6 @@ fn is_shown(message: &Message) -> bool {
     message.rank != Rank::CallCount && !(message.rank == Rank::FileLine && is_nested)
 }
 
-/// The messages that the terminal shows.
 fn shown_of(alloc: Global, messages: &[Message]) -> Result<Sequence<Message>, AllocError> {
     let mut shown = Sequence::new(alloc);
     'messages: for message in messages {

@@ -76,7 +76,6 @@ impl<'a> Search<'a> {
         self.read(path.as_slice())
     }
 
-    /// A style or a database.
     fn read_searched(&self, name: &[u8]) -> Result<Option<Bytes>, AllocError> {
         if let Some(path) = self.script.path_of(name) {
             return self.read(path);

@@ -7,7 +7,6 @@ use bt_run::Answers;
 /// The end of the warning of a value that is left out because it is too long.
 const TOO_LONG: &[u8] = b" is over 65536 bytes";
 
-/// Whether a message is a fault of a style.
 fn is_style_fault(message: &Message) -> bool {
     match (&message.rank, &message.place) {
         (Rank::Error, Some(Place::Line { file, .. })) => file.as_slice().ends_with(b".bst"),

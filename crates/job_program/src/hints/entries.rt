@@ -19,7 +19,6 @@ fn folded(alloc: Global, key: &[u8]) -> Result<Vec<u8>, AllocError> {
     Ok(folded)
 }
 
-/// The keys that the document cites.
 fn cited(alloc: Global, files: &[File]) -> Result<Keys, AllocError> {
     let mut keys = IndexSet::new(alloc);
     'files: for file in files {
@@ -30,7 +29,6 @@ fn cited(alloc: Global, files: &[File]) -> Result<Keys, AllocError> {
     Ok(keys)
 }
 
-/// Adds the keys that an `.aux` text cites.
 fn cite_all(alloc: Global, keys: &mut Keys, text: &[u8]) -> Result<(), AllocError> {
     let items = bt_bib::read_aux(alloc, text)?;
     'items: for item in items.as_slice() {
@@ -101,7 +99,6 @@ impl Name {
         self.text.append(word)
     }
 
-    /// Whether `and` ends the name.
     fn is_ended_by(&self, word: &[u8]) -> bool {
         self.depth == 0 && word.eq_ignore_ascii_case(b"and")
     }
@@ -112,7 +109,6 @@ impl Name {
     }
 }
 
-/// Whether one of these names may end in a comma.
 fn may_end_in_comma(names: &[u8]) -> bool {
     let mut is_behind_comma = false;
     'words: for word in names.split(|byte| byte.is_ascii_whitespace()) {
@@ -219,7 +215,6 @@ fn spellings(alloc: Global, databases: &[Database]) -> Result<Spellings, AllocEr
 /// An entry, and its key.
 type Keyed<'a> = (&'a Entry, &'a [u8]);
 
-/// The entries that have one of these keys.
 fn entries_of<'a>(
     alloc: Global,
     keys: &Keys,
@@ -266,7 +261,6 @@ fn hint_at_all_parents(
     Ok(())
 }
 
-/// Whether an entry has a parent.
 fn has_parent(entry: &Entry) -> bool {
     entry
         .fields

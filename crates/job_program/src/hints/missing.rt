@@ -107,7 +107,6 @@ fn look_for(
     }
 }
 
-/// What to do about a file that wasn't found.
 fn advice(
     alloc: Global,
     rt: &HostRuntime,

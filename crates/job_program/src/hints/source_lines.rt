@@ -23,7 +23,6 @@ fn line_of(text: &[u8], number: usize) -> Option<(usize, &[u8])> {
     None
 }
 
-/// Whether an item seems to begin in a line.
 fn begins_item(line: &[u8]) -> bool {
     line.trim_ascii_start().starts_with(b"@")
 }
@@ -100,7 +99,6 @@ fn mark(
     Ok(mark)
 }
 
-/// Shows the line of a place.
 fn hint_at(
     alloc: Global,
     hints: &mut Hints<'_>,
