@@ -8,7 +8,8 @@ use Rattle.std.proofs.lemmas.List.Sums.{sum_by-append}
 use Rattle.std.proofs.lemmas.Bool.{cases_Bool}
 use Rattle.bt_text.specs.Blocks.{begins_special}
 use Rattle.bt_text.specs.Depth.{depth_after}
-use Rattle.bt_text.specs.Pieces.{Piece, block_pieces, brace, other, single, special, is_character}
+use Rattle.bt_text.specs.Pieces.{Piece, block_pieces, brace, other, special, is_character}
+use Rattle.bt_text.specs.inner.Cases.{single}
 use Rattle.bt_text.specs.Length.{text_length_of}
 use Rattle.bt_text.proofs.BlockLemmas.{blocks_from, blocks_from_first, blocks_from_start}
 

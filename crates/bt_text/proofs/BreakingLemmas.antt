@@ -9,7 +9,8 @@ use Rattle.std.proofs.Common.{ltb, leb, append_assoc, length-drop}
 use Rattle.std.proofs.lemmas.Bool.{ltb-true, leb-false}
 use Rattle.std.proofs.lemmas.List.Sums.{prefix_len-le-length}
 use Rattle.bt_text.specs.declared.output.Output.{Output}
-use Rattle.bt_text.specs.LineBreaks.{break_place, broken, broken_at, broken_within, line_unless_empty, near_break, or_else, run_end}
+use Rattle.bt_text.specs.LineBreaks.{break_place, broken, broken_within, line_unless_empty, near_break, or_else, run_end}
+use Rattle.bt_text.specs.inner.Cases.{broken_at}
 use Rattle.bt_text.specs.ByteTests.{is_white, space}
 
 range_step : (i e : ℕ) → i < e → range_with_len i (e - i) ≡ i ∷ range_with_len (i + 1) (e - (i + 1))
@@ -105,24 +106,24 @@ enough (suc n) zero [] h k = refl
 enough (suc n) zero (b ∷ t) h k = absurd (omega arith)
 enough (suc n) (suc m) t h k = by_place (break_place t) refl (λ i e. enough n m (next t i) (let s = next_shorter t i e in omega arith) (let s = next_shorter t i e in omega arith))
   where
-    by_place : (o : Option ℕ) → break_place t ≡ o → ((i : ℕ) → break_place t ≡ Some i → broken_within n (next t i) ≡ broken_within m (next t i)) → broken_at o t (broken_within n) ≡ broken_at o t (broken_within m)
+    by_place : (o : Option ℕ) → break_place t ≡ o → ((i : ℕ) → break_place t ≡ Some i → broken_within n (next t i) ≡ broken_within m (next t i)) → broken_at t (broken_within n) o ≡ broken_at t (broken_within m) o
     by_place None e f = refl
-    by_place (Some i) e f = ap (λ b. broken_at (Some i) t (λ _. b)) (f i e)
+    by_place (Some i) e f = ap (λ b. broken_at t (λ _. b) (Some i)) (f i e)
 
 pub any_bound_serves : (text : List ℕ) (reserve : ℕ) → length text ≤ reserve → broken_within reserve text ≡ broken text
 any_bound_serves text reserve le = enough reserve (length text) text le (omega arith)
 
 -- One break, and the rest.
-pub broken_more : (t : List ℕ) (i : ℕ) → break_place t ≡ Some i → broken t ≡ broken_at (Some i) t broken
+pub broken_more : (t : List ℕ) (i : ℕ) → break_place t ≡ Some i → broken t ≡ broken_at t broken (Some i)
 unfolding next
 broken_more t i e =
     let s = next_shorter t i e in
     let more : broken t ≡ broken_within (suc (length t)) t = enough (length t) (suc (length t)) t (omega arith) (omega arith) in
     let rest : broken_within (length t) (next t i) ≡ broken (next t i) = enough (length t) (length (next t i)) (next t i) (omega arith) (omega arith) in
-    more ∙ ap (λ o. broken_at o t (broken_within (length t))) e ∙ ap (λ b. broken_at (Some i) t (λ _. b)) rest
+    more ∙ ap (λ o. broken_at t (broken_within (length t)) o) e ∙ ap (λ b. broken_at t (λ _. b) (Some i)) rest
 
 pub broken_none : (t : List ℕ) → break_place t ≡ None → broken t ≡ record { lines = []; held = t }
-broken_none t e = enough (length t) (suc (length t)) t (omega arith) (omega arith) ∙ ap (λ o. broken_at o t (broken_within (length t))) e
+broken_none t e = enough (length t) (suc (length t)) t (omega arith) (omega arith) ∙ ap (λ o. broken_at t (broken_within (length t)) o) e
 
 -- the step of a loop that breaks a text
 pub broken_step : (lines : List (List ℕ)) (t new all : List ℕ) (i : ℕ) → break_place t ≡ Some i → new ≡ space ∷ space ∷ drop (i + 1) t → lines ++ (broken t).lines ≡ (broken all).lines → (broken t).held ≡ (broken all).held → ((lines ++ line_unless_empty (take i t)) ++ (broken new).lines ≡ (broken all).lines) × ((broken new).held ≡ (broken all).held)

@@ -6,7 +6,8 @@ use Rattle.std.proofs.lemmas.List.Sums.{sum_by-cons}
 use Rattle.bt_text.specs.Blocks.{blocks}
 use Rattle.bt_text.specs.ByteTests.{is_brace}
 use Rattle.bt_text.specs.Substrings.{first_characters}
-use Rattle.bt_text.specs.Pieces.{Piece, brace, bytes_of, is_character, other, pieces, block_pieces, single}
+use Rattle.bt_text.specs.Pieces.{Piece, brace, bytes_of, is_character, other, pieces, block_pieces}
+use Rattle.bt_text.specs.inner.Cases.{single}
 
 pub first_none : (ps : List Piece) → first_characters 0 ps ≡ []
 first_none [] = refl

@@ -4,7 +4,8 @@ use Rattle.std.specs.List.{onto_first}
 use Rattle.bt_text.specs.ByteTests.{is_brace}
 use Rattle.bt_text.specs.Blocks.{begins_special, blocks}
 use Rattle.bt_text.specs.Depth.{depth_after}
-use Rattle.bt_text.specs.Pieces.{Piece, brace, bytes_of, other, pieces, block_pieces, single, special}
+use Rattle.bt_text.specs.Pieces.{Piece, brace, bytes_of, other, pieces, block_pieces, special}
+use Rattle.bt_text.specs.inner.Cases.{single}
 use Rattle.bt_text.proofs.BlockLemmas.{blocks_from, blocks_from_start}
 
 bytes_of_single : (b : ℕ) → bytes_of (single b) ≡ b ∷ []

@@ -2,7 +2,8 @@
 use Rattle.std.proofs.Common.{◌≡◌, ℕ, true, false, eqb, List, [], ◌∷◌, map, flat_map, refl, ◌≢◌, ◌⊎◌, inl, inr}
 use Rattle.std.proofs.lemmas.Bool.Decides.{eqb_tells}
 use Rattle.bt_text.specs.Blocks.{begins_special}
-use Rattle.bt_text.specs.Pieces.{block_pieces, single}
+use Rattle.bt_text.specs.Pieces.{block_pieces}
+use Rattle.bt_text.specs.inner.Cases.{single}
 use Rattle.bt_text.specs.Purification.{purified_byte, purified_piece}
 
 -- outside special characters each byte is a piece

@@ -3,7 +3,8 @@ use Rattle.std.proofs.Common.{◌≡◌, refl, sym, ap, ◌∙◌, ℕ, ◌≤�
 use Rattle.std.specs.Prelude.{◌↔◌}
 use Rattle.std.proofs.lemmas.List.{length-append, take_all}
 use Rattle.bt_text.specs.ByteTests.{is_white, space}
-use Rattle.bt_text.specs.White.{begins_white, joined_byte, white_joined}
+use Rattle.bt_text.specs.White.{begins_white, white_joined}
+use Rattle.bt_text.specs.inner.Cases.{joined_byte}
 
 byte_short : (white behind : Bool) (b : ℕ) → length (if white then (if behind then [] else space ∷ []) else b ∷ []) ≤ 1
 byte_short true true b = omega arith

@@ -3,7 +3,8 @@ use Rattle.std.proofs.Common.{◌≡◌, ℕ, zero, suc, ◌≤◌, Bool, true, 
 use Rattle.std.proofs.lemmas.List.Sums.{sum_by-cons}
 use Rattle.bt_text.specs.Blocks.{begins_special}
 use Rattle.bt_text.specs.ByteTests.{is_brace}
-use Rattle.bt_text.specs.Pieces.{brace, other, block_pieces, single}
+use Rattle.bt_text.specs.Pieces.{brace, other, block_pieces}
+use Rattle.bt_text.specs.inner.Cases.{single}
 use Rattle.bt_text.specs.Special.{Symbol, control}
 use Rattle.bt_text.specs.Widths.{byte_width, control_width, piece_width, symbol_width, widths}
 use Rattle.std.specs.List.{list_all}

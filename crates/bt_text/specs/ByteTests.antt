@@ -7,17 +7,8 @@ space = 32
 abbrev pub hyphen : ℕ
 hyphen = 45
 
-abbrev pub exclamation_mark : ℕ
-exclamation_mark = 33
-
 abbrev pub full_stop : ℕ
 full_stop = 46
-
-abbrev pub question_mark : ℕ
-question_mark = 63
-
-abbrev pub colon : ℕ
-colon = 58
 
 abbrev pub backslash : ℕ
 backslash = 92

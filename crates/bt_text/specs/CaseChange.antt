@@ -4,7 +4,7 @@ use Rattle.std.specs.Char.{to_ascii_lowercase, to_ascii_uppercase}
 use Rattle.bt_text.specs.declared.modes.Mode.{Mode}
 use Rattle.bt_text.specs.declared.modes.Mode.TheVariants.{Title, Lower, Upper}
 use Rattle.bt_text.specs.Blocks.{begins_group, begins_special, blocks}
-use Rattle.bt_text.specs.ByteTests.{backslash, colon, is_white}
+use Rattle.bt_text.specs.ByteTests.{backslash, is_white}
 use Rattle.bt_text.specs.Special.{Symbol, control, is_foreign, is_one_of, plain, symbols, without_large_form}
 use Rattle.bt_text.specs.White.{ends_in, trimmed_end}
 
@@ -23,13 +23,9 @@ large_control name gap =
     if is_one_of without_large_form name then map to_ascii_uppercase name
     else backslash ∷ (if is_foreign name then map to_ascii_uppercase name else name) ++ gap
 
-abbrev pub changed_control : Mode → (name gap : List ℕ) → List ℕ
-changed_control Upper name gap = large_control name gap
-changed_control Lower name gap = small_control name gap
-changed_control Title name gap = small_control name gap
-
 abbrev pub changed_symbol : Mode → Symbol → List ℕ
-changed_symbol mode (control name gap) = changed_control mode name gap
+changed_symbol mode (control name gap) =
+    (let changed : (name gap : List ℕ) → List ℕ = elim mode [ Upper ↦ large_control | _ ↦ small_control ] in changed name gap)
 changed_symbol mode (plain b) = changed_byte mode b ∷ []
 
 -- A group that isn't special stays.
@@ -38,14 +34,11 @@ changed_block mode block =
     if begins_special block then flat_map (changed_symbol mode) (symbols block)
     else (if begins_group block then block else map (changed_byte mode) block)
 
--- Whether a letter after this text begins a title: the text is empty, or ends in white space and before it a colon.
-abbrev pub begins_title : List ℕ → Bool
-begins_title [] = true
-begins_title (b ∷ t) = ends_in is_white (b ∷ t) && ends_in (λ c. c == colon) (trimmed_end (b ∷ t))
-
--- whether the mode spares the block that stands after front
+-- Whether the mode spares the block that stands after front: in a title, if front is empty, or ends in white space and
+-- before it a colon.
 abbrev pub is_spared : Mode → List ℕ → Bool
-is_spared Title front = begins_title front
+is_spared Title [] = true
+is_spared Title (b ∷ t) = ends_in is_white (b ∷ t) && ends_in (λ c. c == 58) (trimmed_end (b ∷ t))
 is_spared Lower front = false
 is_spared Upper front = false
 

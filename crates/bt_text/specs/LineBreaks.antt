@@ -32,26 +32,19 @@ or_else None other = other
 abbrev pub break_place : List ℕ → Option ℕ
 break_place t = if nat_le (length t) line_width then None else or_else (near_break t) (run_end t (line_width + 1))
 
--- A line is written, unless nothing is left of it.
-abbrev pub unless_empty : List ℕ → List (List ℕ)
-unless_empty [] = []
-unless_empty (b ∷ t) = (b ∷ t) ∷ []
-
--- A line loses the white space at its end.
+-- A line loses the white space at its end, and is written unless nothing is left of it.
 abbrev pub line_unless_empty : List ℕ → List (List ℕ)
-line_unless_empty t = unless_empty (trimmed_end t)
+line_unless_empty t = elim (trimmed_end t) [ [] ↦ [] | b ∷ rest ↦ (b ∷ rest) ∷ [] ]
 
--- The text before the break place is a line, and two spaces and what stands after it are broken in turn.
-abbrev pub broken_at : Option ℕ → List ℕ → (List ℕ → Output) → Output
-broken_at None t again = record { lines = []; held = t }
-broken_at (Some i) t again =
-    let b = again (space ∷ space ∷ drop (i + 1) t) in
-    record { lines = line_unless_empty (take i t) ++ b.lines; held = b.held }
-
--- at most n breaks
+-- At most n breaks: the text before a break place is a line, and two spaces and what stands after it are broken in turn.
 abbrev pub broken_within : ℕ → List ℕ → Output
 broken_within zero t = record { lines = []; held = t }
-broken_within (suc n) t = broken_at (break_place t) t (broken_within n)
+broken_within (suc n) t = elim (break_place t) [
+  | None ↦ record { lines = []; held = t }
+  | Some i ↦
+      let b = broken_within n (space ∷ space ∷ drop (i + 1) t) in
+      record { lines = line_unless_empty (take i t) ++ b.lines; held = b.held }
+]
 
 -- Each break makes a text shorter, so it has fewer breaks than bytes.
 abbrev pub broken : List ℕ → Output

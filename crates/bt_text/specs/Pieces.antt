@@ -9,12 +9,9 @@ pub data Piece : Type 0 where
   brace : ℕ → Piece
   other : ℕ → Piece
 
-abbrev pub single : ℕ → Piece
-single b = if is_brace b then brace b else other b
-
 -- A group that begins with a left brace and a backslash is a special character.
 abbrev pub block_pieces : List ℕ → List Piece
-block_pieces block = if begins_special block then special block ∷ [] else map single block
+block_pieces block = if begins_special block then special block ∷ [] else map (λ b. if is_brace b then brace b else other b) block
 
 abbrev pub pieces : List ℕ → List Piece
 pieces t = flat_map block_pieces (blocks t)

@@ -18,17 +18,12 @@ control_name (b ∷ t) = if is_letter b then take_while is_letter (b ∷ t) else
 abbrev pub control_gap : List ℕ → List ℕ
 control_gap t = take_while is_white (drop (length (control_name t)) t)
 
--- the symbol that begins with the byte b, before t, and how many bytes of t belong to it
-abbrev pub symbol_at : ℕ → List ℕ → Symbol
-symbol_at b t = if b == backslash then control (control_name t) (control_gap t) else plain b
-
-abbrev pub taken_by : ℕ → List ℕ → ℕ
-taken_by b t = if b == backslash then length (control_name t) + length (control_gap t) else 0
-
 -- the symbols of a text whose first n bytes belong to a symbol before it
 abbrev pub symbols_from : ℕ → List ℕ → List Symbol
 symbols_from n [] = []
-symbols_from zero (b ∷ t) = symbol_at b t ∷ symbols_from (taken_by b t) t
+symbols_from zero (b ∷ t) =
+    (if b == backslash then control (control_name t) (control_gap t) else plain b)
+    ∷ symbols_from (if b == backslash then length (control_name t) + length (control_gap t) else 0) t
 symbols_from (suc n) (b ∷ t) = symbols_from n t
 
 abbrev pub symbols : List ℕ → List Symbol

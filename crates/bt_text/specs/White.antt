@@ -15,11 +15,8 @@ abbrev pub begins_white : List ℕ → Bool
 begins_white [] = false
 begins_white (b ∷ t) = is_white b
 
--- what is left of the byte b before t: of a run of white space its last byte, as a space
-abbrev pub joined_byte : ℕ → List ℕ → List ℕ
-joined_byte b t = if is_white b then (if begins_white t then [] else space ∷ []) else b ∷ []
-
--- Each run of white space is made one space.
+-- Each run of white space is made one space, in the place of its last byte.
 abbrev pub white_joined : List ℕ → List ℕ
 white_joined [] = []
-white_joined (b ∷ t) = joined_byte b t ++ white_joined t
+white_joined (b ∷ t) =
+    (if is_white b then (if begins_white t then [] else space ∷ []) else b ∷ []) ++ white_joined t

@@ -1,7 +1,8 @@
 //! The change of case.
 
 ghost use Rattle.std.specs.Prelude.{◌≡◌, ◌≤◌, ◌++◌, ◌∷◌, ◌==◌, if◌then◌else◌, IfOk, OnOk, length, take, drop, flat_map, map};
-ghost use Rattle.bt_text.specs.CaseChange.{changed_block, changed_byte, changed_case, changed_control, changed_symbol};
+ghost use Rattle.bt_text.specs.CaseChange.{changed_block, changed_byte, changed_case, changed_symbol};
+ghost use Rattle.bt_text.specs.inner.Cases.{changed_control};
 ghost use Rattle.bt_text.specs.Special.{is_foreign, symbols};
 ghost use Rattle.bt_text.specs.inner.TitlePlace.{is_spared_at};
 

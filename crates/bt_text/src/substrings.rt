@@ -3,7 +3,8 @@
 ghost use Rattle.std.specs.Prelude.{◌≡◌, ◌-◌, ◌<◌, ◌≤◌, ◌++◌, IfOk, OnOk, length, take, drop, flat_map, map, replicate};
 ghost use Rattle.bt_text.specs.ByteTests.{is_brace, right_brace};
 ghost use Rattle.bt_text.specs.Substrings.{first_characters, last_bytes, substring_of, text_prefix_of};
-ghost use Rattle.bt_text.specs.Pieces.{bytes_of, pieces, block_pieces, single};
+ghost use Rattle.bt_text.specs.Pieces.{bytes_of, pieces, block_pieces};
+ghost use Rattle.bt_text.specs.inner.Cases.{single};
 
 use crate::blocks::{begins_special, block_len};
 use crate::bytes::Bytes;

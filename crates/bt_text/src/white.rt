@@ -3,7 +3,8 @@
 ghost use Rattle.std.specs.Prelude.{◌≡◌, ◌≤◌, ◌++◌, ◌∷◌, [], ◌↔◌, length, take_while, IfOk, IsTrue, OnOk};
 ghost use Rattle.std.specs.List.{list_any, position_or_len, prefix_len, suffix_len};
 ghost use Rattle.bt_text.specs.ByteTests.{is_white};
-ghost use Rattle.bt_text.specs.White.{begins_white, joined_byte, trimmed_end, white_joined};
+ghost use Rattle.bt_text.specs.White.{begins_white, trimmed_end, white_joined};
+ghost use Rattle.bt_text.specs.inner.Cases.{joined_byte};
 
 use crate::byte_tests::is_white;
 use crate::bytes::Bytes;

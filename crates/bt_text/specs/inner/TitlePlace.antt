@@ -3,7 +3,7 @@ use Rattle.std.specs.Prelude.{ℕ, Bool, true, false, ◌&&◌, ◌||◌, ◌==�
 use Rattle.bt_text.specs.declared.modes.Mode.{Mode}
 use Rattle.bt_text.specs.declared.modes.Mode.TheVariants.{Title, Lower, Upper}
 use Rattle.bt_text.specs.declared.title_place.TitlePlace.{TitlePlace}
-use Rattle.bt_text.specs.ByteTests.{colon, is_white}
+use Rattle.bt_text.specs.ByteTests.{is_white}
 use Rattle.bt_text.specs.White.{ends_in, trimmed_end}
 
 abbrev pub is_empty : List ℕ → Bool
@@ -16,7 +16,7 @@ title_place_after front =
     record {
       is_first = is_empty front;
       follows_white = ends_in is_white front;
-      follows_colon = ends_in (λ b. b == colon) (trimmed_end front);
+      follows_colon = ends_in (λ b. b == 58) (trimmed_end front);
     }
 
 -- one byte on
@@ -25,7 +25,7 @@ next_place place b =
     record {
       is_first = false;
       follows_white = is_white b;
-      follows_colon = if is_white b then place.follows_colon else b == colon;
+      follows_colon = if is_white b then place.follows_colon else b == 58;
     }
 
 -- whether the mode spares what stands there

@@ -1,5 +1,5 @@
 use Rattle.std.proofs.Common.{◌++◌, map, take, drop, append-nil, sym, ap, ◌∙◌}
-use Rattle.bt_text.specs.Pieces.{single}
+use Rattle.bt_text.specs.inner.Cases.{single}
 use Rattle.bt_text.proofs.CuttingLemmas.{first_bytes, first_bytes_none}
 use Rattle.bt_text.proofs.substrings.plain_prefix_len.Goals as goal
 
