@@ -12,7 +12,8 @@ use Rattle.bt_bib.specs.declared.enclosure.Turn.TheVariants as turns
 use Rattle.bt_bib.specs.Spot.{Here, at, here, spot_after_byte, spot_after, after_bytes}
 use Rattle.bt_bib.specs.Scan.{first, after_run}
 use Rattle.bt_bib.specs.Stop.{Stop, ◌>>=◌}
-use Rattle.bt_bib.specs.Enclosure.{enclosed, enclosed_by, enclosed_text, ends_enclosed}
+use Rattle.bt_bib.specs.Enclosure.{enclosed, enclosed_text, ends_enclosed}
+use Rattle.bt_bib.specs.inner.Cases.{enclosed_by}
 use Rattle.bt_bib.specs.inner.Enclosure.{enclosed_end, turn, is_plain}
 use Rattle.bt_bib.proofs.RunLemmas.{passed-nil, passed-cons, past_run, past_is_run}
 

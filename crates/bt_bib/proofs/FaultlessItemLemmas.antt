@@ -21,11 +21,12 @@ use Rattle.bt_bib.specs.Spot.{Here, at, spot_after_byte, spot_after, after_byte,
 use Rattle.bt_bib.specs.Scan.{first, run, after_run, after_white, sign, closing_sign, is_key_byte}
 use Rattle.bt_bib.specs.Stop.{Stop, ◌>>=◌, value_read}
 use Rattle.bt_bib.specs.Names.{word, name_ended, name}
-use Rattle.bt_bib.specs.Many.{many_by, all}
+use Rattle.bt_bib.specs.Many.{all}
 use Rattle.bt_bib.specs.Values.{value}
-use Rattle.bt_bib.specs.Fields.{field, field_or_close, next_field, name_ends}
+use Rattle.bt_bib.specs.Fields.{field, next_field, name_ends}
+use Rattle.bt_bib.specs.inner.Cases.{field_or_close, many_by, type_ended, type_read}
 use Rattle.bt_bib.specs.Keywords.{keyword_of}
-use Rattle.bt_bib.specs.Pieces.{ended_item, opening, after_closing, entry_item, string_item, preamble_item, name_line, item_opened, item_of_type, type_ended, type_read, piece, unread_entry, unread_string}
+use Rattle.bt_bib.specs.Pieces.{ended_item, opening, after_closing, entry_item, string_item, preamble_item, name_line, item_opened, item_of_type, piece, unread_entry, unread_string}
 use Rattle.bt_bib.specs.Spelling.{Spelling, ◌▸◌, ◌⋯◌, Bytes, Written, White, Sign, OnLine, Provided, MayEndName}
 use Rattle.bt_bib.specs.Spelled.{NameOf, ValueOf, FieldOf, FieldsOf, EndsKey, Keyed, opening_sign, IsWord, WordOf, Head, ItemOf, AnEntry, AString, APreamble}
 use Rattle.bt_bib.proofs.RunLemmas.{passed-nil, past_run, past_is_run}

@@ -6,8 +6,9 @@ use Rattle.bt_bib.specs.declared.item.Closing.{Closing}
 use Rattle.bt_bib.specs.Spot.{Here, at, spot_after_byte}
 use Rattle.bt_bib.specs.Stop.{◌>>=◌}
 use Rattle.bt_bib.specs.Scan.{first, after_white, closing_sign}
-use Rattle.bt_bib.specs.Values.{part, next_part, joined_from}
-use Rattle.bt_bib.specs.Fields.{field_or_close, next_field, next_field_from}
+use Rattle.bt_bib.specs.Values.{part, next_part}
+use Rattle.bt_bib.specs.Fields.{next_field}
+use Rattle.bt_bib.specs.inner.Cases.{field_or_close, next_field_from, joined_from}
 use Rattle.bt_bib.proofs.ReachLemmas.{reaches_self, advances_ok, advances_bind, advances_white, part_advances, field_or_close_advances}
 use Rattle.bt_bib.proofs.ManyLemmas.{IsLess, less_from, less_if}
 

@@ -12,9 +12,10 @@ use Rattle.bt_bib.specs.Spot.{Here, after_byte}
 use Rattle.bt_bib.specs.Stop.{Stop, ◌>>=◌}
 use Rattle.bt_bib.specs.Scan.{first, after_white, sign, closing_sign}
 use Rattle.bt_bib.specs.Names.{name}
-use Rattle.bt_bib.specs.Many.{all, many_by, collected}
-use Rattle.bt_bib.specs.Values.{part, next_part, joined_from, value}
-use Rattle.bt_bib.specs.Fields.{field, field_or_close, next_field, next_field_from, name_ends}
+use Rattle.bt_bib.specs.Many.{all, collected}
+use Rattle.bt_bib.specs.Values.{part, next_part, value}
+use Rattle.bt_bib.specs.Fields.{field, next_field, name_ends}
+use Rattle.bt_bib.specs.inner.Cases.{field_or_close, next_field_from, many_by, joined_from}
 use Rattle.bt_bib.specs.Moved.{moved_part, moved_field, moved_option}
 use Rattle.bt_bib.proofs.ReachLemmas.{reaches_self, reaches_place, Advances, Moves, advances_bind, advances_ok, advances_white, moves_bind, sign_moves, part_advances, joined_advances, joined_advances_from, value_advances, field_or_close_advances, next_field_advances_from, many_moves}
 use Rattle.bt_bib.proofs.ManyLemmas.{IsLess, all_is}

@@ -13,7 +13,8 @@ use Rattle.bt_bib.specs.Spot.{Here, at, spot_after_byte, after_byte}
 use Rattle.bt_bib.specs.Stop.{Stop, ◌>>=◌}
 use Rattle.bt_bib.specs.Scan.{first, after_white, closing_sign}
 use Rattle.bt_bib.specs.Many.{all}
-use Rattle.bt_bib.specs.Fields.{field, field_or_close, next_field, next_field_from}
+use Rattle.bt_bib.specs.Fields.{field, next_field}
+use Rattle.bt_bib.specs.inner.Cases.{field_or_close, next_field_from}
 use Rattle.bt_bib.proofs.ReachLemmas.{Reaches, reaches_self, reaches_then, reaches_place, white_reaches, Advances, Moves, field_advances, next_field_advances, many_moves}
 use Rattle.bt_bib.proofs.ManyLemmas.{IsLess, gathers_more, gathers_none, gathers_err}
 use Rattle.bt_bib.proofs.FieldLemmas.{next_field_less}

@@ -22,7 +22,8 @@ use Rattle.bt_bib.specs.Names.{word, name_ended, name}
 use Rattle.bt_bib.specs.Many.{many}
 use Rattle.bt_bib.specs.Values.{part, next_part, value}
 use Rattle.bt_bib.specs.Fields.{field, next_field}
-use Rattle.bt_bib.specs.Pieces.{ended_item, opening, opening_from, after_closing, entry_item, entry_read, string_item, string_read, name_line, preamble_item, preamble_read, unread_entry, unread_string, item_opened, item_of_type}
+use Rattle.bt_bib.specs.Pieces.{ended_item, opening, after_closing, entry_item, string_item, name_line, preamble_item, unread_entry, unread_string, item_opened, item_of_type}
+use Rattle.bt_bib.specs.inner.Cases.{opening_from, entry_read, string_read, preamble_read}
 use Rattle.bt_bib.proofs.ReachLemmas.{Reaches, reaches_self, reaches_then, reaches_place, past_reaches, white_reaches}
 use Rattle.bt_bib.proofs.PieceLemmas.{valued, opening_advances, opened_reaches, entry_reaches, string_reaches, preamble_reaches}
 use Rattle.bt_bib.proofs.CutLemmas.{cut, cut_here, first_cut, behind_cut, Begins, begins_as, Next, past_cut}

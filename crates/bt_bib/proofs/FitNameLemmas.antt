@@ -11,7 +11,8 @@ use Rattle.bt_bib.specs.declared.fault.ItemFault.TheVariants.{MissingName, BadNa
 use Rattle.bt_bib.specs.Spot.{Here, at, spot_after_byte}
 use Rattle.bt_bib.specs.Stop.{Stop, ◌>>=◌}
 use Rattle.bt_bib.specs.Scan.{run, after_run}
-use Rattle.bt_bib.specs.Names.{word, word_from, name_ended, ended_from, name}
+use Rattle.bt_bib.specs.Names.{word, name_ended, name}
+use Rattle.bt_bib.specs.inner.Cases.{word_from, ended_from}
 use Rattle.bt_bib.proofs.RunLemmas.{past_is_run, run_more}
 use Rattle.bt_bib.proofs.ReachLemmas.{Reaches, reaches_self, reaches_then, reaches_place, behind_reaches, past_reaches, Advances, advances_ok, advances_bind, moves_bind, word_advances, ended_moves}
 use Rattle.bt_bib.proofs.CutLemmas.{cut, cut_here, first_cut, no_further, Begins, begins_as, Next, Fails, stops, past_cut, run_cut}

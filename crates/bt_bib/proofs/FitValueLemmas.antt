@@ -12,10 +12,11 @@ use Rattle.bt_bib.specs.declared.item.Part.{Part}
 use Rattle.bt_bib.specs.declared.item.Field.{Field}
 use Rattle.bt_bib.specs.Spot.{Here, at, spot_after_byte, after_byte}
 use Rattle.bt_bib.specs.Stop.{Stop, ◌>>=◌}
-use Rattle.bt_bib.specs.Scan.{after_white, sign, sign_from}
+use Rattle.bt_bib.specs.Scan.{after_white, sign}
+use Rattle.bt_bib.specs.inner.Cases.{sign_from, joined_from}
 use Rattle.bt_bib.specs.Names.{name}
 use Rattle.bt_bib.specs.Many.{all, collected}
-use Rattle.bt_bib.specs.Values.{part, next_part, joined_from, value}
+use Rattle.bt_bib.specs.Values.{part, next_part, value}
 use Rattle.bt_bib.specs.Fields.{field, name_ends}
 use Rattle.bt_bib.proofs.ReachLemmas.{reaches_self, reaches_then, reaches_place, white_reaches, Advances, advances_ok, advances_bind, advances_white, moves_bind, name_advances, part_advances, joined_advances, value_advances, sign_moves, many_moves}
 use Rattle.bt_bib.proofs.ManyLemmas.{IsLess, gathers_more, gathers_none, gathers_err}

@@ -3,7 +3,8 @@ use Rattle.std.proofs.Common.{◌≡◌, ℕ, zero, suc, ◌<◌, Bool, true, fa
 use Rattle.std.proofs.lemmas.List.{append-nil}
 use Rattle.bt_bib.specs.Spot.{Here}
 use Rattle.bt_bib.specs.Stop.{Stop}
-use Rattle.bt_bib.specs.Many.{many, many_by, all}
+use Rattle.bt_bib.specs.Many.{many, all}
+use Rattle.bt_bib.specs.inner.Cases.{many_by}
 use Rattle.bt_bib.specs.inner.Many.{gathered}
 use Rattle.bt_bib.proofs.ReachLemmas.{Advances, reaches_rest}
 

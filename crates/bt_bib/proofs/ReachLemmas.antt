@@ -15,13 +15,14 @@ use Rattle.bt_bib.specs.declared.item.Closing.{Closing}
 use Rattle.bt_bib.specs.declared.item.Part.TheVariants.{Text, Macro}
 use Rattle.bt_bib.specs.Spot.{Here, at, spot_after_byte, spot_after, after_byte, after_first_byte}
 use Rattle.bt_bib.specs.Stop.{Stop, ◌>>=◌}
-use Rattle.bt_bib.specs.Scan.{run, after_run, after_white, first, sign, sign_from, closing_sign}
+use Rattle.bt_bib.specs.Scan.{run, after_run, after_white, first, sign, closing_sign}
 use Rattle.bt_bib.specs.Enclosure.{enclosed}
 use Rattle.bt_bib.specs.inner.Enclosure.{turn}
-use Rattle.bt_bib.specs.Names.{word, word_from, name_ended, ended_from, name}
-use Rattle.bt_bib.specs.Many.{many, many_by, all, collected}
-use Rattle.bt_bib.specs.Values.{raw_part, part_from, part, part_ends, next_part, joined_from, value}
-use Rattle.bt_bib.specs.Fields.{field, field_or_close, next_field, next_field_from, name_ends}
+use Rattle.bt_bib.specs.Names.{word, name_ended, name}
+use Rattle.bt_bib.specs.Many.{many, all, collected}
+use Rattle.bt_bib.specs.Values.{raw_part, part, part_ends, next_part, value}
+use Rattle.bt_bib.specs.Fields.{field, next_field, name_ends}
+use Rattle.bt_bib.specs.inner.Cases.{field_or_close, next_field_from, many_by, word_from, ended_from, sign_from, part_from, joined_from}
 use Rattle.bt_bib.proofs.RunLemmas.{passed-nil, passed-cons}
 use Rattle.bt_bib.proofs.EnclosedLemmas.{enclosed_run, enclosed_is_run, between}
 

@@ -24,11 +24,12 @@ use Rattle.bt_bib.specs.Stop.{Stop, ◌>>=◌, value_read}
 use Rattle.bt_bib.specs.Scan.{first, run, after_run, after_white, sign, closing_sign, is_key_byte}
 use Rattle.bt_bib.specs.Enclosure.{enclosed}
 use Rattle.bt_bib.specs.Names.{word, name_ended, name}
-use Rattle.bt_bib.specs.Many.{many, many_by, all, collected}
-use Rattle.bt_bib.specs.Values.{raw_part, part_from, part, part_ends, next_part, joined_from, value}
-use Rattle.bt_bib.specs.Fields.{field, field_or_close, next_field, next_field_from, name_ends}
+use Rattle.bt_bib.specs.Many.{many, all, collected}
+use Rattle.bt_bib.specs.Values.{raw_part, part, part_ends, next_part, value}
+use Rattle.bt_bib.specs.Fields.{field, next_field, name_ends}
+use Rattle.bt_bib.specs.inner.Cases.{field_or_close, next_field_from, many_by, entry_read, string_read, preamble_read, type_ended, type_read, next_piece_from, part_from, joined_from}
 use Rattle.bt_bib.specs.Keywords.{keyword_of}
-use Rattle.bt_bib.specs.Pieces.{ended_item, opening, entry_item, entry_read, string_item, string_read, name_line, preamble_item, preamble_read, unread_entry, unread_string, item_opened, item_of_type, type_ended, type_read, piece, is_text, next_piece, next_piece_from}
+use Rattle.bt_bib.specs.Pieces.{ended_item, opening, entry_item, string_item, name_line, preamble_item, unread_entry, unread_string, item_opened, item_of_type, piece, is_text, next_piece}
 use Rattle.bt_bib.specs.BibText.{next_one, pieces_of}
 use Rattle.bt_bib.specs.Shift.{FitsPart, FitsSpot, FitsValue, FitsField, FitsContent, FitsPiece}
 use Rattle.bt_bib.specs.inner.Shift.{rebased, rebased_value, rebased_content, rebased_part, rebased_field, rebased_piece}

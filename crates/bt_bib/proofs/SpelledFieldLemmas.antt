@@ -20,7 +20,8 @@ use Rattle.bt_bib.specs.Names.{name}
 use Rattle.bt_bib.specs.Many.{all}
 use Rattle.bt_bib.specs.inner.Many.{gathered}
 use Rattle.bt_bib.specs.Values.{value}
-use Rattle.bt_bib.specs.Fields.{field, field_or_close, next_field, next_field_from, name_ends}
+use Rattle.bt_bib.specs.Fields.{field, next_field, name_ends}
+use Rattle.bt_bib.specs.inner.Cases.{field_or_close, next_field_from}
 use Rattle.bt_bib.specs.Spelling.{Spelling, ◌▸◌, ◌⋯◌, White, Sign}
 use Rattle.bt_bib.specs.Spelled.{NameOf, ValueOf, FieldOf, FieldsOf}
 use Rattle.bt_bib.specs.SpelledLaws.{SpelledFieldsAreRead, value_ends}

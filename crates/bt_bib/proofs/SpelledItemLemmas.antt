@@ -27,7 +27,8 @@ use Rattle.bt_bib.specs.Names.{word, name}
 use Rattle.bt_bib.specs.Many.{all}
 use Rattle.bt_bib.specs.Values.{value}
 use Rattle.bt_bib.specs.Fields.{next_field}
-use Rattle.bt_bib.specs.Pieces.{ended_item, opening, opening_from, after_closing, entry_read, entry_item, name_line, string_read, string_item, preamble_read, preamble_item, item_opened, item_of_type, type_ended, type_read, piece, unread_entry, unread_string}
+use Rattle.bt_bib.specs.Pieces.{ended_item, opening, after_closing, entry_item, name_line, string_item, preamble_item, item_opened, item_of_type, piece, unread_entry, unread_string}
+use Rattle.bt_bib.specs.inner.Cases.{opening_from, entry_read, string_read, preamble_read, type_ended, type_read}
 use Rattle.bt_bib.specs.Spelling.{Spelling, ◌▸◌, ◌⋯◌, Bytes, Written, White, Sign, OnLine, Provided, MayEndName}
 use Rattle.bt_bib.specs.Spelled.{NameOf, ValueOf, FieldsOf, EndsKey, Keyed, opening_sign, IsWord, Head, AnEntry, AString, APreamble}
 use Rattle.bt_bib.specs.SpelledLaws.{SpelledItemsAreRead, value_ends}

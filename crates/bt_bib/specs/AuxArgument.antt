@@ -27,15 +27,10 @@ abbrev pub parts_in : Parting → List ℕ → List (List ℕ)
 parts_in Commas argument = slice_split is_comma argument
 parts_in Whole argument = argument ∷ []
 
--- a brace must be the last byte of its line
-abbrev pub stuff_after : List ℕ → Option AuxFault
-stuff_after [] = None
-stuff_after (b ∷ bs) = Some StuffAfter
-
--- what is wrong, by what ends the argument and stands after it
+-- What is wrong, by what ends the argument and stands after it: a brace must be the last byte of its line.
 abbrev pub fault_at : List ℕ → Option AuxFault
 fault_at [] = Some NoBrace
-fault_at (b ∷ bs) = if is_white b then Some WhiteSpace else stuff_after bs
+fault_at (b ∷ bs) = if is_white b then Some WhiteSpace else elim bs [ [] ↦ None | c ∷ cs ↦ Some StuffAfter ]
 
 -- a fault drops the part at which it stands, the last one
 abbrev pub parts_kept : Option AuxFault → List (List ℕ) → List (List ℕ)

@@ -1,5 +1,5 @@
 -- What braces and quotes enclose.
-use Rattle.std.specs.Prelude.{ℕ, Bool, ◌&&◌, ◌||◌, ◌==◌, List, [], ◌∷◌, ◌++◌, count_by, Option, Some, None, Result, Ok, Err, if◌then◌else◌}
+use Rattle.std.specs.Prelude.{ℕ, Bool, ◌&&◌, ◌||◌, ◌==◌, List, [], ◌∷◌, ◌++◌, count_by, Some, None, Result, Ok, Err, if◌then◌else◌}
 use Rattle.bt_text.specs.ByteTests.{left_brace, right_brace}
 use Rattle.bt_bib.specs.declared.fault.ItemFault.TheVariants.{EndOfFile, UnbalancedBraces}
 use Rattle.bt_bib.specs.Spot.{Here, after_bytes}
@@ -20,12 +20,12 @@ enclosed_text close front [] = front
 enclosed_text close front (b ∷ rest) =
     if ends_enclosed close front b then front else enclosed_text close (front ++ b ∷ []) rest
 
-abbrev pub enclosed_by : ℕ → List ℕ → Here → Option ℕ → Result (List ℕ × Here) Stop
-enclosed_by close text end None = Err (EndOfFile, end)
-enclosed_by close text end (Some b) = if b == close then Ok (text, end) else Err (UnbalancedBraces, end)
-
 -- what stands before the byte that closes it, and that byte; a right brace that has no left one is a fault
 unfoldable pub enclosed : ℕ → Here → Result (List ℕ × Here) Stop
 enclosed close h =
     (let text = enclosed_text close [] h.rest in
-    enclosed_by close text (after_bytes text h) (first (after_bytes text h).rest))
+    let end = after_bytes text h in
+    elim (first end.rest) [
+      | None ↦ Err (EndOfFile, end)
+      | Some b ↦ if b == close then Ok (text, end) else Err (UnbalancedBraces, end)
+    ])

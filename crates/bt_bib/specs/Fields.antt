@@ -22,19 +22,16 @@ field close h =
     value close (after_white equals) >>= λ v.
     Ok (record { name = n.0; line = h.spot.line; value = v.0 }, v.1)
 
--- after a comma: a field, or the end of the entry
-abbrev pub field_or_close : Closing → Here → Option ℕ → Result (Option Field × Here) Stop
-field_or_close close h None = Err (EndOfFile, h)
-field_or_close close h (Some b) =
-    if b == closing_sign close then Ok (None, after_byte h) else (field close h >>= λ x. Ok (Some x.0, x.1))
-
-abbrev pub next_field_from : Closing → Here → Option ℕ → Result (Option Field × Here) Stop
-next_field_from close h None = Err (EndOfFile, h)
-next_field_from close h (Some b) =
-    if b == closing_sign close then Ok (None, after_byte h)
-    else if b == 44 then (let w = after_white (after_byte h) in field_or_close close w (first w.rest))
-    else Err (ExpectedCommaOrClose, h)
-
 -- another field after a comma, or the end of the entry
 unfoldable pub next_field : Closing → Here → Result (Option Field × Here) Stop
-next_field close h = next_field_from close h (first h.rest)
+next_field close h = elim (first h.rest) [
+  | None ↦ Err (EndOfFile, h)
+  | Some b ↦
+      if b == closing_sign close then Ok (None, after_byte h)
+      else if b == 44 then (let w = after_white (after_byte h) in elim (first w.rest) [
+        | None ↦ Err (EndOfFile, w)
+        | Some c ↦
+            if c == closing_sign close then Ok (None, after_byte w) else (field close w >>= λ x. Ok (Some x.0, x.1))
+      ])
+      else Err (ExpectedCommaOrClose, h)
+]

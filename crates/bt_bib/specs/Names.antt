@@ -1,5 +1,5 @@
 -- Names, and what may stand after them.
-use Rattle.std.specs.Prelude.{ℕ, ◌&&◌, ◌||◌, not, ◌==◌, List, Option, Some, None, Result, Ok, Err, if◌then◌else◌}
+use Rattle.std.specs.Prelude.{ℕ, ◌&&◌, ◌||◌, not, ◌==◌, List, Some, None, Result, Ok, Err, if◌then◌else◌}
 use Rattle.std.specs.List.{list_any}
 use Rattle.bt_text.specs.ByteTests.{is_white, is_digit}
 use Rattle.bt_text.specs.NameBytes.{is_name_byte}
@@ -9,24 +9,21 @@ use Rattle.bt_bib.specs.Spot.{Here}
 use Rattle.bt_bib.specs.Scan.{first, run, after_run}
 use Rattle.bt_bib.specs.Stop.{Stop, ◌>>=◌}
 
-abbrev pub word_from : NameRole → Here → Option ℕ → Result (List ℕ × Here) Stop
-word_from what h None = Err (EndOfFile, h)
-word_from what h (Some b) =
-    if is_name_byte b && not (is_digit b) then Ok (run is_name_byte h, after_run is_name_byte h)
-    else Err (MissingName what, h)
-
 -- the longest run of name bytes, which doesn't begin with a digit
 unfoldable pub word : NameRole → Here → Result (List ℕ × Here) Stop
-word what h = word_from what h (first h.rest)
-
-abbrev pub ended_from : NameRole → List ℕ → Here → Option ℕ → Result Here Stop
-ended_from what signs h None = Ok h
-ended_from what signs h (Some b) =
-    if is_white b || list_any (λ sign. sign == b) signs then Ok h else Err (BadNameEnd what b, h)
+word what h = elim (first h.rest) [
+  | None ↦ Err (EndOfFile, h)
+  | Some b ↦
+      if is_name_byte b && not (is_digit b) then Ok (run is_name_byte h, after_run is_name_byte h)
+      else Err (MissingName what, h)
+]
 
 -- After a name stands white space, the text's end or one of some signs.
 unfoldable pub name_ended : NameRole → List ℕ → Here → Result Here Stop
-name_ended what signs h = ended_from what signs h (first h.rest)
+name_ended what signs h = elim (first h.rest) [
+  | None ↦ Ok h
+  | Some b ↦ if is_white b || list_any (λ sign. sign == b) signs then Ok h else Err (BadNameEnd what b, h)
+]
 
 -- a name that ends as it must
 unfoldable pub name : NameRole → List ℕ → Here → Result (List ℕ × Here) Stop

@@ -17,7 +17,6 @@ use Rattle.bt_bib.specs.declared.item.Closing.{Closing}
 use Rattle.bt_bib.specs.declared.item.Closing.TheVariants.{Brace, Parenthesis}
 use Rattle.bt_bib.specs.declared.item.Content.{Content}
 use Rattle.bt_bib.specs.declared.item.Content.TheVariants as contents
-use Rattle.bt_bib.specs.declared.item.Part.{Part}
 use Rattle.bt_bib.specs.declared.item.Entry.{Entry}
 use Rattle.bt_bib.specs.declared.item.Definition.{Definition}
 use Rattle.bt_bib.specs.declared.item.Piece.{Piece}
@@ -62,38 +61,25 @@ ended_item start line content close (Err stop) = (
 abbrev pub unopened : Spot → Content → Stop → Piece × Here
 unopened start content stop = ended_item start start.line content None (Err stop)
 
-abbrev pub opening_from : Here → Option ℕ → Result (Closing × Here) Stop
-opening_from h None = Err (EndOfFile, h)
-opening_from h (Some b) =
-    if b == left_brace then Ok (Brace, after_byte h)
-    else if b == 40 then Ok (Parenthesis, after_byte h)
-    else Err (ExpectedOpen, h)
-
 -- how an item is closed that is opened here
 unfoldable pub opening : Here → Result (Closing × Here) Stop
-opening h = opening_from h (first h.rest)
+opening h = elim (first h.rest) [
+  | None ↦ Err (EndOfFile, h)
+  | Some b ↦
+      if b == left_brace then Ok (Brace, after_byte h)
+      else if b == 40 then Ok (Parenthesis, after_byte h)
+      else Err (ExpectedOpen, h)
+]
 
 -- after the closing sign
 abbrev pub after_closing : Closing → Here → Result Here Stop
 after_closing close h = sign (closing_sign close) ExpectedCommaOrClose h
 
--- `key , field = value , .. }`, from the key on
-abbrev pub entry_read : List ℕ → Closing → Here → Entry × Result Here Stop
-entry_read kind close h =
-    let fields = all (next_field close) (after_white (after_run (is_key_byte close) h)) in
-    (record { kind = Some kind; key = Some (run (is_key_byte close) h); fields = fields.0 }, fields.1)
-
 abbrev pub entry_item : Spot → List ℕ → Closing → Here → Piece × Here
 entry_item start kind close h =
-    (let read = entry_read kind close h in ended_item start h.spot.line (contents.Entry read.0) (Some close) read.1)
-
--- `name = value }`, from the name on
-abbrev pub string_read : Closing → Here → Definition × Result Here Stop
-string_read close h =
-    let named = name StringName name_ends h in
-    let valued = named >>= λ n. sign 61 ExpectedEquals (after_white n.1)
-    >>= λ equals. value close (after_white equals) in
-    (record { name = value_read named; value = value_read valued }, valued >>= λ v. after_closing close v.1)
+    let fields = all (next_field close) (after_white (after_run (is_key_byte close) h)) in
+    let entry : Entry = record { kind = Some kind; key = Some (run (is_key_byte close) h); fields = fields.0 } in
+    ended_item start h.spot.line (contents.Entry entry) (Some close) fields.1
 
 -- the line of a name that was read, else another
 abbrev pub name_line : Option (List ℕ) → ℕ → ℕ → ℕ
@@ -102,16 +88,18 @@ name_line None line other = other
 
 abbrev pub string_item : Spot → Closing → Here → Piece × Here
 string_item start close h =
-    (let read = string_read close h in
-    ended_item start (name_line read.0.name h.spot.line start.line) (contents.Define read.0) (Some close) read.1)
-
--- `value }`, from the value on
-abbrev pub preamble_read : Closing → Here → Option (List Part) × Result Here Stop
-preamble_read close h = (let valued = value close h in (value_read valued, valued >>= λ v. after_closing close v.1))
+    let named = name StringName name_ends h in
+    let valued = named >>= λ n. sign 61 ExpectedEquals (after_white n.1)
+    >>= λ equals. value close (after_white equals) in
+    let definition : Definition = record { name = value_read named; value = value_read valued } in
+    ended_item start (name_line definition.name h.spot.line start.line) (contents.Define definition) (Some close)
+    (valued >>= λ v. after_closing close v.1)
 
 abbrev pub preamble_item : Spot → Closing → Here → Piece × Here
 preamble_item start close h =
-    (let read = preamble_read close h in ended_item start start.line (contents.Preamble read.0) (Some close) read.1)
+    let valued = value close h in
+    ended_item start start.line (contents.Preamble (value_read valued)) (Some close)
+    (valued >>= λ v. after_closing close v.1)
 
 -- an entry of which at most the type was read
 abbrev pub unread_entry : Option (List ℕ) → Content
@@ -135,25 +123,24 @@ item_of_type keywords.Preamble start kind h =
 item_of_type keywords.Entry start kind h =
     item_opened start (unread_entry (Some kind)) (entry_item start kind) (opening (after_white h))
 
-abbrev pub type_ended : Spot → List ℕ → Result Here Stop → Piece × Here
-type_ended start kind (Err stop) = unopened start (unread_entry (Some kind)) stop
-type_ended start kind (Ok h) = item_of_type (keyword_of kind) start kind h
-
-abbrev pub type_read : Spot → Result (List ℕ × Here) Stop → Piece × Here
-type_read start (Err stop) = unopened start (unread_entry None) stop
-type_read start (Ok w) = type_ended start w.0 (name_ended EntryType (codes "{(") w.1)
-
 -- a comment word or an item, from its `@` on
 unfoldable pub piece : Here → Piece × Here
-piece h = type_read h.spot (word EntryType (after_white (after_byte h)))
+piece h = elim (word EntryType (after_white (after_byte h))) [
+  | Err stop ↦ unopened h.spot (unread_entry None) stop
+  | Ok w ↦ elim (name_ended EntryType (codes "{(") w.1) [
+    | Err stop ↦ unopened h.spot (unread_entry (Some w.0)) stop
+    | Ok end ↦ item_of_type (keyword_of w.0) h.spot w.0 end
+  ]
+]
 
 abbrev pub is_text : ℕ → Bool
 is_text b = not (b == 64)
 
-abbrev pub next_piece_from : Here → Option ℕ → Option Piece × Here
-next_piece_from h None = (None, h)
-next_piece_from h (Some b) = (let p = piece h in (Some p.0, p.1))
-
 -- the next `@` with what it begins, or none
 unfoldable pub next_piece : Here → Option Piece × Here
-next_piece h = (let at_sign = after_run is_text h in next_piece_from at_sign (first at_sign.rest))
+next_piece h =
+    (let at_sign = after_run is_text h in
+    elim (first at_sign.rest) [
+      | None ↦ (None, at_sign)
+      | Some b ↦ (let p = piece at_sign in (Some p.0, p.1))
+    ])

@@ -5,7 +5,8 @@ ghost use Rattle.bt_bib.specs.Spot.{here};
 ghost use Rattle.bt_bib.specs.inner.Spot.{IsIn};
 ghost use Rattle.bt_bib.specs.inner.Stop.{Fills, Finds, Gives, Makes};
 ghost use Rattle.bt_bib.specs.Keywords.{keyword_of};
-ghost use Rattle.bt_bib.specs.Pieces.{after_closing, entry_item, opening, piece, preamble_item, preamble_read, string_item, string_read, item_of_type, unread_entry, unread_string};
+ghost use Rattle.bt_bib.specs.Pieces.{after_closing, entry_item, opening, piece, preamble_item, string_item, item_of_type, unread_entry, unread_string};
+ghost use Rattle.bt_bib.specs.inner.Cases.{preamble_read, string_read};
 ghost use Rattle.bt_bib.specs.inner.Pieces.{IsItem};
 
 use crate::fault::{ItemFault, NameRole};
