@@ -11,7 +11,8 @@ use Rattle.std.proofs.lemmas.List.Elements.{All-from_get_or}
 use Rattle.bt_bib.specs.declared.aux_line.AuxItem.{AuxItem}
 use Rattle.bt_bib.specs.declared.aux_line.Command.{Command}
 use Rattle.bt_text.specs.White.{trimmed_end}
-use Rattle.bt_bib.specs.AuxLine.{is_line_end, command_of, if_counted, items_from}
+use Rattle.bt_bib.specs.AuxLine.{is_line_end, command_of, items_from}
+use Rattle.bt_bib.specs.inner.Cases.{if_counted}
 
 -- a test that doesn't hold
 not_true : (v : Bool) → (v ≡ true → ⊥) → v ≡ false
@@ -42,7 +43,7 @@ pub behind_shorter : (rest : List ℕ) (k : ℕ) → k < length rest → length 
 behind_shorter rest k lt = omega (arith, ap length (take_rest rest (k + 1)), length-drop (k + 1) rest)
 
 -- later lines stand after a counted one
-pub counted_onto : (n : ℕ) (line : List ℕ) (c : Option Command) (later : List AuxItem) → if_counted n line c [] ++ later ≡ if_counted n line c later
+pub counted_onto : (n : ℕ) (line : List ℕ) (c : Option Command) (later : List AuxItem) → if_counted n line [] c ++ later ≡ if_counted n line later c
 counted_onto n line None later = refl
 counted_onto n line (Some c) later = refl
 
@@ -59,17 +60,17 @@ first_line text k is lt =
 
 -- the lines are at their end
 pub lines_end : (n k : ℕ) (text line : List ℕ) (front all x : List AuxItem) → k ≡ position_or_len is_line_end text → k ≡ length text
-    → line ≡ trimmed_end (take k text) → all ≡ front ++ if_counted n line (command_of line) [] → front ++ items_from n (slice_split is_line_end text) ≡ x → all ≡ x
+    → line ≡ trimmed_end (take k text) → all ≡ front ++ if_counted n line [] (command_of line) → front ++ items_from n (slice_split is_line_end text) ≡ x → all ≡ x
 lines_end n k text line front all x is end line_is all_is same =
-    all_is ∙ ap (λ l. front ++ if_counted n l (command_of l) []) line_is ∙ sym (ap (λ ls. front ++ items_from n ls) (last_line text k is end)) ∙ same
+    all_is ∙ ap (λ l. front ++ if_counted n l [] (command_of l)) line_is ∙ sym (ap (λ ls. front ++ items_from n ls) (last_line text k is end)) ∙ same
 
 -- one line more
 pub line_added : (n k : ℕ) (text line : List ℕ) (front all x : List AuxItem) → k ≡ position_or_len is_line_end text → k < length text
-    → line ≡ trimmed_end (take k text) → all ≡ front ++ if_counted n line (command_of line) [] → front ++ items_from n (slice_split is_line_end text) ≡ x
+    → line ≡ trimmed_end (take k text) → all ≡ front ++ if_counted n line [] (command_of line) → front ++ items_from n (slice_split is_line_end text) ≡ x
     → all ++ items_from (n + 1) (slice_split is_line_end (rest_after text k)) ≡ x
 line_added n k text line front all x is lt line_is all_is same =
     let t = trimmed_end (take k text) in
     let later = items_from (n + 1) (slice_split is_line_end (drop (k + 1) text)) in
     rw (all_is, line_is, take_rest text (k + 1))
-    (append_assoc front (if_counted n t (command_of t) []) later ∙ ap (λ l. front ++ l) (counted_onto n t (command_of t) later)
+    (append_assoc front (if_counted n t [] (command_of t)) later ∙ ap (λ l. front ++ l) (counted_onto n t (command_of t) later)
     ∙ sym (ap (λ ls. front ++ items_from n ls) (first_line text k is lt)) ∙ same)

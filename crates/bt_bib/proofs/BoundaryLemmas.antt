@@ -15,10 +15,9 @@ use Rattle.bt_bib.specs.Stop.{Stop}
 use Rattle.bt_bib.specs.Scan.{first, after_run, after_white}
 use Rattle.bt_bib.specs.Names.{word, name_ended}
 use Rattle.bt_bib.specs.Many.{all}
-use Rattle.bt_bib.specs.inner.Cases.{many_by, entry_read, string_read, preamble_read, type_ended, type_read, next_piece_from}
 use Rattle.bt_bib.specs.Keywords.{keyword_of}
-use Rattle.bt_bib.specs.Pieces.{ended_item, opening, entry_item, string_item, preamble_item, unread_entry, unread_string, item_opened, item_of_type, piece, is_text, next_piece}
-use Rattle.bt_bib.specs.BibText.{next_one, pieces_from}
+use Rattle.bt_bib.specs.Pieces.{ended_item, opening, entry_item, string_item, preamble_item, unread_entry, unread_string, item_opened, item_of_type, piece, next_piece}
+use Rattle.bt_bib.specs.inner.Cases.{next_one, pieces_from, many_by, entry_read, string_read, preamble_read, type_ended, type_read, is_text, next_piece_from}
 use Rattle.bt_bib.specs.Moved.{moved, moved_piece}
 use Rattle.bt_bib.specs.Boundaries.{end_of, last_end}
 use Rattle.bt_bib.proofs.ReachLemmas.{Reaches, reaches_self, reaches_then, reaches_sum, many_moves, Moves}

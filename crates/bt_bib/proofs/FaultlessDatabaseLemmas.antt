@@ -11,10 +11,10 @@ use Rattle.bt_bib.specs.declared.item.Piece.TheVariants as pieces
 use Rattle.bt_bib.specs.declared.keywords.Keyword.TheVariants as keywords
 use Rattle.bt_bib.specs.Spot.{Here, at, here, start, spot_after_byte}
 use Rattle.bt_bib.specs.Scan.{first, after_run}
-use Rattle.bt_bib.specs.Pieces.{piece, is_text, next_piece}
-use Rattle.bt_bib.specs.inner.Cases.{next_piece_from}
+use Rattle.bt_bib.specs.Pieces.{piece, next_piece}
 use Rattle.bt_bib.specs.Boundaries.{start_of, end_of, last_end}
-use Rattle.bt_bib.specs.BibText.{pieces_from, pieces_of}
+use Rattle.bt_bib.specs.BibText.{pieces_of}
+use Rattle.bt_bib.specs.inner.Cases.{pieces_from, is_text, next_piece_from}
 use Rattle.bt_bib.specs.Spelling.{◌▸◌, White, Sign, From, Provided, MayEndName}
 use Rattle.bt_bib.specs.Spelled.{WordOf, ItemOf, Skipped, Commented, DatabaseOf}
 use Rattle.bt_bib.specs.SpelledLaws.{bytes_between, IsFaultless, FaultlessItemsAreSpelled, FaultlessDatabasesAreSpelled}

@@ -19,7 +19,8 @@ use Rattle.bt_bib.specs.Scan.{first, run, after_run, after_white, sign}
 use Rattle.bt_bib.specs.Stop.{Stop, ◌>>=◌}
 use Rattle.bt_bib.specs.Enclosure.{enclosed}
 use Rattle.bt_bib.specs.Names.{name}
-use Rattle.bt_bib.specs.Values.{part, part_ends, raw_part, next_part, value}
+use Rattle.bt_bib.specs.Values.{part, part_ends, next_part, value}
+use Rattle.bt_bib.specs.inner.Cases.{raw_part}
 use Rattle.bt_bib.specs.Fields.{field, name_ends}
 use Rattle.bt_bib.specs.Spelling.{Spelling, ◌▸◌, ◌or◌, ◌⋯◌, This, That, Bytes, Written, White, Sign, IsEnclosed}
 use Rattle.bt_bib.specs.Spelled.{NameOf, Enclosed, is_number, PartOf, PartsOf, ValueOf, FieldOf}

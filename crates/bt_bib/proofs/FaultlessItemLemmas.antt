@@ -24,9 +24,9 @@ use Rattle.bt_bib.specs.Names.{word, name_ended, name}
 use Rattle.bt_bib.specs.Many.{all}
 use Rattle.bt_bib.specs.Values.{value}
 use Rattle.bt_bib.specs.Fields.{field, next_field, name_ends}
-use Rattle.bt_bib.specs.inner.Cases.{field_or_close, many_by, type_ended, type_read}
+use Rattle.bt_bib.specs.inner.Cases.{field_or_close, many_by, name_line, type_ended, type_read}
 use Rattle.bt_bib.specs.Keywords.{keyword_of}
-use Rattle.bt_bib.specs.Pieces.{ended_item, opening, after_closing, entry_item, string_item, preamble_item, name_line, item_opened, item_of_type, piece, unread_entry, unread_string}
+use Rattle.bt_bib.specs.Pieces.{ended_item, opening, after_closing, entry_item, string_item, preamble_item, item_opened, item_of_type, piece, unread_entry, unread_string}
 use Rattle.bt_bib.specs.Spelling.{Spelling, ◌▸◌, ◌⋯◌, Bytes, Written, White, Sign, OnLine, Provided, MayEndName}
 use Rattle.bt_bib.specs.Spelled.{NameOf, ValueOf, FieldOf, FieldsOf, EndsKey, Keyed, opening_sign, IsWord, WordOf, Head, ItemOf, AnEntry, AString, APreamble}
 use Rattle.bt_bib.proofs.RunLemmas.{passed-nil, past_run, past_is_run}
@@ -203,7 +203,7 @@ closed_stands close h v k is closes =
     stands_spaced (ValueOf v.0) (Sign (closing_sign close)) h one.mid v.1 k one.front one.back (read_sign (closing_sign close) ExpectedCommaOrClose v.1 k closes)
 
 abbrev string_made : Closing → Spot → ℕ → Result (List ℕ × Here) Stop → Result (List Part × Here) Stop → Piece × Here
-string_made close start line named valued = ended_item start (name_line (value_read named) line start.line) (contents.Define (record { name = value_read named; value = value_read valued })) (Some close) (valued >>= λ v. after_closing close v.1)
+string_made close start line named valued = ended_item start (name_line line start.line (value_read named)) (contents.Define (record { name = value_read named; value = value_read valued })) (Some close) (valued >>= λ v. after_closing close v.1)
 
 string_by : (text : List ℕ) (close : Closing) (h e o : Here) (named : Result (List ℕ × Here) Stop) (valued : Result (List Part × Here) Stop) → Worded keywords.String text h e → opening (after_white e) ≡ Ok (close, o) → name StringName name_ends (after_white o) ≡ named → valued_by close named ≡ valued → PieceStands h (string_made close h.spot (after_white o).spot.line named valued)
 string_by text close h e o named (Err stop) w opens is reads = λ faultless. absurd (cc faultless)

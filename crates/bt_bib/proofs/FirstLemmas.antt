@@ -21,10 +21,10 @@ use Rattle.bt_bib.specs.Spot.{Here, at, here, start, spot_after_byte}
 use Rattle.bt_bib.specs.Stop.{Stop}
 use Rattle.bt_bib.specs.Scan.{first, run, after_run, after_white}
 use Rattle.bt_bib.specs.Names.{word, name_ended}
-use Rattle.bt_bib.specs.inner.Cases.{word_from, type_ended, type_read, next_piece_from}
 use Rattle.bt_bib.specs.Keywords.{keyword_of}
-use Rattle.bt_bib.specs.Pieces.{opening, item_of_type, piece, is_text, next_piece, entry_item, item_opened, unread_entry}
-use Rattle.bt_bib.specs.BibText.{pieces_from, pieces_of}
+use Rattle.bt_bib.specs.Pieces.{opening, item_of_type, piece, next_piece, entry_item, item_opened, unread_entry}
+use Rattle.bt_bib.specs.BibText.{pieces_of}
+use Rattle.bt_bib.specs.inner.Cases.{pieces_from, word_from, type_ended, type_read, is_text, next_piece_from}
 use Rattle.bt_bib.specs.Boundaries.{start_of, end_of, last_end, Rises}
 use Rattle.bt_bib.specs.inner.Boundaries.{end_place, below}
 use Rattle.bt_bib.specs.Laws.{FaultIsFirst}

@@ -22,8 +22,8 @@ use Rattle.bt_bib.specs.Names.{word, name_ended, name}
 use Rattle.bt_bib.specs.Many.{many}
 use Rattle.bt_bib.specs.Values.{part, next_part, value}
 use Rattle.bt_bib.specs.Fields.{field, next_field}
-use Rattle.bt_bib.specs.Pieces.{ended_item, opening, after_closing, entry_item, string_item, name_line, preamble_item, unread_entry, unread_string, item_opened, item_of_type}
-use Rattle.bt_bib.specs.inner.Cases.{opening_from, entry_read, string_read, preamble_read}
+use Rattle.bt_bib.specs.Pieces.{ended_item, opening, after_closing, entry_item, string_item, preamble_item, unread_entry, unread_string, item_opened, item_of_type}
+use Rattle.bt_bib.specs.inner.Cases.{opening_from, entry_read, string_read, name_line, preamble_read}
 use Rattle.bt_bib.proofs.ReachLemmas.{Reaches, reaches_self, reaches_then, reaches_place, past_reaches, white_reaches}
 use Rattle.bt_bib.proofs.PieceLemmas.{valued, opening_advances, opened_reaches, entry_reaches, string_reaches, preamble_reaches}
 use Rattle.bt_bib.proofs.CutLemmas.{cut, cut_here, first_cut, behind_cut, Begins, begins_as, Next, past_cut}
@@ -179,7 +179,7 @@ one_not_white c not b is = ap is_white is ∙ not
 string_mended : (start : Spot) (close : Closing) (h : Here) → Mended NotWhite h (string_item start close h) (λ e more. string_item start close (cut h e more))
 string_mended start close h =
     let read = string_read close h in
-    item_mended start (name_line read.0.name h.spot.line start.line) (contents.Define read.0) (Some close) h read.1 (λ e more. name_line (string_read close (cut h e more)).0.name h.spot.line start.line) (λ e more. contents.Define (string_read close (cut h e more)).0) (λ e more. (string_read close (cut h e more)).1) (finishes_closed (Is 97) close h (valued close h) (λ e more. valued close (cut h e more)) (one_not_white 97 refl) (named_fits close StringName (λ n q. value close (after_white q)) h (λ n. white_right close)))
+    item_mended start (name_line h.spot.line start.line read.0.name) (contents.Define read.0) (Some close) h read.1 (λ e more. name_line h.spot.line start.line (string_read close (cut h e more)).0.name) (λ e more. contents.Define (string_read close (cut h e more)).0) (λ e more. (string_read close (cut h e more)).1) (finishes_closed (Is 97) close h (valued close h) (λ e more. valued close (cut h e more)) (one_not_white 97 refl) (named_fits close StringName (λ n q. value close (after_white q)) h (λ n. white_right close)))
 
 preamble_mended : (start : Spot) (close : Closing) (h : Here) → Mended NotWhite h (preamble_item start close h) (λ e more. preamble_item start close (cut h e more))
 preamble_mended start close h =

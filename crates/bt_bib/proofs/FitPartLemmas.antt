@@ -19,8 +19,8 @@ use Rattle.bt_bib.specs.Scan.{first, run, after_run, after_white, closing_sign}
 use Rattle.bt_bib.specs.Enclosure.{enclosed}
 use Rattle.bt_bib.specs.inner.Enclosure.{turn}
 use Rattle.bt_bib.specs.Names.{name}
-use Rattle.bt_bib.specs.Values.{raw_part, part, part_ends}
-use Rattle.bt_bib.specs.inner.Cases.{part_from}
+use Rattle.bt_bib.specs.Values.{part, part_ends}
+use Rattle.bt_bib.specs.inner.Cases.{raw_part, part_from}
 use Rattle.bt_bib.proofs.EnclosedLemmas.{between, taken, enclosed_run, enclosed_is_run, enclosed_cons}
 use Rattle.bt_bib.proofs.ReachLemmas.{Reaches, reaches_self, reaches_then, reaches_place, behind_reaches, white_reaches, Moves, advances_ok, advances_bind, name_advances, enclosed_moves_run, enclosed_advances, raw_part_advances_from}
 use Rattle.bt_bib.proofs.CutLemmas.{cut, cut_here, cut_cons, first_cut, behind_cut, Begins, begins_as, past_cut, between_cut}

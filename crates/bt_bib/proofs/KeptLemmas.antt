@@ -11,7 +11,7 @@ use Rattle.bt_bib.specs.declared.item.Piece.{Piece}
 use Rattle.bt_bib.specs.declared.item.Piece.TheVariants as pieces
 use Rattle.bt_bib.specs.Spot.{Here, here}
 use Rattle.bt_bib.specs.Pieces.{next_piece}
-use Rattle.bt_bib.specs.BibText.{next_one, pieces_from}
+use Rattle.bt_bib.specs.inner.Cases.{next_one, pieces_from}
 use Rattle.bt_bib.specs.Moved.{nowhere, moved, moved_part, moved_value, moved_field, moved_content, moved_option, moved_piece}
 use Rattle.bt_bib.specs.Boundaries.{end_of, last_end}
 use Rattle.bt_bib.specs.inner.Boundaries.{below}

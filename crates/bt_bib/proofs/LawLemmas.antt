@@ -9,7 +9,8 @@ use Rattle.bt_bib.specs.declared.item.Piece.TheVariants as pieces
 use Rattle.bt_bib.specs.Spot.{at, here, start}
 use Rattle.bt_bib.specs.Values.{next_part}
 use Rattle.bt_bib.specs.Fields.{next_field}
-use Rattle.bt_bib.specs.BibText.{next_one, pieces_from, pieces_of}
+use Rattle.bt_bib.specs.BibText.{pieces_of}
+use Rattle.bt_bib.specs.inner.Cases.{next_one, pieces_from}
 use Rattle.bt_bib.specs.Moved.{moved}
 use Rattle.bt_bib.specs.Boundaries.{last_end, Rises}
 use Rattle.bt_bib.specs.inner.Boundaries.{end_place, below}

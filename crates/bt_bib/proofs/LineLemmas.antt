@@ -24,12 +24,12 @@ use Rattle.bt_bib.specs.Scan.{first, run, after_run, after_white, sign, closing_
 use Rattle.bt_bib.specs.Enclosure.{enclosed}
 use Rattle.bt_bib.specs.Names.{word, name_ended, name}
 use Rattle.bt_bib.specs.Many.{many, all, collected}
-use Rattle.bt_bib.specs.Values.{raw_part, part, part_ends, next_part, value}
+use Rattle.bt_bib.specs.Values.{part, part_ends, next_part, value}
 use Rattle.bt_bib.specs.Fields.{field, next_field, name_ends}
-use Rattle.bt_bib.specs.inner.Cases.{field_or_close, next_field_from, many_by, entry_read, string_read, preamble_read, type_ended, type_read, next_piece_from, part_from, joined_from}
 use Rattle.bt_bib.specs.Keywords.{keyword_of}
-use Rattle.bt_bib.specs.Pieces.{ended_item, opening, after_closing, entry_item, string_item, name_line, preamble_item, unread_entry, unread_string, item_opened, item_of_type, piece, is_text, next_piece}
-use Rattle.bt_bib.specs.BibText.{next_one, pieces_of, bib_items}
+use Rattle.bt_bib.specs.Pieces.{ended_item, opening, after_closing, entry_item, string_item, preamble_item, unread_entry, unread_string, item_opened, item_of_type, piece, next_piece}
+use Rattle.bt_bib.specs.BibText.{pieces_of, bib_items}
+use Rattle.bt_bib.specs.inner.Cases.{next_one, field_or_close, next_field_from, many_by, entry_read, string_read, name_line, preamble_read, type_ended, type_read, is_text, next_piece_from, raw_part, part_from, joined_from}
 use Rattle.bt_bib.specs.Items.{items_of}
 use Rattle.bt_bib.specs.Laws.{PartLiesIn, ValueLiesIn, FieldLiesIn, ContentLiesIn, LinesLieIn, LinesLieInside}
 use Rattle.bt_bib.proofs.ReachLemmas.{Reaches, reaches_then, behind_reaches, past_reaches, white_reaches, Advances, Moves, advances_from, word_advances, ended_moves, name_advances, sign_moves, part_advances, joined_advances, value_advances, field_advances, next_field_advances, raw_part_advances_from, many_moves}
@@ -235,22 +235,22 @@ valued_lies close h =
     lies_from (AllIn PartLiesIn) wider_parts h w (value close w) to_w (value_lies close w)))
 
 -- Without a name there is no value.
-no_name : (close : Closing) (low : ℕ) (x : Result (List ℕ × Here) Stop) (k : List ℕ × Here → Result (List Part × Here) Stop) (h : Here) → low ≤ h.spot.line → Lies (AllIn PartLiesIn) h (x >>= k) → SomeIn (AllIn PartLiesIn) (name_line (value_read x) h.spot.line low) (end_line (x >>= k >>= λ v. after_closing close v.1)) (value_read (x >>= k))
+no_name : (close : Closing) (low : ℕ) (x : Result (List ℕ × Here) Stop) (k : List ℕ × Here → Result (List Part × Here) Stop) (h : Here) → low ≤ h.spot.line → Lies (AllIn PartLiesIn) h (x >>= k) → SomeIn (AllIn PartLiesIn) (name_line h.spot.line low (value_read x)) (end_line (x >>= k >>= λ v. after_closing close v.1)) (value_read (x >>= k))
 no_name close low (Err stop) k h le p = tt
 no_name close low (Ok n) k h le p = given_lies close h.spot.line h (k n) (omega arith) p
 
-name_line_low : (low line : ℕ) (n : Option (List ℕ)) → low ≤ line → low ≤ name_line n line low
+name_line_low : (low line : ℕ) (n : Option (List ℕ)) → low ≤ line → low ≤ name_line line low n
 name_line_low low line (Some n) le = le
 name_line_low low line None le = omega arith
 
-name_line_high : (low line high : ℕ) (n : Option (List ℕ)) → low ≤ line → line ≤ high → name_line n line low ≤ high
+name_line_high : (low line high : ℕ) (n : Option (List ℕ)) → low ≤ line → line ≤ high → name_line line low n ≤ high
 name_line_high low line high (Some n) p q = q
 name_line_high low line high None p q = omega arith
 
 string_lies : (s : Spot) (close : Closing) (h : Here) → s.line ≤ h.spot.line → PieceLies (string_item s close h).0
 string_lies s close h le =
     let read = string_read close h in
-    let line = name_line read.0.name h.spot.line s.line in
+    let line = name_line h.spot.line s.line read.0.name in
     let low = name_line_low s.line h.spot.line read.0.name le in
     let high = name_line_high s.line h.spot.line (end_line read.1) read.0.name le (moves_line h read.1 (string_moves close h)) in
     item_lies s line (contents.Define read.0) (Some close) read.1 low high (all_parts line (end_line read.1) read.0.value (no_name close s.line (name StringName name_ends h) (λ n. equalled close (after_white n.1)) h le (valued_lies close h)))

@@ -21,9 +21,8 @@ use Rattle.bt_bib.specs.Many.{all}
 use Rattle.bt_bib.specs.Values.{value}
 use Rattle.bt_bib.specs.Fields.{next_field, name_ends}
 use Rattle.bt_bib.specs.Keywords.{keyword_of}
-use Rattle.bt_bib.specs.Pieces.{ended_item, opening, after_closing, entry_item, string_item, preamble_item, unread_entry, unread_string, item_opened, item_of_type, piece, is_text, next_piece}
-use Rattle.bt_bib.specs.inner.Cases.{opening_from, entry_read, string_read, preamble_read, type_ended, type_read, next_piece_from}
-use Rattle.bt_bib.specs.BibText.{next_one}
+use Rattle.bt_bib.specs.Pieces.{ended_item, opening, after_closing, entry_item, string_item, preamble_item, unread_entry, unread_string, item_opened, item_of_type, piece, next_piece}
+use Rattle.bt_bib.specs.inner.Cases.{next_one, opening_from, entry_read, string_read, preamble_read, type_ended, type_read, is_text, next_piece_from}
 use Rattle.bt_bib.proofs.ReachLemmas.{Reaches, reaches_then, reaches_self, reaches_rest, behind_reaches, white_reaches, past_reaches, Advances, advances_ok, advances_err, advances_if, moves_bind, advances_bind, advances_white, Moves, moves_from, sign_moves, word_advances, ended_moves, name_advances, value_advances, next_field_advances, many_moves}
 use Rattle.bt_bib.proofs.ManyLemmas.{IsLess}
 

@@ -25,9 +25,8 @@ use Rattle.bt_bib.specs.Many.{all}
 use Rattle.bt_bib.specs.Values.{value}
 use Rattle.bt_bib.specs.Fields.{next_field, name_ends}
 use Rattle.bt_bib.specs.Keywords.{keyword_of}
-use Rattle.bt_bib.specs.Pieces.{ended_item, unopened, opening, after_closing, entry_item, string_item, name_line, preamble_item, unread_entry, unread_string, item_opened, item_of_type, piece, is_text, next_piece}
-use Rattle.bt_bib.specs.inner.Cases.{opening_from, entry_read, string_read, preamble_read, type_ended, type_read, next_piece_from}
-use Rattle.bt_bib.specs.BibText.{next_one}
+use Rattle.bt_bib.specs.Pieces.{ended_item, unopened, opening, after_closing, entry_item, string_item, preamble_item, unread_entry, unread_string, item_opened, item_of_type, piece, next_piece}
+use Rattle.bt_bib.specs.inner.Cases.{next_one, opening_from, entry_read, string_read, name_line, preamble_read, type_ended, type_read, is_text, next_piece_from}
 use Rattle.bt_bib.specs.Moved.{moved, moved_part, moved_value, moved_field, moved_entry, moved_definition, moved_content, moved_option, moved_piece}
 use Rattle.bt_bib.proofs.ReachLemmas.{Reaches, reaches_then, reaches_place, white_reaches, Advances, moves_from, advances_white, value_advances, next_field_advances, many_moves, word_advances, ended_moves}
 use Rattle.bt_bib.proofs.FieldLemmas.{next_field_less}
@@ -130,13 +129,13 @@ string_alike : (m : Spot) (limit : ℕ) (close : Closing) (h k : Here) → Alike
 string_alike m limit close h k a = name_alike m limit close (name StringName name_ends h) (name StringName name_ends k) (λ n. equalled close (after_white n.1)) (λ n. equalled close (after_white n.1)) (name_same m limit StringName name_ends h k a) (λ n. advances_white n.1 _ (equalled_advances close (after_white n.1))) (λ n e g c.
     same_when m limit (map (moved_part m)) (after_white e) (equalled close (after_white e)) (equalled close (after_white g)) (equalled_advances close (after_white e)) (λ lt. equalled_same m limit close (after_white e) (after_white g) (alike_past m limit is_white e g c lt)))
 
-line_alike : (m h k s : ℕ) (n : Option (List ℕ)) → k ≡ h + m → name_line n k (s + m) ≡ name_line n h s + m
+line_alike : (m h k s : ℕ) (n : Option (List ℕ)) → k ≡ h + m → name_line k (s + m) n ≡ name_line h s n + m
 line_alike m h k s (Some n) e = e
 line_alike m h k s None e = refl
 
 pub string_item_alike : (m : Spot) (limit : ℕ) (start : Spot) (close : Closing) (h k : Here) → Alike m limit h k → SamePiece m limit (string_item start close h) (string_item (moved m start) close k)
 string_item_alike m limit start close h k a =
-    item_alike m limit start (moved_definition m) (λ d. contents.Define d) (λ d. name_line d.name h.spot.line start.line) (λ d. name_line d.name k.spot.line (start.line + m.line)) (Some close) (string_read close h) (string_read close k) (λ _. refl) (λ d. line_alike m.line h.spot.line k.spot.line start.line d.name (ap (λ (s : Spot). s.line) a.spot)) (string_alike m limit close h k a)
+    item_alike m limit start (moved_definition m) (λ d. contents.Define d) (λ d. name_line h.spot.line start.line d.name) (λ d. name_line k.spot.line (start.line + m.line) d.name) (Some close) (string_read close h) (string_read close k) (λ _. refl) (λ d. line_alike m.line h.spot.line k.spot.line start.line d.name (ap (λ (s : Spot). s.line) a.spot)) (string_alike m limit close h k a)
 
 -- preambles
 abbrev prefaced : Closing → Result (List Part × Here) Stop → Option (List Part) × Result Here Stop

@@ -15,7 +15,8 @@ use Rattle.bt_bib.specs.declared.item.Piece.TheVariants as pieces
 use Rattle.bt_bib.specs.Spot.{Here, at, here, start, after_byte}
 use Rattle.bt_bib.specs.inner.Spot.{IsIn, IsAhead}
 use Rattle.bt_bib.specs.Pieces.{piece}
-use Rattle.bt_bib.specs.BibText.{pieces_from, pieces_of}
+use Rattle.bt_bib.specs.BibText.{pieces_of}
+use Rattle.bt_bib.specs.inner.Cases.{pieces_from}
 use Rattle.bt_bib.specs.Moved.{nowhere, moved, moved_part, moved_value, moved_field, moved_content, moved_piece}
 use Rattle.bt_bib.specs.Boundaries.{start_of, end_of, last_end}
 use Rattle.bt_bib.specs.Shift.{FitsPart, FitsSpot, FitsValue, FitsField, FitsContent, FitsPiece}

@@ -20,9 +20,9 @@ use Rattle.bt_bib.specs.Enclosure.{enclosed}
 use Rattle.bt_bib.specs.inner.Enclosure.{turn}
 use Rattle.bt_bib.specs.Names.{word, name_ended, name}
 use Rattle.bt_bib.specs.Many.{many, all, collected}
-use Rattle.bt_bib.specs.Values.{raw_part, part, part_ends, next_part, value}
+use Rattle.bt_bib.specs.Values.{part, part_ends, next_part, value}
 use Rattle.bt_bib.specs.Fields.{field, next_field, name_ends}
-use Rattle.bt_bib.specs.inner.Cases.{field_or_close, next_field_from, many_by, word_from, ended_from, sign_from, part_from, joined_from}
+use Rattle.bt_bib.specs.inner.Cases.{field_or_close, next_field_from, many_by, word_from, ended_from, sign_from, raw_part, part_from, joined_from}
 use Rattle.bt_bib.proofs.RunLemmas.{passed-nil, passed-cons}
 use Rattle.bt_bib.proofs.EnclosedLemmas.{enclosed_run, enclosed_is_run, between}
 

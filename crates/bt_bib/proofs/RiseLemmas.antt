@@ -18,9 +18,9 @@ use Rattle.bt_bib.specs.Stop.{Stop}
 use Rattle.bt_bib.specs.Scan.{first, after_run, after_white}
 use Rattle.bt_bib.specs.Names.{word, name_ended}
 use Rattle.bt_bib.specs.Keywords.{keyword_of}
-use Rattle.bt_bib.specs.Pieces.{ended_item, opening, entry_item, string_item, preamble_item, unread_entry, unread_string, item_opened, item_of_type, piece, is_text, next_piece}
-use Rattle.bt_bib.specs.inner.Cases.{entry_read, string_read, preamble_read, type_ended, type_read, next_piece_from}
-use Rattle.bt_bib.specs.BibText.{pieces_from, pieces_of}
+use Rattle.bt_bib.specs.Pieces.{ended_item, opening, entry_item, string_item, preamble_item, unread_entry, unread_string, item_opened, item_of_type, piece, next_piece}
+use Rattle.bt_bib.specs.BibText.{pieces_of}
+use Rattle.bt_bib.specs.inner.Cases.{pieces_from, entry_read, string_read, preamble_read, type_ended, type_read, is_text, next_piece_from}
 use Rattle.bt_bib.specs.Boundaries.{start_of, end_of, last_end, boundaries, Rises}
 use Rattle.bt_bib.specs.inner.Boundaries.{end_place, below}
 use Rattle.bt_bib.specs.Splice.{greatest, least, is_boundary}

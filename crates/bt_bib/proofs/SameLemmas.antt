@@ -18,8 +18,8 @@ use Rattle.bt_bib.specs.Scan.{first, run, after_run, after_white, sign}
 use Rattle.bt_bib.specs.Enclosure.{enclosed}
 use Rattle.bt_bib.specs.inner.Enclosure.{turn}
 use Rattle.bt_bib.specs.Names.{word, name_ended, name}
-use Rattle.bt_bib.specs.inner.Cases.{word_from, ended_from, sign_from, part_from}
-use Rattle.bt_bib.specs.Values.{raw_part, part, part_ends}
+use Rattle.bt_bib.specs.inner.Cases.{word_from, ended_from, sign_from, raw_part, part_from}
+use Rattle.bt_bib.specs.Values.{part, part_ends}
 use Rattle.bt_bib.specs.Moved.{moved_part}
 use Rattle.bt_bib.proofs.EnclosedLemmas.{between, enclosed_run, enclosed_is_run}
 use Rattle.bt_bib.proofs.ReachLemmas.{Reaches, reaches_place, reaches_self, behind_reaches, white_reaches, Advances, Moves, advances_ok, moves_bind, enclosed_advances, enclosed_moves_run, word_advances_from, ended_moves, ended_moves_from, sign_moves_from, raw_part_advances_from}

@@ -25,12 +25,12 @@ use Rattle.bt_bib.specs.Scan.{first, run, after_run, after_white, sign, closing_
 use Rattle.bt_bib.specs.Enclosure.{enclosed}
 use Rattle.bt_bib.specs.Names.{word, name_ended, name}
 use Rattle.bt_bib.specs.Many.{many, all, collected}
-use Rattle.bt_bib.specs.Values.{raw_part, part, part_ends, next_part, value}
+use Rattle.bt_bib.specs.Values.{part, part_ends, next_part, value}
 use Rattle.bt_bib.specs.Fields.{field, next_field, name_ends}
-use Rattle.bt_bib.specs.inner.Cases.{field_or_close, next_field_from, many_by, entry_read, string_read, preamble_read, type_ended, type_read, next_piece_from, part_from, joined_from}
 use Rattle.bt_bib.specs.Keywords.{keyword_of}
-use Rattle.bt_bib.specs.Pieces.{ended_item, opening, entry_item, string_item, name_line, preamble_item, unread_entry, unread_string, item_opened, item_of_type, piece, is_text, next_piece}
-use Rattle.bt_bib.specs.BibText.{next_one, pieces_of}
+use Rattle.bt_bib.specs.Pieces.{ended_item, opening, entry_item, string_item, preamble_item, unread_entry, unread_string, item_opened, item_of_type, piece, next_piece}
+use Rattle.bt_bib.specs.BibText.{pieces_of}
+use Rattle.bt_bib.specs.inner.Cases.{next_one, field_or_close, next_field_from, many_by, entry_read, string_read, name_line, preamble_read, type_ended, type_read, is_text, next_piece_from, raw_part, part_from, joined_from}
 use Rattle.bt_bib.specs.Shift.{FitsPart, FitsSpot, FitsValue, FitsField, FitsContent, FitsPiece}
 use Rattle.bt_bib.specs.inner.Shift.{rebased, rebased_value, rebased_content, rebased_part, rebased_field, rebased_piece}
 use Rattle.bt_bib.proofs.ReachLemmas.{Reaches, reaches_sum, behind_reaches, past_reaches, white_reaches, Advances, Moves, enclosed_advances, word_advances, ended_moves, name_advances, sign_moves, part_advances, joined_advances, value_advances, field_advances, next_field_advances, raw_part_advances_from}
@@ -188,14 +188,14 @@ valued_small n close h b =
     small_bind n Any P h (name StringName name_ends h) (λ x. equalled close (after_white x.1)) b (name_advances StringName name_ends h) (any_ok (name StringName name_ends h)) (λ x e be _.
     small_find n P (after_white e) (sign 61 ExpectedEquals (after_white e)) (λ q. value close (after_white q)) (bound n e (after_white e) (white_reaches e) be) (sign_moves 61 ExpectedEquals (after_white e)) (λ q bq. value_small n close (after_white q) (bound n q (after_white q) (white_reaches q) bq)))
 
-line_small : (n line other : ℕ) (name : Option (List ℕ)) → line ≤ n → other ≤ n → name_line name line other ≤ n
+line_small : (n line other : ℕ) (name : Option (List ℕ)) → line ≤ n → other ≤ n → name_line line other name ≤ n
 line_small n line other (Some name) p q = p
 line_small n line other None p q = q
 
 string_small : (n : ℕ) (s : Spot) (close : Closing) (h : Here) → SmallSpot n s → Bound n h → SmallPiece n (string_item s close h).0
 string_small n s close h p b =
     let read = string_read close h in
-    item_small n s (name_line read.0.name h.spot.line s.line) (contents.Define read.0) (Some close) h read.1 p (line_small n h.spot.line s.line read.0.name (small_spot n h b).1 p.1) (given_small n (valued close h) (valued_small n close h b)) b (string_moves close h)
+    item_small n s (name_line h.spot.line s.line read.0.name) (contents.Define read.0) (Some close) h read.1 p (line_small n h.spot.line s.line read.0.name (small_spot n h b).1 p.1) (given_small n (valued close h) (valued_small n close h b)) b (string_moves close h)
 
 preamble_small : (n : ℕ) (s : Spot) (close : Closing) (h : Here) → SmallSpot n s → Bound n h → SmallPiece n (preamble_item s close h).0
 preamble_small n s close h p b =

@@ -11,9 +11,9 @@ use Rattle.bt_bib.specs.declared.keywords.Keyword.TheVariants as keywords
 use Rattle.bt_bib.specs.Spot.{Here, at, here, start, spot_after}
 use Rattle.bt_bib.specs.Scan.{first, after_run}
 use Rattle.bt_bib.specs.Names.{word}
-use Rattle.bt_bib.specs.Pieces.{piece, is_text, next_piece}
-use Rattle.bt_bib.specs.inner.Cases.{type_read, next_piece_from}
-use Rattle.bt_bib.specs.BibText.{pieces_from, pieces_of}
+use Rattle.bt_bib.specs.Pieces.{piece, next_piece}
+use Rattle.bt_bib.specs.BibText.{pieces_of}
+use Rattle.bt_bib.specs.inner.Cases.{pieces_from, type_read, is_text, next_piece_from}
 use Rattle.bt_bib.specs.Spelling.{Spelling, ◌▸◌, Bytes, Written, Sign, From, Provided, MayEndName}
 use Rattle.bt_bib.specs.Spelled.{IsWord, WordOf, ItemOf, AnEntry, AString, APreamble, Skipped, Commented, DatabaseOf}
 use Rattle.bt_bib.specs.SpelledLaws.{SpelledDatabasesAreRead}

@@ -27,8 +27,8 @@ use Rattle.bt_bib.specs.Names.{word, name}
 use Rattle.bt_bib.specs.Many.{all}
 use Rattle.bt_bib.specs.Values.{value}
 use Rattle.bt_bib.specs.Fields.{next_field}
-use Rattle.bt_bib.specs.Pieces.{ended_item, opening, after_closing, entry_item, name_line, string_item, preamble_item, item_opened, item_of_type, piece, unread_entry, unread_string}
-use Rattle.bt_bib.specs.inner.Cases.{opening_from, entry_read, string_read, preamble_read, type_ended, type_read}
+use Rattle.bt_bib.specs.Pieces.{ended_item, opening, after_closing, entry_item, string_item, preamble_item, item_opened, item_of_type, piece, unread_entry, unread_string}
+use Rattle.bt_bib.specs.inner.Cases.{opening_from, entry_read, name_line, string_read, preamble_read, type_ended, type_read}
 use Rattle.bt_bib.specs.Spelling.{Spelling, ◌▸◌, ◌⋯◌, Bytes, Written, White, Sign, OnLine, Provided, MayEndName}
 use Rattle.bt_bib.specs.Spelled.{NameOf, ValueOf, FieldsOf, EndsKey, Keyed, opening_sign, IsWord, Head, AnEntry, AString, APreamble}
 use Rattle.bt_bib.specs.SpelledLaws.{SpelledItemsAreRead, value_ends}
@@ -251,7 +251,7 @@ string_to text n ps close line h k x =
     hd.read
     ∙ ap (item_opened h.spot unread_string (string_item h.spot)) hd.opens
     ∙ ap (string_item h.spot close) hd.after_run
-    ∙ ap (λ (r : Definition × Result Here Stop). ended_item h.spot (name_line r.0.name hd.inside.spot.line h.spot.line) (contents.Define r.0) (Some close) r.1) read
+    ∙ ap (λ (r : Definition × Result Here Stop). ended_item h.spot (name_line hd.inside.spot.line h.spot.line r.0.name) (contents.Define r.0) (Some close) r.1) read
     ∙ ap (λ l. ended_item h.spot l (contents.Define definition) (Some close) (Ok k)) (sym on.0)
 
 preamble_to : (text : List ℕ) (ps : List Part) (close : Closing) (h k : Here) → Stands (Head keywords.Preamble text close (ValueOf ps ⋯ Sign (closing_sign close))) h k →

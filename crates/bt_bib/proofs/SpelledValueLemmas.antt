@@ -17,8 +17,8 @@ use Rattle.bt_bib.specs.Stop.{Stop, ◌>>=◌}
 use Rattle.bt_bib.specs.Enclosure.{enclosed}
 use Rattle.bt_bib.specs.Names.{name}
 use Rattle.bt_bib.specs.Many.{all, collected}
-use Rattle.bt_bib.specs.Values.{part, part_ends, raw_part, next_part, value}
-use Rattle.bt_bib.specs.inner.Cases.{part_from, joined_from}
+use Rattle.bt_bib.specs.Values.{part, part_ends, next_part, value}
+use Rattle.bt_bib.specs.inner.Cases.{part_from, raw_part, joined_from}
 use Rattle.bt_bib.specs.Spelling.{Spelling, ◌▸◌, ◌or◌, ◌⋯◌, Bytes, Written, White, Sign, IsEnclosed, MayEndName}
 use Rattle.bt_bib.specs.Spelled.{NameOf, Enclosed, is_number, PartOf, PartsOf, ValueOf}
 use Rattle.bt_bib.specs.SpelledLaws.{SpelledPartsAreRead, SpelledValuesAreRead, value_ends}

@@ -15,7 +15,8 @@ use Rattle.bt_bib.specs.declared.item.Piece.TheVariants as pieces
 use Rattle.bt_bib.specs.Spot.{Here, at, here, start, is_line_end}
 use Rattle.bt_bib.specs.inner.Spot.{IsIn}
 use Rattle.bt_bib.specs.Pieces.{next_piece}
-use Rattle.bt_bib.specs.BibText.{pieces_from, pieces_of}
+use Rattle.bt_bib.specs.BibText.{pieces_of}
+use Rattle.bt_bib.specs.inner.Cases.{pieces_from}
 use Rattle.bt_bib.specs.Moved.{nowhere, moved, moved_part, moved_value, moved_field, moved_content, moved_piece}
 use Rattle.bt_bib.specs.Boundaries.{end_of, last_end, Rises}
 use Rattle.bt_bib.specs.inner.Boundaries.{below, InOrder}

@@ -19,12 +19,9 @@ inside rest = before_first ends_argument rest
 abbrev pub after_argument : List ℕ → List ℕ
 after_argument rest = drop (length (inside rest)) rest
 
-abbrev pub is_comma : ℕ → Bool
-is_comma b = b == 44
-
 -- the parts of an argument
 abbrev pub parts_in : Parting → List ℕ → List (List ℕ)
-parts_in Commas argument = slice_split is_comma argument
+parts_in Commas argument = slice_split (λ b. b == 44) argument
 parts_in Whole argument = argument ∷ []
 
 -- What is wrong, by what ends the argument and stands after it: a brace must be the last byte of its line.

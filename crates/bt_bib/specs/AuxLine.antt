@@ -47,15 +47,13 @@ item n line c =
     let rest = drop (length (opening_of c)) line in
     record { line = n; command = c; parts = argument_parts (parting c) rest; fault = fault_of rest }
 
--- a line before later ones, if it counts
-abbrev pub if_counted : ℕ → List ℕ → Option Command → List AuxItem → List AuxItem
-if_counted n line None later = later
-if_counted n line (Some c) later = item n line c ∷ later
-
 -- the counted ones among lines that are numbered from n on
 abbrev pub items_from : ℕ → List (List ℕ) → List AuxItem
 items_from n [] = []
-items_from n (l ∷ ls) = if_counted n (trimmed_end l) (command_of (trimmed_end l)) (items_from (n + 1) ls)
+items_from n (l ∷ ls) =
+    let line = trimmed_end l in
+    let later = items_from (n + 1) ls in
+    elim (command_of line) [ None ↦ later | Some c ↦ item n line c ∷ later ]
 
 -- the lines of a text that count
 unfoldable pub aux_lines : List ℕ → List AuxItem

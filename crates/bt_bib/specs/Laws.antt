@@ -1,5 +1,5 @@
 -- Laws of the items of a text.
-use Rattle.std.specs.Prelude.{◌≡◌, ℕ, ◌+◌, ◌-◌, ◌<◌, ◌≤◌, nat_lt, Bool, List, [], ◌∷◌, ◌++◌, length, take, drop, map, true, Option, Some, None, All}
+use Rattle.std.specs.Prelude.{◌≡◌, ℕ, ◌+◌, ◌-◌, ◌<◌, ◌≤◌, nat_lt, Bool, List, [], ◌∷◌, ◌++◌, length, take, drop, map, true, Option, Some, None, Ok, All}
 use Rattle.std.specs.List.{list_all}
 use Rattle.bt_bib.specs.declared.spot.Spot.{Spot}
 use Rattle.bt_bib.specs.declared.fault.ItemFault.{ItemFault}
@@ -16,7 +16,8 @@ use Rattle.bt_bib.specs.Spot.{Here, start}
 use Rattle.bt_bib.specs.Many.{many, all}
 use Rattle.bt_bib.specs.Values.{next_part}
 use Rattle.bt_bib.specs.Fields.{next_field}
-use Rattle.bt_bib.specs.BibText.{next_one, pieces_of, bib_items}
+use Rattle.bt_bib.specs.Pieces.{next_piece}
+use Rattle.bt_bib.specs.BibText.{pieces_of, bib_items}
 use Rattle.bt_bib.specs.Moved.{moved_piece}
 use Rattle.bt_bib.specs.Boundaries.{last_end, Rises}
 use Rattle.bt_bib.specs.Splice.{is_boundary, IsSplice}
@@ -96,4 +97,5 @@ LinesLieInside = (text : List ℕ) → All LinesLieIn (bib_items text)
 abbrev pub AnyBoundServes : Type 0
 AnyBoundServes = (close : Closing) (reserve : ℕ) (h : Here) → length h.rest < reserve →
     (many (next_part close) reserve h ≡ all (next_part close) h) ×
-    (many (next_field close) reserve h ≡ all (next_field close) h) × (many next_one reserve h ≡ all next_one h)
+    (many (next_field close) reserve h ≡ all (next_field close) h) ×
+    (many (λ x. Ok (next_piece x)) reserve h ≡ all (λ x. Ok (next_piece x)) h)

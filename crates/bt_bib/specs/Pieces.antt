@@ -8,7 +8,7 @@
 -- | entry    | `@type{ key , field = value , .. }` |
 --
 -- Of a faulty item stays what was read whole, and it ends where its fault stands.
-use Rattle.std.specs.Prelude.{ℕ, ◌==◌, Bool, not, List, [], codes, Option, Some, None, Result, Ok, Err, if◌then◌else◌}
+use Rattle.std.specs.Prelude.{ℕ, ◌==◌, not, List, [], codes, Option, Some, None, Result, Ok, Err, if◌then◌else◌}
 use Rattle.bt_text.specs.ByteTests.{left_brace}
 use Rattle.bt_bib.specs.declared.spot.Spot.{Spot}
 use Rattle.bt_bib.specs.declared.fault.ItemFault.TheVariants.{EndOfFile, ExpectedOpen, ExpectedEquals, ExpectedCommaOrClose}
@@ -81,19 +81,14 @@ entry_item start kind close h =
     let entry : Entry = record { kind = Some kind; key = Some (run (is_key_byte close) h); fields = fields.0 } in
     ended_item start h.spot.line (contents.Entry entry) (Some close) fields.1
 
--- the line of a name that was read, else another
-abbrev pub name_line : Option (List ℕ) → ℕ → ℕ → ℕ
-name_line (Some name) line other = line
-name_line None line other = other
-
 abbrev pub string_item : Spot → Closing → Here → Piece × Here
 string_item start close h =
     let named = name StringName name_ends h in
     let valued = named >>= λ n. sign 61 ExpectedEquals (after_white n.1)
     >>= λ equals. value close (after_white equals) in
     let definition : Definition = record { name = value_read named; value = value_read valued } in
-    ended_item start (name_line definition.name h.spot.line start.line) (contents.Define definition) (Some close)
-    (valued >>= λ v. after_closing close v.1)
+    let line : ℕ = elim definition.name [ Some name ↦ h.spot.line | None ↦ start.line ] in
+    ended_item start line (contents.Define definition) (Some close) (valued >>= λ v. after_closing close v.1)
 
 abbrev pub preamble_item : Spot → Closing → Here → Piece × Here
 preamble_item start close h =
@@ -133,13 +128,10 @@ piece h = elim (word EntryType (after_white (after_byte h))) [
   ]
 ]
 
-abbrev pub is_text : ℕ → Bool
-is_text b = not (b == 64)
-
 -- the next `@` with what it begins, or none
 unfoldable pub next_piece : Here → Option Piece × Here
 next_piece h =
-    (let at_sign = after_run is_text h in
+    (let at_sign = after_run (λ b. not (b == 64)) h in
     elim (first at_sign.rest) [
       | None ↦ (None, at_sign)
       | Some b ↦ (let p = piece at_sign in (Some p.0, p.1))

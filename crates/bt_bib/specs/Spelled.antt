@@ -13,7 +13,7 @@
 -- | database | text without `@`, and then any number of items and comments, each with such text after it    |
 --
 -- White space may stand between all of these (`⋯`), and `( )` for the outer `{ }`.
-use Rattle.std.specs.Prelude.{◌≡◌, ℕ, Bool, true, false, ◌&&◌, List, [], ◌∷◌, codes, Some, None}
+use Rattle.std.specs.Prelude.{◌≡◌, ℕ, Bool, true, false, ◌&&◌, not, ◌==◌, List, [], ◌∷◌, codes, Some, None}
 use Rattle.std.specs.List.{list_all}
 use Rattle.bt_text.specs.ByteTests.{is_digit, left_brace, right_brace}
 use Rattle.bt_text.specs.NameBytes.{is_name}
@@ -33,7 +33,6 @@ use Rattle.bt_bib.specs.declared.keywords.Keyword.TheVariants as keywords
 use Rattle.bt_bib.specs.Spot.{spot_after}
 use Rattle.bt_bib.specs.Scan.{closing_sign, is_key_byte}
 use Rattle.bt_bib.specs.Keywords.{keyword_of}
-use Rattle.bt_bib.specs.Pieces.{is_text}
 use Rattle.bt_bib.specs.Spelling.{Spelling, ◌▸◌, ◌or◌, ◌⋯◌, Bytes, White, Sign, OnLine, From, Provided, IsEnclosed, MayEndName}
 
 -- signs
@@ -141,7 +140,7 @@ pub data ItemOf : Item → Spot → List ℕ → Type 0 where
 
 -- text between the items
 abbrev pub Skipped : Spelling
-Skipped s text = list_all is_text text ≡ true
+Skipped s text = list_all (λ b. not (b == at_sign)) text ≡ true
 
 -- `@comment` from one spot to another, and what stands after it
 abbrev pub Commented : Spot → Spot → Spelling → Spelling

@@ -19,21 +19,19 @@ use Rattle.bt_bib.specs.Many.{all, collected}
 abbrev pub part_ends : Closing → List ℕ
 part_ends close = 44 ∷ 35 ∷ closing_sign close ∷ []
 
--- a part
-abbrev pub raw_part : Closing → Here → Result (Part × Here) Stop
-raw_part close h = elim (first h.rest) [
-  | None ↦ Err (EndOfFile, h)
-  | Some b ↦
-      if b == left_brace then (enclosed right_brace (after_byte h) >>= λ x. Ok (Text x.0, after_byte x.1))
-      else if b == 34 then (enclosed 34 (after_byte h) >>= λ x. Ok (Text x.0, after_byte x.1))
-      else if is_digit b then Ok (Text (run is_digit h), after_run is_digit h)
-      else if is_name_byte b then (name FieldPart (part_ends close) h >>= λ n. Ok (Macro n.0 h.spot.line, n.1))
-      else Err (MissingPart, h)
-]
-
 -- a part, and the white space after it
 unfoldable pub part : Closing → Here → Result (Part × Here) Stop
-part close h = raw_part close h >>= λ x. Ok (x.0, after_white x.1)
+part close h =
+    let found : Result (Part × Here) Stop = elim (first h.rest) [
+      | None ↦ Err (EndOfFile, h)
+      | Some b ↦
+          if b == left_brace then (enclosed right_brace (after_byte h) >>= λ x. Ok (Text x.0, after_byte x.1))
+          else if b == 34 then (enclosed 34 (after_byte h) >>= λ x. Ok (Text x.0, after_byte x.1))
+          else if is_digit b then Ok (Text (run is_digit h), after_run is_digit h)
+          else if is_name_byte b then (name FieldPart (part_ends close) h >>= λ n. Ok (Macro n.0 h.spot.line, n.1))
+          else Err (MissingPart, h)
+    ] in
+    found >>= λ x. Ok (x.0, after_white x.1)
 
 -- another part after a `#`, or none
 unfoldable pub next_part : Closing → Here → Result (Option Part × Here) Stop

@@ -2,7 +2,8 @@
 
 ghost use Rattle.std.specs.Prelude.{◌≡◌, ◌≤◌, length, map, IfOk};
 ghost use Rattle.std.specs.List.{slice_split};
-ghost use Rattle.bt_bib.specs.AuxArgument.{ends_argument, inside, is_comma, parts_in, fault_at, parts_kept, fault_of, argument_parts};
+ghost use Rattle.bt_bib.specs.AuxArgument.{ends_argument, inside, parts_in, fault_at, parts_kept, fault_of, argument_parts};
+ghost use Rattle.bt_bib.specs.inner.Cases.{is_comma};
 
 use bt_text::{Bytes, Sequence, is_white};
 use std::alloc::{AllocError, Global};

@@ -2,7 +2,8 @@
 
 ghost use Rattle.std.specs.Prelude.{◌≡◌, ◌≤◌, ◌<◌, ◌+◌, ◌^◌, [], ◌++◌, length, IfOk, OnOk, IfSome};
 ghost use Rattle.std.specs.List.{position_or_len, suffix_len};
-ghost use Rattle.bt_bib.specs.AuxLine.{is_line_end, command_of, opening_of, parting, item, if_counted, aux_lines};
+ghost use Rattle.bt_bib.specs.AuxLine.{is_line_end, command_of, opening_of, parting, item, aux_lines};
+ghost use Rattle.bt_bib.specs.inner.Cases.{if_counted};
 
 use crate::aux_argument::{AuxFault, Parting, read_argument};
 use bt_text::{Bytes, Sequence, trim_end};
@@ -105,7 +106,7 @@ fn add_line(
     number: usize,
     line: &[u8],
 ) -> Result<(), AllocError>
-    ensures { OnOk result (items.new ≡ items.old ++ if_counted number line.now (command_of line.now) []) }
+    ensures { OnOk result (items.new ≡ items.old ++ if_counted number line.now [] (command_of line.now)) }
 {
     if let Some(command) = command_of(line) {
         items.push(item(alloc, number, line, command)?)?;

@@ -5,8 +5,9 @@ ghost use Rattle.bt_bib.specs.Spot.{here};
 ghost use Rattle.bt_bib.specs.inner.Spot.{IsAhead, IsIn};
 ghost use Rattle.bt_bib.specs.inner.Stop.{Makes};
 ghost use Rattle.bt_bib.specs.Scan.{after_run};
-ghost use Rattle.bt_bib.specs.Pieces.{is_text, next_piece, piece};
-ghost use Rattle.bt_bib.specs.BibText.{pieces_from, pieces_of};
+ghost use Rattle.bt_bib.specs.Pieces.{next_piece, piece};
+ghost use Rattle.bt_bib.specs.BibText.{pieces_of};
+ghost use Rattle.bt_bib.specs.inner.Cases.{pieces_from, is_text};
 
 use crate::items::Items;
 use crate::placed_pieces::PlacedPiece;

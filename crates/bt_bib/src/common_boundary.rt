@@ -3,7 +3,7 @@
 ghost use Rattle.std.specs.Prelude.{◌≡◌, ◌≤◌, ◌+◌, ◌-◌, ◌<◌, ◌^◌, ◌++◌, [], None, length, IfOk};
 ghost use Rattle.bt_bib.specs.Spot.{here};
 ghost use Rattle.bt_bib.specs.inner.Spot.{IsAhead, IsIn};
-ghost use Rattle.bt_bib.specs.BibText.{pieces_from};
+ghost use Rattle.bt_bib.specs.inner.Cases.{pieces_from};
 ghost use Rattle.bt_bib.specs.Boundaries.{last_end};
 ghost use Rattle.bt_bib.specs.inner.Boundaries.{InOrder};
 ghost use Rattle.bt_bib.specs.Splice.{is_common};

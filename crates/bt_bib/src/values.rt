@@ -4,7 +4,8 @@ ghost use Rattle.bt_bib.specs.Spot.{here};
 ghost use Rattle.bt_bib.specs.inner.Spot.{IsIn};
 ghost use Rattle.bt_bib.specs.inner.Stop.{Gives};
 ghost use Rattle.bt_bib.specs.Many.{all, collected};
-ghost use Rattle.bt_bib.specs.Values.{next_part, part, raw_part, value};
+ghost use Rattle.bt_bib.specs.Values.{next_part, part, value};
+ghost use Rattle.bt_bib.specs.inner.Cases.{raw_part};
 
 use crate::fault::{ItemFault, NameRole};
 use crate::item::{Closing, Part};

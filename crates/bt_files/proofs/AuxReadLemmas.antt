@@ -14,8 +14,9 @@ use Rattle.bt_bib.specs.declared.aux_argument.AuxFault.{AuxFault}
 use Rattle.bt_bib.specs.declared.aux_argument.Parting.{Parting}
 use Rattle.bt_bib.specs.declared.aux_argument.Parting.TheVariants.{Commas, Whole}
 use Rattle.bt_bib.specs.declared.aux_line.AuxItem.{AuxItem}
-use Rattle.bt_bib.specs.AuxArgument.{ends_argument, inside, is_comma, parts_in, parts_kept, fault_of}
-use Rattle.bt_bib.specs.AuxLine.{opening_of, command_of, parting, item, if_counted, items_from}
+use Rattle.bt_bib.specs.AuxArgument.{ends_argument, inside, parts_in, parts_kept, fault_of}
+use Rattle.bt_bib.specs.inner.Cases.{is_comma, if_counted}
+use Rattle.bt_bib.specs.AuxLine.{opening_of, command_of, parting, item, items_from}
 use Rattle.bt_text.specs.White.{trimmed_end}
 use Rattle.bt_job.specs.FileNames.{is_file_name_byte, with_ending}
 use Rattle.bt_files.specs.AuxText.{is_part_byte, is_part, is_part_count, IsWritableItem, IsWritableFrom, name_of, part_with, item_with, has_name_bytes, GivesNames}
@@ -78,7 +79,7 @@ from_earlier : (n : ℕ) (items : List AuxItem) → IsWritableFrom (n + 1) items
 from_earlier n [] are = tt
 from_earlier n (i ∷ items) are = (omega (arith, are.0), are.1, are.2)
 
-counted_writable : (n : ℕ) (line : List ℕ) (c : Option Command) (later : List AuxItem) → IsWritableFrom (n + 1) later → IsWritableFrom n (if_counted n line c later)
+counted_writable : (n : ℕ) (line : List ℕ) (c : Option Command) (later : List AuxItem) → IsWritableFrom (n + 1) later → IsWritableFrom n (if_counted n line later c)
 counted_writable n line None later are = from_earlier n later are
 counted_writable n line (Some c) later are = (omega arith, item_writable n line c, are)
 

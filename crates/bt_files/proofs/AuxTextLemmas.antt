@@ -16,8 +16,9 @@ use Rattle.bt_bib.specs.declared.aux_argument.AuxFault.TheVariants.{NoBrace, Whi
 use Rattle.bt_bib.specs.declared.aux_argument.Parting.{Parting}
 use Rattle.bt_bib.specs.declared.aux_argument.Parting.TheVariants.{Commas, Whole}
 use Rattle.bt_bib.specs.declared.aux_line.AuxItem.{AuxItem}
-use Rattle.bt_bib.specs.AuxArgument.{ends_argument, inside, after_argument, is_comma, parts_in, fault_at, parts_kept, fault_of, argument_parts}
-use Rattle.bt_bib.specs.AuxLine.{is_line_end, opening_of, command_of, parting, item, if_counted, items_from}
+use Rattle.bt_bib.specs.AuxArgument.{ends_argument, inside, after_argument, parts_in, fault_at, parts_kept, fault_of, argument_parts}
+use Rattle.bt_bib.specs.inner.Cases.{is_comma, if_counted}
+use Rattle.bt_bib.specs.AuxLine.{is_line_end, opening_of, command_of, parting, item, items_from}
 use Rattle.bt_files.specs.AuxText.{comma, line_feed, written_parts, written_end, written_argument, written_item, written_from, is_part_byte, is_part, is_part_count, IsWritableItem, IsWritableFrom}
 
 -- Bytes of a part
@@ -208,10 +209,10 @@ item_untrimmed i = untrimmed (written_item i) (black_after (opening_of i.command
 
 -- the line that is written counts as the item
 counted_written : (i : AuxItem) (later : List AuxItem) → IsWritableItem i →
-    if_counted i.line (trimmed_end (written_item i)) (command_of (trimmed_end (written_item i))) later ≡ i ∷ later
+    if_counted i.line (trimmed_end (written_item i)) later (command_of (trimmed_end (written_item i))) ≡ i ∷ later
 counted_written i later is =
-    ap (λ (l : List ℕ). if_counted i.line l (command_of l) later) (item_untrimmed i)
-    ∙ ap (λ (c : Option Command). if_counted i.line (written_item i) c later) (command_written i.command (written_argument i.parts i.fault))
+    ap (λ (l : List ℕ). if_counted i.line l later (command_of l)) (item_untrimmed i)
+    ∙ ap (λ (c : Option Command). if_counted i.line (written_item i) later c) (command_written i.command (written_argument i.parts i.fault))
     ∙ ap (λ (found : AuxItem). found ∷ later) (item_written i is)
 
 -- no byte of a text is a line feed
@@ -255,7 +256,7 @@ empty_lines n (suc k) m t is = empty_lines (n + 1) k m t (omega arith)
 
 -- a line, and after it those of some items
 lines_after : (n : ℕ) (l : List ℕ) (items : List AuxItem) → OneLine l → IsWritableFrom (n + 1) items →
-    items_from n (slice_split is_line_end (l ++ written_from n items)) ≡ if_counted n (trimmed_end l) (command_of (trimmed_end l)) items
+    items_from n (slice_split is_line_end (l ++ written_from n items)) ≡ if_counted n (trimmed_end l) items (command_of (trimmed_end l))
 lines_after n l [] one are =
     ap (λ (t : List ℕ). items_from n (slice_split is_line_end t)) (append-nil l)
     ∙ ap (items_from n) (slice_split_none is_line_end l one)
@@ -265,7 +266,7 @@ lines_after n l (i ∷ items) one are =
     let gap : i.line - n ≡ suc k = omega (arith, are.0) in
     ap (λ (g : ℕ). items_from n (slice_split is_line_end (l ++ (replicate g line_feed ++ t)))) gap
     ∙ ap (items_from n) (slice_split_at is_line_end l line_feed (replicate k line_feed ++ t) one refl)
-    ∙ ap (λ (later : List AuxItem). if_counted n (trimmed_end l) (command_of (trimmed_end l)) later)
+    ∙ ap (λ (later : List AuxItem). if_counted n (trimmed_end l) later (command_of (trimmed_end l)))
     (empty_lines (n + 1) k i.line t (omega (arith, are.0)) ∙ lines_after i.line (written_item i) items (one_line_item i are.1) are.2 ∙ counted_written i items are.1)
 
 pub written_is_read : (items : List AuxItem) → IsWritableFrom 1 items → items_from 1 (slice_split is_line_end (written_from 1 items)) ≡ items

@@ -8,7 +8,7 @@ use Rattle.bt_bib.specs.declared.aux_argument.AuxFault.TheVariants.{NoBrace, Whi
 use Rattle.bt_bib.specs.declared.aux_argument.Parting.{Parting}
 use Rattle.bt_bib.specs.declared.aux_argument.Parting.TheVariants.{Commas, Whole}
 use Rattle.bt_bib.specs.declared.aux_line.AuxItem.{AuxItem}
-use Rattle.bt_bib.specs.AuxArgument.{ends_argument, is_comma}
+use Rattle.bt_bib.specs.AuxArgument.{ends_argument}
 use Rattle.bt_bib.specs.AuxLine.{opening_of, parting, aux_lines}
 use Rattle.bt_job.specs.FileNames.{is_file_name_byte, with_ending}
 use Rattle.bt_job.specs.Lines.{database_names, style_names}
@@ -54,7 +54,7 @@ written items = written_from 1 items
 
 -- whether a byte can be in a part: it neither ends the argument nor parts it
 abbrev pub is_part_byte : Parting → ℕ → Bool
-is_part_byte Commas b = not (ends_argument b || is_comma b)
+is_part_byte Commas b = not (ends_argument b || b == comma)
 is_part_byte Whole b = not (ends_argument b)
 
 abbrev pub is_part : Parting → List ℕ → Bool

@@ -7,7 +7,8 @@ use Rattle.bt_bib.specs.declared.aux_line.Command.TheVariants.{Citation, Databas
 use Rattle.bt_bib.specs.declared.aux_argument.AuxFault.{AuxFault}
 use Rattle.bt_bib.specs.declared.aux_line.AuxItem.{AuxItem}
 use Rattle.bt_bib.specs.AuxArgument.{inside, parts_kept, fault_of}
-use Rattle.bt_bib.specs.AuxLine.{is_line_end, opening_of, command_of, item, if_counted, items_from, aux_lines}
+use Rattle.bt_bib.specs.AuxLine.{is_line_end, opening_of, command_of, item, items_from, aux_lines}
+use Rattle.bt_bib.specs.inner.Cases.{if_counted}
 
 abbrev pub IsWhole : List (List ℕ) → Option AuxFault → Type 0
 IsWhole [] None = ⊥
@@ -36,7 +37,7 @@ item_parted n line Database = tt
 item_parted n line Style = let rest = drop (length (opening_of Style)) line in kept_whole (fault_of rest) (inside rest)
 item_parted n line Nested = let rest = drop (length (opening_of Nested)) line in kept_whole (fault_of rest) (inside rest)
 
-counted_parted : (n : ℕ) (line : List ℕ) (o : Option Command) (later : List AuxItem) → AreParted later → AreParted (if_counted n line o later)
+counted_parted : (n : ℕ) (line : List ℕ) (o : Option Command) (later : List AuxItem) → AreParted later → AreParted (if_counted n line later o)
 counted_parted n line None later h = h
 counted_parted n line (Some c) later h = (item_parted n line c, h)
 

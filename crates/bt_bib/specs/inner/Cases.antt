@@ -1,16 +1,19 @@
 -- Parts of rules, for the functions and lemmas that speak of them.
+use Rattle.bt_bib.specs.AuxLine.{item}
 use Rattle.bt_bib.specs.Enclosure.{enclosed}
 use Rattle.bt_bib.specs.Fields.{field, name_ends, next_field}
 use Rattle.bt_bib.specs.Keywords.{keyword_of}
 use Rattle.bt_bib.specs.Many.{all}
 use Rattle.bt_bib.specs.Names.{name, name_ended}
-use Rattle.bt_bib.specs.Pieces.{after_closing, item_of_type, piece, unopened, unread_entry}
+use Rattle.bt_bib.specs.Pieces.{after_closing, item_of_type, next_piece, piece, unopened, unread_entry}
 use Rattle.bt_bib.specs.Scan.{after_run, after_white, closing_sign, first, is_key_byte, run, sign}
 use Rattle.bt_bib.specs.Spot.{Here, after_byte}
 use Rattle.bt_bib.specs.Stop.{Stop, value_read, ◌>>=◌}
 use Rattle.bt_bib.specs.Values.{part, part_ends, value}
 use Rattle.bt_bib.specs.declared.aux_argument.AuxFault.{AuxFault}
 use Rattle.bt_bib.specs.declared.aux_argument.AuxFault.TheVariants.{StuffAfter}
+use Rattle.bt_bib.specs.declared.aux_line.AuxItem.{AuxItem}
+use Rattle.bt_bib.specs.declared.aux_line.Command.{Command}
 use Rattle.bt_bib.specs.declared.fault.ItemFault.{ItemFault}
 use Rattle.bt_bib.specs.declared.fault.ItemFault.TheVariants.{BadNameEnd, EndOfFile, ExpectedCommaOrClose, ExpectedEquals, ExpectedOpen, MissingName, MissingPart, UnbalancedBraces}
 use Rattle.bt_bib.specs.declared.fault.NameRole.{NameRole}
@@ -27,7 +30,7 @@ use Rattle.bt_bib.specs.declared.spot.Spot.{Spot}
 use Rattle.bt_text.specs.ByteTests.{is_digit, is_white, left_brace, right_brace}
 use Rattle.bt_text.specs.NameBytes.{is_name_byte}
 use Rattle.std.specs.List.{list_any}
-use Rattle.std.specs.Prelude.{[], Err, List, None, Ok, Option, Result, Some, codes, if◌then◌else◌, not, ℕ, ◌&&◌, ◌==◌, ◌||◌, ◌∷◌}
+use Rattle.std.specs.Prelude.{[], Bool, Err, List, None, Ok, Option, Result, Some, codes, if◌then◌else◌, not, ℕ, ◌&&◌, ◌==◌, ◌||◌, ◌∷◌}
 
 abbrev pub type_ended : Spot → List ℕ → Result Here Stop → Piece × Here
 type_ended start kind (Err stop) = unopened start (unread_entry (Some kind)) stop
@@ -91,6 +94,31 @@ abbrev pub sign_from : ℕ → ItemFault → Here → Option ℕ → Result Here
 sign_from expected fault h None = Err (EndOfFile, h)
 sign_from expected fault h (Some b) = if b == expected then Ok (after_byte h) else Err (fault, h)
 
+-- the byte can't begin an item
+abbrev pub is_text : ℕ → Bool
+is_text b = not (b == 64)
+
+-- the next piece, which no fault stops
+abbrev pub next_one : Here → Result (Option Piece × Here) Stop
+next_one h = Ok (next_piece h)
+
+-- the pieces from here on
+abbrev pub pieces_from : Here → List Piece
+pieces_from h = (all next_one h).0
+
+-- the line of a name that was read, else another
+abbrev pub name_line : ℕ → ℕ → Option (List ℕ) → ℕ
+name_line line other None = other
+name_line line other (Some name) = line
+
+abbrev pub is_comma : ℕ → Bool
+is_comma b = b == 44
+
+-- a line before later ones, if it counts
+abbrev pub if_counted : ℕ → List ℕ → List AuxItem → Option Command → List AuxItem
+if_counted n line later None = later
+if_counted n line later (Some c) = item n line c ∷ later
+
 abbrev pub part_from : Closing → Here → Option ℕ → Result (Part × Here) Stop
 part_from close h None = Err (EndOfFile, h)
 part_from close h (Some b) =
@@ -99,6 +127,10 @@ part_from close h (Some b) =
     else if is_digit b then Ok (Text (run is_digit h), after_run is_digit h)
     else if is_name_byte b then (name FieldPart (part_ends close) h >>= λ n. Ok (Macro n.0 h.spot.line, n.1))
     else Err (MissingPart, h)
+
+-- a part, before the white space after it
+abbrev pub raw_part : Closing → Here → Result (Part × Here) Stop
+raw_part close h = part_from close h (first h.rest)
 
 abbrev pub joined_from : Closing → Here → Option ℕ → Result (Option Part × Here) Stop
 joined_from close h None = Ok (None, h)

@@ -3,7 +3,7 @@ use Rattle.std.proofs.lemmas.List.{take_rest}
 use Rattle.std.proofs.lemmas.List.Elements.{All-take}
 use Rattle.std.specs.Prelude.{All}
 use Rattle.bt_bib.specs.Spot.{here, start}
-use Rattle.bt_bib.specs.BibText.{pieces_from}
+use Rattle.bt_bib.specs.inner.Cases.{pieces_from}
 use Rattle.bt_bib.specs.Boundaries.{last_end}
 use Rattle.bt_bib.specs.inner.Boundaries.{below}
 use Rattle.bt_bib.specs.Splice.{is_common, reread_upto}

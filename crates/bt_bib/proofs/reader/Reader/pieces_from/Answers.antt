@@ -2,7 +2,7 @@ use Rattle.std.proofs.Common.{sym, ◌∙◌, ap, Ok}
 use Rattle.bt_bib.specs.Spot.{here}
 use Rattle.bt_bib.specs.Many.{all}
 use Rattle.bt_bib.specs.inner.Many.{gathered}
-use Rattle.bt_bib.specs.BibText.{next_one}
+use Rattle.bt_bib.specs.inner.Cases.{next_one}
 use Rattle.bt_bib.proofs.ManyLemmas.{gathers_more}
 use Rattle.bt_bib.proofs.PieceLemmas.{next_piece_less}
 use Rattle.bt_bib.proofs.LoopLemmas.{ahead_then, goes_down, all_none}

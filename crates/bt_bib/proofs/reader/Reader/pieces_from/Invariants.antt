@@ -3,7 +3,7 @@ use Rattle.bt_bib.specs.Spot.{here}
 use Rattle.bt_bib.specs.inner.Spot.{IsAhead}
 use Rattle.bt_bib.specs.Many.{all}
 use Rattle.bt_bib.specs.inner.Many.{gathered}
-use Rattle.bt_bib.specs.BibText.{next_one}
+use Rattle.bt_bib.specs.inner.Cases.{next_one}
 use Rattle.bt_bib.proofs.reader.Reader.pieces_from.Given as goal
 
 abbrev pub invariant-pieces : goal.invariant-pieces

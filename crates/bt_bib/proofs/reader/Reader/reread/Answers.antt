@@ -1,6 +1,6 @@
 use Rattle.std.proofs.Common.{ℕ, Bool, ◌++◌, sym, ◌∙◌, ap, Ok}
 use Rattle.bt_bib.specs.Spot.{here}
-use Rattle.bt_bib.specs.BibText.{next_one, pieces_from}
+use Rattle.bt_bib.specs.inner.Cases.{next_one, pieces_from}
 use Rattle.bt_bib.specs.Boundaries.{last_end}
 use Rattle.bt_bib.specs.Splice.{is_common}
 use Rattle.bt_bib.specs.inner.CommonBoundary.{until}

@@ -1,7 +1,7 @@
 use Rattle.std.proofs.Common.{length, ◌-◌, ◌≡◌, ◌++◌}
 use Rattle.bt_bib.specs.Spot.{here}
 use Rattle.bt_bib.specs.inner.Spot.{IsAhead}
-use Rattle.bt_bib.specs.BibText.{pieces_from}
+use Rattle.bt_bib.specs.inner.Cases.{pieces_from}
 use Rattle.bt_bib.specs.Boundaries.{last_end}
 use Rattle.bt_bib.specs.Splice.{is_common}
 use Rattle.bt_bib.specs.inner.CommonBoundary.{until}
