@@ -15,7 +15,8 @@ use Rattle.bt_log.specs.declared.message.FileNote.TheVariants.{NotOpened, AuxTwi
 use Rattle.bt_job.specs.declared.files.File.{File}
 use Rattle.bt_job.specs.FileNames.{is_file_name, is_among, text_of}
 use Rattle.bt_job.specs.Faults.{LineFault, WrongFile, IllEnded, input_fault, first_fault}
-use Rattle.bt_job.specs.Lines.{JobLine, lines_in, lines_of, has_command, input_names, line_fault, lines_opened, opened_by, read_on, line_count, unopened, AnyBoundServes, NestedInPlace}
+use Rattle.bt_job.specs.Lines.{JobLine, lines_of, has_command, input_names, line_fault, opened_by, read_on, line_count, unopened, AnyBoundServes, NestedInPlace}
+use Rattle.bt_job.specs.inner.Cases.{lines_in, lines_opened}
 use Rattle.bt_job.proofs.NameLemmas.{is_among-append, same_bytes, name_itself}
 use Rattle.bt_job.proofs.PartLemmas.{first_wrong, first_more}
 use Rattle.bt_job.proofs.LineLemmas.{line_at, same_inputs, more_inputs, fault_of_line}

@@ -10,8 +10,9 @@ use Rattle.bt_job.specs.declared.files.File.{File}
 use Rattle.bt_job.specs.declared.citations.Citations.{Citations}
 use Rattle.bt_job.specs.declared.progress.Progress.{Progress}
 use Rattle.bt_job.specs.FileNames.{is_among, text_of, with_name}
-use Rattle.bt_job.specs.Lines.{JobLine, lines_in, lines_of, first_with, cited, read_on, line_count, read_all, job_lines}
-use Rattle.bt_job.specs.Citations.{is_star, keys_of, star_of, databases, styles, messages, file_line, missing_of, lacks, told_missing, asked_by, asked_from, citations}
+use Rattle.bt_job.specs.Lines.{JobLine, lines_of, first_with, cited, read_on, line_count, read_all, job_lines}
+use Rattle.bt_job.specs.Citations.{is_star, keys_of, star_of, databases, styles, messages, file_line, missing_of, lacks, told_missing, asked_by, citations}
+use Rattle.bt_job.specs.inner.Cases.{asked_from, lines_in}
 use Rattle.bt_job.specs.inner.LineEffects.{told, meeting}
 use Rattle.bt_job.specs.inner.NestedFiles.{file_taken, nothing_met, is_empty, missing_one, ended, rooted, asked_for}
 use Rattle.bt_job.proofs.NameLemmas.{bytes_differ}

@@ -16,7 +16,8 @@ use Rattle.bt_job.specs.declared.progress.Progress.{Progress}
 use Rattle.bt_job.specs.declared.progress.Outcome.{Outcome}
 use Rattle.bt_job.specs.declared.progress.Outcome.TheVariants.{Taken, Wrong}
 use Rattle.bt_job.specs.FileNames.{is_among, with_name}
-use Rattle.bt_job.specs.Faults.{LineFault, SecondStar, OtherSpelling, IllEnded, said, key_fault, spelling_fault, right_parts}
+use Rattle.bt_job.specs.Faults.{LineFault, SecondStar, OtherSpelling, IllEnded, said, key_fault, right_parts}
+use Rattle.bt_job.specs.inner.Cases.{spelling_fault}
 use Rattle.bt_job.specs.Lines.{argument_fault}
 use Rattle.bt_job.specs.Citations.{is_star, keys_of, star_of}
 use Rattle.bt_job.specs.inner.LineEffects.{cited_all, cited_key, cited_part, going_on, parts_taken}

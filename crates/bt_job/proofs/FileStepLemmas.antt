@@ -10,8 +10,9 @@ use Rattle.bt_job.specs.declared.files.File.{File}
 use Rattle.bt_job.specs.declared.progress.Progress.{Progress}
 use Rattle.bt_job.specs.declared.progress.Outcome.TheVariants.{Taken}
 use Rattle.bt_job.specs.FileNames.{is_among, with_ending, with_name}
+use Rattle.bt_job.specs.inner.Cases.{lines_opened}
 use Rattle.bt_job.specs.Faults.{LineFault, SecondCommand, IllEnded, style_fault, input_fault, right_parts}
-use Rattle.bt_job.specs.Lines.{JobLine, lines_of, first_with, style_names, input_names, argument_fault, unless_second, line_fault, lines_opened}
+use Rattle.bt_job.specs.Lines.{JobLine, lines_of, first_with, style_names, input_names, argument_fault, unless_second, line_fault}
 use Rattle.bt_job.specs.Citations.{keys_of, star_of, missed, messages}
 use Rattle.bt_job.specs.inner.LineEffects.{named, going_on, item_taken}
 use Rattle.bt_job.proofs.PartLemmas.{end_outcome, right_wrong, right_more, first_wrong, first_more}

@@ -15,8 +15,9 @@ use Rattle.bt_job.specs.declared.progress.Progress.{Progress}
 use Rattle.bt_job.specs.declared.progress.Outcome.{Outcome}
 use Rattle.bt_job.specs.declared.progress.Outcome.TheVariants.{Taken, Wrong, Opens}
 use Rattle.bt_job.specs.FileNames.{is_among, text_of, with_name, each_once}
-use Rattle.bt_job.specs.Faults.{LineFault, SecondStar, OtherSpelling, IllEnded, key_fault, spelling_fault, right_parts}
-use Rattle.bt_job.specs.Lines.{JobLine, lines_of, has_command, first_with, cited, input_names, argument_fault, command_fault, line_fault, lines_opened, opened_by}
+use Rattle.bt_job.specs.Faults.{LineFault, SecondStar, OtherSpelling, IllEnded, key_fault, right_parts}
+use Rattle.bt_job.specs.inner.Cases.{spelling_fault, lines_opened}
+use Rattle.bt_job.specs.Lines.{JobLine, lines_of, has_command, first_with, cited, input_names, argument_fault, command_fault, line_fault, opened_by}
 use Rattle.bt_job.specs.Citations.{keys_of, star_of, databases, styles, missed, along, wanted, file_line, line_messages, messages}
 use Rattle.bt_job.specs.inner.LineEffects.{told, logged_at}
 use Rattle.bt_job.proofs.PartLemmas.{first_wrong, first_more}

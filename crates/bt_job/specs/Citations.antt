@@ -14,7 +14,7 @@ use Rattle.bt_job.specs.declared.files.File.{File}
 use Rattle.bt_job.specs.declared.citations.Citations.{Citations}
 use Rattle.bt_job.specs.FileNames.{is_among, text_of, each_once}
 use Rattle.bt_job.specs.Faults.{LineFault, WrongFile, said, database_fault, style_fault, right_parts}
-use Rattle.bt_job.specs.Lines.{JobLine, first_with, line_parts, cited, database_names, style_names, line_fault, job_lines}
+use Rattle.bt_job.specs.Lines.{JobLine, first_with, cited, database_names, style_names, line_fault, job_lines}
 
 -- Keys
 
@@ -34,11 +34,15 @@ star_of parts =
 
 -- the databases: the names of the first \bibdata before the first that is wrong
 abbrev pub databases : List File → List JobLine → List (List ℕ)
-databases files lines = right_parts (database_fault files) [] (database_names (line_parts (first_with Database lines)))
+databases files lines =
+    let parts : List (List ℕ) = elim (first_with Database lines) [ None ↦ [] | Some line ↦ line.item.parts ] in
+    right_parts (database_fault files) [] (database_names parts)
 
 -- the style: the name of the first \bibstyle, unless it is wrong
 abbrev pub styles : List File → List JobLine → List (List ℕ)
-styles files lines = right_parts (style_fault files) [] (style_names (line_parts (first_with Style lines)))
+styles files lines =
+    let parts : List (List ℕ) = elim (first_with Style lines) [ None ↦ [] | Some line ↦ line.item.parts ] in
+    right_parts (style_fault files) [] (style_names parts)
 
 -- a name that was looked for and isn't there
 abbrev pub missed : Option LineFault → List (List ℕ)
@@ -122,11 +126,8 @@ without_root root = record {
   wanted = root ∷ [];
 }
 
--- a job whose root file has this text
-abbrev pub asked_from : List File → List ℕ → Option (List ℕ) → Citations
-asked_from files root None = without_root root
-asked_from files root (Some text) = asked_by files root (job_lines files root)
-
 -- what the files of a session with this root name ask for
 unfoldable pub citations : List File → List ℕ → Citations
-citations files root = (let file = root ++ codes ".aux" in asked_from files file (text_of files file))
+citations files root =
+    (let file = root ++ codes ".aux" in
+    elim (text_of files file) [ None ↦ without_root file | Some text ↦ asked_by files file (job_lines files file) ])

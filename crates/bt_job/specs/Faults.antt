@@ -42,16 +42,14 @@ said (IllEnded StuffAfter) = Words (codes "Stuff after \"}\"")
 abbrev pub PartFault : Type 0
 PartFault = List (List ℕ) → List ℕ → Option LineFault
 
--- a key that was first spelled so
-abbrev pub spelling_fault : List ℕ → Option (List ℕ) → Option LineFault
-spelling_fault key None = None
-spelling_fault key (Some first) = if bytes_eq first key then None else Some (OtherSpelling key first)
-
--- a part of \citation
+-- a part of \citation: a key is spelled as it was first
 abbrev pub key_fault : PartFault
 key_fault before part =
     if bytes_eq part (codes "*") then (if is_among before part then Some SecondStar else None)
-    else spelling_fault part (same_name part before)
+    else elim (same_name part before) [
+      | None ↦ None
+      | Some first ↦ if bytes_eq first part then None else Some (OtherSpelling part first)
+    ]
 
 -- whether a file of this name is there
 abbrev pub is_there : List File → List ℕ → Bool

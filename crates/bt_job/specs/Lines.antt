@@ -16,15 +16,12 @@ pub record JobLine : Type 0 where
   pub file : List ℕ
   pub item : AuxItem
 
--- the lines of a file that has this text
-abbrev pub lines_in : ℕ → List ℕ → Option (List ℕ) → List JobLine
-lines_in level file None = []
-lines_in level file (Some text) =
-    map (λ item. record { level = level; file = file; item = item }) (aux_lines text)
-
 -- the lines of a file
 abbrev pub lines_of : List File → ℕ → List ℕ → List JobLine
-lines_of files level file = lines_in level file (text_of files file)
+lines_of files level file = elim (text_of files file) [
+  | None ↦ []
+  | Some text ↦ map (λ item. record { level = level; file = file; item = item }) (aux_lines text)
+]
 
 -- Lines of one command
 
@@ -42,18 +39,11 @@ has_command command line = is_same_command command line.item.command
 abbrev pub first_with : Command → List JobLine → Option JobLine
 first_with command lines = find (has_command command) lines
 
--- the parts of a line, if there is one
-abbrev pub line_parts : Option JobLine → List (List ℕ)
-line_parts None = []
-line_parts (Some line) = line.item.parts
-
--- what was cited, with the parts of one more \citation before the first that is wrong
-abbrev pub with_cited : List (List ℕ) → JobLine → List (List ℕ)
-with_cited before line = before ++ right_parts key_fault before line.item.parts
-
--- what was cited, in order
+-- what was cited, in order: of each \citation the parts before the first that is wrong
 unfoldable pub cited : List JobLine → List (List ℕ)
-cited lines = fold with_cited [] (filter (has_command Citation) lines)
+cited lines =
+    fold (λ (before : List (List ℕ)) (line : JobLine). before ++ right_parts key_fault before line.item.parts) []
+    (filter (has_command Citation) lines)
 
 -- the names of a \bibdata
 abbrev pub database_names : List (List ℕ) → List (List ℕ)
@@ -97,15 +87,12 @@ line_fault files root before line = command_fault files root before line.item.co
 
 -- All lines
 
--- the lines of the file that a line opens, which has this fault
-abbrev pub lines_opened : List File → JobLine → Option LineFault → List JobLine
-lines_opened files line (Some fault) = []
-lines_opened files line None =
-    if has_command Nested line then flat_map (lines_of files (line.level + 1)) line.item.parts else []
-
 -- the lines of the file that a line opens, if it opens one
 abbrev pub opened_by : List File → List ℕ → List JobLine → JobLine → List JobLine
-opened_by files root before line = lines_opened files line (line_fault files root before line)
+opened_by files root before line = elim (line_fault files root before line) [
+  | Some fault ↦ []
+  | None ↦ if has_command Nested line then flat_map (lines_of files (line.level + 1)) line.item.parts else []
+]
 
 -- Some lines, and after them the next ones, each with the lines of the file that it opens after it; at most so many
 -- more. Which bound it is doesn't matter where it is large enough (AnyBoundServes).
