@@ -45,7 +45,6 @@ start =
       lines = [];
       messages = [];
       stack = [];
-      calls = [];
     }
 
 abbrev pub second : World

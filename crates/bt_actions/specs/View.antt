@@ -57,7 +57,6 @@ world_of s =
       lines = s.lines;
       messages = map (message_of (key_seen s.current)) s.complaints;
       stack = reverse (map item_of s.stack.items);
-      calls = s.tally.calls;
     }
 
 -- how an action leaves the run

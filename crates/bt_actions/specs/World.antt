@@ -22,8 +22,6 @@ pub record World : Type 0 where
   pub messages : List Message
   -- its top first
   pub stack : List Item
-  -- how often each of the 37 built-in functions was called in this step
-  pub calls : List ℕ
 
 -- what an action that runs no function leaves: the run goes on, or it stops
 pub data Act : Type 0 where

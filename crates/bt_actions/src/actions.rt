@@ -20,8 +20,7 @@ pub fn call_basic(
     style: &Style,
     builtin: Builtin,
 ) -> Result<Flow, AllocError>
-    ensures world { IfOk result (Acts (basic (program_of style.now) builtin) state.old state.new) }
-    ensures tally { state.new.tally ≡ state.old.tally }
+    ensures { IfOk result (Acts (basic (program_of style.now) builtin) state.old state.new) }
 {
     match builtin {
         Builtin::Greater => numbers::greater(state),

@@ -141,7 +141,6 @@ pub fn take<'a, A: Argument<'a>>(
     ensures value { IfOk result (λ argument. option_map A.seen argument
         ≡ (taken builtin A.kind (world_of state.old)).0) }
     ensures world { OnOk result (world_of state.new ≡ (taken builtin A.kind (world_of state.old)).1) }
-    ensures tally { state.new.tally ≡ state.old.tally }
 {
     let (argument, wrong) = judged(state.pop()?);
     state.judge(builtin, wrong)?;
@@ -154,7 +153,6 @@ fn pop_two<'a>(state: &mut State<'a>) -> Result<(Option<Value<'a>>, Option<Value
         ≡ (popped (popped (world_of state.old)).1).0) }
     ensures upper { IfOk result (λ pair. option_map item_of pair.1 ≡ (popped (world_of state.old)).0) }
     ensures world { OnOk result (world_of state.new ≡ (popped (popped (world_of state.old)).1).1) }
-    ensures tally { state.new.tally ≡ state.old.tally }
 {
     let upper = state.pop()?;
     let lower = state.pop()?;
@@ -169,7 +167,6 @@ pub fn take_two<'a, A: Argument<'a>, B: Argument<'a>>(
     ensures value { IfOk result (λ pair. option_map (λ pair. (A.seen pair.0, B.seen pair.1)) pair
         ≡ (taken_two builtin A.kind B.kind (world_of state.old)).0) }
     ensures world { OnOk result (world_of state.new ≡ (taken_two builtin A.kind B.kind (world_of state.old)).1) }
-    ensures tally { state.new.tally ≡ state.old.tally }
 {
     let (lower, upper) = pop_two(state)?;
     let (upper, wrong_upper) = judged(upper);
@@ -188,7 +185,6 @@ pub fn take_three<'a, A: Argument<'a>, B: Argument<'a>, C: Argument<'a>>(
         ≡ (taken_three builtin A.kind B.kind C.kind (world_of state.old)).0) }
     ensures world { OnOk result (world_of state.new
         ≡ (taken_three builtin A.kind B.kind C.kind (world_of state.old)).1) }
-    ensures tally { state.new.tally ≡ state.old.tally }
 {
     let (middle, last) = pop_two(state)?;
     let (last, wrong_last) = judged(last);
@@ -206,7 +202,6 @@ pub fn take_three<'a, A: Argument<'a>, B: Argument<'a>, C: Argument<'a>>(
 pub fn take_number(state: &mut State, builtin: Builtin) -> Result<Option<i32>, AllocError>
     ensures value { IfOk result (λ number. number ≡ (taken builtin as_number (world_of state.old)).0) }
     ensures world { OnOk result (world_of state.new ≡ (taken builtin as_number (world_of state.old)).1) }
-    ensures tally { state.new.tally ≡ state.old.tally }
 {
     take(state, builtin)
 }
@@ -220,7 +215,6 @@ pub fn take_two_codes<'a>(
         ≡ (taken_two builtin as_code as_code (world_of state.old)).0) }
     ensures world { OnOk result (world_of state.new
         ≡ (taken_two builtin as_code as_code (world_of state.old)).1) }
-    ensures tally { state.new.tally ≡ state.old.tally }
 {
     take_two(state, builtin)
 }
@@ -234,7 +228,6 @@ pub fn take_choice<'a>(
         ≡ (taken_three builtin as_number as_code as_code (world_of state.old)).0) }
     ensures world { OnOk result (world_of state.new
         ≡ (taken_three builtin as_number as_code as_code (world_of state.old)).1) }
-    ensures tally { state.new.tally ≡ state.old.tally }
 {
     take_three(state, builtin)
 }

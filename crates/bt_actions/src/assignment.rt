@@ -18,9 +18,8 @@ use std::alloc::{AllocError, Global};
 
 /// What a value of another kind than its variable's is reported as.
 fn tell_wrong_kind(state: &mut State) -> Result<(), AllocError>
-    ensures world { OnOk result (world_of state.new
+    ensures { OnOk result (world_of state.new
         ≡ say (Complaint.WrongKind builtin.Assign) (world_of state.old)) }
-    ensures tally { state.new.tally ≡ state.old.tally }
 {
     state.tell(Complaint::WrongKind(Builtin::Assign))
 }
@@ -32,9 +31,8 @@ fn assign_global_number(
     n: usize,
     value: &Value,
 ) -> Result<(), AllocError>
-    ensures world { OnOk result (world_of state.new
+    ensures { OnOk result (world_of state.new
         ≡ assigned (item_of value.now, target.GlobalNumber n) (world_of state.old)) }
-    ensures tally { state.new.tally ≡ state.old.tally }
 {
     match value {
         Value::Number(number) => state.globals.set_number(alloc, n, *number),
@@ -49,9 +47,8 @@ fn assign_global_text(
     n: usize,
     value: Value,
 ) -> Result<(), AllocError>
-    ensures world { OnOk result (world_of state.new
+    ensures { OnOk result (world_of state.new
         ≡ assigned (item_of value.entry, target.GlobalText n) (world_of state.old)) }
-    ensures tally { state.new.tally ≡ state.old.tally }
 {
     match value {
         Value::Text(text) => {
@@ -69,9 +66,8 @@ fn assign_entry_number(
     n: usize,
     value: &Value,
 ) -> Result<(), AllocError>
-    ensures world { OnOk result (world_of state.new
+    ensures { OnOk result (world_of state.new
         ≡ assigned (item_of value.now, target.EntryNumber n) (world_of state.old)) }
-    ensures tally { state.new.tally ≡ state.old.tally }
 {
     match &mut state.current {
         None => state.tell(Complaint::NoEntry),
@@ -89,9 +85,8 @@ fn assign_entry_text(
     n: usize,
     value: Value,
 ) -> Result<(), AllocError>
-    ensures world { OnOk result (world_of state.new
+    ensures { OnOk result (world_of state.new
         ≡ assigned (item_of value.entry, target.EntryText n) (world_of state.old)) }
-    ensures tally { state.new.tally ≡ state.old.tally }
 {
     match &mut state.current {
         None => state.tell(Complaint::NoEntry),
@@ -112,8 +107,7 @@ fn assign_to(
     target: Target,
     value: Value,
 ) -> Result<(), AllocError>
-    ensures world { OnOk result (world_of state.new ≡ assigned (item_of value.entry, target) (world_of state.old)) }
-    ensures tally { state.new.tally ≡ state.old.tally }
+    ensures { OnOk result (world_of state.new ≡ assigned (item_of value.entry, target) (world_of state.old)) }
 {
     match target {
         Target::EntryNumber(n) => assign_entry_number(state, alloc, n, &value),
@@ -128,9 +122,8 @@ fn assign_to(
 
 /// `:=`.
 pub fn assign(state: &mut State, alloc: Global) -> Result<Flow, AllocError>
-    ensures world { IfOk result (Acts (λ world.
+    ensures { IfOk result (Acts (λ world.
         change_with assigned (taken_two builtin.Assign as_any as_target world)) state.old state.new) }
-    ensures tally { state.new.tally ≡ state.old.tally }
 {
     if let Some((value, target)) = take_two::<Value, Target>(state, Builtin::Assign)? {
         assign_to(state, alloc, target, value)?;

@@ -20,9 +20,8 @@ use std::alloc::AllocError;
 
 /// Compares two numbers or two texts.
 fn compare(state: &mut State, lower: &Value, upper: &Value) -> Result<Flow, AllocError>
-    ensures world { IfOk result
+    ensures { IfOk result
         (Acts (answered (equality_of (item_of lower.now, item_of upper.now))) state.old state.new) }
-    ensures tally { state.new.tally ≡ state.old.tally }
 {
     match (lower, upper) {
         (Value::Number(n), Value::Number(m)) => state.push_truth(*n == *m),
@@ -33,9 +32,8 @@ fn compare(state: &mut State, lower: &Value, upper: &Value) -> Result<Flow, Allo
 
 /// `=`.
 pub fn equals(state: &mut State) -> Result<Flow, AllocError>
-    ensures world { IfOk result (Acts (λ world.
+    ensures { IfOk result (Acts (λ world.
         valued equality_of zero_item (taken_two builtin.Equals as_any as_any world)) state.old state.new) }
-    ensures tally { state.new.tally ≡ state.old.tally }
 {
     match take_two::<Value, Value>(state, Builtin::Equals)? {
         None => state.push_number(0),
@@ -62,9 +60,8 @@ fn is_blank(text: &Option<ShortText>) -> bool
 
 /// `empty$`.
 pub fn empty(state: &mut State) -> Result<Flow, AllocError>
-    ensures world { IfOk result (Acts (λ world.
+    ensures { IfOk result (Acts (λ world.
         valued emptiness_of zero_item (taken builtin.Empty as_field_text world)) state.old state.new) }
-    ensures tally { state.new.tally ≡ state.old.tally }
 {
     match take::<Option<ShortText>>(state, Builtin::Empty)? {
         None => state.push_number(0),
@@ -81,9 +78,8 @@ fn is_missing(text: &Option<ShortText>) -> bool
 
 /// `missing$`.
 pub fn missing(state: &mut State) -> Result<Flow, AllocError>
-    ensures world { IfOk result (Acts (λ world.
+    ensures { IfOk result (Acts (λ world.
         valued missing_of zero_item (taken builtin.Missing as_field_text world)) state.old state.new) }
-    ensures tally { state.new.tally ≡ state.old.tally }
 {
     match take::<Option<ShortText>>(state, Builtin::Missing)? {
         None => state.push_number(0),

@@ -102,9 +102,8 @@ fn log_value(
     style: &Style,
     value: Value,
 ) -> Result<(), AllocError>
-    ensures world { OnOk result (world_of state.new
+    ensures { OnOk result (world_of state.new
         ≡ log_value (program_of style.now) (item_of value.entry) (world_of state.old)) }
-    ensures tally { state.new.tally ≡ state.old.tally }
 {
     let words = shown(alloc, style, value)?;
     state.tell(Complaint::Shown(words))
@@ -112,9 +111,8 @@ fn log_value(
 
 /// `top$`.
 pub fn top(state: &mut State, alloc: Global, style: &Style) -> Result<Flow, AllocError>
-    ensures world { IfOk result (Acts (λ world.
+    ensures { IfOk result (Acts (λ world.
         change_with (log_value (program_of style.now)) (taken builtin.Top as_any world)) state.old state.new) }
-    ensures tally { state.new.tally ≡ state.old.tally }
 {
     if let Some(value) = state.pop()? {
         log_value(state, alloc, style, value)?;
@@ -125,8 +123,7 @@ pub fn top(state: &mut State, alloc: Global, style: &Style) -> Result<Flow, Allo
 /// `stack$`.
 #[tactic(auto, using(crate::proofs::LoggingLemmas::log_stack_next))]
 pub fn all(state: &mut State, alloc: Global, style: &Style) -> Result<Flow, AllocError>
-    ensures world { IfOk result (Acts (λ world. Goes (log_stack (program_of style.now) world)) state.old state.new) }
-    ensures tally { state.new.tally ≡ state.old.tally }
+    ensures { IfOk result (Acts (λ world. Goes (log_stack (program_of style.now) world)) state.old state.new) }
 {
     'values: while let Some(value) = state.take_top() {
         log_value(state, alloc, style, value)?;
@@ -136,8 +133,7 @@ pub fn all(state: &mut State, alloc: Global, style: &Style) -> Result<Flow, Allo
 
 /// Logs a warning.
 fn log_warning(state: &mut State, alloc: Global, text: ShortText) -> Result<Flow, AllocError>
-    ensures world { IfOk result (Acts (λ world. Goes (log_warning text.entry world)) state.old state.new) }
-    ensures tally { state.new.tally ≡ state.old.tally }
+    ensures { IfOk result (Acts (λ world. Goes (log_warning text.entry world)) state.old state.new) }
 {
     let words = text.into_bytes(alloc)?;
     state.tell(Complaint::Warned(words))?;
@@ -146,9 +142,8 @@ fn log_warning(state: &mut State, alloc: Global, text: ShortText) -> Result<Flow
 
 /// `warning$`.
 pub fn warning(state: &mut State, alloc: Global) -> Result<Flow, AllocError>
-    ensures world { IfOk result (Acts (λ world.
+    ensures { IfOk result (Acts (λ world.
         change_with log_warning (taken builtin.Warning as_text world)) state.old state.new) }
-    ensures tally { state.new.tally ≡ state.old.tally }
 {
     match take::<ShortText>(state, Builtin::Warning)? {
         None => Ok(Flow::Go),

@@ -21,9 +21,8 @@ use std::alloc::{AllocError, Global};
 
 /// `num.names$`.
 pub fn num_names(state: &mut State) -> Result<Flow, AllocError>
-    ensures world { IfOk result (Acts (λ world.
+    ensures { IfOk result (Acts (λ world.
         valued names_counted zero_item (taken builtin.NumNames as_text world)) state.old state.new) }
-    ensures tally { state.new.tally ≡ state.old.tally }
 {
     match take::<ShortText>(state, Builtin::NumNames)? {
         None => state.push_number(0),
@@ -33,8 +32,7 @@ pub fn num_names(state: &mut State) -> Result<Flow, AllocError>
 
 /// Puts a formatted name on the stack, unless it is too long for it.
 fn push_within(state: &mut State, formatted: Formatted) -> Result<Flow, AllocError>
-    ensures world { IfOk result (Acts (pushed_within formatted) state.old state.new) }
-    ensures tally { state.new.tally ≡ state.old.tally }
+    ensures { IfOk result (Acts (pushed_within formatted) state.old state.new) }
 {
     match formatted {
         Formatted::Text(text) => state.push_text(Text::Own(text)),
@@ -79,9 +77,8 @@ fn push_formatted(
     number: i32,
     pattern: &[u8],
 ) -> Result<Flow, AllocError>
-    ensures world { IfOk result (Acts (answered (name_formatted (names.now, number, pattern.now))) state.old
+    ensures { IfOk result (Acts (answered (name_formatted (names.now, number, pattern.now))) state.old
         state.new) }
-    ensures tally { state.new.tally ≡ state.old.tally }
 {
     match format_within(alloc, names, number, pattern, TEXT_BYTES) {
         Ok(formatted) => push_within(state, formatted),
@@ -94,10 +91,9 @@ fn push_formatted(
 
 /// `format.name$`.
 pub fn format_name(state: &mut State, alloc: Global) -> Result<Flow, AllocError>
-    ensures world { IfOk result (Acts (λ world.
+    ensures { IfOk result (Acts (λ world.
         valued name_formatted empty_item (taken_three builtin.FormatName as_text as_number as_text world))
         state.old state.new) }
-    ensures tally { state.new.tally ≡ state.old.tally }
 {
     match take_three::<ShortText, i32, ShortText>(state, Builtin::FormatName)? {
         None => state.push_text(Text::Lent(b"")),

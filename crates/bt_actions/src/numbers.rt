@@ -18,9 +18,8 @@ use std::alloc::{AllocError, Global};
 
 /// `>`.
 pub fn greater(state: &mut State) -> Result<Flow, AllocError>
-    ensures world { IfOk result (Acts (λ world.
+    ensures { IfOk result (Acts (λ world.
         valued greater_of zero_item (taken_two builtin.Greater as_number as_number world)) state.old state.new) }
-    ensures tally { state.new.tally ≡ state.old.tally }
 {
     match take_two::<i32, i32>(state, Builtin::Greater)? {
         None => state.push_number(0),
@@ -30,9 +29,8 @@ pub fn greater(state: &mut State) -> Result<Flow, AllocError>
 
 /// `<`.
 pub fn less(state: &mut State) -> Result<Flow, AllocError>
-    ensures world { IfOk result (Acts (λ world.
+    ensures { IfOk result (Acts (λ world.
         valued less_of zero_item (taken_two builtin.Less as_number as_number world)) state.old state.new) }
-    ensures tally { state.new.tally ≡ state.old.tally }
 {
     match take_two::<i32, i32>(state, Builtin::Less)? {
         None => state.push_number(0),
@@ -42,8 +40,7 @@ pub fn less(state: &mut State) -> Result<Flow, AllocError>
 
 /// Puts a number on the stack, or reports that it doesn't fit.
 fn push_fitting(state: &mut State, builtin: Builtin, number: i64) -> Result<Flow, AllocError>
-    ensures world { IfOk result (Acts (answered (number_given builtin number)) state.old state.new) }
-    ensures tally { state.new.tally ≡ state.old.tally }
+    ensures { IfOk result (Acts (answered (number_given builtin number)) state.old state.new) }
 {
     match i32::try_from(number) {
         Ok(number) => state.push_number(number),
@@ -53,9 +50,8 @@ fn push_fitting(state: &mut State, builtin: Builtin, number: i64) -> Result<Flow
 
 /// `+`.
 pub fn plus(state: &mut State) -> Result<Flow, AllocError>
-    ensures world { IfOk result (Acts (λ world.
+    ensures { IfOk result (Acts (λ world.
         valued sum_of zero_item (taken_two builtin.Plus as_number as_number world)) state.old state.new) }
-    ensures tally { state.new.tally ≡ state.old.tally }
 {
     match take_two::<i32, i32>(state, Builtin::Plus)? {
         None => state.push_number(0),
@@ -67,9 +63,8 @@ pub fn plus(state: &mut State) -> Result<Flow, AllocError>
 
 /// `-`.
 pub fn minus(state: &mut State) -> Result<Flow, AllocError>
-    ensures world { IfOk result (Acts (λ world.
+    ensures { IfOk result (Acts (λ world.
         valued difference_of zero_item (taken_two builtin.Minus as_number as_number world)) state.old state.new) }
-    ensures tally { state.new.tally ≡ state.old.tally }
 {
     match take_two::<i32, i32>(state, Builtin::Minus)? {
         None => state.push_number(0),
@@ -81,9 +76,8 @@ pub fn minus(state: &mut State) -> Result<Flow, AllocError>
 
 /// `chr.to.int$`.
 pub fn chr_to_int(state: &mut State, alloc: Global) -> Result<Flow, AllocError>
-    ensures world { IfOk result (Acts (λ world.
+    ensures { IfOk result (Acts (λ world.
         valued byte_number zero_item (taken builtin.ChrToInt as_text world)) state.old state.new) }
-    ensures tally { state.new.tally ≡ state.old.tally }
 {
     match take::<ShortText>(state, Builtin::ChrToInt)? {
         None => state.push_number(0),
@@ -99,8 +93,7 @@ pub fn chr_to_int(state: &mut State, alloc: Global) -> Result<Flow, AllocError>
 
 /// The text of the byte of this number, which must be one from 0 to 127.
 fn push_ascii(state: &mut State, alloc: Global, number: i32) -> Result<Flow, AllocError>
-    ensures world { IfOk result (Acts (answered (ascii_text number)) state.old state.new) }
-    ensures tally { state.new.tally ≡ state.old.tally }
+    ensures { IfOk result (Acts (answered (ascii_text number)) state.old state.new) }
 {
     if 0 <= number && number < 128 {
         let text = Bytes::copied(alloc, &[number as u8])?;
@@ -112,9 +105,8 @@ fn push_ascii(state: &mut State, alloc: Global, number: i32) -> Result<Flow, All
 
 /// `int.to.chr$`.
 pub fn int_to_chr(state: &mut State, alloc: Global) -> Result<Flow, AllocError>
-    ensures world { IfOk result (Acts (λ world.
+    ensures { IfOk result (Acts (λ world.
         valued ascii_text empty_item (taken builtin.IntToChr as_number world)) state.old state.new) }
-    ensures tally { state.new.tally ≡ state.old.tally }
 {
     match take::<i32>(state, Builtin::IntToChr)? {
         None => state.push_text(Text::Lent(b"")),
@@ -124,9 +116,8 @@ pub fn int_to_chr(state: &mut State, alloc: Global) -> Result<Flow, AllocError>
 
 /// `int.to.str$`.
 pub fn int_to_str(state: &mut State, alloc: Global) -> Result<Flow, AllocError>
-    ensures world { IfOk result (Acts (λ world.
+    ensures { IfOk result (Acts (λ world.
         valued digits_text empty_item (taken builtin.IntToStr as_number world)) state.old state.new) }
-    ensures tally { state.new.tally ≡ state.old.tally }
 {
     match take::<i32>(state, Builtin::IntToStr)? {
         None => state.push_text(Text::Lent(b"")),

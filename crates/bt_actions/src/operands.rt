@@ -38,8 +38,7 @@ fn text_at<'a>(texts: &Values<Shared<Bytes>>, n: usize) -> Result<Text<'a>, Allo
 
 /// Calls a field of the step's entry: its text or its absence goes on the stack.
 pub fn call_field(state: &mut State, n: usize) -> Result<Flow, AllocError>
-    ensures world { IfOk result (Acts (of_entry (field_at n) empty_item) state.old state.new) }
-    ensures tally { state.new.tally ≡ state.old.tally }
+    ensures { IfOk result (Acts (of_entry (field_at n) empty_item) state.old state.new) }
 {
     match &state.current {
         None => state.push_text_in_error(Complaint::NoEntry, Text::Lent(b"")),
@@ -52,8 +51,7 @@ pub fn call_field(state: &mut State, n: usize) -> Result<Flow, AllocError>
 
 /// Calls a number variable of the step's entry: its value goes on the stack.
 pub fn call_entry_number(state: &mut State, n: usize) -> Result<Flow, AllocError>
-    ensures world { IfOk result (Acts (of_entry (number_at n) zero_item) state.old state.new) }
-    ensures tally { state.new.tally ≡ state.old.tally }
+    ensures { IfOk result (Acts (of_entry (number_at n) zero_item) state.old state.new) }
 {
     match &state.current {
         None => state.push_zero_in_error(Complaint::NoEntry),
@@ -66,8 +64,7 @@ pub fn call_entry_number(state: &mut State, n: usize) -> Result<Flow, AllocError
 
 /// Calls a text variable of the step's entry: its value goes on the stack.
 pub fn call_entry_text(state: &mut State, n: usize) -> Result<Flow, AllocError>
-    ensures world { IfOk result (Acts (of_entry (text_at n) empty_item) state.old state.new) }
-    ensures tally { state.new.tally ≡ state.old.tally }
+    ensures { IfOk result (Acts (of_entry (text_at n) empty_item) state.old state.new) }
 {
     match &state.current {
         None => state.push_text_in_error(Complaint::NoEntry, Text::Lent(b"")),
@@ -80,8 +77,7 @@ pub fn call_entry_text(state: &mut State, n: usize) -> Result<Flow, AllocError>
 
 /// Calls a number variable of the style: its value goes on the stack.
 pub fn call_global_number(state: &mut State, n: usize) -> Result<Flow, AllocError>
-    ensures world { IfOk result (Acts (global_number n) state.old state.new) }
-    ensures tally { state.new.tally ≡ state.old.tally }
+    ensures { IfOk result (Acts (global_number n) state.old state.new) }
 {
     let number = number_at(&state.globals.present().numbers, n);
     state.push_number(number)
@@ -89,8 +85,7 @@ pub fn call_global_number(state: &mut State, n: usize) -> Result<Flow, AllocErro
 
 /// Calls a text variable of the style: its value goes on the stack.
 pub fn call_global_text(state: &mut State, n: usize) -> Result<Flow, AllocError>
-    ensures world { IfOk result (Acts (global_text n) state.old state.new) }
-    ensures tally { state.new.tally ≡ state.old.tally }
+    ensures { IfOk result (Acts (global_text n) state.old state.new) }
 {
     let text = text_at(&state.globals.present().texts, n)?;
     state.push_text(text)
@@ -108,8 +103,7 @@ fn kind_shown(entry: &Entry) -> Text<'_>
 
 /// `cite$`.
 pub fn cite(state: &mut State) -> Result<Flow, AllocError>
-    ensures world { IfOk result (Acts (of_entry key_item empty_item) state.old state.new) }
-    ensures tally { state.new.tally ≡ state.old.tally }
+    ensures { IfOk result (Acts (of_entry key_item empty_item) state.old state.new) }
 {
     match &state.current {
         None => state.push_text_in_error(Complaint::NoEntry, Text::Lent(b"")),
@@ -122,8 +116,7 @@ pub fn cite(state: &mut State) -> Result<Flow, AllocError>
 
 /// `type$`.
 pub fn entry_type(state: &mut State) -> Result<Flow, AllocError>
-    ensures world { IfOk result (Acts (of_entry kind_item empty_item) state.old state.new) }
-    ensures tally { state.new.tally ≡ state.old.tally }
+    ensures { IfOk result (Acts (of_entry kind_item empty_item) state.old state.new) }
 {
     match &state.current {
         None => state.push_text_in_error(Complaint::NoEntry, Text::Lent(b"")),
@@ -136,8 +129,7 @@ pub fn entry_type(state: &mut State) -> Result<Flow, AllocError>
 
 /// `preamble$`.
 pub fn preamble(state: &mut State) -> Result<Flow, AllocError>
-    ensures world { IfOk result (Acts (λ world. pushed (Txt world.preamble) world) state.old state.new) }
-    ensures tally { state.new.tally ≡ state.old.tally }
+    ensures { IfOk result (Acts (λ world. pushed (Txt world.preamble) world) state.old state.new) }
 {
     state.push_text(Text::Lent(state.preamble))
 }

@@ -16,8 +16,7 @@ use std::alloc::{AllocError, Global};
 
 /// `newline$`.
 pub fn newline(state: &mut State, alloc: Global) -> Result<Flow, AllocError>
-    ensures world { IfOk result (Acts (λ world. Goes (held_line_ended world)) state.old state.new) }
-    ensures tally { state.new.tally ≡ state.old.tally }
+    ensures { IfOk result (Acts (λ world. Goes (held_line_ended world)) state.old state.new) }
 {
     state.end_line(alloc)?;
     Ok(Flow::Go)
@@ -25,9 +24,8 @@ pub fn newline(state: &mut State, alloc: Global) -> Result<Flow, AllocError>
 
 /// `write$`.
 pub fn write(state: &mut State, alloc: Global) -> Result<Flow, AllocError>
-    ensures world { IfOk result (Acts (λ world. act_with appended (taken builtin.Write as_text world)) state.old
+    ensures { IfOk result (Acts (λ world. act_with appended (taken builtin.Write as_text world)) state.old
         state.new) }
-    ensures tally { state.new.tally ≡ state.old.tally }
 {
     match take::<ShortText>(state, Builtin::Write)? {
         None => Ok(Flow::Go),

@@ -17,10 +17,9 @@ fn push_twice<'a>(
     alloc: Global,
     value: Value<'a>,
 ) -> Result<Flow, AllocError>
-    ensures world { IfOk result
+    ensures { IfOk result
         (Acts (λ world. pushed (item_of value.entry) (with_stack (item_of value.entry ∷ world.stack) world))
         state.old state.new) }
-    ensures tally { state.new.tally ≡ state.old.tally }
 {
     let (lower, upper) = value.twice(alloc)?;
     state.stack.push(lower)?;
@@ -29,8 +28,7 @@ fn push_twice<'a>(
 
 /// `duplicate$`.
 pub fn duplicate(state: &mut State, alloc: Global) -> Result<Flow, AllocError>
-    ensures world { IfOk result (Acts (λ world. duplicated world.stack world) state.old state.new) }
-    ensures tally { state.new.tally ≡ state.old.tally }
+    ensures { IfOk result (Acts (λ world. duplicated world.stack world) state.old state.new) }
 {
     match state.stack.pop() {
         None => {
@@ -43,8 +41,7 @@ pub fn duplicate(state: &mut State, alloc: Global) -> Result<Flow, AllocError>
 
 /// `pop$`.
 pub fn pop(state: &mut State) -> Result<Flow, AllocError>
-    ensures world { IfOk result (Acts (λ world. Goes (popped world).1) state.old state.new) }
-    ensures tally { state.new.tally ≡ state.old.tally }
+    ensures { IfOk result (Acts (λ world. Goes (popped world).1) state.old state.new) }
 {
     state.pop()?;
     Ok(Flow::Go)
@@ -52,8 +49,7 @@ pub fn pop(state: &mut State) -> Result<Flow, AllocError>
 
 /// `swap$`.
 pub fn swap(state: &mut State) -> Result<Flow, AllocError>
-    ensures world { IfOk result (Acts (λ world. Goes (swapped world.stack world)) state.old state.new) }
-    ensures tally { state.new.tally ≡ state.old.tally }
+    ensures { IfOk result (Acts (λ world. Goes (swapped world.stack world)) state.old state.new) }
 {
     let count = state.stack.len();
     if count < 2 {

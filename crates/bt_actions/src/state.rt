@@ -4,7 +4,6 @@ use crate::complaint::{self, Complaint};
 use crate::entry::Entry;
 use crate::short_text::{ShortText, Text};
 use crate::step_variables::StepVariables;
-use crate::tally::Tally;
 use crate::value::Value;
 use bt_log::Message;
 use bt_style::Builtin;
@@ -39,7 +38,6 @@ pub struct State<'a> {
     pub complaints: Sequence<Complaint>,
     /// Its top last.
     pub stack: Vec<Value<'a>>,
-    pub tally: Tally,
 }
 
 impl<'a> State<'a> {
@@ -55,8 +53,7 @@ impl<'a> State<'a> {
 
     /// Adds a complaint.
     pub fn tell(&mut self, complaint: Complaint) -> Result<(), AllocError>
-        ensures world { OnOk result (world_of self.new ≡ say complaint (world_of self.old)) }
-        ensures tally { self.new.tally ≡ self.old.tally }
+        ensures { OnOk result (world_of self.new ≡ say complaint (world_of self.old)) }
     {
         self.complaints.push(complaint)?;
         Ok(())
@@ -66,7 +63,6 @@ impl<'a> State<'a> {
     pub fn pop(&mut self) -> Result<Option<Value<'a>>, AllocError>
         ensures value { IfOk result (λ top. option_map item_of top ≡ (popped (world_of self.old)).0) }
         ensures world { OnOk result (world_of self.new ≡ (popped (world_of self.old)).1) }
-        ensures tally { self.new.tally ≡ self.old.tally }
     {
         match self.stack.pop() {
             Some(value) => Ok(Some(value)),
@@ -84,15 +80,13 @@ impl<'a> State<'a> {
         ensures world { world_of self.new ≡ with_stack (world_of self.new).stack (world_of self.old) }
         ensures same { IfNone result (world_of self.new ≡ world_of self.old) }
         ensures shorter { OnSome result (vec_len self.new.stack < vec_len self.old.stack) }
-        ensures tally { self.new.tally ≡ self.old.tally }
     {
         self.stack.pop()
     }
 
     /// Reports an argument of the wrong kind, where there was one.
     pub fn judge(&mut self, builtin: Builtin, wrong: bool) -> Result<(), AllocError>
-        ensures world { OnOk result (world_of self.new ≡ judged builtin wrong (world_of self.old)) }
-        ensures tally { self.new.tally ≡ self.old.tally }
+        ensures { OnOk result (world_of self.new ≡ judged builtin wrong (world_of self.old)) }
     {
         if wrong {
             self.tell(Complaint::WrongKind(builtin))
@@ -103,8 +97,7 @@ impl<'a> State<'a> {
 
     /// Reports a limit that was passed, at which the run stops.
     fn stop(&mut self, limit: Complaint) -> Result<Flow, AllocError>
-        ensures world { IfOk result (Acts (λ world. Stops (say limit world)) self.old self.new) }
-        ensures tally { self.new.tally ≡ self.old.tally }
+        ensures { IfOk result (Acts (λ world. Stops (say limit world)) self.old self.new) }
     {
         self.tell(limit)?;
         Ok(Flow::Stop)
@@ -114,8 +107,7 @@ impl<'a> State<'a> {
     #[inline(always)]
     pub fn push(&mut self, value: Value<'a>) -> Result<Flow, AllocError>
         requires { text_len (item_of value) ≤ 65536 }
-        ensures world { IfOk result (Acts (pushed (item_of value.entry)) self.old self.new) }
-        ensures tally { self.new.tally ≡ self.old.tally }
+        ensures { IfOk result (Acts (pushed (item_of value.entry)) self.old self.new) }
     {
         if self.stack.len() < STACK_LIMIT {
             self.stack.push(value)?;
@@ -128,8 +120,7 @@ impl<'a> State<'a> {
     /// Puts a text on the stack, unless that would pass a limit.
     #[inline(always)]
     pub fn push_text(&mut self, text: Text<'a>) -> Result<Flow, AllocError>
-        ensures world { IfOk result (Acts (pushed (Txt (bytes_of text.entry))) self.old self.new) }
-        ensures tally { self.new.tally ≡ self.old.tally }
+        ensures { IfOk result (Acts (pushed (Txt (bytes_of text.entry))) self.old self.new) }
     {
         match ShortText::within(text) {
             Some(text) => self.push(Value::Text(text)),
@@ -139,8 +130,7 @@ impl<'a> State<'a> {
 
     /// Reports that a text has more bytes than the stack takes, unless the stack is full.
     pub fn pass_text_limit(&mut self) -> Result<Flow, AllocError>
-        ensures world { IfOk result (Acts limit_passed self.old self.new) }
-        ensures tally { self.new.tally ≡ self.old.tally }
+        ensures { IfOk result (Acts limit_passed self.old self.new) }
     {
         if self.stack.len() < STACK_LIMIT {
             self.stop(Complaint::TextPassed)
@@ -151,24 +141,21 @@ impl<'a> State<'a> {
 
     /// Puts a number on the stack, unless it is full.
     pub fn push_number(&mut self, number: i32) -> Result<Flow, AllocError>
-        ensures world { IfOk result (Acts (pushed (Num number)) self.old self.new) }
-        ensures tally { self.new.tally ≡ self.old.tally }
+        ensures { IfOk result (Acts (pushed (Num number)) self.old self.new) }
     {
         self.push(Value::Number(number))
     }
 
     /// Puts 1 on the stack for what holds, else 0, unless it is full.
     pub fn push_truth(&mut self, holds: bool) -> Result<Flow, AllocError>
-        ensures world { IfOk result (Acts (pushed (truth holds)) self.old self.new) }
-        ensures tally { self.new.tally ≡ self.old.tally }
+        ensures { IfOk result (Acts (pushed (truth holds)) self.old self.new) }
     {
         self.push_number(if holds { 1 } else { 0 })
     }
 
     /// Reports an error, unless the stack is full, so that a value in place of the right one will pass its limit.
     fn tell_unless_full(&mut self, complaint: Complaint) -> Result<(), AllocError>
-        ensures world { OnOk result (world_of self.new ≡ told_with_room complaint (world_of self.old)) }
-        ensures tally { self.new.tally ≡ self.old.tally }
+        ensures { OnOk result (world_of self.new ≡ told_with_room complaint (world_of self.old)) }
     {
         if self.stack.len() < STACK_LIMIT {
             self.tell(complaint)
@@ -179,8 +166,7 @@ impl<'a> State<'a> {
 
     /// Reports an error, and puts 0 on the stack. Where it is full only the limit is reported.
     pub fn push_zero_in_error(&mut self, complaint: Complaint) -> Result<Flow, AllocError>
-        ensures world { IfOk result (Acts (pushed_in_error complaint zero_item) self.old self.new) }
-        ensures tally { self.new.tally ≡ self.old.tally }
+        ensures { IfOk result (Acts (pushed_in_error complaint zero_item) self.old self.new) }
     {
         self.tell_unless_full(complaint)?;
         self.push_number(0)
@@ -192,9 +178,8 @@ impl<'a> State<'a> {
         complaint: Complaint,
         text: Text<'a>,
     ) -> Result<Flow, AllocError>
-        ensures world { IfOk result
+        ensures { IfOk result
             (Acts (pushed_in_error complaint (Txt (bytes_of text.entry))) self.old self.new) }
-        ensures tally { self.new.tally ≡ self.old.tally }
     {
         self.tell_unless_full(complaint)?;
         self.push_text(text)
@@ -202,8 +187,7 @@ impl<'a> State<'a> {
 
     /// Writes a text after the held line, unless that would pass the limit.
     pub fn write(&mut self, alloc: Global, text: &[u8]) -> Result<Flow, AllocError>
-        ensures world { IfOk result (Acts (appended text.now) self.old self.new) }
-        ensures tally { self.new.tally ≡ self.old.tally }
+        ensures { IfOk result (Acts (appended text.now) self.old self.new) }
     {
         match self.held.write(alloc, text, &mut self.lines) {
             Ok(()) => Ok(Flow::Go),
@@ -214,8 +198,7 @@ impl<'a> State<'a> {
 
     /// Ends the held line.
     pub fn end_line(&mut self, alloc: Global) -> Result<(), AllocError>
-        ensures world { OnOk result (world_of self.new ≡ held_line_ended (world_of self.old)) }
-        ensures tally { self.new.tally ≡ self.old.tally }
+        ensures { OnOk result (world_of self.new ≡ held_line_ended (world_of self.old)) }
     {
         match self.held.newline(alloc, &mut self.lines) {
             Ok(()) => Ok(()),

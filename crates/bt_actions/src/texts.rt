@@ -19,9 +19,8 @@ use std::alloc::{AllocError, Global};
 
 /// `*`.
 pub fn join(state: &mut State, alloc: Global) -> Result<Flow, AllocError>
-    ensures world { IfOk result (Acts (λ world.
+    ensures { IfOk result (Acts (λ world.
         valued join_of empty_item (taken_two builtin.Join as_text as_text world)) state.old state.new) }
-    ensures tally { state.new.tally ≡ state.old.tally }
 {
     match take_two::<ShortText, ShortText>(state, Builtin::Join)? {
         None => state.push_text(Text::Lent(b"")),
@@ -34,9 +33,8 @@ pub fn join(state: &mut State, alloc: Global) -> Result<Flow, AllocError>
 
 /// `add.period$`.
 pub fn end_with_period(state: &mut State, alloc: Global) -> Result<Flow, AllocError>
-    ensures world { IfOk result (Acts (λ world.
+    ensures { IfOk result (Acts (λ world.
         valued period_of empty_item (taken builtin.AddPeriod as_text world)) state.old state.new) }
-    ensures tally { state.new.tally ≡ state.old.tally }
 {
     match take::<ShortText>(state, Builtin::AddPeriod)? {
         None => state.push_text(Text::Lent(b"")),
@@ -66,8 +64,7 @@ fn push_case<'a>(
     text: ShortText<'a>,
     name: ShortText<'a>,
 ) -> Result<Flow, AllocError>
-    ensures world { IfOk result (Acts (answered (case_of (text.entry, name.entry))) state.old state.new) }
-    ensures tally { state.new.tally ≡ state.old.tally }
+    ensures { IfOk result (Acts (answered (case_of (text.entry, name.entry))) state.old state.new) }
 {
     match mode_of(name.as_slice()) {
         None => {
@@ -83,9 +80,8 @@ fn push_case<'a>(
 
 /// `change.case$`.
 pub fn convert_case(state: &mut State, alloc: Global) -> Result<Flow, AllocError>
-    ensures world { IfOk result (Acts (λ world.
+    ensures { IfOk result (Acts (λ world.
         valued case_of empty_item (taken_two builtin.ChangeCase as_text as_text world)) state.old state.new) }
-    ensures tally { state.new.tally ≡ state.old.tally }
 {
     match take_two::<ShortText, ShortText>(state, Builtin::ChangeCase)? {
         None => state.push_text(Text::Lent(b"")),
@@ -95,9 +91,8 @@ pub fn convert_case(state: &mut State, alloc: Global) -> Result<Flow, AllocError
 
 /// `purify$`.
 pub fn purified(state: &mut State, alloc: Global) -> Result<Flow, AllocError>
-    ensures world { IfOk result (Acts (λ world.
+    ensures { IfOk result (Acts (λ world.
         valued purified_of empty_item (taken builtin.Purify as_text world)) state.old state.new) }
-    ensures tally { state.new.tally ≡ state.old.tally }
 {
     match take::<ShortText>(state, Builtin::Purify)? {
         None => state.push_text(Text::Lent(b"")),
@@ -110,10 +105,9 @@ pub fn purified(state: &mut State, alloc: Global) -> Result<Flow, AllocError>
 
 /// `substring$`.
 pub fn cut(state: &mut State, alloc: Global) -> Result<Flow, AllocError>
-    ensures world { IfOk result (Acts (λ world.
+    ensures { IfOk result (Acts (λ world.
         valued substring_given empty_item (taken_three builtin.Substring as_text as_number as_number world))
         state.old state.new) }
-    ensures tally { state.new.tally ≡ state.old.tally }
 {
     match take_three::<ShortText, i32, i32>(state, Builtin::Substring)? {
         None => state.push_text(Text::Lent(b"")),
@@ -126,9 +120,8 @@ pub fn cut(state: &mut State, alloc: Global) -> Result<Flow, AllocError>
 
 /// `text.prefix$`.
 pub fn prefix(state: &mut State, alloc: Global) -> Result<Flow, AllocError>
-    ensures world { IfOk result (Acts (λ world.
+    ensures { IfOk result (Acts (λ world.
         valued prefix_of empty_item (taken_two builtin.TextPrefix as_text as_number world)) state.old state.new) }
-    ensures tally { state.new.tally ≡ state.old.tally }
 {
     match take_two::<ShortText, i32>(state, Builtin::TextPrefix)? {
         None => state.push_text(Text::Lent(b"")),
@@ -141,8 +134,7 @@ pub fn prefix(state: &mut State, alloc: Global) -> Result<Flow, AllocError>
 
 /// Puts a count on the stack, or reports that it doesn't fit.
 pub fn push_count(state: &mut State, builtin: Builtin, count: usize) -> Result<Flow, AllocError>
-    ensures world { IfOk result (Acts (answered (number_given builtin (pos count))) state.old state.new) }
-    ensures tally { state.new.tally ≡ state.old.tally }
+    ensures { IfOk result (Acts (answered (number_given builtin (pos count))) state.old state.new) }
 {
     match i32::try_from(count) {
         Ok(number) => state.push_number(number),
@@ -152,9 +144,8 @@ pub fn push_count(state: &mut State, builtin: Builtin, count: usize) -> Result<F
 
 /// `text.length$`.
 pub fn length(state: &mut State) -> Result<Flow, AllocError>
-    ensures world { IfOk result (Acts (λ world.
+    ensures { IfOk result (Acts (λ world.
         valued length_of zero_item (taken builtin.TextLength as_text world)) state.old state.new) }
-    ensures tally { state.new.tally ≡ state.old.tally }
 {
     match take::<ShortText>(state, Builtin::TextLength)? {
         None => state.push_number(0),
@@ -164,9 +155,8 @@ pub fn length(state: &mut State) -> Result<Flow, AllocError>
 
 /// `width$`.
 pub fn printed_width(state: &mut State) -> Result<Flow, AllocError>
-    ensures world { IfOk result (Acts (λ world.
+    ensures { IfOk result (Acts (λ world.
         valued width_given zero_item (taken builtin.Width as_text world)) state.old state.new) }
-    ensures tally { state.new.tally ≡ state.old.tally }
 {
     match take::<ShortText>(state, Builtin::Width)? {
         None => state.push_number(0),
@@ -176,8 +166,7 @@ pub fn printed_width(state: &mut State) -> Result<Flow, AllocError>
 
 /// `quote$`.
 pub fn push_quote(state: &mut State) -> Result<Flow, AllocError>
-    ensures world { IfOk result (Acts (pushed (Txt quote)) state.old state.new) }
-    ensures tally { state.new.tally ≡ state.old.tally }
+    ensures { IfOk result (Acts (pushed (Txt quote)) state.old state.new) }
 {
     state.push_text(Text::Lent(b"\""))
 }

@@ -8,7 +8,6 @@ use Rattle.bt_style.specs.Tree.{Element, Amount, Words, Quoted, Braced, Called, 
 use Rattle.bt_style.specs.Program.{Program}
 use Rattle.bt_actions.specs.declared.entry.Entry.{Entry}
 use Rattle.bt_actions.specs.declared.complaint.Complaint.TheVariants.{NoEntry, LeftOver, TicksPassed}
-use Rattle.bt_actions.specs.Tally.{with_call}
 use Rattle.bt_actions.specs.Item.{Code, Item, Num, Txt, Fun, Name, Block}
 use Rattle.bt_actions.specs.World.{World, Act, Goes, Stops}
 use Rattle.bt_actions.specs.State.{pushed}
@@ -16,12 +15,12 @@ use Rattle.bt_actions.specs.Arguments.{as_number, as_code, taken}
 use Rattle.bt_actions.specs.Given.{zero_item, empty_item}
 use Rattle.bt_actions.specs.Operands.{of_entry, field_at, number_at, text_at}
 use Rattle.bt_actions.specs.Actions.{basic}
-use Rattle.bt_machine.specs.Eval.{Ending, Done, Stopped, Runner, then_go, acted, code_body, function_body, type_function, run_function, run_type, by_sign, run_chosen, turn, turns, run_loop, built_in, act, builtin_called, eval_within}
+use Rattle.bt_machine.specs.Eval.{Counts, Ending, Done, Stopped, Runner, then_go, acted, code_body, function_body, type_function, run_function, run_type, by_sign, run_chosen, turn, turns, run_loop, built_in, act, calls_after, eval_within}
 use Rattle.bt_machine.specs.Step.{tick_limit, checked, rested, Finish, finished_at, finish_of}
 use Rattle.bt_machine.proofs.Places.{Part, Place, embed, WorldsAlike, ActsAlike, same_part, on_alike, on_pairs, say_alike, taken_alike, taken_two_alike, taken_three_alike, by_entry, of_entry_alike, pushed_alike, basic_alike}
 
 module _ (e : Option Entry) (pre : List ℕ) (P P' : Place e) where
-  -- evaluations that leave such worlds and equal ticks
+  -- evaluations that leave such worlds and equal counts
   abbrev pub EndingsAlike : Ending → Ending → Type 0
   EndingsAlike (Done w k) (Done w' k') = (WorldsAlike e pre P P') w w' × (k ≡ k')
   EndingsAlike (Done w k) (Stopped w' k') = ⊥
@@ -29,35 +28,35 @@ module _ (e : Option Entry) (pre : List ℕ) (P P' : Place e) where
   EndingsAlike (Stopped w k) (Stopped w' k') = (WorldsAlike e pre P P') w w' × (k ≡ k')
 
   -- an action
-  acted_alike : (a a' : Act) (k : ℕ) → (ActsAlike e pre P P') a a' → EndingsAlike (acted a k) (acted a' k)
+  acted_alike : (a a' : Act) (k : Counts) → (ActsAlike e pre P P') a a' → EndingsAlike (acted a k) (acted a' k)
   acted_alike (Goes w) (Goes w') k h = (h, refl)
   acted_alike (Goes w) (Stops w') k h = elim h [ ]
   acted_alike (Stops w) (Goes w') k h = elim h [ ]
   acted_alike (Stops w) (Stops w') k h = (h, refl)
 
   -- the same from every part
-  abbrev pub GoAlike : (World → ℕ → Ending) → Type 0
-  GoAlike go = (s : Part) (k : ℕ) → EndingsAlike (go (embed e pre P s) k) (go (embed e pre P' s) k)
+  abbrev pub GoAlike : (World → Counts → Ending) → Type 0
+  GoAlike go = (s : Part) (k : Counts) → EndingsAlike (go (embed e pre P s) k) (go (embed e pre P' s) k)
 
   -- the same at worlds alike
-  go_at : (go : World → ℕ → Ending) (w w' : World) (k : ℕ) → GoAlike go → (WorldsAlike e pre P P') w w' → EndingsAlike (go w k) (go w' k)
+  go_at : (go : World → Counts → Ending) (w w' : World) (k : Counts) → GoAlike go → (WorldsAlike e pre P P') w w' → EndingsAlike (go w k) (go w' k)
   go_at go w w' k f h = (on_alike e pre P P') (λ w w'. EndingsAlike (go w k) (go w' k)) w w' h (λ s. f s k)
 
   -- two runs, one after the other
-  then_alike : (o o' : Ending) (go : World → ℕ → Ending) → EndingsAlike o o' → GoAlike go → EndingsAlike (then_go o go) (then_go o' go)
+  then_alike : (o o' : Ending) (go : World → Counts → Ending) → EndingsAlike o o' → GoAlike go → EndingsAlike (then_go o go) (then_go o' go)
   then_alike (Done w k) (Done w' k') go h f = subst (λ j. EndingsAlike (go w k) (go w' j)) h.1 (go_at go w w' k f h.0)
   then_alike (Done w k) (Stopped w' k') go h f = elim h [ ]
   then_alike (Stopped w k) (Done w' k') go h f = elim h [ ]
   then_alike (Stopped w k) (Stopped w' k') go h f = h
 
   -- a turn of a loop
-  turn_alike : (o : Option ℤ) (s : Part) (k : ℕ) (body again : World → ℕ → Ending) → GoAlike body → GoAlike again → EndingsAlike (turn (o, embed e pre P s) k body again) (turn (o, embed e pre P' s) k body again)
+  turn_alike : (o : Option ℤ) (s : Part) (k : Counts) (body again : World → Counts → Ending) → GoAlike body → GoAlike again → EndingsAlike (turn (o, embed e pre P s) k body again) (turn (o, embed e pre P' s) k body again)
   turn_alike None s k body again b a = ((same_part e pre P P') s, refl)
   turn_alike (Some (pos zero)) s k body again b a = ((same_part e pre P P') s, refl)
   turn_alike (Some (pos (suc n))) s k body again b a = then_alike _ _ again (b s k) a
   turn_alike (Some (negsuc n)) s k body again b a = ((same_part e pre P P') s, refl)
 
-  turns_alike : (m : ℕ) (test body : World → ℕ → Ending) → GoAlike test → GoAlike body → GoAlike (turns m test body)
+  turns_alike : (m : ℕ) (test body : World → Counts → Ending) → GoAlike test → GoAlike body → GoAlike (turns m test body)
   turns_alike zero test body t b s k = ((same_part e pre P P') s, refl)
   turns_alike (suc m) test body t b s k =
       then_alike _ _ (λ w k. turn (taken builtin.While as_number w) k body (turns m test body)) (t s k) (λ s k. (on_pairs e pre P P') EndingsAlike (λ q. turn q k body (turns m test body)) _ _ ((taken_alike e pre P P') builtin.While as_number s) (λ o s. turn_alike o s k body (turns m test body) b (turns_alike m test body t b)))
@@ -65,19 +64,19 @@ module _ (e : Option Entry) (pre : List ℕ) (P P' : Place e) where
   module _ (p : Program) (run : Runner) (f : (b : Body) → GoAlike (run b)) where
     -- functions that run others
 
-    chosen_alike : (o : Option (ℤ × Code × Code)) (s : Part) (k : ℕ) → EndingsAlike (run_chosen run (o, embed e pre P s) k) (run_chosen run (o, embed e pre P' s) k)
+    chosen_alike : (o : Option (ℤ × Code × Code)) (s : Part) (k : Counts) → EndingsAlike (run_chosen run (o, embed e pre P s) k) (run_chosen run (o, embed e pre P' s) k)
     chosen_alike None s k = ((same_part e pre P P') s, refl)
     chosen_alike (Some q) s k = f (code_body (by_sign q.0 q.1 q.2)) s k
 
-    loop_alike : (o : Option (Code × Code)) (s : Part) (k : ℕ) → EndingsAlike (run_loop run (o, embed e pre P s) k) (run_loop run (o, embed e pre P' s) k)
+    loop_alike : (o : Option (Code × Code)) (s : Part) (k : Counts) → EndingsAlike (run_loop run (o, embed e pre P s) k) (run_loop run (o, embed e pre P' s) k)
     loop_alike None s k = ((same_part e pre P P') s, refl)
-    loop_alike (Some q) s k = turns_alike (suc (k + length s.stack)) (run (code_body q.0)) (run (code_body q.1)) (f (code_body q.0)) (f (code_body q.1)) s k
+    loop_alike (Some q) s k = turns_alike (suc (k.0 + length s.stack)) (run (code_body q.0)) (run (code_body q.1)) (f (code_body q.0)) (f (code_body q.1)) s k
 
-    function_alike : (o : Option ℕ) (s : Part) (k : ℕ) → EndingsAlike (run_function p.functions run o (embed e pre P s) k) (run_function p.functions run o (embed e pre P' s) k)
+    function_alike : (o : Option ℕ) (s : Part) (k : Counts) → EndingsAlike (run_function p.functions run o (embed e pre P s) k) (run_function p.functions run o (embed e pre P' s) k)
     function_alike None s k = ((same_part e pre P P') s, refl)
     function_alike (Some n) s k = f (function_body p.functions n) s k
 
-    type_alike : (o : Option Entry) (s : Part) (k : ℕ) → EndingsAlike (run_type p.functions run o (embed e pre P s) k) (run_type p.functions run o (embed e pre P' s) k)
+    type_alike : (o : Option Entry) (s : Part) (k : Counts) → EndingsAlike (run_type p.functions run o (embed e pre P s) k) (run_type p.functions run o (embed e pre P' s) k)
     type_alike None s k = ((say_alike e pre P P') NoEntry s, refl)
     type_alike (Some d) s k = function_alike (type_function p.functions d.function) s k
 
@@ -92,11 +91,11 @@ module _ (e : Option Entry) (pre : List ℕ) (P P' : Place e) where
         acted_alike (basic p b (embed e pre P s)) (basic p b (embed e pre P' s)) k ((basic_alike e pre P P') p b s)
 
     -- a value is pushed, in an evaluation
-    pushed_at : (v : Item) (s : Part) (k : ℕ) → EndingsAlike (acted (pushed v (embed e pre P s)) k) (acted (pushed v (embed e pre P' s)) k)
+    pushed_at : (v : Item) (s : Part) (k : Counts) → EndingsAlike (acted (pushed v (embed e pre P s)) k) (acted (pushed v (embed e pre P' s)) k)
     pushed_at v s k = acted_alike (pushed v (embed e pre P s)) (pushed v (embed e pre P' s)) k ((pushed_alike e pre P P') v s)
 
     -- what the step's entry gives, in an evaluation
-    of_entry_at : (value : Entry → Item) (default : Item) (s : Part) (k : ℕ) → EndingsAlike (acted (of_entry value default (embed e pre P s)) k) (acted (of_entry value default (embed e pre P' s)) k)
+    of_entry_at : (value : Entry → Item) (default : Item) (s : Part) (k : Counts) → EndingsAlike (acted (of_entry value default (embed e pre P s)) k) (acted (of_entry value default (embed e pre P' s)) k)
     of_entry_at value default s k =
         acted_alike (of_entry value default (embed e pre P s)) (of_entry value default (embed e pre P' s)) k ((of_entry_alike e pre P P') value default s)
 
@@ -118,10 +117,10 @@ module _ (e : Option Entry) (pre : List ℕ) (P P' : Place e) where
   pub eval_alike : (p : Program) (deep : ℕ) (b : Body) → GoAlike (eval_within p deep b)
   unfolding eval_within
   eval_alike p deep End s k = ((same_part e pre P P') s, refl)
-  eval_alike p deep (Then d rest) s zero = ((say_alike e pre P P') TicksPassed s, refl)
-  eval_alike p zero (Then d rest) s (suc k) = ((same_part e pre P P') s, refl)
-  eval_alike p (suc deep) (Then d rest) s (suc k) =
-      then_alike _ _ (eval_within p deep rest) (act_alike p (eval_within p deep) (eval_alike p deep) d (record s { calls = with_call (builtin_called d) s.calls }) k) (eval_alike p deep rest)
+  eval_alike p deep (Then d rest) s (zero, calls) = ((say_alike e pre P P') TicksPassed s, refl)
+  eval_alike p zero (Then d rest) s (suc k, calls) = ((same_part e pre P P') s, refl)
+  eval_alike p (suc deep) (Then d rest) s (suc k, calls) =
+      then_alike _ _ (eval_within p deep rest) (act_alike p (eval_within p deep) (eval_alike p deep) d s (k, calls_after d calls)) (eval_alike p deep rest)
 
   -- the stack is looked at
   checked_alike : (vs : List Item) (s : Part) → (WorldsAlike e pre P P') (checked vs (embed e pre P s)) (checked vs (embed e pre P' s))
@@ -138,15 +137,15 @@ module _ (e : Option Entry) (pre : List ℕ) (P P' : Place e) where
     pub calls : a.calls ≡ a'.calls
 
   -- a run's end
-  finished_at_alike : (w w' : World) (b : Bool) (k k' : ℕ) → (WorldsAlike e pre P P') w w' → k ≡ k' → FinishesAlike (finished_at w b k) (finished_at w' b k')
+  finished_at_alike : (w w' : World) (b : Bool) (k k' : Counts) → (WorldsAlike e pre P P') w w' → k ≡ k' → FinishesAlike (finished_at w b k) (finished_at w' b k')
   finished_at_alike w w' b k k' h q =
       record {
         part = h.0;
         here = ap rested h.1;
         there = ap rested h.2;
         stopped = refl;
-        cost = ap (λ j. tick_limit - j) q;
-        calls = ap (λ (v : World). v.calls) h.1 ∙ sym (ap (λ (v : World). v.calls) h.2);
+        cost = ap (λ (j : Counts). tick_limit - j.0) q;
+        calls = ap (λ (j : Counts). j.1) q;
       }
 
   -- an evaluation's end

@@ -25,7 +25,7 @@ use Rattle.bt_actions.specs.Assignment.{with_number, with_text, with_globals, wi
 use Rattle.bt_actions.specs.LogLines.{log_value, log_warning}
 use Rattle.bt_actions.specs.Stack.{duplicated, swapped}
 use Rattle.bt_actions.specs.Actions.{act_with, change_with, basic}
-use Rattle.bt_machine.specs.Eval.{Ending, Done, Stopped, Runner, then_go, acted, code_body, function_body, type_function, run_function, run_type, by_sign, run_chosen, turn, turns, run_loop, built_in, act, call_counted, eval_within}
+use Rattle.bt_machine.specs.Eval.{Counts, Ending, Done, Stopped, Runner, then_go, acted, code_body, function_body, type_function, run_function, run_type, by_sign, run_chosen, turn, turns, run_loop, built_in, act, calls_after, eval_within}
 
 -- an action leaves at most so many values on the stack, where it doesn't stop
 abbrev pub Grows : ℕ → Act → Type 0
@@ -204,63 +204,63 @@ basic_grows p builtin.Write w = appended_grows (taken builtin.Write as_text w) _
 
 -- an evaluation leaves at most k ticks and, where it isn't stopped, at most s ticks and values together
 abbrev pub Shrinks : ℕ → ℕ → Ending → Type 0
-Shrinks k s (Done w j) = (j ≤ k) × (j + length w.stack ≤ s)
-Shrinks k s (Stopped w j) = j ≤ k
+Shrinks k s (Done w j) = (j.0 ≤ k) × (j.0 + length w.stack ≤ s)
+Shrinks k s (Stopped w j) = j.0 ≤ k
 
 -- from everywhere it leaves no more ticks than it was given, and no more ticks and values together
-abbrev pub AllShrink : (World → ℕ → Ending) → Type 0
-AllShrink go = (w : World) (k : ℕ) → Shrinks k (k + length w.stack) (go w k)
+abbrev pub AllShrink : (World → Counts → Ending) → Type 0
+AllShrink go = (w : World) (k : Counts) → Shrinks k.0 (k.0 + length w.stack) (go w k)
 
 Shrinks_weaker : (o : Ending) (k s k' s' : ℕ) → k ≤ k' → s ≤ s' → Shrinks k s o → Shrinks k' s' o
 Shrinks_weaker (Done w j) k s k' s' hk hs h = (omega arith, omega arith)
 Shrinks_weaker (Stopped w j) k s k' s' hk hs h = omega arith
 
-then_shrinks : (o : Ending) (go : World → ℕ → Ending) (k s k' s' : ℕ) → k ≤ k' → Shrinks k s o → ((w : World) (j : ℕ) → j ≤ k → j + length w.stack ≤ s → Shrinks k' s' (go w j)) → Shrinks k' s' (then_go o go)
+then_shrinks : (o : Ending) (go : World → Counts → Ending) (k s k' s' : ℕ) → k ≤ k' → Shrinks k s o → ((w : World) (j : Counts) → j.0 ≤ k → j.0 + length w.stack ≤ s → Shrinks k' s' (go w j)) → Shrinks k' s' (then_go o go)
 then_shrinks (Done w j) go k s k' s' hk h f = f w j h.0 h.1
 then_shrinks (Stopped w j) go k s k' s' hk h f = omega arith
 
-acted_shrinks : (a : Act) (k n : ℕ) → Grows (suc n) a → Shrinks k (suc (k + n)) (acted a k)
+acted_shrinks : (a : Act) (k : Counts) (n : ℕ) → Grows (suc n) a → Shrinks k.0 (suc (k.0 + n)) (acted a k)
 acted_shrinks (Goes w) k n h = (omega arith, omega arith)
 acted_shrinks (Stops w) k n h = omega arith
 
 -- loops
 
-turn_shrinks : (o : Option ℤ) (w : World) (j k s : ℕ) (body again : World → ℕ → Ending) → j ≤ k → j + length w.stack ≤ s → AllShrink body → AllShrink again → Shrinks k s (turn (o, w) j body again)
+turn_shrinks : (o : Option ℤ) (w : World) (j : Counts) (k s : ℕ) (body again : World → Counts → Ending) → j.0 ≤ k → j.0 + length w.stack ≤ s → AllShrink body → AllShrink again → Shrinks k s (turn (o, w) j body again)
 turn_shrinks None w j k s body again hk hs b a = (hk, hs)
 turn_shrinks (Some (pos zero)) w j k s body again hk hs b a = (hk, hs)
 turn_shrinks (Some (pos (suc n))) w j k s body again hk hs b a =
-    then_shrinks (body w j) again j (j + length w.stack) k s hk (b w j) (λ w' i hi hs'. Shrinks_weaker (again w' i) i (i + length w'.stack) k s (omega arith) (omega arith) (a w' i))
+    then_shrinks (body w j) again j.0 (j.0 + length w.stack) k s hk (b w j) (λ w' i hi hs'. Shrinks_weaker (again w' i) i.0 (i.0 + length w'.stack) k s (omega arith) (omega arith) (a w' i))
 turn_shrinks (Some (negsuc n)) w j k s body again hk hs b a = (hk, hs)
 
-turns_shrinks : (m : ℕ) (test body : World → ℕ → Ending) → AllShrink test → AllShrink body → AllShrink (turns m test body)
+turns_shrinks : (m : ℕ) (test body : World → Counts → Ending) → AllShrink test → AllShrink body → AllShrink (turns m test body)
 turns_shrinks zero test body t b w k = omega arith
 turns_shrinks (suc m) test body t b w k =
-    then_shrinks (test w k) _ k (k + length w.stack) k (k + length w.stack) (omega arith) (t w k)
-    (λ w' j hj hs. let l = taken_len builtin.While as_number w' in turn_shrinks _ _ j k (k + length w.stack) body (turns m test body) hj (omega arith) b (turns_shrinks m test body t b))
+    then_shrinks (test w k) _ k.0 (k.0 + length w.stack) k.0 (k.0 + length w.stack) (omega arith) (t w k)
+    (λ w' j hj hs. let l = taken_len builtin.While as_number w' in turn_shrinks _ _ j k.0 (k.0 + length w.stack) body (turns m test body) hj (omega arith) b (turns_shrinks m test body t b))
 
 module _ (p : Program) (run : Runner) (h : (b : Body) → AllShrink (run b)) where
   -- a body, where fewer values stand on the stack
-  run_shrinks : (b : Body) (w : World) (k s : ℕ) → k + length w.stack ≤ s → Shrinks k s (run b w k)
-  run_shrinks b w k s i = Shrinks_weaker _ k (k + length w.stack) k s (omega arith) i (h b w k)
+  run_shrinks : (b : Body) (w : World) (k : Counts) (s : ℕ) → k.0 + length w.stack ≤ s → Shrinks k.0 s (run b w k)
+  run_shrinks b w k s i = Shrinks_weaker _ k.0 (k.0 + length w.stack) k.0 s (omega arith) i (h b w k)
 
-  chosen_shrinks : (o : Option (ℤ × Code × Code)) (w : World) (k s : ℕ) → k + length w.stack ≤ s → Shrinks k s (run_chosen run (o, w) k)
+  chosen_shrinks : (o : Option (ℤ × Code × Code)) (w : World) (k : Counts) (s : ℕ) → k.0 + length w.stack ≤ s → Shrinks k.0 s (run_chosen run (o, w) k)
   chosen_shrinks None w k s i = (omega arith, i)
   chosen_shrinks (Some q) w k s i = run_shrinks (code_body (by_sign q.0 q.1 q.2)) w k s i
 
-  loop_shrinks : (o : Option (Code × Code)) (w : World) (k s : ℕ) → k + length w.stack ≤ s → Shrinks k s (run_loop run (o, w) k)
+  loop_shrinks : (o : Option (Code × Code)) (w : World) (k : Counts) (s : ℕ) → k.0 + length w.stack ≤ s → Shrinks k.0 s (run_loop run (o, w) k)
   loop_shrinks None w k s i = (omega arith, i)
   loop_shrinks (Some q) w k s i =
-      Shrinks_weaker _ k (k + length w.stack) k s (omega arith) i (turns_shrinks (suc (k + length w.stack)) _ _ (h (code_body q.0)) (h (code_body q.1)) w k)
+      Shrinks_weaker _ k.0 (k.0 + length w.stack) k.0 s (omega arith) i (turns_shrinks (suc (k.0 + length w.stack)) _ _ (h (code_body q.0)) (h (code_body q.1)) w k)
 
-  function_shrinks : (o : Option ℕ) (w : World) (k s : ℕ) → k + length w.stack ≤ s → Shrinks k s (run_function p.functions run o w k)
+  function_shrinks : (o : Option ℕ) (w : World) (k : Counts) (s : ℕ) → k.0 + length w.stack ≤ s → Shrinks k.0 s (run_function p.functions run o w k)
   function_shrinks None w k s i = (omega arith, i)
   function_shrinks (Some n) w k s i = run_shrinks (function_body p.functions n) w k s i
 
-  type_shrinks : (o : Option Entry) (w : World) (k s : ℕ) → k + length w.stack ≤ s → Shrinks k s (run_type p.functions run o w k)
+  type_shrinks : (o : Option Entry) (w : World) (k : Counts) (s : ℕ) → k.0 + length w.stack ≤ s → Shrinks k.0 s (run_type p.functions run o w k)
   type_shrinks None w k s i = (omega arith, i)
   type_shrinks (Some e) w k s i = function_shrinks (type_function p.functions e.function) w k s i
 
-  built_in_shrinks : (b : Primitive) (w : World) (k : ℕ) → Shrinks k (suc (k + length w.stack)) (built_in p run b w k)
+  built_in_shrinks : (b : Primitive) (w : World) (k : Counts) → Shrinks k.0 (suc (k.0 + length w.stack)) (built_in p run b w k)
   built_in_shrinks builtin.If w k =
       let t = taken_three builtin.If as_number as_code as_code w in
       let l = taken_three_len builtin.If as_number as_code as_code w in
@@ -272,7 +272,7 @@ module _ (p : Program) (run : Runner) (h : (b : Body) → AllShrink (run b)) whe
   built_in_shrinks builtin.CallType w k = type_shrinks (entry_of w) w k _ (omega arith)
   built_in_shrinks b w k = acted_shrinks (basic p b w) k _ (basic_grows p b w)
 
-  pub act_shrinks : (e : Element) (w : World) (k : ℕ) → Shrinks k (suc (k + length w.stack)) (act p run e w k)
+  pub act_shrinks : (e : Element) (w : World) (k : Counts) → Shrinks k.0 (suc (k.0 + length w.stack)) (act p run e w k)
   act_shrinks (Amount n) w k = acted_shrinks (pushed (Num n) w) k _ (pushed_grows (Num n) w _ (omega arith))
   act_shrinks (Words t) w k = acted_shrinks (pushed (Txt t) w) k _ (pushed_grows (Txt t) w _ (omega arith))
   act_shrinks (Quoted t) w k = acted_shrinks (pushed (Fun (Name t)) w) k _ (pushed_grows (Fun (Name t)) w _ (omega arith))
@@ -291,7 +291,7 @@ module _ (p : Program) (run : Runner) (h : (b : Body) → AllShrink (run b)) whe
 pub eval_shrinks : (p : Program) (deep : ℕ) (b : Body) → AllShrink (eval_within p deep b)
 unfolding eval_within
 eval_shrinks p deep End w k = (omega arith, omega arith)
-eval_shrinks p deep (Then e rest) w zero = omega arith
-eval_shrinks p zero (Then e rest) w (suc k) = omega arith
-eval_shrinks p (suc deep) (Then e rest) w (suc k) =
-    then_shrinks _ _ k (suc (k + length w.stack)) (suc k) (suc k + length w.stack) (omega arith) (act_shrinks p (eval_within p deep) (eval_shrinks p deep) e (call_counted e w) k) (λ w' j hj hs. Shrinks_weaker _ j (j + length w'.stack) (suc k) (suc k + length w.stack) (omega arith) (omega arith) (eval_shrinks p deep rest w' j))
+eval_shrinks p deep (Then e rest) w (zero, calls) = omega arith
+eval_shrinks p zero (Then e rest) w (suc k, calls) = omega arith
+eval_shrinks p (suc deep) (Then e rest) w (suc k, calls) =
+    then_shrinks _ _ k (suc (k + length w.stack)) (suc k) (suc k + length w.stack) (omega arith) (act_shrinks p (eval_within p deep) (eval_shrinks p deep) e w (k, calls_after e calls)) (λ w' j hj hs. Shrinks_weaker _ j.0 (j.0 + length w'.stack) (suc k) (suc k + length w.stack) (omega arith) (omega arith) (eval_shrinks p deep rest w' j))

@@ -3,7 +3,7 @@ use Rattle.std.proofs.Common.{◌≤◌, arith}
 use Rattle.bt_style.specs.Program.{Program}
 use Rattle.bt_style.specs.Tree.{End, Then, Called}
 use Rattle.bt_machine.specs.Eval.{Ending, Done, Stopped, eval}
-use Rattle.bt_machine.specs.Step.{tick_limit, step_begun, finish_of, CostsWithin}
+use Rattle.bt_machine.specs.Step.{tick_limit, counts_begun, step_begun, finish_of, CostsWithin}
 
 -- at an ending
 cost_within : (o : Ending) → (finish_of o).cost ≤ tick_limit
@@ -11,4 +11,4 @@ cost_within (Done w k) = omega arith
 cost_within (Stopped w k) = omega arith
 
 pub costs_within : (p : Program) → CostsWithin p
-costs_within p x t w = cost_within (eval p (Then (Called t) End) (step_begun x w) tick_limit)
+costs_within p x t w = cost_within (eval p (Then (Called t) End) (step_begun x w) counts_begun)

@@ -50,7 +50,6 @@ start es =
       lines = [];
       messages = [];
       stack = [];
-      calls = [];
     }
 
 -- "key " write$ cite$ write$ newline$
@@ -114,7 +113,7 @@ unfolding eval_within
 loop_pops = refl
 
 -- {#1} {skip$} while$ with 9 ticks: three for itself, and the third turn's body has none left
-endless : eval (style []) (body_of (Braced (body_of (Amount (pos 1) ∷ [])) ∷ Braced (body_of (Called (Builtin Skip) ∷ [])) ∷ Called (Builtin While) ∷ [])) (step_begun None (start [])) 8 ≡ Stopped (record (step_begun None (start [])) { messages = tells (TicksPassed ∷ []); calls = replicate 25 0 ++ 2 ∷ replicate 8 0 ++ 1 ∷ 0 ∷ 0 ∷ [] }) 0
+endless : eval (style []) (body_of (Braced (body_of (Amount (pos 1) ∷ [])) ∷ Braced (body_of (Called (Builtin Skip) ∷ [])) ∷ Called (Builtin While) ∷ [])) (step_begun None (start [])) (8, replicate 37 0) ≡ Stopped (record (step_begun None (start [])) { messages = tells (TicksPassed ∷ []) }) (0, replicate 25 0 ++ 2 ∷ replicate 8 0 ++ 1 ∷ 0 ∷ 0 ∷ [])
 unfolding eval_within
 endless = refl
 
@@ -153,15 +152,15 @@ unfolding eval_within
 no_function = refl
 
 -- an element that would pass a limit has taken its tick, and stops the run
-full_stack : eval (style []) (body_of (Amount (pos 1) ∷ Called (Builtin Skip) ∷ [])) (record (start []) { stack = replicate 1000 (Num (pos 1)); calls = [] }) 7 ≡ Stopped (record (start []) { stack = replicate 1000 (Num (pos 1)); messages = tells (StackPassed ∷ []) }) 6
+full_stack : eval (style []) (body_of (Amount (pos 1) ∷ Called (Builtin Skip) ∷ [])) (record (start []) { stack = replicate 1000 (Num (pos 1)) }) (7, []) ≡ Stopped (record (start []) { stack = replicate 1000 (Num (pos 1)); messages = tells (StackPassed ∷ []) }) (6, [])
 unfolding eval_within
 full_stack = refl
 
 -- the last tick can be taken, and without one an element is neither carried out nor counted
-last_tick : eval (style []) (body_of (Called (Builtin Skip) ∷ [])) (step_begun None (start [])) 1 ≡ Done (record (step_begun None (start [])) { calls = replicate 25 0 ++ 1 ∷ replicate 11 0 }) 0
+last_tick : eval (style []) (body_of (Called (Builtin Skip) ∷ [])) (step_begun None (start [])) (1, replicate 37 0) ≡ Done (step_begun None (start [])) (0, replicate 25 0 ++ 1 ∷ replicate 11 0)
 unfolding eval_within
 last_tick = refl
 
-no_tick : eval (style []) (body_of (Called (Builtin Skip) ∷ Called (Builtin Skip) ∷ [])) (step_begun None (start [])) 1 ≡ Stopped (record (step_begun None (start [])) { messages = tells (TicksPassed ∷ []); calls = replicate 25 0 ++ 1 ∷ replicate 11 0 }) 0
+no_tick : eval (style []) (body_of (Called (Builtin Skip) ∷ Called (Builtin Skip) ∷ [])) (step_begun None (start [])) (1, replicate 37 0) ≡ Stopped (record (step_begun None (start [])) { messages = tells (TicksPassed ∷ []) }) (0, replicate 25 0 ++ 1 ∷ replicate 11 0)
 unfolding eval_within
 no_tick = refl

@@ -12,7 +12,7 @@ use Rattle.bt_actions.specs.World.{World, no_entry}
 use Rattle.bt_actions.specs.Assignment.{with_number, with_text, with_globals, put_if_right, own_changed, assigned}
 use Rattle.bt_actions.specs.View.{entries_in}
 use Rattle.bt_machine.specs.Eval.{Ending, Done, Stopped, eval}
-use Rattle.bt_machine.specs.Step.{tick_limit, step_begun, finish_of, step, first_variables, world_in}
+use Rattle.bt_machine.specs.Step.{tick_limit, counts_begun, step_begun, finish_of, step, first_variables, world_in}
 use Rattle.bt_machine.specs.Fits.{Count, Fits, OwnFit, ValuesFitAgain}
 use Rattle.bt_machine.proofs.Keeping.{Kept}
 use Rattle.bt_machine.proofs.KeepingEval.{EndKept, eval_kept, checked_kept}
@@ -84,7 +84,7 @@ fit_from : (p : Program) (globals own : Count) (o : Option Entry) (t : Target) (
 fit_from p globals own None t w q h f =
     let b = Then (Called t) End in
     let w0 = step_begun None w in
-    let k = finished_kept globals own None 0 (eval p b w0 tick_limit) (eval_kept (fitting globals own None 0) (λ c. tt) p tick_limit b w0 tick_limit ((refl, ap length q, h, tt), tt)) in
+    let k = finished_kept globals own None 0 (eval p b w0 counts_begun) (eval_kept (fitting globals own None 0) (λ c. tt) p tick_limit b w0 counts_begun ((refl, ap length q, h, tt), tt)) in
     let r = no_first own (step p None t w).world.entries k.0 in
     (k.1, r.0, r.1)
 fit_from p globals own (Some e) t w q h f =
@@ -92,7 +92,7 @@ fit_from p globals own (Some e) t w q h f =
     let w0 = step_begun (Some 0) w in
     let l : length w.entries ≡ 1 = ap length q in
     let fits : EntryFits own w.entries (Some 0) = (omega arith, subst (λ es. Fits own (slice_index_or es 0 no_entry).variables) (sym q) f) in
-    let k = finished_kept globals own (Some 0) 1 (eval p b w0 tick_limit) (eval_kept (fitting globals own (Some 0) 1) (λ c. tt) p tick_limit b w0 tick_limit ((refl, l, h, fits), tt)) in
+    let k = finished_kept globals own (Some 0) 1 (eval p b w0 counts_begun) (eval_kept (fitting globals own (Some 0) 1) (λ c. tt) p tick_limit b w0 counts_begun ((refl, l, h, fits), tt)) in
     let r = first_fits own 0 (step p (Some 0) t w).world.entries k.0 k.2 in
     (k.1, r.0, r.1)
 

@@ -14,7 +14,7 @@ use Rattle.bt_actions.specs.Arguments.{as_number, as_code, taken, taken_two, tak
 use Rattle.bt_actions.specs.Given.{zero_item, empty_item}
 use Rattle.bt_actions.specs.Operands.{of_entry, field_at, number_at, text_at}
 use Rattle.bt_actions.specs.Actions.{basic}
-use Rattle.bt_machine.specs.Eval.{Ending, Done, Stopped, Runner, then_go, acted, code_body, function_body, type_function, run_function, run_type, by_sign, run_chosen, turn, turns, run_loop, built_in, act, call_counted, eval_within}
+use Rattle.bt_machine.specs.Eval.{Counts, Ending, Done, Stopped, Runner, then_go, acted, code_body, function_body, type_function, run_function, run_type, by_sign, run_chosen, turn, turns, run_loop, built_in, act, calls_after, eval_within}
 use Rattle.bt_machine.specs.Step.{checked}
 use Rattle.bt_machine.proofs.Keeping.{Kept, IsKept, ActKept, pushed_kept, taken_kept, taken_two_kept, taken_three_kept, of_entry_kept, field_kept, basic_kept}
 
@@ -24,43 +24,43 @@ module _ (kept : Kept) (codes : (c : Code) → kept.Pushed (Fun c)) where
   EndKept (Done w k) = IsKept kept w
   EndKept (Stopped w k) = IsKept kept w
 
-  abbrev pub GoKept : (World → ℕ → Ending) → Type 0
-  GoKept go = (w : World) (k : ℕ) → IsKept kept w → EndKept (go w k)
+  abbrev pub GoKept : (World → Counts → Ending) → Type 0
+  GoKept go = (w : World) (k : Counts) → IsKept kept w → EndKept (go w k)
 
-  acted_kept : (a : Act) (k : ℕ) → ActKept kept a → EndKept (acted a k)
+  acted_kept : (a : Act) (k : Counts) → ActKept kept a → EndKept (acted a k)
   acted_kept (Goes w) k h = h
   acted_kept (Stops w) k h = h
 
-  then_kept : (o : Ending) (go : World → ℕ → Ending) → EndKept o → GoKept go → EndKept (then_go o go)
+  then_kept : (o : Ending) (go : World → Counts → Ending) → EndKept o → GoKept go → EndKept (then_go o go)
   then_kept (Done w k) go h f = f w k h
   then_kept (Stopped w k) go h f = h
 
-  turn_kept : (o : Option ℤ) (w : World) (k : ℕ) (body again : World → ℕ → Ending) → IsKept kept w → GoKept body → GoKept again → EndKept (turn (o, w) k body again)
+  turn_kept : (o : Option ℤ) (w : World) (k : Counts) (body again : World → Counts → Ending) → IsKept kept w → GoKept body → GoKept again → EndKept (turn (o, w) k body again)
   turn_kept None w k body again h b a = h
   turn_kept (Some (pos zero)) w k body again h b a = h
   turn_kept (Some (pos (suc n))) w k body again h b a = then_kept (body w k) again (b w k h) a
   turn_kept (Some (negsuc n)) w k body again h b a = h
 
-  turns_kept : (m : ℕ) (test body : World → ℕ → Ending) → GoKept test → GoKept body → GoKept (turns m test body)
+  turns_kept : (m : ℕ) (test body : World → Counts → Ending) → GoKept test → GoKept body → GoKept (turns m test body)
   turns_kept zero test body t b w k h = h
   turns_kept (suc m) test body t b w k h =
       then_kept (test w k) _ (t w k h) (λ w k h. turn_kept (taken builtin.While as_number w).0 (taken builtin.While as_number w).1 k body (turns m test body) (taken_kept kept builtin.While as_number w h) b (turns_kept m test body t b))
 
   module _ (p : Program) (run : Runner) (f : (b : Body) → GoKept (run b)) where
-    chosen_kept : (o : Option (ℤ × Code × Code)) (w : World) (k : ℕ) → IsKept kept w → EndKept (run_chosen run (o, w) k)
+    chosen_kept : (o : Option (ℤ × Code × Code)) (w : World) (k : Counts) → IsKept kept w → EndKept (run_chosen run (o, w) k)
     chosen_kept None w k h = h
     chosen_kept (Some q) w k h = f (code_body (by_sign q.0 q.1 q.2)) w k h
 
-    loop_kept : (o : Option (Code × Code)) (w : World) (k : ℕ) → IsKept kept w → EndKept (run_loop run (o, w) k)
+    loop_kept : (o : Option (Code × Code)) (w : World) (k : Counts) → IsKept kept w → EndKept (run_loop run (o, w) k)
     loop_kept None w k h = h
     loop_kept (Some q) w k h =
-        turns_kept (suc (k + length w.stack)) (run (code_body q.0)) (run (code_body q.1)) (f (code_body q.0)) (f (code_body q.1)) w k h
+        turns_kept (suc (k.0 + length w.stack)) (run (code_body q.0)) (run (code_body q.1)) (f (code_body q.0)) (f (code_body q.1)) w k h
 
-    function_kept : (o : Option ℕ) (w : World) (k : ℕ) → IsKept kept w → EndKept (run_function p.functions run o w k)
+    function_kept : (o : Option ℕ) (w : World) (k : Counts) → IsKept kept w → EndKept (run_function p.functions run o w k)
     function_kept None w k h = h
     function_kept (Some n) w k h = f (function_body p.functions n) w k h
 
-    type_kept : (o : Option Entry) (w : World) (k : ℕ) → IsKept kept w → EndKept (run_type p.functions run o w k)
+    type_kept : (o : Option Entry) (w : World) (k : Counts) → IsKept kept w → EndKept (run_type p.functions run o w k)
     type_kept None w k h = h
     type_kept (Some e) w k h = function_kept (type_function p.functions e.function) w k h
 
@@ -95,10 +95,10 @@ module _ (kept : Kept) (codes : (c : Code) → kept.Pushed (Fun c)) where
   pub eval_kept : (p : Program) (deep : ℕ) (b : Body) → GoKept (eval_within p deep b)
   unfolding eval_within
   eval_kept p deep End w k h = h
-  eval_kept p deep (Then e rest) w zero h = h
-  eval_kept p zero (Then e rest) w (suc k) h = h
-  eval_kept p (suc deep) (Then e rest) w (suc k) h =
-      then_kept _ (eval_within p deep rest) (act_kept p (eval_within p deep) (eval_kept p deep) e (call_counted e w) k h) (eval_kept p deep rest)
+  eval_kept p deep (Then e rest) w (zero, calls) h = h
+  eval_kept p zero (Then e rest) w (suc k, calls) h = h
+  eval_kept p (suc deep) (Then e rest) w (suc k, calls) h =
+      then_kept _ (eval_within p deep rest) (act_kept p (eval_within p deep) (eval_kept p deep) e w (k, calls_after e calls) h) (eval_kept p deep rest)
 
   pub checked_kept : (vs : List Item) (w : World) → IsKept kept w → IsKept kept (checked vs w)
   checked_kept [] w h = h

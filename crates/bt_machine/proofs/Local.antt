@@ -1,6 +1,6 @@
 -- A step is the same wherever its entry stands.
 use Rattle.std.proofs.Common.{◌≡◌, ℕ, List, [], ◌++◌, Option, Some, None, refl, sym, ap, ◌∙◌, append-nil}
-use Rattle.std.specs.Prelude.{option_map, replicate, slice_index_or, slice_set}
+use Rattle.std.specs.Prelude.{option_map, slice_index_or, slice_set}
 use Rattle.std.proofs.Math.Seq.{drop-append_seam}
 use Rattle.std.proofs.lemmas.List.{get_or-set_same, set-get_or, set-set}
 use Rattle.bt_actions.specs.declared.entry.Variables.{Variables}
@@ -9,7 +9,7 @@ use Rattle.bt_style.specs.Tree.{Called, End, Then}
 use Rattle.bt_style.specs.Program.{Program}
 use Rattle.bt_actions.specs.World.{World, no_variables, no_entry, entry_in}
 use Rattle.bt_machine.specs.Eval.{eval}
-use Rattle.bt_machine.specs.Step.{tick_limit, step_begun, rested, Finish, finish_of, step, Own, own}
+use Rattle.bt_machine.specs.Step.{tick_limit, counts_begun, step_begun, rested, Finish, finish_of, step, Own, own}
 use Rattle.bt_actions.specs.View.{entries_in}
 use Rattle.bt_machine.specs.OwnEntry.{IsPlace, cut, alone, with_variables, put_back, finish_back, DependsOnInput, SameInputSameOutcome}
 use Rattle.bt_machine.proofs.Places.{Part, Place, varied, embed}
@@ -77,7 +77,6 @@ start x w =
       out = [];
       said = [];
       stack = [];
-      calls = replicate 37 0;
     }
 
 -- an entry with its own variables
@@ -112,7 +111,7 @@ variables_back (Some n) es v = refl
 part_back : (x : Option ℕ) (w : World) (h : IsPlace x w) (s : Part) → rested (embed (entry_in w.entries x) w.preamble (in_world x w h) s) ≡ put_back x w (rested (embed (entry_in w.entries x) w.preamble (by_itself x w) s))
 unfolding in_world by_itself
 part_back x w h s =
-    ap (λ es. record { entries = es; current = None; globals = s.globals; preamble = w.preamble; held = s.held; lines = w.lines ++ s.out; messages = w.messages ++ s.said; stack = []; calls = [] }) (variables_back x w.entries s.variables)
+    ap (λ es. record { entries = es; current = None; globals = s.globals; preamble = w.preamble; held = s.held; lines = w.lines ++ s.out; messages = w.messages ++ s.said; stack = [] }) (variables_back x w.entries s.variables)
 
 -- two finishes with equal fields
 finish_eq : (a b : Finish) → a.world ≡ b.world → a.stopped ≡ b.stopped → a.cost ≡ b.cost → a.calls ≡ b.calls → a ≡ b
@@ -125,9 +124,9 @@ step_local p x t w h =
     let b = Then (Called t) End in
     let P = in_world x w h in
     let P' = by_itself x w in
-    let a = finished_alike e w.preamble P P' (eval p b (embed e w.preamble P (start x w)) tick_limit) (eval p b (embed e w.preamble P' (start x w)) tick_limit) (eval_alike e w.preamble P P' p tick_limit b (start x w) tick_limit) in
-    let begins : step p x t w ≡ finish_of (eval p b (embed e w.preamble P (start x w)) tick_limit) = ap (λ v. finish_of (eval p b v tick_limit)) (sym (start_in_world x w h)) in
-    let begins_alone : finish_of (eval p b (embed e w.preamble P' (start x w)) tick_limit) ≡ step p (alone x) t (cut x w) = ap (λ v. finish_of (eval p b v tick_limit)) (start_alone x w) in
+    let a = finished_alike e w.preamble P P' (eval p b (embed e w.preamble P (start x w)) counts_begun) (eval p b (embed e w.preamble P' (start x w)) counts_begun) (eval_alike e w.preamble P P' p tick_limit b (start x w) counts_begun) in
+    let begins : step p x t w ≡ finish_of (eval p b (embed e w.preamble P (start x w)) counts_begun) = ap (λ v. finish_of (eval p b v counts_begun)) (sym (start_in_world x w h)) in
+    let begins_alone : finish_of (eval p b (embed e w.preamble P' (start x w)) counts_begun) ≡ step p (alone x) t (cut x w) = ap (λ v. finish_of (eval p b v counts_begun)) (start_alone x w) in
     begins ∙ finish_eq _ _ (a.here ∙ part_back x w h a.part ∙ ap (put_back x w) (sym a.there)) a.stopped a.cost a.calls ∙ ap (finish_back x w) begins_alone
 
 -- what is a step's own, where its entry stands alone

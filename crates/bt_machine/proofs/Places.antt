@@ -38,7 +38,6 @@ pub record Part : Type 0 where
   pub out : List (List ℕ)
   pub said : List Message
   pub stack : List Item
-  pub calls : List ℕ
 
 -- an entry with other variables
 abbrev pub varied : Variables → Option Entry → Option Entry
@@ -65,7 +64,6 @@ embed e pre P s =
       lines = P.before ++ s.out;
       messages = P.heard ++ s.said;
       stack = s.stack;
-      calls = s.calls;
     }
 
 -- an entry's key

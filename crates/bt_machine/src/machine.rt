@@ -11,8 +11,9 @@ ghost use Rattle.bt_machine.specs.Eval.{eval, act, acted, called, built_in, run_
 
 use crate::script::Script;
 use bt_actions::{
-    Code, Complaint, Flow, State, Text, Value, call_basic, call_entry_number, call_entry_text,
-    call_field, call_global_number, call_global_text, take_choice, take_number, take_two_codes,
+    Code, Complaint, Flow, State, Tally, Text, Value, call_basic, call_entry_number,
+    call_entry_text, call_field, call_global_number, call_global_text, take_choice, take_number,
+    take_two_codes,
 };
 use bt_style::{Builtin, Op, Target};
 use std::alloc::{AllocError, Global};
@@ -31,6 +32,7 @@ pub enum Frame<'a> {
 pub struct Machine<'a> {
     pub script: Script<'a>,
     pub state: State<'a>,
+    pub tally: Tally,
     /// What is left of the body that is being run.
     pub body: &'a [Op],
     /// What is left to do after it, the next at the end.
@@ -61,8 +63,7 @@ fn builtin_called(op: &Op) -> Option<Builtin>
 #[cold]
 #[inline(never)]
 fn tell_no_tick(state: &mut State) -> Result<(), AllocError>
-    ensures world { OnOk result (world_of state.new ≡ say Complaint.TicksPassed (world_of state.old)) }
-    ensures tally { state.new.tally ≡ state.old.tally }
+    ensures { OnOk result (world_of state.new ≡ say Complaint.TicksPassed (world_of state.old)) }
 {
     state.tell(Complaint::TicksPassed)
 }
@@ -74,6 +75,7 @@ impl<'a> Machine<'a> {
     fn defer(&mut self, frame: Frame<'a>) -> Result<(), AllocError>
         ensures waiting { OnOk result (waiting self.new ≡ frame_seen frame.entry ∷ waiting self.old) }
         ensures state { self.new.state ≡ self.old.state }
+        ensures tally { self.new.tally ≡ self.old.tally }
         ensures script { self.new.script ≡ self.old.script }
     {
         self.control.push(frame)?;
@@ -85,6 +87,7 @@ impl<'a> Machine<'a> {
     fn keep_rest(&mut self) -> Result<(), AllocError>
         ensures waiting { OnOk result (waiting self.new ≡ frames_of self.old) }
         ensures state { self.new.state ≡ self.old.state }
+        ensures tally { self.new.tally ≡ self.old.tally }
         ensures script { self.new.script ≡ self.old.script }
     {
         if !self.body.is_empty() {
@@ -97,6 +100,7 @@ impl<'a> Machine<'a> {
     fn plan(&mut self, frame: Frame<'a>) -> Result<(), AllocError>
         ensures frames { OnOk result (frames_of self.new ≡ frame_seen frame.entry ∷ frames_of self.old) }
         ensures state { OnOk result (self.new.state ≡ self.old.state) }
+        ensures tally { self.new.tally ≡ self.old.tally }
         ensures script { self.new.script ≡ self.old.script }
     {
         self.keep_rest()?;
@@ -109,6 +113,7 @@ impl<'a> Machine<'a> {
     fn plan_code(&mut self, code: Code<'a>) -> Result<(), AllocError>
         ensures frames { OnOk result (frames_of self.new ≡ on_top (code_seen code.entry) (frames_of self.old)) }
         ensures state { OnOk result (self.new.state ≡ self.old.state) }
+        ensures tally { self.new.tally ≡ self.old.tally }
         ensures script { self.new.script ≡ self.old.script }
     {
         match code {
@@ -268,11 +273,11 @@ impl<'a> Machine<'a> {
             (Then (element_of first.now) (ops_body rest.now))) }
         ensures script { self.new.script ≡ self.old.script }
     {
-        if self.state.tally.ticks == 0 {
+        if self.tally.ticks == 0 {
             tell_no_tick(&mut self.state)?;
             return Ok(Flow::Stop);
         }
-        self.state.tally.take(builtin_called(first));
+        self.tally.take(builtin_called(first));
         self.body = rest;
         self.element(alloc, first)
     }
@@ -300,11 +305,11 @@ impl<'a> Machine<'a> {
             (λ p. eval p (Then (Called target) End)) 0) }
         ensures script { self.new.script ≡ self.old.script }
     {
-        if self.state.tally.ticks == 0 {
+        if self.tally.ticks == 0 {
             tell_no_tick(&mut self.state)?;
             return Ok(Flow::Stop);
         }
-        self.state.tally.take(builtin_in(target));
+        self.tally.take(builtin_in(target));
         self.call(alloc, target)
     }
 
@@ -344,6 +349,7 @@ impl<'a> Machine<'a> {
             (λ frame. frames_of self.old ≡ frame_seen frame ∷ frames_of self.new) }
         ensures empty { IfNone result (frames_of self.new ≡ []) }
         ensures state { self.new.state ≡ self.old.state }
+        ensures tally { self.new.tally ≡ self.old.tally }
         ensures script { self.new.script ≡ self.old.script }
     {
         if self.body.is_empty() {

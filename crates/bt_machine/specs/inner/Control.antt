@@ -5,6 +5,7 @@ use Rattle.bt_style.specs.Program.{Program, program_of}
 use Rattle.bt_style.specs.Tree.{Body, End, Then, ops_body}
 use Rattle.bt_actions.specs.declared.state.Flow.{Flow}
 use Rattle.bt_actions.specs.declared.state.Flow.TheVariants.{Go, Stop}
+use Rattle.bt_actions.specs.declared.tally.Tally.{Tally}
 use Rattle.bt_actions.specs.Item.{Code, Name, Block}
 use Rattle.bt_actions.specs.World.{World}
 use Rattle.bt_actions.specs.Arguments.{as_number, taken}
@@ -12,7 +13,7 @@ use Rattle.bt_actions.specs.View.{code_seen, world_of}
 use Rattle.bt_machine.specs.declared.machine.Frame.{Frame as HeldFrame}
 use Rattle.bt_machine.specs.declared.machine.Frame.TheVariants as held
 use Rattle.bt_machine.specs.declared.machine.Machine.{Machine}
-use Rattle.bt_machine.specs.Eval.{Ending, Done, Stopped, then_go, code_body, turn, looped, eval}
+use Rattle.bt_machine.specs.Eval.{Counts, Ending, Done, Stopped, then_go, code_body, turn, looped, eval}
 use Rattle.bt_machine.specs.Step.{checked}
 
 -- one thing that is left to do
@@ -23,21 +24,21 @@ pub data Frame : Type 0 where
   Test : (test body : Code) → Frame
 
 -- what it does
-abbrev pub meant : Program → Frame → World → ℕ → Ending
+abbrev pub meant : Program → Frame → World → Counts → Ending
 meant p (Run c) w k = eval p (code_body c) w k
 meant p (Test test body) w k = turn (taken While as_number w) k (eval p (code_body body)) (looped (eval p) test body)
 
 -- what is left to do, the next first
-abbrev pub left : Program → List Frame → World → ℕ → Ending
+abbrev pub left : Program → List Frame → World → Counts → Ending
 left p [] w k = Done w k
 left p (f ∷ fs) w k = then_go (meant p f w k) (left p fs)
 
 -- a number that falls with each thing that is done
-abbrev pub load : List Frame → World → ℕ → ℕ
-load fs w k = 8 * k + 4 * length w.stack + length fs
+abbrev pub load : List Frame → World → Counts → ℕ
+load fs w k = 8 * k.0 + 4 * length w.stack + length fs
 
 -- where the run stands leads to this ending, and is no heavier than the bound
-abbrev pub LeadsTo : Program → Flow → List Frame → World → ℕ → Ending → ℕ → Type 0
+abbrev pub LeadsTo : Program → Flow → List Frame → World → Counts → Ending → ℕ → Type 0
 LeadsTo p Go fs w k o bound = (left p fs w k ≡ o) × (load fs w k ≤ bound)
 LeadsTo p Stop fs w k o bound = Stopped w k ≡ o
 
@@ -58,17 +59,20 @@ waiting m = reverse (map frame_seen m.control.items)
 abbrev pub frames_of : Machine → List Frame
 frames_of m = on_top (Block (ops_body m.body.now)) (waiting m)
 
--- a machine's ticks
-abbrev pub ticks_of : Machine → ℕ
-ticks_of m = m.state.tally.ticks
+-- a machine's counts
+abbrev pub counts : Tally → Counts
+counts t = (t.ticks, t.calls)
+
+abbrev pub counts_of : Machine → Counts
+counts_of m = counts m.tally
 
 -- a machine's load
 abbrev pub load_of : Machine → ℕ
-load_of m = load (frames_of m) (world_of m.state) (ticks_of m)
+load_of m = load (frames_of m) (world_of m.state) (counts_of m)
 
 -- the load without what is left of the body
 abbrev pub waiting_load : Machine → ℕ
-waiting_load m = load (waiting m) (world_of m.state) (ticks_of m)
+waiting_load m = load (waiting m) (world_of m.state) (counts_of m)
 
 -- the style that is run
 abbrev pub program_in : Machine → Program
@@ -76,21 +80,21 @@ program_in m = program_of m.script.style.now
 
 -- what the machine's run leads to from here
 abbrev pub rest_of : Machine → Ending
-rest_of m = left (program_in m) (frames_of m) (world_of m.state) (ticks_of m)
+rest_of m = left (program_in m) (frames_of m) (world_of m.state) (counts_of m)
 
 -- the machine stands where this run, and then what was left to do, leads to; its load is higher by so much at most
-abbrev pub CarriesOut : Machine → Machine → (Program → World → ℕ → Ending) → ℕ → Flow → Type 0
+abbrev pub CarriesOut : Machine → Machine → (Program → World → Counts → Ending) → ℕ → Flow → Type 0
 CarriesOut old new run more flow =
     let p = program_in old in
-    LeadsTo p flow (frames_of new) (world_of new.state) (ticks_of new)
-    (then_go (run p (world_of old.state) (ticks_of old)) (left p (frames_of old))) (load_of old + more)
+    LeadsTo p flow (frames_of new) (world_of new.state) (counts_of new)
+    (then_go (run p (world_of old.state) (counts_of old)) (left p (frames_of old))) (load_of old + more)
 
 -- the same of a body that is run before what waited
 abbrev pub RunsBody : Machine → Machine → Body → Flow → Type 0
 RunsBody old new body flow =
     let p = program_in old in
-    LeadsTo p flow (frames_of new) (world_of new.state) (ticks_of new)
-    (then_go (eval p body (world_of old.state) (ticks_of old)) (left p (waiting old))) (waiting_load old)
+    LeadsTo p flow (frames_of new) (world_of new.state) (counts_of new)
+    (then_go (eval p body (world_of old.state) (counts_of old)) (left p (waiting old))) (waiting_load old)
 
 -- whether the run was stopped
 abbrev pub is_stop : Flow → Bool
@@ -103,10 +107,10 @@ checked_at Go w = checked w.stack w
 checked_at Stop w = w
 
 -- how a run ended
-abbrev pub run_ended : Flow → World → ℕ → Ending
+abbrev pub run_ended : Flow → World → Counts → Ending
 run_ended Go w k = Done w k
 run_ended Stop w k = Stopped w k
 
 -- how a machine's run ended
 abbrev pub ended_at : Flow → Machine → Ending
-ended_at flow m = run_ended flow (world_of m.state) (ticks_of m)
+ended_at flow m = run_ended flow (world_of m.state) (counts_of m)

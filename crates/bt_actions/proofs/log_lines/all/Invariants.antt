@@ -6,10 +6,8 @@ use Rattle.bt_actions.specs.View.{world_of}
 use Rattle.bt_actions.proofs.log_lines.all.Given as goal
 
 abbrev pub invariant-values : goal.invariant-values
-invariant-values l = record {
-  rest : log_stack (program_of l.style) (world_of l.state) ≡ log_stack (program_of l.initial.style) (world_of l.initial.state);
-  tally : l.state.tally ≡ l.initial.state.tally;
-}
+invariant-values l =
+    log_stack (program_of l.style) (world_of l.state) ≡ log_stack (program_of l.initial.style) (world_of l.initial.state)
 
 abbrev pub decreases-values : goal.decreases-values
 decreases-values l = vec_len l.state.stack

@@ -22,11 +22,11 @@ pub returns-in-Stop-clause-run : goal.returns-in-Stop-clause-run
 returns-in-Stop-clause-run c =
     let h = subst (RunsBody c.elements.self c.next_element.new.self (Then (element_of c.in-Some.first.now) (ops_body c.in-Some.rest.now))) c.in-Stop.is c.in_ok-next_element.ensures.run in
     let e = c.in_ok-keep_rest.ensures in
-    body_stops c.args.self.now (record c.keep_rest.new.self { body = c.args.ops }) c.elements.self c.next_element.new.self c.args.ops.now c.in-Some.rest.now c.in-Some.first.now refl e.script e.state e.waiting c.elements.invariant.1 c.in-Some.ensures.cases.0 h
+    body_stops c.args.self.now (record c.keep_rest.new.self { body = c.args.ops }) c.elements.self c.next_element.new.self c.args.ops.now c.in-Some.rest.now c.in-Some.first.now refl e.script e.state e.tally e.waiting c.elements.invariant.1 c.in-Some.ensures.cases.0 h
 
 pub returns-clause-run : goal.returns-clause-run
 returns-clause-run c =
     let e = c.in_ok-keep_rest.ensures in
     let i = c.elements.invariant in
     let empty : length c.elements.self.body.now ≡ 0 = search rules in
-    body_ends c.args.self.now (record c.keep_rest.new.self { body = c.args.ops }) c.elements.self c.args.ops.now refl e.script e.state e.waiting (i.0 ∙ e.script) i.1 i.2 empty
+    body_ends c.args.self.now (record c.keep_rest.new.self { body = c.args.ops }) c.elements.self c.args.ops.now refl e.script e.state e.tally e.waiting (i.0 ∙ e.script) i.1 i.2 empty
