@@ -97,7 +97,7 @@ unfolding next
 next_shorter t i e = let q = break_within t i e in omega (arith, length-drop (i + 1) t)
 
 -- With as many breaks as bytes, more change nothing.
-enough : (n m : ℕ) (t : List ℕ) → length t ≤ n → length t ≤ m → broken_within n t ≡ broken_within m t
+pub enough : (n m : ℕ) (t : List ℕ) → length t ≤ n → length t ≤ m → broken_within n t ≡ broken_within m t
 unfolding next
 enough zero zero t h k = refl
 enough zero (suc m) [] h k = refl
@@ -109,9 +109,6 @@ enough (suc n) (suc m) t h k = by_place (break_place t) refl (λ i e. enough n m
     by_place : (o : Option ℕ) → break_place t ≡ o → ((i : ℕ) → break_place t ≡ Some i → broken_within n (next t i) ≡ broken_within m (next t i)) → broken_at t (broken_within n) o ≡ broken_at t (broken_within m) o
     by_place None e f = refl
     by_place (Some i) e f = ap (λ b. broken_at t (λ _. b) (Some i)) (f i e)
-
-pub any_bound_serves : (text : List ℕ) (reserve : ℕ) → length text ≤ reserve → broken_within reserve text ≡ broken text
-any_bound_serves text reserve le = enough reserve (length text) text le (omega arith)
 
 -- One break, and the rest.
 pub broken_more : (t : List ℕ) (i : ℕ) → break_place t ≡ Some i → broken t ≡ broken_at t broken (Some i)

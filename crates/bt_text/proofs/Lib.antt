@@ -1,8 +1,6 @@
-mod Rows
 pub mod BlockLemmas
 pub mod SpecialLemmas
 pub mod PieceLemmas
-pub mod JoinLemmas
 pub mod CuttingLemmas
 pub mod PeriodLemmas
 pub mod CasingLemmas
@@ -19,3 +17,5 @@ pub mod SparseLemmas
 pub mod MergingLemmas
 pub mod WhiteLemmas
 pub mod LayerLemmas
+pub mod laws
+mod rows

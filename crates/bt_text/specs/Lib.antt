@@ -20,3 +20,4 @@ pub mod LineBreaks
 pub mod Held
 pub mod Sparse
 pub mod inner
+pub mod laws
