@@ -1,1 +1,1 @@
-mod LogRows
+mod rows
