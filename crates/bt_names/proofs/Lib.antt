@@ -1,4 +1,3 @@
-mod NameRows
 pub mod ListingLemmas
 pub mod StrayLemmas
 pub mod CuttingLemmas
@@ -9,3 +8,4 @@ pub mod GrowthLemmas
 pub mod JoiningLemmas
 pub mod GroupLemmas
 pub mod CallLemmas
+mod rows
