@@ -1,26 +1,17 @@
 -- What is read where a name is used is declared.
-use Rattle.std.specs.Prelude.{bytes_eq, ◌==◌, All}
+use Rattle.std.specs.Prelude.{bytes_eq}
 use Rattle.std.specs.Option.{option_map}
-use Rattle.std.proofs.Common.{◌≡◌, ap, sym, refl, subst, ℕ, suc, ◌<◌, Bool, true, false, cond, List, [], ◌∷◌, length, drop, slice_index, Option, Some, None, Result, Ok, Err, arith}
-use Rattle.std.proofs.lemmas.List.Elements.{All-nil, All-cons, All-append}
+use Rattle.std.proofs.Common.{◌≡◌, ap, refl, subst, ℕ, suc, ◌<◌, Bool, true, false, cond, List, [], ◌∷◌, length, Option, Some, None, Ok, arith}
 use Rattle.std.proofs.lemmas.List.{length-map}
 use Rattle.bt_text.specs.CaseFolding.{folded}
-use Rattle.bt_style.specs.declared.fault.StyleFault.{StyleFault}
 use Rattle.bt_style.specs.declared.style.Target.{Target}
 use Rattle.bt_style.specs.declared.style.Target.TheVariants as targets
 use Rattle.bt_style.specs.Program.{Program, Definition}
-use Rattle.bt_style.specs.Tree.{Element, Amount, Quoted, Called, Body}
-use Rattle.bt_style.specs.Fault.{◌>>=◌}
-use Rattle.bt_style.specs.Token.{Tokens}
 use Rattle.bt_style.specs.Names.{builtin_named, place_in, first_some, target_named, function_names}
 use Rattle.bt_style.specs.Declares.{target_or_fault, target_of, runnable}
-use Rattle.bt_style.specs.Elements.{number_at, quoted_at, word_element}
-use Rattle.bt_style.specs.Bodies.{body_at}
-use Rattle.bt_style.specs.Spelled.{SpellsElement, ByWord, ByLiteral, ByBraces, SpellsBody, ByClose, ByElement}
 use Rattle.bt_style.specs.Commands.{run_target}
-use Rattle.bt_style.specs.Reach.{element_names, body_names}
 use Rattle.bt_style.specs.Uses.{IsDeclared}
-use Rattle.bt_style.proofs.SpelledLemmas.{bind_ok, ok_same, spelled}
+use Rattle.bt_style.proofs.SpelledLemmas.{bind_ok, ok_same}
 
 -- Names
 
@@ -57,7 +48,7 @@ known_is : (o : Option Target) (line : ℕ) (t : Target) → target_or_fault o l
 known_is None line t h = cc
 known_is (Some x) line t h = ap Some (ok_same x t h)
 
-target_within : (p : Program) (word : List ℕ) (line : ℕ) (t : Target) → target_of p word line ≡ Ok t → IsDeclared p (length p.functions) t
+pub target_within : (p : Program) (word : List ℕ) (line : ℕ) (t : Target) → target_of p word line ≡ Ok t → IsDeclared p (length p.functions) t
 target_within p word line t h = meaning_within p (folded word) t (known_is (target_named p (folded word)) line t h)
 
 runnable_same : (s : Target) (line : ℕ) (t : Target) → runnable s line ≡ Ok t → s ≡ t
@@ -73,56 +64,3 @@ pub run_within : (p : Program) (word : List ℕ) (line : ℕ) (t : Target) → r
 run_within p word line t h =
     let found = bind_ok (target_of p word line) (λ target. runnable target line) t h in
     subst (IsDeclared p (length p.functions)) (runnable_same found.0 line t found.2) (target_within p word line found.0 found.1)
-
--- Bodies
-
--- each name of an element is declared
-abbrev Within : Program → Element → Type 0
-Within p e = All (IsDeclared p (length p.functions)) (element_names e)
-
-number_within : (p : Program) (bytes : List ℕ) (line : ℕ) (e : Element) → (number_at bytes line >>= λ n. Ok (Amount n)) ≡ Ok e → Within p e
-number_within p bytes line e h =
-    let n = bind_ok (number_at bytes line) (λ n. Ok (Amount n)) e h in
-    subst (Within p) (ok_same (Amount n.0) e n.2) (All-nil (IsDeclared p (length p.functions)))
-
-one_within : (p : Program) (make : Target → Element) → ((t : Target) → element_names (make t) ≡ t ∷ []) → (word : List ℕ) (line : ℕ) (e : Element) →
-    (target_of p word line >>= λ t. Ok (make t)) ≡ Ok e → Within p e
-one_within p make names word line e h =
-    let P : Target → Type 0 = IsDeclared p (length p.functions) in
-    let t = bind_ok (target_of p word line) (λ t. Ok (make t)) e h in
-    let one : All P (t.0 ∷ []) = All-cons P t.0 [] (target_within p word line t.0 t.1) (All-nil P) in
-    subst (Within p) (ok_same (make t.0) e t.2) (subst (All P) (sym (names t.0)) one)
-
-quoted_within : (p : Program) (bytes : List ℕ) (line : ℕ) (e : Element) → quoted_at p bytes line ≡ Ok e → Within p e
-unfolding quoted_at
-quoted_within p bytes line e h = quoted_by (length bytes == 0) _ h
-  where
-    quoted_by : (v : Bool) (f : StyleFault) → cond v (Err f) (target_of p bytes line >>= λ t. Ok (Quoted t)) ≡ Ok e → Within p e
-    quoted_by true f h = cc
-    quoted_by false f h = one_within p Quoted (λ t. refl) bytes line e h
-
-word_by : (v w : Bool) (a b c : Result Element StyleFault) (e : Element) (X : Type 0) → (a ≡ Ok e → X) → (b ≡ Ok e → X) → (c ≡ Ok e → X) → cond v a (cond w b c) ≡ Ok e → X
-word_by true w a b c e X f g k h = f h
-word_by false true a b c e X f g k h = g h
-word_by false false a b c e X f g k h = k h
-
-word_within : (p : Program) (word : List ℕ) (line : ℕ) (e : Element) → word_element p word line ≡ Ok e → Within p e
-unfolding word_element
-word_within p word line e h =
-    word_by (slice_index word 0 == 35) (slice_index word 0 == 39) (number_at (drop 1 word) line >>= λ n. Ok (Amount n)) (quoted_at p (drop 1 word) line)
-    (target_of p word line >>= λ target. Ok (Called target)) e (Within p e)
-    (number_within p (drop 1 word) line e) (quoted_within p (drop 1 word) line e) (one_within p Called (λ t. refl) word line e) h
-
-mutual
-  element_within : (p : Program) (e : Element) (tokens mid : Tokens) → SpellsElement p e tokens mid → Within p e
-  element_within p e tokens mid (ByWord {word = word} {line = line} h) = word_within p word line e h
-  element_within p e tokens mid (ByLiteral) = All-nil (IsDeclared p (length p.functions))
-  element_within p e tokens mid (ByBraces {inner = inner} {inside = inside} s) = spelled_within p inner inside mid s
-
-  spelled_within : (p : Program) (b : Body) (tokens rest : Tokens) → SpellsBody p b tokens rest → All (IsDeclared p (length p.functions)) (body_names b)
-  spelled_within p b tokens rest (ByClose) = All-nil (IsDeclared p (length p.functions))
-  spelled_within p b tokens rest (ByElement {e = e} {b = more} {mid = mid} s t) =
-      All-append (IsDeclared p (length p.functions)) (element_names e) (body_names more) (element_within p e tokens mid s) (spelled_within p more mid rest t)
-
-pub body_within : (p : Program) (tokens : Tokens) (b : Body) (rest : Tokens) → body_at p [] [] tokens ≡ Ok (b, rest) → All (IsDeclared p (length p.functions)) (body_names b)
-body_within p tokens b rest h = spelled_within p b tokens rest (spelled p tokens b rest h)

@@ -1,5 +1,5 @@
 -- The functions that need no definition: their table, with their names and their places in it.
-use Rattle.std.specs.Prelude.{◌≡◌, ℕ, List, [], ◌∷◌, Some, slice_get, codes}
+use Rattle.std.specs.Prelude.{ℕ, List, [], ◌∷◌, codes}
 use Rattle.bt_style.specs.declared.builtin.Builtin.{Builtin}
 use Rattle.bt_style.specs.declared.builtin.Builtin.TheVariants as builtins
 
@@ -8,7 +8,7 @@ pub record Row : Type 0 where
   pub builtin : Builtin
   pub name : List ℕ
 
-abbrev row : Builtin → List ℕ → Row
+abbrev pub row : Builtin → List ℕ → Row
 row b name = record { builtin = b; name = name }
 
 -- the table, in its order
@@ -132,7 +132,3 @@ name_of builtins.Warning = codes "warning$"
 name_of builtins.While = codes "while$"
 name_of builtins.Width = codes "width$"
 name_of builtins.Write = codes "write$"
-
--- each function stands at its place in the table, with its name
-abbrev pub StandInTheirPlaces : Type 0
-StandInTheirPlaces = (b : Builtin) → slice_get table (place_of b) ≡ Some (row b (name_of b))

@@ -9,7 +9,6 @@ pub mod Arguments
 pub mod Declares
 pub mod Elements
 pub mod Bodies
-pub mod Spelled
 pub mod Verbs
 pub mod Commands
 pub mod Reader
@@ -17,5 +16,5 @@ pub mod Apart
 pub mod Numbers
 pub mod Reach
 pub mod Uses
-pub mod Laws
 pub mod inner
+pub mod laws

@@ -1,12 +1,10 @@
 -- What the functions and commands of a style may name: what is declared before them.
-use Rattle.std.specs.Prelude.{◌≡◌, ℕ, ◌<◌, List, length, Some, All, Ok, slice_get}
+use Rattle.std.specs.Prelude.{ℕ, ◌<◌, length}
 use Rattle.bt_style.specs.declared.style.Target.{Target}
 use Rattle.bt_style.specs.declared.style.Target.TheVariants as targets
 use Rattle.bt_style.specs.declared.style.Action.{Action}
 use Rattle.bt_style.specs.declared.style.Action.TheVariants as actions
-use Rattle.bt_style.specs.Program.{Program, Definition}
-use Rattle.bt_style.specs.Reach.{body_names}
-use Rattle.bt_style.specs.Reader.{style_of}
+use Rattle.bt_style.specs.Program.{Program}
 
 -- what a name stands for is declared, where this number of functions is defined
 abbrev pub IsDeclared : Program → ℕ → Target → Type 0
@@ -26,14 +24,3 @@ NamesDeclared p (actions.Reverse t) = IsDeclared p (length p.functions) t
 NamesDeclared p (actions.Function n) = n < length p.functions
 NamesDeclared p (actions.Macro n) = n < length p.macros
 NamesDeclared p _ = Unit {0}
-
--- Each name in the body of a function, called or quoted, inner braces too, is declared, and none stands for this
--- function or one after it.
-pub record UsesDeclared (p : Program) : Type 0 where
-  pub bodies : (n : ℕ) (f : Definition) → slice_get p.functions n ≡ Some f → All (IsDeclared p n) (body_names f.body)
-  pub commands : All (λ c. NamesDeclared p c.action) p.commands
-
--- So by the names in bodies no function of a style that a text spells comes to itself. (When it runs it may, by
--- `call.type$`, or where it runs what another one left on the literal stack.)
-abbrev pub NamesComeFirst : Type 0
-NamesComeFirst = (text : List ℕ) (p : Program) → style_of text ≡ Ok p → UsesDeclared p

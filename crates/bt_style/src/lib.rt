@@ -10,7 +10,6 @@ mod declares;
 mod draft;
 mod elements;
 mod fault;
-mod laws;
 mod names;
 mod numbers;
 mod reach;
@@ -22,10 +21,6 @@ mod verbs;
 pub use bodies::BRACE_DEPTH;
 pub use builtin::{BUILTIN_COUNT, Builtin};
 pub use fault::{FaultKind, StyleFault, StyleRefusal};
-pub use laws::{
-    any_bound_serves, bodies_are_spelled, builtins_are_found_by_name,
-    builtins_stand_in_their_places, fault_is_first, fields_are_apart, spelled_bodies_are_read,
-};
 pub use reach::Reach;
 pub use reader::read_style;
-pub use style::{Action, Command, Function, Macro, Op, Style, Target};
+pub use style::{Action, Command, Function, Macro, Op, Style, Target, fields_are_apart};

@@ -1,5 +1,7 @@
 //! A style: its names, its functions and its commands.
 
+ghost use Rattle.bt_style.specs.Apart.{FieldsAreApart};
+
 use crate::builtin::Builtin;
 use bt_text::{Bytes, Sequence};
 
@@ -94,3 +96,8 @@ pub struct Style {
     /// All commands in their order, also those that only declare.
     pub commands: Sequence<Command>,
 }
+
+/// No two fields of a style that a text spells match, without regard to case.
+pub fn fields_are_apart()
+    ensures { FieldsAreApart }
+{}

@@ -1,5 +1,0 @@
-use Rattle.bt_style.proofs.ApartLemmas.{fields_apart}
-use Rattle.bt_style.proofs.laws.fields_are_apart.Goals as goal
-
-pub returns : goal.returns
-returns c = fields_apart

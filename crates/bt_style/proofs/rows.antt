@@ -1,0 +1,4 @@
+-- Worked rows, proved by `refl`. Nothing needs them.
+mod FaultRows
+mod StyleRows
+mod LawRows
