@@ -6,7 +6,7 @@ use Rattle.bt_actions.specs.Item.{Num, Txt, Missing}
 use Rattle.bt_actions.specs.World.{World, Stops, say}
 use Rattle.bt_actions.specs.State.{pushed}
 use Rattle.bt_actions.specs.Actions.{basic}
-use Rattle.bt_actions.proofs.RowWorlds.{names, alone, over, no_value, Leaves, LeavesWithErrors}
+use Rattle.bt_actions.proofs.rows.RowWorlds.{names, alone, over, no_value, Leaves, LeavesWithErrors}
 
 -- a value twice
 duplicate_row : Leaves builtin.Duplicate (Missing 0 ∷ Num (pos 1) ∷ []) (Missing 0 ∷ Missing 0 ∷ Num (pos 1) ∷ [])

@@ -3,7 +3,7 @@ use Rattle.std.specs.Prelude.{pos, negsuc, [], ◌∷◌, codes, refl}
 use Rattle.bt_style.specs.declared.builtin.Builtin.TheVariants as builtin
 use Rattle.std.specs.Fmt.{digits}
 use Rattle.bt_actions.specs.Item.{Num, Txt}
-use Rattle.bt_actions.proofs.RowWorlds.{no_value, Leaves, LeavesWithErrors}
+use Rattle.bt_actions.proofs.rows.RowWorlds.{no_value, Leaves, LeavesWithErrors}
 
 -- 3 2 >
 greater_row : Leaves builtin.Greater (Num (pos 2) ∷ Num (pos 3) ∷ []) (Num (pos 1) ∷ [])

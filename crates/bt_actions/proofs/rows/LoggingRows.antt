@@ -8,7 +8,7 @@ use Rattle.bt_log.specs.declared.message.Rank.TheVariants.{Note, Warning}
 use Rattle.bt_actions.specs.Item.{Name, Block, Num, Txt, Fun, Missing}
 use Rattle.bt_actions.specs.World.{Goes}
 use Rattle.bt_actions.specs.Actions.{basic}
-use Rattle.bt_actions.proofs.RowWorlds.{names, start, over, told_in, of_second, no_value, LeavesWithErrors}
+use Rattle.bt_actions.proofs.rows.RowWorlds.{names, start, over, told_in, of_second, no_value, LeavesWithErrors}
 
 -- warning$
 warning_row : basic names builtin.Warning (over start (Txt (codes "beware") ∷ [])) ≡ Goes (told_in start [] (of_second Warning (codes "Warning--beware") ∷ []))

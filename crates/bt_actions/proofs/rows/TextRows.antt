@@ -3,7 +3,7 @@ use Rattle.std.specs.Prelude.{pos, negsuc, [], ◌∷◌, codes, refl}
 use Rattle.bt_style.specs.declared.builtin.Builtin.TheVariants as builtin
 use Rattle.bt_text.specs.Widths.{widths}
 use Rattle.bt_actions.specs.Item.{Num, Txt, Missing}
-use Rattle.bt_actions.proofs.RowWorlds.{no_value, Leaves, LeavesWithErrors}
+use Rattle.bt_actions.proofs.rows.RowWorlds.{no_value, Leaves, LeavesWithErrors}
 
 -- "a" "b" *
 join_row : Leaves builtin.Join (Txt (codes "b") ∷ Txt (codes "a") ∷ []) (Txt (codes "ab") ∷ [])

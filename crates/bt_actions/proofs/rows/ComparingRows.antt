@@ -4,7 +4,7 @@ use Rattle.bt_style.specs.declared.style.Target.TheVariants as target
 use Rattle.bt_style.specs.declared.builtin.Builtin.TheVariants as builtin
 use Rattle.bt_style.specs.Tree.{End}
 use Rattle.bt_actions.specs.Item.{Name, Block, Num, Txt, Fun, Missing}
-use Rattle.bt_actions.proofs.RowWorlds.{no_value, Leaves, LeavesWithErrors}
+use Rattle.bt_actions.proofs.rows.RowWorlds.{no_value, Leaves, LeavesWithErrors}
 
 -- 7 7 =
 equal_numbers_row : Leaves builtin.Equals (Num (pos 7) ∷ Num (pos 7) ∷ []) (Num (pos 1) ∷ [])

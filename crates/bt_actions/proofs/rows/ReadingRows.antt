@@ -5,7 +5,7 @@ use Rattle.bt_actions.specs.Item.{Num, Txt, Missing}
 use Rattle.bt_actions.specs.World.{Goes}
 use Rattle.bt_actions.specs.Operands.{of_entry, field_at, number_at, text_at, global_number, global_text}
 use Rattle.bt_actions.specs.Actions.{basic}
-use Rattle.bt_actions.proofs.RowWorlds.{names, start, second, alone, errors, over, told_in, Leaves}
+use Rattle.bt_actions.proofs.rows.RowWorlds.{names, start, second, alone, errors, over, told_in, Leaves}
 
 -- the key
 cite_row : Leaves builtin.Cite [] (Txt (codes "b") ∷ [])

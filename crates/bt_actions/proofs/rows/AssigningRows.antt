@@ -6,7 +6,7 @@ use Rattle.bt_style.specs.Tree.{End}
 use Rattle.bt_actions.specs.Item.{Name, Block, Num, Txt, Fun}
 use Rattle.bt_actions.specs.World.{Goes}
 use Rattle.bt_actions.specs.Actions.{basic}
-use Rattle.bt_actions.proofs.RowWorlds.{names, other, cited, start, alone, errors, over, told_in, no_value, Leaves, LeavesWithErrors}
+use Rattle.bt_actions.proofs.rows.RowWorlds.{names, other, cited, start, alone, errors, over, told_in, no_value, Leaves, LeavesWithErrors}
 
 -- a number variable of the style
 assign_number_row : basic names builtin.Assign (over start (Fun (Name (target.GlobalNumber 0)) ∷ Num (pos 5) ∷ [])) ≡ Goes (record start { globals = record { numbers = pos 5 ∷ []; texts = codes "all" ∷ [] } })

@@ -4,7 +4,7 @@ use Rattle.bt_style.specs.declared.builtin.Builtin.TheVariants as builtin
 use Rattle.bt_actions.specs.Item.{Num, Txt}
 use Rattle.bt_actions.specs.World.{Goes}
 use Rattle.bt_actions.specs.Actions.{basic}
-use Rattle.bt_actions.proofs.RowWorlds.{names, start, over, no_value, LeavesWithErrors}
+use Rattle.bt_actions.proofs.rows.RowWorlds.{names, start, over, no_value, LeavesWithErrors}
 
 -- write$
 write_row : basic names builtin.Write (over start (Txt (codes "x") ∷ [])) ≡ Goes (record start { held = codes "so far x" })
