@@ -11,7 +11,7 @@ use Rattle.bt_actions.specs.declared.complaint.Complaint.TheVariants.{TicksPasse
 use Rattle.bt_actions.specs.Item.{Code}
 use Rattle.bt_actions.specs.World.{World, entry_of, say}
 use Rattle.bt_actions.specs.Arguments.{as_number, as_code, taken, taken_two, taken_three}
-use Rattle.bt_machine.specs.Eval.{Counts, Ending, Done, Stopped, Runner, then_go, code_body, function_body, type_function, run_function, run_type, by_sign, run_chosen, turn, turns, looped, run_loop, built_in, act, calls_after, eval_within, eval, IsEvaluation}
+use Rattle.bt_machine.specs.Eval.{Counts, Ending, Done, Stopped, Runner, then_go, code_body, function_body, type_function, run_function, run_type, by_sign, run_chosen, turn, turns, looped, run_loop, built_in, act, calls_after, eval_within, eval}
 use Rattle.bt_machine.proofs.Bounds.{Shrinks, AllShrink, act_shrinks, eval_shrinks, taken_len, taken_some_len}
 
 -- the same from everywhere with at most k ticks
@@ -111,8 +111,3 @@ looped-turn p test body w k =
     then_same (eval p (code_body test) w k) _ _ k.0 (k.0 + length w.stack) (eval-shrinks p (code_body test) w k)
     (λ w1 j hj hs. turn_same (taken While as_number w1).0 (taken While as_number w1).1 j (eval p (code_body body)) (eval p (code_body body)) (turns (k.0 + length w.stack) (eval p (code_body test)) (eval p (code_body body))) (looped (eval p) test body) (eval-shrinks p (code_body body)) refl
     (λ n e w2 i hi hs2. let l = taken_some_len While as_number w1 n e in turns_same (k.0 + length w.stack) (suc (i.0 + length w2.stack)) _ _ _ _ i.0 (eval-shrinks p (code_body test)) (eval-shrinks p (code_body body)) (λ w' j' h. refl) (λ w' j' h. refl) w2 i (omega arith) (omega arith) (omega arith)))
-
--- all of them
-pub is_evaluation : (p : Program) → IsEvaluation p (eval p)
-is_evaluation p =
-    record { no_element = eval-end p; no_tick = eval-no_tick p; an_element = eval-then p; a_loop = looped-turn p }

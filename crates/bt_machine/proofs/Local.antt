@@ -1,7 +1,6 @@
 -- A step is the same wherever its entry stands.
 use Rattle.std.proofs.Common.{◌≡◌, ℕ, List, [], ◌++◌, Option, Some, None, refl, sym, ap, ◌∙◌, append-nil}
-use Rattle.std.specs.Prelude.{option_map, slice_index_or, slice_set}
-use Rattle.std.proofs.Math.Seq.{drop-append_seam}
+use Rattle.std.specs.Prelude.{slice_index_or, slice_set}
 use Rattle.std.proofs.lemmas.List.{get_or-set_same, set-get_or, set-set}
 use Rattle.bt_actions.specs.declared.entry.Variables.{Variables}
 use Rattle.bt_actions.specs.declared.entry.Entry.{Entry}
@@ -9,14 +8,14 @@ use Rattle.bt_style.specs.Tree.{Called, End, Then}
 use Rattle.bt_style.specs.Program.{Program}
 use Rattle.bt_actions.specs.World.{World, no_variables, no_entry, entry_in}
 use Rattle.bt_machine.specs.Eval.{eval}
-use Rattle.bt_machine.specs.Step.{tick_limit, counts_begun, step_begun, rested, Finish, finish_of, step, Own, own}
+use Rattle.bt_machine.specs.Step.{tick_limit, counts_begun, step_begun, rested, Finish, finish_of, step}
 use Rattle.bt_actions.specs.View.{entries_in}
-use Rattle.bt_machine.specs.OwnEntry.{IsPlace, cut, alone, with_variables, put_back, finish_back, DependsOnInput, SameInputSameOutcome}
+use Rattle.bt_machine.specs.OwnEntry.{IsPlace, cut, alone, with_variables, put_back, finish_back, DependsOnInput}
 use Rattle.bt_machine.proofs.Places.{Part, Place, varied, embed}
 use Rattle.bt_machine.proofs.Alike.{eval_alike, finished_alike}
 
 -- the entry at a place of a list, with other variables
-reads_in : (x : Option ℕ) (es : List Entry) (w : World) → es ≡ w.entries → IsPlace x w → (v : Variables) → entry_in (with_variables x es v) x ≡ varied v (entry_in es x)
+pub reads_in : (x : Option ℕ) (es : List Entry) (w : World) → es ≡ w.entries → IsPlace x w → (v : Variables) → entry_in (with_variables x es v) x ≡ varied v (entry_in es x)
 reads_in None es w q h v = refl
 reads_in (Some n) es w q h v =
     ap Some (get_or-set_same es n (record (slice_index_or es n no_entry) { variables = v }) no_entry (rw q h))
@@ -128,63 +127,3 @@ step_local p x t w h =
     let begins : step p x t w ≡ finish_of (eval p b (embed e w.preamble P (start x w)) counts_begun) = ap (λ v. finish_of (eval p b v counts_begun)) (sym (start_in_world x w h)) in
     let begins_alone : finish_of (eval p b (embed e w.preamble P' (start x w)) counts_begun) ≡ step p (alone x) t (cut x w) = ap (λ v. finish_of (eval p b v counts_begun)) (start_alone x w) in
     begins ∙ finish_eq _ _ (a.here ∙ part_back x w h a.part ∙ ap (put_back x w) (sym a.there)) a.stopped a.cost a.calls ∙ ap (finish_back x w) begins_alone
-
--- what is a step's own, where its entry stands alone
-abbrev own_alone : Option ℕ → Finish → Own
-own_alone y s =
-    record {
-      outcome =
-          record {
-            globals = s.world.globals;
-            variables = option_map (λ (d : Entry). d.variables) (entry_in s.world.entries y);
-            held = s.world.held;
-            lines = s.world.lines;
-            messages = s.world.messages;
-            stop = s.stopped;
-            calls = s.calls;
-          };
-      cost = s.cost;
-    }
-
--- the variables that were put back are read again
-variables_read : (x : Option ℕ) (w : World) (es : List Entry) → IsPlace x w → option_map (λ (d : Entry). d.variables) (entry_in (with_variables x w.entries (slice_index_or es 0 no_entry).variables) x) ≡ option_map (λ (d : Entry). d.variables) (entry_in es (alone x))
-variables_read None w es h = refl
-variables_read (Some n) w es h = ap (option_map (λ (d : Entry). d.variables)) (reads_in (Some n) w.entries w refl h (slice_index_or es 0 no_entry).variables)
-
--- what is a step's own stays, put back
-own_back : (x : Option ℕ) (w : World) (s : Finish) → IsPlace x w → own x w (finish_back x w s) ≡ own_alone (alone x) s
-own_back x w s h =
-    let p = variables_read x w s.world.entries h in
-    let q = drop-append_seam w.lines s.world.lines in
-    let r = drop-append_seam w.messages s.world.messages in
-    λ j. record {
-      outcome =
-          record {
-            globals = s.world.globals;
-            variables = p j;
-            held = s.world.held;
-            lines = q j;
-            messages = r j;
-            stop = s.stopped;
-            calls = s.calls;
-          };
-      cost = s.cost;
-    }
-
--- with equal entries there is an entry at both places or at none
-alone_same : (x x' : Option ℕ) (es es' : List Entry) → entries_in (entry_in es x) ≡ entries_in (entry_in es' x') → alone x ≡ alone x'
-alone_same None None es es' q = refl
-alone_same None (Some n) es es' q = cc
-alone_same (Some n) None es es' q = cc
-alone_same (Some n) (Some n') es es' q = refl
-
--- equal inputs give equal outcomes and costs
-pub same_input : (p : Program) → SameInputSameOutcome p
-same_input p x x' t w w' h h' e =
-    let a = alone_same x x' w.entries w'.entries (ap (λ (v : World). v.entries) e) in
-    ap (own x w) (step_local p x t w h)
-    ∙ own_back x w (step p (alone x) t (cut x w)) h
-    ∙ ap (λ i. own_alone (alone x) (step p (alone x) t i)) e
-    ∙ ap (λ y. own_alone y (step p y t (cut x' w'))) a
-    ∙ sym (own_back x' w' (step p (alone x') t (cut x' w')) h')
-    ∙ sym (ap (own x' w') (step_local p x' t w' h'))

@@ -9,7 +9,7 @@ use Rattle.bt_actions.specs.Item.{Item, Num, Txt, Fun, Missing}
 use Rattle.bt_actions.specs.World.{World, no_entry}
 use Rattle.bt_actions.specs.State.{text_len}
 use Rattle.bt_actions.specs.Assignment.{with_number, with_text, with_own, put_if_right, own_changed}
-use Rattle.bt_machine.specs.Fits.{Count, Fits, OwnFit}
+use Rattle.bt_machine.specs.laws.Fits.{Count, Fits, OwnFit}
 
 -- a value with a text that the stack takes
 abbrev pub IsShort : Item → Type 0

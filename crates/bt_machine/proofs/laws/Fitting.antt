@@ -13,10 +13,10 @@ use Rattle.bt_actions.specs.Assignment.{with_number, with_text, with_globals, pu
 use Rattle.bt_actions.specs.View.{entries_in}
 use Rattle.bt_machine.specs.Eval.{Ending, Done, Stopped, eval}
 use Rattle.bt_machine.specs.Step.{tick_limit, counts_begun, step_begun, finish_of, step, first_variables, world_in}
-use Rattle.bt_machine.specs.Fits.{Count, Fits, OwnFit, ValuesFitAgain}
+use Rattle.bt_machine.specs.laws.Fits.{Count, Fits, OwnFit, ValuesFitAgain}
 use Rattle.bt_machine.proofs.Keeping.{Kept}
-use Rattle.bt_machine.proofs.KeepingEval.{EndKept, eval_kept, checked_kept}
-use Rattle.bt_machine.proofs.Storing.{IsShort, EntryFits, number_fits, text_fits, own_fits, own_rest}
+use Rattle.bt_machine.proofs.laws.KeepingEval.{EndKept, eval_kept, checked_kept}
+use Rattle.bt_machine.proofs.laws.Storing.{IsShort, EntryFits, number_fits, text_fits, own_fits, own_rest}
 
 module _ (globals own : Count) (x : Option ℕ) (l : ℕ) where
   -- the entry at place x among l, and variables that fit

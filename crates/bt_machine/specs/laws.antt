@@ -1,0 +1,5 @@
+-- Only laws need these.
+pub mod Eval
+pub mod Step
+pub mod OwnEntry
+pub mod Fits
