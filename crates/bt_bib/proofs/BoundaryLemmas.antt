@@ -1,6 +1,6 @@
 -- From a boundary on, the pieces of a text are those of its rest, moved.
 use Rattle.std.specs.Prelude.{codes}
-use Rattle.std.proofs.Common.{◌≡◌, ℕ, suc, ◌+◌, ◌<◌, List, [], ◌∷◌, ◌++◌, length, drop, map, Option, Some, None, Result, Ok, Err, refl, sym, ap, subst, ◌∙◌, arith}
+use Rattle.std.proofs.Common.{◌≡◌, ℕ, suc, ◌+◌, ◌<◌, List, [], ◌∷◌, ◌++◌, length, drop, map, Option, Some, None, Result, Ok, Err, refl, sym, ap, ◌∙◌, arith}
 use Rattle.std.proofs.lemmas.List.{drop_at, drop-drop}
 use Rattle.bt_bib.specs.declared.spot.Spot.{Spot}
 use Rattle.bt_bib.specs.declared.fault.NameRole.TheVariants.{EntryType}
@@ -20,7 +20,7 @@ use Rattle.bt_bib.specs.Pieces.{ended_item, opening, entry_item, string_item, pr
 use Rattle.bt_bib.specs.inner.Cases.{next_one, pieces_from, many_by, entry_read, string_read, preamble_read, type_ended, type_read, is_text, next_piece_from}
 use Rattle.bt_bib.specs.Moved.{moved, moved_piece}
 use Rattle.bt_bib.specs.Boundaries.{end_of, last_end}
-use Rattle.bt_bib.proofs.ReachLemmas.{Reaches, reaches_self, reaches_then, reaches_sum, many_moves, Moves}
+use Rattle.bt_bib.proofs.ReachLemmas.{Reaches, reaches_sum, many_moves, Moves}
 use Rattle.bt_bib.proofs.ManyLemmas.{all_is}
 use Rattle.bt_bib.proofs.PieceLemmas.{next_piece_less, next_piece_reaches}
 use Rattle.bt_bib.proofs.AlikeLemmas.{Alike}
@@ -86,7 +86,7 @@ here_reached text s e r =
     ap (at e.spot) (sym rest)
 
 -- from a boundary on, the pieces of a text are those of its rest
-rest_by : (text : List ℕ) (s : Spot) (p : Piece) (ps back : List Piece) (x : Option Piece × Here) → EndsAt x → Reaches (here text s) x.1 → pieces_by x ≡ p ∷ (ps ++ back) → ps ++ back ≡ pieces_from (here text (end_of p))
+pub rest_by : (text : List ℕ) (s : Spot) (p : Piece) (ps back : List Piece) (x : Option Piece × Here) → EndsAt x → Reaches (here text s) x.1 → pieces_by x ≡ p ∷ (ps ++ back) → ps ++ back ≡ pieces_from (here text (end_of p))
 rest_by text s p ps back (None, e) ends r is = absurd cc
 rest_by text s p ps back (Some q, e) ends r is =
     let one : q ≡ p = cc is in
@@ -107,19 +107,3 @@ moved_law m s r =
     let limit = s.place + length r + 1 in
     let a : Alike m limit (at s r) (at (moved m s) r) = record { spot = refl; rest = refl } in
     all_of_alike m limit (at s r) (all next_one (at s r)) (all next_one (at (moved m s) r)) (many_moves next_one (λ h. record { ahead = next_piece_reaches h }) (suc (length r)) (at s r)) (omega arith) (all_alike m limit (moved_piece m) next_one next_piece_less (λ h. record { ahead = next_piece_reaches h }) (next_piece_same m limit) (at s r) (at (moved m s) r) a)
-
--- what leads to a boundary
-reaches_by : (text : List ℕ) (s : Spot) (p : Piece) (ps back : List Piece) (x : Option Piece × Here) → EndsAt x → Reaches (here text s) x.1 → pieces_by x ≡ p ∷ (ps ++ back) → Reaches (here text s) (here text (end_of p))
-reaches_by text s p ps back (None, e) ends r is = absurd cc
-reaches_by text s p ps back (Some q, e) ends r is =
-    let one : q ≡ p = cc is in
-    subst (λ e. Reaches (here text s) e) (here_reached text s e r ∙ ap (λ u. here text u) (sym ends ∙ ap end_of one)) r
-
-pub rest_reached : (text : List ℕ) (s : Spot) (front back : List Piece) → pieces_from (here text s) ≡ front ++ back → Reaches (here text s) (here text (last_end s front))
-rest_reached text s [] back is = reaches_self (here text s)
-rest_reached text s (p ∷ ps) back is =
-    let x = next_piece (here text s) in
-    let step = sym (pieces_step (here text s)) ∙ is in
-    let one = reaches_by text s p ps back x (next_ends (here text s)) (next_piece_reaches (here text s)) step in
-    let rest = sym (rest_by text s p ps back x (next_ends (here text s)) (next_piece_reaches (here text s)) step) in
-    reaches_then (here text s) (here text (end_of p)) (here text (last_end (end_of p) ps)) one (rest_reached text (end_of p) ps back rest)

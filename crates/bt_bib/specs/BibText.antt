@@ -1,17 +1,11 @@
 -- The items of a whole text.
 use Rattle.std.specs.Prelude.{ℕ, List, Ok}
-use Rattle.bt_bib.specs.declared.item.Item.{Item}
 use Rattle.bt_bib.specs.declared.item.Piece.{Piece}
 use Rattle.bt_bib.specs.Spot.{at, start}
 use Rattle.bt_bib.specs.Many.{all}
 use Rattle.bt_bib.specs.Pieces.{next_piece}
-use Rattle.bt_bib.specs.Items.{items_of}
 
 -- The comment words and items of a whole text: text up to an `@`, what begins there, and then the rest. A faulty item's
 -- rest begins where its fault stands.
 unfoldable pub pieces_of : List ℕ → List Piece
 pieces_of text = (all (λ h. Ok (next_piece h)) (at start text)).0
-
--- the items of a whole text
-abbrev pub bib_items : List ℕ → List Item
-bib_items text = items_of (pieces_of text)

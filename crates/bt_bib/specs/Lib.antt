@@ -17,10 +17,7 @@ pub mod Boundaries
 pub mod Splice
 pub mod Shift
 pub mod PlacedPieces
-pub mod Laws
 pub mod Parts
 pub mod Split
-pub mod Spelling
-pub mod Spelled
-pub mod SpelledLaws
 pub mod inner
+pub mod laws

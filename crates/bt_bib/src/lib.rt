@@ -12,7 +12,6 @@ mod fields;
 mod item;
 mod items;
 mod keywords;
-mod laws;
 mod meter;
 mod names;
 mod pieces;
@@ -32,13 +31,6 @@ pub use bib_text::read_bib;
 pub use fault::{ItemFault, NameRole};
 pub use item::{Closing, Content, Definition, Entry, Field, Item, Part, Piece};
 pub use items::Items;
-pub use laws::{
-    any_bound_serves, boundary_stays, closed_parts_join, enclosed_texts_are_read, fault_is_final,
-    fault_is_first, faultless_databases_are_spelled, faultless_items_are_spelled, lines_lie_inside,
-    part_edit_stays, parts_are_read, rest_is_moved, spans_rise, spelled_databases_are_read,
-    spelled_fields_are_read, spelled_items_are_read, spelled_parts_are_read,
-    spelled_values_are_read,
-};
 pub use meter::ReadMeter;
 pub use placed_pieces::PlacedPiece;
 pub use splice::Splice;

@@ -1,6 +1,6 @@
 -- Words for rows: what a small style sees of literal databases.
 use Rattle.std.specs.Prelude.{ℕ, List, [], ◌∷◌, map, codes, Option, Some, None}
-use Rattle.bt_bib.specs.BibText.{bib_items}
+use Rattle.bt_bib.specs.laws.BibText.{bib_items}
 use Rattle.bt_resolve.specs.declared.declared.Cites.{Cites}
 use Rattle.bt_resolve.specs.declared.declared.Declared.{Declared}
 use Rattle.bt_resolve.specs.declared.entry.Entry.{Entry}

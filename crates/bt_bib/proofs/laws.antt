@@ -1,0 +1,24 @@
+-- Only laws need these.
+pub mod BoundaryLemmas
+pub mod LawLemmas
+pub mod PartLemmas
+pub mod LineLemmas
+pub mod CutLemmas
+pub mod FitLemmas
+pub mod FitNameLemmas
+pub mod FitPartLemmas
+pub mod FitValueLemmas
+pub mod FitFieldLemmas
+pub mod FitItemLemmas
+pub mod FirstLemmas
+pub mod SpellingLemmas
+pub mod SpelledTextLemmas
+pub mod SpelledValueLemmas
+pub mod SpelledFieldLemmas
+pub mod SpelledItemLemmas
+pub mod SpelledDatabaseLemmas
+pub mod FaultlessTextLemmas
+pub mod FaultlessFieldLemmas
+pub mod FaultlessItemLemmas
+pub mod FaultlessDatabaseLemmas
+pub mod Laws

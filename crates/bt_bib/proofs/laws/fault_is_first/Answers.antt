@@ -1,5 +1,0 @@
-use Rattle.bt_bib.proofs.FirstLemmas.{fault_is_first}
-use Rattle.bt_bib.proofs.laws.fault_is_first.Goals as goal
-
-pub returns : goal.returns
-returns c = fault_is_first

@@ -1,0 +1,6 @@
+-- Worked rows, proved by `refl`. Nothing needs them.
+mod AuxRows
+mod BibRows
+mod SpliceRows
+mod FirstRows
+mod SpelledRows

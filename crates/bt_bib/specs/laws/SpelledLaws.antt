@@ -1,0 +1,72 @@
+-- What is read of a text that spells something is what it spells, and no fault is found in it.
+use Rattle.std.specs.Prelude.{◌≡◌, ℕ, ◌-◌, false, ◌==◌, List, [], ◌∷◌, ◌++◌, take, drop, Ok, None, All}
+use Rattle.bt_text.specs.ByteTests.{left_brace}
+use Rattle.bt_bib.specs.declared.spot.Spot.{Spot}
+use Rattle.bt_bib.specs.declared.item.Closing.{Closing}
+use Rattle.bt_bib.specs.declared.item.Part.{Part}
+use Rattle.bt_bib.specs.declared.item.Field.{Field}
+use Rattle.bt_bib.specs.declared.item.Item.{Item}
+use Rattle.bt_bib.specs.declared.item.Piece.{Piece}
+use Rattle.bt_bib.specs.declared.item.Piece.TheVariants as pieces
+use Rattle.bt_bib.specs.Spot.{at, spot_after, start}
+use Rattle.bt_bib.specs.Scan.{closing_sign}
+use Rattle.bt_bib.specs.Enclosure.{enclosed}
+use Rattle.bt_bib.specs.Values.{part, part_ends, value}
+use Rattle.bt_bib.specs.Fields.{field}
+use Rattle.bt_bib.specs.Pieces.{piece}
+use Rattle.bt_bib.specs.BibText.{pieces_of}
+use Rattle.bt_bib.specs.laws.Spelling.{◌▸◌, White, IsEnclosed, BeginsBy}
+use Rattle.bt_bib.specs.laws.Spelled.{PartOf, ValueOf, FieldOf, ItemOf, DatabaseOf}
+
+-- What may stand before a closing sign is read up to it.
+abbrev pub EnclosedTextsAreRead : Type 0
+EnclosedTextsAreRead = (close : ℕ) (s : Spot) (text rest : List ℕ) →
+    (close == left_brace) ≡ false → IsEnclosed close text →
+    enclosed close (at s (text ++ close ∷ rest)) ≡ Ok (text, at (spot_after text s) (close ∷ rest))
+
+-- A part and the white space after it, before a `#`, a comma or the closing sign, are read as that part.
+abbrev pub SpelledPartsAreRead : Type 0
+SpelledPartsAreRead = (close : Closing) (p : Part) (s : Spot) (text rest : List ℕ) →
+    (PartOf p ▸ White) s text → BeginsBy (part_ends close) rest →
+    part close (at s (text ++ rest)) ≡ Ok (p, at (spot_after text s) rest)
+
+-- what may end a value or a field: a comma or the closing sign
+abbrev pub value_ends : Closing → List ℕ
+value_ends close = 44 ∷ closing_sign close ∷ []
+
+abbrev pub SpelledValuesAreRead : Type 0
+SpelledValuesAreRead = (close : Closing) (ps : List Part) (s : Spot) (text rest : List ℕ) →
+    (ValueOf ps ▸ White) s text → BeginsBy (value_ends close) rest →
+    value close (at s (text ++ rest)) ≡ Ok (ps, at (spot_after text s) rest)
+
+abbrev pub SpelledFieldsAreRead : Type 0
+SpelledFieldsAreRead = (close : Closing) (f : Field) (s : Spot) (text rest : List ℕ) →
+    (FieldOf f ▸ White) s text → BeginsBy (value_ends close) rest →
+    field close (at s (text ++ rest)) ≡ Ok (f, at (spot_after text s) rest)
+
+-- An item is read as it is spelled, whatever stands after it.
+abbrev pub SpelledItemsAreRead : Type 0
+SpelledItemsAreRead = (i : Item) (s : Spot) (text rest : List ℕ) → ItemOf i s text →
+    piece (at s (text ++ rest)) ≡ (pieces.Item i, at (spot_after text s) rest)
+
+-- So is a whole database.
+abbrev pub SpelledDatabasesAreRead : Type 0
+SpelledDatabasesAreRead = (ps : List Piece) (text : List ℕ) → DatabaseOf ps start text → pieces_of text ≡ ps
+
+-- The other way round, the bytes of a text from the beginning of a faultless item up to its end spell it.
+abbrev pub bytes_between : Spot → Spot → List ℕ → List ℕ
+bytes_between begin end text = take (end.place - begin.place) (drop begin.place text)
+
+abbrev pub FaultlessItemsAreSpelled : Type 0
+FaultlessItemsAreSpelled = (text : List ℕ) (front back : List Piece) (i : Item) →
+    pieces_of text ≡ front ++ pieces.Item i ∷ back → i.fault ≡ None →
+    ItemOf i i.start (bytes_between i.start i.end text)
+
+-- A text in which no fault is found spells what is read of it.
+abbrev pub IsFaultless : Piece → Type 0
+IsFaultless (pieces.Comment _ _) = Unit {0}
+IsFaultless (pieces.Item item) = item.fault ≡ None
+
+abbrev pub FaultlessDatabasesAreSpelled : Type 0
+FaultlessDatabasesAreSpelled = (text : List ℕ) → All IsFaultless (pieces_of text) →
+    DatabaseOf (pieces_of text) start text
