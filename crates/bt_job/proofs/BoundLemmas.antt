@@ -15,7 +15,7 @@ use Rattle.bt_log.specs.declared.message.FileNote.TheVariants.{NotOpened, AuxTwi
 use Rattle.bt_job.specs.declared.files.File.{File}
 use Rattle.bt_job.specs.FileNames.{is_file_name, is_among, text_of}
 use Rattle.bt_job.specs.Faults.{LineFault, WrongFile, IllEnded, input_fault, first_fault}
-use Rattle.bt_job.specs.Lines.{JobLine, lines_of, has_command, input_names, line_fault, opened_by, read_on, line_count, unopened, AnyBoundServes, NestedInPlace}
+use Rattle.bt_job.specs.Lines.{JobLine, lines_of, has_command, input_names, line_fault, opened_by, read_on, line_count, unopened}
 use Rattle.bt_job.specs.inner.Cases.{lines_in, lines_opened}
 use Rattle.bt_job.proofs.NameLemmas.{is_among-append, same_bytes, name_itself}
 use Rattle.bt_job.proofs.PartLemmas.{first_wrong, first_more}
@@ -182,30 +182,9 @@ left_less files root before line later m le =
     let one : length (line ∷ later) ≡ suc (length later) = refl in
     omega (arith, le, one, length-append (opened_by files root before line) later, opens_fewer files root before line)
 
-pub any_bound_serves : AnyBoundServes
-any_bound_serves m n files root before [] a b = read_end m files root before ∙ sym (read_end n files root before)
-any_bound_serves zero n files root before (line ∷ later) a b = let one : length (line ∷ later) ≡ suc (length later) = refl in absurd (omega (arith, one, a))
-any_bound_serves (suc m) zero files root before (line ∷ later) a b = let one : length (line ∷ later) ≡ suc (length later) = refl in absurd (omega (arith, one, b))
-any_bound_serves (suc m) (suc n) files root before (line ∷ later) a b =
-    read_more m files root before line later
-    ∙ any_bound_serves m n files root (before ++ line ∷ []) (opened_by files root before line ++ later) (left_less files root before line later m a) (left_less files root before line later n b)
-    ∙ sym (read_more n files root before line later)
-
 -- all lines of all files
 pub unopened_all : (files : List File) (names : List (List ℕ)) → unopened files names ≤ line_count files
 unopened_all [] names = omega arith
 unopened_all (f ∷ fs) names =
     let here : cond (is_among names f.name) 0 (count f.text) ≤ count f.text = elim (is_among names f.name) as (λ b. cond b 0 (count f.text) ≤ count f.text) [ true ↦ omega arith | false ↦ omega arith ] in
     omega (arith, here, unopened_all fs names, sum_by-cons (λ (g : File). count g.text) f fs)
-
-pub nested_in_place : NestedInPlace
-nested_in_place files root before line later =
-    let all = line_count files in
-    let one : length (line ∷ later) + all ≡ suc (length later + all) = let is : length (line ∷ later) ≡ suc (length later) = refl in omega (arith, is) in
-    let behind = opened_by files root before line ++ later in
-    let fits : length (line ∷ later) + unopened files (root ∷ input_names before) ≤ suc (length later + all) = omega (arith, one, unopened_all files (root ∷ input_names before)) in
-    ap (λ n. read_on n files root before (line ∷ later)) one
-    ∙ read_more (length later + all) files root before line later
-    ∙ any_bound_serves (length later + all) (length behind + all) files root (before ++ line ∷ []) behind
-    (left_less files root before line later (length later + all) fits)
-    (omega (arith, unopened_all files (root ∷ input_names (before ++ line ∷ []))))

@@ -1,6 +1,5 @@
 pub mod BoundLemmas
 pub mod CitationLemmas
-mod CitationsRows
 pub mod CitedLemmas
 pub mod EndingLemmas
 pub mod FileLemmas
@@ -14,3 +13,5 @@ pub mod PartLemmas
 pub mod ReadLemmas
 pub mod StepLemmas
 pub mod WholeLemmas
+pub mod laws
+mod rows

@@ -4,3 +4,4 @@ pub mod Lines
 pub mod Citations
 pub mod Fit
 pub mod inner
+pub mod laws

@@ -1,5 +1,5 @@
 -- The lines of a job that count: those of its root file, with the lines of each file that one of them opens after it.
-use Rattle.std.specs.Prelude.{◌≡◌, ◌≤◌, ℕ, zero, suc, ◌+◌, Bool, true, false, List, [], ◌∷◌, ◌++◌, length, map, fold, filter, find, flat_map, sum_by, codes, Option, Some, None, if◌then◌else◌}
+use Rattle.std.specs.Prelude.{ℕ, zero, suc, ◌+◌, Bool, true, false, List, [], ◌∷◌, ◌++◌, length, map, fold, filter, find, flat_map, sum_by, codes, Option, Some, None, if◌then◌else◌}
 use Rattle.std.specs.Option.{option_or, option_map}
 use Rattle.bt_bib.specs.declared.aux_line.Command.{Command}
 use Rattle.bt_bib.specs.declared.aux_line.Command.TheVariants.{Citation, Database, Style, Nested}
@@ -120,18 +120,3 @@ job_lines files root = read_all files root [] (lines_of files 0 root)
 abbrev pub unopened : List File → List (List ℕ) → ℕ
 unopened [] names = 0
 unopened (f ∷ fs) names = (if is_among names f.name then 0 else length (aux_lines f.text)) + unopened fs names
-
--- Any two bounds come to the same that are no smaller than the number of lines that can still come.
-abbrev pub AnyBoundServes : Type 0
-AnyBoundServes =
-    (m n : ℕ) (files : List File) (root : List ℕ) (before next : List JobLine)
-    → length next + unopened files (root ∷ input_names before) ≤ m
-    → length next + unopened files (root ∷ input_names before) ≤ n
-    → read_on m files root before next ≡ read_on n files root before next
-
--- After a line come the lines of the file that it opens, then the others.
-abbrev pub NestedInPlace : Type 0
-NestedInPlace =
-    (files : List File) (root : List ℕ) (before : List JobLine) (line : JobLine) (later : List JobLine)
-    → read_all files root before (line ∷ later)
-    ≡ read_all files root (before ++ line ∷ []) (opened_by files root before line ++ later)

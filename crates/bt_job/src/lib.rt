@@ -15,4 +15,4 @@ pub use aux_texts::AuxTexts;
 pub use citations::Citations;
 pub use file_names::{FILE_NAME_BYTES, is_file_name, owned_text_of, text_of};
 pub use files::File;
-pub use nested_files::{always_fit, any_bound_serves, nested_in_place, read_citations};
+pub use nested_files::read_citations;

@@ -1,10 +1,9 @@
 //! The .aux files of a session, with the lines of each nested file in its place.
 
 ghost use Rattle.std.specs.Prelude.{◌≡◌, ◌<◌, ◌+◌, ◌^◌, IfOk, OnOk};
-ghost use Rattle.bt_job.specs.Fit.{IsFit, AlwaysFit};
+ghost use Rattle.bt_job.specs.Fit.{IsFit};
 ghost use Rattle.bt_job.specs.FileNames.{text_of};
 ghost use Rattle.bt_job.specs.Citations.{file_line, citations};
-ghost use Rattle.bt_job.specs.Lines.{AnyBoundServes, NestedInPlace};
 ghost use Rattle.bt_job.specs.inner.NestedFiles.{file_taken, missing, missing_one, ended, nothing_met, rooted};
 
 use crate::aux_texts::AuxTexts;
@@ -160,21 +159,3 @@ pub fn read_citations(
     let asked = reader.into_citations();
     Ok(asked)
 }
-
-/// A law: after each line come the lines of the file that it opens, if it opens one, at any depth, then
-/// the others.
-pub fn nested_in_place()
-    ensures { NestedInPlace }
-{}
-
-/// A law: how many lines may be read doesn't matter, where it is no smaller than the number of those that
-/// can still come.
-pub fn any_bound_serves()
-    ensures { AnyBoundServes }
-{}
-
-/// A law: the keys that are asked for differ without regard to case, the place of `*` is among them,
-/// and the databases and the style are there.
-pub fn always_fit()
-    ensures { AlwaysFit }
-{}

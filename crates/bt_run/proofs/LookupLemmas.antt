@@ -17,7 +17,8 @@ use Rattle.bt_job.specs.Faults.{LineFault, PartFault, WrongFile, IllEnded, datab
 use Rattle.bt_job.specs.Lines.{JobLine, lines_of, has_command, first_with, cited, database_names, style_names, input_names, unless_second, command_fault, line_fault, opened_by, read_on, line_count, job_lines}
 use Rattle.bt_job.specs.Citations.{keys_of, star_of, databases, styles, missed, along, line_messages, file_line, missing_of, told_missing, asked_by, citations}
 use Rattle.bt_job.specs.inner.Cases.{asked_from, lines_in, line_parts, lines_opened}
-use Rattle.bt_job.proofs.BoundLemmas.{any_bound_serves, read_end, read_more, unopened_all}
+use Rattle.bt_job.proofs.BoundLemmas.{read_end, read_more, unopened_all}
+use Rattle.bt_job.proofs.laws.BoundLemmas.{any_bound_serves}
 use Rattle.bt_run.specs.ByName.{HaveSameTexts}
 
 -- Parts

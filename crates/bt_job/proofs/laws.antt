@@ -1,0 +1,3 @@
+-- Only laws need these.
+pub mod BoundLemmas
+pub mod Laws
