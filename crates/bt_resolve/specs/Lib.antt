@@ -10,5 +10,5 @@ pub mod Listed
 pub mod Inherited
 pub mod References
 pub mod Resolved
-pub mod Laws
 pub mod inner
+pub mod laws

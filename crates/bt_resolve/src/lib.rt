@@ -13,7 +13,6 @@ mod fields;
 mod index;
 mod inheritance;
 mod joined_parts;
-mod laws;
 mod list;
 mod macro_text;
 mod macros;
@@ -33,8 +32,4 @@ mod warnings;
 pub use declared::{Cites, Declared, Macro};
 pub use distinct_names::are_apart;
 pub use entry::{Entry, Resolved};
-pub use laws::{
-    entries_apart, listed_are_stored, messages_for_each_min, nothing_inherited, stored_are_wanted,
-    stored_keys_apart,
-};
 pub use resolution::resolve;

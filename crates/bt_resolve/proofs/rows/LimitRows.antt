@@ -3,7 +3,7 @@ use Rattle.std.specs.Prelude.{◌≡◌, ℕ, List, [], ◌∷◌, codes, length
 use Rattle.bt_bib.specs.declared.item.Part.TheVariants.{Macro}
 use Rattle.bt_resolve.specs.Values.{value, value_warnings}
 use Rattle.bt_resolve.specs.Warnings.{line_of}
-use Rattle.bt_resolve.proofs.RowWords.{warning}
+use Rattle.bt_resolve.proofs.rows.RowWords.{warning}
 
 -- each macro stands for so many letters
 abbrev letters : ℕ → List ℕ → Option (List ℕ)

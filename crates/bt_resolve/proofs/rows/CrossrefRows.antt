@@ -1,4 +1,4 @@
--- Which entries are in the list, at literal databases.
+-- What entries inherit, and which are left out, at literal databases.
 use Rattle.std.specs.Prelude.{◌≡◌, [], ◌∷◌, codes, Some, None, refl}
 use Rattle.bt_bib.specs.Scan.{sign}
 use Rattle.bt_bib.specs.Enclosure.{enclosed}
@@ -18,89 +18,75 @@ use Rattle.bt_resolve.specs.Listed.{listed}
 use Rattle.bt_resolve.specs.Inherited.{values_after, is_left_out, final_crossref, entries_seen}
 use Rattle.bt_resolve.specs.References.{reference_messages, missing_messages, list_messages}
 use Rattle.bt_resolve.specs.Resolved.{stored_entries, preamble, messages, resolved}
-use Rattle.bt_log.specs.declared.message.Rank.TheVariants.{Warning}
-use Rattle.bt_resolve.proofs.RowWords.{cited, cited_with_star, found, said, entry, about, warning, error, told}
+use Rattle.bt_log.specs.declared.message.Rank.TheVariants.{Error, Warning}
+use Rattle.bt_resolve.proofs.rows.RowWords.{cited, found, said, entry, told}
 
--- the first entry of a key counts
-repeated_entry :
-    found (cited (codes "a" ∷ [])) (codes "@misc{a, title = {A}}\n@misc{A, title = {B}}" ∷ []) 2
-    ≡ said (entry (codes "a") None (Some (codes "A")) ∷ []) (about (codes "A") (error 1 2 None (codes "Repeated entry") (codes "entry")) ∷ [])
+-- two children keep their parent in the list, after what is cited
+two_children :
+    found (cited (codes "a" ∷ codes "b" ∷ [])) (codes "@misc{a, crossref = {P}}\n@misc{p, title = {T}}\n@misc{b, crossref = {p}}" ∷ []) 2
+    ≡ said (entry (codes "a") (Some (codes "P")) (Some (codes "T")) ∷ entry (codes "b") (Some (codes "p")) (Some (codes "T")) ∷ entry (codes "p") None (Some (codes "T")) ∷ []) ([])
 unfolding sign enclosed word name_ended name many parts.part parts.next_part parts.value field next_field opening piece next_piece pieces_of value field_value value_warnings macro_before given_value stored_of stored_among stored_messages item_messages fault_words unclosed_entry listed values_after is_left_out final_crossref entries_seen reference_messages missing_messages list_messages stored_entries preamble messages resolved
-repeated_entry = refl
+two_children = refl
 
--- an error has the number of its database
-repeated_in_the_second_database :
-    found (cited (codes "a" ∷ [])) (codes "@misc{a, title = {A}}" ∷ codes "\n@misc{a, title = {B}}" ∷ []) 2
-    ≡ said (entry (codes "a") None (Some (codes "A")) ∷ []) (about (codes "a") (error 2 2 None (codes "Repeated entry") (codes "entry")) ∷ [])
+-- one child inherits, and its parent is left out
+one_child :
+    found (cited (codes "a" ∷ [])) (codes "@misc{a, crossref = {P}}\n@misc{p, title = {T}}\n@misc{b, crossref = {p}}" ∷ []) 2
+    ≡ said (entry (codes "a") None (Some (codes "T")) ∷ []) ([])
 unfolding sign enclosed word name_ended name many parts.part parts.next_part parts.value field next_field opening piece next_piece pieces_of value field_value value_warnings macro_before given_value stored_of stored_among stored_messages item_messages fault_words unclosed_entry listed values_after is_left_out final_crossref entries_seen reference_messages missing_messages list_messages stored_entries preamble messages resolved
-repeated_in_the_second_database = refl
+one_child = refl
 
--- an uncited entry is never repeated
-repeated_uncited :
-    found (cited (codes "a" ∷ [])) (codes "@misc{b}@misc{b}@misc{a}" ∷ []) 2
-    ≡ said (entry (codes "a") None None ∷ []) ([])
+-- with the least number 1 one child keeps its parent
+one_child_is_enough :
+    found (cited (codes "a" ∷ [])) (codes "@misc{a, crossref = {P}}\n@misc{p, title = {T}}\n@misc{b, crossref = {p}}" ∷ []) 1
+    ≡ said (entry (codes "a") (Some (codes "P")) (Some (codes "T")) ∷ entry (codes "p") None (Some (codes "T")) ∷ []) ([])
 unfolding sign enclosed word name_ended name many parts.part parts.next_part parts.value field next_field opening piece next_piece pieces_of value field_value value_warnings macro_before given_value stored_of stored_among stored_messages item_messages fault_words unclosed_entry listed values_after is_left_out final_crossref entries_seen reference_messages missing_messages list_messages stored_entries preamble messages resolved
-repeated_uncited = refl
+one_child_is_enough = refl
 
--- what is cited before `*` comes first
-star_after_a_key :
-    found (cited_with_star 1 (codes "b" ∷ [])) (codes "@misc{a, title = {A}}@misc{b, title = {B}}@misc{c, title = {C}}" ∷ []) 2
-    ≡ said (entry (codes "b") None (Some (codes "B")) ∷ entry (codes "a") None (Some (codes "A")) ∷ entry (codes "c") None (Some (codes "C")) ∷ []) ([])
+-- an uncited parent that stands before its child is not stored
+parent_in_front :
+    found (cited (codes "a" ∷ [])) (codes "@misc{p, title = {T}}\n@misc{a, title = {U}, crossref = {p}}" ∷ []) 2
+    ≡ said (entry (codes "a") None (Some (codes "U")) ∷ []) (told (codes "a") Error (codes "A bad cross reference---entry \"a\"") (Some (codes "refers to entry \"p\", which doesn't exist")) ∷ [])
 unfolding sign enclosed word name_ended name many parts.part parts.next_part parts.value field next_field opening piece next_piece pieces_of value field_value value_warnings macro_before given_value stored_of stored_among stored_messages item_messages fault_words unclosed_entry listed values_after is_left_out final_crossref entries_seen reference_messages missing_messages list_messages stored_entries preamble messages resolved
-star_after_a_key = refl
+parent_in_front = refl
 
--- a key after `*` has its place in the databases
-star_before_a_key :
-    found (cited_with_star 0 (codes "C" ∷ [])) (codes "@misc{a, title = {A}}@misc{b, title = {B}}@misc{c, title = {C}}" ∷ []) 2
-    ≡ said (entry (codes "a") None (Some (codes "A")) ∷ entry (codes "b") None (Some (codes "B")) ∷ entry (codes "C") None (Some (codes "C")) ∷ []) ([])
-unfolding sign enclosed word name_ended name many parts.part parts.next_part parts.value field next_field opening piece next_piece pieces_of value field_value value_warnings macro_before given_value stored_of stored_among stored_messages item_messages fault_words unclosed_entry listed values_after is_left_out final_crossref entries_seen reference_messages missing_messages list_messages stored_entries preamble messages resolved
-star_before_a_key = refl
-
--- with `*` no entry is left out
-star_keeps_parents :
-    found (cited_with_star 0 ([])) (codes "@misc{a, crossref = {p}}@misc{p, title = {T}}" ∷ []) 2
+-- a cited parent may stand before its child
+cited_parent_in_front :
+    found (cited (codes "a" ∷ codes "p" ∷ [])) (codes "@misc{p, title = {T}}\n@misc{a, crossref = {p}}" ∷ []) 2
     ≡ said (entry (codes "a") (Some (codes "p")) (Some (codes "T")) ∷ entry (codes "p") None (Some (codes "T")) ∷ []) ([])
 unfolding sign enclosed word name_ended name many parts.part parts.next_part parts.value field next_field opening piece next_piece pieces_of value field_value value_warnings macro_before given_value stored_of stored_among stored_messages item_messages fault_words unclosed_entry listed values_after is_left_out final_crossref entries_seen reference_messages missing_messages list_messages stored_entries preamble messages resolved
-star_keeps_parents = refl
+cited_parent_in_front = refl
 
--- a key is spelled as it is cited
-case_of_a_key :
-    found (cited (codes "Foo" ∷ [])) (codes "@misc{foo, title = {T}}" ∷ []) 2
-    ≡ said (entry (codes "Foo") None (Some (codes "T")) ∷ []) ([])
+-- a value of its own is not inherited
+own_value_stays :
+    found (cited (codes "a" ∷ [])) (codes "@misc{a, title = {U}, crossref = {p}}\n@misc{p, title = {T}}" ∷ []) 1
+    ≡ said (entry (codes "a") (Some (codes "p")) (Some (codes "U")) ∷ entry (codes "p") None (Some (codes "T")) ∷ []) ([])
 unfolding sign enclosed word name_ended name many parts.part parts.next_part parts.value field next_field opening piece next_piece pieces_of value field_value value_warnings macro_before given_value stored_of stored_among stored_messages item_messages fault_words unclosed_entry listed values_after is_left_out final_crossref entries_seen reference_messages missing_messages list_messages stored_entries preamble messages resolved
-case_of_a_key = refl
+own_value_stays = refl
 
--- an uncited key is spelled as in its database
-case_of_an_uncited_key :
-    found (cited (codes "a" ∷ [])) (codes "@misc{a, crossref = {foo}}@misc{Foo, title = {T}}" ∷ []) 1
-    ≡ said (entry (codes "a") (Some (codes "foo")) (Some (codes "T")) ∷ entry (codes "Foo") None (Some (codes "T")) ∷ []) ([])
+-- nested references: each inherits from its parent as that is when its turn comes
+nested :
+    found (cited (codes "a" ∷ [])) (codes "@misc{a, crossref = {b}}\n@misc{b, crossref = {c}}\n@misc{c, title = {T}}" ∷ []) 1
+    ≡ said (entry (codes "a") (Some (codes "b")) None ∷ entry (codes "b") (Some (codes "c")) (Some (codes "T")) ∷ entry (codes "c") None (Some (codes "T")) ∷ []) (told (codes "a") Warning (codes "Warning--you've nested cross references--entry \"a\"") (Some (codes "refers to entry \"b\", which also refers to something")) ∷ [])
 unfolding sign enclosed word name_ended name many parts.part parts.next_part parts.value field next_field opening piece next_piece pieces_of value field_value value_warnings macro_before given_value stored_of stored_among stored_messages item_messages fault_words unclosed_entry listed values_after is_left_out final_crossref entries_seen reference_messages missing_messages list_messages stored_entries preamble messages resolved
-case_of_an_uncited_key = refl
+nested = refl
 
--- a cited key without an entry
-no_entry :
-    found (cited (codes "a" ∷ codes "b" ∷ [])) (codes "@misc{b}" ∷ []) 2
-    ≡ said (entry (codes "b") None None ∷ []) (told (codes "a") Warning (codes "Warning--I didn't find a database entry for \"a\"") None ∷ [])
+-- the same warning where the parents are left out
+nested_left_out :
+    found (cited (codes "a" ∷ [])) (codes "@misc{a, crossref = {b}}\n@misc{b, crossref = {c}}\n@misc{c, title = {T}}" ∷ []) 2
+    ≡ said (entry (codes "a") None None ∷ []) (told (codes "a") Warning (codes "Warning--you've nested cross references--entry \"a\"") (Some (codes "refers to entry \"b\", which also refers to something")) ∷ [])
 unfolding sign enclosed word name_ended name many parts.part parts.next_part parts.value field next_field opening piece next_piece pieces_of value field_value value_warnings macro_before given_value stored_of stored_among stored_messages item_messages fault_words unclosed_entry listed values_after is_left_out final_crossref entries_seen reference_messages missing_messages list_messages stored_entries preamble messages resolved
-no_entry = refl
+nested_left_out = refl
 
--- a fault ends an entry, which stays with the fields before it
-cut_short :
-    found (cited (codes "a" ∷ [])) (codes "@misc{a, title = {T}\n@misc{b}" ∷ []) 2
-    ≡ said (entry (codes "a") None (Some (codes "T")) ∷ []) (about (codes "a") (error 1 2 (Some 21) (codes "I was expecting a `,' or a `}'") (codes "entry")) ∷ [])
+-- an entry that refers to itself is its own child
+refers_to_itself :
+    found (cited (codes "a" ∷ [])) (codes "@misc{a, crossref = {A}}" ∷ []) 2
+    ≡ said (entry (codes "a") (Some (codes "A")) None ∷ []) (told (codes "a") Warning (codes "Warning--you've nested cross references--entry \"a\"") (Some (codes "refers to entry \"A\", which also refers to something")) ∷ [])
 unfolding sign enclosed word name_ended name many parts.part parts.next_part parts.value field next_field opening piece next_piece pieces_of value field_value value_warnings macro_before given_value stored_of stored_among stored_messages item_messages fault_words unclosed_entry listed values_after is_left_out final_crossref entries_seen reference_messages missing_messages list_messages stored_entries preamble messages resolved
-cut_short = refl
+refers_to_itself = refl
 
--- of two fields of one name the first counts; a value's warnings come before the field's
-second_field :
-    found (cited (codes "a" ∷ [])) (codes "@misc{a, title = {x}, note = nix,\n TITLE = nix}" ∷ []) 2
-    ≡ said (entry (codes "a") None (Some (codes "x")) ∷ []) (warning 1 2 (codes "Warning--string name \"nix\" is undefined") ∷ about (codes "a") (warning 1 2 (codes "Warning--I'm ignoring a's extra \"title\" field")) ∷ [])
+-- uncited parents stand in the order in which entries refer to them
+parents_by_their_children :
+    found (cited (codes "a" ∷ codes "b" ∷ [])) (codes "@misc{b, crossref = {q}}@misc{a, crossref = {p}}@misc{p}@misc{q}" ∷ []) 1
+    ≡ said (entry (codes "a") (Some (codes "p")) None ∷ entry (codes "b") (Some (codes "q")) None ∷ entry (codes "q") None None ∷ entry (codes "p") None None ∷ []) ([])
 unfolding sign enclosed word name_ended name many parts.part parts.next_part parts.value field next_field opening piece next_piece pieces_of value field_value value_warnings macro_before given_value stored_of stored_among stored_messages item_messages fault_words unclosed_entry listed values_after is_left_out final_crossref entries_seen reference_messages missing_messages list_messages stored_entries preamble messages resolved
-second_field = refl
-
--- a type without a function
-no_function :
-    found (cited (codes "a" ∷ [])) (codes "@Book{A, title = {x}}" ∷ []) 2
-    ≡ said ((let e = entry (codes "a") None (Some (codes "x")) in record e { kind = codes "book"; function = None }) ∷ []) (about (codes "A") (warning 1 1 (codes "Warning--entry type for \"A\" isn't style-file defined")) ∷ [])
-unfolding sign enclosed word name_ended name many parts.part parts.next_part parts.value field next_field opening piece next_piece pieces_of value field_value value_warnings macro_before given_value stored_of stored_among stored_messages item_messages fault_words unclosed_entry listed values_after is_left_out final_crossref entries_seen reference_messages missing_messages list_messages stored_entries preamble messages resolved
-no_function = refl
+parents_by_their_children = refl

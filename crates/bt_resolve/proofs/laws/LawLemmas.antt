@@ -18,7 +18,7 @@ use Rattle.bt_resolve.specs.Listed.{place_of_key, parent_of, is_cited_at, is_amo
 use Rattle.bt_resolve.specs.Inherited.{inherits, values_after}
 use Rattle.bt_resolve.specs.Resolved.{resolved, stored_entries, all_items}
 use Rattle.bt_resolve.proofs.FieldLemmas.{or_false}
-use Rattle.bt_resolve.specs.Laws.{MessagesForEachMin, ListedAreStored, WantedInTurn, StoredAreWanted, KeysApart, StoredKeysApart, NothingInherited}
+use Rattle.bt_resolve.specs.laws.Laws.{MessagesForEachMin, ListedAreStored, WantedInTurn, StoredAreWanted, KeysApart, StoredKeysApart, NothingInherited}
 
 pub same_messages : MessagesForEachMin
 unfolding resolved

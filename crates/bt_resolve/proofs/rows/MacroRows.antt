@@ -18,7 +18,7 @@ use Rattle.bt_resolve.specs.Listed.{listed}
 use Rattle.bt_resolve.specs.Inherited.{values_after, is_left_out, final_crossref, entries_seen}
 use Rattle.bt_resolve.specs.References.{reference_messages, missing_messages, list_messages}
 use Rattle.bt_resolve.specs.Resolved.{stored_entries, preamble, messages, resolved}
-use Rattle.bt_resolve.proofs.RowWords.{cited, found, said, entry, warning, error}
+use Rattle.bt_resolve.proofs.rows.RowWords.{cited, found, said, entry, warning, error}
 
 -- a macro that nothing defines is empty
 undefined_macro :

@@ -1,0 +1,4 @@
+-- Only laws need these.
+pub mod LawLemmas
+pub mod ApartLemmas
+pub mod Laws

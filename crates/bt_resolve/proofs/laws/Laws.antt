@@ -1,0 +1,23 @@
+-- The laws of the crate, which no code needs. `specs/laws` has what they say.
+use Rattle.bt_resolve.specs.laws.Laws.{MessagesForEachMin, ListedAreStored, StoredAreWanted, StoredKeysApart, NothingInherited, EntriesApart}
+use Rattle.bt_resolve.proofs.laws.LawLemmas
+use Rattle.bt_resolve.proofs.laws.ApartLemmas
+
+pub messages_for_each_min : MessagesForEachMin
+messages_for_each_min = LawLemmas.same_messages
+
+pub listed_are_stored : ListedAreStored
+listed_are_stored = LawLemmas.listed_stored
+
+pub stored_are_wanted : StoredAreWanted
+stored_are_wanted = LawLemmas.stored_wanted
+
+-- No two stored entries have keys that match.
+pub stored_keys_apart : StoredKeysApart
+stored_keys_apart = LawLemmas.stored_apart
+
+pub nothing_inherited : NothingInherited
+nothing_inherited = LawLemmas.values_stay
+
+pub entries_apart : EntriesApart
+entries_apart = ApartLemmas.entries_apart
