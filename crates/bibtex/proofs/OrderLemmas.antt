@@ -16,7 +16,7 @@ use Rattle.bibtex.specs.Present.{EachOnce, place_of_file, with_text, replaced, s
 use Rattle.bibtex.specs.Applied.{file_size_limit, file_count_limit, found_refusal, refusal_of, changed, unless_refused, outcome, applied, IsAnswer}
 use Rattle.bibtex.specs.Headline.{after_answer, AnswersInTurn, ReportsInTurn, after_answers}
 use Rattle.bibtex.specs.Order.{AreAlike, ComeToTheSame}
-use Rattle.bt_run.proofs.ByNameLemmas.{meaning_same, trace_same, style_text_same}
+use Rattle.bt_run.proofs.laws.ByNameLemmas.{meaning_same, trace_same, style_text_same}
 use Rattle.bibtex.proofs.TextLemmas.{place_there, text_of_with, text_of_without, once_with, once_without, as_many}
 
 -- What is shown

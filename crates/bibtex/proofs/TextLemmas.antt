@@ -11,7 +11,7 @@ use Rattle.std.proofs.lemmas.Map.Made.{length-from_same_keys}
 use Rattle.bt_job.specs.declared.files.File.{File}
 use Rattle.bt_job.specs.FileNames.{text_of}
 use Rattle.bibtex.specs.Present.{EachOnce, place_of_file, put_at, with_text, without}
-use Rattle.bt_run.specs.ByName.{HaveSameTexts}
+use Rattle.bt_run.specs.laws.ByName.{HaveSameTexts}
 
 -- Names
 

@@ -1,6 +1,6 @@
 -- The order in which the present texts were first written is never seen.
 use Rattle.std.specs.Prelude.{◌≡◌, Result, Ok, Err}
-use Rattle.bt_run.specs.ByName.{HaveSameTexts}
+use Rattle.bt_run.specs.laws.ByName.{HaveSameTexts}
 use Rattle.bibtex.specs.declared.edit.Refusal.{Refusal}
 use Rattle.bibtex.specs.declared.state.State.{State}
 

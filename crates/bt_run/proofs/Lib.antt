@@ -5,11 +5,9 @@ pub mod CommandLemmas
 pub mod ReadingLemmas
 pub mod CountLemmas
 pub mod AnswerLemmas
-mod Rows
-mod MeaningRows
 pub mod ReachedLemmas
 pub mod WorkLemmas
 pub mod EarlierLemmas
 pub mod IndexLemmas
-pub mod LookupLemmas
-pub mod ByNameLemmas
+pub mod laws
+mod rows

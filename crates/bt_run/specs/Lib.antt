@@ -10,5 +10,5 @@ pub mod Meaning
 pub mod Shown
 pub mod Kept
 pub mod Steps
-pub mod ByName
 pub mod inner
+pub mod laws

@@ -20,8 +20,8 @@ use Rattle.bt_run.specs.Commands.{unless_stopped, carried_out, commands_from, co
 use Rattle.bt_run.specs.Counts.{with_counts}
 use Rattle.bt_run.specs.Meaning.{run_begun, first_globals, job_for, styled, run_with, run_of, course_shown, meaning, trace}
 use Rattle.bt_run.specs.Kept.{named_text, style_text}
-use Rattle.bt_run.specs.ByName.{HaveSameTexts}
-use Rattle.bt_run.proofs.LookupLemmas.{cited_alike}
+use Rattle.bt_run.specs.laws.ByName.{HaveSameTexts}
+use Rattle.bt_run.proofs.laws.LookupLemmas.{cited_alike}
 
 -- READ
 

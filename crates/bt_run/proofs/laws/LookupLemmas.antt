@@ -19,7 +19,7 @@ use Rattle.bt_job.specs.Citations.{keys_of, star_of, databases, styles, missed, 
 use Rattle.bt_job.specs.inner.Cases.{asked_from, lines_in, line_parts, lines_opened}
 use Rattle.bt_job.proofs.BoundLemmas.{read_end, read_more, unopened_all}
 use Rattle.bt_job.proofs.laws.BoundLemmas.{any_bound_serves}
-use Rattle.bt_run.specs.ByName.{HaveSameTexts}
+use Rattle.bt_run.specs.laws.ByName.{HaveSameTexts}
 
 -- Parts
 

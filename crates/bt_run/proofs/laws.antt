@@ -1,0 +1,4 @@
+-- Only laws need these.
+pub mod LookupLemmas
+pub mod ByNameLemmas
+pub mod Laws
