@@ -4,7 +4,6 @@ ghost use Rattle.std.specs.Prelude.{◌≡◌, ◌∷◌, ◌++◌, replicate, S
 ghost use Rattle.std.specs.List.{join_with_byte};
 ghost use Rattle.bt_job.specs.FileNames.{with_ending};
 ghost use Rattle.bt_files.specs.AuxText.{comma, line_feed, name_of, written_end, written_argument, written_item, written};
-ghost use Rattle.bt_files.specs.AuxText.{ReadItemsAreWritable, RenamedItemsAreRead, RenamedItemsAreWritable, RenamedItemsNameFiles, WrittenItemsAreRead};
 
 use bt_bib::{AuxFault, AuxItem, Command};
 use bt_text::Bytes;
@@ -112,28 +111,3 @@ pub fn name_of(alloc: Global, command: Command, part: &[u8]) -> Result<Bytes, Al
         Command::Citation | Command::Nested => Bytes::copied(alloc, part),
     }
 }
-
-/// Reading the text that is written from items gives these items, if some text can have them (`IsWritable`).
-pub fn written_items_are_read()
-    ensures { WrittenItemsAreRead }
-{}
-
-/// The items that are read from a text can be written.
-pub fn read_items_are_writable()
-    ensures { ReadItemsAreWritable }
-{}
-
-/// Items that can be written can still be written when their files get other names.
-pub fn renamed_items_are_writable()
-    ensures { RenamedItemsAreWritable }
-{}
-
-/// Reading the text that is written with other names of files gives the old items with these names.
-pub fn renamed_items_are_read()
-    ensures { RenamedItemsAreRead }
-{}
-
-/// An item whose files get other names names its files by these, in the same order.
-pub fn renamed_items_name_files()
-    ensures { RenamedItemsNameFiles }
-{}

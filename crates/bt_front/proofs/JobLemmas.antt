@@ -9,7 +9,7 @@ use Rattle.bt_log.specs.Log.{log_bytes, terse_bytes}
 use Rattle.bt_run.specs.Meaning.{Meaning, meaning}
 use Rattle.bt_files.specs.Names.{is_own_name, with_author}
 use Rattle.bt_files.specs.Messages.{name_back, put_back}
-use Rattle.bt_files.proofs.MessageLemmas.{name_stays, message_stays}
+use Rattle.bt_files.proofs.laws.MessageLemmas.{name_stays, message_stays}
 use Rattle.bt_front.specs.Job.{is_aux, renamed, file_under, root_under, names_of, table_of, told_under, meaning_under, job_meaning}
 
 -- The table

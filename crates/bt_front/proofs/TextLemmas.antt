@@ -5,10 +5,11 @@ use Rattle.std.specs.List.{slice_split}
 use Rattle.bt_bib.specs.AuxLine.{is_line_end, aux_lines}
 use Rattle.bt_job.specs.FileNames.{is_file_name}
 use Rattle.bt_files.specs.Names.{session_name}
-use Rattle.bt_files.specs.AuxText.{written, item_with, has_name_bytes, GivesNames}
-use Rattle.bt_files.proofs.TableLemmas.{is_admitted}
-use Rattle.bt_files.proofs.AuxTextLemmas.{written_is_read}
-use Rattle.bt_files.proofs.AuxReadLemmas.{read_is_writable, renamed_is_writable}
+use Rattle.bt_files.specs.AuxText.{written, item_with}
+use Rattle.bt_files.specs.laws.AuxText.{has_name_bytes, GivesNames}
+use Rattle.bt_files.proofs.laws.TableLemmas.{is_admitted}
+use Rattle.bt_files.proofs.laws.AuxTextLemmas.{written_is_read}
+use Rattle.bt_files.proofs.laws.AuxReadLemmas.{read_is_writable, renamed_is_writable}
 use Rattle.bt_front.specs.Job.{renamed}
 
 last_holds : (b c : Bool) → (b && c) ≡ true → c ≡ true

@@ -19,8 +19,9 @@ use Rattle.bt_bib.specs.inner.Cases.{is_comma, if_counted}
 use Rattle.bt_bib.specs.AuxLine.{opening_of, command_of, parting, item, items_from}
 use Rattle.bt_text.specs.White.{trimmed_end}
 use Rattle.bt_job.specs.FileNames.{is_file_name_byte, with_ending}
-use Rattle.bt_files.specs.AuxText.{is_part_byte, is_part, is_part_count, IsWritableItem, IsWritableFrom, name_of, part_with, item_with, has_name_bytes, GivesNames}
-use Rattle.bt_files.proofs.AuxTextLemmas.{Endless}
+use Rattle.bt_files.specs.AuxText.{name_of, part_with, item_with}
+use Rattle.bt_files.specs.laws.AuxText.{is_part_byte, is_part, is_part_count, IsWritableItem, IsWritableFrom, has_name_bytes, GivesNames}
+use Rattle.bt_files.proofs.laws.AuxTextLemmas.{Endless}
 
 -- Parts that are read
 

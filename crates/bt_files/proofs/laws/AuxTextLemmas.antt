@@ -19,7 +19,8 @@ use Rattle.bt_bib.specs.declared.aux_line.AuxItem.{AuxItem}
 use Rattle.bt_bib.specs.AuxArgument.{ends_argument, inside, after_argument, parts_in, fault_at, parts_kept, fault_of, argument_parts}
 use Rattle.bt_bib.specs.inner.Cases.{is_comma, if_counted}
 use Rattle.bt_bib.specs.AuxLine.{is_line_end, opening_of, command_of, parting, item, items_from}
-use Rattle.bt_files.specs.AuxText.{comma, line_feed, written_parts, written_end, written_argument, written_item, written_from, is_part_byte, is_part, is_part_count, IsWritableItem, IsWritableFrom}
+use Rattle.bt_files.specs.AuxText.{comma, line_feed, written_parts, written_end, written_argument, written_item, written_from}
+use Rattle.bt_files.specs.laws.AuxText.{is_part_byte, is_part, is_part_count, IsWritableItem, IsWritableFrom}
 
 -- Bytes of a part
 

@@ -11,7 +11,8 @@ use Rattle.std.proofs.lemmas.Iterator.Adapters.{position_from-zero}
 use Rattle.bt_job.specs.FileNames.{is_file_name, is_among}
 use Rattle.bt_job.proofs.NameLemmas.{same_bytes, name_itself}
 use Rattle.bt_files.specs.Names.{is_stand_in, is_own_name, numbered, session_name, stood_for, author_name, with_author}
-use Rattle.bt_files.proofs.TableLemmas.{Stands, leads_back, more_names}
+use Rattle.bt_files.proofs.TableLemmas.{Stands}
+use Rattle.bt_files.proofs.laws.TableLemmas.{leads_back, more_names}
 
 -- each name of a table is found where it is
 pub record AreMet (table : List (List ℕ)) : Type 0 where

@@ -7,7 +7,8 @@ use Rattle.std.proofs.lemmas.List.{drop_at, length-append}
 use Rattle.bt_bib.specs.declared.aux_line.Command.{Command}
 use Rattle.bt_bib.specs.declared.aux_line.Command.TheVariants.{Citation, Database, Style, Nested}
 use Rattle.bt_job.specs.FileNames.{with_ending}
-use Rattle.bt_files.specs.AuxText.{part_with, names_by, KeepsEnding}
+use Rattle.bt_files.specs.AuxText.{part_with, names_by}
+use Rattle.bt_files.specs.laws.AuxText.{KeepsEnding}
 
 added_ending : (name ending : List ℕ) → bytes_eq ending ending ≡ true → ends_with eqb (name ++ ending) ending ≡ true
 added_ending name ending same =

@@ -1,0 +1,3 @@
+-- Worked rows, proved by `refl`. Nothing needs them.
+mod NamesRows
+mod AuxTextRows

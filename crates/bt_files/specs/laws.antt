@@ -1,0 +1,3 @@
+-- Only laws need these.
+pub mod AuxText
+pub mod Laws
