@@ -1,2 +1,2 @@
 pub mod JobLemmas
-pub mod TextLemmas
+pub mod laws

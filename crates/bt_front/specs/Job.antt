@@ -1,6 +1,6 @@
 -- A job over an author's files: what they mean under names that a session admits, told under the author's names.
-use Rattle.std.specs.Prelude.{◌≡◌, ℕ, Bool, true, eqb, List, [], ◌∷◌, ◌++◌, map, fold, flat_map, codes, unwrap_or, length, ◌==◌, ◌<◌, ◌^◌, if◌then◌else◌}
-use Rattle.std.specs.List.{ends_with, list_all}
+use Rattle.std.specs.Prelude.{ℕ, Bool, eqb, List, [], ◌∷◌, ◌++◌, map, fold, flat_map, codes, unwrap_or, length, ◌==◌, if◌then◌else◌}
+use Rattle.std.specs.List.{ends_with}
 use Rattle.bt_bib.specs.AuxLine.{aux_lines}
 use Rattle.bt_log.specs.Log.{log_bytes, terse_bytes}
 use Rattle.bt_job.specs.declared.files.File.{File}
@@ -70,18 +70,3 @@ meaning_under table files root min = told_under table (meaning (map (file_under 
 -- what an author's files mean
 unfoldable pub job_meaning : List File → List ℕ → ℕ → Meaning
 job_meaning files root min = meaning_under (table_of files root) files root min
-
--- Laws
-
--- An .aux text that is written anew has the lines of the old one, in which each file has its session's name.
-abbrev pub TextsKeepTheirLines : Type 0
-TextsKeepTheirLines =
-    (table : List (List ℕ)) (text : List ℕ) → length table < 2 ^ 64
-    → aux_lines (written (map (item_with (renamed table)) (aux_lines text)))
-    ≡ map (item_with (renamed table)) (aux_lines text)
-
--- Where a session admits each name, the files mean what they mean in a session.
-abbrev pub PlainJobsStay : Type 0
-PlainJobsStay =
-    (files : List File) (root : List ℕ) (min : ℕ) → list_all is_own_name (names_of files root) ≡ true
-    → job_meaning files root min ≡ meaning files root min

@@ -5,7 +5,7 @@ ghost use Rattle.bt_bib.specs.AuxLine.{aux_lines};
 ghost use Rattle.bt_run.specs.Shown.{meaning_of};
 ghost use Rattle.bt_files.specs.AuxText.{names_by, part_with, item_with};
 ghost use Rattle.bt_files.specs.Messages.{name_back};
-ghost use Rattle.bt_front.specs.Job.{is_aux, names_given, names_with, names_of, table_of, renamed, text_under, file_under, root_under, told_under, job_meaning, PlainJobsStay, TextsKeepTheirLines};
+ghost use Rattle.bt_front.specs.Job.{is_aux, names_given, names_with, names_of, table_of, renamed, text_under, file_under, root_under, told_under, job_meaning};
 
 use bt_bib::{AuxItem, Command, read_aux};
 use bt_files::{Names, all_put_back, is_own_name, name_of, written};
@@ -249,17 +249,3 @@ pub fn run(alloc: Global, files: &[File], root: &[u8], min: u32) -> Result<Run, 
         report: run.report,
     })
 }
-
-/// A law: where a session admits each name that a job's files give, they mean what they mean in a session, and the log
-/// is the same byte for byte.
-#[tactic(auto, using(crate::proofs::JobLemmas::job_kept))]
-pub fn plain_jobs_stay()
-    ensures { PlainJobsStay }
-{}
-
-/// A law: an `.aux` text that is written under other names has the lines of the old one, in which each file has its
-/// session's name.
-#[tactic(auto, using(crate::proofs::TextLemmas::lines_kept))]
-pub fn texts_keep_their_lines()
-    ensures { TextsKeepTheirLines }
-{}

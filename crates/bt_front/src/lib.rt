@@ -4,4 +4,4 @@
 
 mod job;
 
-pub use job::{names_of, plain_jobs_stay, run, texts_keep_their_lines};
+pub use job::{names_of, run};

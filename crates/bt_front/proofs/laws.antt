@@ -1,0 +1,4 @@
+-- Only laws need these.
+pub mod JobLemmas
+pub mod TextLemmas
+pub mod Laws
