@@ -1,3 +1,4 @@
 pub mod SessionLemmas
 mod TextLemmas
 mod OrderLemmas
+pub mod laws

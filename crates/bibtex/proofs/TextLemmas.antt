@@ -1,17 +1,13 @@
 -- Texts by their names: what is looked up after a change, and that each name stands once.
-use Rattle.std.proofs.Common.{◌≡◌, ◌∙◌, ap, sym, refl, subst, ◌+◌, ℕ, suc, Bool, true, false, not, cond, ◌||◌, List, [], ◌∷◌, length, map, Option, Some, None, option_map, is_some, is_none, one-add, true≢false}
+use Rattle.std.proofs.Common.{◌≡◌, ◌∙◌, ap, sym, refl, subst, ◌+◌, ℕ, suc, Bool, true, false, not, cond, List, [], ◌∷◌, length, map, Option, Some, None, option_map, one-add, true≢false}
 use Rattle.std.specs.Prelude.{if◌then◌else◌, nat_lt, bytes_eq}
 use Rattle.std.specs.List.{IsDistinct, AllByRecursion, position_or_len}
-use Rattle.std.specs.Set.{is_member}
 use Rattle.std.proofs.Math.Dec.{leb-zero, leb-suc-suc}
 use Rattle.std.proofs.lemmas.Cmp.{nat_list_eq_equiv}
 use Rattle.std.proofs.lemmas.Slice.Eq.{bytes_eq-Decides}
-use Rattle.std.proofs.lemmas.List.{length-map}
-use Rattle.std.proofs.lemmas.Map.Made.{length-from_same_keys}
 use Rattle.bt_job.specs.declared.files.File.{File}
 use Rattle.bt_job.specs.FileNames.{text_of}
 use Rattle.bibtex.specs.Present.{EachOnce, place_of_file, put_at, with_text, without}
-use Rattle.bt_run.specs.laws.ByName.{HaveSameTexts}
 
 -- Names
 
@@ -19,7 +15,7 @@ use Rattle.bt_run.specs.laws.ByName.{HaveSameTexts}
 same_name : (a b : List ℕ) → bytes_eq a b ≡ true → a ≡ b
 same_name a b h = (bytes_eq-Decides a b).0 h
 
-flipped : (a b : List ℕ) → bytes_eq a b ≡ bytes_eq b a
+pub flipped : (a b : List ℕ) → bytes_eq a b ≡ bytes_eq b a
 flipped a b = nat_list_eq_equiv.symm a b
 
 -- a name that isn't another isn't both at once
@@ -37,21 +33,8 @@ place_more false n l = rw (one-add n, leb-suc-suc (suc n) l) (go (nat_lt n l))
     go true = refl
     go false = refl
 
-place_step : (name : List ℕ) (f : File) (fs : List File) → place_of_file name (f ∷ fs) ≡ cond (bytes_eq f.name name) (Some 0) (option_map suc (place_of_file name fs))
+pub place_step : (name : List ℕ) (f : File) (fs : List File) → place_of_file name (f ∷ fs) ≡ cond (bytes_eq f.name name) (Some 0) (option_map suc (place_of_file name fs))
 place_step name f fs = place_more (bytes_eq f.name name) (position_or_len (λ (g : File). bytes_eq g.name name) fs) (length fs)
-
-none_later : (o : Option ℕ) → is_none (option_map suc o) ≡ is_none o
-none_later None = refl
-none_later (Some n) = refl
-
--- A name has a place exactly where it has a text.
-pub place_there : (name : List ℕ) (files : List File) → is_none (place_of_file name files) ≡ is_none (text_of files name)
-place_there name [] = refl
-place_there name (f ∷ fs) = rw (place_step name f fs) (go (bytes_eq f.name name) (place_there name fs))
-  where
-    go : (b : Bool) → is_none (place_of_file name fs) ≡ is_none (text_of fs name) → is_none (cond b (Some 0) (option_map suc (place_of_file name fs))) ≡ is_none (cond b (Some f.text) (text_of fs name))
-    go true later = refl
-    go false later = none_later (place_of_file name fs) ∙ later
 
 -- A text that is put
 
@@ -65,7 +48,7 @@ put_more true o file f fs = refl
 put_more false None file f fs = refl
 put_more false (Some n) file f fs = refl
 
-put_is : (file : File) (files : List File) → put_at (place_of_file file.name files) file files ≡ put file files
+pub put_is : (file : File) (files : List File) → put_at (place_of_file file.name files) file files ≡ put file files
 put_is file [] = refl
 put_is file (f ∷ fs) =
     ap (λ o. put_at o file (f ∷ fs)) (place_step file.name f fs)
@@ -83,7 +66,7 @@ exchanged true true x y z apart = absurd (apart refl refl)
 exchanged true false x y z apart = refl
 exchanged false d x y z apart = refl
 
-text_of_put : (file : File) (files : List File) (n : List ℕ) → text_of (put file files) n ≡ (if bytes_eq file.name n then Some file.text else text_of files n)
+pub text_of_put : (file : File) (files : List File) (n : List ℕ) → text_of (put file files) n ≡ (if bytes_eq file.name n then Some file.text else text_of files n)
 text_of_put file [] n = refl
 text_of_put file (f ∷ fs) n = go (bytes_eq f.name file.name) refl (text_of_put file fs n)
   where
@@ -95,11 +78,6 @@ text_of_put file (f ∷ fs) n = go (bytes_eq f.name file.name) refl (text_of_put
     go false is later =
         ap (λ o. cond (bytes_eq f.name n) (Some f.text) o) later
         ∙ exchanged (bytes_eq f.name n) (bytes_eq file.name n) (Some f.text) (Some file.text) (text_of fs n) (not_both f.name file.name n is)
-
--- The text that was put is that of its name, and every other name has the one that it had.
-pub text_of_with : (name text : List ℕ) (files : List File) (n : List ℕ) → text_of (with_text name text files) n ≡ (if bytes_eq name n then Some text else text_of files n)
-text_of_with name text files n =
-    ap (λ fs. text_of fs n) (put_is (record { name = name; text = text }) files) ∙ text_of_put (record { name = name; text = text }) files n
 
 none_either : (b : Bool) → text_of [] [] ≡ (if b then None else text_of [] [])
 none_either true = refl
@@ -165,21 +143,3 @@ once_without name (f ∷ fs) once = go (bytes_eq f.name name) refl (once_without
     go true is later = later
     go false is later =
         (new_if_none f.name (without name fs) (text_of_without name fs f.name ∙ rw (flipped name f.name, is) (none_if_new f.name fs once.0)), later)
-
--- How many
-
-member_there : (files : List File) (name : List ℕ) → is_member bytes_eq (map (λ (f : File). f.name) files) name ≡ is_some (text_of files name)
-member_there [] name = refl
-member_there (f ∷ fs) name = rw (flipped name f.name) (go (bytes_eq f.name name) (member_there fs name))
-  where
-    go : (b : Bool) → is_member bytes_eq (map (λ (g : File). g.name) fs) name ≡ is_some (text_of fs name) → (b || is_member bytes_eq (map (λ (g : File). g.name) fs) name) ≡ is_some (cond b (Some f.text) (text_of fs name))
-    go true later = refl
-    go false later = later
-
--- There are as many files, where each name stands once and has the same text in both.
-pub as_many : (files others : List File) → EachOnce files → EachOnce others → HaveSameTexts files others → length files ≡ length others
-as_many files others once also same =
-    sym (length-map files (λ (f : File). f.name))
-    ∙ length-from_same_keys nat_list_eq_equiv (map (λ (f : File). f.name) files) (map (λ (f : File). f.name) others) once also
-    (λ name. member_there files name ∙ ap is_some (same name) ∙ sym (member_there others name))
-    ∙ length-map others (λ (f : File). f.name)

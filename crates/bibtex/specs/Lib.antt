@@ -2,5 +2,5 @@ pub mod Present
 pub mod Change
 pub mod Applied
 pub mod Headline
-pub mod Order
 pub mod inner
+pub mod laws

@@ -1,0 +1,4 @@
+-- Only laws need these.
+pub mod TextLemmas
+pub mod OrderLemmas
+pub mod Laws

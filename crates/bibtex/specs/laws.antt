@@ -1,0 +1,3 @@
+-- Only laws need these.
+pub mod Order
+pub mod Laws
