@@ -10,7 +10,7 @@ use Rattle.bibtex.specs.Present.{reported}
 use Rattle.bibtex.specs.Change.{Change, write, splice, remove, root_name, min_crossrefs}
 use Rattle.bibtex.specs.Applied.{outcome, applied, IsAnswer, state_or, unless_out_of_memory}
 use Rattle.bibtex.specs.Headline.{after_answer, AnswersInTurn, ReportsInTurn, after_answers}
-use Rattle.bt_serve.specs.Commands.{Request, Command, edit, bbl, blg, status, quit, unreadable, too_long, request_of, refused, edit_answer, after, after_of, state_after, MayRunOut, MayRunOutInTurn}
+use Rattle.bt_serve.specs.Commands.{Request, Command, edit, bbl, blg, status, quit, unreadable, too_long, request_of, after, after_of, state_after}
 use Rattle.bt_serve.specs.Edits.{edit_with, edit_in, edits_of, brought, AreSame, Leads, LeadsBy}
 
 -- What becomes of a state by an edit is by its change and its bytes alone.
@@ -28,12 +28,12 @@ applied_with (remove name) bytes s = refl
 applied_with (root_name name) bytes s = refl
 applied_with (min_crossrefs n) bytes s = refl
 
-applied_same : (e : Edit) (change : Change) (bytes : List ℕ) (s : State) → brought e ≡ brought (edit_with change bytes) → applied e s ≡ outcome change bytes s
+pub applied_same : (e : Edit) (change : Change) (bytes : List ℕ) (s : State) → brought e ≡ brought (edit_with change bytes) → applied e s ≡ outcome change bytes s
 applied_same e change bytes s is =
     applied_brought e s ∙ ap (λ (b : Change × List ℕ). outcome b.0 b.1 s) is ∙ sym (applied_brought (edit_with change bytes) s) ∙ applied_with change bytes s
 
 -- An edit with this outcome is answered so, and then the others lead to a state.
-abbrev AnswersOne : List Edit → List (Result Report Refusal) → Result Report Refusal → State → State → Result State Refusal → Type 0
+abbrev pub AnswersOne : List Edit → List (Result Report Refusal) → Result Report Refusal → State → State → Result State Refusal → Type 0
 AnswersOne es answers a s t made =
     (IsAnswer made a × AnswersInTurn es answers (after_answer a made s)) ×
     (IfOk a (λ report. report ≡ reported s (after_answer a made s)) × ReportsInTurn es answers (after_answer a made s)) ×
@@ -76,59 +76,3 @@ leads_by [] (m ∷ ms) s len es is = absurd (omega arith)
 leads_by (c ∷ cs) [] s len es is = absurd (omega arith)
 leads_by (c ∷ cs) (m ∷ ms) s len es is =
     leads_one (request_of c.line) c.bytes m s (state_after ms cs (after m s c)) (edits_of cs) es is (leads_by cs ms (after m s c) (omega arith))
-
--- From edits to commands
-
--- An edit with this outcome was answered, as one that is or isn't wanting of memory, and the others lead to a state.
-record OneMade (es : List Edit) (s t : State) (made : Result State Refusal) : Type 0 where
-  ran_out : Bool
-  only : ran_out ≡ true → edit_answer s (unless_out_of_memory ran_out made) ≡ refused OutOfMemory
-  later : Leads es (state_or s (unless_out_of_memory ran_out made)) t
-
-one_less : (es : List Edit) (answers : List (Result Report Refusal)) (a : Result Report Refusal) (made : Result State Refusal) (s t : State) →
-    AnswersOne es answers a s t made → OneMade es s t made
-one_less es answers (Ok report) (Ok u) s t ((is, turns), (told, reports), end) = record { ran_out = false; only = λ same. absurd cc; later = (answers, turns, reports, end) }
-one_less es answers (Ok report) (Err refusal) s t ((is, turns), (told, reports), end) = absurd cc
-one_less es answers (Err refusal) (Ok u) s t ((is, turns), (told, reports), end) = record { ran_out = true; only = λ same. refl; later = (answers, turns, reports, end) }
-one_less es answers (Err refusal) (Err other) s t ((is, turns), (told, reports), end) = record { ran_out = false; only = λ same. absurd cc; later = (answers, turns, reports, end) }
-
-one_made : (e : Edit) (es : List Edit) (made : Result State Refusal) (s t : State) → applied e s ≡ made → Leads (e ∷ es) s t → OneMade es s t made
-one_made e es made s t is ([], turns, reports, end) = absurd turns
-one_made e es made s t is (a ∷ answers, turns, reports, end) = one_less es answers a made s t (subst (AnswersOne es answers a s t) is (turns, reports, end))
-
--- The same of any request.
-record OneDone (request : Request) (bytes : List ℕ) (rest : List Edit) (s t : State) : Type 0 where
-  ran_out : Bool
-  only : MayRunOut ran_out s request bytes
-  others : List Edit
-  same : AreSame others rest
-  later : Leads others (after_of ran_out s request bytes) t
-
-done_none : (request : Request) (bytes : List ℕ) (rest es : List Edit) (s t : State) → after_of false s request bytes ≡ s → AreSame es rest → Leads es s t → OneDone request bytes rest s t
-done_none request bytes rest es s t stays is leads =
-    record { ran_out = false; only = λ same. absurd cc; others = es; same = is; later = subst (λ (u : State). Leads es u t) (sym stays) leads }
-
-done_one : (request : Request) (bytes : List ℕ) (s t : State) (rest es : List Edit) → AreSame es (edit_in request bytes ++ rest) → Leads es s t → OneDone request bytes rest s t
-done_one (edit change n) bytes s t rest [] is leads = absurd cc
-done_one (edit change n) bytes s t rest (e ∷ es) is leads =
-    let same : brought e ≡ brought (edit_with change bytes) = cc in
-    let others : map brought es ≡ map brought rest = cc in
-    let one = one_made e es (outcome change bytes s) s t (applied_same e change bytes s same) leads in
-    record { ran_out = one.ran_out; only = one.only; others = es; same = others; later = one.later }
-done_one bbl bytes s t rest es is leads = done_none bbl bytes rest es s t refl is leads
-done_one blg bytes s t rest es is leads = done_none blg bytes rest es s t refl is leads
-done_one status bytes s t rest es is leads = done_none status bytes rest es s t refl is leads
-done_one quit bytes s t rest es is leads = done_none quit bytes rest es s t refl is leads
-done_one unreadable bytes s t rest es is leads = done_none unreadable bytes rest es s t refl is leads
-done_one too_long bytes s t rest es is leads = done_none too_long bytes rest es s t refl is leads
-
--- A state that the edits of commands lead to is one after these commands.
-pub led_by : (cs : List Command) (s t : State) (es : List Edit) → AreSame es (edits_of cs) → Leads es s t →
-    (ms : List Bool) × (length ms ≡ length cs) × MayRunOutInTurn ms cs s × (t ≡ state_after ms cs s)
-led_by [] s t [] is ([], turns, reports, end) = ([], refl, tt, end)
-led_by [] s t [] is (a ∷ answers, turns, reports, end) = absurd turns
-led_by [] s t (e ∷ es) is leads = absurd cc
-led_by (c ∷ cs) s t es is leads =
-    let one = done_one (request_of c.line) c.bytes s t (edits_of cs) es is leads in
-    let rest = led_by cs (after one.ran_out s c) t one.others one.same one.later in
-    (one.ran_out ∷ rest.0, omega (arith, rest.1), (one.only, rest.2), rest.3)

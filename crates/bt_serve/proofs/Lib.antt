@@ -7,4 +7,5 @@ pub mod ServedLemmas
 pub mod FaultLemmas
 pub mod EditLemmas
 pub mod EditedLemmas
-mod WholeRows
+pub mod laws
+mod rows

@@ -63,7 +63,7 @@ cut_first c t n k h =
     command_whole (record { line = c.line; after_feed = Some (c.bytes ++ t) }) (command_text c ++ t) c.bytes t (commands_within n) refl k.1
 
 -- whole commands, and then what is cut off of the rest
-cut_onto : (cs : List Command) (rest : List ℕ) (cut : Cut) (n : ℕ) → AllByRecursion IsCommand cs → length (flat_map command_text cs ++ rest) ≤ n →
+pub cut_onto : (cs : List Command) (rest : List ℕ) (cut : Cut) (n : ℕ) → AllByRecursion IsCommand cs → length (flat_map command_text cs ++ rest) ≤ n →
     ((k : ℕ) → length rest ≤ k → commands_within k rest ≡ cut) →
     commands_within n (flat_map command_text cs ++ rest) ≡ record { commands = cs ++ cut.commands; rest = cut.rest }
 cut_onto [] rest cut n a h base = base n h
@@ -117,8 +117,3 @@ last_left c i some none k h =
         ap (λ (x : Line). command_at x (b ∷ t) (commands_within k)) (first_line_end (b ∷ t) f)
         ∙ command_whole (record { line = b ∷ t; after_feed = None }) (b ∷ t) [] [] (commands_within k) refl (sym z)
         ∙ ap (with_first (record { line = b ∷ t; bytes = [] })) (none_left k (omega arith))
-
-pub cut_last : (cs : List Command) (c : Command) → AllByRecursion IsCommand cs → IsCommand c → c.line ≢ [] → c.bytes ≡ [] →
-    commands_of (flat_map command_text cs ++ c.line) ≡ record { commands = cs ++ c ∷ []; rest = [] }
-cut_last cs c a i some none =
-    cut_onto cs c.line (record { commands = c ∷ []; rest = [] }) (length (flat_map command_text cs ++ c.line)) a (omega arith) (last_left c i some none)

@@ -1,5 +1,5 @@
 -- The edits that commands ask for, as a list of edits.
-use Rattle.std.specs.Prelude.{◌≡◌, ℕ, Bool, List, [], ◌∷◌, ◌++◌, length, map, flat_map, Result, Ok, Err}
+use Rattle.std.specs.Prelude.{◌≡◌, ℕ, List, [], ◌∷◌, ◌++◌, map, flat_map, Result, Ok, Err}
 use Rattle.std.specs.Borrow.{Bor}
 use Rattle.bt_run.specs.declared.answers.Report.{Report}
 use Rattle.bibtex.specs.declared.edit.Edit.{Edit}
@@ -10,7 +10,7 @@ use Rattle.bibtex.specs.Change.{Change, write, splice, remove, root_name, min_cr
 use Rattle.bibtex.specs.Headline.{AnswersInTurn, ReportsInTurn, after_answers}
 use Rattle.bt_serve.specs.declared.fault.ServeFault.{ServeFault}
 use Rattle.bt_serve.specs.declared.fault.ServeFault.TheVariants.{ReadFailed, WriteFailed, Truncated}
-use Rattle.bt_serve.specs.Commands.{Request, edit, Command, request_of, state_after, MayRunOutInTurn}
+use Rattle.bt_serve.specs.Commands.{Request, edit, Command, request_of}
 use Rattle.bt_serve.specs.Whole.{commands_of, up_to_quit}
 
 -- a text that lies somewhere
@@ -56,11 +56,6 @@ Leads es state state' =
 -- the same of the edits that these commands ask for
 abbrev pub LeadsBy : List Command → State → State → Type 0
 LeadsBy cs state state' = (es : List Edit) → AreSame es (edits_of cs) → Leads es state state'
-
--- the second state is the one after these commands, for some choice of the edits that were refused as out of memory
-abbrev pub ComesAfter : List Command → State → State → Type 0
-ComesAfter cs state state' =
-    (ms : List Bool) × (length ms ≡ length cs) × MayRunOutInTurn ms cs state × (state' ≡ state_after ms cs state)
 
 -- What the loop's edits lead to, by how it ends: those of all commands of its input up to the one that ends it; at a
 -- read or a write that failed those of some of the first ones.

@@ -5,3 +5,4 @@ pub mod Serves
 pub mod Whole
 pub mod Edits
 pub mod inner
+pub mod laws

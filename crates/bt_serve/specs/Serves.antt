@@ -12,10 +12,6 @@ use Rattle.bt_serve.specs.declared.fault.ServeFault.TheVariants.{ReadFailed, Wri
 abbrev pub IsCommand : Command → Type 0
 IsCommand c = HasNoFeed c.line × (length c.bytes ≡ bytes_brought (request_of c.line))
 
--- a command whose line isn't empty and brings no bytes
-abbrev pub IsBare : Command → Type 0
-IsBare c = IsCommand c × (c.line ≢ []) × (c.bytes ≡ [])
-
 -- a command that stands at the end of an input, without a line feed
 abbrev pub IsLast : Command → List ℕ → List ℕ → Type 0
 IsLast c input rest = (c.line ≢ []) × (c.bytes ≡ []) × (input ≡ c.line) × (rest ≡ [])

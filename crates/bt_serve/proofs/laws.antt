@@ -1,0 +1,4 @@
+-- Only laws need these.
+pub mod WholeLemmas
+pub mod EditLemmas
+pub mod Laws

@@ -1,0 +1,2 @@
+-- Worked rows, proved by `refl`. Nothing needs them.
+mod WholeRows

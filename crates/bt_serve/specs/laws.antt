@@ -1,0 +1,4 @@
+-- Only laws need these.
+pub mod Serves
+pub mod Edits
+pub mod Laws
