@@ -72,7 +72,7 @@ fn ask_for_files(
     complain(
         rt,
         &[
-            b"bibtex: files are missing, and the script can't be asked for them, since /dev/fd is missing too\n",
+            b"bibtex: files are missing, and kpsewhich can't be asked for them, because there is no /dev/fd\n",
         ],
     );
     Ok(Some(NOT_RUN))
@@ -211,7 +211,7 @@ fn run_job(rt: &HostRuntime, script: &Script, options: &Options<'_>) -> Result<u
     if search.files().is_empty() {
         let _ = eprintln!(rt; "I couldn't open file name `{}.aux'", options.job);
         if !options.quiet && !is_there(rt, options.job)? {
-            let _ = eprintln!(rt; "hint: LaTeX writes {}.aux, so run it first", options.job);
+            let _ = eprintln!(rt; "hint: run latex first; it writes {}.aux", options.job);
         }
         return Ok(NOT_RUN);
     }

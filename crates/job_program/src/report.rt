@@ -15,18 +15,18 @@ usage: bibtex [-terse] [-min-crossrefs N] [-quiet] [-no-fallback] JOB
 
 Writes the bibliography of a LaTeX document. It reads JOB.aux, looks up the cited entries in
 the databases, formats them in the document's style, and writes JOB.bbl. The log goes to
-JOB.blg. JOB is the document, with or without .aux or .tex.
+JOB.blg. JOB is the document's name, with or without .aux or .tex.
 
   -terse             print only messages, not the names of the files
   -min-crossrefs N   include an uncited entry once N entries cross-reference it (default 2)
   -quiet             print no hints
   -no-fallback       never let another bibtex do the job
-  -version           print the version, and which other bibtex there is
+  -version           print the version, and the path of another bibtex if there is one
   -help              print this
   --resident         answer an editor's commands; read and write no file
 
-Options take one dash or two. Files are looked for in the current folder and then by kpsewhich,
-or by kpsewhich alone if BIBINPUTS or BSTINPUTS is set.
+Options take one dash or two. Styles and databases are looked for in the current folder and
+then by kpsewhich, but only by kpsewhich if BIBINPUTS or BSTINPUTS is set.
 
 Exit status: 0 for a clean run or warnings, 1 if the job can't be run or memory ran out, 2 for
 errors, 3 for a fatal error or a file that can't be written.";
@@ -49,7 +49,7 @@ pub fn refuse(rt: &HostRuntime, wrong: Wrong<'_>) {
             )
         }
         Wrong::UnknownOption(word) => eprintln!(rt;
-            "bibtex: there is no option {word}; there are -terse, -min-crossrefs N, -quiet, -no-fallback, -version, -help and --resident"
+            "bibtex: there is no option {word}; the options are -terse, -min-crossrefs N, -quiet, -no-fallback, -version, -help and --resident"
         ),
         Wrong::NoNumber(None) => {
             eprintln!(rt; "bibtex: -min-crossrefs needs a number, as in -min-crossrefs=2")

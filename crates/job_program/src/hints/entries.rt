@@ -160,7 +160,7 @@ fn hint_at_names(
             name.as_slice(),
             b"\" in the entry ",
             key,
-            b": because of it, the part before it counts as Jr\n",
+            b"; with it, the text between the commas counts as Jr\n",
         ]);
     }
     Ok(())

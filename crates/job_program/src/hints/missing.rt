@@ -119,7 +119,7 @@ fn advice(
     let variable = variable(kind);
     match look_for(alloc, rt, name, ending(kind))? {
         Some(Offer::Itself) => format!(in alloc;
-            "is in the current folder, but can't be read there; is the folder named in {variable}?"
+            "is in the current folder, but wasn't read: either it is unreadable, or {variable} doesn't name that folder"
         ),
         Some(Offer::Folder(folder)) => format!(in alloc;
             "isn't in the current folder, but there is {folder}/{name}: set {variable}={folder}:"
@@ -128,7 +128,7 @@ fn advice(
             format!(in alloc; "isn't in the current folder; did you mean {other}?")
         }
         None => format!(in alloc;
-            "isn't in the current folder, and wasn't found elsewhere; to search more folders, set {variable}"
+            "wasn't found in the current folder or anywhere else; to search more folders, set {variable}"
         ),
     }
 }
