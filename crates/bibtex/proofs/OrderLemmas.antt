@@ -2,34 +2,25 @@
 use Rattle.std.proofs.Common.{◌≡◌, subst, ℕ, List, [], length, Option, Some, None, Ok}
 use Rattle.std.specs.Prelude.{unwrap_or}
 use Rattle.bt_job.specs.FileNames.{text_of}
-use Rattle.bibtex.specs.declared.edit.Edit.{Edit}
-use Rattle.bibtex.specs.declared.edit.Edit.TheVariants.{Write, Splice, Remove, Root, MinCrossrefs}
 use Rattle.bibtex.specs.declared.edit.Refusal.{Refusal}
 use Rattle.bibtex.specs.declared.state.State.{State}
-use Rattle.bibtex.specs.Change.{Change, write, splice, remove, root_name, min_crossrefs}
+use Rattle.bibtex.specs.Edit.{Edit, bytes_of, write, splice, remove, root_name, min_crossrefs}
 use Rattle.bibtex.specs.Present.{EachOnce, replaced}
-use Rattle.bibtex.specs.Applied.{refusal_of, changed, unless_refused, outcome, applied}
+use Rattle.bibtex.specs.Applied.{refusal_of, changed, unless_refused, applied}
 use Rattle.bibtex.proofs.TextLemmas.{once_with, once_without}
 
 -- Each name stands once
 
-once_changed : (change : Change) (bytes : List ℕ) (s : State) → EachOnce s.texts → EachOnce (changed change bytes s).texts
-once_changed (write name) bytes s once = once_with name bytes s.texts once
-once_changed (splice name start end) bytes s once = once_with name (replaced start end bytes (unwrap_or (text_of s.texts name) [])) s.texts once
-once_changed (remove name) bytes s once = once_without name s.texts once
-once_changed (root_name name) bytes s once = once
-once_changed (min_crossrefs n) bytes s once = once
+once_changed : (e : Edit) (s : State) → EachOnce s.texts → EachOnce (changed e s).texts
+once_changed (write name bytes) s once = once_with name bytes s.texts once
+once_changed (splice name start end bytes) s once = once_with name (replaced start end bytes (unwrap_or (text_of s.texts name) [])) s.texts once
+once_changed (remove name) s once = once_without name s.texts once
+once_changed (root_name name) s once = once
+once_changed (min_crossrefs n) s once = once
 
 once_unless : (o : Option Refusal) (made t : State) → EachOnce made.texts → unless_refused o made ≡ Ok t → EachOnce t.texts
 once_unless None made t once is = let same : made ≡ t = cc in subst (λ (u : State). EachOnce u.texts) same once
 once_unless (Some refusal) made t once is = absurd cc
 
-once_outcome : (change : Change) (bytes : List ℕ) (s t : State) → EachOnce s.texts → outcome change bytes s ≡ Ok t → EachOnce t.texts
-once_outcome change bytes s t once is = once_unless (refusal_of change (length bytes) s) (changed change bytes s) t (once_changed change bytes s once) is
-
 pub once_applied : (e : Edit) (s t : State) → EachOnce s.texts → applied e s ≡ Ok t → EachOnce t.texts
-once_applied (Write name text) s t once is = once_outcome (write name.now) text.now s t once is
-once_applied (Splice name start end bytes) s t once is = once_outcome (splice name.now start end) bytes.now s t once is
-once_applied (Remove name) s t once is = once_outcome (remove name.now) [] s t once is
-once_applied (Root name) s t once is = once_outcome (root_name name.now) [] s t once is
-once_applied (MinCrossrefs n) s t once is = once_outcome (min_crossrefs n) [] s t once is
+once_applied e s t once is = once_unless (refusal_of e (length (bytes_of e)) s) (changed e s) t (once_changed e s once) is

@@ -1,14 +1,12 @@
 -- What an edit makes of the present state, or the first reason that refuses it.
 use Rattle.std.specs.Prelude.{ℕ, ◌+◌, ◌-◌, List, [], length, Bool, not, true, false, ◌≡◌, ◌&&◌, ◌||◌, nat_lt, nat_le, IfErr, IsErr, Option, Some, None, Result, Ok, Err, if◌then◌else◌, unwrap_or}
 use Rattle.std.specs.Option.{is_none}
-use Rattle.bibtex.specs.declared.edit.Edit.{Edit}
-use Rattle.bibtex.specs.declared.edit.Edit.TheVariants.{Write, Splice, Remove, Root, MinCrossrefs}
 use Rattle.bibtex.specs.declared.edit.Refusal.{Refusal}
 use Rattle.bibtex.specs.declared.edit.Refusal.TheVariants.{BadName, NoSuchFile, RangeOutside, FileTooLarge, TooManyFiles, OutOfMemory}
 use Rattle.bt_run.specs.declared.answers.Report.{Report}
 use Rattle.bt_job.specs.declared.files.File.{File}
 use Rattle.bt_job.specs.FileNames.{is_file_name, text_of}
-use Rattle.bibtex.specs.Change.{Change, write, splice, remove, root_name, min_crossrefs}
+use Rattle.bibtex.specs.Edit.{Edit, write, splice, remove, root_name, min_crossrefs, bytes_of}
 use Rattle.bibtex.specs.declared.state.State.{State}
 use Rattle.bibtex.specs.Present.{place_of_file, with_text, without, replaced, is_root_name}
 
@@ -59,45 +57,33 @@ remove_refusal files name =
 abbrev pub root_refusal : List ℕ → Option Refusal
 root_refusal root = if is_root_name root then None else Some BadName
 
--- the reason to refuse a change that brings this number of bytes
-abbrev pub refusal_of : Change → ℕ → State → Option Refusal
-refusal_of (write name) size s = write_refusal s.texts name size
-refusal_of (splice name start end) size s = splice_refusal s.texts name start end size
+-- the reason to refuse an edit that brings this number of bytes, whatever they are
+abbrev pub refusal_of : Edit → ℕ → State → Option Refusal
+refusal_of (write name bytes) size s = write_refusal s.texts name size
+refusal_of (splice name start end bytes) size s = splice_refusal s.texts name start end size
 refusal_of (remove name) size s = remove_refusal s.texts name
 refusal_of (root_name name) size s = root_refusal name
 refusal_of (min_crossrefs n) size s = None
 
 -- What becomes of the state
 
--- the state after a change that there is no reason to refuse
-abbrev pub changed : Change → List ℕ → State → State
-changed (write name) bytes s = record s { texts = with_text name bytes s.texts }
-changed (splice name start end) bytes s =
+-- the state after an edit that there is no reason to refuse
+abbrev pub changed : Edit → State → State
+changed (write name bytes) s = record s { texts = with_text name bytes s.texts }
+changed (splice name start end bytes) s =
     record s { texts = with_text name (replaced start end bytes (unwrap_or (text_of s.texts name) [])) s.texts }
-changed (remove name) bytes s = record s { texts = without name s.texts }
-changed (root_name name) bytes s = record s { root = name }
-changed (min_crossrefs n) bytes s = record s { min = n }
+changed (remove name) s = record s { texts = without name s.texts }
+changed (root_name name) s = record s { root = name }
+changed (min_crossrefs n) s = record s { min = n }
 
 -- this state, unless there is a refusal
 abbrev pub unless_refused : Option Refusal → State → Result State Refusal
 unless_refused None s = Ok s
 unless_refused (Some refusal) s = Err refusal
 
--- the state after a change that brings these bytes, or the first refusal whose condition holds
-abbrev pub outcome : Change → List ℕ → State → Result State Refusal
-outcome change bytes s = unless_refused (refusal_of change (length bytes) s) (changed change bytes s)
-
 -- the state after an edit, or the first refusal whose condition holds
 abbrev pub applied : Edit → State → Result State Refusal
-applied (Write name text) s = outcome (write name.now) text.now s
-applied (Splice name start end bytes) s = outcome (splice name.now start end) bytes.now s
-applied (Remove name) s = outcome (remove name.now) [] s
-applied (Root name) s = outcome (root_name name.now) [] s
-applied (MinCrossrefs n) s = outcome (min_crossrefs n) [] s
-
--- an edit that asks for this change and brings these bytes
-abbrev pub IsEditOf : Change → List ℕ → Edit → Type 0
-IsEditOf change bytes e = (s : State) → applied e s ≡ outcome change bytes s
+applied e s = unless_refused (refusal_of e (length (bytes_of e)) s) (changed e s)
 
 -- What answers an edit of which this is applied: each refusal where it is that refusal, and out of memory only where
 -- there is no other.

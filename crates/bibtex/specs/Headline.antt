@@ -1,6 +1,6 @@
 -- What any list of edits leaves of a session.
 use Rattle.std.specs.Prelude.{◌≡◌, List, [], ◌∷◌, IfOk, Result, Ok, Err}
-use Rattle.bibtex.specs.declared.edit.Edit.{Edit}
+use Rattle.bibtex.specs.Edit.{Edit}
 use Rattle.bibtex.specs.declared.edit.Refusal.{Refusal}
 use Rattle.bt_run.specs.declared.answers.Report.{Report}
 use Rattle.bibtex.specs.declared.state.State.{State}

@@ -1,5 +1,5 @@
 pub mod Present
-pub mod Change
+pub mod Edit
 pub mod Applied
 pub mod Headline
 pub mod inner

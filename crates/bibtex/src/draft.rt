@@ -33,6 +33,7 @@ impl Model for Draft {
 
 impl Draft {
     ghost use Rattle.bibtex.specs.Present.{is_root_name, no_texts, shown};
+    ghost use Rattle.bibtex.specs.Edit.{edit_of};
     ghost use Rattle.bibtex.specs.Applied.{applied, IsAnswer, IsNew};
 
     /// A state without files, whose run begins at the root name followed by `.aux`. The errors are `BadName`, exactly
@@ -55,8 +56,8 @@ impl Draft {
     /// Carries out an edit. On a refusal nothing is changed. Refusals are tested in the order of their cases, out of
     /// memory last.
     pub fn edit(&mut self, edit: Edit<'_>) -> Result<(), Refusal>
-        ensures ok { IfOk result (λ _. applied edit.entry self.old ≡ Ok self.new) }
-        ensures refused { IsAnswer (applied edit.entry self.old) result }
+        ensures ok { IfOk result (λ _. applied (edit_of edit.entry) self.old ≡ Ok self.new) }
+        ensures refused { IsAnswer (applied (edit_of edit.entry) self.old) result }
         ensures err { OnErr result (self.new ≡ self.old) }
     {
         let nothing = Readings::nothing(self.alloc);

@@ -1,8 +1,7 @@
 //! Edits of the present state, and why they are refused.
 
 ghost use Rattle.std.specs.Prelude.{◌≡◌};
-ghost use Rattle.bibtex.specs.Change.{change_of};
-ghost use Rattle.bibtex.specs.Applied.{IsEditOf};
+ghost use Rattle.bibtex.specs.Edit.{edit_of, bytes_of, with_bytes};
 
 use std::alloc::AllocError;
 use thiserror::Error;
@@ -22,32 +21,25 @@ pub enum Edit<'a> {
     MinCrossrefs(u32),
 }
 
-/// What an edit asks for, without the bytes that it brings.
-#[derive(Clone, Copy, Debug)]
-pub enum Change<'a> {
-    /// A text under a name.
-    Write(&'a [u8]),
-    /// Other bytes in a text, from one place up to another.
-    Splice(&'a [u8], usize, usize),
-    /// No text under a name.
-    Remove(&'a [u8]),
-    /// Another root name.
-    Root(&'a [u8]),
-    /// Another min-crossrefs.
-    MinCrossrefs(u32),
-}
-
-impl<'a> Change<'a> {
-    /// The edit that brings these bytes. Where a change brings none, they are left out.
-    pub fn with(self, bytes: &'a [u8]) -> Edit<'a>
-        ensures { IsEditOf (change_of self.entry) bytes.entry.now result }
+impl<'a> Edit<'a> {
+    /// The bytes that the edit brings; none where it brings no text.
+    pub fn bytes(self) -> &'a [u8]
+        ensures { result.now ≡ bytes_of (edit_of self.entry) }
     {
         match self {
-            Change::Write(name) => Edit::Write(name, bytes),
-            Change::Splice(name, start, end) => Edit::Splice(name, start, end, bytes),
-            Change::Remove(name) => Edit::Remove(name),
-            Change::Root(name) => Edit::Root(name),
-            Change::MinCrossrefs(min) => Edit::MinCrossrefs(min),
+            Edit::Write(_, bytes) | Edit::Splice(_, _, _, bytes) => bytes,
+            Edit::Remove(_) | Edit::Root(_) | Edit::MinCrossrefs(_) => b"",
+        }
+    }
+
+    /// The same edit with these bytes instead of those that it brings. An edit that brings none stays as it is.
+    pub fn with(self, bytes: &'a [u8]) -> Edit<'a>
+        ensures { edit_of result ≡ with_bytes bytes.entry.now (edit_of self.entry) }
+    {
+        match self {
+            Edit::Write(name, _) => Edit::Write(name, bytes),
+            Edit::Splice(name, start, end, _) => Edit::Splice(name, start, end, bytes),
+            edit => edit,
         }
     }
 }

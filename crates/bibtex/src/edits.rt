@@ -1,6 +1,7 @@
 //! Lists of edits.
 
-ghost use Rattle.std.specs.Prelude.{◌≡◌, IfOk, OnErr};
+ghost use Rattle.std.specs.Prelude.{◌≡◌, map, IfOk, OnErr};
+ghost use Rattle.bibtex.specs.Edit.{edit_of};
 ghost use Rattle.bibtex.specs.Headline.{AnswersInTurn, ReportsInTurn, after_answers};
 
 use crate::edit::{Edit, Refusal};
@@ -19,9 +20,9 @@ pub fn edit_all(
     session: &mut Session,
     edits: &[Edit<'_>],
 ) -> Result<Vec<Result<Report, Refusal>>, AllocError>
-    ensures answers { IfOk result (λ answers. AnswersInTurn edits.now answers.items session.old) }
-    ensures reports { IfOk result (λ answers. ReportsInTurn edits.now answers.items session.old) }
-    ensures state { IfOk result (λ answers. session.new ≡ after_answers edits.now answers.items session.old) }
+    ensures answers { IfOk result (λ answers. AnswersInTurn (map edit_of edits.now) answers.items session.old) }
+    ensures reports { IfOk result (λ answers. ReportsInTurn (map edit_of edits.now) answers.items session.old) }
+    ensures state { IfOk result (λ answers. session.new ≡ after_answers (map edit_of edits.now) answers.items session.old) }
     ensures err { OnErr result (session.new ≡ session.old) }
 {
     let mut answers = Vec::with_capacity(alloc, edits.len())?;

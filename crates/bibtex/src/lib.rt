@@ -15,7 +15,7 @@ pub use bt_log::{FileKind, FileNote, Message, Place, Rank, Said};
 pub use bt_run::Report;
 pub use bt_text::Bytes;
 pub use draft::Draft;
-pub use edit::{Change, Edit, Refusal};
+pub use edit::{Edit, Refusal};
 pub use edits::edit_all;
 pub use refusal::{FILE_BYTES, FILE_LIMIT, code_of, is_root_name};
 pub use session::Session;

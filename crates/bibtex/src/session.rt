@@ -4,8 +4,7 @@ ghost use Rattle.std.specs.Prelude.{◌≡◌, [], length, IfOk, IfErr, OnErr, O
 ghost use Rattle.std.specs.Option.{option_map};
 
 use crate::draft::Draft;
-use crate::edit::{Change, Edit, Refusal};
-use crate::refusal::{remove_refusal, root_refusal, splice_refusal, write_refusal};
+use crate::edit::{Edit, Refusal};
 use crate::reread::Reread;
 use crate::state::State;
 use bt_job::text_of;
@@ -41,7 +40,7 @@ impl Model for Session {
 
 impl Session {
     ghost use Rattle.bibtex.specs.Present.{is_root_name, no_texts, shown, reported, EachOnce};
-    ghost use Rattle.bibtex.specs.Change.{change_of};
+    ghost use Rattle.bibtex.specs.Edit.{edit_of};
     ghost use Rattle.bibtex.specs.Applied.{applied, refusal_of, IsAnswer, IsNew};
     ghost use Rattle.bt_job.specs.FileNames.{text_of};
     ghost use Rattle.bt_log.specs.Log.{log_bytes};
@@ -85,18 +84,12 @@ impl Session {
         })
     }
 
-    /// The first reason to refuse a change that brings `size` bytes; out of memory is none. It takes no memory.
-    pub fn refusal(&self, change: Change<'_>, size: usize) -> Option<Refusal>
-        ensures { result ≡ refusal_of (change_of change.entry) size self.now }
+    /// The first reason to refuse an edit that brings `size` bytes, whatever bytes it has in hand; out of memory is none.
+    /// It takes no memory.
+    pub fn refusal(&self, edit: Edit<'_>, size: usize) -> Option<Refusal>
+        ensures { result ≡ refusal_of (edit_of edit.entry) size self.now }
     {
-        let files = self.state.texts.as_slice();
-        match change {
-            Change::Write(name) => write_refusal(files, name, size),
-            Change::Splice(name, start, end) => splice_refusal(files, name, start, end, size),
-            Change::Remove(name) => remove_refusal(files, name),
-            Change::Root(name) => root_refusal(name),
-            Change::MinCrossrefs(_) => None,
-        }
+        self.state.refusal(edit, size)
     }
 
     /// Goes over to a state, over what was read before: all that it means is made beside what is kept, which is
@@ -132,9 +125,9 @@ impl Session {
     /// the run before, and what the former cost. On a refusal nothing is changed. Refusals are tested in the order of
     /// their cases, out of memory last.
     pub fn edit(&mut self, edit: Edit<'_>) -> Result<Report, Refusal>
-        ensures ok { IfOk result (λ _. applied edit.entry self.old ≡ Ok self.new) }
+        ensures ok { IfOk result (λ _. applied (edit_of edit.entry) self.old ≡ Ok self.new) }
         ensures report { IfOk result (λ report. report ≡ reported self.old self.new) }
-        ensures refused { IsAnswer (applied edit.entry self.old) result }
+        ensures refused { IsAnswer (applied (edit_of edit.entry) self.old) result }
         ensures err { OnErr result (self.new ≡ self.old) }
     {
         let mut reread = Reread::of(self.alloc, &self.readings);

@@ -1,8 +1,8 @@
 //! The present state, and the one after an edit.
 
-ghost use Rattle.std.specs.Prelude.{◌≡◌, [], Ok, IfOk};
-ghost use Rattle.bibtex.specs.Change.{write, splice, remove, root_name};
-ghost use Rattle.bibtex.specs.Applied.{applied, outcome, IsAnswer};
+ghost use Rattle.std.specs.Prelude.{◌≡◌, length, Ok, None, IfOk};
+ghost use Rattle.bibtex.specs.Edit.{edit_of, bytes_of, splice};
+ghost use Rattle.bibtex.specs.Applied.{applied, changed, refusal_of, splice_refusal, IsAnswer};
 
 use crate::edit::{Edit, Refusal};
 use crate::files::{all_shared, replaced, with_text, without};
@@ -34,17 +34,18 @@ impl State {
         })
     }
 
-    /// The state with a text in the place of that of its name, or after the others where none has it.
-    fn written(&self, alloc: Global, name: &[u8], text: &[u8]) -> Result<State, Refusal>
-        ensures ok { IfOk result (λ state. outcome (write name.now) text.now self.now ≡ Ok state) }
-        ensures refused { IsAnswer (outcome (write name.now) text.now self.now) result }
+    /// The first reason to refuse an edit that brings `size` bytes, whatever bytes it has in hand.
+    pub fn refusal(&self, edit: Edit<'_>, size: usize) -> Option<Refusal>
+        ensures { result ≡ refusal_of (edit_of edit.entry) size self.now }
     {
         let files = self.texts.as_slice();
-        if let Some(refusal) = write_refusal(files, name, text.len()) {
-            return Err(refusal);
+        match edit {
+            Edit::Write(name, _) => write_refusal(files, name, size),
+            Edit::Splice(name, start, end, _) => splice_refusal(files, name, start, end, size),
+            Edit::Remove(name) => remove_refusal(files, name),
+            Edit::Root(name) => root_refusal(name),
+            Edit::MinCrossrefs(_) => None,
         }
-        let text = Shared::<Bytes>::copied(alloc, text)?;
-        Ok(self.with_texts(with_text(alloc, files, name, text)?)?)
     }
 
     /// The state with bytes in the place of the bytes `start..end` of a text, which is read again where it is known as
@@ -57,15 +58,12 @@ impl State {
         end: usize,
         bytes: &[u8],
         reread: &mut Reread<'_>,
-    ) -> Result<State, Refusal>
+    ) -> Result<State, AllocError>
         requires meter { reread.old.meter ≡ 0 }
-        ensures ok { IfOk result (λ state. outcome (splice name.now start end) bytes.now self.now ≡ Ok state) }
-        ensures refused { IsAnswer (outcome (splice name.now start end) bytes.now self.now) result }
+        requires right { splice_refusal self.now.texts name.now start end (length bytes.now) ≡ None }
+        ensures { IfOk result (λ state. state ≡ changed (splice name.now start end bytes.now) self.now) }
     {
         let files = self.texts.as_slice();
-        if let Some(refusal) = splice_refusal(files, name, start, end, bytes.len()) {
-            return Err(refusal);
-        }
         let alloc = reread.alloc;
         let old = text_of(files, name).unwrap_or(b"");
         let text = Shared::new(alloc, replaced(alloc, old, start, end, bytes)?)?;
@@ -75,61 +73,47 @@ impl State {
             inserted: bytes.len(),
         };
         reread.splice(old, &text, splice)?;
-        Ok(self.with_texts(with_text(alloc, files, name, text)?)?)
+        self.with_texts(with_text(alloc, files, name, text)?)
     }
 
-    /// The state without a file.
-    fn removed(&self, alloc: Global, name: &[u8]) -> Result<State, Refusal>
-        ensures ok { IfOk result (λ state. outcome (remove name.now) [] self.now ≡ Ok state) }
-        ensures refused { IsAnswer (outcome (remove name.now) [] self.now) result }
+    /// The state after an edit that there is no reason to refuse.
+    fn changed(&self, edit: Edit<'_>, reread: &mut Reread<'_>) -> Result<State, AllocError>
+        requires meter { reread.old.meter ≡ 0 }
+        requires right { refusal_of (edit_of edit) (length (bytes_of (edit_of edit))) self.now ≡ None }
+        ensures { IfOk result (λ state. state ≡ changed (edit_of edit.entry) self.now) }
     {
+        let alloc = reread.alloc;
         let files = self.texts.as_slice();
-        if let Some(refusal) = remove_refusal(files, name) {
-            return Err(refusal);
+        match edit {
+            Edit::Write(name, text) => {
+                let text = Shared::<Bytes>::copied(alloc, text)?;
+                self.with_texts(with_text(alloc, files, name, text)?)
+            }
+            Edit::Splice(name, start, end, bytes) => self.spliced(name, start, end, bytes, reread),
+            Edit::Remove(name) => self.with_texts(without(alloc, files, name)?),
+            Edit::Root(name) => Ok(State {
+                texts: all_shared(alloc, files)?,
+                root: Shared::<Bytes>::copied(alloc, name)?,
+                min: self.min,
+            }),
+            Edit::MinCrossrefs(min) => Ok(State {
+                texts: all_shared(alloc, files)?,
+                root: self.root.share()?,
+                min,
+            }),
         }
-        Ok(self.with_texts(without(alloc, files, name)?)?)
-    }
-
-    /// The state with another root name.
-    fn rooted(&self, alloc: Global, root: &[u8]) -> Result<State, Refusal>
-        ensures ok { IfOk result (λ state. outcome (root_name root.now) [] self.now ≡ Ok state) }
-        ensures refused { IsAnswer (outcome (root_name root.now) [] self.now) result }
-    {
-        if let Some(refusal) = root_refusal(root) {
-            return Err(refusal);
-        }
-        Ok(State {
-            texts: all_shared(alloc, self.texts.as_slice())?,
-            root: Shared::<Bytes>::copied(alloc, root)?,
-            min: self.min,
-        })
-    }
-
-    /// The state with another min-crossrefs.
-    fn with_min(&self, alloc: Global, min: u32) -> Result<State, AllocError>
-        ensures { IfOk result (λ state. state ≡ record self.now { min = min }) }
-    {
-        Ok(State {
-            texts: all_shared(alloc, self.texts.as_slice())?,
-            root: self.root.share()?,
-            min,
-        })
     }
 
     /// The state after an edit, made beside this one, with which it shares all that the edit leaves. Refusals are
     /// tested in the order of their cases, out of memory last. A known database that is spliced is read again.
     pub fn after(&self, edit: Edit<'_>, reread: &mut Reread<'_>) -> Result<State, Refusal>
         requires meter { reread.old.meter ≡ 0 }
-        ensures ok { IfOk result (λ state. applied edit.entry self.now ≡ Ok state) }
-        ensures refused { IsAnswer (applied edit.entry self.now) result }
+        ensures ok { IfOk result (λ state. applied (edit_of edit.entry) self.now ≡ Ok state) }
+        ensures refused { IsAnswer (applied (edit_of edit.entry) self.now) result }
     {
-        let alloc = reread.alloc;
-        match edit {
-            Edit::Write(name, text) => self.written(alloc, name, text),
-            Edit::Splice(name, start, end, bytes) => self.spliced(name, start, end, bytes, reread),
-            Edit::Remove(name) => self.removed(alloc, name),
-            Edit::Root(name) => self.rooted(alloc, name),
-            Edit::MinCrossrefs(min) => Ok(self.with_min(alloc, min)?),
+        if let Some(refusal) = self.refusal(edit, edit.bytes().len()) {
+            return Err(refusal);
         }
+        Ok(self.changed(edit, reread)?)
     }
 }

@@ -6,7 +6,7 @@ use Rattle.std.specs.List.{list_all}
 use Rattle.bibtex.specs.declared.state.State.{State}
 use Rattle.bibtex.specs.declared.edit.Refusal.{Refusal}
 use Rattle.bibtex.specs.Present.{no_texts, shown}
-use Rattle.bibtex.specs.Change.{write}
+use Rattle.bibtex.specs.Edit.{write}
 use Rattle.bibtex.specs.Applied.{refusal_of, changed, unless_refused, state_or, unless_out_of_memory}
 use Rattle.bt_one_shot.specs.declared.folder.Found.{Found}
 use Rattle.bt_one_shot.specs.declared.folder.Found.TheVariants as found
@@ -135,7 +135,7 @@ made_root false None made s is = is
 made_root false (Some refusal) made s is = refl
 
 found_root : (s : State) (name : List ℕ) (ran_out : Bool) (found : Found) → (state_or s (taken_found s name ran_out found)).root ≡ s.root
-found_root s name ran_out (found.Bytes text) = made_root ran_out (refusal_of (write name) (length text) s) (changed (write name) text s) s refl
+found_root s name ran_out (found.Bytes text) = made_root ran_out (refusal_of (write name text) (length text) s) (changed (write name text) s) s refl
 found_root s name ran_out found.Missing = refl
 found_root s name ran_out found.NoRoom = refl
 

@@ -5,8 +5,8 @@ use Rattle.bibtex.specs.declared.edit.Refusal.{Refusal}
 use Rattle.bibtex.specs.declared.edit.Refusal.TheVariants.{OutOfMemory}
 use Rattle.bibtex.specs.declared.state.State.{State}
 use Rattle.bibtex.specs.Present.{shown}
-use Rattle.bibtex.specs.Change.{write}
-use Rattle.bibtex.specs.Applied.{outcome, code_of, state_or, unless_out_of_memory}
+use Rattle.bibtex.specs.Edit.{write}
+use Rattle.bibtex.specs.Applied.{applied, code_of, state_or, unless_out_of_memory}
 use Rattle.bt_one_shot.specs.declared.folder.Found.{Found}
 use Rattle.bt_one_shot.specs.declared.folder.Found.TheVariants as found
 use Rattle.bt_one_shot.specs.Folders.{Contents, Finds, looked_up}
@@ -26,7 +26,7 @@ next s met = find (λ name. not (list_any (bytes_eq name) met)) (shown s).wanted
 
 -- what becomes of a state by what was found under a name: a text is written under it
 abbrev pub taken_found : State → List ℕ → Bool → Found → Result State Refusal
-taken_found s name ran_out (found.Bytes text) = unless_out_of_memory ran_out (outcome (write name) text s)
+taken_found s name ran_out (found.Bytes text) = unless_out_of_memory ran_out (applied (write name text) s)
 taken_found s name ran_out found.Missing = Ok s
 taken_found s name ran_out found.NoRoom = Err OutOfMemory
 

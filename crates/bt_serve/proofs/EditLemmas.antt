@@ -1,36 +1,15 @@
 -- The edits of commands, made one after another.
-use Rattle.std.proofs.Common.{◌≡◌, refl, ap, sym, ◌∙◌, subst, arith, ℕ, Bool, true, false, List, [], ◌∷◌, ◌++◌, map, length, Result, Ok, Err, IfOk}
+use Rattle.std.proofs.Common.{◌≡◌, refl, sym, subst, arith, ℕ, Bool, true, false, List, [], ◌∷◌, ◌++◌, length, Result, Ok, Err, IfOk}
 use Rattle.bt_run.specs.declared.answers.Report.{Report}
-use Rattle.bibtex.specs.declared.edit.Edit.{Edit}
-use Rattle.bibtex.specs.declared.edit.Edit.TheVariants.{Write, Splice, Remove, Root, MinCrossrefs}
 use Rattle.bibtex.specs.declared.edit.Refusal.{Refusal}
 use Rattle.bibtex.specs.declared.edit.Refusal.TheVariants.{OutOfMemory}
 use Rattle.bibtex.specs.declared.state.State.{State}
 use Rattle.bibtex.specs.Present.{reported}
-use Rattle.bibtex.specs.Change.{Change, write, splice, remove, root_name, min_crossrefs}
-use Rattle.bibtex.specs.Applied.{outcome, applied, IsAnswer, state_or, unless_out_of_memory}
+use Rattle.bibtex.specs.Edit.{Edit, with_bytes}
+use Rattle.bibtex.specs.Applied.{applied, IsAnswer, state_or, unless_out_of_memory}
 use Rattle.bibtex.specs.Headline.{after_answer, AnswersInTurn, ReportsInTurn, after_answers}
 use Rattle.bt_serve.specs.Commands.{Request, Command, edit, bbl, blg, status, quit, unreadable, too_long, request_of, after, after_of, state_after}
-use Rattle.bt_serve.specs.Edits.{edit_with, edit_in, edits_of, brought, AreSame, Leads, LeadsBy}
-
--- What becomes of a state by an edit is by its change and its bytes alone.
-applied_brought : (e : Edit) (s : State) → applied e s ≡ outcome (brought e).0 (brought e).1 s
-applied_brought (Write name text) s = refl
-applied_brought (Splice name start end bytes) s = refl
-applied_brought (Remove name) s = refl
-applied_brought (Root name) s = refl
-applied_brought (MinCrossrefs n) s = refl
-
-applied_with : (change : Change) (bytes : List ℕ) (s : State) → applied (edit_with change bytes) s ≡ outcome change bytes s
-applied_with (write name) bytes s = refl
-applied_with (splice name start end) bytes s = refl
-applied_with (remove name) bytes s = refl
-applied_with (root_name name) bytes s = refl
-applied_with (min_crossrefs n) bytes s = refl
-
-pub applied_same : (e : Edit) (change : Change) (bytes : List ℕ) (s : State) → brought e ≡ brought (edit_with change bytes) → applied e s ≡ outcome change bytes s
-applied_same e change bytes s is =
-    applied_brought e s ∙ ap (λ (b : Change × List ℕ). outcome b.0 b.1 s) is ∙ sym (applied_brought (edit_with change bytes) s) ∙ applied_with change bytes s
+use Rattle.bt_serve.specs.Edits.{edit_in, edits_of, Leads}
 
 -- An edit with this outcome is answered so, and then the others lead to a state.
 abbrev pub AnswersOne : List Edit → List (Result Report Refusal) → Result Report Refusal → State → State → Result State Refusal → Type 0
@@ -54,25 +33,19 @@ one_more e es (Ok u) true s t is later = one_answered e es later.0 (Err OutOfMem
 one_more e es (Err refusal) false s t is later = one_answered e es later.0 (Err refusal) s t (Err refusal) is ((refl, later.1), (tt, later.2), later.3)
 one_more e es (Err refusal) true s t is later = one_answered e es later.0 (Err refusal) s t (Err refusal) is ((refl, later.1), (tt, later.2), later.3)
 
-leads_one : (request : Request) (bytes : List ℕ) (m : Bool) (s t : State) (rest es : List Edit) → AreSame es (edit_in request bytes ++ rest) →
-    ((fs : List Edit) → AreSame fs rest → Leads fs (after_of m s request bytes) t) → Leads es s t
-leads_one (edit change n) bytes m s t rest [] is go = absurd cc
-leads_one (edit change n) bytes m s t rest (e ∷ es) is go =
-    let same : brought e ≡ brought (edit_with change bytes) = cc in
-    let others : map brought es ≡ map brought rest = cc in
-    one_more e es (outcome change bytes s) m s t (applied_same e change bytes s same) (go es others)
-leads_one bbl bytes m s t rest es is go = go es is
-leads_one blg bytes m s t rest es is go = go es is
-leads_one status bytes m s t rest es is go = go es is
-leads_one quit bytes m s t rest es is go = go es is
-leads_one unreadable bytes m s t rest es is go = go es is
-leads_one too_long bytes m s t rest es is go = go es is
+leads_one : (request : Request) (bytes : List ℕ) (m : Bool) (s t : State) (es : List Edit) → Leads es (after_of m s request bytes) t → Leads (edit_in request bytes ++ es) s t
+leads_one (edit e n) bytes m s t es later = one_more (with_bytes bytes e) es (applied (with_bytes bytes e) s) m s t refl later
+leads_one bbl bytes m s t es later = later
+leads_one blg bytes m s t es later = later
+leads_one status bytes m s t es later = later
+leads_one quit bytes m s t es later = later
+leads_one unreadable bytes m s t es later = later
+leads_one too_long bytes m s t es later = later
 
 -- The state after commands is one that their edits lead to.
-pub leads_by : (cs : List Command) (ms : List Bool) (s : State) → length ms ≡ length cs → LeadsBy cs s (state_after ms cs s)
-leads_by [] [] s len [] is = ([], tt, tt, refl)
-leads_by [] [] s len (e ∷ es) is = absurd cc
-leads_by [] (m ∷ ms) s len es is = absurd (omega arith)
-leads_by (c ∷ cs) [] s len es is = absurd (omega arith)
-leads_by (c ∷ cs) (m ∷ ms) s len es is =
-    leads_one (request_of c.line) c.bytes m s (state_after ms cs (after m s c)) (edits_of cs) es is (leads_by cs ms (after m s c) (omega arith))
+pub leads_by : (cs : List Command) (ms : List Bool) (s : State) → length ms ≡ length cs → Leads (edits_of cs) s (state_after ms cs s)
+leads_by [] [] s len = ([], tt, tt, refl)
+leads_by [] (m ∷ ms) s len = absurd (omega arith)
+leads_by (c ∷ cs) [] s len = absurd (omega arith)
+leads_by (c ∷ cs) (m ∷ ms) s len =
+    leads_one (request_of c.line) c.bytes m s (state_after ms cs (after m s c)) (edits_of cs) (leads_by cs ms (after m s c) (omega arith))

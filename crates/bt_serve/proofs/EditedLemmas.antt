@@ -7,14 +7,14 @@ use Rattle.bt_serve.specs.declared.fault.ServeFault.TheVariants.{ReadFailed, Wri
 use Rattle.bt_serve.specs.Commands.{Command, command_text, state_after}
 use Rattle.bt_serve.specs.Serves.{Ends}
 use Rattle.bt_serve.specs.Whole.{commands_of, commands_within, up_to_quit, AnswersPart}
-use Rattle.bt_serve.specs.Edits.{LeadsBy, IsEdited}
+use Rattle.bt_serve.specs.Edits.{edits_of, Leads, IsEdited}
 use Rattle.bt_serve.proofs.TurnLemmas.{state_more}
 use Rattle.bt_serve.proofs.ServedLemmas.{up_to_front, front_cut, ends_answers_all, ends_answers_before, ends_answers_part}
 use Rattle.bt_serve.proofs.EditLemmas.{leads_by}
 
 -- the state after commands is one that their edits lead to
-to_state : (cs : List Command) (ms : List Bool) (s t : State) → length ms ≡ length cs → t ≡ state_after ms cs s → LeadsBy cs s t
-to_state cs ms s t len is = subst (LeadsBy cs s) (sym is) (leads_by cs ms s len)
+to_state : (cs : List Command) (ms : List Bool) (s t : State) → length ms ≡ length cs → t ≡ state_after ms cs s → Leads (edits_of cs) s t
+to_state cs ms s t len is = subst (Leads (edits_of cs) s) (sym is) (leads_by cs ms s len)
 
 -- the commands before one, and that one
 part_edited : (input said said' : List ℕ) (s t : State) → AnswersPart input said said' s t → IsEdited {A = Bool} (Err WriteFailed) input s t

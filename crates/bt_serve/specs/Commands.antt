@@ -6,13 +6,13 @@ use Rattle.bibtex.specs.declared.edit.Refusal.{Refusal}
 use Rattle.bibtex.specs.declared.edit.Refusal.TheVariants.{OutOfMemory}
 use Rattle.bibtex.specs.declared.state.State.{State}
 use Rattle.bibtex.specs.Present.{shown, reported}
-use Rattle.bibtex.specs.Change.{Change, write, splice, remove, root_name, min_crossrefs}
-use Rattle.bibtex.specs.Applied.{outcome, code_of, state_or, unless_out_of_memory}
+use Rattle.bibtex.specs.Edit.{Edit, write, splice, remove, root_name, min_crossrefs, with_bytes}
+use Rattle.bibtex.specs.Applied.{applied, code_of, state_or, unless_out_of_memory}
 
 -- what a line asks for
 pub data Request : Type 0 where
-  -- a change, which brings this number of bytes
-  edit : Change → ℕ → Request
+  -- an edit, which brings this number of bytes
+  edit : Edit → ℕ → Request
   bbl blg status quit unreadable too_long : Request
 
 -- a command as it stands in an input: its line, and the bytes that follow the line
@@ -40,7 +40,7 @@ number_of w =
 abbrev pub write_of : List ℕ → Option ℕ → Request
 write_of [] n = unreadable
 write_of (b ∷ name) None = unreadable
-write_of (b ∷ name) (Some n) = edit (write (b ∷ name)) n
+write_of (b ∷ name) (Some n) = edit (write (b ∷ name) []) n
 
 -- what `splice` asks for, by its name and its numbers
 abbrev pub splice_of : List ℕ → Option ℕ → Option ℕ → Option ℕ → Request
@@ -48,7 +48,7 @@ splice_of [] s e n = unreadable
 splice_of (b ∷ name) None e n = unreadable
 splice_of (b ∷ name) (Some s) None n = unreadable
 splice_of (b ∷ name) (Some s) (Some e) None = unreadable
-splice_of (b ∷ name) (Some s) (Some e) (Some n) = edit (splice (b ∷ name) s e) n
+splice_of (b ∷ name) (Some s) (Some e) (Some n) = edit (splice (b ∷ name) s e []) n
 
 -- what `remove` asks for, by its name
 abbrev pub remove_of : List ℕ → Request
@@ -97,7 +97,7 @@ request_of line = if nat_lt 256 (length line) then too_long else request_of_word
 
 -- how many bytes follow a line
 abbrev pub bytes_brought : Request → ℕ
-bytes_brought (edit change n) = n
+bytes_brought (edit e n) = n
 bytes_brought _ = 0
 
 -- What is answered
@@ -127,8 +127,8 @@ text_answer word text = word ++ (decimal (length text) ++ (codes "\n" ++ text))
 
 -- the answer to a request with these bytes
 abbrev pub answer_of : Bool → State → Request → List ℕ → List ℕ
-answer_of ran_out state (edit change n) bytes =
-    edit_answer state (unless_out_of_memory ran_out (outcome change bytes state))
+answer_of ran_out state (edit e n) bytes =
+    edit_answer state (unless_out_of_memory ran_out (applied (with_bytes bytes e) state))
 answer_of ran_out state bbl bytes = text_answer (codes "bbl ") (shown state).bbl
 answer_of ran_out state blg bytes = text_answer (codes "blg ") (shown state).blg
 answer_of ran_out state status bytes = number_line (codes "status ") (shown state).status
@@ -138,8 +138,8 @@ answer_of ran_out state too_long bytes = codes "fault 2\n"
 
 -- the state after it
 abbrev pub after_of : Bool → State → Request → List ℕ → State
-after_of ran_out state (edit change n) bytes =
-    state_or state (unless_out_of_memory ran_out (outcome change bytes state))
+after_of ran_out state (edit e n) bytes =
+    state_or state (unless_out_of_memory ran_out (applied (with_bytes bytes e) state))
 after_of ran_out state _ bytes = state
 
 -- the answer to a command

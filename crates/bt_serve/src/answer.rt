@@ -1,7 +1,7 @@
 //! One request of the loop: reads its bytes, carries it out and writes its answer.
 
-ghost use Rattle.std.specs.Prelude.{◌≡◌, ◌+◌, ◌-◌, ◌^◌, ◌<◌, ◌≤◌, [], length, codes, IfOk, OnOk, Err, false};
-ghost use Rattle.bibtex.specs.Change.{change_of};
+ghost use Rattle.std.specs.Prelude.{◌≡◌, ◌+◌, ◌-◌, ◌^◌, ◌<◌, ◌≤◌, [], length, codes, IfOk, IfSome, OnOk, Err, false};
+ghost use Rattle.bibtex.specs.Edit.{edit_of};
 ghost use Rattle.bt_serve.specs.inner.Asked.{request_seen};
 ghost use Rattle.bt_serve.specs.Commands.{edit, number_line, text_answer, answer_of, ends, accepted, refused};
 ghost use Rattle.bt_serve.specs.inner.Commands.{IsShown};
@@ -12,29 +12,29 @@ ghost use Rattle.bt_serve.specs.Faults.{HandsOn};
 use crate::command::Request;
 use crate::fault::ServeFault;
 use crate::input::{drop_bytes, read_bytes};
-use bibtex::{Change, FILE_BYTES, Refusal, Report, Session, code_of};
+use bibtex::{Edit, FILE_BYTES, Refusal, Report, Session, code_of};
 use bt_streams::{Sink, Source, StreamFailed, say};
 use itoa::Buffer;
-use std::alloc::{AllocError, Global};
+use std::alloc::Global;
 
 /// Reads the bytes that an edit brings, and makes the edit.
 fn take_edit<S: Source>(
     alloc: Global,
     source: &mut S,
     session: &mut Session,
-    change: Change<'_>,
+    edit: Edit<'_>,
     count: usize,
 ) -> Result<Result<Report, Refusal>, ServeFault>
     requires { (S.seen source.old).failures < 2 ^ 64 - 1 }
-    ensures takes { Takes (change_of change.entry) count (S.seen source.old).rest (S.seen source.new).rest
+    ensures takes { Takes (edit_of edit.entry) count (S.seen source.old).rest (S.seen source.new).rest
         session.old session.new result }
     ensures lowers { (S.seen source.new).reads_left ≤ (S.seen source.old).reads_left }
     ensures ok { OnOk result ((S.seen source.new).failures ≡ (S.seen source.old).failures) }
     ensures read_failed { result ≡ Err ServeFault.ReadFailed →
         (S.seen source.new).failures ≡ (S.seen source.old).failures + 1 }
 {
-    let Ok(mut bytes) = room(alloc, count) else {
-        let refusal = session.refusal(change, count);
+    let Some(mut bytes) = room(alloc, count) else {
+        let refusal = session.refusal(edit, count);
         return match drop_bytes(source, count) {
             Err(_) => Err(ServeFault::ReadFailed),
             Ok(false) => Err(ServeFault::Truncated),
@@ -44,18 +44,18 @@ fn take_edit<S: Source>(
     match read_bytes(source, &mut bytes) {
         Err(_) => Err(ServeFault::ReadFailed),
         Ok(false) => Err(ServeFault::Truncated),
-        Ok(true) => Ok(session.edit(change.with(&bytes))),
+        Ok(true) => Ok(session.edit(edit.with(&bytes))),
     }
 }
 
-/// Room for `count` bytes of an edit, if an edit may bring that many.
-fn room(alloc: Global, count: usize) -> Result<Vec<u8>, AllocError>
-    ensures { IfOk result (λ bytes. length bytes.items ≡ count) }
+/// Room for `count` bytes; none where memory lacks, or where no edit may bring that many.
+fn room(alloc: Global, count: usize) -> Option<Vec<u8>>
+    ensures { IfSome result (λ bytes. length bytes.items ≡ count) }
 {
     if count > FILE_BYTES {
-        return Err(AllocError);
+        return None;
     }
-    vec![in alloc; 0; count]
+    vec![in alloc; 0; count].ok()
 }
 
 /// Answers an edit, whose bytes are next in the source. It isn't the last command.
@@ -64,19 +64,19 @@ fn answer_edit<S: Source, K: Sink>(
     source: &mut S,
     sink: &mut K,
     session: &mut Session,
-    change: Change<'_>,
+    edit: Edit<'_>,
     count: usize,
 ) -> Result<bool, ServeFault>
     requires reads { (S.seen source.old).failures < 2 ^ 64 - 1 }
     requires writes { (K.seen sink.old).failures < 2 ^ 64 - 1 }
-    ensures replies { Replies (edit (change_of change.entry) count) (S.seen source.old).rest (S.seen source.new).rest
+    ensures replies { Replies (edit (edit_of edit.entry) count) (S.seen source.old).rest (S.seen source.new).rest
         (K.seen sink.old).contents (K.seen sink.new).contents session.old session.new result }
     ensures lowers { (S.seen source.new).reads_left ≤ (S.seen source.old).reads_left }
     ensures failures { CountsFailures (S.seen source.old).failures (S.seen source.new).failures
         (K.seen sink.old).failures (K.seen sink.new).failures result }
     ensures flushed { HandsOn (K.seen sink.old).is_flushed (K.seen sink.new).is_flushed result }
 {
-    let taken = take_edit(alloc, source, session, change, count)?;
+    let taken = take_edit(alloc, source, session, edit, count)?;
     match say_taken(sink, taken) {
         Ok(()) => Ok(false),
         Err(_) => Err(ServeFault::WriteFailed),
@@ -101,7 +101,7 @@ pub fn answer_request<S: Source, K: Sink>(
     ensures flushed { HandsOn (K.seen sink.old).is_flushed (K.seen sink.new).is_flushed result }
 {
     match request {
-        Request::Edit(change, count) => answer_edit(alloc, source, sink, session, change, count),
+        Request::Edit(edit, count) => answer_edit(alloc, source, sink, session, edit, count),
         _ => match say_shown(sink, session, request) {
             Ok(last) => Ok(last),
             Err(_) => Err(ServeFault::WriteFailed),

@@ -5,13 +5,13 @@ ghost use Rattle.bt_serve.specs.Commands.{words_in_line, number_of, request_of_w
 ghost use Rattle.bt_serve.specs.inner.Commands.{FirstWord};
 ghost use Rattle.bt_serve.specs.inner.Asked.{request_seen};
 
-use bibtex::Change;
+use bibtex::Edit;
 
 /// What a line asks for.
 #[derive(Clone, Copy)]
 pub enum Request<'a> {
-    /// A change of the session's state, and how many bytes follow the line.
-    Edit(Change<'a>, usize),
+    /// An edit, and how many bytes follow the line, which it brings. It has none in hand yet.
+    Edit(Edit<'a>, usize),
     /// The bibliography.
     Bbl,
     /// The log.
@@ -99,7 +99,7 @@ fn remove_request(name: &[u8]) -> Request<'_>
     if name.is_empty() {
         Request::Unreadable
     } else {
-        Request::Edit(Change::Remove(name), 0)
+        Request::Edit(Edit::Remove(name), 0)
     }
 }
 
@@ -110,7 +110,7 @@ fn root_request(name: &[u8]) -> Request<'_>
     if name.is_empty() {
         Request::Unreadable
     } else {
-        Request::Edit(Change::Root(name), 0)
+        Request::Edit(Edit::Root(name), 0)
     }
 }
 
@@ -119,7 +119,7 @@ fn min_request<'a>(min: Option<usize>) -> Request<'a>
     ensures { request_seen result ≡ min_of min }
 {
     match min {
-        Some(min) if min <= 4_294_967_295 => Request::Edit(Change::MinCrossrefs(min as u32), 0),
+        Some(min) if min <= 4_294_967_295 => Request::Edit(Edit::MinCrossrefs(min as u32), 0),
         _ => Request::Unreadable,
     }
 }
@@ -129,7 +129,7 @@ fn write_request(name: &[u8], count: Option<usize>) -> Request<'_>
     ensures { request_seen result ≡ write_of name.now count }
 {
     match count {
-        Some(count) if !name.is_empty() => Request::Edit(Change::Write(name), count),
+        Some(count) if !name.is_empty() => Request::Edit(Edit::Write(name, b""), count),
         _ => Request::Unreadable,
     }
 }
@@ -148,7 +148,7 @@ fn splice_request(
     }
     match (start, end, count) {
         (Some(start), Some(end), Some(count)) => {
-            Request::Edit(Change::Splice(name, start, end), count)
+            Request::Edit(Edit::Splice(name, start, end, b""), count)
         }
         _ => Request::Unreadable,
     }

@@ -6,29 +6,6 @@ use crate::texts::{FRAGMENTS, NAMES, text_of};
 use bibtex::{Edit, Session};
 use std::alloc::{AllocError, Global};
 
-/// An edit without the bytes that it brings.
-#[derive(Clone, Copy)]
-pub enum Change {
-    Write(&'static str),
-    Splice(&'static str, usize, usize),
-    Remove(&'static str),
-    Root(&'static str),
-    MinCrossrefs(u32),
-}
-
-impl Change {
-    /// The edit that brings these bytes.
-    pub fn with(self, bytes: &[u8]) -> Edit<'_> {
-        match self {
-            Change::Write(name) => Edit::Write(name.as_bytes(), bytes),
-            Change::Splice(name, start, end) => Edit::Splice(name.as_bytes(), start, end, bytes),
-            Change::Remove(name) => Edit::Remove(name.as_bytes()),
-            Change::Root(name) => Edit::Root(name.as_bytes()),
-            Change::MinCrossrefs(min) => Edit::MinCrossrefs(min),
-        }
-    }
-}
-
 /// The files that are spliced, the databases more often.
 const SPLICED: [&str; 6] = ["x.bib", "y.bib", "x.bib", "y.bib", "job.aux", "s.bst"];
 
@@ -37,9 +14,9 @@ fn written(
     alloc: Global,
     name: &'static str,
     which: usize,
-) -> Result<(Change, Vec<u8>), AllocError> {
+) -> Result<(Edit<'static>, Vec<u8>), AllocError> {
     Ok((
-        Change::Write(name),
+        Edit::Write(name.as_bytes(), b""),
         Vec::from_slice(alloc, text_of(name, which).as_bytes())?,
     ))
 }
@@ -50,23 +27,23 @@ fn spliced(
     dice: &mut Dice,
     name: &'static str,
     size: usize,
-) -> Result<(Change, Vec<u8>), AllocError> {
+) -> Result<(Edit<'static>, Vec<u8>), AllocError> {
     let start = dice.below(size.saturating_add(1));
     let end = start.saturating_add(dice.below(4)).min(size);
     let fragment = dice.one_of(FRAGMENTS.as_slice(), "");
     Ok((
-        Change::Splice(name, start, end),
+        Edit::Splice(name.as_bytes(), start, end, b""),
         Vec::from_slice(alloc, fragment.as_bytes())?,
     ))
 }
 
-/// The next edit of a session, with the bytes that it brings.
-pub fn next_change(
+/// The next edit of a session, and beside it the bytes that it brings.
+pub fn next_edit(
     alloc: Global,
     dice: &mut Dice,
     session: &Session,
     number: u32,
-) -> Result<(Change, Vec<u8>), AllocError> {
+) -> Result<(Edit<'static>, Vec<u8>), AllocError> {
     if let Some(name) = NAMES.get(number as usize) {
         return written(alloc, name, 0);
     }
@@ -74,18 +51,21 @@ pub fn next_change(
     let which = dice.below(3);
     match dice.below(20) {
         0 | 1 => written(alloc, name, which),
-        2 => Ok((Change::Remove(name), Vec::new(alloc))),
+        2 => Ok((Edit::Remove(name.as_bytes()), Vec::new(alloc))),
         3 => {
             let root = dice.one_of(["job", "two", "job"].as_slice(), "job");
-            Ok((Change::Root(root), Vec::new(alloc)))
+            Ok((Edit::Root(root.as_bytes()), Vec::new(alloc)))
         }
         4 => {
             let min = u32::try_from(which).unwrap_or(2);
-            Ok((Change::MinCrossrefs(min), Vec::new(alloc)))
+            Ok((Edit::MinCrossrefs(min), Vec::new(alloc)))
         }
         5 | 6 => {
             let text = session.file(name.as_bytes()).unwrap_or(b"");
-            Ok((Change::Write(name), Vec::from_slice(alloc, text)?))
+            Ok((
+                Edit::Write(name.as_bytes(), b""),
+                Vec::from_slice(alloc, text)?,
+            ))
         }
         7..=9 => written(alloc, "s.bst", 0),
         10 | 11 => written(alloc, "x.bib", 0),

@@ -1,7 +1,7 @@
 //! Random edits of a session, which is compared after each with a new session that is given the present texts.
 
 use crate::dice::Dice;
-use crate::edits::{Change, next_change};
+use crate::edits::next_edit;
 use crate::texts::NAMES;
 use bibtex::{Edit, Refusal, Report, Session};
 use std::alloc::Global;
@@ -12,13 +12,13 @@ const EDITS: u32 = 150;
 /// The root name and min-crossrefs of a session.
 #[derive(Clone, Copy)]
 struct Setting {
-    root: &'static str,
+    root: &'static [u8],
     min: u32,
 }
 
 /// A new session. What is proved of it isn't used here, and would be dear to carry.
 fn begin(alloc: Global, setting: Setting) -> Result<Session, Refusal> {
-    Session::new(alloc, setting.root.as_bytes(), setting.min)
+    Session::new(alloc, setting.root, setting.min)
 }
 
 /// Makes an edit, of which the same holds.
@@ -90,7 +90,7 @@ impl Trial {
     /// A new session, and the edits that a seed gives.
     fn new(alloc: Global, seed: u64) -> Result<Trial, Refusal> {
         let setting = Setting {
-            root: "job",
+            root: b"job",
             min: 2,
         };
         Ok(Trial {
@@ -106,14 +106,14 @@ impl Trial {
 
     /// Makes the next edit, and gives its report, if it isn't refused.
     fn edit(&mut self, alloc: Global, number: u32) -> Result<Option<Report>, Refusal> {
-        let (change, bytes) = next_change(alloc, &mut self.dice, &self.session, number)?;
-        let Ok(report) = make(&mut self.session, change.with(bytes.as_slice())) else {
+        let (edit, bytes) = next_edit(alloc, &mut self.dice, &self.session, number)?;
+        let Ok(report) = make(&mut self.session, edit.with(bytes.as_slice())) else {
             return Ok(None);
         };
-        match change {
-            Change::Root(root) => self.setting.root = root,
-            Change::MinCrossrefs(min) => self.setting.min = min,
-            Change::Write(_) | Change::Splice(_, _, _) | Change::Remove(_) => {}
+        match edit {
+            Edit::Root(root) => self.setting.root = root,
+            Edit::MinCrossrefs(min) => self.setting.min = min,
+            Edit::Write(_, _) | Edit::Splice(_, _, _, _) | Edit::Remove(_) => {}
         }
         self.tally.accepted = self.tally.accepted.saturating_add(1);
         self.tally.reused = self.tally.reused.saturating_add(report.reused);

@@ -2,7 +2,7 @@
 //! before an edit. One session goes through all of them.
 
 use crate::answers::{push_answer, push_bibliography};
-use bibtex::{Bytes, Change, Edit, Message, Place, Refusal, Said, Session, edit_all};
+use bibtex::{Bytes, Edit, Message, Place, Refusal, Said, Session, edit_all};
 use std::alloc::{AllocError, Global};
 
 const AUX: &[u8] = b"\\citation{b,a}\n\\bibdata{x}\n\\bibstyle{s}\n";
@@ -23,14 +23,14 @@ const LIST: &[Edit<'static>] = &[
     Edit::MinCrossrefs(1),
 ];
 
-/// A change, and how many bytes its text would have.
-const CHANGES: &[(Change<'static>, usize)] = &[
-    (Change::Write(b"a b"), 1_048_577),
-    (Change::Write(b"y.bib"), 1_048_577),
-    (Change::Write(b"y.bib"), 1_048_576),
-    (Change::Remove(b"y.bib"), 0),
-    (Change::Splice(b"s.bst", 2, 1), 0),
-    (Change::Root(b""), 0),
+/// Edits, and how many bytes each would bring.
+const ASKED: &[(Edit<'static>, usize)] = &[
+    (Edit::Write(b"a b", b""), 1_048_577),
+    (Edit::Write(b"y.bib", b""), 1_048_577),
+    (Edit::Write(b"y.bib", b""), 1_048_576),
+    (Edit::Remove(b"y.bib"), 0),
+    (Edit::Splice(b"s.bst", 2, 1, b""), 0),
+    (Edit::Root(b""), 0),
 ];
 
 /// Makes an edit, what is proved of which isn't used here.
@@ -72,10 +72,10 @@ fn last_message(alloc: Global, out: &mut Bytes, session: &Session) -> Result<(),
     }
 }
 
-/// The first reason against each of some changes.
+/// The first reason against each of some edits.
 fn reasons(alloc: Global, out: &mut Bytes, session: &Session) -> Result<(), AllocError> {
-    for (change, size) in CHANGES {
-        let reason = session.refusal(*change, *size);
+    for (edit, size) in ASKED {
+        let reason = session.refusal(*edit, *size);
         out.append(format!(in alloc; "refusal: {reason:?}\n")?.as_bytes())?;
     }
     Ok(())

@@ -6,14 +6,12 @@ use Rattle.bt_job.specs.FileNames.{is_file_name, text_of}
 use Rattle.bt_run.specs.declared.answers.Report.{Report}
 use Rattle.bt_run.specs.Meaning.{meaning, trace}
 use Rattle.bt_run.specs.Kept.{style_text}
-use Rattle.bibtex.specs.declared.edit.Edit.{Edit}
-use Rattle.bibtex.specs.declared.edit.Edit.TheVariants.{Write, Splice, Remove, Root, MinCrossrefs}
 use Rattle.bibtex.specs.declared.edit.Refusal.{Refusal}
 use Rattle.bibtex.specs.declared.edit.Refusal.TheVariants.{BadName, NoSuchFile, FileTooLarge, TooManyFiles}
 use Rattle.bibtex.specs.declared.state.State.{State}
-use Rattle.bibtex.specs.Change.{Change, write, splice, remove, root_name, min_crossrefs}
+use Rattle.bibtex.specs.Edit.{Edit, bytes_of, write, splice, remove, root_name, min_crossrefs}
 use Rattle.bibtex.specs.Present.{EachOnce, place_of_file, with_text, replaced, shown, reported}
-use Rattle.bibtex.specs.Applied.{file_size_limit, file_count_limit, found_refusal, refusal_of, changed, unless_refused, outcome, applied, IsAnswer}
+use Rattle.bibtex.specs.Applied.{file_size_limit, file_count_limit, found_refusal, refusal_of, changed, unless_refused, applied, IsAnswer}
 use Rattle.bibtex.specs.Headline.{after_answer, AnswersInTurn, ReportsInTurn, after_answers}
 use Rattle.bibtex.specs.laws.Order.{AreAlike, ComeToTheSame}
 use Rattle.bt_run.proofs.laws.ByNameLemmas.{meaning_same, trace_same, style_text_same}
@@ -47,12 +45,12 @@ write_alike name size none count =
     else if none && nat_le file_count_limit count then Some TooManyFiles
     else None
 
-refusal_alike : (change : Change) (size : ℕ) (s t : State) → EachOnce s.texts → EachOnce t.texts → AreAlike s t → refusal_of change size s ≡ refusal_of change size t
+refusal_alike : (e : Edit) (size : ℕ) (s t : State) → EachOnce s.texts → EachOnce t.texts → AreAlike s t → refusal_of e size s ≡ refusal_of e size t
 unfolding write_alike
-refusal_alike (write name) size s t once also alike =
+refusal_alike (write name bytes) size s t once also alike =
     ap (λ none. write_alike name size none (length s.texts)) (place_there name s.texts ∙ ap is_none (alike.texts name) ∙ sym (place_there name t.texts))
     ∙ ap (write_alike name size (is_none (place_of_file name t.texts))) (as_many s.texts t.texts once also alike.texts)
-refusal_alike (splice name start end) size s t once also alike =
+refusal_alike (splice name start end bytes) size s t once also alike =
     ap (λ o. if not (is_file_name name) then Some BadName else found_refusal o start end size) (alike.texts name)
 refusal_alike (remove name) size s t once also alike =
     ap (λ o. if not (is_file_name name) then Some BadName else if is_none o then Some NoSuchFile else None) (alike.texts name)
@@ -65,10 +63,10 @@ with_alike : (name text : List ℕ) (files others : List File) → ((n : List �
 with_alike name text files others same n =
     text_of_with name text files n ∙ ap (λ o. if bytes_eq name n then Some text else o) (same n) ∙ sym (text_of_with name text others n)
 
-changed_alike : (change : Change) (bytes : List ℕ) (s t : State) → AreAlike s t → AreAlike (changed change bytes s) (changed change bytes t)
-changed_alike (write name) bytes s t alike =
+changed_alike : (e : Edit) (s t : State) → AreAlike s t → AreAlike (changed e s) (changed e t)
+changed_alike (write name bytes) s t alike =
     record { texts = with_alike name bytes s.texts t.texts alike.texts; root = alike.root; min = alike.min }
-changed_alike (splice name start end) bytes s t alike =
+changed_alike (splice name start end bytes) s t alike =
     record {
       texts = λ n.
           ap (λ o. text_of (with_text name (replaced start end bytes (unwrap_or o [])) s.texts) n) (alike.texts name)
@@ -76,14 +74,14 @@ changed_alike (splice name start end) bytes s t alike =
       root = alike.root;
       min = alike.min;
     }
-changed_alike (remove name) bytes s t alike =
+changed_alike (remove name) s t alike =
     record {
       texts = λ n. text_of_without name s.texts n ∙ ap (λ o. if bytes_eq name n then None else o) (alike.texts n) ∙ sym (text_of_without name t.texts n);
       root = alike.root;
       min = alike.min;
     }
-changed_alike (root_name name) bytes s t alike = record { texts = alike.texts; root = refl; min = alike.min }
-changed_alike (min_crossrefs n) bytes s t alike = record { texts = alike.texts; root = alike.root; min = refl }
+changed_alike (root_name name) s t alike = record { texts = alike.texts; root = refl; min = alike.min }
+changed_alike (min_crossrefs n) s t alike = record { texts = alike.texts; root = alike.root; min = refl }
 
 -- Edits
 
@@ -91,17 +89,10 @@ unless_alike : (o : Option Refusal) (s t : State) → AreAlike s t → ComeToThe
 unless_alike None s t alike = alike
 unless_alike (Some refusal) s t alike = refl
 
-outcome_alike : (change : Change) (bytes : List ℕ) (s t : State) → EachOnce s.texts → EachOnce t.texts → AreAlike s t → ComeToTheSame (outcome change bytes s) (outcome change bytes t)
-outcome_alike change bytes s t once also alike =
-    subst (λ o. ComeToTheSame (outcome change bytes s) (unless_refused o (changed change bytes t))) (refusal_alike change (length bytes) s t once also alike)
-    (unless_alike (refusal_of change (length bytes) s) (changed change bytes s) (changed change bytes t) (changed_alike change bytes s t alike))
-
 pub applied_alike : (e : Edit) (s t : State) → EachOnce s.texts → EachOnce t.texts → AreAlike s t → ComeToTheSame (applied e s) (applied e t)
-applied_alike (Write name text) s t once also alike = outcome_alike (write name.now) text.now s t once also alike
-applied_alike (Splice name start end bytes) s t once also alike = outcome_alike (splice name.now start end) bytes.now s t once also alike
-applied_alike (Remove name) s t once also alike = outcome_alike (remove name.now) [] s t once also alike
-applied_alike (Root name) s t once also alike = outcome_alike (root_name name.now) [] s t once also alike
-applied_alike (MinCrossrefs n) s t once also alike = outcome_alike (min_crossrefs n) [] s t once also alike
+applied_alike e s t once also alike =
+    subst (λ o. ComeToTheSame (applied e s) (unless_refused o (changed e t))) (refusal_alike e (length (bytes_of e)) s t once also alike)
+    (unless_alike (refusal_of e (length (bytes_of e)) s) (changed e s) (changed e t) (changed_alike e s t alike))
 
 -- Lists of edits
 

@@ -1,7 +1,7 @@
 -- What the laws of the crate say. `proofs/laws/Laws.antt` proves them.
 use Rattle.std.specs.Prelude.{◌≡◌, Ok, List, Result}
 use Rattle.bt_run.specs.declared.answers.Report.{Report}
-use Rattle.bibtex.specs.declared.edit.Edit.{Edit}
+use Rattle.bibtex.specs.Edit.{Edit}
 use Rattle.bibtex.specs.declared.state.State.{State}
 use Rattle.bibtex.specs.Present.{EachOnce, shown, reported}
 use Rattle.bibtex.specs.Applied.{applied}

@@ -1,14 +1,14 @@
 -- A list of edits that leads to a state is one that commands ask for.
-use Rattle.std.proofs.Common.{◌≡◌, refl, sym, subst, arith, ℕ, Bool, true, false, List, [], ◌∷◌, ◌++◌, map, length, Result, Ok, Err}
+use Rattle.std.proofs.Common.{◌≡◌, refl, sym, subst, arith, ℕ, Bool, true, false, List, [], ◌∷◌, ◌++◌, length, Result, Ok, Err}
 use Rattle.bt_run.specs.declared.answers.Report.{Report}
-use Rattle.bibtex.specs.declared.edit.Edit.{Edit}
+use Rattle.bibtex.specs.Edit.{Edit, with_bytes}
 use Rattle.bibtex.specs.declared.edit.Refusal.{Refusal}
 use Rattle.bibtex.specs.declared.edit.Refusal.TheVariants.{OutOfMemory}
 use Rattle.bibtex.specs.declared.state.State.{State}
-use Rattle.bibtex.specs.Applied.{outcome, applied, state_or, unless_out_of_memory}
+use Rattle.bibtex.specs.Applied.{applied, state_or, unless_out_of_memory}
 use Rattle.bt_serve.specs.Commands.{Request, Command, edit, bbl, blg, status, quit, unreadable, too_long, request_of, refused, edit_answer, after, after_of, state_after, MayRunOut, MayRunOutInTurn}
-use Rattle.bt_serve.specs.Edits.{edit_with, edit_in, edits_of, brought, AreSame, Leads}
-use Rattle.bt_serve.proofs.EditLemmas.{AnswersOne, applied_same}
+use Rattle.bt_serve.specs.Edits.{edit_in, edits_of, Leads}
+use Rattle.bt_serve.proofs.EditLemmas.{AnswersOne}
 
 -- From edits to commands
 
@@ -30,38 +30,31 @@ one_made e es made s t is ([], turns, reports, end) = absurd turns
 one_made e es made s t is (a ∷ answers, turns, reports, end) = one_less es answers a made s t (subst (AnswersOne es answers a s t) is (turns, reports, end))
 
 -- The same of any request.
-record OneDone (request : Request) (bytes : List ℕ) (rest : List Edit) (s t : State) : Type 0 where
+record OneDone (request : Request) (bytes : List ℕ) (es : List Edit) (s t : State) : Type 0 where
   ran_out : Bool
   only : MayRunOut ran_out s request bytes
-  others : List Edit
-  same : AreSame others rest
-  later : Leads others (after_of ran_out s request bytes) t
+  later : Leads es (after_of ran_out s request bytes) t
 
-done_none : (request : Request) (bytes : List ℕ) (rest es : List Edit) (s t : State) → after_of false s request bytes ≡ s → AreSame es rest → Leads es s t → OneDone request bytes rest s t
-done_none request bytes rest es s t stays is leads =
-    record { ran_out = false; only = λ same. absurd cc; others = es; same = is; later = subst (λ (u : State). Leads es u t) (sym stays) leads }
+done_none : (request : Request) (bytes : List ℕ) (es : List Edit) (s t : State) → after_of false s request bytes ≡ s → Leads es s t → OneDone request bytes es s t
+done_none request bytes es s t stays leads = record { ran_out = false; only = λ same. absurd cc; later = subst (λ (u : State). Leads es u t) (sym stays) leads }
 
-done_one : (request : Request) (bytes : List ℕ) (s t : State) (rest es : List Edit) → AreSame es (edit_in request bytes ++ rest) → Leads es s t → OneDone request bytes rest s t
-done_one (edit change n) bytes s t rest [] is leads = absurd cc
-done_one (edit change n) bytes s t rest (e ∷ es) is leads =
-    let same : brought e ≡ brought (edit_with change bytes) = cc in
-    let others : map brought es ≡ map brought rest = cc in
-    let one = one_made e es (outcome change bytes s) s t (applied_same e change bytes s same) leads in
-    record { ran_out = one.ran_out; only = one.only; others = es; same = others; later = one.later }
-done_one bbl bytes s t rest es is leads = done_none bbl bytes rest es s t refl is leads
-done_one blg bytes s t rest es is leads = done_none blg bytes rest es s t refl is leads
-done_one status bytes s t rest es is leads = done_none status bytes rest es s t refl is leads
-done_one quit bytes s t rest es is leads = done_none quit bytes rest es s t refl is leads
-done_one unreadable bytes s t rest es is leads = done_none unreadable bytes rest es s t refl is leads
-done_one too_long bytes s t rest es is leads = done_none too_long bytes rest es s t refl is leads
+done_one : (request : Request) (bytes : List ℕ) (s t : State) (es : List Edit) → Leads (edit_in request bytes ++ es) s t → OneDone request bytes es s t
+done_one (edit e n) bytes s t es leads =
+    let one = one_made (with_bytes bytes e) es (applied (with_bytes bytes e) s) s t refl leads in
+    record { ran_out = one.ran_out; only = one.only; later = one.later }
+done_one bbl bytes s t es leads = done_none bbl bytes es s t refl leads
+done_one blg bytes s t es leads = done_none blg bytes es s t refl leads
+done_one status bytes s t es leads = done_none status bytes es s t refl leads
+done_one quit bytes s t es leads = done_none quit bytes es s t refl leads
+done_one unreadable bytes s t es leads = done_none unreadable bytes es s t refl leads
+done_one too_long bytes s t es leads = done_none too_long bytes es s t refl leads
 
 -- A state that the edits of commands lead to is one after these commands.
-pub led_by : (cs : List Command) (s t : State) (es : List Edit) → AreSame es (edits_of cs) → Leads es s t →
+pub led_by : (cs : List Command) (s t : State) → Leads (edits_of cs) s t →
     (ms : List Bool) × (length ms ≡ length cs) × MayRunOutInTurn ms cs s × (t ≡ state_after ms cs s)
-led_by [] s t [] is ([], turns, reports, end) = ([], refl, tt, end)
-led_by [] s t [] is (a ∷ answers, turns, reports, end) = absurd turns
-led_by [] s t (e ∷ es) is leads = absurd cc
-led_by (c ∷ cs) s t es is leads =
-    let one = done_one (request_of c.line) c.bytes s t (edits_of cs) es is leads in
-    let rest = led_by cs (after one.ran_out s c) t one.others one.same one.later in
+led_by [] s t ([], turns, reports, end) = ([], refl, tt, end)
+led_by [] s t (a ∷ answers, turns, reports, end) = absurd turns
+led_by (c ∷ cs) s t leads =
+    let one = done_one (request_of c.line) c.bytes s t (edits_of cs) leads in
+    let rest = led_by cs (after one.ran_out s c) t one.later in
     (one.ran_out ∷ rest.0, omega (arith, rest.1), (one.only, rest.2), rest.3)

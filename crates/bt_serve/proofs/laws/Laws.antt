@@ -13,4 +13,4 @@ pub turns_answer_commands : TurnsAnswerCommands
 turns_answer_commands = record { all = ServedLemmas.ends_answers_all; truncated = ServedLemmas.ends_answers_before; part = ServedLemmas.ends_answers_part }
 
 pub edits_of_commands : EditsOfCommands
-edits_of_commands = record { leads = leads_by; only = λ cs es state state' same leads. EditLemmas.led_by cs state state' es same leads }
+edits_of_commands = record { leads = leads_by; only = EditLemmas.led_by }

@@ -13,5 +13,5 @@ FirstWord text word (Some rest) = words_in_line text ≡ word ∷ words_in_line 
 
 -- any other than an edit
 abbrev pub IsShown : Request → Type 0
-IsShown (edit change n) = ⊥
+IsShown (edit e n) = ⊥
 IsShown _ = Unit {0}

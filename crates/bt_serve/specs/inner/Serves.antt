@@ -7,25 +7,25 @@ use Rattle.bt_run.specs.declared.answers.Report.{Report}
 use Rattle.bibtex.specs.declared.edit.Refusal.{Refusal}
 use Rattle.bibtex.specs.declared.state.State.{State}
 use Rattle.bibtex.specs.Present.{reported}
-use Rattle.bibtex.specs.Change.{Change}
-use Rattle.bibtex.specs.Applied.{outcome, IsAnswer}
+use Rattle.bibtex.specs.Edit.{Edit, with_bytes}
+use Rattle.bibtex.specs.Applied.{applied, IsAnswer}
 use Rattle.bt_serve.specs.Commands.{Request, bytes_brought, answer_of, after_of, ends, accepted, refused, MayRunOut}
 use Rattle.bt_serve.specs.declared.fault.ServeFault.{ServeFault}
 use Rattle.bt_serve.specs.declared.fault.ServeFault.TheVariants.{ReadFailed, WriteFailed, Truncated}
 use Rattle.bt_serve.specs.Serves.{Turn}
 
 -- the bytes of an edit are read, and the edit is made or refused
-abbrev pub Takes : Change → ℕ → Option (List ℕ) → Option (List ℕ) → State → State →
+abbrev pub Takes : Edit → ℕ → Option (List ℕ) → Option (List ℕ) → State → State →
     Result (Result Report Refusal) ServeFault → Type 0
-Takes change n old new state state' (Ok (Ok report)) =
-    (bytes : List ℕ) × (length bytes ≡ n) × Consumes old new bytes × (outcome change bytes state ≡ Ok state') ×
+Takes e n old new state state' (Ok (Ok report)) =
+    (bytes : List ℕ) × (length bytes ≡ n) × Consumes old new bytes × (applied (with_bytes bytes e) state ≡ Ok state') ×
     (report ≡ reported state state')
-Takes change n old new state state' (Ok (Err refusal)) =
+Takes e n old new state state' (Ok (Err refusal)) =
     (bytes : List ℕ) × (length bytes ≡ n) × Consumes old new bytes ×
-    IsAnswer {A = Report} (outcome change bytes state) (Err refusal) × (state' ≡ state)
-Takes change n old new state state' (Err ReadFailed) = ReadsBelow old new n × (state' ≡ state)
-Takes change n old new state state' (Err Truncated) = ReadsBelow old new n × IsAtEnd new × (state' ≡ state)
-Takes change n old new state state' (Err WriteFailed) = ⊥
+    IsAnswer {A = Report} (applied (with_bytes bytes e) state) (Err refusal) × (state' ≡ state)
+Takes e n old new state state' (Err ReadFailed) = ReadsBelow old new n × (state' ≡ state)
+Takes e n old new state state' (Err Truncated) = ReadsBelow old new n × IsAtEnd new × (state' ≡ state)
+Takes e n old new state state' (Err WriteFailed) = ⊥
 
 -- the bytes of a request are read, what it asks for is done, and its answer is written
 abbrev pub Does : Request → Option (List ℕ) → Option (List ℕ) → State → State → (List ℕ → Type 0) → Type 0

@@ -2,13 +2,12 @@
 use Rattle.std.specs.Prelude.{◌≡◌, ℕ, List, [], ◌∷◌, ◌++◌, true, Ok, Err, Bool, length}
 use Rattle.std.specs.List.{AllByRecursion, flat_map}
 use Rattle.bibtex.specs.declared.state.State.{State}
-use Rattle.bibtex.specs.declared.edit.Edit.{Edit}
 use Rattle.bt_serve.specs.Commands.{Command, command_text, state_after}
 use Rattle.bt_serve.specs.Serves.{IsCommand, IsCut, Ends}
 use Rattle.bt_serve.specs.laws.Serves.{IsBare}
 use Rattle.bt_serve.specs.Whole.{commands_of, AnswersAll, AnswersBefore, AnswersPart}
 use Rattle.bt_serve.specs.declared.fault.ServeFault.TheVariants.{WriteFailed, Truncated}
-use Rattle.bt_serve.specs.Edits.{edits_of, AreSame, Leads, LeadsBy}
+use Rattle.bt_serve.specs.Edits.{edits_of, Leads}
 use Rattle.bt_serve.specs.laws.Edits.{ComesAfter}
 
 -- The join of whole commands is cut into these commands and no others, whatever is cut short after them; after the
@@ -32,9 +31,9 @@ pub record TurnsAnswerCommands : Type 0 where
   pub part : (input rest said said' : List ℕ) (s t : State) →
       Ends input rest said said' s t (Err WriteFailed) → AnswersPart input said said' s t
 
--- A list of edits that commands ask for leads by `edit_all` to the states after these commands, and to no others.
+-- The edits that commands ask for lead by `edit_all` to the states after these commands, and to no others.
 pub record EditsOfCommands : Type 0 where
   pub leads : (cs : List Command) (ms : List Bool) (state : State) → length ms ≡ length cs →
-      LeadsBy cs state (state_after ms cs state)
-  pub only : (cs : List Command) (es : List Edit) (state state' : State) → AreSame es (edits_of cs) →
-      Leads es state state' → ComesAfter cs state state'
+      Leads (edits_of cs) state (state_after ms cs state)
+  pub only : (cs : List Command) (state state' : State) → Leads (edits_of cs) state state' →
+      ComesAfter cs state state'

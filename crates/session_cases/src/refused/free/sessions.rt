@@ -5,7 +5,7 @@ ghost use Rattle.std.specs.Prelude.{◌≡◌, ◌<◌, ◌^◌, ◌-◌};
 use crate::refused::free::Free;
 use crate::refused::sessions::{begun, drafted};
 use crate::refused::texts::{TWO_TITLES, texts_of};
-use bibtex::{Bytes, Change, Draft, Edit, FILE_BYTES, FILE_LIMIT, Refusal, Session};
+use bibtex::{Bytes, Draft, Edit, FILE_BYTES, FILE_LIMIT, Refusal, Session};
 use bt_log::status;
 use bt_serve::serve;
 use bt_streams::{ReaderSource, Sink, Source, WriterSink};
@@ -18,8 +18,8 @@ const NO_FILES: &[u8] = b"I couldn't open auxiliary file job.aux\n(That was a fa
 const TWO_FILES: &[u8] =
     b"The top-level auxiliary file: job.aux\nThe style file: s.bst\nDatabase file #1: x.bib\n";
 
-/// A change of bytes that no text has.
-const SPLICE: Change<'static> = Change::Splice(b"x.bib", 1, 100_000);
+/// An edit of bytes that no text has.
+const SPLICE: Edit<'static> = Edit::Splice(b"x.bib", 1, 100_000, b"");
 
 /// Whether these names are the root's file alone.
 fn wants_root(names: &[Bytes]) -> bool {

@@ -1,0 +1,37 @@
+-- An edit of the present state.
+use Rattle.std.specs.Prelude.{ℕ, List, []}
+use Rattle.bibtex.specs.declared.edit.Edit.{Edit as EditSeen}
+use Rattle.bibtex.specs.declared.edit.Edit.TheVariants.{Write, Splice, Remove, Root, MinCrossrefs}
+
+-- an edit, its names, bytes and numbers as such
+pub data Edit : Type 0 where
+  -- a text under a name
+  write : List ℕ → List ℕ → Edit
+  -- other bytes in the text of a name, from one place up to another
+  splice : List ℕ → ℕ → ℕ → List ℕ → Edit
+  -- no text under a name
+  remove : List ℕ → Edit
+  -- another root name
+  root_name : List ℕ → Edit
+  -- another min-crossrefs
+  min_crossrefs : ℕ → Edit
+
+-- the edit that the program has in hand
+abbrev pub edit_of : EditSeen → Edit
+edit_of (Write name bytes) = write name.now bytes.now
+edit_of (Splice name start end bytes) = splice name.now start end bytes.now
+edit_of (Remove name) = remove name.now
+edit_of (Root name) = root_name name.now
+edit_of (MinCrossrefs n) = min_crossrefs n
+
+-- the bytes that an edit brings
+abbrev pub bytes_of : Edit → List ℕ
+bytes_of (write name bytes) = bytes
+bytes_of (splice name start end bytes) = bytes
+bytes_of _ = []
+
+-- the same edit, which brings these bytes instead of its own where it brings any
+abbrev pub with_bytes : List ℕ → Edit → Edit
+with_bytes bytes (write name old) = write name bytes
+with_bytes bytes (splice name start end old) = splice name start end bytes
+with_bytes bytes e = e
