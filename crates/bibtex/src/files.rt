@@ -7,7 +7,6 @@ use bt_job::File;
 use bt_text::{Bytes, Sequence, Shared};
 use std::alloc::{AllocError, Global};
 
-/// Which of some files has a name.
 pub fn place_of(files: &[File], name: &[u8]) -> Option<usize>
     ensures place { result ≡ place_of_file name.now files.now }
     ensures within { IfSome result (λ n. n < length files.now) }
@@ -15,7 +14,6 @@ pub fn place_of(files: &[File], name: &[u8]) -> Option<usize>
     files.iter().position(|file| file.name.as_slice() == name)
 }
 
-/// The same file, which shares its name and its text.
 fn shared(file: &File) -> Result<File, AllocError>
     ensures { IfOk result (λ again. again ≡ file.now) }
 {
@@ -25,7 +23,6 @@ fn shared(file: &File) -> Result<File, AllocError>
     })
 }
 
-/// The same files, which share their names and texts.
 pub fn all_shared(alloc: Global, files: &[File]) -> Result<Sequence<File>, AllocError>
     ensures { IfOk result (λ again. again ≡ files.now) }
 {
@@ -57,7 +54,6 @@ pub fn with_text(
     Ok(changed)
 }
 
-/// The files but those of a name.
 pub fn without(alloc: Global, files: &[File], name: &[u8]) -> Result<Sequence<File>, AllocError>
     ensures { IfOk result (λ left. left ≡ without name.now files.now) }
 {

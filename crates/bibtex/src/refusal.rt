@@ -74,7 +74,6 @@ pub fn splice_refusal(
     }
 }
 
-/// The reason to refuse the removal of a file, if there is one.
 pub fn remove_refusal(files: &[File], name: &[u8]) -> Option<Refusal>
     ensures { result ≡ remove_refusal files.now name.now }
 {
@@ -87,7 +86,6 @@ pub fn remove_refusal(files: &[File], name: &[u8]) -> Option<Refusal>
     }
 }
 
-/// The reason to refuse a root name, if there is one.
 pub fn root_refusal(root: &[u8]) -> Option<Refusal>
     ensures { result ≡ root_refusal root.now }
 {

@@ -23,7 +23,6 @@ pub struct State {
 }
 
 impl State {
-    /// The state with these texts in the place of its own.
     fn with_texts(&self, texts: Sequence<File>) -> Result<State, AllocError>
         ensures { IfOk result (λ state. state ≡ record self.now { texts = texts }) }
     {

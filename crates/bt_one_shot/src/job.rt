@@ -25,7 +25,6 @@ fn exit_status(status: u8) -> u8
     if status <= 1 { 0 } else { status }
 }
 
-/// The log that is printed.
 fn printed_log(session: &Session, terse: bool) -> &[u8]
     ensures { result.now ≡ printed_log terse session.now }
 {
@@ -36,7 +35,6 @@ fn printed_log(session: &Session, terse: bool) -> &[u8]
     }
 }
 
-/// Prints a log, as far as that succeeds.
 #[tactic(auto, using(crate::proofs::TellLemmas::printed))]
 fn print_log<O: Sink>(out: &mut O, log: &[u8])
     requires { (O.seen out.old).failures < 2 ^ 64 - 1 }

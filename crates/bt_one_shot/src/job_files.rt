@@ -26,7 +26,6 @@ pub fn tell<E: Sink>(err: &mut E, failures_before: u64, pieces: &[&[u8]])
     }
 }
 
-/// Reports that a file was refused.
 fn tell_refused<E: Sink>(err: &mut E, failures_before: u64, refusal: Refusal, name: &[u8])
     requires { failures_before < 2 ^ 64 - 1 }
     ensures { GoesOn failures_before (E.seen err.old) (E.seen err.new)

@@ -22,7 +22,6 @@ impl Model for NamesMet {
 }
 
 impl NamesMet {
-    /// No names.
     pub fn new(alloc: Global) -> NamesMet
         ensures { result ≡ [] }
     {
@@ -31,7 +30,6 @@ impl NamesMet {
         }
     }
 
-    /// Whether a name is among them.
     pub fn has(&self, name: &[u8]) -> bool
         ensures value { result ≡ list_any (bytes_eq name.now) self.now }
         ensures bound { length self.now < 2 ^ 63 }

@@ -53,7 +53,6 @@ impl From<AllocError> for OptionsFault {
     }
 }
 
-/// What the parser's fault is to the caller.
 fn told(fault: clap::Error) -> OptionsFault
     ensures { (words : List (List ℕ)) → HasKind (faults_of words) fault → IsFaultOf words result }
 {
@@ -64,7 +63,6 @@ fn told(fault: clap::Error) -> OptionsFault
     }
 }
 
-/// A job's name without the `.aux` at its end.
 fn without_aux(job: &[u8]) -> &[u8]
     ensures { result.now ≡ without_aux job.now }
 {
@@ -75,7 +73,6 @@ fn without_aux(job: &[u8]) -> &[u8]
     }
 }
 
-/// Min-crossrefs, as the parser found it.
 fn min_found(matches: &ArgMatches<'_>) -> u32
     ensures value { result ≡ min_of (one_of (codes "min-crossrefs") (rows_of (found_of matches.now))) }
     ensures bound { result ≤ 65535 }
@@ -83,7 +80,6 @@ fn min_found(matches: &ArgMatches<'_>) -> u32
     u32::from(matches.get_one::<u16>("min-crossrefs").unwrap_or(2))
 }
 
-/// Whether a flag is set, as the parser found it.
 fn is_set(matches: &ArgMatches<'_>, name: &str) -> bool
     ensures { result ≡ is_set (first_of name.now (rows_of (found_of matches.now))) }
 {

@@ -21,7 +21,6 @@ write, splice, remove, root, min, bbl, blg, status, quit.
 Exit status: 0 if there were warnings at most, 2 if there were errors, 3 after a fatal
 error or if a file can't be written, 1 if the command line is wrong.";
 
-/// The word JOB.
 fn job(alloc: Global) -> Arg<'static>
     ensures rule { rule_of result ≡ job_rule }
     ensures own { result.global ≡ false }
@@ -32,7 +31,6 @@ fn job(alloc: Global) -> Arg<'static>
         .help("The document, with or without .aux: 1 to 60 letters, digits or . - _ + /")
 }
 
-/// The option `--min-crossrefs`.
 fn min_crossrefs(alloc: Global) -> Arg<'static>
     ensures rule { rule_of result ≡ min_rule }
     ensures own { result.global ≡ false }
@@ -45,7 +43,6 @@ fn min_crossrefs(alloc: Global) -> Arg<'static>
         .help("List an uncited entry that so many entries refer to, 0 to 65535")
 }
 
-/// The option `--terse`.
 fn terse(alloc: Global) -> Arg<'static>
     ensures rule { rule_of result ≡ terse_rule }
     ensures own { result.global ≡ false }
@@ -56,7 +53,6 @@ fn terse(alloc: Global) -> Arg<'static>
         .help("Print the log without the names of the files and the counts of calls")
 }
 
-/// The option `--resident`.
 fn resident(alloc: Global) -> Arg<'static>
     ensures rule { rule_of result ≡ resident_rule }
     ensures own { result.global ≡ false }

@@ -60,7 +60,6 @@ pub struct Report {
 }
 
 impl Report {
-    /// What a run took that ended with this status after these steps, of which some were carried out.
     fn of(status: u8, steps: &[Shared<Step>], reuse: &Reuse) -> Report
         requires fewer { reuse.now.ran ≤ length steps.now }
         ensures status { result.status ≡ status }
@@ -77,7 +76,6 @@ impl Report {
     }
 }
 
-/// No variables. They take no memory.
 fn no_variables(alloc: Global) -> Variables
     ensures { result ≡ no_variables }
 {
@@ -210,14 +208,12 @@ fn run_with(
     }
 }
 
-/// The bytes of a bibliography and of its log.
 struct Printed {
     bbl: Bytes,
     blg: Bytes,
     terse: Bytes,
 }
 
-/// The bytes of these lines and of this log.
 fn print(alloc: Global, lines: &[Shared<Bytes>], log: &[Message]) -> Result<Printed, AllocError>
     ensures bbl { IfOk result (λ printed. printed.bbl ≡ lines_bytes lines.now) }
     ensures blg { IfOk result (λ printed. printed.blg ≡ log_bytes log.now) }
@@ -230,7 +226,6 @@ fn print(alloc: Global, lines: &[Shared<Bytes>], log: &[Message]) -> Result<Prin
     })
 }
 
-/// What a run of these lines, this log and these wanted names shows.
 fn show(
     alloc: Global,
     lines: &Sequence<Shared<Bytes>>,

@@ -18,7 +18,6 @@ use bt_style::{Action, Command};
 use bt_text::{Bytes, Shared};
 use std::alloc::{AllocError, Global};
 
-/// Puts the entries into the order of their sort keys.
 fn sort(alloc: Global, course: &mut Course) -> Result<(), AllocError>
     ensures { OnOk result (course.new ≡ sorted_run course.old) }
 {
@@ -47,7 +46,6 @@ fn read_beside(
     Ok(())
 }
 
-/// Where a command stands.
 fn site_of(
     alloc: Global,
     job: Job<'_>,
@@ -63,7 +61,6 @@ fn site_of(
     })
 }
 
-/// Carries out a command, unless a step has stopped the run.
 #[tactic(auto, using(crate::proofs::CommandLemmas::sorted_consistent))]
 fn carry_out(
     alloc: Global,

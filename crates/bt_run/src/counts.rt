@@ -16,13 +16,11 @@ use std::alloc::{AllocError, Global};
 #[derive(Clone, Copy)]
 struct Tally<'a> {
     steps: &'a [Shared<Step>],
-    /// The calls of each function, by its place in the table.
     calls: [u128; BUILTIN_COUNT],
     ghost counted: { (place : ℕ) → place < 37 → slice_index_or calls place 0 ≡ calls_at steps.now place },
     ghost bounded: { (place : ℕ) → place < 37 → slice_index_or calls place 0 < 2 ^ 96 },
 }
 
-/// Adds the calls of a step to those of the steps before it.
 fn add_calls(sums: &mut [u128; BUILTIN_COUNT], calls: &[u32; BUILTIN_COUNT])
     requires { (place : ℕ) → place < 37 → slice_index_or sums.old place 0 < 2 ^ 96 }
     ensures added { (place : ℕ) → place < 37 →
@@ -35,7 +33,6 @@ fn add_calls(sums: &mut [u128; BUILTIN_COUNT], calls: &[u32; BUILTIN_COUNT])
     }
 }
 
-/// Counts the calls in some steps.
 fn count_calls(steps: &[Shared<Step>]) -> Tally<'_>
     ensures { result.steps.now ≡ steps.now }
 {
@@ -46,7 +43,6 @@ fn count_calls(steps: &[Shared<Step>]) -> Tally<'_>
     Tally { steps, calls }
 }
 
-/// How often the function at a place in the table was called.
 fn calls_at(tally: &Tally<'_>, place: usize) -> u128
     requires { place < 37 }
     ensures calls { result ≡ calls_at tally.now.steps.now place }
@@ -55,7 +51,6 @@ fn calls_at(tally: &Tally<'_>, place: usize) -> u128
     tally.calls[place]
 }
 
-/// How often these functions were called.
 fn sum_of_calls(tally: &Tally<'_>, builtins: &[Builtin]) -> u128
     requires { length builtins.now ≤ 37 }
     ensures { result ≡ sum_by (λ b. calls_at tally.now.steps.now (place_of b)) builtins.now }
@@ -67,7 +62,6 @@ fn sum_of_calls(tally: &Tally<'_>, builtins: &[Builtin]) -> u128
     sum
 }
 
-/// How often all functions were called.
 #[tactic(auto, unfolding(crate::specs::Counts::all_calls, bt_style::specs::Builtins::table))]
 fn all_calls(tally: &Tally<'_>) -> u128
     ensures { result ≡ all_calls tally.now.steps.now }
@@ -92,7 +86,6 @@ fn total_told(alloc: Global, count: u128) -> Result<Message, AllocError>
     )
 }
 
-/// The line of a function of this name that was called so often.
 fn count_line(alloc: Global, name: &[u8], count: u128) -> Result<Message, AllocError>
     ensures { IfOk result (λ message. message ≡ count_message (name.now ++ codes " -- " ++ decimal count)) }
 {
@@ -101,14 +94,12 @@ fn count_line(alloc: Global, name: &[u8], count: u128) -> Result<Message, AllocE
     Message::of(alloc, Rank::CallCount, &[name, b" -- ", count])
 }
 
-/// The line of a function with the number of its calls.
 fn row_told(alloc: Global, builtin: Builtin, count: u128) -> Result<Message, AllocError>
     ensures { IfOk result (λ message. message ≡ count_message (name_of builtin ++ codes " -- " ++ decimal count)) }
 {
     count_line(alloc, builtin.name(), count)
 }
 
-/// Logs the counts of these functions.
 fn tell_rows(
     alloc: Global,
     log: &mut Sequence<Message>,

@@ -12,9 +12,7 @@ pub struct Step {
     pub command: usize,
     /// The key of its entry, if it has one.
     pub key: Option<Shared<Bytes>>,
-    /// What it was given.
     pub input: Input,
-    /// What it left.
     pub outcome: Outcome,
     /// The ticks that it took.
     pub cost: u128,
@@ -27,15 +25,12 @@ pub struct Course {
     pub entries: Sequence<Entry>,
     /// The places of the entries, in the present order.
     pub order: Sequence<usize>,
-    /// The global variables.
     pub globals: Shared<Variables>,
     /// The preambles of all databases, joined.
     pub preamble: Shared<Bytes>,
     /// The line that `write$` appends to.
     pub held: Held,
-    /// The lines of the bibliography so far.
     pub lines: Sequence<Shared<Bytes>>,
-    /// The messages so far.
     pub log: Sequence<Message>,
     /// The steps so far; those that were taken over whole are shared with the run before.
     pub trace: Sequence<Shared<Step>>,

@@ -41,7 +41,6 @@ fn is_general(place: &Option<Place>) -> bool
     }
 }
 
-/// The line of a database of this number.
 fn file_line(number: usize, file: &Shared<Bytes>) -> Result<Message, AllocError>
     ensures { IfOk result (λ message. message ≡ file_line number file.now) }
 {
@@ -49,7 +48,6 @@ fn file_line(number: usize, file: &Shared<Bytes>) -> Result<Message, AllocError>
     Ok(Message::of_file(Rank::FileLine, FileNote::DatabaseFile(number), file))
 }
 
-/// Adds one message to the log, if it is about the database of this number.
 fn tell_if_about(
     log: &mut Sequence<Message>,
     number: usize,
@@ -66,7 +64,6 @@ fn tell_if_about(
     Ok(())
 }
 
-/// Logs a database: its line, and the messages about it.
 fn tell_database(
     log: &mut Sequence<Message>,
     number: usize,
@@ -82,7 +79,6 @@ fn tell_database(
     Ok(())
 }
 
-/// Adds one message to the log, if it is about no database.
 fn tell_if_general(log: &mut Sequence<Message>, message: &Message) -> Result<(), AllocError>
     ensures { OnOk result (log.new ≡ log.old ++ filter (λ (m : MessageSeen). is_general m.place) (message.now ∷ [])) }
 {
@@ -92,7 +88,6 @@ fn tell_if_general(log: &mut Sequence<Message>, message: &Message) -> Result<(),
     Ok(())
 }
 
-/// Adds the messages that are about no database to the log.
 fn tell_general(log: &mut Sequence<Message>, messages: &[Message]) -> Result<(), AllocError>
     ensures { OnOk result (log.new ≡ log.old ++ filter (λ (m : MessageSeen). is_general m.place) messages.now) }
 {

@@ -11,7 +11,6 @@ use bt_style::{Action, Command, Function, Style};
 use bt_text::{Bytes, Sequence, Shared, Values};
 use std::alloc::{AllocError, Global};
 
-/// Whether a command defines a function.
 #[tactic(auto, unfolding(crate::specs::ReadCommand::is_definition))]
 fn is_definition(action: Action) -> bool
     ensures { result ≡ is_definition action }
@@ -19,7 +18,6 @@ fn is_definition(action: Action) -> bool
     matches!(action, Action::Function(_))
 }
 
-/// How many of these commands define a function.
 fn definition_count(commands: &[Command]) -> usize
     ensures { result ≡ count_by (λ (c : CommandSeen). is_definition c.action) commands.now }
 {
@@ -32,7 +30,6 @@ fn definition_count(commands: &[Command]) -> usize
     count
 }
 
-/// The first `count` ones; all where there are fewer.
 fn first<T>(items: &[T], count: usize) -> &[T]
     ensures { result.now ≡ take count items.now }
 {
@@ -43,7 +40,6 @@ fn first<T>(items: &[T], count: usize) -> &[T]
     }
 }
 
-/// A copy of some texts.
 fn copied_texts(alloc: Global, texts: &[Bytes]) -> Result<Sequence<Bytes>, AllocError>
     ensures { IfOk result (λ copies. copies ≡ texts.now) }
 {
@@ -54,7 +50,6 @@ fn copied_texts(alloc: Global, texts: &[Bytes]) -> Result<Sequence<Bytes>, Alloc
     Ok(copies)
 }
 
-/// The names of functions.
 fn names_of(alloc: Global, functions: &[Function]) -> Result<Sequence<Bytes>, AllocError>
     ensures { IfOk result (λ names. names ≡ map (λ (d : Definition). d.name) (definitions_of functions.now)) }
 {
@@ -65,7 +60,6 @@ fn names_of(alloc: Global, functions: &[Function]) -> Result<Sequence<Bytes>, Al
     Ok(names)
 }
 
-/// A macro as the databases know it.
 fn known_macro(alloc: Global, one: &bt_style::Macro) -> Result<Macro, AllocError>
     ensures { IfOk result (λ known. known ≡ known_macro one.now) }
 {
@@ -75,7 +69,6 @@ fn known_macro(alloc: Global, one: &bt_style::Macro) -> Result<Macro, AllocError
     })
 }
 
-/// The macros as the databases know them.
 fn known_macros(alloc: Global, macros: &[bt_style::Macro]) -> Result<Sequence<Macro>, AllocError>
     ensures { IfOk result (λ known. known ≡ map known_macro macros.now) }
 {
@@ -100,7 +93,6 @@ pub fn declared_before(alloc: Global, style: &Style, number: usize) -> Result<De
     })
 }
 
-/// A number that is 0 for each name.
 fn zeros(alloc: Global, names: &[Bytes]) -> Result<Values<i32>, AllocError>
     ensures { IfOk result (λ numbers. numbers ≡ map (λ name. pos 0) names.now) }
 {

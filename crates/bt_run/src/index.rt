@@ -45,7 +45,6 @@ impl Hash for StepName {
 }
 
 impl StepName {
-    /// The key, nothing where there is none.
     fn key(&self) -> &[u8]
         ensures { result.now ≡ key_or_none self.now.key }
     {
@@ -55,7 +54,6 @@ impl StepName {
         }
     }
 
-    /// The name of a step of this command with this input. Its key is shared.
     fn of(command: usize, input: &Input) -> Result<StepName, AllocError>
         ensures { IfOk result (λ name. name ≡ step_name command input.now) }
     {
@@ -74,7 +72,6 @@ pub struct Index {
     places: HashMap<StepName, Sequence<usize>>,
 }
 
-/// These places, and one more.
 fn with_place(
     alloc: Global,
     places: Option<&Sequence<usize>>,
@@ -91,7 +88,6 @@ fn with_place(
 }
 
 impl Index {
-    /// Adds a place to those at a name.
     fn add(&mut self, alloc: Global, name: StepName, place: usize) -> Result<(), AllocError>
         ensures { OnOk result ((other : StepName) → places_at self.new other
             ≡ (if same_name name other then places_at self.old name ++ place ∷ [] else places_at self.old other)) }

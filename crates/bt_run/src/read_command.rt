@@ -32,7 +32,6 @@ fn found(
     Ok(all)
 }
 
-/// An entry with its variables, those that all entries have at first.
 fn entered(entry: bt_resolve::Entry, first: &Shared<Variables>) -> Result<Entry, AllocError>
     ensures { IfOk result (λ e. e
         ≡ record {
@@ -58,7 +57,6 @@ fn entered(entry: bt_resolve::Entry, first: &Shared<Variables>) -> Result<Entry,
     })
 }
 
-/// The entries with their variables.
 fn all_entered(
     alloc: Global,
     style: &Style,
@@ -76,7 +74,6 @@ fn all_entered(
     Ok(all)
 }
 
-/// The places of entries in list order.
 fn list_order(alloc: Global, entries: &[Entry]) -> Result<Sequence<usize>, AllocError>
     ensures { IfOk result (λ order. order ≡ list_order entries.now) }
 {

@@ -31,7 +31,6 @@ pub struct Done {
 
 // What is reached
 
-/// Whether two functions of types are the same.
 pub fn is_same_function(one: Option<usize>, other: Option<usize>) -> bool
     ensures { IsTrue result ↔ (one ≡ other) }
 {
@@ -94,7 +93,6 @@ struct Sought<'a> {
     reach: &'a Reach,
 }
 
-/// An earlier step, and its place.
 #[derive(Clone, Copy)]
 struct Found<'a> {
     place: usize,
@@ -242,7 +240,6 @@ fn take_over(alloc: Global, step: &Step, input: &Input, reach: &Reach) -> Result
     })
 }
 
-/// A step that is carried out.
 fn carry_out_step(
     alloc: Global,
     style: &Style,

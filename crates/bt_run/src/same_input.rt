@@ -16,7 +16,6 @@ use bt_style::Target;
 /// The longest preamble that is compared at each step.
 const PREAMBLE_BYTES: usize = 4096;
 
-/// Whether two texts are equal.
 fn equal_bytes(old: &[u8], new: &[u8]) -> bool
     ensures { IsTrue result → old.now ≡ new.now }
 {

@@ -18,7 +18,6 @@ fn sort_key(entry: &Entry) -> &[u8]
     }
 }
 
-/// The keys of the entries, each with its entry's place, in list order.
 fn keyed_places(alloc: Global, entries: &[Entry]) -> Result<Vec<(&[u8], usize)>, AllocError>
     ensures places { IfOk result (λ keyed. map (λ k. k.1) keyed.items ≡ list_order entries.now) }
     ensures keys { IfOk result (λ keyed. All (λ k. k.0.now ≡ key_at entries.now k.1) keyed.items) }
@@ -30,7 +29,6 @@ fn keyed_places(alloc: Global, entries: &[Entry]) -> Result<Vec<(&[u8], usize)>,
     Ok(keyed)
 }
 
-/// The places alone.
 fn places_of(alloc: Global, keyed: &[(&[u8], usize)]) -> Result<Sequence<usize>, AllocError>
     ensures { IfOk result (λ places. places ≡ map (λ k. k.1) keyed.now) }
 {

@@ -12,7 +12,6 @@ use bt_style::{Style, StyleFault};
 use bt_text::{Bytes, Held, Sequence, Shared, Values};
 use std::alloc::{AllocError, Global};
 
-/// The value of a global number at the start.
 fn first_number(name: &[u8]) -> i32
     ensures { result ≡ first_number name.now }
 {
@@ -25,7 +24,6 @@ fn first_number(name: &[u8]) -> i32
     }
 }
 
-/// The values of the global numbers at the start.
 fn first_numbers(alloc: Global, names: &[Bytes]) -> Result<Values<i32>, AllocError>
     ensures { IfOk result (λ numbers. numbers ≡ map first_number names.now) }
 {

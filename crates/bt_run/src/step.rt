@@ -19,7 +19,6 @@ use bt_text::{Bytes, Held, Sequence, Shared};
 use std::alloc::{AllocError, Global};
 use std::mem;
 
-/// The entry at a place, shared with the run, or none.
 fn entry_at(course: &Course, place: Option<usize>) -> Result<Option<Entry>, AllocError>
     requires { IsPlace place (course_world course.now) }
     ensures { IfOk result (λ entry. entry ≡ entry_in course.now.entries place) }
@@ -49,7 +48,6 @@ pub fn cut_out(
     })
 }
 
-/// A step's message as the log has it.
 fn told(message: &Message, site: &CommandPlace) -> Result<Message, AllocError>
     ensures { IfOk result (λ m. m ≡ at (places.Step site.now.style site.now.line) message.now) }
 {
@@ -75,7 +73,6 @@ pub fn all_told(
     Ok(log)
 }
 
-/// Gives the entry at a place these variables.
 fn set_variables(
     alloc: Global,
     entries: &mut Sequence<Entry>,
@@ -90,7 +87,6 @@ fn set_variables(
     *entries = Sequence::from_vec(all);
 }
 
-/// Puts the variables that a step left back into its entry, if it has one.
 fn put_variables_back(
     alloc: Global,
     entries: &mut Sequence<Entry>,

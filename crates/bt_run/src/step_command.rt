@@ -19,7 +19,6 @@ use bt_style::Target;
 use bt_text::Shared;
 use std::alloc::{AllocError, Global};
 
-/// The place of an earlier step's entry, if it has one.
 fn place_of(places: &[Option<usize>], step: usize) -> Option<usize>
     ensures { IfSome result (λ n. slice_get places.now step ≡ Some (Some n)) }
 {
@@ -29,7 +28,6 @@ fn place_of(places: &[Option<usize>], step: usize) -> Option<usize>
     }
 }
 
-/// Whether a place is marked.
 fn is_marked(marks: &[bool], place: usize) -> bool
     ensures { IsTrue result → slice_get marks.now place ≡ Some true }
 {
@@ -184,7 +182,6 @@ impl<'a> StepCommand<'a> {
         Ok(())
     }
 
-    /// Takes a step for the entry at a place, unless a step has stopped the run.
     fn take_next(
         self,
         target: Target,
@@ -206,7 +203,6 @@ impl<'a> StepCommand<'a> {
         self.take_step(target, Some(place), course, reuse)
     }
 
-    /// Takes a step for the entry at each of these places in turn, and none after one that stopped the run.
     fn run_for_each(
         self,
         target: Target,

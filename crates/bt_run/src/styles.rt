@@ -22,7 +22,6 @@ pub struct ReadStyle {
 }
 
 impl ReadStyle {
-    /// Reads a text.
     fn read(alloc: Global, text: Shared<Bytes>) -> Result<ReadStyle, AllocError>
         ensures { IfOk result (λ known. known.text ≡ text) }
     {
@@ -62,7 +61,6 @@ impl ReadStyle {
     }
 }
 
-/// The style of a text among some, if it was read.
 fn style_among<'a>(styles: &'a [ReadStyle], text: &[u8]) -> Option<&'a ReadStyle>
     ensures { IfSome result (λ known. known.now.text ≡ text.now) }
 {

@@ -109,7 +109,6 @@ pub fn answer_request<S: Source, K: Sink>(
     }
 }
 
-/// Reports that an edit was accepted, with its report.
 fn say_accepted<K: Sink>(sink: &mut K, report: Report) -> Result<(), StreamFailed>
     requires { (K.seen sink.old).failures < 2 ^ 64 - 1 }
     ensures { Says (K.seen sink.old) (K.seen sink.new) (accepted report) result }
@@ -128,7 +127,6 @@ fn say_accepted<K: Sink>(sink: &mut K, report: Report) -> Result<(), StreamFaile
     )
 }
 
-/// Writes why an edit was refused.
 fn say_refused<K: Sink>(sink: &mut K, refusal: Refusal) -> Result<(), StreamFailed>
     requires { (K.seen sink.old).failures < 2 ^ 64 - 1 }
     ensures { Says (K.seen sink.old) (K.seen sink.new) (refused refusal) result }
@@ -138,7 +136,6 @@ fn say_refused<K: Sink>(sink: &mut K, refusal: Refusal) -> Result<(), StreamFail
     say(sink, &[b"refused ", code, b"\n"])
 }
 
-/// Writes how an edit ended.
 fn say_taken<K: Sink>(sink: &mut K, taken: Result<Report, Refusal>) -> Result<(), StreamFailed>
     requires { (K.seen sink.old).failures < 2 ^ 64 - 1 }
     ensures { Says (K.seen sink.old) (K.seen sink.new) (taken_text taken) result }
@@ -149,7 +146,6 @@ fn say_taken<K: Sink>(sink: &mut K, taken: Result<Report, Refusal>) -> Result<()
     }
 }
 
-/// Writes a status.
 fn say_status<K: Sink>(sink: &mut K, status: u8) -> Result<(), StreamFailed>
     requires { (K.seen sink.old).failures < 2 ^ 64 - 1 }
     ensures { Says (K.seen sink.old) (K.seen sink.new) (number_line (codes "status ") status) result }

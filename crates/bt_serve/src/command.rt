@@ -12,13 +12,9 @@ use bibtex::Edit;
 pub enum Request<'a> {
     /// An edit, and how many bytes follow the line, which it brings. It has none in hand yet.
     Edit(Edit<'a>, usize),
-    /// The bibliography.
     Bbl,
-    /// The log.
     Blg,
-    /// The status.
     Status,
-    /// No more commands.
     Quit,
     /// Nothing that the loop knows.
     Unreadable,
@@ -60,7 +56,6 @@ pub fn parse(line: &[u8]) -> Request<'_>
     }
 }
 
-/// What a line of one word asks for.
 fn plain_request<'a>(word: &[u8]) -> Request<'a>
     ensures { request_seen result ≡ one_word word.now }
 {
@@ -77,7 +72,6 @@ fn plain_request<'a>(word: &[u8]) -> Request<'a>
     }
 }
 
-/// What a line of two words asks for.
 fn named_request<'a>(word: &[u8], argument: &'a [u8]) -> Request<'a>
     ensures { request_seen result ≡ two_words word.now argument.now }
 {
@@ -92,7 +86,6 @@ fn named_request<'a>(word: &[u8], argument: &'a [u8]) -> Request<'a>
     }
 }
 
-/// What `remove` asks for, with what follows the word.
 fn remove_request(name: &[u8]) -> Request<'_>
     ensures { request_seen result ≡ remove_of name.now }
 {
@@ -103,7 +96,6 @@ fn remove_request(name: &[u8]) -> Request<'_>
     }
 }
 
-/// What `root` asks for, with what follows the word.
 fn root_request(name: &[u8]) -> Request<'_>
     ensures { request_seen result ≡ root_of name.now }
 {
@@ -124,7 +116,6 @@ fn min_request<'a>(min: Option<usize>) -> Request<'a>
     }
 }
 
-/// What `write` asks for, with this name and this number or none.
 fn write_request(name: &[u8], count: Option<usize>) -> Request<'_>
     ensures { request_seen result ≡ write_of name.now count }
 {
@@ -134,7 +125,6 @@ fn write_request(name: &[u8], count: Option<usize>) -> Request<'_>
     }
 }
 
-/// What `splice` asks for, with this name and three numbers, each of which may be missing.
 fn splice_request(
     name: &[u8],
     start: Option<usize>,
@@ -164,7 +154,6 @@ fn next_word(text: &[u8]) -> (&[u8], Option<&[u8]>)
     }
 }
 
-/// The place of the first space.
 fn first_space(text: &[u8]) -> Option<usize>
     ensures { result ≡ position (λ b. b == 32) text.now }
 {

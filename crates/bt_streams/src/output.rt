@@ -18,7 +18,6 @@ pub fn write_all<K: Sink>(sink: &mut K, bytes: &[u8]) -> Result<(), StreamFailed
     Ok(())
 }
 
-/// Writes pieces one after another.
 fn write_pieces<K: Sink>(sink: &mut K, pieces: &[&[u8]]) -> Result<(), StreamFailed>
     requires { (K.seen sink.old).failures < 2 ^ 64 - 1 }
     ensures { Writes (K.seen sink.old) (K.seen sink.new) (flat_map (λ piece. piece.now) pieces.now) result }

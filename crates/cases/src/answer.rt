@@ -12,7 +12,6 @@ pub struct Answer {
 }
 
 impl Answer {
-    /// The empty answer.
     pub fn new(alloc: Global) -> Self {
         Answer {
             alloc,
@@ -21,19 +20,16 @@ impl Answer {
         }
     }
 
-    /// Whether nothing is there.
     pub fn is_empty(&self) -> bool {
         self.bytes.len() == 0
     }
 
-    /// Puts bytes after what is there.
     pub fn put(&mut self, bytes: &[u8]) {
         if self.bytes.append(bytes).is_err() {
             self.is_out_of_memory = true;
         }
     }
 
-    /// Puts a number after what is there, in decimal digits.
     pub fn number(&mut self, n: i32) {
         match format!(in self.alloc; "{n}") {
             Ok(digits) => self.put(digits.as_bytes()),
@@ -41,7 +37,6 @@ impl Answer {
         }
     }
 
-    /// Puts a count, a place or a line after what is there, in decimal digits.
     pub fn count(&mut self, n: usize) {
         match format!(in self.alloc; "{n}") {
             Ok(digits) => self.put(digits.as_bytes()),
@@ -49,7 +44,6 @@ impl Answer {
         }
     }
 
-    /// Puts bytes after what is there, spelled to base 16.
     pub fn spelled(&mut self, bytes: &[u8]) {
         let digits = b"0123456789abcdef";
         if bytes.is_empty() {
@@ -67,12 +61,10 @@ impl Answer {
         }
     }
 
-    /// Puts `true` or `false` after what is there.
     pub fn truth(&mut self, is_true: bool) {
         self.put(if is_true { b"true" } else { b"false" });
     }
 
-    /// Puts texts after what is there: in brackets, parted by commas, spelled to base 16.
     pub fn list(&mut self, texts: &[Bytes]) {
         self.put(b"[");
         for (place, text) in texts.iter().enumerate() {

@@ -14,7 +14,6 @@ fn file(alloc: Global, word: &str) -> Result<File, AllocError> {
     Ok(File { name, text })
 }
 
-/// The files of a case's words after the second.
 fn files(alloc: Global, case: &str) -> Result<Vec<File>, AllocError> {
     let mut files = Vec::new(alloc);
     for word in case.split_whitespace().skip(2) {
@@ -23,7 +22,6 @@ fn files(alloc: Global, case: &str) -> Result<Vec<File>, AllocError> {
     Ok(files)
 }
 
-/// Puts after `out` how many keys, databases and names that are wanted, the status, and the log.
 fn push_told(alloc: Global, out: &mut Answer, citations: &Citations) -> Result<(), AllocError> {
     out.count(citations.keys.as_slice().len());
     out.put(b" keys, ");
@@ -34,7 +32,6 @@ fn push_told(alloc: Global, out: &mut Answer, citations: &Citations) -> Result<(
     push_log(alloc, out, citations.log.as_slice())
 }
 
-/// The same of what files ask for from a root on.
 fn push_told_of_files(
     alloc: Global,
     out: &mut Answer,

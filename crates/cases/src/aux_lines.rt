@@ -30,7 +30,6 @@ fn push_line(out: &mut Answer, item: &AuxItem) {
     out.put(fault_name(item.fault));
 }
 
-/// Puts lines after `out`, with ` ; ` between them, or a full stop where there is none.
 fn push_lines(out: &mut Answer, items: &[AuxItem]) {
     if items.is_empty() {
         out.put(b".");

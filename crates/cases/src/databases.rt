@@ -40,7 +40,6 @@ fn closing_words(close: Option<Closing>) -> &'static [u8] {
     }
 }
 
-/// Items as they are spelled. Their places and lines count from a spot.
 #[derive(Drop)]
 struct Spelled {
     from: Spot,
@@ -48,7 +47,6 @@ struct Spelled {
 }
 
 impl Spelled {
-    /// Nothing, in a text from its beginning.
     fn new(alloc: Global) -> Spelled {
         Spelled {
             from: Spot { place: 0, line: 0 },
@@ -56,7 +54,6 @@ impl Spelled {
         }
     }
 
-    /// What was spelled, or a full stop where there is nothing.
     fn end(self) -> Result<Bytes, AllocError> {
         let mut out = self.out;
         if out.is_empty() {
@@ -69,7 +66,6 @@ impl Spelled {
         self.out.count(self.from.line.saturating_add(line));
     }
 
-    /// A text to base 16, or a full stop where there is none, after its label.
     fn text(&mut self, label: &[u8], text: &Option<Shared<Bytes>>) {
         self.out.put(label);
         match text {
@@ -126,7 +122,6 @@ impl Spelled {
         }
     }
 
-    /// Kind, type, key or name, closing sign, fields and value.
     fn content(&mut self, item: &Item) {
         let close = closing_words(item.close);
         match &item.content {
@@ -141,7 +136,6 @@ impl Spelled {
         }
     }
 
-    /// An entry, with its closing sign.
     fn entry(&mut self, entry: &Entry, close: &[u8]) {
         self.text(b"Entry type=", &entry.kind);
         self.text(b" key=", &entry.key);
@@ -150,7 +144,6 @@ impl Spelled {
         self.out.put(b"] value=.");
     }
 
-    /// The definition of a macro, with its closing sign.
     fn definition(&mut self, definition: &Definition, close: &[u8]) {
         self.text(b"Define type=. key=", &definition.name);
         self.out.put(close);
@@ -158,14 +151,12 @@ impl Spelled {
         self.value(&definition.value);
     }
 
-    /// A fault, with its line, its byte, and what is missing or followed.
     fn fault(&mut self, fault: ItemFault, line: usize) {
         self.out.put(fault_word(fault));
         self.line(line);
         self.cause(fault);
     }
 
-    /// The byte of a fault, and what is missing or followed.
     fn cause(&mut self, fault: ItemFault) {
         match fault {
             ItemFault::BadNameEnd(what, byte) => {
@@ -182,7 +173,6 @@ impl Spelled {
         }
     }
 
-    /// From where to where an item goes, and its line.
     fn span(&mut self, item: &Item) {
         let start = self.from.place.saturating_add(item.start.place);
         let end = self.from.place.saturating_add(item.end.place);
@@ -205,7 +195,6 @@ impl Spelled {
         }
     }
 
-    /// The place of an item's fault, and the fault; nothing for a comment word or an item without a fault.
     fn last_fault(&mut self, placed: &PlacedPiece) {
         self.from = placed.start();
         if let Piece::Item(item) = placed.piece() {
@@ -213,7 +202,6 @@ impl Spelled {
         }
     }
 
-    /// The place of an item's fault, and the fault; nothing where it has none.
     fn place_and_fault(&mut self, item: &Item) {
         if let Some(fault) = item.fault {
             self.out
@@ -235,7 +223,6 @@ impl Spelled {
     }
 }
 
-/// The items with their places in the text and ` ; ` between them, or a full stop if there are none.
 pub fn spelled_items(alloc: Global, items: &Items) -> Result<Bytes, AllocError> {
     let mut spelled = Spelled::new(alloc);
     for placed in items.pieces() {
@@ -244,7 +231,6 @@ pub fn spelled_items(alloc: Global, items: &Items) -> Result<Bytes, AllocError> 
     spelled.end()
 }
 
-/// The place of the last item's fault, and the fault; a full stop where the last piece is no item or has no fault.
 fn last_fault(alloc: Global, items: &Items) -> Result<Bytes, AllocError> {
     let mut spelled = Spelled::new(alloc);
     if let Some(placed) = items.pieces().last() {
@@ -253,7 +239,6 @@ fn last_fault(alloc: Global, items: &Items) -> Result<Bytes, AllocError> {
     spelled.end()
 }
 
-/// How many items there are; a comment word is none.
 fn item_count(items: &Items) -> usize {
     let mut count: usize = 0;
     for piece in items.pieces() {
@@ -264,7 +249,6 @@ fn item_count(items: &Items) -> usize {
     count
 }
 
-/// Puts after `out` the items, how many there are, or the last one's fault.
 fn push_told(alloc: Global, out: &mut Answer, items: &Items, call: &str) -> Result<(), AllocError> {
     match call {
         "item_count" => out.count(item_count(items)),

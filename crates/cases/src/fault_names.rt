@@ -7,7 +7,6 @@ use bt_style::{FaultKind, StyleRefusal};
 use bt_text::HeldFault;
 use std::alloc::{AllocError, Global};
 
-/// How the faults of names show.
 fn name_faults(alloc: Global) -> Result<String, AllocError> {
     format!(in alloc;
         "{} {} {}",
@@ -17,7 +16,6 @@ fn name_faults(alloc: Global) -> Result<String, AllocError> {
     )
 }
 
-/// How the faults of formatted names show.
 fn format_faults(alloc: Global) -> Result<String, AllocError> {
     format!(in alloc;
         "{} {} {} {}",
@@ -28,14 +26,12 @@ fn format_faults(alloc: Global) -> Result<String, AllocError> {
     )
 }
 
-/// How the refusals of a style show.
 fn style_refusals(alloc: Global) -> Result<String, AllocError> {
     let kind = FaultKind::MissingArgument;
     let fault = StyleRefusal::Fault { kind, line: 7 };
     format!(in alloc; "{fault} {}", StyleRefusal::OutOfMemory)
 }
 
-/// How the faults of a type show, parted by spaces.
 fn faults(alloc: Global, name: &str) -> Result<String, AllocError> {
     match name {
         "NameFault" => name_faults(alloc),

@@ -5,7 +5,6 @@ use crate::spelling::unspelled;
 use bt_text::{Bytes, Held, HeldFault, Sequence};
 use std::alloc::{AllocError, Global};
 
-/// Writes each byte of a text by itself.
 fn write_bytes(
     alloc: Global,
     text: &[u8],
@@ -18,7 +17,6 @@ fn write_bytes(
     Ok(())
 }
 
-/// Writes a text, writes each of its bytes by itself, or ends the line.
 fn carry_out(
     alloc: Global,
     op: &str,
@@ -32,7 +30,6 @@ fn carry_out(
     }
 }
 
-/// Does what the words of a case say, up to the first that is too long; gives its place, if there is one.
 fn carry_out_all(
     alloc: Global,
     case: &str,

@@ -17,7 +17,6 @@ fn rank_of(word: &str) -> Rank {
     }
 }
 
-/// Puts the status of a log, and its bytes, after `out`.
 pub fn push_log(alloc: Global, out: &mut Answer, log: &[Message]) -> Result<(), AllocError> {
     out.count(status(log) as usize);
     out.put(b" ");
@@ -25,7 +24,6 @@ pub fn push_log(alloc: Global, out: &mut Answer, log: &[Message]) -> Result<(), 
     Ok(())
 }
 
-/// The message of a word: its rank, a colon, and its text.
 fn message(alloc: Global, word: &str) -> Result<Message, AllocError> {
     let (rank, words) = word.split_once(':').unwrap_or((word, ""));
     Message::of(alloc, rank_of(rank), &[&unspelled(alloc, words)?])
@@ -40,7 +38,6 @@ fn log_of(alloc: Global, case: &str) -> Result<Sequence<Message>, AllocError> {
     Ok(log)
 }
 
-/// Puts the status of a log, its bytes, and those of the terse one, after `out`.
 fn push_both_logs(alloc: Global, out: &mut Answer, log: &[Message]) -> Result<(), AllocError> {
     push_log(alloc, out, log)?;
     out.put(b" ");
@@ -54,7 +51,6 @@ pub fn push_log_answer(alloc: Global, out: &mut Answer, case: &str) -> Result<()
     push_both_logs(alloc, out, log.as_slice())
 }
 
-/// The lines of a case's words after the first.
 fn lines_of(alloc: Global, case: &str) -> Result<Vec<Shared<Bytes>>, AllocError> {
     let mut lines = Vec::new(alloc);
     for word in case.split_whitespace().skip(1) {

@@ -31,7 +31,6 @@ use std::alloc::{AllocError, Global};
 use std::io;
 use std::io::{BufRead, BufReader, BufWriter, Write};
 
-/// Puts the answer of a case of texts, or of what they are kept in, after `out`.
 fn push_answer_of_texts(alloc: Global, out: &mut Answer, case: &str) -> Result<(), AllocError> {
     match word_at(case, 0) {
         "held" => held_lines::push_held(alloc, out, case),
@@ -49,7 +48,6 @@ fn push_answer_of_texts(alloc: Global, out: &mut Answer, case: &str) -> Result<(
     }
 }
 
-/// Puts the answer of a case of names, styles or messages, or of texts, after `out`.
 fn push_answer_of_parts(alloc: Global, out: &mut Answer, case: &str) -> Result<(), AllocError> {
     match word_at(case, 0) {
         "count" | "parts" | "format" | "format_within" => names::push_answer(alloc, out, case),
@@ -80,7 +78,6 @@ fn push_answer(alloc: Global, out: &mut Answer, case: &str) -> Result<(), AllocE
     }
 }
 
-/// The answer of a case.
 fn answer_of(alloc: Global, case: &str) -> Result<Bytes, AllocError> {
     let mut out = Answer::new(alloc);
     push_answer(alloc, &mut out, case)?;
@@ -99,14 +96,12 @@ fn answer_in_the_end(rt: &HostRuntime, case: &str) -> io::Result<Bytes> {
     }
 }
 
-/// Writes the answer of a case, and a line feed.
 fn write_answer<W: Write>(rt: &HostRuntime, out: &mut W, case: &str) -> io::Result<()> {
     let told = answer_in_the_end(rt, case)?;
     out.write_all(told.as_slice())?;
     out.write_all(b"\n")
 }
 
-/// Writes the answers of all lines of standard input.
 fn write_answers<W: Write>(rt: &HostRuntime, out: &mut W) -> io::Result<()> {
     let alloc = rt.alloc();
     for line in BufReader::new(alloc, rt.reader())?.lines(alloc) {

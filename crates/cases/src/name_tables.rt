@@ -6,7 +6,6 @@ use crate::spelling::{number_in, part_at, unspelled};
 use bt_text::{ByName, NameList};
 use std::alloc::{AllocError, Global};
 
-/// Puts a number after `out`, or a full stop where there is none.
 fn push_number_if_some(out: &mut Answer, n: Option<usize>) {
     match n {
         Some(n) => out.count(n),
@@ -14,7 +13,6 @@ fn push_number_if_some(out: &mut Answer, n: Option<usize>) {
     }
 }
 
-/// Puts a name after those of a list if it is new, and whether it is after `out`.
 fn push_name(
     alloc: Global,
     out: &mut Answer,
@@ -30,7 +28,6 @@ fn push_name(
     Ok(())
 }
 
-/// Puts after `out` how a name was spelled first in a list; a full stop where it isn't there.
 fn push_found(
     alloc: Global,
     out: &mut Answer,
@@ -63,7 +60,6 @@ fn push_listed(
     Ok(())
 }
 
-/// Puts the values of a table after `out`, in the order of their names, parted by commas.
 fn push_values(out: &mut Answer, table: &ByName<usize>) {
     for (place, value) in table.values().iter().enumerate() {
         if place == 0 {
@@ -75,7 +71,6 @@ fn push_values(out: &mut Answer, table: &ByName<usize>) {
     }
 }
 
-/// Gives a name a value in a table, by `put` where there is room and it is in small letters.
 fn put(name: Vec<u8>, value: usize, table: &mut ByName<usize>) -> Result<(), AllocError> {
     table.make_room()?;
     table.put(name, value);

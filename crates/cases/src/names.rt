@@ -8,14 +8,12 @@ use bt_names::{
 use bt_text::Sequence;
 use std::alloc::{AllocError, Global};
 
-/// Puts a token after `out`, by what stands before it and its text.
 fn push_token(out: &mut Answer, token: &Token) {
     out.spelled(&[token.before]);
     out.put(b":");
     out.spelled(token.text.as_slice());
 }
 
-/// Puts the tokens of a part after `out`.
 fn push_part(out: &mut Answer, name: &[u8], tokens: &Sequence<Token>) {
     out.put(name);
     out.put(b"=[");
@@ -48,7 +46,6 @@ fn push_parts_answer(
     Ok(())
 }
 
-/// Puts the name of a fault, and its place where it has one, after `out`.
 fn push_fault(out: &mut Answer, fault: FormatFault) -> Result<(), AllocError> {
     match fault {
         FormatFault::NoSuchName => out.put(b"NoSuchName"),
@@ -62,7 +59,6 @@ fn push_fault(out: &mut Answer, fault: FormatFault) -> Result<(), AllocError> {
     Ok(())
 }
 
-/// Puts the formatted name, or the fault, after `out`.
 fn push_format_answer(
     alloc: Global,
     out: &mut Answer,
@@ -77,7 +73,6 @@ fn push_format_answer(
     Ok(())
 }
 
-/// Puts the formatted name, `longer` where it is longer than the limit, or the fault, after `out`.
 fn push_format_within_answer(
     alloc: Global,
     out: &mut Answer,
@@ -94,7 +89,6 @@ fn push_format_within_answer(
     Ok(())
 }
 
-/// Puts one of some names, in the pattern of a case, after `out`, within a limit too.
 fn push_formatted(
     alloc: Global,
     out: &mut Answer,
@@ -109,7 +103,6 @@ fn push_formatted(
     }
 }
 
-/// Puts the answer of a case after `out`.
 pub fn push_answer(alloc: Global, out: &mut Answer, case: &str) -> Result<(), AllocError> {
     let names = text_at(alloc, case, 1)?;
     match word_at(case, 0) {

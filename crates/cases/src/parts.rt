@@ -5,7 +5,6 @@ use crate::spelling::{place_at, text_at};
 use bt_bib::{is_closed, read_bib, split_places};
 use std::alloc::{AllocError, Global};
 
-/// Puts the places where a text is cut after `out`, or a full stop if there are none.
 fn push_places(
     alloc: Global,
     out: &mut Answer,

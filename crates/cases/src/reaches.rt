@@ -6,7 +6,6 @@ use crate::styles::target_name;
 use bt_style::{Reach, Style, StyleRefusal, Target, read_style};
 use std::alloc::{AllocError, Global};
 
-/// Puts after `out` how many names are reached, and whether the held line, the preamble and the entry's type are.
 fn push_count(out: &mut Answer, reach: &Reach) {
     out.count(reach.targets.len());
     out.put(if reach.held { b" held" } else { b"" });
@@ -14,7 +13,6 @@ fn push_count(out: &mut Answer, reach: &Reach) {
     out.put(if reach.kind { b" type" } else { b"" });
 }
 
-/// Puts the names that are reached after `out`, parted by spaces.
 fn push_names(out: &mut Answer, style: &Style, reach: &Reach) {
     for (place, target) in reach.targets.as_slice().iter().enumerate() {
         out.separator(place, b" ");
@@ -38,7 +36,6 @@ fn push_told(alloc: Global, out: &mut Answer, style: &Style, case: &str) -> Resu
     Ok(())
 }
 
-/// Puts the answer of a case after `out`.
 pub fn push_answer(alloc: Global, out: &mut Answer, case: &str) -> Result<(), AllocError> {
     match read_style(alloc, &text_at(alloc, case, 1)?) {
         Ok(style) => push_told(alloc, out, &style, case)?,

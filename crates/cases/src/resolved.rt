@@ -38,7 +38,6 @@ fn declared(alloc: Global) -> Result<Declared, AllocError> {
     })
 }
 
-/// Puts a key after others where it is new.
 fn cite(alloc: Global, keys: &mut NameList, key: &str) -> Result<(), AllocError> {
     if keys.find(alloc, key.as_bytes())?.is_none() {
         keys.push(alloc, key.as_bytes())?;
@@ -59,7 +58,6 @@ fn cite_all(alloc: Global, keys: &mut NameList, word: &str) -> Result<Option<usi
     Ok(star)
 }
 
-/// How many keys stand before a `*`, if there are so many.
 fn star_within(star: Option<usize>, keys: &NameList) -> Option<usize>
     ensures { IfSome result (λ before. before ≤ length keys.now) }
 {
@@ -76,7 +74,6 @@ fn push_end(out: &mut Answer) {
     }
 }
 
-/// Puts after `out`, in brackets, each value of an entry that isn't missing.
 fn push_fields(out: &mut Answer, entry: &Entry) {
     for place in 0..entry.fields.len() {
         match entry.fields.get(place) {
@@ -90,7 +87,6 @@ fn push_fields(out: &mut Answer, entry: &Entry) {
     }
 }
 
-/// Puts an entry after `out`: its key, its type and the type's function, and its values.
 fn push_entry(out: &mut Answer, entry: &Entry) {
     push_end(out);
     out.put(entry.key.as_slice());
@@ -103,7 +99,6 @@ fn push_entry(out: &mut Answer, entry: &Entry) {
     push_fields(out, entry);
 }
 
-/// Puts a message after `out`: its rank, its place, its words, and its second line after a bar.
 fn push_message(out: &mut Answer, message: &Message) {
     push_end(out);
     match message.rank {
@@ -126,7 +121,6 @@ fn push_message(out: &mut Answer, message: &Message) {
     }
 }
 
-/// Puts the entries, the preamble if there is one, and the messages, after `out`, with ` ; ` between them.
 fn push_resolved(out: &mut Answer, resolved: &Resolved) {
     for entry in resolved.entries.as_slice() {
         push_entry(out, entry);
@@ -141,7 +135,6 @@ fn push_resolved(out: &mut Answer, resolved: &Resolved) {
     }
 }
 
-/// What is cited by a word: its keys, and how many of them stand before a `*`.
 fn cites_of(alloc: Global, word: &str) -> Result<Cites, AllocError>
     ensures { IfOk result (λ cites. IfSome cites.star (λ before. before ≤ length cites.keys)) }
 {
@@ -152,7 +145,6 @@ fn cites_of(alloc: Global, word: &str) -> Result<Cites, AllocError>
     Ok(Cites { keys, star })
 }
 
-/// Puts what citations and databases give after `out`.
 fn push_told(
     alloc: Global,
     out: &mut Answer,
@@ -171,13 +163,11 @@ fn push_told(
     Ok(())
 }
 
-/// The items of the database that a word spells.
 fn items(alloc: Global, word: &str) -> Result<Items, AllocError> {
     let text = unspelled(alloc, word)?;
     read_bib(alloc, &text)
 }
 
-/// Puts after `out` what citations and the two databases of a case give, with its `min`.
 fn push_told_of_case(
     alloc: Global,
     out: &mut Answer,

@@ -5,7 +5,6 @@ use crate::spelling::{number_in, part_at, unspelled};
 use bt_text::{Bytes, Sequence};
 use std::alloc::{AllocError, Global};
 
-/// The texts of a case's words after the first.
 fn texts_of(alloc: Global, case: &str) -> Result<Vec<Vec<u8>>, AllocError> {
     let mut texts = Vec::new(alloc);
     for word in case.split_whitespace().skip(1) {
@@ -14,7 +13,6 @@ fn texts_of(alloc: Global, case: &str) -> Result<Vec<Vec<u8>>, AllocError> {
     Ok(texts)
 }
 
-/// Texts, joined in one call.
 fn joined(alloc: Global, texts: &[Vec<u8>]) -> Result<Bytes, AllocError> {
     let mut pieces = Vec::new(alloc);
     for text in texts {
@@ -30,7 +28,6 @@ pub fn push_joined(alloc: Global, out: &mut Answer, case: &str) -> Result<(), Al
     Ok(())
 }
 
-/// The first text, with the others appended.
 fn appended(alloc: Global, texts: &[Vec<u8>]) -> Result<Bytes, AllocError> {
     let mut text = Bytes::new(alloc);
     for (place, more) in texts.iter().enumerate() {
@@ -55,7 +52,6 @@ pub fn push_appended(alloc: Global, out: &mut Answer, case: &str) -> Result<(), 
     Ok(())
 }
 
-/// A list of one number.
 fn list_of(alloc: Global, n: usize) -> Result<Sequence<usize>, AllocError> {
     let mut numbers = Sequence::new(alloc);
     numbers.push(n)?;
@@ -74,7 +70,6 @@ fn carry_out(alloc: Global, word: &str, numbers: &mut Sequence<usize>) -> Result
     Ok(())
 }
 
-/// Puts the numbers of a list after `out`, parted by commas, after how many there are.
 fn push_numbers(out: &mut Answer, numbers: &[usize]) {
     out.count(numbers.len());
     for (place, n) in numbers.iter().enumerate() {

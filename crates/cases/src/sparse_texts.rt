@@ -38,7 +38,6 @@ fn made(
     }
 }
 
-/// Sets a text at every place of a list.
 fn set_all(list: &mut SparseTexts, text: &Shared<Bytes>) -> Result<(), AllocError> {
     for place in 0..list.len() {
         list.set(place, Some(text.share()?))?;
@@ -70,7 +69,6 @@ fn carry_out(alloc: Global, word: &str, lists: &mut Vec<SparseTexts>) -> Result<
     Ok(())
 }
 
-/// Puts a text after `out`, a full stop where it is missing.
 fn push_text(out: &mut Answer, text: Option<&Shared<Bytes>>) {
     match text {
         Some(text) => out.spelled(text.as_slice()),
@@ -78,7 +76,6 @@ fn push_text(out: &mut Answer, text: Option<&Shared<Bytes>>) {
     }
 }
 
-/// Puts the texts of all places after `out`, parted by commas; a full stop where one is missing.
 fn push_all(out: &mut Answer, list: &SparseTexts) {
     for place in 0..list.len() {
         if place == 0 {

@@ -6,7 +6,6 @@ ghost use Rattle.std.specs.Prelude.{◌<◌};
 use bt_text::{Bytes, Shared};
 use std::alloc::{AllocError, Global};
 
-/// The value of a digit to base 16.
 fn digit(byte: u8) -> u8
     ensures { result < 16 }
 {
@@ -17,7 +16,6 @@ fn digit(byte: u8) -> u8
     }
 }
 
-/// Puts the bytes after `bytes` that digits to base 16 spell.
 fn push_unspelled(bytes: &mut Vec<u8>, digits: &str) -> Result<(), AllocError> {
     for pair in digits.as_bytes().chunks(2) {
         if let [high, low] = pair {
@@ -40,27 +38,22 @@ pub fn unspelled(alloc: Global, word: &str) -> Result<Vec<u8>, AllocError> {
     Ok(bytes)
 }
 
-/// The text that a word spells, for many owners.
 pub fn shared_text(alloc: Global, word: &str) -> Result<Shared<Bytes>, AllocError> {
     Shared::<Bytes>::copied(alloc, &unspelled(alloc, word)?)
 }
 
-/// The word at a place of a case.
 pub fn word_at(case: &str, place: usize) -> &str {
     case.split_whitespace().nth(place).unwrap_or("")
 }
 
-/// The number at a place of a case, or 0.
 pub fn number_at(case: &str, place: usize) -> i32 {
     word_at(case, place).parse::<i32>().unwrap_or(0)
 }
 
-/// The place at a place of a case, or 0.
 pub fn place_at(case: &str, place: usize) -> usize {
     word_at(case, place).parse::<usize>().unwrap_or(0)
 }
 
-/// The bytes that the word at a place of a case spells.
 pub fn text_at(alloc: Global, case: &str, place: usize) -> Result<Vec<u8>, AllocError> {
     unspelled(alloc, word_at(case, place))
 }

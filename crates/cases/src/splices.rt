@@ -11,7 +11,6 @@ use bt_bib::{Items, ReadMeter, read_bib};
 use bt_text::Bytes;
 use std::alloc::{AllocError, Global};
 
-/// A text with other bytes in the place of its bytes from `begin` up to `end`.
 fn spliced(
     alloc: Global,
     text: &[u8],
@@ -29,17 +28,13 @@ fn spliced(
     Ok(new)
 }
 
-/// A text that was spliced.
 #[derive(Drop)]
 struct Reread {
     text: Bytes,
-    /// Its items, of which those were read again that the splice can have changed.
     items: Items,
-    /// How many bytes were read again.
     read: u128,
 }
 
-/// A text that gets other bytes in the place of its bytes from `begin` up to `end`.
 fn respliced(
     alloc: Global,
     text: &[u8],
@@ -62,14 +57,12 @@ fn respliced(
     })
 }
 
-/// Whether items are spelled the same.
 fn are_spelled_alike(alloc: Global, items: &Items, others: &Items) -> Result<bool, AllocError> {
     let one = spelled_items(alloc, items)?;
     let other = spelled_items(alloc, others)?;
     Ok(one.as_slice() == other.as_slice())
 }
 
-/// Whether the items of a spliced text are those of the same text read from its beginning.
 fn is_alike(
     alloc: Global,
     text: &[u8],
@@ -127,8 +120,6 @@ pub fn push_answer_anywhere(alloc: Global, out: &mut Answer, case: &str) -> Resu
     push_alike_signs(alloc, out, &text, place_at(case, 2), &bytes)
 }
 
-/// Puts the number of bytes that were read again after `out`, and after it the items of the new text as those of
-/// `read_bib`.
 fn push_reread(alloc: Global, out: &mut Answer, again: &Reread) -> Result<(), AllocError> {
     out.put(format!(in alloc; "{} ", again.read)?.as_bytes());
     out.put(spelled_items(alloc, &again.items)?.as_slice());

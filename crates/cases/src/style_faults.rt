@@ -6,7 +6,6 @@ use crate::styles::push_fault;
 use bt_style::{StyleFault, StyleRefusal, read_style};
 use std::alloc::{AllocError, Global};
 
-/// The first fault of a text, if it has one.
 fn first_fault(alloc: Global, text: &[u8]) -> Result<Option<StyleFault>, AllocError> {
     match read_style(alloc, text) {
         Ok(_) => Ok(None),

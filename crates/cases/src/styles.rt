@@ -6,7 +6,6 @@ use bt_style::{Action, Command, Op, Style, StyleFault, StyleRefusal, Target, rea
 use bt_text::{Bytes, Sequence};
 use std::alloc::{AllocError, Global};
 
-/// The name at a place of a list.
 fn name_at(names: &[Bytes], place: usize) -> &[u8] {
     match names.get(place) {
         Some(name) => name.as_slice(),
@@ -21,7 +20,6 @@ fn function_name(style: &Style, place: usize) -> &[u8] {
     }
 }
 
-/// The name that something has which a name of a style stands for.
 pub fn target_name(style: &Style, target: Target) -> &[u8] {
     match target {
         Target::Builtin(builtin) => builtin.name(),
@@ -44,7 +42,6 @@ fn push_names(out: &mut Answer, label: &[u8], names: &Sequence<Bytes>) {
     out.put(b"] ");
 }
 
-/// Puts the name that something has after `out`, with a label before it.
 fn push_target(out: &mut Answer, label: &[u8], style: &Style, target: Target) {
     out.put(label);
     out.put(target_name(style, target));
@@ -104,7 +101,6 @@ fn push_functions(out: &mut Answer, style: &Style) {
     out.put(b"] ");
 }
 
-/// A command's word, and the name that it runs.
 fn command_words(style: &Style, action: Action) -> (&'static [u8], &[u8]) {
     match action {
         Action::Entry => (b"ENTRY", b"."),
@@ -120,7 +116,6 @@ fn command_words(style: &Style, action: Action) -> (&'static [u8], &[u8]) {
     }
 }
 
-/// Puts a command after `out`: its word, its line, and the name that it runs.
 fn push_command(out: &mut Answer, style: &Style, command: &Command) {
     let (word, name) = command_words(style, command.action);
     out.put(word);
@@ -150,7 +145,6 @@ fn push_style(out: &mut Answer, style: &Style) {
     push_commands(out, style);
 }
 
-/// Puts a fault, and its line, after `out`.
 pub fn push_fault(alloc: Global, out: &mut Answer, fault: StyleFault) -> Result<(), AllocError> {
     out.put(format!(in alloc; "{} {}", fault.kind, fault.line)?.as_bytes());
     Ok(())

@@ -35,7 +35,6 @@ fn push_width(out: &mut Answer, text: &[u8]) {
     }
 }
 
-/// The text that a call gives.
 fn made(alloc: Global, case: &str, text: &[u8]) -> Result<Bytes, AllocError> {
     match word_at(case, 0) {
         "purify" => purify(alloc, text),
@@ -48,13 +47,11 @@ fn made(alloc: Global, case: &str, text: &[u8]) -> Result<Bytes, AllocError> {
     }
 }
 
-/// Puts the answer of a call that gives a text after `out`.
 fn push_made(alloc: Global, out: &mut Answer, case: &str, text: &[u8]) -> Result<(), AllocError> {
     out.spelled(made(alloc, case, text)?.as_slice());
     Ok(())
 }
 
-/// Puts after `out` the text of a case with its letters changed, or whether this is the text itself.
 fn push_changed(alloc: Global, out: &mut Answer, case: &str) -> Result<(), AllocError> {
     let text = text_at(alloc, case, 2)?;
     let changed = change_case(alloc, &text, mode_of(word_at(case, 1)))?;
@@ -65,7 +62,6 @@ fn push_changed(alloc: Global, out: &mut Answer, case: &str) -> Result<(), Alloc
     Ok(())
 }
 
-/// Puts after `out` whether the two texts of a case match without regard to case.
 fn push_is_match(alloc: Global, out: &mut Answer, case: &str) -> Result<(), AllocError> {
     let text = text_at(alloc, case, 1)?;
     let other = text_at(alloc, case, 2)?;
@@ -73,7 +69,6 @@ fn push_is_match(alloc: Global, out: &mut Answer, case: &str) -> Result<(), Allo
     Ok(())
 }
 
-/// Puts after `out` what a call tells of a text.
 fn push_told(alloc: Global, out: &mut Answer, case: &str, text: &[u8]) -> Result<(), AllocError> {
     match word_at(case, 0) {
         "class" => out.put(class_name(class(text.first().copied().unwrap_or(0)))),
@@ -89,7 +84,6 @@ fn push_told(alloc: Global, out: &mut Answer, case: &str, text: &[u8]) -> Result
     Ok(())
 }
 
-/// Puts the answer of a case after `out`.
 pub fn push_answer(alloc: Global, out: &mut Answer, case: &str) -> Result<(), AllocError> {
     match word_at(case, 0) {
         "change_case" | "keeps_case" => push_changed(alloc, out, case),

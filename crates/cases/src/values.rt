@@ -5,7 +5,6 @@ use crate::spelling::{place_at, shared_text, word_at};
 use bt_text::{Bytes, Element, Shared, Values};
 use std::alloc::{AllocError, Global};
 
-/// So many numbers, each its place.
 fn places(alloc: Global, count: usize) -> Result<Values<i32>, AllocError> {
     let mut numbers = Vec::new(alloc);
     for place in 0..count.min(65_535) {
@@ -14,8 +13,6 @@ fn places(alloc: Global, count: usize) -> Result<Values<i32>, AllocError> {
     Values::from_vec(alloc, numbers)
 }
 
-/// Puts the value at each place and at the one after them after `out`, each with a comma; a full stop where there is
-/// none.
 fn push_listed(out: &mut Answer, numbers: &Values<i32>) {
     out.space();
     for place in 0..=numbers.len() {
@@ -29,7 +26,6 @@ fn push_listed(out: &mut Answer, numbers: &Values<i32>) {
     }
 }
 
-/// Puts after `out` how many values there are, how many in a vector of them, and each.
 fn push_values(alloc: Global, out: &mut Answer, numbers: &Values<i32>) -> Result<(), AllocError> {
     out.count(numbers.len());
     out.put(b" ");
@@ -38,21 +34,17 @@ fn push_values(alloc: Global, out: &mut Answer, numbers: &Values<i32>) -> Result
     Ok(())
 }
 
-/// Sets the value at a place twice, and one past the end.
 fn change(alloc: Global, numbers: &mut Values<i32>, place: usize) -> Result<(), AllocError> {
     numbers.set(alloc, place, -1)?;
     numbers.set(alloc, place, -2)?;
     numbers.set(alloc, numbers.len(), -3)
 }
 
-/// Puts after `out` whether a copy is the same.
 fn push_same<T: Element>(out: &mut Answer, copy: &Values<T>, values: &Values<T>) {
     out.space();
     out.truth(copy.is_same(values));
 }
 
-/// Puts after `out` whether a copy is the same, before and after its value at a place is set; then the values of the
-/// copy and of what was copied.
 fn push_copy(
     alloc: Global,
     out: &mut Answer,
@@ -84,7 +76,6 @@ fn push_text_at(out: &mut Answer, texts: &Values<Shared<Bytes>>, place: usize) {
     }
 }
 
-/// A text at each of so many places.
 fn texts_of(alloc: Global, count: usize, word: &str) -> Result<Values<Shared<Bytes>>, AllocError> {
     let text = shared_text(alloc, word)?;
     let mut texts = Vec::new(alloc);
@@ -94,7 +85,6 @@ fn texts_of(alloc: Global, count: usize, word: &str) -> Result<Values<Shared<Byt
     Values::from_vec(alloc, texts)
 }
 
-/// A copy that gets another text at a place.
 fn changed(
     alloc: Global,
     texts: &Values<Shared<Bytes>>,

@@ -13,12 +13,9 @@ use std::marker::Model;
 /// How many bytes of a file are read at most.
 const MOST_READ: usize = 1_048_577;
 
-/// A file by its name and its bytes.
 #[derive(Drop)]
 pub struct KeptFile {
-    /// Its name.
     pub name: Bytes,
-    /// Its bytes.
     pub bytes: Bytes,
 }
 
@@ -47,24 +44,20 @@ pub struct Memory<'a> {
     read_lines: Bytes,
 }
 
-/// So many letters.
 fn letters(alloc: Global, count: usize) -> Result<Vec<u8>, AllocError> {
     vec![in alloc; b'a'; count]
 }
 
-/// Notes that a name was asked for.
 fn note(lines: &mut Bytes, name: &[u8]) -> Result<(), AllocError> {
     lines.append(b"read ")?;
     lines.append(name)?;
     lines.append(b"\n")
 }
 
-/// Whether a name is among some.
 fn has(names: &[&str], name: &[u8]) -> bool {
     names.iter().any(|each| each.as_bytes() == name)
 }
 
-/// Puts a file after those that are there.
 fn keep(
     alloc: Global,
     files: &mut Sequence<KeptFile>,
@@ -79,7 +72,6 @@ fn keep(
     Ok(files.push(KeptFile { name, bytes })?)
 }
 
-/// Puts a name after those that are there.
 fn keep_name(alloc: Global, names: &mut Sequence<Bytes>, name: &[u8]) -> Result<(), AllocError>
     ensures ok { OnOk result (names.new ≡ names.old ++ name.now ∷ []) }
     ensures err { OnErr result (names.new ≡ names.old) }
@@ -113,7 +105,6 @@ fn last_of<'a>(files: &'a [KeptFile], name: &[u8], before: Option<&'a [u8]>) -> 
 }
 
 impl<'a> Memory<'a> {
-    /// An empty folder.
     pub fn new(alloc: Global) -> Self
         ensures { ⟦<Memory<'a> as Folder>⟧.seen result ≡ untouched }
     {

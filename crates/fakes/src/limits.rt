@@ -16,7 +16,6 @@ pub struct Limits<'a> {
 }
 
 impl Limits<'_> {
-    /// No limit, and no place that is watched.
     pub fn none() -> Self {
         Limits {
             most: usize::MAX,
@@ -26,7 +25,6 @@ impl Limits<'_> {
         }
     }
 
-    /// A write fails after so many bytes; there is no other limit.
     pub fn writes_up_to(room: usize) -> Self {
         Limits {
             write_fails: room,

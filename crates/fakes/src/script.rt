@@ -8,7 +8,6 @@ pub fn first_line(script: &[u8]) -> Option<(&str, &[u8])> {
     Some((line, script.get(end..)?.get(1..)?))
 }
 
-/// The number that a word spells, if it spells one.
 pub fn number(word: &str) -> Option<usize> {
     word.parse::<usize>().ok()
 }

@@ -18,7 +18,6 @@ pub struct Taker<'a> {
 }
 
 impl<'a> Taker<'a> {
-    /// An empty sink.
     pub fn new(alloc: Global, limits: Limits<'a>, handed_on: &'a Cell<usize>) -> Self
         ensures bytes { (⟦<Taker<'a> as Sink>⟧.seen result).contents ≡ Some [] }
         ensures failures { (⟦<Taker<'a> as Sink>⟧.seen result).failures ≡ 0 }
@@ -33,7 +32,6 @@ impl<'a> Taker<'a> {
         }
     }
 
-    /// What was written.
     pub fn bytes(&self) -> &[u8]
         ensures { Some result.now ≡ (⟦<Taker<'a> as Sink>⟧.seen self.now).contents }
     {

@@ -27,7 +27,6 @@ pub struct Giver<'a> {
 }
 
 impl<'a> Giver<'a> {
-    /// A source at the beginning of a text.
     pub fn new(
         alloc: Global,
         text: &'a [u8],

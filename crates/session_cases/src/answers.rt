@@ -3,7 +3,6 @@
 use bibtex::{Bytes, Refusal, Report, Session};
 use std::alloc::{AllocError, Global};
 
-/// Puts the names that are wanted after `out`.
 pub fn push_wanted(out: &mut Bytes, session: &Session) -> Result<(), AllocError> {
     out.append(b"wanted:")?;
     for name in session.wanted() {
@@ -12,7 +11,6 @@ pub fn push_wanted(out: &mut Bytes, session: &Session) -> Result<(), AllocError>
     out.append(b"\n")
 }
 
-/// Puts the answer to an edit after `out`.
 pub fn push_answer(
     alloc: Global,
     out: &mut Bytes,
@@ -31,18 +29,15 @@ pub fn push_answer(
     }
 }
 
-/// Puts the text that a name has after `out`.
 pub fn push_text(out: &mut Bytes, session: &Session, name: &[u8]) -> Result<(), AllocError> {
     let text = session.file(name).unwrap_or(b"none");
     out.append_all(&[name, b": ", text, b"\n"])
 }
 
-/// Puts the bibliography after `out`.
 pub fn push_bibliography(out: &mut Bytes, session: &Session) -> Result<(), AllocError> {
     out.append_all(&[b"bibliography:\n", session.bbl()])
 }
 
-/// Puts the status, the bibliography, and both logs after `out`.
 pub fn push_all(alloc: Global, out: &mut Bytes, session: &Session) -> Result<(), AllocError> {
     out.append(format!(in alloc; "status {}\n", session.status())?.as_bytes())?;
     push_bibliography(out, session)?;

@@ -3,7 +3,6 @@
 use rand_core::{Rng, SeedableRng};
 use rand_xoshiro::Xoshiro256PlusPlus;
 
-/// Random choices from a seed.
 #[derive(Drop)]
 pub struct Dice {
     words: Xoshiro256PlusPlus,

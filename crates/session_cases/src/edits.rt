@@ -9,7 +9,6 @@ use std::alloc::{AllocError, Global};
 /// The files that are spliced, the databases more often.
 const SPLICED: [&str; 6] = ["x.bib", "y.bib", "x.bib", "y.bib", "job.aux", "s.bst"];
 
-/// One of the texts of a file, as it is at first or comes back.
 fn written(
     alloc: Global,
     name: &'static str,
@@ -21,7 +20,6 @@ fn written(
     ))
 }
 
-/// A splice of a file at a random place.
 fn spliced(
     alloc: Global,
     dice: &mut Dice,
@@ -37,7 +35,6 @@ fn spliced(
     ))
 }
 
-/// The next edit of a session, and beside it the bytes that it brings.
 pub fn next_edit(
     alloc: Global,
     dice: &mut Dice,

@@ -9,7 +9,6 @@ use anyhow::Result;
 use fakes::Memory;
 use std::alloc::{AllocError, Global};
 
-/// The words of a command line, of which the first is the program's name.
 fn words_of(alloc: Global, words: Option<&str>) -> Result<Vec<String>, AllocError> {
     let mut all = Vec::new(alloc);
     all.push(String::from_str(alloc, "bibtex")?)?;
@@ -21,7 +20,6 @@ fn words_of(alloc: Global, words: Option<&str>) -> Result<Vec<String>, AllocErro
     Ok(all)
 }
 
-/// Gives a folder what a step says of a name.
 fn give<'a>(
     folder: &mut Memory<'a>,
     name: &'a str,
@@ -35,19 +33,16 @@ fn give<'a>(
     }
 }
 
-/// Tells what words ask for.
 fn options(rt: &HostRuntime, words: Option<&str>) -> Result<()> {
     let words = words_of(rt.alloc(), words)?;
     tell_options(rt, &words)
 }
 
-/// Shows the fault that words have, and each other one.
 fn faults(rt: &HostRuntime, words: Option<&str>) -> Result<()> {
     let words = words_of(rt.alloc(), words)?;
     show_faults(rt, &words)
 }
 
-/// A case as far as it is told.
 #[derive(Drop)]
 struct Case<'a> {
     folder: Memory<'a>,
@@ -58,7 +53,6 @@ struct Case<'a> {
 }
 
 impl<'a> Case<'a> {
-    /// A case with an empty folder, in which everything can be printed.
     fn new(alloc: Global) -> Case<'a> {
         Case {
             folder: Memory::new(alloc),
@@ -67,7 +61,6 @@ impl<'a> Case<'a> {
         }
     }
 
-    /// Carries out a step.
     fn carry_out(&mut self, rt: &HostRuntime, step: Step<'a>) -> Result<()> {
         let alloc = rt.alloc();
         match step {
@@ -85,7 +78,6 @@ impl<'a> Case<'a> {
         Ok(())
     }
 
-    /// Runs the job that words ask for.
     fn run(&mut self, rt: &HostRuntime, words: Option<&str>) -> Result<()> {
         let words = words_of(rt.alloc(), words)?;
         tell_run(rt, &words, &mut self.folder, (self.out, self.err))

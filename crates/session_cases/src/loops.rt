@@ -29,7 +29,6 @@ fn answer_input<S: Source, K: Sink>(
     serve(alloc, source, sink, session)
 }
 
-/// Tells how a session ended, what was read and written, and the files that are there.
 fn tell(
     rt: &HostRuntime,
     title: &str,
@@ -56,7 +55,6 @@ fn tell(
     Ok(())
 }
 
-/// Answers an input on a new session, and tells what came of it.
 fn answer(rt: &HostRuntime, title: &str, input: &[u8], limits: Limits<'_>) -> Result<()> {
     let alloc = rt.alloc();
     let mut session = Session::new(alloc, b"job", 2)?;
@@ -111,7 +109,6 @@ fn fail_writes(
     Ok(())
 }
 
-/// Shows each fault of the loop and each refusal of an edit.
 fn show_faults(rt: &HostRuntime) -> Result<()> {
     println!(rt; "{StreamFailed}")?;
     for fault in [
@@ -134,7 +131,6 @@ fn show_faults(rt: &HostRuntime) -> Result<()> {
     Ok(())
 }
 
-/// Answers an input as a step says.
 fn answer_as(rt: &HostRuntime, step: Step<'_>, input: &[u8], limits: Limits<'_>) -> Result<()> {
     match step {
         Step::Serve => answer(rt, "whole input", input, limits),
@@ -146,7 +142,6 @@ fn answer_as(rt: &HostRuntime, step: Step<'_>, input: &[u8], limits: Limits<'_>)
     }
 }
 
-/// Puts so many letters after an input.
 fn push_letters(input: &mut Vec<u8>, count: usize) -> Result<(), AllocError> {
     for _ in 0..count {
         input.push(b'a')?;
@@ -154,7 +149,6 @@ fn push_letters(input: &mut Vec<u8>, count: usize) -> Result<(), AllocError> {
     Ok(())
 }
 
-/// The places that a step names.
 fn places(alloc: Global, words: &str) -> Result<Vec<usize>, AllocError> {
     let mut places = Vec::new(alloc);
     for word in words.split(',') {
@@ -172,7 +166,6 @@ struct Case {
 }
 
 impl Case {
-    /// No input, and no limit.
     fn new(alloc: Global) -> Self {
         Case {
             input: Vec::new(alloc),
@@ -181,7 +174,6 @@ impl Case {
         }
     }
 
-    /// Answers the input as a step says.
     fn answer(&self, rt: &HostRuntime, step: Step<'_>) -> Result<()> {
         let limits = Limits {
             most: self.most,
@@ -191,7 +183,6 @@ impl Case {
         answer_as(rt, step, self.input.as_slice(), limits)
     }
 
-    /// Takes a step.
     fn take(&mut self, rt: &HostRuntime, step: Step<'_>) -> Result<()> {
         match step {
             Step::Text(bytes) => self.input.extend_from_slice(bytes)?,

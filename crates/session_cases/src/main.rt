@@ -26,7 +26,6 @@ use std::env;
 use std::io::Read;
 use std::process::ExitCode;
 
-/// Answers the script of standard input, and says how much of it is no script.
 fn answer_script(rt: &HostRuntime) -> Result<()> {
     let mut script = Vec::new(rt.alloc());
     rt.stdin().read_to_end(&mut script)?;

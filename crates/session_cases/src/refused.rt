@@ -127,7 +127,6 @@ fn verdict_of(alloc: Global, case: &str, part: Part) -> Result<Verdict, AllocErr
     }
 }
 
-/// What comes of a case of a command line, a job or a session.
 fn verdict_on_program(
     alloc: Global,
     group: &str,
@@ -151,7 +150,6 @@ pub fn all_are_right(alloc: Global) -> Result<bool, AllocError> {
     Ok(true)
 }
 
-/// The part that a word names.
 fn part_of(word: &str) -> Part {
     match word {
         "setup" => Part::Setup,
@@ -160,7 +158,6 @@ fn part_of(word: &str) -> Part {
     }
 }
 
-/// What comes of the case and the part that the words name.
 fn told(alloc: Global, words: &[String]) -> Result<Verdict, AllocError> {
     match words {
         [case, part] => verdict_of(alloc, case.as_str(), part_of(part.as_str())),
@@ -169,7 +166,6 @@ fn told(alloc: Global, words: &[String]) -> Result<Verdict, AllocError> {
     }
 }
 
-/// The names of all cases, a line each.
 pub fn show_names(rt: &HostRuntime) -> anyhow::Result<()> {
     for case in CASES {
         println!(rt; "{case}")?;

@@ -45,7 +45,6 @@ fn push_told(
     }
 }
 
-/// Puts what comes of an edit after `out`.
 fn push_edited(
     alloc: Global,
     out: &mut Bytes,
@@ -58,7 +57,6 @@ fn push_edited(
     push_told(alloc, out, &answer, before.as_slice() == after.as_slice())
 }
 
-/// Puts what comes of a write of so many letters after `out`.
 fn push_lettered(
     alloc: Global,
     out: &mut Bytes,
@@ -71,7 +69,6 @@ fn push_lettered(
     push_edited(alloc, out, session, edit)
 }
 
-/// Puts after `out` whether the steps of two entries agree.
 fn push_agreement(
     alloc: Global,
     out: &mut Bytes,
@@ -86,7 +83,6 @@ fn push_agreement(
     })
 }
 
-/// Puts after `out` what a step shows that makes no edit.
 fn push_shown(
     alloc: Global,
     out: &mut Bytes,
@@ -102,7 +98,6 @@ fn push_shown(
     }
 }
 
-/// Puts what comes of a step after `out`.
 fn push_step(
     alloc: Global,
     out: &mut Bytes,
@@ -116,7 +111,6 @@ fn push_step(
     }
 }
 
-/// Answers a step.
 fn answer_step(rt: &HostRuntime, session: &mut Session, step: Step<'_>) -> Result<()> {
     let mut out = Bytes::new(rt.alloc());
     push_step(rt.alloc(), &mut out, session, step)?;

@@ -2,12 +2,10 @@
 
 use fakes::{first_line, number};
 
-/// What a folder gives for a name.
 #[derive(Clone, Copy)]
 pub enum Content<'a> {
     /// These bytes.
     Bytes(&'a [u8]),
-    /// So many letters.
     Letters(usize),
     /// Bytes for which there is no room.
     NoRoom,
@@ -34,7 +32,6 @@ pub enum Step<'a> {
     Faults(Option<&'a str>),
 }
 
-/// A file whose bytes follow its line.
 fn file_step<'a>(words: &'a str, behind: &'a [u8]) -> Option<(Step<'a>, &'a [u8])> {
     let (name, count) = words.split_once(' ')?;
     let count = number(count)?;
@@ -45,13 +42,11 @@ fn file_step<'a>(words: &'a str, behind: &'a [u8]) -> Option<(Step<'a>, &'a [u8]
     ))
 }
 
-/// A file of letters.
 fn letters_step(words: &str) -> Option<Step<'_>> {
     let (name, count) = words.split_once(' ')?;
     Some(Step::File(name, Content::Letters(number(count)?)))
 }
 
-/// A step that stands in its line alone.
 fn line_step<'a>(word: &str, rest: Option<&'a str>) -> Option<Step<'a>> {
     match (word, rest) {
         ("case", Some(name)) => Some(Step::Case(name)),

@@ -10,14 +10,12 @@ use fakes::{Limits, Memory, Taker};
 use std::alloc::{AllocError, Global};
 use std::cell::Cell;
 
-/// Prints bytes after a title, and how many there are.
 fn tell_bytes(rt: &impl Print, title: &str, bytes: &[u8]) -> Result<()> {
     let text = str::from_utf8(bytes).unwrap_or("no text\n");
     print!(rt; "{title} {}\n{text}", bytes.len())?;
     Ok(())
 }
 
-/// Tells why words ask for nothing that can be done.
 fn tell_fault(rt: &impl Print, fault: &OptionsFault) -> Result<()> {
     match fault {
         OptionsFault::Parser(fault) if fault.exit_code() == 0 => println!(rt; "help")?,
@@ -39,7 +37,6 @@ pub fn show_faults(rt: &HostRuntime, words: &[String]) -> Result<()> {
     Ok(())
 }
 
-/// Tells what words ask for.
 pub fn tell_options(rt: &HostRuntime, words: &[String]) -> Result<()> {
     match parse_options(rt.alloc(), words) {
         Ok(options) => {
@@ -73,7 +70,6 @@ fn run_job<F: Folder, O: Sink, E: Sink>(
     one_shot(alloc, options, folder, out, err)
 }
 
-/// Tells how a job ended, and all that it read and wrote.
 fn tell_ended(
     rt: &HostRuntime,
     status: u8,
@@ -91,7 +87,6 @@ fn tell_ended(
     tell_bytes(rt, "err", err)
 }
 
-/// Runs a job, and tells all that it read and wrote.
 fn run<'a>(
     rt: &HostRuntime,
     options: &Options,
@@ -109,7 +104,6 @@ fn run<'a>(
     tell_ended(rt, status, folder, out.bytes(), err.bytes())
 }
 
-/// Runs the job that words ask for, and tells all that it read and wrote.
 pub fn tell_run(
     rt: &HostRuntime,
     words: &[String],

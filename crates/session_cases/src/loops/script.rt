@@ -2,7 +2,6 @@
 
 use fakes::{first_line, number};
 
-/// A step of a case.
 #[derive(Clone, Copy)]
 pub enum Step<'a> {
     /// `case NAME`: begins a case, with no input and no limit.
@@ -27,7 +26,6 @@ pub enum Step<'a> {
     Faults,
 }
 
-/// A step that names no number.
 fn plain_step<'a>(word: &str, rest: &'a str) -> Option<Step<'a>> {
     match word {
         "case" => Some(Step::Case(rest)),
@@ -38,7 +36,6 @@ fn plain_step<'a>(word: &str, rest: &'a str) -> Option<Step<'a>> {
     }
 }
 
-/// A step that names one number.
 fn counted_step<'a>(word: &str, count: usize) -> Option<Step<'a>> {
     match word {
         "letters" => Some(Step::Letters(count)),
@@ -47,7 +44,6 @@ fn counted_step<'a>(word: &str, count: usize) -> Option<Step<'a>> {
     }
 }
 
-/// A step that names two numbers.
 fn range_step<'a>(word: &str, rest: &'a str) -> Option<Step<'a>> {
     let (first, end) = rest.split_once(' ')?;
     let (first, end) = (number(first)?, number(end)?);
@@ -59,7 +55,6 @@ fn range_step<'a>(word: &str, rest: &'a str) -> Option<Step<'a>> {
     }
 }
 
-/// A step that stands in its line alone.
 fn line_step<'a>(word: &str, rest: &'a str) -> Option<Step<'a>> {
     match word {
         "case" | "watch" | "serve" | "faults" => plain_step(word, rest),

@@ -49,7 +49,6 @@ fn by_example<C: Case>(alloc: Global, example: &mut C, name: &str) -> Result<Wan
     Ok(Wanted { before, after })
 }
 
-/// Whether this is what is seen.
 fn shows<C: Case>(alloc: Global, case: &C, wanted: &Bytes) -> Result<bool, AllocError> {
     let seen = case.seen(alloc)?;
     Ok(seen.as_slice() == wanted.as_slice())

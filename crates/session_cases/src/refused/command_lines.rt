@@ -5,7 +5,6 @@ use bt_one_shot::{Options, OptionsFault, parse_options};
 use bt_text::Bytes;
 use std::alloc::{AllocError, Global};
 
-/// The words of a group, of which the first is the program's name.
 const LINES: &[(&str, &[&str])] = &[
     (
         "words",
@@ -16,14 +15,12 @@ const LINES: &[(&str, &[&str])] = &[
     ("wrong-name", &["bibtex", "a b"]),
 ];
 
-/// A command line, and what came of it.
 #[derive(Drop)]
 pub struct CommandLine {
     words: Vec<String>,
     answer: Option<Result<Options, OptionsFault>>,
 }
 
-/// The words of a group.
 fn line_of(group: &str) -> &'static [&'static str] {
     for (name, words) in LINES {
         if *name == group {
@@ -33,7 +30,6 @@ fn line_of(group: &str) -> &'static [&'static str] {
     &[]
 }
 
-/// What options or a fault show.
 fn shown(alloc: Global, answer: &Result<Options, OptionsFault>) -> Result<String, AllocError> {
     match answer {
         Ok(options) => {

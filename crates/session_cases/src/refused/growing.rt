@@ -21,7 +21,6 @@ pub struct Growing {
     found: Option<Bytes>,
 }
 
-/// Puts a name at the end, if it isn't there.
 fn push_name(alloc: Global, names: &mut NameList, name: &[u8]) -> Result<(), AllocError> {
     if names.find(alloc, name)?.is_none() {
         names.push(alloc, name)?;
@@ -37,7 +36,6 @@ fn felt(answer: Result<(), HeldFault>) -> Result<(), AllocError> {
     }
 }
 
-/// So many short texts.
 fn listed(alloc: Global, count: usize) -> Result<Sequence<Bytes>, AllocError> {
     let mut list = Sequence::new(alloc);
     for number in 0..count {
@@ -53,7 +51,6 @@ fn names(alloc: Global) -> Result<NameList, AllocError> {
     Ok(names)
 }
 
-/// So many values that the table is full.
 fn values(alloc: Global) -> Result<ByName<usize>, AllocError> {
     let mut values = ByName::new(alloc);
     for name in ["a", "b", "c", "d", "e", "f", "g", "h", "i"] {
@@ -74,14 +71,12 @@ fn set(alloc: Global, texts: &mut SparseTexts) -> Result<(), AllocError> {
     texts.set(9, Some(line))
 }
 
-/// A line that holds a word.
 fn held(alloc: Global) -> Result<Held, AllocError> {
     let mut held = Held::new(alloc);
     felt(held.write(alloc, b"held ", &mut Sequence::new(alloc)))?;
     Ok(held)
 }
 
-/// How a name is spelled in a list.
 fn found_name(alloc: Global, names: &NameList) -> Result<Bytes, AllocError> {
     match names.find(alloc, b"NAME 1")? {
         Some(name) => Bytes::copied(alloc, name.as_slice()),
@@ -89,7 +84,6 @@ fn found_name(alloc: Global, names: &NameList) -> Result<Bytes, AllocError> {
     }
 }
 
-/// Whether a name has a value.
 fn found_value(alloc: Global, values: &ByName<usize>) -> Result<Bytes, AllocError> {
     match values.get(alloc, b"C")? {
         Some(_) => Bytes::copied(alloc, b"there"),
@@ -97,7 +91,6 @@ fn found_value(alloc: Global, values: &ByName<usize>) -> Result<Bytes, AllocErro
     }
 }
 
-/// A copy of what a line holds.
 fn copied(alloc: Global, held: &Held) -> Result<Bytes, AllocError> {
     let copy = held.copy(alloc)?;
     Bytes::copied(alloc, copy.bytes())

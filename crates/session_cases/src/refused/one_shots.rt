@@ -38,7 +38,6 @@ pub struct Job {
     is_wrong: bool,
 }
 
-/// A folder of these texts, but for the one at a place.
 fn folder(alloc: Global, texts: &[Text], left_out: usize) -> Result<Memory<'static>, AllocError> {
     let mut folder = Memory::new(alloc);
     for (place, (name, text)) in texts.iter().enumerate() {
@@ -77,7 +76,6 @@ fn shoot<F: Folder, O: Sink, E: Sink>(
     one_shot(alloc, options, folder, out, err)
 }
 
-/// Makes a run.
 fn carry_out(alloc: Global, options: &Options, run: &mut Run) -> Result<(), AllocError> {
     if !is_root_name(options.root.as_slice()) || run.folder.failures() >= u64::MAX {
         return Err(AllocError);
@@ -101,7 +99,6 @@ fn other(
     Ok(other)
 }
 
-/// The runs of a job without each of its files, and then with all.
 fn others(alloc: Global, options: &Options, texts: &[Text]) -> Result<Vec<Run>, AllocError> {
     let mut others = Vec::new(alloc);
     for left_out in 0..=texts.len() {
@@ -110,7 +107,6 @@ fn others(alloc: Global, options: &Options, texts: &[Text]) -> Result<Vec<Run>, 
     Ok(others)
 }
 
-/// Whether two files are there, and are the same.
 fn same_file(one: Option<&KeptFile>, other: Option<&KeptFile>) -> bool {
     match (one, other) {
         (Some(one), Some(other)) => {
@@ -129,7 +125,6 @@ fn wrote_same(run: &Run, other: &Run, count: usize) -> bool {
         && (count < 2 || same_file(files.get(1), others.get(1)))
 }
 
-/// Whether a run did what another did.
 fn did_same(one: &Run, other: &Run) -> bool {
     wrote_same(one, other, 2)
         && one.out.as_slice() == other.out.as_slice()

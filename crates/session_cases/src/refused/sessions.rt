@@ -14,7 +14,6 @@ pub struct Edited {
     log: Bytes,
 }
 
-/// The edit of a name.
 fn edit_of(name: &str) -> Edit<'static> {
     for (known, edit) in EDITS {
         if *known == name {
@@ -44,7 +43,6 @@ fn listed(
     }
 }
 
-/// All that a session shows.
 fn shown(alloc: Global, session: &Session) -> Result<Bytes, AllocError> {
     let mut seen = Bytes::new(alloc);
     seen.append_all(&[
@@ -67,7 +65,6 @@ fn shown(alloc: Global, session: &Session) -> Result<Bytes, AllocError> {
     Ok(seen)
 }
 
-/// Gives a draft these texts.
 fn fill(draft: &mut Draft, texts: &[Text]) -> Result<(), AllocError> {
     for (name, text) in texts {
         if draft.edit(Edit::Write(name, text)).is_err() {
@@ -77,7 +74,6 @@ fn fill(draft: &mut Draft, texts: &[Text]) -> Result<(), AllocError> {
     Ok(())
 }
 
-/// A draft of these texts.
 pub fn drafted(alloc: Global, texts: &[Text]) -> Result<Draft, AllocError> {
     let Ok(mut draft) = Draft::new(alloc, b"job", 2) else {
         return Err(AllocError);
@@ -86,7 +82,6 @@ pub fn drafted(alloc: Global, texts: &[Text]) -> Result<Draft, AllocError> {
     Ok(draft)
 }
 
-/// A session of these texts, which is run once.
 pub fn begun(alloc: Global, texts: &[Text]) -> Result<Session, AllocError> {
     let draft = drafted(alloc, texts)?;
     Session::of(draft)
@@ -130,7 +125,6 @@ impl Case for Edited {
     }
 }
 
-/// The beginning of a session.
 #[derive(Drop)]
 pub struct Beginning {
     session: Option<Session>,

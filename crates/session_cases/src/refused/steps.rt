@@ -31,7 +31,6 @@ fn numbers(alloc: Global) -> Result<Values<i32>, AllocError> {
     Values::from_vec(alloc, numbers)
 }
 
-/// Three numbers and two texts.
 fn variables(alloc: Global) -> Result<Shared<Variables>, AllocError> {
     let mut texts = Vec::new(alloc);
     texts.push(text(alloc, b"")?)?;
@@ -41,7 +40,6 @@ fn variables(alloc: Global) -> Result<Shared<Variables>, AllocError> {
     Shared::new(alloc, Variables { numbers, texts })
 }
 
-/// A title, and no `crossref`.
 fn fields(alloc: Global) -> Result<Shared<SparseTexts>, AllocError> {
     let mut fields = SparseTexts::new(alloc, 2);
     fields.set(1, Some(text(alloc, b"A {\\'E}tude of Many Words")?))?;
@@ -58,7 +56,6 @@ fn entry(alloc: Global, key: &[u8]) -> Result<Entry, AllocError> {
     })
 }
 
-/// What the step is given for the entry of a key.
 pub fn input(alloc: Global, key: &[u8]) -> Result<Input, AllocError> {
     let preamble = text(alloc, b"pre")?;
     let globals = variables(alloc)?;
@@ -72,7 +69,6 @@ pub fn input(alloc: Global, key: &[u8]) -> Result<Input, AllocError> {
     })
 }
 
-/// The style.
 pub fn style(alloc: Global) -> Result<Style, AllocError> {
     match read_style(alloc, STYLE) {
         Ok(style) => Ok(style),
@@ -81,14 +77,12 @@ pub fn style(alloc: Global) -> Result<Style, AllocError> {
 }
 
 impl Step {
-    /// Works out what is reached.
     fn work_out(&mut self, alloc: Global) -> Result<(), AllocError> {
         let reach = self.style.reach(alloc, Target::Function(0), None)?;
         self.reach = Some(reach);
         Ok(())
     }
 
-    /// Carries the step out.
     fn carry_out(&mut self, alloc: Global) -> Result<(), AllocError> {
         if self.meter.value() > 1_000_000 {
             return Err(AllocError);

@@ -120,7 +120,6 @@ pub const EDITS: &[(&str, Edit<'static>)] = &[
     ("min", Edit::MinCrossrefs(1)),
 ];
 
-/// The files of a state.
 pub fn texts_of(state: &str) -> &'static [Text] {
     for (name, texts) in STATES {
         if *name == state {

@@ -15,7 +15,6 @@ fn text(alloc: Global, text: &str) -> Result<Shared<Bytes>, AllocError> {
     Shared::<Bytes>::copied(alloc, text.as_bytes())
 }
 
-/// An entry's variables: `sort.key$` alone.
 fn entry_variables(alloc: Global) -> Result<Shared<Variables>, AllocError> {
     let mut texts = Vec::new(alloc);
     texts.push(text(alloc, "")?)?;
@@ -24,7 +23,6 @@ fn entry_variables(alloc: Global) -> Result<Shared<Variables>, AllocError> {
     Shared::new(alloc, Variables { numbers, texts })
 }
 
-/// The globals: `entry.max$` and `global.max$`.
 fn globals(alloc: Global) -> Result<Shared<Variables>, AllocError> {
     let mut numbers = Vec::new(alloc);
     numbers.push(250)?;
@@ -34,7 +32,6 @@ fn globals(alloc: Global) -> Result<Shared<Variables>, AllocError> {
     Shared::new(alloc, Variables { numbers, texts })
 }
 
-/// A title and a note, and no `crossref`.
 fn fields(alloc: Global, title: &str, note: &str) -> Result<Shared<SparseTexts>, AllocError> {
     let mut fields = SparseTexts::new(alloc, 3);
     fields.set(1, Some(text(alloc, title)?))?;
@@ -42,7 +39,6 @@ fn fields(alloc: Global, title: &str, note: &str) -> Result<Shared<SparseTexts>,
     Shared::new(alloc, fields)
 }
 
-/// The entry that words spell: its key, its title and its note.
 fn entry(alloc: Global, words: &str) -> Result<Entry, AllocError> {
     let mut words = words.split(',');
     let key = words.next().unwrap_or("");
@@ -57,7 +53,6 @@ fn entry(alloc: Global, words: &str) -> Result<Entry, AllocError> {
     })
 }
 
-/// What the step of an entry is given.
 fn input(alloc: Global, words: &str) -> Result<Input, AllocError> {
     let preamble = text(alloc, "")?;
     let globals = globals(alloc)?;
@@ -71,7 +66,6 @@ fn input(alloc: Global, words: &str) -> Result<Input, AllocError> {
     })
 }
 
-/// Whether the steps of two entries agree under a style of which they reach this.
 fn agree_under(
     alloc: Global,
     style: &Style,
@@ -84,7 +78,6 @@ fn agree_under(
     Ok(agrees(style, &one, &other, reach))
 }
 
-/// Whether the steps of two entries agree under a style.
 fn agree_in(alloc: Global, style: &Style, one: &str, other: &str) -> Result<bool, AllocError> {
     let reach = style.reach(alloc, TARGET, Some(0))?;
     agree_under(alloc, style, &reach, one, other)

@@ -11,17 +11,14 @@ use bt_serve::serve;
 use bt_streams::{ReaderSource, Sink, Source, WriterSink};
 use std::alloc::{AllocError, Global};
 
-/// The log of a session without files.
 const NO_FILES: &[u8] = b"I couldn't open auxiliary file job.aux\n(That was a fatal error)\n";
 
 /// How the log of the two entries begins.
 const TWO_FILES: &[u8] =
     b"The top-level auxiliary file: job.aux\nThe style file: s.bst\nDatabase file #1: x.bib\n";
 
-/// An edit of bytes that no text has.
 const SPLICE: Edit<'static> = Edit::Splice(b"x.bib", 1, 100_000, b"");
 
-/// Whether these names are the root's file alone.
 fn wants_root(names: &[Bytes]) -> bool {
     match names {
         [name] => name.as_slice() == b"job.aux".as_slice(),
@@ -41,7 +38,6 @@ fn shows_no_files(session: &Session) -> bool {
         && session.refusal(SPLICE, 9) == Some(Refusal::NoSuchFile)
 }
 
-/// Whether a session of the two entries answers what it must.
 fn shows_two(session: &Session) -> bool {
     session.bbl() == b"A\nB\n".as_slice()
         && session.blg().starts_with(TWO_FILES)
@@ -54,14 +50,12 @@ fn shows_two(session: &Session) -> bool {
         && session.refusal(SPLICE, 9) == Some(Refusal::RangeOutside)
 }
 
-/// Whether a session with errors answers what it must.
 fn shows_errors(session: &Session) -> bool {
     session.status() == 2
         && status(session.messages()) == 2
         && session.refusal(SPLICE, 9) == Some(Refusal::RangeOutside)
 }
 
-/// A session without files.
 #[derive(Drop)]
 pub struct AskedOfNone {
     session: Session,
@@ -78,7 +72,6 @@ impl Free for AskedOfNone {
     }
 }
 
-/// A session of the two entries.
 #[derive(Drop)]
 pub struct AskedOfTwo {
     session: Session,
@@ -95,7 +88,6 @@ impl Free for AskedOfTwo {
     }
 }
 
-/// A session with errors.
 #[derive(Drop)]
 pub struct AskedOfErrors {
     session: Session,
@@ -137,7 +129,6 @@ pub struct Refusing {
     many: Vec<u8>,
 }
 
-/// Gives a draft more files, until there are as many as there may be.
 fn fill_up(alloc: Global, draft: &mut Draft, present: usize) -> Result<(), AllocError> {
     for number in present..FILE_LIMIT {
         let name = format!(in alloc; "more-{number}")?;
@@ -148,7 +139,6 @@ fn fill_up(alloc: Global, draft: &mut Draft, present: usize) -> Result<(), Alloc
     Ok(())
 }
 
-/// A session with as many files as there may be.
 fn full_session(alloc: Global) -> Result<Session, AllocError> {
     let texts = texts_of("two");
     let mut draft = drafted(alloc, texts)?;
@@ -156,12 +146,10 @@ fn full_session(alloc: Global) -> Result<Session, AllocError> {
     Session::of(draft)
 }
 
-/// So many letters.
 fn letters(alloc: Global, count: usize) -> Result<Vec<u8>, AllocError> {
     vec![in alloc; b'a'; count]
 }
 
-/// Whether an edit is refused for this reason, and changes nothing that the session answers.
 fn is_refused(session: &mut Session, edit: Edit<'_>, reason: Refusal) -> bool {
     let is_refused = match session.edit(edit) {
         Err(refusal) => refusal == reason,
@@ -182,7 +170,6 @@ fn refuses_many(session: &mut Session, many: &[u8]) -> bool {
         )
 }
 
-/// Whether no session begins with a name that no root has.
 fn refuses_root(alloc: Global) -> bool {
     match Session::new(alloc, b"a b", 2) {
         Err(refusal) => refusal == Refusal::BadName,
@@ -190,7 +177,6 @@ fn refuses_root(alloc: Global) -> bool {
     }
 }
 
-/// Whether each edit of the list is refused.
 fn refuses_listed(session: &mut Session) -> bool {
     for (edit, reason) in REFUSED {
         if !is_refused(session, *edit, *reason) {

@@ -30,13 +30,11 @@ pub struct Agreement {
     reach: Reach,
 }
 
-/// What the step reaches.
 fn reached(alloc: Global, style: &Style) -> Result<Reach, AllocError> {
     style.reach(alloc, Target::Function(0), None)
 }
 
 impl Agreement {
-    /// Whether an input agrees with the first one.
     fn agrees_with(&self, other: &Input) -> bool {
         agrees(&self.style, &self.one, other, &self.reach)
     }

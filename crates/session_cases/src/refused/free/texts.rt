@@ -57,7 +57,6 @@ impl Free for Texts {
 #[derive(Drop)]
 pub struct Names;
 
-/// Whether the parts of a name are refused for this reason.
 fn has_no_parts(alloc: Global, names: &[u8], n: i32, fault: NameFault) -> bool {
     match parts(alloc, names, n) {
         Err(found) => found == fault,
@@ -65,7 +64,6 @@ fn has_no_parts(alloc: Global, names: &[u8], n: i32, fault: NameFault) -> bool {
     }
 }
 
-/// Whether the first name isn't formatted, for this reason.
 fn is_not_formatted(alloc: Global, names: &[u8], pattern: &[u8], fault: FormatFault) -> bool {
     match format(alloc, names, 1, pattern) {
         Err(found) => found == fault,
@@ -102,7 +100,6 @@ pub struct FullLine {
     lines: Sequence<Bytes>,
 }
 
-/// Whether a write of a text is too long, and changes nothing.
 fn is_too_long(alloc: Global, line: &mut FullLine, text: &[u8]) -> bool {
     let is_refused = match line.held.write(alloc, text, &mut line.lines) {
         Err(fault) => fault == HeldFault::TooLong,
