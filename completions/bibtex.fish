@@ -11,7 +11,7 @@ function __fish_bibtex_jobs
 end
 
 complete -c bibtex -f -a '(__fish_bibtex_jobs)'
-complete -c bibtex -o terse -l terse -d 'Print no progress lines'
+complete -c bibtex -o terse -l terse -d 'Print only messages'
 complete -c bibtex -o min-crossrefs -l min-crossrefs -x -d 'Include an uncited entry once N entries cross-reference it'
 complete -c bibtex -o quiet -l quiet -d 'Print no hints'
 complete -c bibtex -o no-fallback -l no-fallback -d 'Never let another bibtex do the job'
