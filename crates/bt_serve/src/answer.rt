@@ -22,11 +22,11 @@ fn take_edit<S: Source>(
     alloc: Global,
     source: &mut S,
     session: &mut Session,
-    edit: Edit<'_>,
+    bare: Edit<'_>,
     count: usize,
 ) -> Result<Result<Report, Refusal>, ServeFault>
     requires { (S.seen source.old).failures < 2 ^ 64 - 1 }
-    ensures takes { Takes (edit_of edit.entry) count (S.seen source.old).rest (S.seen source.new).rest
+    ensures takes { Takes (edit_of bare.entry) count (S.seen source.old).rest (S.seen source.new).rest
         session.old session.new result }
     ensures lowers { (S.seen source.new).reads_left ≤ (S.seen source.old).reads_left }
     ensures ok { OnOk result ((S.seen source.new).failures ≡ (S.seen source.old).failures) }
@@ -34,7 +34,7 @@ fn take_edit<S: Source>(
         (S.seen source.new).failures ≡ (S.seen source.old).failures + 1 }
 {
     let Some(mut bytes) = room(alloc, count) else {
-        let refusal = session.refusal(edit, count);
+        let refusal = session.refusal(bare, count);
         return match drop_bytes(source, count) {
             Err(_) => Err(ServeFault::ReadFailed),
             Ok(false) => Err(ServeFault::Truncated),
@@ -44,7 +44,7 @@ fn take_edit<S: Source>(
     match read_bytes(source, &mut bytes) {
         Err(_) => Err(ServeFault::ReadFailed),
         Ok(false) => Err(ServeFault::Truncated),
-        Ok(true) => Ok(session.edit(edit.with(&bytes))),
+        Ok(true) => Ok(session.edit(bare.with(&bytes))),
     }
 }
 
@@ -58,25 +58,25 @@ fn room(alloc: Global, count: usize) -> Option<Vec<u8>>
     vec![in alloc; 0; count].ok()
 }
 
-/// Answers an edit, whose bytes are next in the source. It isn't the last command.
+/// Answers an edit that doesn't have its bytes yet; they are next in the source. It isn't the last command.
 fn answer_edit<S: Source, K: Sink>(
     alloc: Global,
     source: &mut S,
     sink: &mut K,
     session: &mut Session,
-    edit: Edit<'_>,
+    bare: Edit<'_>,
     count: usize,
 ) -> Result<bool, ServeFault>
     requires reads { (S.seen source.old).failures < 2 ^ 64 - 1 }
     requires writes { (K.seen sink.old).failures < 2 ^ 64 - 1 }
-    ensures replies { Replies (edit (edit_of edit.entry) count) (S.seen source.old).rest (S.seen source.new).rest
+    ensures replies { Replies (edit (edit_of bare.entry) count) (S.seen source.old).rest (S.seen source.new).rest
         (K.seen sink.old).contents (K.seen sink.new).contents session.old session.new result }
     ensures lowers { (S.seen source.new).reads_left ≤ (S.seen source.old).reads_left }
     ensures failures { CountsFailures (S.seen source.old).failures (S.seen source.new).failures
         (K.seen sink.old).failures (K.seen sink.new).failures result }
     ensures flushed { HandsOn (K.seen sink.old).is_flushed (K.seen sink.new).is_flushed result }
 {
-    let taken = take_edit(alloc, source, session, edit, count)?;
+    let taken = take_edit(alloc, source, session, bare, count)?;
     match say_taken(sink, taken) {
         Ok(()) => Ok(false),
         Err(_) => Err(ServeFault::WriteFailed),
