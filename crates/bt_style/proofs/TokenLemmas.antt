@@ -5,7 +5,7 @@ use Rattle.std.proofs.lemmas.List.Sums.{sum_by-cons}
 use Rattle.std.specs.Prelude.{Option}
 use Rattle.bt_style.specs.Token.{AtEnd, piece_at, with_token, is_line_feed, line_after, tokens_after}
 use Rattle.bt_style.specs.inner.Cursor.{front_piece, IsPiece, maybe_placed}
-use Rattle.bt_style.specs.declared.token.Token.{Token as Found}
+use Rattle.bt_style.specs.declared.token.TokenKind.{TokenKind}
 
 pub line_after_is : (b line : ℕ) → line_after b line ≡ line + cond (is_line_feed b) 1 0
 line_after_is b line =
@@ -28,14 +28,14 @@ behind_piece zero line b bytes h = absurd (omega arith)
 behind_piece (suc n) line b bytes h = let e : suc n - 1 ≡ n = omega arith in rw e (passed (suc n) line (b ∷ bytes))
 
 -- the front piece, and what stands after it
-pub front : (line : ℕ) (text : List ℕ) (found : Option Found) (size : ℕ) → 0 < length text →
-    IsPiece (front_piece text) line found size (length text) →
-    tokens_after 0 line text ≡ maybe_placed found (tokens_after 0 (line + count_by is_line_feed (take size text)) (drop size text))
+pub front : (line : ℕ) (text : List ℕ) (found : Option TokenKind) (size : ℕ) → 0 < length text →
+    IsPiece (front_piece text) found size (length text) →
+    tokens_after 0 line text ≡ maybe_placed found line (tokens_after 0 (line + count_by is_line_feed (take size text)) (drop size text))
 unfolding tokens_after
 front line [] found size h p = absurd (omega arith)
 front line (b ∷ bytes) found size h p =
     let e : (piece_at b bytes).size ≡ size = p.size in
-    rw e (ap (with_token (piece_at b bytes).token line) (behind_piece size line b bytes p.some) ∙ p.token _)
+    rw e (ap (with_token (piece_at b bytes).token line) (behind_piece size line b bytes p.some) ∙ p.token line _)
 
 pub at_end : (line : ℕ) (text : List ℕ) → length text ≡ 0 → tokens_after 0 line text ≡ AtEnd line
 unfolding tokens_after

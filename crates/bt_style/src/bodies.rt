@@ -8,13 +8,12 @@ ghost use Rattle.bt_style.specs.Tree.{body_of, ops_body, element_of, elements_of
 ghost use Rattle.bt_style.specs.Bodies.{body_at};
 ghost use Rattle.bt_style.specs.inner.Bodies.{open_bodies};
 
-use crate::arguments::fault;
 use crate::cursor::Cursor;
 use crate::draft::Draft;
 use crate::elements::element;
-use crate::fault::{FaultKind, StyleRefusal};
+use crate::fault::{FaultKind, StyleRefusal, fault};
 use crate::style::Op;
-use crate::token::Token;
+use crate::token::{Token, TokenKind};
 use bt_text::Bytes;
 use std::alloc::{AllocError, Global};
 use std::mem;
@@ -82,29 +81,30 @@ pub fn body(alloc: Global, cursor: &mut Cursor, draft: &Draft) -> Result<Vec<Op>
     let mut outer: Vec<Vec<Op>> = Vec::new(alloc);
     let mut now: Vec<Op> = Vec::new(alloc);
     'elements: loop {
-        match cursor.next() {
-            Token::Open(line) => {
+        let Token { kind, line } = cursor.next();
+        match kind {
+            TokenKind::Open => {
                 if is_deep(&outer) {
                     return Err(fault(FaultKind::UnclosedBrace, line));
                 }
                 let before = mem::replace(&mut now, Vec::new(alloc));
                 enter(&mut outer, before)?;
             }
-            Token::Close(_) => {
+            TokenKind::Close => {
                 let Some(before) = leave(&mut outer) else {
                     return Ok(now);
                 };
                 let inner = mem::replace(&mut now, before);
                 push_block(&mut now, inner)?;
             }
-            Token::Word(word, line) => {
+            TokenKind::Word(word) => {
                 let op = element(alloc, draft, word, line)?;
                 push(&mut now, op)?;
             }
-            Token::Literal(bytes, _) => push_text(alloc, &mut now, bytes)?,
-            Token::End(line) => return Err(fault(FaultKind::UnclosedBrace, line)),
-            Token::Unclosed(line) => return Err(fault(FaultKind::UnclosedText, line)),
-            Token::Glued(line) => return Err(fault(FaultKind::StrayByte, line)),
+            TokenKind::Literal(bytes) => push_text(alloc, &mut now, bytes)?,
+            TokenKind::End => return Err(fault(FaultKind::UnclosedBrace, line)),
+            TokenKind::Unclosed => return Err(fault(FaultKind::UnclosedText, line)),
+            TokenKind::Glued => return Err(fault(FaultKind::StrayByte, line)),
         }
     }
 }

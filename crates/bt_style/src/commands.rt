@@ -7,240 +7,158 @@ ghost use Rattle.bt_style.specs.Program.{program_of};
 ghost use Rattle.bt_style.specs.Names.{target_named, macro_named, is_taken, is_macro};
 ghost use Rattle.bt_style.specs.Arguments.{braced_word};
 ghost use Rattle.bt_style.specs.Declares.{new_name};
-ghost use Rattle.bt_style.specs.declared.style.Action.TheVariants as actions;
-ghost use Rattle.bt_style.specs.Commands.{run_target, run_at, variables_at, arguments_at, command_at};
+ghost use Rattle.bt_style.specs.Commands.{run_target, variables_at, arguments_at, command_at};
 
-use crate::arguments::{close, literal, open, word};
 use crate::bodies::body;
-use crate::cursor::Cursor;
-use crate::declares::{braced_names, new_macro, new_name, runnable, target};
-use crate::draft::Draft;
+use crate::declares::runnable;
 use crate::fault::StyleRefusal;
 use crate::names::Names;
+use crate::parser::Parser;
 use crate::style::{Action, Target};
 use crate::verbs::{Stage, Verb, in_order, read_verb, stage_after};
 use bt_text::Bytes;
-use std::alloc::Global;
 
-/// A new function's name in braces.
-fn function_name(alloc: Global, cursor: &mut Cursor, draft: &Draft) -> Result<Bytes, StyleRefusal>
-    ensures gives { Gives (λ t. (t, cursor.new)) result
-        (braced_word (new_name (is_taken (program_of draft.now))) cursor.old) }
-    ensures free { IfOk result (λ name. target_named (program_of draft.now) name ≡ None) }
-    ensures shorter { OnOk result (count cursor.new ≤ count cursor.old) }
-{
-    open(cursor)?;
-    let (bytes, line) = word(cursor)?;
-    let name = new_name(alloc, draft, bytes, line)?;
-    close(cursor)?;
-    Ok(name)
-}
+impl<'a> Parser<'a> {
+    /// A new function's name in braces.
+    fn function_name(&mut self) -> Result<Bytes, StyleRefusal>
+        ensures gives { Gives (λ t. (t, self.new.cursor)) result
+            (braced_word (new_name (is_taken (program_of self.old.draft))) self.old.cursor) }
+        ensures free { IfOk result (λ name. target_named (program_of self.old.draft) name ≡ None) }
+        ensures draft { self.new.draft ≡ self.old.draft }
+        ensures shorter { OnOk result (count self.new.cursor ≤ count self.old.cursor) }
+    {
+        self.cursor.open()?;
+        let (word, line) = self.cursor.word()?;
+        let name = self.draft.new_name(self.alloc, word, line)?;
+        self.cursor.close()?;
+        Ok(name)
+    }
 
-/// What a word in braces runs.
-fn run_target(alloc: Global, cursor: &mut Cursor, draft: &Draft) -> Result<Target, StyleRefusal>
-    ensures gives { Gives (λ t. (t, cursor.new)) result (braced_word (run_target (program_of draft.now)) cursor.old) }
-    ensures shorter { OnOk result (count cursor.new ≤ count cursor.old) }
-{
-    open(cursor)?;
-    let (bytes, line) = word(cursor)?;
-    let found = target(alloc, draft, bytes, line)?;
-    let found = runnable(found, line)?;
-    close(cursor)?;
-    Ok(found)
-}
+    /// A new macro's name in braces.
+    fn macro_name(&mut self) -> Result<Bytes, StyleRefusal>
+        ensures gives { Gives (λ t. (t, self.new.cursor)) result
+            (braced_word (new_name (is_macro (program_of self.old.draft))) self.old.cursor) }
+        ensures free { IfOk result (λ name. macro_named (program_of self.old.draft) name ≡ None) }
+        ensures draft { self.new.draft ≡ self.old.draft }
+        ensures shorter { OnOk result (count self.new.cursor ≤ count self.old.cursor) }
+    {
+        self.cursor.open()?;
+        let (word, line) = self.cursor.word()?;
+        let name = self.draft.new_macro(self.alloc, word, line)?;
+        self.cursor.close()?;
+        Ok(name)
+    }
 
-/// A new macro's name in braces.
-fn macro_name(alloc: Global, cursor: &mut Cursor, draft: &Draft) -> Result<Bytes, StyleRefusal>
-    ensures gives { Gives (λ t. (t, cursor.new)) result
-        (braced_word (new_name (is_macro (program_of draft.now))) cursor.old) }
-    ensures free { IfOk result (λ name. macro_named (program_of draft.now) name ≡ None) }
-    ensures shorter { OnOk result (count cursor.new ≤ count cursor.old) }
-{
-    open(cursor)?;
-    let (bytes, line) = word(cursor)?;
-    let name = new_macro(alloc, draft, bytes, line)?;
-    close(cursor)?;
-    Ok(name)
-}
+    /// What a word in braces runs.
+    fn run_target(&mut self) -> Result<Target, StyleRefusal>
+        ensures gives { Gives (λ t. (t, self.new.cursor)) result
+            (braced_word (run_target (program_of self.old.draft)) self.old.cursor) }
+        ensures draft { self.new.draft ≡ self.old.draft }
+        ensures shorter { OnOk result (count self.new.cursor ≤ count self.old.cursor) }
+    {
+        self.cursor.open()?;
+        let (word, line) = self.cursor.word()?;
+        let named = self.draft.target(self.alloc, word, line)?;
+        let target = runnable(named, line)?;
+        self.cursor.close()?;
+        Ok(target)
+    }
 
-/// `ENTRY`.
-#[tactic(auto, unfolding(crate::specs::Commands::arguments_at))]
-fn entry(
-    alloc: Global,
-    cursor: &mut Cursor,
-    draft: &mut Draft,
-    line: usize,
-) -> Result<(), StyleRefusal>
-    ensures gives { Gives (λ _. (program_of draft.new, cursor.new)) result
-        (arguments_at Verb.Entry line (program_of draft.old) cursor.old) }
-    ensures shorter { OnOk result (count cursor.new ≤ count cursor.old) }
-{
-    braced_names(alloc, cursor, draft, Names::Fields)?;
-    braced_names(alloc, cursor, draft, Names::EntryNumbers)?;
-    braced_names(alloc, cursor, draft, Names::EntryTexts)?;
-    draft.add_command(Action::Entry, line)?;
-    Ok(())
-}
+    /// `ENTRY`.
+    #[tactic(auto, unfolding(crate::specs::Commands::arguments_at))]
+    fn entry(&mut self, line: usize) -> Result<(), StyleRefusal>
+        ensures gives { Gives (λ _. (program_of self.new.draft, self.new.cursor)) result
+            (arguments_at Verb.Entry line (program_of self.old.draft) self.old.cursor) }
+        ensures shorter { OnOk result (count self.new.cursor ≤ count self.old.cursor) }
+    {
+        self.braced_names(Names::Fields)?;
+        self.braced_names(Names::EntryNumbers)?;
+        self.braced_names(Names::EntryTexts)?;
+        Ok(self.draft.add_command(Action::Entry, line)?)
+    }
 
-/// `FUNCTION`.
-#[tactic(auto, unfolding(crate::specs::Commands::arguments_at))]
-fn function(
-    alloc: Global,
-    cursor: &mut Cursor,
-    draft: &mut Draft,
-    line: usize,
-) -> Result<(), StyleRefusal>
-    ensures gives { Gives (λ _. (program_of draft.new, cursor.new)) result
-        (arguments_at Verb.Function line (program_of draft.old) cursor.old) }
-    ensures shorter { OnOk result (count cursor.new ≤ count cursor.old) }
-{
-    let name = function_name(alloc, cursor, draft)?;
-    open(cursor)?;
-    let ops = body(alloc, cursor, draft)?;
-    let n = draft.function_count();
-    draft.add_function(alloc, name, ops)?;
-    draft.add_command(Action::Function(n), line)?;
-    Ok(())
-}
+    /// `FUNCTION`.
+    #[tactic(auto, unfolding(crate::specs::Commands::arguments_at))]
+    fn function(&mut self, line: usize) -> Result<(), StyleRefusal>
+        ensures gives { Gives (λ _. (program_of self.new.draft, self.new.cursor)) result
+            (arguments_at Verb.Function line (program_of self.old.draft) self.old.cursor) }
+        ensures shorter { OnOk result (count self.new.cursor ≤ count self.old.cursor) }
+    {
+        let name = self.function_name()?;
+        self.cursor.open()?;
+        let ops = body(self.alloc, &mut self.cursor, &self.draft)?;
+        let n = self.draft.function_count();
+        self.draft.add_function(self.alloc, name, ops)?;
+        Ok(self.draft.add_command(Action::Function(n), line)?)
+    }
 
-/// `MACRO`.
-#[tactic(auto, unfolding(crate::specs::Commands::arguments_at))]
-fn define_macro(
-    alloc: Global,
-    cursor: &mut Cursor,
-    draft: &mut Draft,
-    line: usize,
-) -> Result<(), StyleRefusal>
-    ensures gives { Gives (λ _. (program_of draft.new, cursor.new)) result
-        (arguments_at Verb.Macro line (program_of draft.old) cursor.old) }
-    ensures shorter { OnOk result (count cursor.new ≤ count cursor.old) }
-{
-    let name = macro_name(alloc, cursor, draft)?;
-    open(cursor)?;
-    let bytes = literal(cursor)?;
-    close(cursor)?;
-    let text = Bytes::copied(alloc, bytes)?;
-    let n = draft.macro_count();
-    draft.add_macro(alloc, name, text)?;
-    draft.add_command(Action::Macro(n), line)?;
-    Ok(())
-}
+    /// `MACRO`.
+    #[tactic(auto, unfolding(crate::specs::Commands::arguments_at))]
+    fn define_macro(&mut self, line: usize) -> Result<(), StyleRefusal>
+        ensures gives { Gives (λ _. (program_of self.new.draft, self.new.cursor)) result
+            (arguments_at Verb.Macro line (program_of self.old.draft) self.old.cursor) }
+        ensures shorter { OnOk result (count self.new.cursor ≤ count self.old.cursor) }
+    {
+        let name = self.macro_name()?;
+        self.cursor.open()?;
+        let bytes = self.cursor.literal()?;
+        self.cursor.close()?;
+        let text = Bytes::copied(self.alloc, bytes)?;
+        let n = self.draft.macro_count();
+        self.draft.add_macro(self.alloc, name, text)?;
+        Ok(self.draft.add_command(Action::Macro(n), line)?)
+    }
 
-/// `INTEGERS` and `STRINGS`: names, and the action.
-fn variables(
-    alloc: Global,
-    cursor: &mut Cursor,
-    draft: &mut Draft,
-    list: Names,
-    action: Action,
-    line: usize,
-) -> Result<(), StyleRefusal>
-    ensures gives { Gives (λ _. (program_of draft.new, cursor.new)) result
-        (variables_at list action line (program_of draft.old) cursor.old) }
-    ensures shorter { OnOk result (count cursor.new ≤ count cursor.old) }
-{
-    braced_names(alloc, cursor, draft, list)?;
-    draft.add_command(action, line)?;
-    Ok(())
-}
+    /// `INTEGERS` and `STRINGS`.
+    fn variables(&mut self, list: Names, action: Action, line: usize) -> Result<(), StyleRefusal>
+        ensures gives { Gives (λ _. (program_of self.new.draft, self.new.cursor)) result
+            (variables_at list action line (program_of self.old.draft) self.old.cursor) }
+        ensures shorter { OnOk result (count self.new.cursor ≤ count self.old.cursor) }
+    {
+        self.braced_names(list)?;
+        Ok(self.draft.add_command(action, line)?)
+    }
 
-/// `EXECUTE`: what is run once.
-fn execute(
-    alloc: Global,
-    cursor: &mut Cursor,
-    draft: &mut Draft,
-    line: usize,
-) -> Result<(), StyleRefusal>
-    ensures gives { Gives (λ _. (program_of draft.new, cursor.new)) result
-        (run_at actions.Execute line (program_of draft.old) cursor.old) }
-    ensures shorter { OnOk result (count cursor.new ≤ count cursor.old) }
-{
-    let target = run_target(alloc, cursor, draft)?;
-    draft.add_command(Action::Execute(target), line)?;
-    Ok(())
-}
-
-/// `ITERATE`: what is run for each entry in turn.
-fn iterate(
-    alloc: Global,
-    cursor: &mut Cursor,
-    draft: &mut Draft,
-    line: usize,
-) -> Result<(), StyleRefusal>
-    ensures gives { Gives (λ _. (program_of draft.new, cursor.new)) result
-        (run_at actions.Iterate line (program_of draft.old) cursor.old) }
-    ensures shorter { OnOk result (count cursor.new ≤ count cursor.old) }
-{
-    let target = run_target(alloc, cursor, draft)?;
-    draft.add_command(Action::Iterate(target), line)?;
-    Ok(())
-}
-
-/// `REVERSE`: what is run for each entry, the last one first.
-fn reverse(
-    alloc: Global,
-    cursor: &mut Cursor,
-    draft: &mut Draft,
-    line: usize,
-) -> Result<(), StyleRefusal>
-    ensures gives { Gives (λ _. (program_of draft.new, cursor.new)) result
-        (run_at actions.Reverse line (program_of draft.old) cursor.old) }
-    ensures shorter { OnOk result (count cursor.new ≤ count cursor.old) }
-{
-    let target = run_target(alloc, cursor, draft)?;
-    draft.add_command(Action::Reverse(target), line)?;
-    Ok(())
-}
-
-/// A command's arguments, and the command.
-#[tactic(auto, unfolding(crate::specs::Commands::arguments_at))]
-pub fn arguments(
-    alloc: Global,
-    cursor: &mut Cursor,
-    draft: &mut Draft,
-    verb: Verb,
-    line: usize,
-) -> Result<(), StyleRefusal>
-    ensures gives { Gives (λ _. (program_of draft.new, cursor.new)) result
-        (arguments_at verb line (program_of draft.old) cursor.old) }
-    ensures shorter { OnOk result (count cursor.new ≤ count cursor.old) }
-{
-    match verb {
-        Verb::Entry => entry(alloc, cursor, draft, line),
-        Verb::Execute => execute(alloc, cursor, draft, line),
-        Verb::Function => function(alloc, cursor, draft, line),
-        Verb::Integers => {
-            let (names, action) = (Names::GlobalNumbers, Action::Integers);
-            variables(alloc, cursor, draft, names, action, line)
-        }
-        Verb::Iterate => iterate(alloc, cursor, draft, line),
-        Verb::Macro => define_macro(alloc, cursor, draft, line),
-        Verb::Read => Ok(draft.add_command(Action::Read, line)?),
-        Verb::Reverse => reverse(alloc, cursor, draft, line),
-        Verb::Sort => Ok(draft.add_command(Action::Sort, line)?),
-        Verb::Strings => {
-            let (names, action) = (Names::GlobalTexts, Action::Strings);
-            variables(alloc, cursor, draft, names, action, line)
+    /// A command's arguments, and the command.
+    #[tactic(auto, unfolding(crate::specs::Commands::arguments_at))]
+    fn arguments(&mut self, verb: Verb, line: usize) -> Result<(), StyleRefusal>
+        ensures gives { Gives (λ _. (program_of self.new.draft, self.new.cursor)) result
+            (arguments_at verb line (program_of self.old.draft) self.old.cursor) }
+        ensures shorter { OnOk result (count self.new.cursor ≤ count self.old.cursor) }
+    {
+        match verb {
+            Verb::Entry => self.entry(line),
+            Verb::Execute => {
+                let target = self.run_target()?;
+                Ok(self.draft.add_command(Action::Execute(target), line)?)
+            }
+            Verb::Function => self.function(line),
+            Verb::Integers => self.variables(Names::GlobalNumbers, Action::Integers, line),
+            Verb::Iterate => {
+                let target = self.run_target()?;
+                Ok(self.draft.add_command(Action::Iterate(target), line)?)
+            }
+            Verb::Macro => self.define_macro(line),
+            Verb::Read => Ok(self.draft.add_command(Action::Read, line)?),
+            Verb::Reverse => {
+                let target = self.run_target()?;
+                Ok(self.draft.add_command(Action::Reverse(target), line)?)
+            }
+            Verb::Sort => Ok(self.draft.add_command(Action::Sort, line)?),
+            Verb::Strings => self.variables(Names::GlobalTexts, Action::Strings, line),
         }
     }
-}
 
-/// A command after its word.
-#[tactic(auto, unfolding(crate::specs::Commands::command_at))]
-pub fn command(
-    alloc: Global,
-    cursor: &mut Cursor,
-    draft: &mut Draft,
-    stage: Stage,
-    word: &[u8],
-    line: usize,
-) -> Result<Stage, StyleRefusal>
-    ensures gives { Gives (λ s. (s, program_of draft.new, cursor.new)) result
-        (command_at stage (program_of draft.old) word.now line cursor.old) }
-    ensures shorter { OnOk result (count cursor.new ≤ count cursor.old) }
-{
-    let verb = read_verb(word, line)?;
-    in_order(verb, stage, line)?;
-    arguments(alloc, cursor, draft, verb, line)?;
-    Ok(stage_after(verb, stage))
+    /// A command after its word.
+    #[tactic(auto, unfolding(crate::specs::Commands::command_at))]
+    pub fn command(&mut self, stage: Stage, word: &[u8], line: usize) -> Result<Stage, StyleRefusal>
+        ensures gives { Gives (λ s. (s, program_of self.new.draft, self.new.cursor)) result
+            (command_at stage (program_of self.old.draft) word.now line self.old.cursor) }
+        ensures shorter { OnOk result (count self.new.cursor ≤ count self.old.cursor) }
+    {
+        let verb = read_verb(word, line)?;
+        in_order(verb, stage, line)?;
+        self.arguments(verb, line)?;
+        Ok(stage_after(verb, stage))
+    }
 }

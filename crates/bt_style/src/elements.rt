@@ -8,10 +8,8 @@ ghost use Rattle.std.specs.List.{take_while};
 ghost use Rattle.std.specs.Char.{is_ascii_digit};
 ghost use Rattle.bt_style.specs.Elements.{decimal, size_at, number_at, word_element, quoted_at};
 
-use crate::arguments::fault;
-use crate::declares::target;
 use crate::draft::Draft;
-use crate::fault::{FaultKind, StyleRefusal};
+use crate::fault::{FaultKind, StyleRefusal, fault};
 use crate::style::Op;
 use std::alloc::Global;
 
@@ -80,7 +78,7 @@ fn quoted(alloc: Global, draft: &Draft, word: &[u8], line: usize) -> Result<Op, 
     if word.is_empty() {
         return Err(fault(FaultKind::BadName, line));
     }
-    let target = target(alloc, draft, word, line)?;
+    let target = draft.target(alloc, word, line)?;
     Ok(Op::Quote(target))
 }
 
@@ -96,7 +94,7 @@ pub fn element(alloc: Global, draft: &Draft, word: &[u8], line: usize) -> Result
         let op = quoted(alloc, draft, &word[1..], line)?;
         Ok(op)
     } else {
-        let target = target(alloc, draft, word, line)?;
+        let target = draft.target(alloc, word, line)?;
         Ok(Op::Call(target))
     }
 }

@@ -95,6 +95,13 @@ pub enum StyleRefusal {
     OutOfMemory,
 }
 
+/// A fault on a line.
+pub fn fault(kind: FaultKind, line: usize) -> StyleRefusal
+    ensures { result ≡ StyleRefusal.Fault kind line }
+{
+    StyleRefusal::Fault { kind, line }
+}
+
 impl From<AllocError> for StyleRefusal {
     ghost use Rattle.bt_style.specs.declared.fault.StyleRefusal.TheVariants.{OutOfMemory};
 

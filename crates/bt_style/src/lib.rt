@@ -12,6 +12,7 @@ mod elements;
 mod fault;
 mod names;
 mod numbers;
+mod parser;
 mod reach;
 mod reader;
 mod style;

@@ -8,16 +8,26 @@ ghost use Rattle.bt_style.specs.inner.Cursor.{IsPiece, front_piece};
 use bt_text::is_white;
 use memchr::{memchr, memchr2};
 
-/// A token with its line, or the end with its line.
+/// A token, or the end, with its line.
 #[derive(Clone, Copy)]
-pub enum Token<'a> {
-    End(usize),
-    Open(usize),
-    Close(usize),
-    Word(&'a [u8], usize),
-    Literal(&'a [u8], usize),
-    Unclosed(usize),
-    Glued(usize),
+pub struct Token<'a> {
+    pub kind: TokenKind<'a>,
+    pub line: usize,
+}
+
+/// What kind of token it is, without its line.
+#[derive(Clone, Copy)]
+pub enum TokenKind<'a> {
+    End,
+    Open,
+    Close,
+    Word(&'a [u8]),
+    /// The bytes between two quotes of one line.
+    Literal(&'a [u8]),
+    /// A quote with no other on its line.
+    Unclosed,
+    /// Two quotes of one line, and after them a byte that doesn't end a word.
+    Glued,
 }
 
 /// White space, a percent sign or a brace.
@@ -62,27 +72,27 @@ fn may_follow(bytes: &[u8]) -> bool
 
 /// The piece that begins with a quote, which these bytes follow.
 #[tactic(auto, unfolding(crate::specs::Token::literal_piece))]
-fn literal(behind: &[u8], line: usize) -> (Token<'_>, usize)
-    ensures { IsPiece (literal_piece behind.now) line (Some result.0) result.1 (length behind.now + 1) }
+fn literal(behind: &[u8]) -> (TokenKind<'_>, usize)
+    ensures { IsPiece (literal_piece behind.now) (Some result.0) result.1 (length behind.now + 1) }
 {
     let length = literal_length(behind);
     match &behind[length..] {
         [b'"', rest @ ..] => {
             if may_follow(rest) {
-                (Token::Literal(&behind[..length], line), length + 2)
+                (TokenKind::Literal(&behind[..length]), length + 2)
             } else {
-                (Token::Glued(line), length + 2)
+                (TokenKind::Glued, length + 2)
             }
         }
-        _ => (Token::Unclosed(line), length + 1),
+        _ => (TokenKind::Unclosed, length + 1),
     }
 }
 
 /// The piece that the text begins with: a token or none, and how many bytes it has.
 #[tactic(auto, unfolding(crate::specs::Token::piece_at))]
-pub fn piece(rest: &[u8], line: usize) -> (Option<Token<'_>>, usize)
+pub fn piece(rest: &[u8]) -> (Option<TokenKind<'_>>, usize)
     requires { 0 < length rest.now }
-    ensures { IsPiece (front_piece rest.now) line result.0 result.1 (length rest.now) }
+    ensures { IsPiece (front_piece rest.now) result.0 result.1 (length rest.now) }
 {
     let behind = &rest[1..];
     let first = rest[0];
@@ -91,14 +101,14 @@ pub fn piece(rest: &[u8], line: usize) -> (Option<Token<'_>>, usize)
     } else if first == b'%' {
         (None, 1 + comment_length(behind))
     } else if first == b'{' {
-        (Some(Token::Open(line)), 1)
+        (Some(TokenKind::Open), 1)
     } else if first == b'}' {
-        (Some(Token::Close(line)), 1)
+        (Some(TokenKind::Close), 1)
     } else if first == b'"' {
-        let (token, size) = literal(behind, line);
-        (Some(token), size)
+        let (kind, size) = literal(behind);
+        (Some(kind), size)
     } else {
         let size = 1 + word_length(behind);
-        (Some(Token::Word(&rest[..size], line)), size)
+        (Some(TokenKind::Word(&rest[..size])), size)
     }
 }

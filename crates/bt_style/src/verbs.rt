@@ -4,8 +4,7 @@ ghost use Rattle.std.specs.Prelude.{◌≡◌};
 ghost use Rattle.bt_style.specs.Fault.{Gives};
 ghost use Rattle.bt_style.specs.Verbs.{word_of, verb_among, verb_named, verb_of, out_of_order, stage_after, in_order};
 
-use crate::arguments::fault;
-use crate::fault::{FaultKind, StyleRefusal};
+use crate::fault::{FaultKind, StyleRefusal, fault};
 use bt_text::eq_ignore_ascii_case;
 
 /// A command's word.
