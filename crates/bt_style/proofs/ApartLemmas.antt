@@ -14,7 +14,8 @@ use Rattle.bt_style.specs.declared.style.Target.TheVariants as targets
 use Rattle.bt_style.specs.Program.{Program}
 use Rattle.bt_style.specs.Token.{tokens_of}
 use Rattle.bt_style.specs.Names.{place_in, target_named, is_taken, builtin_named}
-use Rattle.bt_style.specs.Draft.{preset, with_name, with_macro, with_function, with_command}
+use Rattle.bt_style.specs.Draft.{preset, with_name, with_command}
+use Rattle.bt_style.specs.inner.Cases.{with_macro, with_function}
 use Rattle.bt_style.specs.Declares.{new_name}
 use Rattle.bt_style.specs.Reader.{reading, style_of}
 use Rattle.bt_text.specs.NameList.{has_name, are_apart}

@@ -7,8 +7,9 @@ use Rattle.bt_text.specs.CaseFolding.{folded}
 use Rattle.bt_style.specs.declared.style.Target.{Target}
 use Rattle.bt_style.specs.declared.style.Target.TheVariants as targets
 use Rattle.bt_style.specs.Program.{Program, Definition}
-use Rattle.bt_style.specs.Names.{builtin_named, place_in, first_some, target_named, function_names}
-use Rattle.bt_style.specs.Declares.{target_or_fault, target_of, runnable}
+use Rattle.bt_style.specs.Names.{builtin_named, place_in, first_some, target_named}
+use Rattle.bt_style.specs.inner.Cases.{function_names, target_or_fault}
+use Rattle.bt_style.specs.Declares.{target_of, runnable}
 use Rattle.bt_style.specs.Commands.{run_target}
 use Rattle.bt_style.specs.Uses.{IsDeclared}
 use Rattle.bt_style.proofs.SpelledLemmas.{bind_ok, ok_same}

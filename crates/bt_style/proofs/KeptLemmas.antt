@@ -15,11 +15,12 @@ use Rattle.bt_style.specs.Tree.{Body}
 use Rattle.bt_style.specs.Fault.{◌>>=◌}
 use Rattle.bt_style.specs.Token.{Open, Close, Word, Literal, Unclosed, Glued, Tokens, AtEnd, Front}
 use Rattle.bt_style.specs.Names.{is_taken, is_macro}
-use Rattle.bt_style.specs.Draft.{with_name, with_macro, with_function, with_command}
+use Rattle.bt_style.specs.Draft.{with_name, with_command}
+use Rattle.bt_style.specs.inner.Cases.{with_macro, with_function, verb_of, in_order}
 use Rattle.bt_style.specs.Arguments.{open_at, close_at, word_at, braced_word, literal_at}
 use Rattle.bt_style.specs.Declares.{new_name, names_at, braced_names}
 use Rattle.bt_style.specs.Bodies.{body_at}
-use Rattle.bt_style.specs.Verbs.{verb_named, verb_of, in_order, out_of_order, stage_after}
+use Rattle.bt_style.specs.Verbs.{verb_named, out_of_order, stage_after}
 use Rattle.bt_style.specs.Commands.{run_target, run_at, variables_at, arguments_at, command_at}
 use Rattle.bt_style.specs.Reader.{command_word, commands_at}
 use Rattle.bt_style.specs.Uses.{IsDeclared, NamesDeclared}

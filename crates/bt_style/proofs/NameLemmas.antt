@@ -18,9 +18,10 @@ use Rattle.bt_style.specs.declared.names.Names.TheVariants.{Fields, EntryNumbers
 use Rattle.bt_style.specs.Tree.{Body}
 use Rattle.bt_style.specs.Builtins.{Row, name_of}
 use Rattle.bt_style.specs.Program.{Program, Definition}
-use Rattle.bt_style.specs.Names.{row_of, builtin_among, builtin_named, place_in, first_some, target_named, macro_named, function_names, macro_names}
+use Rattle.bt_style.specs.Names.{row_of, builtin_among, builtin_named, place_in, first_some, target_named, macro_named}
 use Rattle.bt_style.specs.inner.Names.{Holds}
-use Rattle.bt_style.specs.Draft.{bare, with_name, with_macro, with_function}
+use Rattle.bt_style.specs.Draft.{with_name}
+use Rattle.bt_style.specs.inner.Cases.{bare, with_macro, with_function, function_names, macro_names}
 use Rattle.bt_style.specs.inner.Draft.{next_target}
 
 -- one more built-in function before others

@@ -4,7 +4,8 @@ use Rattle.bt_style.specs.declared.names.Names.TheVariants.{Fields, EntryTexts, 
 use Rattle.bt_style.specs.Builtins.{table}
 use Rattle.bt_style.specs.Program.{Program}
 use Rattle.bt_style.specs.Names.{target_named, builtin_named}
-use Rattle.bt_style.specs.Draft.{bare, with_name}
+use Rattle.bt_style.specs.Draft.{with_name}
+use Rattle.bt_style.specs.inner.Cases.{bare}
 
 free_first : target_named bare (codes "crossref") ≡ None
 unfolding target_named builtin_named table

@@ -3,7 +3,8 @@ use Rattle.std.proofs.Common.{◌≡◌, ℕ, zero, suc, ◌+◌, ◌-◌, ◌<�
 use Rattle.std.proofs.Math.Seq.{take-nil, drop-nil}
 use Rattle.std.proofs.lemmas.List.Sums.{sum_by-cons}
 use Rattle.std.specs.Prelude.{Option}
-use Rattle.bt_style.specs.Token.{AtEnd, piece_at, with_token, is_line_feed, line_after, tokens_after}
+use Rattle.bt_style.specs.Token.{AtEnd, piece_at, is_line_feed, line_after, tokens_after}
+use Rattle.bt_style.specs.inner.Cases.{with_token}
 use Rattle.bt_style.specs.inner.Cursor.{front_piece, IsPiece, maybe_placed}
 use Rattle.bt_style.specs.declared.token.TokenKind.{TokenKind}
 
@@ -34,8 +35,9 @@ pub front : (line : ℕ) (text : List ℕ) (found : Option TokenKind) (size : �
 unfolding tokens_after
 front line [] found size h p = absurd (omega arith)
 front line (b ∷ bytes) found size h p =
-    let e : (piece_at b bytes).size ≡ size = p.size in
-    rw e (ap (with_token (piece_at b bytes).token line) (behind_piece size line b bytes p.some) ∙ p.token line _)
+    ap (with_token (piece_at b bytes).token line)
+    (ap (λ n. tokens_after (n - 1) (line_after b line) bytes) p.size ∙ behind_piece size line b bytes p.some)
+    ∙ p.token line _
 
 pub at_end : (line : ℕ) (text : List ℕ) → length text ≡ 0 → tokens_after 0 line text ≡ AtEnd line
 unfolding tokens_after

@@ -1,5 +1,6 @@
 -- Commands with their arguments.
-use Rattle.std.specs.Prelude.{ℕ, List, [], length, Result, Ok}
+use Rattle.std.specs.Prelude.{ℕ, List, [], ◌∷◌, ◌++◌, length, Some, None, Result, Ok}
+use Rattle.bt_style.specs.declared.fault.FaultKind.TheVariants.{UnknownCommand}
 use Rattle.bt_style.specs.declared.fault.StyleFault.{StyleFault}
 use Rattle.bt_style.specs.declared.style.Target.{Target}
 use Rattle.bt_style.specs.declared.style.Action.{Action}
@@ -10,14 +11,14 @@ use Rattle.bt_style.specs.declared.verbs.Stage.{Stage}
 use Rattle.bt_style.specs.declared.names.Names.{Names}
 use Rattle.bt_style.specs.declared.names.Names.TheVariants.{Fields, EntryNumbers, EntryTexts, GlobalNumbers, GlobalTexts}
 use Rattle.bt_style.specs.Program.{Program}
-use Rattle.bt_style.specs.Fault.{◌>>=◌}
+use Rattle.bt_style.specs.Fault.{fault, ◌>>=◌}
 use Rattle.bt_style.specs.Token.{Tokens}
 use Rattle.bt_style.specs.Names.{is_taken, is_macro}
-use Rattle.bt_style.specs.Draft.{with_macro, with_function, with_command}
+use Rattle.bt_style.specs.Draft.{with_command}
 use Rattle.bt_style.specs.Arguments.{open_at, close_at, braced_word, literal_at}
 use Rattle.bt_style.specs.Declares.{new_name, target_of, runnable, braced_names}
 use Rattle.bt_style.specs.Bodies.{body_at}
-use Rattle.bt_style.specs.Verbs.{verb_named, verb_of, in_order, out_of_order, stage_after}
+use Rattle.bt_style.specs.Verbs.{verb_named, out_of_order, stage_after}
 
 -- what a word stands for, where it can be run
 abbrev pub run_target : Program → List ℕ → ℕ → Result Target StyleFault
@@ -47,7 +48,7 @@ arguments_at verbs.Function line p tokens = do
   name ← braced_word (new_name (is_taken p)) tokens
   inside ← open_at name.1
   body ← body_at p [] [] inside
-  Ok (with_command (actions.Function (length p.functions)) line (with_function name.0 body.0 p), body.1)
+  Ok (with_command (actions.Function (length p.functions)) line (record p { functions = p.functions ++ (record { name = name.0; body = body.0 }) ∷ [] }), body.1)
 arguments_at verbs.Integers line p tokens = variables_at GlobalNumbers actions.Integers line p tokens
 arguments_at verbs.Iterate line p tokens = run_at actions.Iterate line p tokens
 arguments_at verbs.Macro line p tokens = do
@@ -55,7 +56,7 @@ arguments_at verbs.Macro line p tokens = do
   inside ← open_at name.1
   text ← literal_at inside
   rest ← close_at text.1
-  Ok (with_command (actions.Macro (length p.macros)) line (with_macro name.0 text.0 p), rest)
+  Ok (with_command (actions.Macro (length p.macros)) line (record p { macros = p.macros ++ (record { name = name.0; text = text.0 }) ∷ [] }), rest)
 arguments_at verbs.Read line p tokens = Ok (with_command actions.Read line p, tokens)
 arguments_at verbs.Reverse line p tokens = run_at actions.Reverse line p tokens
 arguments_at verbs.Sort line p tokens = Ok (with_command actions.Sort line p, tokens)
@@ -64,7 +65,7 @@ arguments_at verbs.Strings line p tokens = variables_at GlobalTexts actions.Stri
 -- a command that begins with this word: how far the commands have come then, the program, and what stands after
 unfoldable pub command_at : Stage → Program → List ℕ → ℕ → Tokens → Result (Stage × Program × Tokens) StyleFault
 command_at stage p word line tokens = do
-  verb ← verb_of (verb_named word) line
-  allowed ← in_order (out_of_order verb stage) line
+  verb ← elim (verb_named word) [ None ↦ fault UnknownCommand line | Some verb ↦ Ok verb ]
+  allowed ← elim (out_of_order verb stage) [ None ↦ Ok (tt {0}) | Some kind ↦ fault kind line ]
   next ← arguments_at verb line p tokens
   Ok (stage_after verb stage, next.0, next.1)

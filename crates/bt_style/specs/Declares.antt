@@ -1,5 +1,5 @@
 -- Names that are declared, and names that are used.
-use Rattle.std.specs.Prelude.{ℕ, Bool, not, if◌then◌else◌, List, Option, Some, None, Result, Ok}
+use Rattle.std.specs.Prelude.{ℕ, Bool, not, if◌then◌else◌, List, Some, None, Result, Ok}
 use Rattle.bt_text.specs.CaseFolding.{folded}
 use Rattle.bt_text.specs.NameBytes.{is_name}
 use Rattle.bt_style.specs.declared.fault.FaultKind.TheVariants.{UnknownName, NameTaken, UnclosedBrace, BadName, NotAFunction}
@@ -21,13 +21,9 @@ new_name taken word line =
     else if taken (folded word) then fault NameTaken line
     else Ok (folded word)
 
-abbrev pub target_or_fault : Option Target → ℕ → Result Target StyleFault
-target_or_fault None line = fault UnknownName line
-target_or_fault (Some target) line = Ok target
-
 -- what a word stands for
 abbrev pub target_of : Program → List ℕ → ℕ → Result Target StyleFault
-target_of p word line = target_or_fault (target_named p (folded word)) line
+target_of p word line = elim (target_named p (folded word)) [ None ↦ fault UnknownName line | Some target ↦ Ok target ]
 
 -- functions of the style and built-in ones can be run
 abbrev pub runnable : Target → ℕ → Result Target StyleFault

@@ -3,21 +3,7 @@ use Rattle.std.specs.Prelude.{ℕ, List, [], ◌∷◌, ◌++◌, codes}
 use Rattle.bt_style.specs.declared.style.Action.{Action}
 use Rattle.bt_style.specs.declared.names.Names.{Names}
 use Rattle.bt_style.specs.declared.names.Names.TheVariants.{Fields, EntryNumbers, EntryTexts, GlobalNumbers, GlobalTexts}
-use Rattle.bt_style.specs.Tree.{Body}
 use Rattle.bt_style.specs.Program.{Program}
-
--- nothing is declared
-abbrev pub bare : Program
-bare = record {
-  fields = [];
-  entry_numbers = [];
-  entry_texts = [];
-  global_numbers = [];
-  global_texts = [];
-  macros = [];
-  functions = [];
-  commands = [];
-}
 
 -- a style with a name more
 abbrev pub with_name : Names → List ℕ → Program → Program
@@ -27,19 +13,18 @@ with_name EntryTexts name p = record p { entry_texts = p.entry_texts ++ name ∷
 with_name GlobalNumbers name p = record p { global_numbers = p.global_numbers ++ name ∷ [] }
 with_name GlobalTexts name p = record p { global_texts = p.global_texts ++ name ∷ [] }
 
-abbrev pub with_macro : List ℕ → List ℕ → Program → Program
-with_macro name text p = record p { macros = p.macros ++ (record { name = name; text = text }) ∷ [] }
-
-abbrev pub with_function : List ℕ → Body → Program → Program
-with_function name body p = record p { functions = p.functions ++ (record { name = name; body = body }) ∷ [] }
-
 abbrev pub with_command : Action → ℕ → Program → Program
 with_command action line p = record p { commands = p.commands ++ (record { action = action; line = line }) ∷ [] }
 
 -- what is there before the first command
 abbrev pub preset : Program
-preset = record bare {
+preset = record {
   fields = codes "crossref" ∷ [];
+  entry_numbers = [];
   entry_texts = codes "sort.key$" ∷ [];
   global_numbers = codes "entry.max$" ∷ codes "global.max$" ∷ [];
+  global_texts = [];
+  macros = [];
+  functions = [];
+  commands = [];
 }

@@ -1,5 +1,5 @@
 -- The elements of a body that are words: numbers, quoted names and calls.
-use Rattle.std.specs.Prelude.{ℕ, ◌-◌, ◌+◌, ◌*◌, ◌^◌, Bool, ◌==◌, nat_lt, if◌then◌else◌, List, [], ◌∷◌, length, drop, slice_index, ℤ, pos, neg_ℤ, Result, Ok}
+use Rattle.std.specs.Prelude.{ℕ, ◌-◌, ◌+◌, ◌*◌, ◌^◌, ◌==◌, nat_lt, if◌then◌else◌, List, [], ◌∷◌, length, drop, slice_index, ℤ, pos, neg_ℤ, Result, Ok}
 use Rattle.std.specs.List.{take_while}
 use Rattle.std.specs.Char.{is_ascii_digit}
 use Rattle.bt_text.specs.ByteTests.{hyphen}
@@ -10,36 +10,24 @@ use Rattle.bt_style.specs.Program.{Program}
 use Rattle.bt_style.specs.Fault.{fault, ◌>>=◌}
 use Rattle.bt_style.specs.Declares.{target_of}
 
-abbrev pub number_sign : ℕ
-number_sign = 35
-
-abbrev pub apostrophe : ℕ
-apostrophe = 39
-
 -- the number that digits spell, after digits that spelled n
 abbrev pub decimal : ℕ → List ℕ → ℕ
 decimal n [] = n
 decimal n (d ∷ digits) = decimal (n * 10 + (d - 48)) digits
 
--- the size of a number, by its digits and what follows them
-abbrev pub size_of : ℕ → List ℕ → List ℕ → ℕ → Result ℕ StyleFault
-size_of greatest digits behind line =
-    if length digits == 0 then fault StrayByte line
-    else if nat_lt greatest (decimal 0 digits) then fault NumberTooLarge line
-    else if length behind == 0 then Ok (decimal 0 digits) else fault StrayByte line
-
+-- the size of a number: digits, and nothing behind them
 unfoldable pub size_at : ℕ → List ℕ → ℕ → Result ℕ StyleFault
 size_at greatest bytes line =
     let digits = take_while is_ascii_digit bytes in
-    size_of greatest digits (drop (length digits) bytes) line
-
-abbrev pub is_minus : List ℕ → Bool
-is_minus bytes = slice_index bytes 0 == hyphen
+    let size = decimal 0 digits in
+    if length digits == 0 then fault StrayByte line
+    else if nat_lt greatest size then fault NumberTooLarge line
+    else if length (drop (length digits) bytes) == 0 then Ok size else fault StrayByte line
 
 -- after the number sign
 unfoldable pub number_at : List ℕ → ℕ → Result ℤ StyleFault
 number_at bytes line =
-    if is_minus bytes then (size_at (2 ^ 31) (drop 1 bytes) line >>= λ n. Ok (neg_ℤ (pos n)))
+    if slice_index bytes 0 == hyphen then (size_at (2 ^ 31) (drop 1 bytes) line >>= λ n. Ok (neg_ℤ (pos n)))
     else size_at (2 ^ 31 - 1) bytes line >>= λ n. Ok (pos n)
 
 -- after the apostrophe
@@ -48,10 +36,10 @@ quoted_at p bytes line =
     if length bytes == 0 then fault BadName line
     else target_of p bytes line >>= λ target. Ok (Quoted target)
 
--- a number, a quoted name or a call
+-- a number after `#` (35), a quoted name after `'` (39), or a call
 unfoldable pub word_element : Program → List ℕ → ℕ → Result Element StyleFault
 word_element p word line =
     let first = slice_index word 0 in
-    if first == number_sign then (number_at (drop 1 word) line >>= λ n. Ok (Amount n))
-    else if first == apostrophe then quoted_at p (drop 1 word) line
+    if first == 35 then (number_at (drop 1 word) line >>= λ n. Ok (Amount n))
+    else if first == 39 then quoted_at p (drop 1 word) line
     else target_of p word line >>= λ target. Ok (Called target)

@@ -31,12 +31,6 @@ first_some [] = None
 first_some (Some x ∷ rest) = Some x
 first_some (None ∷ rest) = first_some rest
 
-abbrev pub function_names : Program → List (List ℕ)
-function_names p = map (λ f. f.name) p.functions
-
-abbrev pub macro_names : Program → List (List ℕ)
-macro_names p = map (λ m. m.name) p.macros
-
 -- What a name in small letters stands for. Fields, variables, functions and built-in functions share one space of
 -- names.
 abbrev pub meanings : Program → List ℕ → List (Option Target)
@@ -47,7 +41,7 @@ meanings p name =
     option_map targets.EntryText (place_in p.entry_texts name) ∷
     option_map targets.GlobalNumber (place_in p.global_numbers name) ∷
     option_map targets.GlobalText (place_in p.global_texts name) ∷
-    option_map targets.Function (place_in (function_names p) name) ∷ []
+    option_map targets.Function (place_in (map (λ f. f.name) p.functions) name) ∷ []
 
 unfoldable pub target_named : Program → List ℕ → Option Target
 target_named p name = first_some (meanings p name)
@@ -57,7 +51,7 @@ is_taken p name = is_some (target_named p name)
 
 -- Macros have a space of their own.
 unfoldable pub macro_named : Program → List ℕ → Option ℕ
-macro_named p name = place_in (macro_names p) name
+macro_named p name = place_in (map (λ m. m.name) p.macros) name
 
 abbrev pub is_macro : Program → List ℕ → Bool
 is_macro p name = is_some (macro_named p name)

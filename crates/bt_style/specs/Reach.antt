@@ -1,5 +1,5 @@
 -- The names that a step may come to: from a name, through bodies, and from `call.type$` to the entry's function.
-use Rattle.std.specs.Prelude.{ℕ, Bool, true, false, ◌||◌, if◌then◌else◌, List, [], ◌∷◌, ◌++◌, Option, Some, None, Contains, codes, slice_get}
+use Rattle.std.specs.Prelude.{ℕ, Bool, true, false, ◌||◌, if◌then◌else◌, List, [], ◌∷◌, ◌++◌, Option, Some, None, Contains, codes, map, slice_get}
 use Rattle.std.specs.List.{list_any}
 use Rattle.std.specs.Option.{option_map_or}
 use Rattle.bt_style.specs.contracts.style.TargetPartialEq.TheImpl as target_comparison
@@ -9,7 +9,7 @@ use Rattle.bt_style.specs.declared.style.Target.{Target}
 use Rattle.bt_style.specs.declared.style.Target.TheVariants as targets
 use Rattle.bt_style.specs.Tree.{Element, Amount, Words, Quoted, Braced, Called, Body, End, Then}
 use Rattle.bt_style.specs.Program.{Program, Definition}
-use Rattle.bt_style.specs.Names.{place_in, function_names}
+use Rattle.bt_style.specs.Names.{place_in}
 
 -- the names called or quoted in a body, inner braces too
 abbrev mutual
@@ -39,7 +39,7 @@ is_call_type _ = false
 
 -- the number of `default.type`
 abbrev pub default_type : Program → Option ℕ
-default_type p = place_in (function_names p) (codes "default.type")
+default_type p = place_in (map (λ f. f.name) p.functions) (codes "default.type")
 
 -- The names that are reached at once from a name: those in its body, and from `call.type$` the function of the entry's
 -- type, if it has one, and `default.type`.

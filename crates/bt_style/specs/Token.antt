@@ -49,18 +49,20 @@ abbrev pub may_follow : List ℕ → Bool
 may_follow [] = true
 may_follow (b ∷ _) = ends_word b
 
--- the piece that begins with a quote, by the bytes up to the next quote or the line's end and those from there on
-abbrev pub literal_end : List ℕ → List ℕ → Piece
-literal_end inside [] = record { token = Some Unclosed; size = 1 + length inside }
-literal_end inside (b ∷ behind) =
-    if b == quote then record {
-      token = Some (if may_follow behind then Literal inside else Glued);
-      size = 2 + length inside;
-    }
-    else record { token = Some Unclosed; size = 1 + length inside }
-
+-- the piece that begins with a quote, which ends at the next quote or before the line's end
 unfoldable pub literal_piece : List ℕ → Piece
-literal_piece bytes = let inside = before_first ends_literal bytes in literal_end inside (drop (length inside) bytes)
+literal_piece bytes =
+    let inside = before_first ends_literal bytes in
+    let unclosed : Piece = record { token = Some Unclosed; size = 1 + length inside } in
+    elim (drop (length inside) bytes) [
+      | [] ↦ unclosed
+      | b ∷ behind ↦
+          if b == quote then record {
+            token = Some (if may_follow behind then Literal inside else Glued);
+            size = 2 + length inside;
+          }
+          else unclosed
+    ]
 
 -- the piece that begins with a byte, by what stands after the byte
 unfoldable pub piece_at : ℕ → List ℕ → Piece
@@ -77,10 +79,6 @@ piece_at b bytes =
 abbrev pub line_after : ℕ → ℕ → ℕ
 line_after b line = if b == line_feed then line + 1 else line
 
-abbrev pub with_token : Option Token → ℕ → Tokens → Tokens
-with_token None line rest = rest
-with_token (Some token) line rest = Front token line rest
-
 -- The tokens of the rest of a text from a line on. The first so many bytes belong to a piece that began before: they
 -- are passed one by one, so that each byte is one step of the recursion.
 unfoldable pub tokens_after : ℕ → ℕ → List ℕ → Tokens
@@ -88,7 +86,8 @@ tokens_after covered line [] = AtEnd line
 tokens_after (suc covered) line (b ∷ bytes) = tokens_after covered (line_after b line) bytes
 tokens_after zero line (b ∷ bytes) =
     let piece = piece_at b bytes in
-    with_token piece.token line (tokens_after (piece.size - 1) (line_after b line) bytes)
+    let rest = tokens_after (piece.size - 1) (line_after b line) bytes in
+    elim piece.token [ None ↦ rest | Some token ↦ Front token line rest ]
 
 -- the tokens of a text
 abbrev pub tokens_of : List ℕ → Tokens

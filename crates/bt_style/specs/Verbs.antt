@@ -1,14 +1,13 @@
 -- The words of commands, and the order in which commands may stand.
-use Rattle.std.specs.Prelude.{ℕ, if◌then◌else◌, List, [], ◌∷◌, Option, Some, None, Result, Ok, codes}
+use Rattle.std.specs.Prelude.{ℕ, List, [], ◌∷◌, Option, Some, None, codes}
+use Rattle.std.specs.List.{find}
 use Rattle.bt_text.specs.CaseFolding.{is_same_folded}
 use Rattle.bt_style.specs.declared.fault.FaultKind.{FaultKind}
-use Rattle.bt_style.specs.declared.fault.FaultKind.TheVariants.{UnknownCommand, CommandOrder, SecondEntry, SecondRead, NoEntry}
-use Rattle.bt_style.specs.declared.fault.StyleFault.{StyleFault}
+use Rattle.bt_style.specs.declared.fault.FaultKind.TheVariants.{CommandOrder, SecondEntry, SecondRead, NoEntry}
 use Rattle.bt_style.specs.declared.verbs.Verb.{Verb}
 use Rattle.bt_style.specs.declared.verbs.Verb.TheVariants as verbs
 use Rattle.bt_style.specs.declared.verbs.Stage.{Stage}
 use Rattle.bt_style.specs.declared.verbs.Stage.TheVariants.{BeforeEntry, BeforeRead, AfterRead}
-use Rattle.bt_style.specs.Fault.{fault}
 
 -- the word of a command
 abbrev pub word_of : Verb → List ℕ
@@ -29,13 +28,9 @@ all_verbs =
     verbs.Entry ∷ verbs.Execute ∷ verbs.Function ∷ verbs.Integers ∷ verbs.Iterate ∷
     verbs.Macro ∷ verbs.Read ∷ verbs.Reverse ∷ verbs.Sort ∷ verbs.Strings ∷ []
 
--- the command of a word in either case, among some
-abbrev pub verb_among : List Verb → List ℕ → Option Verb
-verb_among [] word = None
-verb_among (verb ∷ others) word = if is_same_folded word (word_of verb) then Some verb else verb_among others word
-
+-- the command of a word in either case
 unfoldable pub verb_named : List ℕ → Option Verb
-verb_named word = verb_among all_verbs word
+verb_named word = find (λ verb. is_same_folded word (word_of verb)) all_verbs
 
 -- what stands in the way of a command at a stage
 abbrev pub out_of_order : Verb → Stage → Option FaultKind
@@ -62,13 +57,3 @@ abbrev pub stage_after : Verb → Stage → Stage
 stage_after verbs.Entry stage = BeforeRead
 stage_after verbs.Read stage = AfterRead
 stage_after _ stage = stage
-
--- a command may stand there
-abbrev pub in_order : Option FaultKind → ℕ → Result (Unit {0}) StyleFault
-in_order None line = Ok tt
-in_order (Some kind) line = fault kind line
-
--- the word is that of a command
-abbrev pub verb_of : Option Verb → ℕ → Result Verb StyleFault
-verb_of None line = fault UnknownCommand line
-verb_of (Some verb) line = Ok verb

@@ -6,3 +6,4 @@ pub mod Draft
 pub mod Bodies
 pub mod Numbers
 pub mod Reach
+pub mod Cases

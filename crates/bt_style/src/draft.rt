@@ -4,7 +4,8 @@ ghost use Rattle.std.specs.Prelude.{◌≡◌, ◌≤◌, None, IfOk, OnOk, OnEr
 ghost use Rattle.bt_style.specs.Program.{program_of};
 ghost use Rattle.bt_style.specs.Tree.{ops_body};
 ghost use Rattle.bt_style.specs.Names.{target_named, macro_named, is_macro};
-ghost use Rattle.bt_style.specs.Draft.{bare, with_name, with_macro, with_function, with_command};
+ghost use Rattle.bt_style.specs.Draft.{with_name, with_command};
+ghost use Rattle.bt_style.specs.inner.Cases.{bare, with_macro, with_function};
 ghost use Rattle.bt_style.specs.inner.Draft.{next_target};
 
 use crate::names::{Names, builtins};

@@ -6,7 +6,8 @@ ghost use Rattle.bt_style.specs.Fault.{Gives};
 ghost use Rattle.bt_style.specs.Token.{count};
 ghost use Rattle.bt_style.specs.Program.{program_of};
 ghost use Rattle.bt_style.specs.Names.{target_named};
-ghost use Rattle.bt_style.specs.Draft.{bare, preset, with_name};
+ghost use Rattle.bt_style.specs.Draft.{preset, with_name};
+ghost use Rattle.bt_style.specs.inner.Cases.{bare};
 ghost use Rattle.bt_style.specs.Reader.{command_word, commands_at, reading, style_of};
 
 use crate::cursor::Cursor;

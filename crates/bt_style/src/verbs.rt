@@ -1,8 +1,11 @@
 //! The words of commands, and the order in which commands may stand.
 
 ghost use Rattle.std.specs.Prelude.{◌≡◌};
+ghost use Rattle.std.specs.List.{find};
+ghost use Rattle.bt_text.specs.CaseFolding.{is_same_folded};
 ghost use Rattle.bt_style.specs.Fault.{Gives};
-ghost use Rattle.bt_style.specs.Verbs.{word_of, verb_among, verb_named, verb_of, out_of_order, stage_after, in_order};
+ghost use Rattle.bt_style.specs.Verbs.{word_of, verb_named, out_of_order, stage_after};
+ghost use Rattle.bt_style.specs.inner.Cases.{verb_of, in_order};
 
 use crate::fault::{FaultKind, StyleRefusal, fault};
 use bt_text::eq_ignore_ascii_case;
@@ -65,7 +68,7 @@ impl Verb {
 
 /// The command of a word, among some.
 fn verb_among(verbs: &[Verb], word: &[u8]) -> Option<Verb>
-    ensures { result ≡ verb_among verbs.now word.now }
+    ensures { result ≡ find (λ verb. is_same_folded word.now (word_of verb)) verbs.now }
 {
     for verb in verbs {
         if eq_ignore_ascii_case(word, verb.word()) {

@@ -9,7 +9,8 @@ use Rattle.bt_style.specs.Program.{Program}
 use Rattle.bt_style.specs.Fault.{◌>>=◌}
 use Rattle.bt_style.specs.Token.{Token, Open, Close, Word, Literal, Unclosed, Glued, Tokens, AtEnd, Front, tokens_after, tokens_of, count}
 use Rattle.bt_style.specs.Draft.{preset}
-use Rattle.bt_style.specs.Verbs.{verb_named, verb_of, in_order, out_of_order, stage_after}
+use Rattle.bt_style.specs.Verbs.{verb_named, out_of_order, stage_after}
+use Rattle.bt_style.specs.inner.Cases.{verb_of, in_order}
 use Rattle.bt_style.specs.Commands.{arguments_at, command_at}
 use Rattle.bt_style.specs.Reader.{commands_at, reading, style_of}
 use Rattle.bt_style.specs.laws.Laws.{is_byte, in_front, first_line, BeginsAs, StandsAtItsToken, FaultIsFirst, AnyBoundServes}

@@ -8,7 +8,8 @@ use Rattle.bt_text.specs.NameBytes.{is_name, is_name_byte}
 use Rattle.bt_style.specs.Token.{Open, Close, Word, Front, ends_word, piece_at, tokens_after}
 use Rattle.bt_style.specs.Builtins.{Row, table}
 use Rattle.bt_style.specs.Program.{Program}
-use Rattle.bt_style.specs.Names.{builtin_among, builtin_named, place_in, function_names, macro_names, target_named, is_taken, macro_named, is_macro}
+use Rattle.bt_style.specs.Names.{builtin_among, builtin_named, place_in, target_named, is_taken, macro_named, is_macro}
+use Rattle.bt_style.specs.inner.Cases.{function_names, macro_names}
 use Rattle.bt_style.specs.Declares.{new_name}
 use Rattle.bt_style.specs.laws.Laws.{is_byte}
 

@@ -16,8 +16,9 @@ use Rattle.bt_style.specs.Program.{Program, Definition}
 use Rattle.bt_style.specs.Tree.{Body}
 use Rattle.bt_style.specs.Token.{tokens_of, count}
 use Rattle.bt_style.specs.Builtins.{table}
-use Rattle.bt_style.specs.Names.{builtin_named, target_named, is_taken, macro_named, is_macro, function_names, macro_names}
-use Rattle.bt_style.specs.Draft.{preset, with_name, with_macro, with_function}
+use Rattle.bt_style.specs.Names.{builtin_named, target_named, is_taken, macro_named, is_macro}
+use Rattle.bt_style.specs.Draft.{preset, with_name}
+use Rattle.bt_style.specs.inner.Cases.{with_macro, with_function, function_names, macro_names}
 use Rattle.bt_style.specs.inner.Draft.{next_target}
 use Rattle.bt_style.specs.Declares.{new_name}
 use Rattle.bt_style.specs.Reader.{reading, style_of}

@@ -14,10 +14,10 @@ use Rattle.bt_style.specs.Fault.{fault, ◌>>=◌}
 use Rattle.bt_style.specs.Program.{Program}
 use Rattle.bt_style.specs.Names.{target_named}
 use Rattle.bt_text.specs.CaseFolding.{folded}
-use Rattle.bt_style.specs.Declares.{new_name, target_or_fault, target_of, runnable}
+use Rattle.bt_style.specs.Declares.{new_name, target_of, runnable}
+use Rattle.bt_style.specs.inner.Cases.{target_or_fault, verb_of, in_order}
 use Rattle.bt_style.specs.Commands.{run_target}
 use Rattle.bt_style.specs.Elements.{decimal, size_at, number_at, quoted_at, word_element}
-use Rattle.bt_style.specs.Verbs.{verb_of, in_order}
 
 -- a fault that is reported is on this line
 abbrev OnIt : {A : Type 0} → ℕ → Result A StyleFault → Type 0

@@ -21,9 +21,10 @@ use Rattle.bt_style.specs.Token.{tokens_of, count}
 use Rattle.bt_style.specs.Reader.{reading, style_of}
 use Rattle.bt_style.specs.declared.verbs.Stage.TheVariants.{BeforeEntry}
 use Rattle.bt_style.specs.laws.Laws.{QuoteNamesNothing}
-use Rattle.bt_style.specs.Draft.{preset, with_name, with_function}
+use Rattle.bt_style.specs.Draft.{preset, with_name}
+use Rattle.bt_style.specs.inner.Cases.{with_function, target_or_fault}
 use Rattle.bt_style.specs.inner.Draft.{next_target}
-use Rattle.bt_style.specs.Declares.{new_name, target_or_fault, runnable}
+use Rattle.bt_style.specs.Declares.{new_name, runnable}
 use Rattle.bt_style.specs.Commands.{run_target}
 use Rattle.bt_style.proofs.NameLemmas.{meaning_declared, meaning_defined}
 use Rattle.bt_style.proofs.SpelledLemmas.{ok_same}

@@ -21,7 +21,8 @@ use Rattle.bt_style.specs.Program.{Program}
 use Rattle.bt_style.specs.Fault.{◌>>=◌}
 use Rattle.bt_style.specs.Token.{Token, Open, Close, Word, Literal, Unclosed, Glued, Tokens, AtEnd, Front, tokens_after, piece_at, literal_piece}
 use Rattle.bt_style.specs.Names.{target_named, builtin_named, is_taken, is_macro}
-use Rattle.bt_style.specs.Draft.{with_name, with_macro, with_function, with_command}
+use Rattle.bt_style.specs.Draft.{with_name, with_command}
+use Rattle.bt_style.specs.inner.Cases.{with_macro, with_function}
 use Rattle.bt_style.specs.Arguments.{open_at, close_at, word_at, braced_word, literal_at}
 use Rattle.bt_style.specs.Declares.{new_name, names_at, braced_names}
 use Rattle.bt_style.specs.Elements.{word_element}

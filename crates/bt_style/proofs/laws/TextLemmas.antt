@@ -2,7 +2,8 @@
 use Rattle.std.specs.Prelude.{Option}
 use Rattle.std.proofs.Common.{◌≡◌, ◌∙◌, inl, inr, ap, sym, refl, subst, ℕ, suc, ◌+◌, ◌-◌, ◌<◌, ◌≤◌, List, [], ◌∷◌, ◌++◌, length, take, drop, Some, append_assoc, arith}
 use Rattle.std.proofs.lemmas.List.{length-take-le, take-append-drop}
-use Rattle.bt_style.specs.Token.{Tokens, AtEnd, Front, Token, Piece, piece_at, with_token, line_after, tokens_after}
+use Rattle.bt_style.specs.Token.{Tokens, AtEnd, Front, Token, Piece, piece_at, line_after, tokens_after}
+use Rattle.bt_style.specs.inner.Cases.{with_token}
 use Rattle.bt_style.specs.Reader.{reading, style_of}
 use Rattle.bt_style.specs.laws.Laws.{in_front, first_line, BeginsAs, StandsInFront, StandsInItsText, FaultIsFirstInItsText}
 use Rattle.bt_style.proofs.laws.QuoteLemmas.{preset_quoteless}

@@ -15,7 +15,8 @@ use Rattle.bt_style.specs.declared.verbs.Stage.TheVariants.{BeforeEntry}
 use Rattle.bt_style.specs.Program.{Program, Definition}
 use Rattle.bt_style.specs.Tree.{Body}
 use Rattle.bt_style.specs.Token.{tokens_of, count}
-use Rattle.bt_style.specs.Draft.{preset, with_name, with_macro, with_function, with_command}
+use Rattle.bt_style.specs.Draft.{preset, with_name, with_command}
+use Rattle.bt_style.specs.inner.Cases.{with_macro, with_function}
 use Rattle.bt_style.specs.Reader.{reading, style_of}
 use Rattle.bt_style.specs.Reach.{body_names}
 use Rattle.bt_style.specs.Uses.{IsDeclared, NamesDeclared}

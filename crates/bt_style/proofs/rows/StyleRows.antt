@@ -6,7 +6,7 @@ use Rattle.bt_style.specs.declared.builtin.Builtin.TheVariants as builtins
 use Rattle.bt_style.specs.declared.style.Action.TheVariants as actions
 use Rattle.bt_style.specs.Token.{AtEnd, Front, Open, Close, Word, Literal, tokens_of, tokens_after, piece_at, literal_piece}
 use Rattle.bt_style.specs.Tree.{Amount, Words, Quoted, Braced, Called, body_of}
-use Rattle.bt_style.specs.Draft.{bare}
+use Rattle.bt_style.specs.inner.Cases.{bare}
 use Rattle.bt_style.specs.Elements.{word_element, number_at, size_at, quoted_at}
 use Rattle.bt_style.specs.Bodies.{body_at}
 use Rattle.bt_style.proofs.rows.FaultRows.{spelled, HasFault}

@@ -1,6 +1,7 @@
 -- What a cursor of the code has left to give; no part of the meaning.
 use Rattle.std.specs.Prelude.{◌≡◌, ℕ, ◌<◌, ◌≤◌, List, Option, Some, None, slice_index, drop}
-use Rattle.bt_style.specs.Token.{Tokens, AtEnd, Front, Piece, piece_at, with_token}
+use Rattle.bt_style.specs.Token.{Tokens, AtEnd, Front, Piece, piece_at}
+use Rattle.bt_style.specs.inner.Cases.{with_token}
 use Rattle.bt_style.specs.Token as tokens
 use Rattle.bt_style.specs.declared.token.Token.{Token}
 use Rattle.bt_style.specs.declared.token.TokenKind.{TokenKind}

@@ -2,7 +2,8 @@
 use Rattle.std.specs.Prelude.{◌≡◌, ℕ, List, Option, Some, Ok, slice_get}
 use Rattle.bt_style.specs.declared.style.Target.TheVariants as targets
 use Rattle.bt_style.specs.Program.{Program}
-use Rattle.bt_style.specs.Names.{target_named, macro_named, function_names, macro_names}
+use Rattle.bt_style.specs.Names.{target_named, macro_named}
+use Rattle.bt_style.specs.inner.Cases.{function_names, macro_names}
 use Rattle.bt_style.specs.Reader.{style_of}
 
 -- each of some names is found by a look-up, as what its number makes of it
