@@ -1,4 +1,8 @@
 //! The bodies of functions.
+//!
+//! The reader doesn't call itself at an inner brace. It keeps the elements before each open brace in a list, the
+//! innermost last, and goes on with an empty body; a closing brace takes the last of them back. So a text of 100,000
+//! left braces can't use up the program's stack.
 
 ghost use Rattle.std.specs.Prelude.{◌≡◌, ◌≤◌, ◌++◌, ◌∷◌, [], OnOk, MatchOption, length, not, nat_lt};
 ghost use Rattle.bt_style.specs.Fault.{Gives};
@@ -21,7 +25,6 @@ use std::mem;
 /// How deep the braces of a body may stand, its own among them.
 pub const BRACE_DEPTH: usize = 100;
 
-/// Adds an element.
 fn push(ops: &mut Vec<Op>, op: Op) -> Result<(), AllocError>
     ensures { OnOk result (elements_of ops.new.items ≡ elements_of ops.old.items ++ element_of op ∷ []) }
 {
@@ -29,7 +32,6 @@ fn push(ops: &mut Vec<Op>, op: Op) -> Result<(), AllocError>
     Ok(())
 }
 
-/// Adds a braced function.
 fn push_block(ops: &mut Vec<Op>, inner: Vec<Op>) -> Result<(), AllocError>
     ensures { OnOk result (elements_of ops.new.items
         ≡ elements_of ops.old.items ++ Braced (ops_body inner.items) ∷ []) }
@@ -37,7 +39,6 @@ fn push_block(ops: &mut Vec<Op>, inner: Vec<Op>) -> Result<(), AllocError>
     push(ops, Op::Block(inner))
 }
 
-/// Adds a text.
 fn push_text(alloc: Global, ops: &mut Vec<Op>, bytes: &[u8]) -> Result<(), AllocError>
     ensures { OnOk result (elements_of ops.new.items ≡ elements_of ops.old.items ++ Words bytes.now ∷ []) }
 {
@@ -45,7 +46,6 @@ fn push_text(alloc: Global, ops: &mut Vec<Op>, bytes: &[u8]) -> Result<(), Alloc
     push(ops, Op::Text(text))
 }
 
-/// Keeps what stands before a brace that opens.
 #[tactic(auto, using(crate::proofs::BodyLemmas::opened_push))]
 fn enter(outer: &mut Vec<Vec<Op>>, before: Vec<Op>) -> Result<(), AllocError>
     ensures { OnOk result (open_bodies outer.new.items ≡ elements_of before.items ∷ open_bodies outer.old.items) }
@@ -54,7 +54,6 @@ fn enter(outer: &mut Vec<Vec<Op>>, before: Vec<Op>) -> Result<(), AllocError>
     Ok(())
 }
 
-/// What stands before the brace that a brace closes, if one is open.
 #[tactic(auto, using(crate::proofs::BodyLemmas::opened_push))]
 fn leave(outer: &mut Vec<Vec<Op>>) -> Option<Vec<Op>>
     ensures { MatchOption result (open_bodies outer.old.items ≡ [])
@@ -63,7 +62,6 @@ fn leave(outer: &mut Vec<Vec<Op>>) -> Option<Vec<Op>>
     outer.pop()
 }
 
-/// Whether no more braces may stand open.
 #[tactic(auto, using(crate::proofs::BodyLemmas::length_opened))]
 fn is_deep(outer: &[Vec<Op>]) -> bool
     ensures { result ≡ not (nat_lt (length (open_bodies outer.now)) 99) }

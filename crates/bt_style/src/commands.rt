@@ -1,4 +1,6 @@
 //! Commands with their arguments.
+//!
+//! A function joins the draft after its body is read, so its body can't name it.
 
 ghost use Rattle.std.specs.Prelude.{◌≡◌, ◌≤◌, None, IfOk, OnOk};
 ghost use Rattle.bt_style.specs.Fault.{Gives};
@@ -64,7 +66,6 @@ impl<'a> Parser<'a> {
         Ok(target)
     }
 
-    /// `ENTRY`.
     #[tactic(auto, unfolding(crate::specs::Commands::arguments_at))]
     fn entry(&mut self, line: usize) -> Result<(), StyleRefusal>
         ensures gives { Gives (λ _. (program_of self.new.draft, self.new.cursor)) result
@@ -77,7 +78,6 @@ impl<'a> Parser<'a> {
         Ok(self.draft.add_command(Action::Entry, line)?)
     }
 
-    /// `FUNCTION`.
     #[tactic(auto, unfolding(crate::specs::Commands::arguments_at))]
     fn function(&mut self, line: usize) -> Result<(), StyleRefusal>
         ensures gives { Gives (λ _. (program_of self.new.draft, self.new.cursor)) result
@@ -92,7 +92,6 @@ impl<'a> Parser<'a> {
         Ok(self.draft.add_command(Action::Function(n), line)?)
     }
 
-    /// `MACRO`.
     #[tactic(auto, unfolding(crate::specs::Commands::arguments_at))]
     fn define_macro(&mut self, line: usize) -> Result<(), StyleRefusal>
         ensures gives { Gives (λ _. (program_of self.new.draft, self.new.cursor)) result

@@ -1,4 +1,8 @@
 //! A style while it is read, with its names in hashed tables.
+//!
+//! The invariant says that the tables give what the definition finds by going through the lists. To keep them so, each
+//! declaration first makes room in the table, then pushes onto the list, and then puts the name into the table, which
+//! can't fail: out of memory, both stay as they were.
 
 ghost use Rattle.std.specs.Prelude.{◌≡◌, ◌≤◌, None, IfOk, OnOk, OnErr, length, is_some};
 ghost use Rattle.bt_style.specs.Program.{program_of};
@@ -41,7 +45,6 @@ impl Model for Draft {
         Holds d.macros (macro_named (program_of d.style)) };
 }
 
-/// A style in which nothing is declared.
 fn bare_style(alloc: Global) -> Style
     ensures { program_of result ≡ bare }
 {
@@ -57,7 +60,6 @@ fn bare_style(alloc: Global) -> Style
     }
 }
 
-/// What the next name of a list will stand for.
 fn next_target(style: &Style, names: Names) -> Target
     ensures { result ≡ next_target names (program_of style.now) }
 {
@@ -70,14 +72,12 @@ fn next_target(style: &Style, names: Names) -> Target
     }
 }
 
-/// What the next function's name will stand for.
 fn next_function(style: &Style) -> Target
     ensures { result ≡ Target.Function (length (program_of style.now).functions) }
 {
     Target::Function(style.functions.len())
 }
 
-/// Puts a name at a list's end.
 fn push_name(style: &mut Style, names: Names, name: Bytes) -> Result<(), AllocError>
     ensures ok { OnOk result (program_of style.new ≡ with_name names name (program_of style.old)) }
     ensures err { OnErr result (program_of style.new ≡ program_of style.old) }
@@ -92,7 +92,6 @@ fn push_name(style: &mut Style, names: Names, name: Bytes) -> Result<(), AllocEr
     Ok(())
 }
 
-/// Puts a macro after the others.
 fn push_macro(style: &mut Style, name: Bytes, text: Bytes) -> Result<(), AllocError>
     ensures ok { OnOk result (program_of style.new ≡ with_macro name text (program_of style.old)) }
     ensures err { OnErr result (program_of style.new ≡ program_of style.old) }
@@ -101,7 +100,6 @@ fn push_macro(style: &mut Style, name: Bytes, text: Bytes) -> Result<(), AllocEr
     Ok(())
 }
 
-/// Puts a function after the others.
 fn push_function(style: &mut Style, name: Bytes, body: Vec<Op>) -> Result<(), AllocError>
     ensures ok { OnOk result (program_of style.new ≡ with_function name (ops_body body.items) (program_of style.old)) }
     ensures err { OnErr result (program_of style.new ≡ program_of style.old) }

@@ -13,14 +13,12 @@ use crate::fault::{FaultKind, StyleRefusal, fault};
 use crate::style::Op;
 use std::alloc::Global;
 
-/// How many digits the bytes begin with.
 fn digit_count(bytes: &[u8]) -> usize
     ensures { result ≡ length (take_while is_ascii_digit bytes.now) }
 {
     bytes.iter().take_while(|b| b.is_ascii_digit()).count()
 }
 
-/// The number that digits spell, unless it's over a greatest one.
 fn decimal_within(digits: &[u8], greatest: u32) -> Option<u32>
     ensures some { IfSome result (λ n. (n ≡ decimal 0 digits.now) × (n ≤ greatest)) }
     ensures none { IfNone result (greatest < decimal 0 digits.now) }
@@ -36,7 +34,7 @@ fn decimal_within(digits: &[u8], greatest: u32) -> Option<u32>
     Some(n)
 }
 
-/// The size of a number.
+/// A number without its sign.
 #[tactic(auto, unfolding(crate::specs::Elements::size_at))]
 fn size(bytes: &[u8], greatest: u32, line: usize) -> Result<u32, StyleRefusal>
     ensures gives { Gives (λ n. n) result (size_at greatest bytes.now line) }

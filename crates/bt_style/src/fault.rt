@@ -66,7 +66,6 @@ impl FaultKind {
 }
 
 impl fmt::Display for FaultKind {
-    /// The kind's name.
     fn fmt<W: fmt::Write>(&self, f: &mut fmt::Formatter<W>) -> fmt::Result {
         fmt::Debug::fmt(self, f)
     }

@@ -22,7 +22,6 @@ pub enum Names {
     GlobalTexts,
 }
 
-/// Puts a function that needs no definition into a table.
 fn put_builtin(
     alloc: Global,
     targets: &mut ByName<Target>,
@@ -38,12 +37,12 @@ fn put_builtin(
     Ok(())
 }
 
-/// Functions that need no definition, by their names.
 fn put_builtins(alloc: Global, builtins: &[Builtin]) -> Result<ByName<Target>, AllocError>
     ensures { IfOk result (λ targets. Holds targets
         (λ name. option_map Target.Builtin (builtin_among (map row_of builtins.now) name))) }
 {
     let mut targets = ByName::new(alloc);
+    // From the last to the first, as the definition's look-up gives the first of a name.
     let mut left = builtins.len();
     'builtins: while 0 < left {
         left -= 1;

@@ -8,7 +8,6 @@ use crate::style::Target;
 use std::alloc::{AllocError, Global};
 
 impl Target {
-    /// The number of a name of a list; none for another name.
     fn number_in(self, list: Names) -> Option<usize>
         ensures { result ≡ number_in list self }
     {

@@ -1,4 +1,8 @@
 //! The names that a step may come to.
+//!
+//! The search keeps each name once, in `found`, in the order in which it met them; those from `place` on are still to be
+//! followed. `seen` has the same names as a hashed set. The parts of a body that are still to be visited wait in a list,
+//! so neither long chains of calls nor deep braces use up the program's stack.
 
 ghost use Rattle.std.specs.Prelude.{◌≡◌, ◌+◌, ◌<◌, ◌++◌, ◌↔◌, ◌||◌, ◌⊎◌, IsTrue, IfOk, OnOk, MatchOption, Contains, [], map, filter_map, codes, slice_get};
 ghost use Rattle.std.specs.List.{IsDistinct};
@@ -64,7 +68,6 @@ fn note(
     Ok(())
 }
 
-/// Leaves a part of a body for later.
 #[tactic(auto, using(crate::proofs::ReachLemmas::waiting_names_push, crate::proofs::ReachLemmas::waiting_size_push))]
 fn put_off<'a>(waiting: &mut Vec<&'a [Op]>, ops: &'a [Op]) -> Result<(), AllocError>
     ensures names { OnOk result (waiting_names waiting.new.items
@@ -76,7 +79,6 @@ fn put_off<'a>(waiting: &mut Vec<&'a [Op]>, ops: &'a [Op]) -> Result<(), AllocEr
     Ok(())
 }
 
-/// Takes the part of a body that was left last.
 #[tactic(auto, using(crate::proofs::ReachLemmas::waiting_names_push, crate::proofs::ReachLemmas::waiting_size_push))]
 fn take_up<'a>(waiting: &mut Vec<&'a [Op]>) -> Option<&'a [Op]>
     ensures names { MatchOption result (waiting_names waiting.old.items ≡ [])
@@ -129,7 +131,6 @@ fn go_over<'a>(
     note_element(found, seen, waiting, first)
 }
 
-/// Notes the names in a body, inner braces too.
 fn note_body(
     alloc: Global,
     found: &mut Sequence<Target>,
@@ -158,14 +159,12 @@ fn function_body(style: &Style, place: usize) -> &[Op]
     }
 }
 
-/// Whether a function is `call.type$`.
 fn is_call_type(builtin: Builtin) -> bool
     ensures { result ≡ is_call_type builtin }
 {
     matches!(builtin, Builtin::CallType)
 }
 
-/// The number of the function `default.type`, if there is one.
 fn default_type(functions: &[Function]) -> Option<usize>
     ensures { result ≡ place_in (map (λ f. f.name) (definitions_of functions.now)) (codes "default.type") }
 {
@@ -177,7 +176,6 @@ fn default_type(functions: &[Function]) -> Option<usize>
     None
 }
 
-/// Notes the function of a number, if there is one.
 fn note_function(
     found: &mut Sequence<Target>,
     seen: &mut HashSet<Target>,
@@ -241,23 +239,21 @@ fn note_next(
     }
 }
 
-/// Whether a function that needs no definition is found.
 fn has(found: &Sequence<Target>, seen: &HashSet<Target>, builtin: Builtin) -> bool
     requires { Knows seen.now found.now }
     ensures { result ≡ is_among found.now (Target.Builtin builtin) }
 {
+    // Only the contract needs `found`: `seen` has the same names.
     let _ = found;
     seen.contains(&Target::Builtin(builtin))
 }
 
-/// The target at a place.
 fn target_at(found: &Sequence<Target>, place: usize) -> Option<Target>
     ensures { result ≡ slice_get found.now place }
 {
     found.as_slice().get(place).copied()
 }
 
-/// Finds what is reached from a name, each once.
 fn find_all(
     alloc: Global,
     style: &Style,
@@ -284,7 +280,6 @@ fn find_all(
     Ok(())
 }
 
-/// Names that were found, with what is worked out of them once.
 fn listed(
     alloc: Global,
     found: Sequence<Target>,

@@ -1,4 +1,6 @@
-//! Reads a style.
+//! Reads a style: first the names that are there before any command, then its commands.
+//!
+//! The text is read once, token by token. Its definition, `style_of`, cuts it into tokens first.
 
 ghost use Rattle.std.specs.Prelude.{◌≡◌, ◌<◌, suc, None, IfOk, IfSome, OnOk};
 ghost use Rattle.std.specs.Option.{option_map};
@@ -21,7 +23,6 @@ use crate::verbs::Stage;
 use bt_text::Bytes;
 use std::alloc::{AllocError, Global};
 
-/// Declares a name that is there before the first command.
 fn declare_preset(
     alloc: Global,
     draft: &mut Draft,
@@ -63,7 +64,6 @@ impl<'a> Cursor<'a> {
 }
 
 impl<'a> Parser<'a> {
-    /// Reads commands to the text's end.
     #[tactic(auto, using(crate::proofs::CommandLemmas::ended, crate::proofs::CommandLemmas::no_word, crate::proofs::CommandLemmas::no_command, crate::proofs::CommandLemmas::one_command))]
     fn commands(&mut self) -> Result<(), StyleRefusal>
         ensures { Gives (λ _. program_of self.new.draft) result
@@ -78,7 +78,6 @@ impl<'a> Parser<'a> {
         }
     }
 
-    /// Reads all of a text into a style in which nothing is declared.
     #[tactic(auto, unfolding(crate::specs::Reader::reading))]
     fn read(&mut self) -> Result<(), StyleRefusal>
         requires { program_of self.old.draft ≡ bare }

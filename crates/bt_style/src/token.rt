@@ -1,4 +1,4 @@
-//! The tokens of a style's text.
+//! The tokens of a style's text. It falls into pieces: each is a token, or white space or a comment, which are none.
 
 ghost use Rattle.std.specs.Prelude.{◌≡◌, ◌+◌, ◌<◌, length};
 ghost use Rattle.std.specs.List.{before_first};
@@ -30,21 +30,18 @@ pub enum TokenKind<'a> {
     Glued,
 }
 
-/// White space, a percent sign or a brace.
 fn ends_word(b: u8) -> bool
     ensures { result ≡ ends_word b }
 {
     is_white(b) || b == b'%' || b == b'{' || b == b'}'
 }
 
-/// How many bytes of a word the bytes begin with.
 fn word_length(bytes: &[u8]) -> usize
     ensures { result ≡ length (before_first ends_word bytes.now) }
 {
     bytes.iter().take_while(|b| !ends_word(**b)).count()
 }
 
-/// How many bytes stand before the line's end.
 #[tactic(auto, using(crate::proofs::SeekLemmas::stands_before))]
 fn comment_length(bytes: &[u8]) -> usize
     ensures { result ≡ length (before_first is_line_feed bytes.now) }
@@ -52,7 +49,6 @@ fn comment_length(bytes: &[u8]) -> usize
     memchr(b'\n', bytes).unwrap_or(bytes.len())
 }
 
-/// How many bytes stand before a quote or the line's end.
 #[tactic(auto, using(crate::proofs::SeekLemmas::stands_before))]
 fn literal_length(bytes: &[u8]) -> usize
     ensures { result ≡ length (before_first ends_literal bytes.now) }

@@ -47,7 +47,6 @@ static VERBS: [Verb; 10] = [
 ];
 
 impl Verb {
-    /// The command's word, in capitals.
     fn word(self) -> &'static [u8]
         ensures { result.now ≡ word_of self }
     {
@@ -66,7 +65,6 @@ impl Verb {
     }
 }
 
-/// The command of a word, among some.
 fn verb_among(verbs: &[Verb], word: &[u8]) -> Option<Verb>
     ensures { result ≡ find (λ verb. is_same_folded word.now (word_of verb)) verbs.now }
 {
@@ -78,7 +76,6 @@ fn verb_among(verbs: &[Verb], word: &[u8]) -> Option<Verb>
     None
 }
 
-/// The command of a word.
 fn verb_named(word: &[u8]) -> Option<Verb>
     ensures { result ≡ verb_named word.now }
 {
