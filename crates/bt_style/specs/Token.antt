@@ -3,9 +3,6 @@ use Rattle.std.specs.Prelude.{ℕ, zero, suc, ◌+◌, ◌-◌, Bool, true, ◌|
 use Rattle.std.specs.List.{before_first}
 use Rattle.bt_text.specs.ByteTests.{left_brace, right_brace, is_white}
 
-abbrev pub line_feed : ℕ
-line_feed = 10
-
 abbrev pub quote : ℕ
 quote = 34
 
@@ -17,11 +14,11 @@ abbrev pub ends_word : ℕ → Bool
 ends_word b = is_white b || b == percent_sign || b == left_brace || b == right_brace
 
 abbrev pub is_line_feed : ℕ → Bool
-is_line_feed b = b == line_feed
+is_line_feed b = b == 10
 
 -- a quote, or the line's end
 abbrev pub ends_literal : ℕ → Bool
-ends_literal b = b == quote || b == line_feed
+ends_literal b = b == quote || is_line_feed b
 
 pub data Token : Type 0 where
   Open : Token
@@ -77,7 +74,7 @@ piece_at b bytes =
     else record { token = Some (Word (b ∷ more)); size = 1 + length more }
 
 abbrev pub line_after : ℕ → ℕ → ℕ
-line_after b line = if b == line_feed then line + 1 else line
+line_after b line = if is_line_feed b then line + 1 else line
 
 -- The tokens of the rest of a text from a line on. The first so many bytes belong to a piece that began before: they
 -- are passed one by one, so that each byte is one step of the recursion.
