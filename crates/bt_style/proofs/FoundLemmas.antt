@@ -153,10 +153,6 @@ pub all_at : (found ts : List Target) (j : ℕ) (d : Target) → j < length foun
 all_at found [] j d h = refl
 all_at found (t ∷ ts) j d h = all_at (noted found t) ts j d (omega (arith, noted_length found t)) ∙ noted_at found t j d h
 
-pub all_length : (found ts : List Target) → length found ≤ length (noted_all found ts)
-all_length found [] = omega arith
-all_length found (t ∷ ts) = omega (arith, noted_length found t, all_length (noted found t) ts)
-
 pub all_once : (found ts : List Target) → IsDistinct target_eq found → IsDistinct target_eq (noted_all found ts)
 all_once found [] d = d
 all_once found (t ∷ ts) d = all_once (noted found t) ts (noted_once found t d)

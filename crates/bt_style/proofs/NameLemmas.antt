@@ -7,7 +7,7 @@ use Rattle.std.specs.Map.{lookup}
 use Rattle.std.specs.Option.{option_map}
 use Rattle.std.specs.Cmp.Lexicographic.{bytes_decides}
 use Rattle.std.proofs.lemmas.Bool.{cases_Bool, cond-true, cond-false}
-use Rattle.std.proofs.lemmas.List.{map-append}
+use Rattle.std.proofs.lemmas.List.{length-map, map-append}
 use Rattle.bt_style.specs.declared.builtin.Builtin.{Builtin}
 use Rattle.bt_style.specs.declared.builtin.Builtin.TheVariants.{Greater}
 use Rattle.bt_style.specs.declared.style.Target.{Target}
@@ -115,10 +115,6 @@ meaning_declared GlobalTexts name q p h =
     (option_map targets.Function (place_in (function_names p) q) ∷ [])
     targets.GlobalText p.global_texts name q (free_alike p name q h)
 
-pub length_names : (fs : List Definition) → length (map (λ f. f.name) fs) ≡ length fs
-length_names [] = refl
-length_names (f ∷ fs) = ap (λ n. suc n) (length_names fs)
-
 pub meaning_defined : (name q : List ℕ) (body : Body) (p : Program) → target_named p name ≡ None →
     target_named (with_function name body p) q ≡ (if bytes_eq name q then Some (targets.Function (length p.functions)) else target_named p q)
 unfolding target_named
@@ -130,11 +126,7 @@ meaning_defined name q body p h =
     let more : map (λ (f : Definition). f.name) (p.functions ++ new ∷ []) ≡ function_names p ++ name ∷ [] = map-append (λ (f : Definition). f.name) p.functions (new ∷ []) in
     ap (λ (l : List (List ℕ)). first_some (us ++ option_map targets.Function (place_in l q) ∷ [])) more
     ∙ slot us [] targets.Function (function_names p) name q (free_alike p name q h)
-    ∙ ap (λ (n : ℕ). cond (bytes_eq name q) (Some (targets.Function n)) (first_some (us ++ option_map targets.Function (place_in (function_names p) q) ∷ []))) (length_names p.functions)
-
-pub length_macros : (ms : List Macro) → length (map (λ m. m.name) ms) ≡ length ms
-length_macros [] = refl
-length_macros (m ∷ ms) = ap (λ n. suc n) (length_macros ms)
+    ∙ ap (λ (n : ℕ). cond (bytes_eq name q) (Some (targets.Function n)) (first_some (us ++ option_map targets.Function (place_in (function_names p) q) ∷ []))) (length-map p.functions (λ (f : Definition). f.name))
 
 -- the same of macros
 pub macro_defined : (name text q : List ℕ) (p : Program) → macro_named p name ≡ None →
@@ -146,7 +138,7 @@ macro_defined name text q p h =
     elim (cases_Bool (bytes_eq name q)) [
       | inl y ↦
           let absent : place_in (macro_names p) q ≡ None = subst (λ (x : List ℕ). place_in (macro_names p) x ≡ None) ((bytes_decides name q).0 y) h in
-          ap (λ (l : List (List ℕ)). place_in l q) more ∙ push_same (macro_names p) name q y absent ∙ ap (λ (n : ℕ). Some n) (length_macros p.macros)
+          ap (λ (l : List (List ℕ)). place_in l q) more ∙ push_same (macro_names p) name q y absent ∙ ap (λ (n : ℕ). Some n) (length-map p.macros (λ (m : Macro). m.name))
           ∙ sym (cond-true (bytes_eq name q) (Some (length p.macros)) (place_in (macro_names p) q) y)
       | inr n ↦
           ap (λ (l : List (List ℕ)). place_in l q) more ∙ push_other (macro_names p) name q n

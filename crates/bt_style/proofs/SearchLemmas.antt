@@ -132,7 +132,7 @@ got [] n t d h = cc
 got (x ∷ ts) zero t d h = cc
 got (x ∷ ts) (suc n) t d h = got ts n t d h
 
-got_within : (ts : List Target) (n : ℕ) (t : Target) → slice_get ts n ≡ Some t → n < length ts
+pub got_within : (ts : List Target) (n : ℕ) (t : Target) → slice_get ts n ≡ Some t → n < length ts
 got_within [] n t h = cc
 got_within (x ∷ ts) zero t h = omega arith
 got_within (x ∷ ts) (suc n) t h = omega (arith, got_within ts n t h)
@@ -149,9 +149,6 @@ searched_on p tf start found after place t s h e = gone_on p tf start found afte
 pub work_falls : (p : Program) (tf : Option ℕ) (start : Target) (found after : List Target) (place : ℕ) (t : Target) →
     slice_get found place ≡ Some t → after ≡ noted_all found (leads_to p tf t) → work p tf start after (place + 1) < work p tf start found place
 work_falls p tf start found after place t h e = less_work p tf start found after place t (got_within found place t h) e
-
-pub place_fits : (found : List Target) (place : ℕ) (t : Target) → slice_get found place ≡ Some t → place < length found
-place_fits found place t h = got_within found place t h
 
 pub searched_all : (p : Program) (tf : Option ℕ) (start : Target) (found : List Target) (place : ℕ) → Searched p tf start found place → slice_get found place ≡ None →
     (t : Target) → Contains found t ↔ Reaches p tf start t

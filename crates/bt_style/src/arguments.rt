@@ -1,6 +1,6 @@
 //! The arguments of commands.
 
-ghost use Rattle.std.specs.Prelude.{◌≡◌, ◌≤◌, OnOk};
+ghost use Rattle.std.specs.Prelude.{◌≤◌, OnOk};
 ghost use Rattle.bt_style.specs.Fault.{Gives};
 ghost use Rattle.bt_style.specs.Token.{count};
 ghost use Rattle.bt_style.specs.Arguments.{open_at, close_at, word_at, literal_at};

@@ -8,7 +8,7 @@ ghost use Rattle.std.specs.Prelude.{◌≡◌, ◌≤◌, ◌++◌, ◌∷◌, [
 ghost use Rattle.bt_style.specs.Fault.{Gives};
 ghost use Rattle.bt_style.specs.Token.{count};
 ghost use Rattle.bt_style.specs.Program.{program_of};
-ghost use Rattle.bt_style.specs.Tree.{body_of, ops_body, element_of, elements_of, Braced, Words};
+ghost use Rattle.bt_style.specs.Tree.{ops_body, element_of, elements_of, Braced, Words};
 ghost use Rattle.bt_style.specs.Bodies.{body_at};
 ghost use Rattle.bt_style.specs.inner.Bodies.{open_bodies};
 
@@ -28,8 +28,7 @@ pub const BRACE_DEPTH: usize = 100;
 fn push(ops: &mut Vec<Op>, op: Op) -> Result<(), AllocError>
     ensures { OnOk result (elements_of ops.new.items ≡ elements_of ops.old.items ++ element_of op ∷ []) }
 {
-    ops.push(op)?;
-    Ok(())
+    Ok(ops.push(op)?)
 }
 
 fn push_block(ops: &mut Vec<Op>, inner: Vec<Op>) -> Result<(), AllocError>
@@ -42,16 +41,14 @@ fn push_block(ops: &mut Vec<Op>, inner: Vec<Op>) -> Result<(), AllocError>
 fn push_text(alloc: Global, ops: &mut Vec<Op>, bytes: &[u8]) -> Result<(), AllocError>
     ensures { OnOk result (elements_of ops.new.items ≡ elements_of ops.old.items ++ Words bytes.now ∷ []) }
 {
-    let text = Bytes::copied(alloc, bytes)?;
-    push(ops, Op::Text(text))
+    push(ops, Op::Text(Bytes::copied(alloc, bytes)?))
 }
 
 #[tactic(auto, using(crate::proofs::BodyLemmas::opened_push))]
 fn enter(outer: &mut Vec<Vec<Op>>, before: Vec<Op>) -> Result<(), AllocError>
     ensures { OnOk result (open_bodies outer.new.items ≡ elements_of before.items ∷ open_bodies outer.old.items) }
 {
-    outer.push(before)?;
-    Ok(())
+    Ok(outer.push(before)?)
 }
 
 #[tactic(auto, using(crate::proofs::BodyLemmas::opened_push))]
@@ -95,10 +92,7 @@ pub fn body(alloc: Global, cursor: &mut Cursor, draft: &Draft) -> Result<Vec<Op>
                 let inner = mem::replace(&mut now, before);
                 push_block(&mut now, inner)?;
             }
-            TokenKind::Word(word) => {
-                let op = element(alloc, draft, word, line)?;
-                push(&mut now, op)?;
-            }
+            TokenKind::Word(word) => push(&mut now, element(alloc, draft, word, line)?)?,
             TokenKind::Literal(bytes) => push_text(alloc, &mut now, bytes)?,
             TokenKind::End => return Err(fault(FaultKind::UnclosedBrace, line)),
             TokenKind::Unclosed => return Err(fault(FaultKind::UnclosedText, line)),

@@ -4,7 +4,7 @@
 //! declaration first makes room in the table, then pushes onto the list, and then puts the name into the table, which
 //! can't fail: out of memory, both stay as they were.
 
-ghost use Rattle.std.specs.Prelude.{◌≡◌, ◌≤◌, None, IfOk, OnOk, OnErr, length, is_some};
+ghost use Rattle.std.specs.Prelude.{◌≡◌, None, IfOk, OnOk, OnErr, length, is_some};
 ghost use Rattle.bt_style.specs.Program.{program_of};
 ghost use Rattle.bt_style.specs.Tree.{ops_body};
 ghost use Rattle.bt_style.specs.Names.{target_named, macro_named, is_macro};
@@ -96,16 +96,14 @@ fn push_macro(style: &mut Style, name: Bytes, text: Bytes) -> Result<(), AllocEr
     ensures ok { OnOk result (program_of style.new ≡ with_macro name text (program_of style.old)) }
     ensures err { OnErr result (program_of style.new ≡ program_of style.old) }
 {
-    style.macros.push(Macro { name, text })?;
-    Ok(())
+    Ok(style.macros.push(Macro { name, text })?)
 }
 
 fn push_function(style: &mut Style, name: Bytes, body: Vec<Op>) -> Result<(), AllocError>
     ensures ok { OnOk result (program_of style.new ≡ with_function name (ops_body body.items) (program_of style.old)) }
     ensures err { OnErr result (program_of style.new ≡ program_of style.old) }
 {
-    style.functions.push(Function { name, body })?;
-    Ok(())
+    Ok(style.functions.push(Function { name, body })?)
 }
 
 impl Draft {
@@ -197,19 +195,13 @@ impl Draft {
     pub fn add_command(&mut self, action: Action, line: usize) -> Result<(), AllocError>
         ensures { OnOk result (program_of self.new ≡ with_command action line (program_of self.old)) }
     {
-        self.style.commands.push(Command { action, line })?;
-        Ok(())
+        Ok(self.style.commands.push(Command { action, line })?)
     }
 
     /// The style.
     pub fn into_style(self) -> Style
         ensures { result ≡ self }
     {
-        let Draft {
-            style,
-            targets: _,
-            macros: _,
-        } = self;
-        style
+        self.style
     }
 }

@@ -1,6 +1,6 @@
 //! The elements of a body.
 
-ghost use Rattle.std.specs.Prelude.{◌≡◌, ◌-◌, ◌*◌, ◌+◌, ◌<◌, ◌≤◌, ◌^◌, ℤ, pos, neg_ℤ, length, IfSome, IfNone, IfOk};
+ghost use Rattle.std.specs.Prelude.{◌≡◌, ◌-◌, ◌*◌, ◌+◌, ◌<◌, ◌≤◌, length, IfSome, IfNone, IfOk};
 ghost use Rattle.bt_style.specs.Fault.{Gives};
 ghost use Rattle.bt_style.specs.Program.{program_of};
 ghost use Rattle.bt_style.specs.Tree.{element_of};
@@ -60,11 +60,9 @@ fn number(bytes: &[u8], line: usize) -> Result<i32, StyleRefusal>
     ensures { Gives (λ n. n) result (number_at bytes.now line) }
 {
     if !bytes.is_empty() && bytes[0] == b'-' {
-        let n = size(&bytes[1..], 1 << 31, line)?;
-        Ok((-i64::from(n)) as i32)
+        Ok(-i64::from(size(&bytes[1..], 1 << 31, line)?) as i32)
     } else {
-        let n = size(bytes, i32::MAX as u32, line)?;
-        Ok(n as i32)
+        Ok(size(bytes, i32::MAX as u32, line)? as i32)
     }
 }
 
@@ -76,8 +74,7 @@ fn quoted(alloc: Global, draft: &Draft, word: &[u8], line: usize) -> Result<Op, 
     if word.is_empty() {
         return Err(fault(FaultKind::BadName, line));
     }
-    let target = draft.target(alloc, word, line)?;
-    Ok(Op::Quote(target))
+    Ok(Op::Quote(draft.target(alloc, word, line)?))
 }
 
 /// A number, a quoted name or a call.
@@ -86,13 +83,10 @@ pub fn element(alloc: Global, draft: &Draft, word: &[u8], line: usize) -> Result
     ensures { Gives element_of result (word_element (program_of draft.now) word.now line) }
 {
     if !word.is_empty() && word[0] == b'#' {
-        let n = number(&word[1..], line)?;
-        Ok(Op::Number(n))
+        Ok(Op::Number(number(&word[1..], line)?))
     } else if !word.is_empty() && word[0] == b'\'' {
-        let op = quoted(alloc, draft, &word[1..], line)?;
-        Ok(op)
+        quoted(alloc, draft, &word[1..], line)
     } else {
-        let target = draft.target(alloc, word, line)?;
-        Ok(Op::Call(target))
+        Ok(Op::Call(draft.target(alloc, word, line)?))
     }
 }

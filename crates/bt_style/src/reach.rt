@@ -10,7 +10,7 @@ ghost use Rattle.bt_style.specs.Tree.{ops_body, element_of};
 ghost use Rattle.bt_style.specs.Program.{program_of, definitions_of};
 ghost use Rattle.bt_style.specs.Names.{place_in};
 ghost use Rattle.bt_style.specs.Numbers.{as_field, as_entry_number, as_entry_text, as_global_number, as_global_text};
-ghost use Rattle.bt_style.specs.Reach.{Reaches, noted, noted_all, element_names, body_names, function_body_names, maybe_function, is_call_type, default_type, leads_to, target_eq, is_among, keeps_held, keeps_preamble, keeps_kind};
+ghost use Rattle.bt_style.specs.Reach.{Reaches, noted, noted_all, element_names, body_names, function_body_names, maybe_function, default_type, leads_to, target_eq, is_among, keeps_held, keeps_preamble, keeps_kind};
 ghost use Rattle.bt_style.specs.inner.Reach.{Knows, waiting_names, waiting_size, element_size, body_size};
 
 use crate::builtin::Builtin;
@@ -75,8 +75,7 @@ fn put_off<'a>(waiting: &mut Vec<&'a [Op]>, ops: &'a [Op]) -> Result<(), AllocEr
     ensures size { OnOk result (waiting_size waiting.new.items
         ≡ body_size (ops_body ops.now) + waiting_size waiting.old.items) }
 {
-    waiting.push(ops)?;
-    Ok(())
+    Ok(waiting.push(ops)?)
 }
 
 #[tactic(auto, using(crate::proofs::ReachLemmas::waiting_names_push, crate::proofs::ReachLemmas::waiting_size_push))]
@@ -159,12 +158,6 @@ fn function_body(style: &Style, place: usize) -> &[Op]
     }
 }
 
-fn is_call_type(builtin: Builtin) -> bool
-    ensures { result ≡ is_call_type builtin }
-{
-    matches!(builtin, Builtin::CallType)
-}
-
 fn default_type(functions: &[Function]) -> Option<usize>
     ensures { result ≡ place_in (map (λ f. f.name) (definitions_of functions.now)) (codes "default.type") }
 {
@@ -224,18 +217,8 @@ fn note_next(
 {
     match target {
         Target::Function(place) => note_body(alloc, found, seen, function_body(style, place)),
-        Target::Builtin(builtin) => {
-            if is_call_type(builtin) {
-                note_types(style, type_function, found, seen)
-            } else {
-                Ok(())
-            }
-        }
-        Target::Field(_)
-        | Target::EntryNumber(_)
-        | Target::EntryText(_)
-        | Target::GlobalNumber(_)
-        | Target::GlobalText(_) => Ok(()),
+        Target::Builtin(Builtin::CallType) => note_types(style, type_function, found, seen),
+        _ => Ok(()),
     }
 }
 

@@ -2,7 +2,7 @@
 use Rattle.std.specs.Prelude.{bytes_eq, is_some, not}
 use Rattle.std.specs.Cmp.Lexicographic.{bytes_decides}
 use Rattle.std.proofs.lemmas.Bool.{cond-true, cond-false}
-use Rattle.std.proofs.lemmas.List.{map-append}
+use Rattle.std.proofs.lemmas.List.{length-map, map-append}
 use Rattle.std.proofs.Common.{◌≡◌, ◌∙◌, inl, inr, ap, sym, refl, subst, ℕ, zero, suc, Bool, true, false, cond, List, [], ◌∷◌, ◌++◌, length, Option, Some, None, Result, Ok, Err}
 use Rattle.bt_text.specs.CaseFolding.{folded}
 use Rattle.bt_text.specs.NameBytes.{is_name}
@@ -23,7 +23,7 @@ use Rattle.bt_style.specs.inner.Draft.{next_target}
 use Rattle.bt_style.specs.Declares.{new_name}
 use Rattle.bt_style.specs.Reader.{reading, style_of}
 use Rattle.bt_style.specs.laws.Apart.{AreFound, EachNameIsFound}
-use Rattle.bt_style.proofs.NameLemmas.{length_names, length_macros, meaning_declared, meaning_defined, macro_defined}
+use Rattle.bt_style.proofs.NameLemmas.{meaning_declared, meaning_defined, macro_defined}
 use Rattle.bt_style.proofs.laws.UsesLemmas.{pushed}
 use Rattle.bt_style.proofs.KeptLemmas.{IsKept, commands_keep}
 
@@ -155,7 +155,7 @@ defined_found p name body none h =
     let new : Definition = record { name = name; body = body } in
     let more : Finds f g = finds f g name (targets.Function (length p.functions)) none (λ x. meaning_defined name x body p none) in
     let found : g name ≡ Some (targets.Function (length (function_names p))) =
-    finds_new f g name (targets.Function (length p.functions)) (λ x. meaning_defined name x body p none) ∙ ap (λ n. Some (targets.Function n)) (sym (length_names p.functions)) in (
+    finds_new f g name (targets.Function (length p.functions)) (λ x. meaning_defined name x body p none) ∙ ap (λ n. Some (targets.Function n)) (sym (length-map p.functions (λ (f : Definition). f.name))) in (
       old_found f g targets.Field p.fields more h.0,
       old_found f g targets.EntryNumber p.entry_numbers more h.1,
       old_found f g targets.EntryText p.entry_texts more h.2,
@@ -172,7 +172,7 @@ macro_found p name text none h =
     let g = macro_named (with_macro name text p) in
     let new : Macro = record { name = name; text = text } in
     let more : Finds f g = finds f g name (length p.macros) none (λ x. macro_defined name text x p none) in
-    let found : g name ≡ Some (length (macro_names p)) = finds_new f g name (length p.macros) (λ x. macro_defined name text x p none) ∙ ap Some (sym (length_macros p.macros)) in
+    let found : g name ≡ Some (length (macro_names p)) = finds_new f g name (length p.macros) (λ x. macro_defined name text x p none) ∙ ap Some (sym (length-map p.macros (λ (m : Macro). m.name))) in
     (h.0, h.1, h.2, h.3, h.4, h.5, subst (AreFound g (λ n. n)) (sym (map-append (λ (m : Macro). m.name) p.macros (new ∷ []))) (new_found f g (λ n. n) (macro_names p) name more found h.6))
 
 are_kept : IsKept Found

@@ -4,7 +4,7 @@ use Rattle.std.proofs.lemmas.Grind.{common_steps}
 use Rattle.bt_style.specs.declared.style.Target.{Target}
 use Rattle.bt_style.specs.Program.{program_of}
 use Rattle.bt_style.specs.Reach.{noted}
-use Rattle.bt_style.proofs.SearchLemmas.{begun, searched_on, work_falls, searched_all, place_fits}
+use Rattle.bt_style.proofs.SearchLemmas.{begun, searched_on, work_falls, searched_all, got_within}
 use Rattle.bt_style.proofs.reach.find_all.Goals as goal
 
 pub targets-init : goal.targets-init
@@ -27,7 +27,7 @@ targets-preserved c =
 pub overflow_add-place : goal.overflow_add-place
 overflow_add-place c =
     let here : slice_get c.targets.found c.targets.place ≡ Some c.in-Some.here = sym c.target_at.ensures ∙ c.in-Some.is in
-    let within : c.targets.place < length c.targets.found = place_fits c.targets.found c.targets.place c.in-Some.here here in
+    let within : c.targets.place < length c.targets.found = got_within c.targets.found c.targets.place c.in-Some.here here in
     omega arith
 
 pub targets-smaller : goal.targets-smaller
