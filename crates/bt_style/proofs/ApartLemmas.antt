@@ -92,7 +92,7 @@ same_fields p q e g = record {
   small = subst AreFolded e g.small;
 }
 
-absent : {A : Type 0} (o : Option A) → is_some o ≡ false → o ≡ None
+pub absent : {A : Type 0} (o : Option A) → is_some o ≡ false → o ≡ None
 absent None h = refl
 absent (Some x) h = cc
 

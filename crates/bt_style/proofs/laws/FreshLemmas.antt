@@ -12,6 +12,7 @@ use Rattle.bt_style.specs.Names.{builtin_among, builtin_named, place_in, target_
 use Rattle.bt_style.specs.inner.Cases.{function_names, macro_names}
 use Rattle.bt_style.specs.Declares.{new_name}
 use Rattle.bt_style.specs.laws.Laws.{is_byte}
+use Rattle.bt_style.proofs.SeekLemmas.{not_true}
 
 -- so many letters
 abbrev pub letters : ℕ → List ℕ
@@ -75,10 +76,6 @@ close_step line behind = refl
 abbrev total : List (List ℕ) → ℕ
 total [] = 0
 total (name ∷ names) = length name + total names
-
-not_true : (v : Bool) → (v ≡ true → ⊥) → v ≡ false
-not_true true no_way = absurd (no_way refl)
-not_true false no_way = refl
 
 unlike : (first name : List ℕ) → length first < length name → bytes_eq first name ≡ false
 unlike first name lt = not_true (bytes_eq first name) (λ is. omega (arith, ap length ((bytes_decides first name).0 is)))

@@ -1,5 +1,5 @@
 -- Each name of a style stands for what was declared by it.
-use Rattle.std.specs.Prelude.{bytes_eq, is_some, not}
+use Rattle.std.specs.Prelude.{bytes_eq, not}
 use Rattle.std.specs.Cmp.Lexicographic.{bytes_decides}
 use Rattle.std.proofs.lemmas.Bool.{cond-true, cond-false}
 use Rattle.std.proofs.lemmas.List.{length-map, map-append}
@@ -26,6 +26,7 @@ use Rattle.bt_style.specs.laws.Apart.{AreFound, EachNameIsFound}
 use Rattle.bt_style.proofs.NameLemmas.{meaning_declared, meaning_defined, macro_defined}
 use Rattle.bt_style.proofs.laws.UsesLemmas.{pushed}
 use Rattle.bt_style.proofs.KeptLemmas.{IsKept, commands_keep}
+use Rattle.bt_style.proofs.ApartLemmas.{absent}
 
 -- A look-up that finds one name more
 
@@ -64,10 +65,6 @@ free_by taken word name false b e f is h = cc
 
 free : (taken : List ℕ → Bool) (word : List ℕ) (line : ℕ) (name : List ℕ) → new_name taken word line ≡ Ok name → taken name ≡ false
 free taken word line name h = free_by taken word name (is_name word) (taken (folded word)) _ _ refl h
-
-absent : {A : Type 0} (o : Option A) → is_some o ≡ false → o ≡ None
-absent None h = refl
-absent (Some x) h = cc
 
 -- Styles
 

@@ -1,6 +1,5 @@
 -- A quote is no name of a style that is read, so nothing can be run by it.
-use Rattle.std.specs.Prelude.{bytes_eq, nat_lt, Option, ◌&&◌, not}
-use Rattle.std.specs.Option.{is_some}
+use Rattle.std.specs.Prelude.{bytes_eq, nat_lt, ◌&&◌, not}
 use Rattle.std.specs.List.{list_all}
 use Rattle.std.specs.Char.{to_ascii_lowercase}
 use Rattle.std.specs.Cmp.Lexicographic.{bytes_decides}
@@ -29,6 +28,8 @@ use Rattle.bt_style.specs.Commands.{run_target}
 use Rattle.bt_style.proofs.NameLemmas.{meaning_declared, meaning_defined}
 use Rattle.bt_style.proofs.SpelledLemmas.{ok_same}
 use Rattle.bt_style.proofs.KeptLemmas.{IsKept, commands_keep}
+use Rattle.bt_style.proofs.ApartLemmas.{absent}
+use Rattle.bt_style.proofs.SeekLemmas.{not_true}
 
 abbrev quote : List ℕ
 quote = codes "\""
@@ -41,10 +42,6 @@ lower_by : (b : ℕ) (v w : Bool) → is_name_byte b ≡ true → cond v b (cond
 lower_by b true w is e = false≢true (subst (λ n. is_name_byte n ≡ true) e is)
 lower_by b false true is e = (let two : b ≡ 2 = omega (arith, e) in false≢true (subst (λ n. is_name_byte n ≡ true) two is))
 lower_by b false false is e = false≢true (subst (λ n. is_name_byte n ≡ true) e is)
-
-not_true : (v : Bool) → (v ≡ true → ⊥) → v ≡ false
-not_true true no_way = absurd (no_way refl)
-not_true false no_way = refl
 
 middle : (v w u : Bool) → (v && (w && u)) ≡ true → w ≡ true
 middle true true u h = refl
@@ -73,10 +70,6 @@ new_by taken word name false b e f is free h = cc
 
 new : (taken : List ℕ → Bool) (word : List ℕ) (line : ℕ) (name : List ℕ) → new_name taken word line ≡ Ok name → IsNew taken name
 new taken word line name h = new_by taken word name (is_name word) (taken (folded word)) _ _ refl refl h
-
-absent : {A : Type 0} (o : Option A) → is_some o ≡ false → o ≡ None
-absent None h = refl
-absent (Some x) h = cc
 
 named : (names : Names) (p : Program) (name : List ℕ) → IsNew (is_taken p) name → Quoteless p → Quoteless (with_name names name p)
 named names p name n q =
