@@ -2,6 +2,7 @@
 pub mod BoundaryLemmas
 pub mod LawLemmas
 pub mod PartLemmas
+pub mod ClosedPartLemmas
 pub mod LineLemmas
 pub mod CutLemmas
 pub mod FitLemmas

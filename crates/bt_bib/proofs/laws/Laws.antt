@@ -13,6 +13,7 @@ use Rattle.bt_bib.proofs.laws.SpelledDatabaseLemmas
 use Rattle.bt_bib.proofs.laws.FaultlessDatabaseLemmas
 use Rattle.bt_bib.specs.laws.Parts.{PartsAreRead, ClosedPartsJoin, PartEditStays}
 use Rattle.bt_bib.proofs.laws.PartLemmas
+use Rattle.bt_bib.proofs.laws.ClosedPartLemmas
 
 pub rest_is_moved : RestIsMoved
 rest_is_moved = LawLemmas.rest_is_moved
@@ -70,8 +71,8 @@ pub parts_are_read : PartsAreRead
 parts_are_read = PartLemmas.parts_are_read
 
 pub closed_parts_join : ClosedPartsJoin
-closed_parts_join = PartLemmas.closed_parts_join
+closed_parts_join = ClosedPartLemmas.closed_parts_join
 
 -- An edit inside a part that stays closed changes the items of no other part.
 pub part_edit_stays : PartEditStays
-part_edit_stays = PartLemmas.part_edit_stays
+part_edit_stays = ClosedPartLemmas.part_edit_stays
