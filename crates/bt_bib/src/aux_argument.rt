@@ -1,4 +1,8 @@
 //! The argument of a command in an `.aux` text: its parts, and what is wrong with it.
+//!
+//! An argument ends at its first `}`, which must be the last byte of the line, or at white space, which is a fault. BibTeX
+//! takes a part only once it has seen what ends it. So after a fault the parts before it count, and the one at which it
+//! stands doesn't.
 
 ghost use Rattle.std.specs.Prelude.{◌≡◌, ◌≤◌, length, map, IfOk};
 ghost use Rattle.std.specs.List.{slice_split};
@@ -19,12 +23,9 @@ pub enum AuxFault {
     StuffAfter,
 }
 
-/// How an argument is parted.
 #[derive(Clone, Copy, PartialEq, Eq)]
 pub enum Parting {
-    /// At its commas.
     Commas,
-    /// Not at all.
     Whole,
 }
 
@@ -34,7 +35,6 @@ fn ends_argument(byte: u8) -> bool
     byte == b'}' || is_white(byte)
 }
 
-/// How long the argument is.
 fn inside_len(rest: &[u8]) -> usize
     ensures value { result ≡ length (inside rest.now) }
     ensures within { result ≤ length rest.now }
@@ -44,14 +44,12 @@ fn inside_len(rest: &[u8]) -> usize
         .count()
 }
 
-/// The parts between commas.
 fn between_commas<'a>(alloc: Global, argument: &'a [u8]) -> Result<Vec<&'a [u8]>, AllocError>
     ensures { IfOk result (λ parts. map (λ p. p.now) parts.items ≡ slice_split is_comma argument.now) }
 {
     argument.split(|byte| *byte == b',').collect(alloc)
 }
 
-/// The parts of an argument.
 fn parts_in<'a>(
     alloc: Global,
     argument: &'a [u8],
@@ -65,7 +63,6 @@ fn parts_in<'a>(
     }
 }
 
-/// The parts that a fault leaves.
 fn kept<'p, 'a>(fault: Option<AuxFault>, parts: &'p [&'a [u8]]) -> &'p [&'a [u8]]
     ensures { map (λ p. p.now) result.now ≡ parts_kept fault (map (λ p. p.now) parts.now) }
 {
@@ -75,7 +72,6 @@ fn kept<'p, 'a>(fault: Option<AuxFault>, parts: &'p [&'a [u8]]) -> &'p [&'a [u8]
     }
 }
 
-/// Copies of some texts.
 fn copied(alloc: Global, parts: &[&[u8]]) -> Result<Sequence<Bytes>, AllocError>
     ensures { IfOk result (λ copies. copies ≡ map (λ p. p.now) parts.now) }
 {
@@ -86,7 +82,6 @@ fn copied(alloc: Global, parts: &[&[u8]]) -> Result<Sequence<Bytes>, AllocError>
     Ok(copies)
 }
 
-/// What is wrong, by what ends the argument and stands after it.
 fn fault_at(rest_after: &[u8]) -> Option<AuxFault>
     ensures { result ≡ fault_at rest_after.now }
 {

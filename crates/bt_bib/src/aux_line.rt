@@ -1,4 +1,7 @@
-//! The lines of one .aux text that count.
+//! The lines of an `.aux` text that matter.
+//!
+//! LaTeX writes many commands into it. BibTeX looks at lines that begin with one of four, at their first byte, and skips
+//! all others without a word. Which files the commands open is the business of `bt_job`.
 
 ghost use Rattle.std.specs.Prelude.{◌≡◌, ◌≤◌, ◌<◌, ◌+◌, ◌^◌, [], ◌++◌, length, IfOk, OnOk, IfSome};
 ghost use Rattle.std.specs.List.{position_or_len, suffix_len};
@@ -10,7 +13,7 @@ use bt_text::{Bytes, Sequence, trim_end};
 use memchr::memchr;
 use std::alloc::{AllocError, Global};
 
-/// The commands that count.
+/// The commands that matter.
 #[derive(Clone, Copy, PartialEq, Eq)]
 pub enum Command {
     /// `\citation{..}`
@@ -24,7 +27,7 @@ pub enum Command {
 }
 
 impl Command {
-    /// What a line of the command begins with.
+    /// What a line of the command begins with, up to its opening brace.
     pub fn word(self) -> &'static [u8]
         ensures { result.now ≡ opening_of self }
     {
@@ -36,7 +39,6 @@ impl Command {
         }
     }
 
-    /// How its argument is parted.
     fn parting(self) -> Parting
         ensures { result ≡ parting self }
     {
@@ -47,7 +49,7 @@ impl Command {
     }
 }
 
-/// A line that counts: its command, and the parts before its fault, if it has one.
+/// A line that matters: its number from 1, its command, and the parts before its fault, if it has one.
 #[derive(Drop)]
 pub struct AuxItem {
     pub line: usize,
@@ -56,7 +58,6 @@ pub struct AuxItem {
     pub fault: Option<AuxFault>,
 }
 
-/// How long the first line is.
 #[tactic(auto, using(crate::proofs::AuxLemmas::line_is_first))]
 fn line_len(text: &[u8]) -> usize
     ensures value { result ≡ position_or_len is_line_end text.now }
@@ -66,7 +67,6 @@ fn line_len(text: &[u8]) -> usize
     memchr(b'\n', text).unwrap_or(text.len())
 }
 
-/// The command of a line that counts.
 fn command_of(line: &[u8]) -> Option<Command>
     ensures value { result ≡ command_of line.now }
     ensures within { IfSome result (λ command. length (opening_of command) ≤ length line.now) }
@@ -84,7 +84,6 @@ fn command_of(line: &[u8]) -> Option<Command>
     }
 }
 
-/// A line that counts.
 fn item(alloc: Global, number: usize, line: &[u8], command: Command) -> Result<AuxItem, AllocError>
     requires { length (opening_of command) ≤ length line.now }
     ensures { IfOk result (λ found. found ≡ item number line.now command) }
@@ -99,7 +98,6 @@ fn item(alloc: Global, number: usize, line: &[u8], command: Command) -> Result<A
     })
 }
 
-/// Puts a line after others, if it counts.
 fn add_line(
     alloc: Global,
     items: &mut Sequence<AuxItem>,
@@ -114,7 +112,7 @@ fn add_line(
     Ok(())
 }
 
-/// The lines of a text that count, in order.
+/// The lines of a text that matter, in order. The only error is out of memory.
 pub fn read_aux(alloc: Global, text: &[u8]) -> Result<Sequence<AuxItem>, AllocError>
     ensures { IfOk result (λ items. items ≡ aux_lines text.now) }
 {

@@ -1,4 +1,7 @@
-//! The reader of whole databases.
+//! Reads whole databases.
+//!
+//! Each piece is read as if its `@` were at place 0 of line 0, and stored beside its real place. So the pieces
+//! after an edit need only new places: nothing in them is read or copied again (`splice.rt`).
 
 ghost use Rattle.std.specs.Prelude.{◌≡◌, ◌==◌, IfOk};
 ghost use Rattle.bt_bib.specs.Spot.{here};
@@ -18,7 +21,6 @@ use memchr::memchr;
 use std::alloc::{AllocError, Global};
 
 impl Reader<'_> {
-    /// The next `@`, or the text's end.
     fn seek(&self, from: Spot) -> Spot
         requires { IsIn self.now.text.now from }
         ensures value { here self.now.text.now result ≡ after_run is_text (here self.now.text.now from) }
@@ -48,7 +50,6 @@ impl Reader<'_> {
         Ok((piece, end))
     }
 
-    /// The next piece and the place after it, or none and the text's end.
     #[tactic(auto, unfolding(crate::specs::Pieces::next_piece))]
     pub fn next_piece(&self, from: Spot) -> Result<(Option<PlacedPiece>, Spot), AllocError>
         requires { IsIn self.now.text.now from }
@@ -62,7 +63,6 @@ impl Reader<'_> {
         Ok((Some(piece), end))
     }
 
-    /// The comment words and items from a place on.
     fn pieces_from(&self, from: Spot) -> Result<Items, AllocError>
         requires { IsIn self.now.text.now from }
         ensures { IfOk result (λ items. items ≡ pieces_from (here self.now.text.now from)) }

@@ -1,4 +1,7 @@
-//! The places of a text at which its reading can begin again.
+//! Boundaries: the start of a text and the ends of its pieces.
+//!
+//! What is read from a boundary on depends only on the bytes from there on, so reading can begin again there. The ends
+//! rise, so both questions below are answered by binary search or at once.
 
 ghost use Rattle.std.specs.Prelude.{◌≡◌, ◌≤◌, length, take};
 ghost use Rattle.bt_bib.specs.Spot.{start};

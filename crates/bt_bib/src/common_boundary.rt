@@ -1,4 +1,8 @@
-//! Reading on up to a boundary that another text has too.
+//! Re-reading after a splice, up to a boundary that the old text has too.
+//!
+//! After the splice both texts have the same bytes. So as soon as the cursor reaches a place there that is a boundary of
+//! both, all that follows reads the same, and the old pieces serve. Without a fault, that is mostly the end of the first
+//! item after the splice. An opened brace can carry the cursor to the text's end.
 
 ghost use Rattle.std.specs.Prelude.{◌≡◌, ◌≤◌, ◌+◌, ◌-◌, ◌<◌, ◌^◌, ◌++◌, [], None, length, IfOk};
 ghost use Rattle.bt_bib.specs.Spot.{here};

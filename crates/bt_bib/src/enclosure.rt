@@ -1,4 +1,7 @@
 //! What braces and quotes enclose.
+//!
+//! The specification ends the text at the first closing sign that as many left braces as right ones precede. The code counts
+//! open braces instead, and `memchr3` finds the next byte that can matter. Depth costs neither recursion nor memory.
 
 ghost use Rattle.std.specs.Prelude.{◌≡◌, ◌<◌, ◌+◌, ◌^◌};
 ghost use Rattle.bt_bib.specs.Spot.{here};
@@ -71,7 +74,6 @@ impl Reader<'_> {
         self.ahead(from, count)
     }
 
-    /// The byte that closes what stands here.
     fn enclosed_end(&self, from: Spot, close: u8) -> Result<Spot, ReadStop>
         requires { IsIn self.now.text.now from }
         ensures { Finds self.now.text.now from result (enclosed_end close (here self.now.text.now from)) }

@@ -15,7 +15,6 @@ use crate::stop::ReadStop;
 use bt_text::Sequence;
 
 impl Reader<'_> {
-    /// A field, and the white space after it.
     #[tactic(auto, unfolding(crate::specs::Fields::field))]
     fn field(&self, from: Spot, close: Closing) -> Result<(Field, Spot), ReadStop>
         requires { IsIn self.now.text.now from }
@@ -28,7 +27,6 @@ impl Reader<'_> {
         Ok((Field { name, line, value }, end))
     }
 
-    /// Another field after a comma, or the end of the entry.
     #[tactic(auto, unfolding(crate::specs::Fields::next_field))]
     fn next_field(&self, from: Spot, close: Closing) -> Result<(Option<Field>, Spot), ReadStop>
         requires { IsIn self.now.text.now from }

@@ -53,7 +53,7 @@ impl Items {
         self.pieces.push(piece)
     }
 
-    /// Takes others over after these, where the text from `a` on stands from `b` on. They are not copied.
+    /// These and then `others`, which are shared, where the text from `a` on stands from `b` on.
     pub(crate) fn with_rebased(
         self,
         others: &[PlacedPiece],

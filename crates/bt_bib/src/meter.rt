@@ -1,10 +1,13 @@
-//! A count of the bytes that were read again.
+//! A count of the bytes that were re-read.
+//!
+//! A contract can't say how long a call takes, but it can say how far this count rises. So `respliced` promises that an
+//! edit reads only a part of its database.
 
 ghost use Rattle.std.specs.Prelude.{◌≡◌, ◌<◌, ◌+◌, ◌^◌};
 
 use std::marker::Model;
 
-/// A count of the bytes that were read again. Contracts see the number.
+/// A count of the bytes that were re-read. Contracts see the number.
 #[derive(Drop)]
 pub struct ReadMeter {
     count: u128,
@@ -26,7 +29,7 @@ impl ReadMeter {
         ReadMeter { count: 0 }
     }
 
-    /// How many bytes were read again.
+    /// How many bytes were re-read.
     pub fn value(&self) -> u128
         ensures { result ≡ self.now }
     {

@@ -14,7 +14,6 @@ use crate::spot::Spot;
 use crate::stop::ReadStop;
 use bt_text::{Bytes, Shared, is_digit, is_name_byte, is_white};
 
-/// Whether a byte is one of some signs.
 fn is_one_of(signs: &[u8], byte: u8) -> bool
     ensures { result ≡ list_any (λ sign. sign == byte) signs.now }
 {

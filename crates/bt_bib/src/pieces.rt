@@ -1,4 +1,8 @@
 //! What begins with an `@`: comment words, strings, preambles and entries.
+//!
+//! A fault doesn't lose what was read before it: a faulty entry keeps its type, key and whole fields, since BibTeX goes on
+//! with it. So a reader of items fails only when memory runs out; it turns any other stop into the item's end and fault.
+//! `read_string` and `read_preamble` fill a value of their caller, so that a `?` loses nothing.
 
 ghost use Rattle.std.specs.Prelude.{◌≡◌, [], None, IfOk};
 ghost use Rattle.bt_bib.specs.Spot.{here};
@@ -66,7 +70,6 @@ fn unread_entry(alloc: Global, kind: Option<Shared<Bytes>>) -> Content
 }
 
 impl Reader<'_> {
-    /// How an item is closed that is opened here.
     #[tactic(auto, unfolding(crate::specs::Pieces::opening))]
     fn opening(&self, from: Spot) -> Result<(Closing, Spot), ReadStop>
         requires { IsIn self.now.text.now from }
@@ -84,7 +87,6 @@ impl Reader<'_> {
         }
     }
 
-    /// The place after the closing sign.
     fn after_closing(&self, from: Spot, close: Closing) -> Result<Spot, ReadStop>
         requires { IsIn self.now.text.now from }
         ensures { Finds self.now.text.now from result (after_closing close (here self.now.text.now from)) }
@@ -92,7 +94,6 @@ impl Reader<'_> {
         self.sign(from, close.sign(), ItemFault::ExpectedCommaOrClose)
     }
 
-    /// An entry from its key on.
     fn entry_item(
         &self,
         start: Spot,
@@ -133,7 +134,6 @@ impl Reader<'_> {
         self.after_closing(end, close)
     }
 
-    /// A string from its name on.
     fn string_item(
         &self,
         start: Spot,
@@ -171,7 +171,6 @@ impl Reader<'_> {
         self.after_closing(end, close)
     }
 
-    /// A preamble from its value on.
     fn preamble_item(
         &self,
         start: Spot,
@@ -192,7 +191,6 @@ impl Reader<'_> {
         )
     }
 
-    /// A string from the place after its type on.
     fn string(&self, start: Spot, from: Spot) -> Result<(Piece, Spot), AllocError>
         requires { IsIn self.now.text.now from }
         ensures { Makes self.now.text.now from result
@@ -210,7 +208,6 @@ impl Reader<'_> {
         }
     }
 
-    /// A preamble from the place after its type on.
     fn preamble(&self, start: Spot, from: Spot) -> Result<(Piece, Spot), AllocError>
         requires { IsIn self.now.text.now from }
         ensures { Makes self.now.text.now from result
@@ -222,7 +219,6 @@ impl Reader<'_> {
         }
     }
 
-    /// An entry from the place after its type on.
     fn entry(
         &self,
         start: Spot,
@@ -239,7 +235,6 @@ impl Reader<'_> {
         }
     }
 
-    /// What a type begins, from the place after it on.
     fn typed(
         &self,
         start: Spot,

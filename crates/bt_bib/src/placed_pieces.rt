@@ -1,4 +1,4 @@
-//! Pieces that are kept apart from where they stand.
+//! Pieces that are stored apart from where they stand, so that texts and versions of a text can share them.
 
 ghost use Rattle.std.specs.Prelude.{◌≡◌, IfOk};
 ghost use Rattle.bt_bib.specs.Boundaries.{start_of, end_of};
@@ -15,7 +15,7 @@ use bt_text::Shared;
 use std::alloc::{AllocError, Global};
 use std::marker::Model;
 
-/// A piece of a database, kept as it is read where its `@` is place 0 of line 0, and where that `@` stands. So it can
+/// A piece of a database, stored as if its `@` were at place 0 of line 0, and the place of that `@`. So one piece can
 /// stand at several places of several texts. Contracts see the piece with the places and lines of its text.
 #[derive(Debug, Drop)]
 pub struct PlacedPiece {
@@ -37,7 +37,7 @@ impl Model for PlacedPiece {
 }
 
 impl PlacedPiece {
-    /// A piece that was read where its `@` is place 0 of line 0, where it stands and ends.
+    /// A piece that was read as if its `@` were at place 0 of line 0, and where it begins and ends.
     pub(crate) fn new(start: Spot, end: Spot, piece: Shared<Piece>) -> Self
         requires { IsPlaced start end piece }
         ensures { result ≡ moved_piece start piece }
@@ -59,8 +59,8 @@ impl PlacedPiece {
         self.end
     }
 
-    /// It as it is read where its `@` is place 0 of line 0. Moved by the place and line of its `@` it is the piece of
-    /// the text, whose numbers fit.
+    /// The piece as if its `@` were at place 0 of line 0. Moved to `start`, it is the piece of the text, and its numbers
+    /// fit.
     pub fn piece(&self) -> &Piece
         ensures shown { moved_piece (start_of self.now) result.now ≡ self.now }
         ensures fits { FitsPiece nowhere (start_of self.now) result.now }
@@ -68,7 +68,8 @@ impl PlacedPiece {
         &self.piece
     }
 
-    /// The same piece for one more owner, where the text from `a` on stands from `b` on.
+    /// The same piece for one more owner, where the text from `a` on stands from `b` on. The only error is out of
+    /// memory.
     pub(crate) fn rebased(&self, a: Spot, b: Spot) -> Result<Self, AllocError>
         requires fits { FitsPiece a b self.now }
         requires after_byte { BeginsAfter a self.now }

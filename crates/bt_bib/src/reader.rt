@@ -1,11 +1,13 @@
-//! A text that is read.
+//! A text that is read. What the readers return has its own memory and outlasts the text.
+//!
+//! Databases repeat a few names in each entry. A reader of a whole database makes them once and shares them, which saves
+//! an allocation for nearly every field. A linear search serves, since the most frequent names come first.
 
 ghost use Rattle.std.specs.Prelude.{◌≡◌, IfOk};
 
 use bt_text::{Bytes, Shared};
 use std::alloc::{AllocError, Global};
 
-/// A text that is read, and where what is read of it is kept.
 #[derive(Drop)]
 pub struct Reader<'a> {
     pub alloc: Global,

@@ -1,4 +1,7 @@
 //! Scans of a text: runs of bytes and signs.
+//!
+//! A scan takes a place and returns the place it reaches; nothing moves in the reader itself. So a caller that meets a fault
+//! still has the places before it.
 
 ghost use Rattle.std.specs.Prelude.{◌≡◌, ◌<◌, ◌≤◌, ◌+◌, ◌-◌, ◌^◌, count_by, drop, length, take, IfOk};
 ghost use Rattle.bt_bib.specs.Spot.{spot_after_byte, after_byte, here, is_line_end, spot_after};
@@ -27,7 +30,6 @@ pub enum Class {
 }
 
 impl Closing {
-    /// The sign itself.
     pub(crate) fn sign(self) -> u8
         ensures { result ≡ closing_sign self }
     {
@@ -38,7 +40,6 @@ impl Closing {
     }
 }
 
-/// Whether a key may hold a byte.
 fn is_key_byte(close: Closing, byte: u8) -> bool
     ensures { result ≡ is_key_byte close byte }
 {
@@ -62,7 +63,6 @@ impl Class {
     }
 }
 
-/// How many lines end in some bytes.
 fn line_ends(bytes: &[u8]) -> usize
     ensures { result ≡ count_by is_line_end bytes.now }
 {

@@ -6,7 +6,6 @@ ghost use Rattle.bt_bib.specs.inner.Shift.{rebased};
 
 use crate::spot::Spot;
 
-/// A line after `a`, where the text from `a` on stands from `b` on.
 fn rebased_line(line: usize, a: Spot, b: Spot) -> usize
     requires { FitsLine a b line }
     ensures { result ≡ rebased_line a b line }

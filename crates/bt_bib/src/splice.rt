@@ -1,4 +1,8 @@
-//! The items of a database that was changed in one place, from those that it had.
+//! The items of a database after a splice, from those that it had.
+//!
+//! Three parts: the pieces that end below the splice stay; then the new text is read from the last boundary below it up to
+//! a boundary that both texts have; the old pieces after that stay, moved. A piece that ends exactly where the splice
+//! begins is re-read, since the byte after it can have decided where it ends.
 
 ghost use Rattle.std.specs.Prelude.{◌≡◌, ◌<◌, ◌+◌, ◌-◌, ◌^◌, length, IfOk, OnErr, OnOk};
 ghost use Rattle.bt_bib.specs.BibText.{pieces_of};

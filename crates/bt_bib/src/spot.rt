@@ -17,7 +17,7 @@ impl Spot {
     /// The first place of a text.
     pub const START: Spot = Spot { place: 0, line: 1 };
 
-    /// Place 0 of line 0, where the `@` of a piece stands that is kept apart from its text.
+    /// Place 0 of line 0: where a stored piece has its `@`.
     pub(crate) const NOWHERE: Spot = Spot { place: 0, line: 0 };
 
     /// The place after a byte that stands here.

@@ -10,9 +10,7 @@ use std::alloc::{AllocError, AllocFailed};
 /// Why a reader gives no value.
 #[derive(Drop)]
 pub enum ReadStop {
-    /// There is no memory left.
     OutOfMemory,
-    /// No rule goes on at this place.
     Stopped(ItemFault, Spot),
 }
 

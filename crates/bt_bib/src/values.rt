@@ -1,4 +1,4 @@
-//! Values and their parts.
+//! Values: one part, and any number joined to it by `#`.
 
 ghost use Rattle.bt_bib.specs.Spot.{here};
 ghost use Rattle.bt_bib.specs.inner.Spot.{IsIn};
@@ -16,7 +16,6 @@ use crate::stop::ReadStop;
 use bt_text::{Sequence, is_digit, is_name_byte};
 
 impl Reader<'_> {
-    /// A part of a value.
     fn raw_part(&self, from: Spot, close: Closing) -> Result<(Part, Spot), ReadStop>
         requires { IsIn self.now.text.now from }
         ensures { Gives self.now.text.now from result (raw_part close (here self.now.text.now from)) }
@@ -42,7 +41,6 @@ impl Reader<'_> {
         }
     }
 
-    /// A part of a value, and the white space after it.
     #[tactic(auto, unfolding(crate::specs::Values::part))]
     fn part(&self, from: Spot, close: Closing) -> Result<(Part, Spot), ReadStop>
         requires { IsIn self.now.text.now from }
@@ -52,7 +50,6 @@ impl Reader<'_> {
         Ok((part, self.after_white(end)))
     }
 
-    /// Another part after a `#`, or none.
     #[tactic(auto, unfolding(crate::specs::Values::next_part))]
     fn next_part(&self, from: Spot, close: Closing) -> Result<(Option<Part>, Spot), ReadStop>
         requires { IsIn self.now.text.now from }
@@ -69,7 +66,6 @@ impl Reader<'_> {
         }
     }
 
-    /// Some parts, and those that are joined to them.
     fn others(
         &self,
         from: Spot,
