@@ -1,4 +1,7 @@
 //! The text of an `.aux` file, written from its items.
+//!
+//! Messages name lines, so each item must be on the line that it was read from: empty lines stand for all that BibTeX skips.
+//! A faulty item must make its fault again. The reader drops the part at which it finds one, so one more part is written.
 
 ghost use Rattle.std.specs.Prelude.{◌≡◌, ◌∷◌, ◌++◌, replicate, Some, IfOk, OnOk, if◌then◌else◌};
 ghost use Rattle.std.specs.List.{join_with_byte};
@@ -31,7 +34,6 @@ fn write_parts(text: &mut Bytes, parts: &[Bytes]) -> Result<(), AllocError>
     Ok(())
 }
 
-/// What is written after the last part, to make a fault.
 fn faulty_end(fault: AuxFault) -> &'static [u8]
     ensures { result.now ≡ written_end (Some fault) }
 {

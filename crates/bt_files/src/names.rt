@@ -1,4 +1,8 @@
 //! Names of files: the author's, which may be anything, and the session's.
+//!
+//! A name that a session admits stays. Any other gets a number, in the order in which such names were met, and becomes `+/`
+//! with that number and its old ending, since BibTeX looks at endings. An admitted name that begins with `+/` gets a number
+//! too, so no two files ever have one name.
 
 ghost use Rattle.std.specs.Prelude.{◌≡◌, ◌==◌, ◌↔◌, ℕ, ◌<◌, ◌≤◌, ◌^◌, IsTrue, List, [], length, Some, IfOk, OnOk, OnErr};
 ghost use Rattle.std.specs.List.{prefix_len};
@@ -28,7 +32,7 @@ impl Model for Names {
     ghost view = { λ n. map (λ name. name.items) n.authors.keys };
 }
 
-/// Whether a name has the form of the names that stand for others.
+/// Whether a name has the form of those that stand for an author's name.
 fn is_stand_in(name: &[u8]) -> bool
     ensures { result ≡ is_stand_in name.now }
 {
@@ -57,7 +61,6 @@ fn ending_of(name: &[u8]) -> &'static [u8]
     }
 }
 
-/// The name of this number, which stands for an author's name.
 fn numbered(alloc: Global, number: usize, author: &[u8]) -> Result<Bytes, AllocError>
     ensures { IfOk result (λ name. name ≡ numbered number author.now) }
 {
@@ -66,7 +69,6 @@ fn numbered(alloc: Global, number: usize, author: &[u8]) -> Result<Bytes, AllocE
     Bytes::of(alloc, &[b"+/", digits, ending_of(author)])
 }
 
-/// How many digits a text begins with.
 fn digits_len(text: &[u8]) -> usize
     ensures within { result ≤ length text.now }
     ensures len { result ≡ prefix_len is_ascii_digit text.now }
@@ -74,7 +76,6 @@ fn digits_len(text: &[u8]) -> usize
     text.iter().take_while(|byte| byte.is_ascii_digit()).count()
 }
 
-/// The number of a name that stands for an author's name.
 fn number_of(session: &[u8]) -> Option<usize>
     ensures { (number : ℕ) (author : List ℕ) → number < 2 ^ 64 → session.now ≡ numbered number author →
         result ≡ Some number }
@@ -87,7 +88,7 @@ fn number_of(session: &[u8]) -> Option<usize>
     }
 }
 
-/// Whether a session's name is the one of this number, which stands for an author's name.
+/// Whether a session's name is exactly the one of this number: `+/01` has the number 1, too, and stands for nothing.
 fn is_numbered(number: usize, author: &[u8], session: &[u8]) -> bool
     ensures { IsTrue result ↔ (session.now ≡ numbered number author.now) }
 {

@@ -1,4 +1,7 @@
 //! What a job's files mean.
+//!
+//! Three steps: collect all names that the files have or give, run the same job under names that a session admits, and put
+//! the author's names back into what it shows. All names are collected first, since a name's number depends on those before.
 
 ghost use Rattle.std.specs.Prelude.{◌≡◌, ◌++◌, map, IfOk, OnOk};
 ghost use Rattle.bt_bib.specs.AuxLine.{aux_lines};
@@ -21,7 +24,6 @@ fn is_aux(file: &File) -> bool
     file.name.as_slice().ends_with(b".aux")
 }
 
-/// Adds the names that the parts of a command give.
 fn add_parts(
     alloc: Global,
     names: &mut Sequence<Bytes>,
@@ -39,7 +41,6 @@ fn add_parts(
     Ok(())
 }
 
-/// Adds the names that an `.aux` text gives.
 fn add_text(alloc: Global, names: &mut Sequence<Bytes>, text: &[u8]) -> Result<(), AllocError>
     ensures { OnOk result (names.new ≡ names.old ++ names_given text.now) }
 {
@@ -50,7 +51,6 @@ fn add_text(alloc: Global, names: &mut Sequence<Bytes>, text: &[u8]) -> Result<(
     Ok(())
 }
 
-/// Adds the name of a file, and those that it gives.
 fn add_file(alloc: Global, names: &mut Sequence<Bytes>, file: &File) -> Result<(), AllocError>
     ensures { OnOk result (names.new ≡ names.old ++ names_with file.now) }
 {
@@ -97,7 +97,6 @@ fn renamed(alloc: Global, names: &Names, author: &[u8]) -> Result<Bytes, AllocEr
     }
 }
 
-/// The part of a command for the same file under the session's name.
 fn part_under(
     alloc: Global,
     names: &Names,
@@ -114,7 +113,6 @@ fn part_under(
     }
 }
 
-/// An item under the session's names.
 fn item_under(alloc: Global, names: &Names, item: &AuxItem) -> Result<AuxItem, AllocError>
     ensures { IfOk result (λ under. under ≡ item_with (renamed names.now) item.now) }
 {
@@ -130,7 +128,6 @@ fn item_under(alloc: Global, names: &Names, item: &AuxItem) -> Result<AuxItem, A
     })
 }
 
-/// The items of an `.aux` text under the session's names.
 fn items_under(alloc: Global, names: &Names, text: &[u8]) -> Result<Sequence<AuxItem>, AllocError>
     ensures { IfOk result (λ items. items ≡ map (item_with (renamed names.now)) (aux_lines text.now)) }
 {
@@ -142,7 +139,7 @@ fn items_under(alloc: Global, names: &Names, text: &[u8]) -> Result<Sequence<Aux
     Ok(under)
 }
 
-/// An `.aux` text under the session's names.
+/// A job that needs no other names runs on its own texts, which stay unread here.
 fn text_under(
     alloc: Global,
     names: &Names,
@@ -157,7 +154,6 @@ fn text_under(
     Shared::new(alloc, written(alloc, items.as_slice())?)
 }
 
-/// A file under the session's names.
 fn file_under(alloc: Global, names: &Names, file: &File) -> Result<File, AllocError>
     ensures { IfOk result (λ under. under ≡ file_under names.now file.now) }
 {
@@ -173,7 +169,6 @@ fn file_under(alloc: Global, names: &Names, file: &File) -> Result<File, AllocEr
     })
 }
 
-/// A job's files under the session's names.
 fn files_under(alloc: Global, names: &Names, files: &[File]) -> Result<Sequence<File>, AllocError>
     ensures { IfOk result (λ under. under ≡ map (file_under names.now) files.now) }
 {
@@ -184,7 +179,7 @@ fn files_under(alloc: Global, names: &Names, files: &[File]) -> Result<Sequence<
     Ok(under)
 }
 
-/// The root under the session's names.
+/// The root's name is the first of `names_of`, so the one that stands for it has the number 1.
 fn root_under(alloc: Global, root: &[u8]) -> Result<Bytes, AllocError>
     ensures { IfOk result (λ under. under ≡ root_under root.now) }
 {
@@ -195,7 +190,6 @@ fn root_under(alloc: Global, root: &[u8]) -> Result<Bytes, AllocError>
     }
 }
 
-/// The author's names of files, in their order.
 fn names_back(alloc: Global, names: &Names, files: &[Bytes]) -> Result<Sequence<Bytes>, AllocError>
     ensures { IfOk result (λ back. back ≡ map (name_back names.now) files.now) }
 {
@@ -209,7 +203,6 @@ fn names_back(alloc: Global, names: &Names, files: &[Bytes]) -> Result<Sequence<
     Ok(back)
 }
 
-/// What a run under the session's names shows, told under the author's.
 fn told_under(alloc: Global, names: &Names, shown: Answers) -> Result<Answers, AllocError>
     ensures { IfOk result (λ told. meaning_of told ≡ told_under names.now (meaning_of shown)) }
 {

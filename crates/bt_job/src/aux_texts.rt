@@ -1,4 +1,7 @@
 //! `.aux` texts as they were read, which outlast the run that read them.
+//!
+//! An edit changes few files, so the next run finds most texts here and doesn't read them again. A text is found by its
+//! bytes: no contract has to say which version of which file it was. A job has few `.aux` files, so a list serves.
 
 ghost use Rattle.std.specs.Prelude.{◌≡◌, IfOk, IfSome};
 ghost use Rattle.bt_bib.specs.AuxLine.{aux_lines};
@@ -8,7 +11,7 @@ use bt_bib::{AuxItem, read_aux};
 use bt_text::{Bytes, Sequence, Shared};
 use std::alloc::{AllocError, Global};
 
-/// An `.aux` text as it was read: the text and those of its lines that count.
+/// An `.aux` text and those of its lines that matter.
 #[derive(Drop)]
 pub struct AuxText {
     text: Shared<Bytes>,
@@ -17,7 +20,6 @@ pub struct AuxText {
 }
 
 impl AuxText {
-    /// Reads a text.
     fn read(alloc: Global, text: Shared<Bytes>) -> Result<AuxText, AllocError>
         ensures { IfOk result (λ known. known.text ≡ text) }
     {
@@ -25,7 +27,6 @@ impl AuxText {
         Ok(AuxText { text, lines })
     }
 
-    /// The text and its lines for one more owner; no part of them is copied.
     fn share(&self) -> Result<AuxText, AllocError>
         ensures { IfOk result (λ same. same.text ≡ self.now.text) }
     {
@@ -43,14 +44,14 @@ pub struct AuxTexts {
 }
 
 impl AuxTexts {
-    /// None. It takes no memory.
+    /// No texts. It takes no memory.
     pub fn new(alloc: Global) -> AuxTexts {
         AuxTexts {
             known: Sequence::new(alloc),
         }
     }
 
-    /// The texts for one more owner; none of them is copied.
+    /// The texts for one more owner; none of them is copied. The only error is out of memory.
     pub fn share(&self, alloc: Global) -> Result<AuxTexts, AllocError> {
         let mut known = Sequence::new(alloc);
         'texts: for text in self.known.as_slice() {
@@ -59,7 +60,6 @@ impl AuxTexts {
         Ok(AuxTexts { known })
     }
 
-    /// A text as it was read, if it was.
     fn find(&self, text: &[u8]) -> Option<&AuxText>
         ensures { IfSome result (λ known. known.now.text ≡ text.now) }
     {
@@ -69,7 +69,7 @@ impl AuxTexts {
             .find(|known| known.text.as_slice() == text)
     }
 
-    /// The lines of a text that count. It is read where it wasn't before.
+    /// The lines of a text that matter. It is read only if it wasn't before. The only error is out of memory.
     pub fn lines(
         &mut self,
         alloc: Global,
@@ -86,7 +86,8 @@ impl AuxTexts {
         Ok(lines)
     }
 
-    /// Those that are still the text of one of these files.
+    /// Those that are still the text of one of these files; the others are forgotten, so that memory doesn't grow with each
+    /// edit. The only error is out of memory.
     pub fn present(&self, alloc: Global, files: &[File]) -> Result<AuxTexts, AllocError> {
         let mut known = Sequence::new(alloc);
         'files: for file in files {

@@ -1,4 +1,8 @@
 //! Names of files: which are allowed, which text each has, and what is wrong with one.
+//!
+//! A session never opens a path, so a name is only bytes to compare. LaTeX writes the names of databases and styles as the
+//! author does, mostly without an ending, but nested files with theirs. So `.bib` and `.bst` are added where they lack, and
+//! a nested file without `.aux` is a fault.
 
 ghost use Rattle.std.specs.Prelude.{◌≡◌, IfOk};
 ghost use Rattle.std.specs.List.{list_all};
@@ -55,7 +59,6 @@ pub fn text_of<'a>(files: &'a [File], name: &[u8]) -> Option<&'a [u8]>
     Some(text.as_slice())
 }
 
-/// A name with an ending, which is put after it unless it is there.
 fn with_ending(alloc: Global, ending: &[u8], name: &[u8]) -> Result<Bytes, AllocError>
     ensures { IfOk result (λ text. text ≡ with_ending ending.now name.now) }
 {
@@ -86,7 +89,6 @@ fn has_ending(command: Command, name: &[u8]) -> bool
     }
 }
 
-/// What is wrong with a name that was met before.
 fn met_before(command: Command) -> Option<FileNote>
     ensures { result ≡ met_before command }
 {

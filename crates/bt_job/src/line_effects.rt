@@ -1,4 +1,7 @@
-//! What a line that counts comes to.
+//! What a line that matters changes.
+//!
+//! A part either is taken, or is an error with which the rest of its line is skipped, or opens a nested file (`Outcome`).
+//! After out of memory `progress` may be half changed; the caller then drops the whole reading.
 
 ghost use Rattle.std.specs.Prelude.{◌≡◌, ◌++◌, codes, IfOk};
 ghost use Rattle.bt_log.specs.declared.message.Said.TheVariants.{Words, OfFile};
@@ -15,7 +18,6 @@ use bt_log::{FileKind, FileNote, Message, Rank, Said};
 use bt_text::{Bytes, Shared};
 use std::alloc::{AllocError, Global};
 
-/// An error in these words.
 fn wrong(alloc: Global, words: &[u8]) -> Result<Outcome, AllocError>
     ensures { IfOk result (λ outcome. outcome ≡ Wrong (Words words.now)) }
 {
@@ -23,7 +25,6 @@ fn wrong(alloc: Global, words: &[u8]) -> Result<Outcome, AllocError>
     Ok(Outcome::Wrong(Said::Words(words)))
 }
 
-/// An error that says this of a file.
 fn wrong_file(alloc: Global, note: FileNote, name: &[u8]) -> Result<Outcome, AllocError>
     ensures { IfOk result (λ outcome. outcome ≡ Wrong (OfFile note name.now)) }
 {
@@ -89,7 +90,7 @@ fn second_words(command: Command) -> &'static [u8]
 }
 
 impl Reader {
-    /// Takes a part `*`.
+    /// A part `*`, which stands for all entries of the databases.
     fn cite_all(&mut self) -> Result<Outcome, AllocError>
         ensures { IfOk result (λ outcome. (self.new.progress, outcome)
             ≡ cited_all self.old.progress.star self.old.progress) }
@@ -101,7 +102,6 @@ impl Reader {
         Ok(Outcome::Taken)
     }
 
-    /// Takes a part of `\citation`.
     #[tactic(auto, unfolding(crate::specs::inner::LineEffects::cited_part))]
     fn cite(&mut self, part: &[u8]) -> Result<Outcome, AllocError>
         ensures { IfOk result (λ outcome. (self.new.progress, outcome) ≡ cited_part part.now self.old.progress) }
@@ -122,7 +122,6 @@ impl Reader {
         }
     }
 
-    /// Takes a file that is there.
     fn take_found(&mut self, command: Command, name: &[u8]) -> Result<Outcome, AllocError>
         ensures { IfOk result (λ outcome. (self.new.progress, outcome)
             ≡ file_found command name.now self.old.progress) }
@@ -148,7 +147,6 @@ impl Reader {
         }
     }
 
-    /// Takes a name of a file.
     #[tactic(auto, unfolding(crate::specs::inner::LineEffects::named))]
     fn take_name(
         &mut self,
@@ -171,7 +169,6 @@ impl Reader {
         }
     }
 
-    /// Takes a part of a command.
     fn take_part(
         &mut self,
         files: &[File],
@@ -190,7 +187,7 @@ impl Reader {
         }
     }
 
-    /// Whether a command that may stand once was met.
+    /// Whether the command may come only once, and came before.
     fn is_second(&self, command: Command) -> bool
         ensures { result ≡ is_second command self.now.progress }
     {
@@ -201,7 +198,6 @@ impl Reader {
         }
     }
 
-    /// Notes that a command was met.
     fn enter(&mut self, command: Command)
         ensures { self.new.progress ≡ command_met command self.old.progress }
     {
@@ -213,7 +209,7 @@ impl Reader {
         }
     }
 
-    /// Takes a line that counts. The one error is out of memory; what stood before it in the line may then be taken.
+    /// Takes a line that matters. The only error is out of memory; some parts of the line may then be taken.
     #[tactic(auto, unfolding(crate::specs::inner::LineEffects::item_taken))]
     pub fn take_item(&mut self, files: &[File], item: &AuxItem) -> Result<Outcome, AllocError>
         ensures { IfOk result (λ outcome. (self.new.progress, outcome)

@@ -1,4 +1,7 @@
-//! Tables of names of files, which match byte for byte and are found by hashing.
+//! Tables of the names in a list, so that a look-up hashes instead of walking the list.
+//!
+//! The list keeps the order and is what contracts speak of; the table is an index of it (`Mirrors`). So each name is in
+//! both, which costs a copy: a job has few names of files.
 
 ghost use Rattle.std.specs.Prelude.{◌≡◌, ℕ, List, [], ◌∷◌, ◌++◌, OnOk, OnErr};
 ghost use Rattle.bt_job.specs.inner.NameTable.{Mirrors, has_name};
@@ -7,7 +10,6 @@ use bt_text::{Bytes, Sequence};
 use indexmap::IndexSet;
 use std::alloc::{AllocError, Global};
 
-/// The names of a list, found by hashing.
 #[derive(Drop)]
 pub struct NameTable {
     names: IndexSet<Vec<u8>>,

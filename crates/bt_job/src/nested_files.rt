@@ -1,4 +1,7 @@
-//! The .aux files of a session, with the lines of each nested file in its place.
+//! The `.aux` files of a session, with the lines of each nested file in its place.
+//!
+//! No file is opened twice (`FileNote::AuxTwice`), so files nest no deeper than there are files. The recursion takes one
+//! more than their number as a bound, so it always ends; no reading reaches the bound.
 
 ghost use Rattle.std.specs.Prelude.{◌≡◌, ◌<◌, ◌+◌, ◌^◌, IfOk, OnOk};
 ghost use Rattle.bt_job.specs.Fit.{IsFit};
@@ -17,7 +20,6 @@ use bt_log::{FileKind, FileNote, Message, Place, Rank};
 use bt_text::{Bytes, Shared};
 use std::alloc::{AllocError, Global};
 
-/// The line of the log where a file begins.
 fn file_line(level: usize, file: Shared<Bytes>) -> Message
     ensures { result ≡ file_line level file }
 {
@@ -29,7 +31,7 @@ fn file_line(level: usize, file: Shared<Bytes>) -> Message
 }
 
 impl Reader {
-    /// Takes the lines of a file, and of the files that it nests in their places: `bound` levels at most.
+    /// Takes the lines of a file, and in their places those of the files that it nests, `bound` levels at most.
     fn take_file(
         &mut self,
         files: &[File],
@@ -61,7 +63,6 @@ impl Reader {
         Ok(())
     }
 
-    /// Says what is missing.
     fn miss(&mut self, what: &[u8], file: &Shared<Bytes>) -> Result<(), AllocError>
         ensures { OnOk result (self.new.progress ≡ missing what.now file.now self.old.progress) }
     {
@@ -72,7 +73,7 @@ impl Reader {
         self.tell(message.at(place)?)
     }
 
-    /// Says that a command wasn't met, or that it named nothing.
+    /// An error for a command that wasn't met, or that named nothing.
     fn miss_one(
         &mut self,
         met: bool,
@@ -93,7 +94,6 @@ impl Reader {
         }
     }
 
-    /// The errors at the end of the root.
     #[tactic(auto, unfolding(crate::specs::inner::NestedFiles::ended))]
     fn end(&mut self, file: &Shared<Bytes>) -> Result<(), AllocError>
         ensures { OnOk result (self.new.progress ≡ ended file.now self.old.progress) }
@@ -120,7 +120,6 @@ impl Reader {
         self.miss_one(style, no_style, b"\\bibstyle command", b"style file", file)
     }
 
-    /// Takes the root and all files that it nests. Nothing was read before.
     fn read_root(
         &mut self,
         files: &[File],
@@ -142,8 +141,8 @@ impl Reader {
     }
 }
 
-/// What the files of a session ask for whose root name is this, which has no `.aux` at its end. Of their texts only
-/// those are read that aren't known.
+/// What the files of a session ask for. `root` is the root's name without `.aux`. Only texts that aren't in `known` are
+/// read, and they are put there. The only error is out of memory.
 pub fn read_citations(
     alloc: Global,
     files: &[File],

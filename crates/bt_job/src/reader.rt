@@ -1,4 +1,7 @@
-//! What goes through a reading of the `.aux` files: what they have asked for so far, and tables of the names in it.
+//! The state of a reading of the `.aux` files.
+//!
+//! `progress` is all that contracts speak of. The tables only make look-ups in its two lists of file names fast, and only
+//! `meet` and `want` change them, each together with its list.
 
 ghost use Rattle.std.specs.Prelude.{◌≡◌, OnOk, OnErr};
 ghost use Rattle.bt_job.specs.FileNames.{is_among};
@@ -14,11 +17,9 @@ use bt_log::{Message, Place, Said};
 use bt_text::{Bytes, NameList, Sequence, Shared};
 use std::alloc::{AllocError, Global};
 
-/// Reads the `.aux` files of a session.
 #[derive(Drop)]
 pub struct Reader {
     pub alloc: Global,
-    /// What they have asked for so far.
     pub progress: Progress,
     met: NameTable,
     wanted: NameTable,
@@ -73,7 +74,7 @@ impl Reader {
         }
     }
 
-    /// Puts a message after the others. The one error is out of memory; nothing is logged then.
+    /// Puts a message after the others. The only error is out of memory; nothing is logged then.
     pub fn tell(&mut self, message: Message) -> Result<(), AllocError>
         ensures ok { OnOk result (self.new.progress ≡ told message self.old.progress) }
         ensures err { OnErr result (self.new.progress ≡ self.old.progress) }
@@ -82,7 +83,7 @@ impl Reader {
         Ok(())
     }
 
-    /// Puts an error at a line of a file after the other messages. The one error is out of memory; nothing is logged
+    /// Puts an error at a line of a file after the other messages. The only error is out of memory; nothing is logged
     /// then.
     pub fn tell_at(
         &mut self,
@@ -110,7 +111,7 @@ impl Reader {
         self.met.has(name)
     }
 
-    /// Notes that a database or an `.aux` file was met. The one error is out of memory; nothing is noted then.
+    /// Notes that a database or an `.aux` file was met. The only error is out of memory; nothing is noted then.
     pub fn meet(&mut self, command: Command, name: &[u8]) -> Result<(), AllocError>
         ensures ok { OnOk result (self.new.progress ≡ meeting command name.now self.old.progress) }
         ensures err { OnErr result (self.new.progress ≡ self.old.progress) }
@@ -123,7 +124,7 @@ impl Reader {
         }
     }
 
-    /// Notes that a name was looked for and not found. The one error is out of memory; nothing is noted then.
+    /// Notes that a name was looked for and not found. The only error is out of memory; nothing is noted then.
     pub fn want(&mut self, name: &[u8]) -> Result<(), AllocError>
         ensures ok { OnOk result (self.new.progress ≡ wanting name.now self.old.progress) }
         ensures err { OnErr result (self.new.progress ≡ self.old.progress) }
