@@ -5,9 +5,7 @@
 //! stands doesn't.
 
 ghost use Rattle.std.specs.Prelude.{◌≡◌, ◌≤◌, length, map, IfOk};
-ghost use Rattle.std.specs.List.{slice_split};
 ghost use Rattle.bt_bib.specs.AuxArgument.{ends_argument, inside, parts_in, fault_at, parts_kept, fault_of, argument_parts};
-ghost use Rattle.bt_bib.specs.inner.Cases.{is_comma};
 
 use bt_text::{Bytes, Sequence, is_white};
 use std::alloc::{AllocError, Global};
@@ -44,12 +42,6 @@ fn inside_len(rest: &[u8]) -> usize
         .count()
 }
 
-fn between_commas<'a>(alloc: Global, argument: &'a [u8]) -> Result<Vec<&'a [u8]>, AllocError>
-    ensures { IfOk result (λ parts. map (λ p. p.now) parts.items ≡ slice_split is_comma argument.now) }
-{
-    argument.split(|byte| *byte == b',').collect(alloc)
-}
-
 fn parts_in<'a>(
     alloc: Global,
     argument: &'a [u8],
@@ -58,7 +50,7 @@ fn parts_in<'a>(
     ensures { IfOk result (λ parts. map (λ p. p.now) parts.items ≡ parts_in parting argument.now) }
 {
     match parting {
-        Parting::Commas => between_commas(alloc, argument),
+        Parting::Commas => argument.split(|byte| *byte == b',').collect(alloc),
         Parting::Whole => Ok(Vec::from_array(alloc, [argument])?),
     }
 }

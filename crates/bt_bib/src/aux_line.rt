@@ -4,7 +4,7 @@
 //! all others without a word. Which files the commands open is the business of `bt_job`.
 
 ghost use Rattle.std.specs.Prelude.{◌≡◌, ◌≤◌, ◌<◌, ◌+◌, ◌^◌, [], ◌++◌, length, IfOk, OnOk, IfSome};
-ghost use Rattle.std.specs.List.{position_or_len, suffix_len};
+ghost use Rattle.std.specs.List.{position_or_len};
 ghost use Rattle.bt_bib.specs.AuxLine.{is_line_end, command_of, opening_of, parting, item, aux_lines};
 ghost use Rattle.bt_bib.specs.inner.Cases.{if_counted};
 
@@ -71,13 +71,13 @@ fn command_of(line: &[u8]) -> Option<Command>
     ensures value { result ≡ command_of line.now }
     ensures within { IfSome result (λ command. length (opening_of command) ≤ length line.now) }
 {
-    if line.starts_with(b"\\citation{") {
+    if line.starts_with(Command::Citation.word()) {
         Some(Command::Citation)
-    } else if line.starts_with(b"\\bibdata{") {
+    } else if line.starts_with(Command::Database.word()) {
         Some(Command::Database)
-    } else if line.starts_with(b"\\bibstyle{") {
+    } else if line.starts_with(Command::Style.word()) {
         Some(Command::Style)
-    } else if line.starts_with(b"\\@input{") {
+    } else if line.starts_with(Command::Nested.word()) {
         Some(Command::Nested)
     } else {
         None

@@ -24,11 +24,10 @@ inproceedings book incollection techreport phdthesis mastersthesis proceedings m
 
 /// The names that most databases have, for a reader of a whole one. What is read is the same with any names.
 pub fn common_names(alloc: Global) -> Result<Vec<Shared<Bytes>>, AllocError> {
-    let mut names = Vec::new(alloc);
-    'names: for name in COMMON_NAMES.split(|byte| *byte == b' ') {
-        names.push(Shared::<Bytes>::copied(alloc, name)?)?;
-    }
-    Ok(names)
+    COMMON_NAMES
+        .split(|byte| *byte == b' ')
+        .map(|name| Shared::<Bytes>::copied(alloc, name))
+        .try_collect(alloc)
 }
 
 impl Reader<'_> {

@@ -1,17 +1,10 @@
 //! Places and lines after one place, as they are after another.
 
-ghost use Rattle.std.specs.Prelude.{◌≡◌, ◌<◌, ◌+◌, ◌-◌, ◌^◌};
-ghost use Rattle.bt_bib.specs.Shift.{rebased_line, FitsLine, FitsSpot};
+ghost use Rattle.std.specs.Prelude.{◌≡◌};
+ghost use Rattle.bt_bib.specs.Shift.{FitsSpot};
 ghost use Rattle.bt_bib.specs.inner.Shift.{rebased};
 
 use crate::spot::Spot;
-
-fn rebased_line(line: usize, a: Spot, b: Spot) -> usize
-    requires { FitsLine a b line }
-    ensures { result ≡ rebased_line a b line }
-{
-    line.saturating_sub(a.line) + b.line
-}
 
 /// The spot that `spot` becomes where the text from `a` on stands from `b` on.
 pub fn rebased(spot: Spot, a: Spot, b: Spot) -> Spot
@@ -20,6 +13,6 @@ pub fn rebased(spot: Spot, a: Spot, b: Spot) -> Spot
 {
     Spot {
         place: spot.place.saturating_sub(a.place) + b.place,
-        line: rebased_line(spot.line, a, b),
+        line: spot.line.saturating_sub(a.line) + b.line,
     }
 }

@@ -8,7 +8,7 @@
 //! byte that doesn't fit. That byte has to stay in their part. An item without a fault ends with its own closing sign, and
 //! the cut may come right after it.
 
-ghost use Rattle.std.specs.Prelude.{◌≡◌, ◌++◌, ◌≤◌, length, true, IfOk, OnOk};
+ghost use Rattle.std.specs.Prelude.{◌≡◌, ◌++◌, length, true, IfOk, OnOk};
 ghost use Rattle.bt_bib.specs.BibText.{pieces_of};
 ghost use Rattle.bt_bib.specs.Parts.{is_whole, lies_before, AreCuts, is_closed};
 ghost use Rattle.bt_bib.specs.Split.{places_between, places_behind, cut_places, cut_before, begin_after, chosen, AreSmall};
@@ -36,21 +36,13 @@ fn add_between(
 ) -> Result<(), AllocError>
     ensures { OnOk result (places.new.items ≡ places.old.items ++ places_between end whole begin) }
 {
-    if end < begin {
-        if end + 1 < begin {
-            places.push(end + 1)?;
-            places.push(begin)?;
-            Ok(())
-        } else {
-            places.push(begin)?;
-            Ok(())
-        }
-    } else if whole {
-        places.push(begin)?;
-        Ok(())
-    } else {
-        Ok(())
+    if end < begin && end + 1 < begin {
+        places.push(end + 1)?;
     }
+    if end < begin || whole {
+        places.push(begin)?;
+    }
+    Ok(())
 }
 
 /// Adds the place after the last piece, unless the text ends there.
@@ -59,10 +51,8 @@ fn add_behind(places: &mut Vec<usize>, end: usize, limit: usize) -> Result<(), A
 {
     if end < limit && end + 1 < limit {
         places.push(end + 1)?;
-        Ok(())
-    } else {
-        Ok(())
     }
+    Ok(())
 }
 
 /// The places where a text of `limit` bytes with these pieces can be cut: the beginnings of pieces and the places just
@@ -144,11 +134,7 @@ fn lies_before(limit: usize, piece: &PlacedPiece) -> bool
     ensures { result ≡ lies_before limit piece.now }
 {
     let end = piece.end().place;
-    if end < limit {
-        true
-    } else {
-        is_whole(piece) && end == limit
-    }
+    end < limit || (is_whole(piece) && end == limit)
 }
 
 /// Whether a text is closed: whatever is appended to it, its items stay as they are. The items are those of the text. Only
