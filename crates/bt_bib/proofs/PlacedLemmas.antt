@@ -39,24 +39,11 @@ pub start_moved : (m : Spot) (p : Piece) → start_of (moved_piece m p) ≡ move
 start_moved m (pieces.Comment s e) = refl
 start_moved m (pieces.Item i) = refl
 
-pub end_moved : (m : Spot) (p : Piece) → end_of (moved_piece m p) ≡ moved m (end_of p)
-end_moved m (pieces.Comment s e) = refl
-end_moved m (pieces.Item i) = refl
-
 from_nowhere : (s : Spot) → moved s nowhere ≡ s
 from_nowhere s = same_spot _ _ _ _ (omega arith) (omega arith)
 
 pub placed_start : (s e : Spot) (p : Piece) → IsPlaced s e p → s ≡ start_of (moved_piece s p)
 placed_start s e p is = sym (start_moved s p ∙ ap (moved s) is.begins ∙ from_nowhere s)
-
-pub placed_end : (s e : Spot) (p : Piece) → IsPlaced s e p → e ≡ end_of (moved_piece s p)
-placed_end s e p is = is.ends ∙ sym (end_moved s p)
-
-pub placed_shown : (s e : Spot) (p : Piece) → IsPlaced s e p → moved_piece (start_of (moved_piece s p)) p ≡ moved_piece s p
-placed_shown s e p is = ap (λ t. moved_piece t p) (sym (placed_start s e p is))
-
-pub placed_fits : (s e : Spot) (p : Piece) → IsPlaced s e p → FitsPiece nowhere (start_of (moved_piece s p)) p
-placed_fits s e p is = subst (λ t. FitsPiece nowhere t p) (placed_start s e p is) is.fits
 
 -- a copy at its place
 pub rebased_nowhere : (s : Spot) (p : Piece) → rebased_piece nowhere s p ≡ moved_piece s p
@@ -135,19 +122,6 @@ begins : (a s e : Spot) (p : Piece) → IsPlaced s e p → BeginsAfter a (moved_
 begins a s e p is le = subst (Behind a) (sym (placed_start s e p is)) le
 
 -- what a piece's place and end fit
-start_fits : (a b : Spot) (p : Piece) → FitsPiece a b p → FitsSpot a b (start_of p)
-start_fits a b (pieces.Comment x e) h = h.0
-start_fits a b (pieces.Item i) h = h.start
-
-end_fits : (a b : Spot) (p : Piece) → FitsPiece a b p → FitsSpot a b (end_of p)
-end_fits a b (pieces.Comment x e) h = h.1
-end_fits a b (pieces.Item i) h = h.end
-
-pub placed_start_fits : (a b s e : Spot) (p : Piece) → IsPlaced s e p → FitsPiece a b (moved_piece s p) → FitsSpot a b s
-placed_start_fits a b s e p is h = subst (FitsSpot a b) (sym (placed_start s e p is)) (start_fits a b (moved_piece s p) h)
-
-pub placed_end_fits : (a b s e : Spot) (p : Piece) → IsPlaced s e p → FitsPiece a b (moved_piece s p) → FitsSpot a b e
-placed_end_fits a b s e p is h = subst (FitsSpot a b) (sym (placed_end s e p is)) (end_fits a b (moved_piece s p) h)
 
 -- a piece that is taken over
 pub taken_over : (a b s e t u : Spot) (p q : Piece) → IsPlaced s e p → FitsPiece a b (moved_piece s p) → BeginsAfter a (moved_piece s p) → t ≡ rebased a b s → u ≡ rebased a b e → q ≡ p → IsPlaced t u q
@@ -162,8 +136,6 @@ pub shown_over : (a b s e t : Spot) (p q : Piece) → IsPlaced s e p → BeginsA
 shown_over a b s e t p q is le is_start same = ap (moved_piece t) same ∙ ap (λ x. moved_piece x p) is_start ∙ sym (piece_again a b s (begins a s e p is le) p)
 
 -- a piece that is read from its `@` on
-pub own_place : (text : List ℕ) → IsIn text nowhere
-own_place text = record { place = omega arith; line = omega arith }
 
 pub record ReadApart (text : List ℕ) (s e : Spot) (p : Piece) : Type 0 where
   pub shown : piece (here text s) ≡ (moved_piece s p, here text (moved s e))
@@ -206,9 +178,6 @@ moved_behind a p = subst (Behind a) (sym (start_moved a p)) (omega arith, omega 
 
 all_behind : (a : Spot) (ps : List Piece) → All (λ p. BeginsAfter a (moved_piece a p)) ps
 all_behind a ps = All-from_recursion (λ p. BeginsAfter a (moved_piece a p)) ps (every (λ p. BeginsAfter a (moved_piece a p)) (moved_behind a) ps)
-
-pub behind_nowhere : (ps : List Piece) → All (BeginsAfter nowhere) ps
-behind_nowhere ps = All-from_recursion (BeginsAfter nowhere) ps (every (BeginsAfter nowhere) (λ p. (omega arith, omega arith)) ps)
 
 pub rest_behind : (text : List ℕ) (ps : List Piece) (count : ℕ) (a : Spot) → ps ≡ pieces_of text → a ≡ last_end start (take count ps) → All (BeginsAfter a) (drop count ps)
 unfolding pieces_of

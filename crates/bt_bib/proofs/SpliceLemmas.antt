@@ -109,9 +109,6 @@ same_front old new begin end inserted is = ap (take begin) (is.text ∙ append_a
 pub same_back : (old new : List ℕ) (begin end inserted : ℕ) → IsSplice old new begin end inserted → drop (begin + inserted) new ≡ drop end old
 same_back old new begin end inserted is = ap (drop (begin + inserted)) is.text ∙ drop_at (take begin old ++ is.bytes) (drop end old) (begin + inserted) (omega (arith, length-append (take begin old) is.bytes, begin_taken old new begin end inserted is, is.count))
 
-pub new_size : (old new : List ℕ) (begin end inserted : ℕ) → IsSplice old new begin end inserted → length new + end ≡ length old + begin + inserted
-new_size old new begin end inserted is = omega (arith, ap length is.text, length-append (take begin old ++ is.bytes) (drop end old), length-append (take begin old) is.bytes, begin_taken old new begin end inserted is, is.count, length-drop end old, is.inside)
-
 -- those up to a boundary are a front of all
 abbrev pub behind_until : (ℕ → Bool) → Spot → List Piece → List Piece
 behind_until test s [] = []
@@ -164,10 +161,6 @@ until_done test s (p ∷ ps) h = rw h refl
 
 pub until_more : (test : ℕ → Bool) (s : Spot) (p : Piece) (ps : List Piece) → test s.place ≡ false → until test s (p ∷ ps) ≡ p ∷ until test (end_of p) ps
 until_more test s p ps h = rw h refl
-
-pub last_end-append : (s : Spot) (xs : List Piece) (p : Piece) → last_end s (xs ++ p ∷ []) ≡ end_of p
-last_end-append s [] p = refl
-last_end-append s (x ∷ xs) p = last_end-append (end_of x) xs p
 
 pub ends_here : (text : List ℕ) (s e : Spot) → next_piece (here text s) ≡ (None, here text e) → pieces_from (here text s) ≡ []
 ends_here text s e is = pieces_step (here text s) ∙ ap pieces_by is
@@ -252,8 +245,6 @@ pub in_order : (text : List ℕ) (ps : List Piece) → ps ≡ pieces_of text →
 in_order text ps is = (length text, subst (Rises (length text) 0) (sym is) (spans_rise text))
 
 -- where a place of the new text is a boundary of both
-pub early_is_not : (old : List Piece) (begin end inserted place : ℕ) → place < begin + inserted → is_common old begin end inserted place ≡ false
-early_is_not old begin end inserted place lt = rw (lt-leb (begin + inserted) place lt) refl
 
 pub common_is_last : (old : List Piece) (begin end inserted place count : ℕ) (s : Spot) → InOrder old → begin + inserted ≤ place → below (place - (begin + inserted) + end + 1) old ≡ take count old → s ≡ last_end start (take count old) → is_common old begin end inserted place ≡ (s.place == (place - (begin + inserted) + end))
 common_is_last old begin end inserted place count s order le is last =

@@ -3,7 +3,7 @@
 //! Each piece is read as if its `@` were at place 0 of line 0, and stored beside its real place. So the pieces
 //! after an edit need only new places: nothing in them is read or copied again (`splice.rt`).
 
-ghost use Rattle.std.specs.Prelude.{◌≡◌, ◌==◌, IfOk};
+ghost use Rattle.std.specs.Prelude.{◌≡◌, IfOk};
 ghost use Rattle.bt_bib.specs.Spot.{here};
 ghost use Rattle.bt_bib.specs.inner.Spot.{IsAhead, IsIn};
 ghost use Rattle.bt_bib.specs.inner.Stop.{Makes};

@@ -12,7 +12,7 @@ use crate::item::Piece;
 use crate::shift::rebased;
 use crate::spot::Spot;
 use bt_text::Shared;
-use std::alloc::{AllocError, Global};
+use std::alloc::AllocError;
 use std::marker::Model;
 
 /// A piece of a database, stored as if its `@` were at place 0 of line 0, and the place of that `@`. So one piece can

@@ -3,8 +3,8 @@
 //! A scan takes a place and returns the place it reaches; nothing moves in the reader itself. So a caller that meets a fault
 //! still has the places before it.
 
-ghost use Rattle.std.specs.Prelude.{◌≡◌, ◌<◌, ◌≤◌, ◌+◌, ◌-◌, ◌^◌, count_by, drop, length, take, IfOk};
-ghost use Rattle.bt_bib.specs.Spot.{spot_after_byte, after_byte, here, is_line_end, spot_after};
+ghost use Rattle.std.specs.Prelude.{◌≡◌, ◌<◌, ◌≤◌, ◌+◌, count_by, drop, length, take};
+ghost use Rattle.bt_bib.specs.Spot.{after_byte, here, is_line_end, spot_after};
 ghost use Rattle.bt_bib.specs.inner.Spot.{IsAhead, IsIn};
 ghost use Rattle.bt_bib.specs.Scan.{closing_sign, first, is_key_byte, after_run, run, sign, after_white};
 ghost use Rattle.bt_bib.specs.inner.Scan.{has};

@@ -1,7 +1,7 @@
 //! A place of a text, with its line.
 
 ghost use Rattle.std.specs.Prelude.{◌≡◌, ◌+◌, ◌<◌, ◌^◌};
-ghost use Rattle.bt_bib.specs.Spot.{spot_after_byte, start};
+ghost use Rattle.bt_bib.specs.Spot.{spot_after_byte};
 
 /// A place of a text: how many bytes stand before it, and its line, which is 1 plus the number of line feeds among
 /// them. The text's end is a place too.
