@@ -3,11 +3,12 @@ use Rattle.std.specs.Prelude.{◌==◌, not}
 use Rattle.std.specs.List.{position_or_len, slice_split, All}
 use Rattle.std.specs.Option.{unwrap_or}
 use Rattle.memchr.specs.Find.{IsFirstByte, is_byte}
-use Rattle.std.proofs.Common.{◌≡◌, ℕ, suc, ◌+◌, ◌-◌, ◌<◌, ◌≤◌, Bool, true, false, cond, List, [], ◌∷◌, ◌++◌, length, take, drop, get_or, length-drop, Option, Some, None, refl, sym, ap, ◌∙◌, append_assoc, arith, ◌⊎◌, inl, inr, zero}
+use Rattle.std.proofs.Common.{◌≡◌, ℕ, suc, ◌+◌, ◌-◌, ◌<◌, ◌≤◌, true, false, cond, List, [], ◌∷◌, ◌++◌, length, take, drop, get_or, length-drop, Option, Some, None, refl, sym, ap, ◌∙◌, append_assoc, arith, ◌⊎◌, inl, inr, zero}
 use Rattle.std.proofs.lemmas.List.{take_rest, take_all}
 use Rattle.std.proofs.lemmas.List.Sums.{fails_before_first}
 use Rattle.std.proofs.lemmas.List.Splits.{slice_split_none, slice_split_first}
 use Rattle.std.proofs.lemmas.List.Elements.{All-from_get_or}
+use Rattle.std.proofs.lemmas.Bool.{false_from_ne_true}
 use Rattle.bt_bib.specs.declared.aux_line.AuxItem.{AuxItem}
 use Rattle.bt_bib.specs.declared.aux_line.Command.{Command}
 use Rattle.bt_text.specs.White.{trimmed_end}
@@ -15,10 +16,6 @@ use Rattle.bt_bib.specs.AuxLine.{is_line_end, command_of, items_from}
 use Rattle.bt_bib.specs.inner.Cases.{if_counted}
 
 -- a test that doesn't hold
-not_true : (v : Bool) → (v ≡ true → ⊥) → v ≡ false
-not_true true h = absurd (h refl)
-not_true false h = refl
-
 -- the first place of a line feed is where the first line ends
 first_at : (k : ℕ) (bs : List ℕ) → ((j : ℕ) → j < k → (get_or bs j 0 == 10) ≡ true → ⊥) → (length bs ≡ k) ⊎ ((get_or bs k 0 == 10) ≡ true) → k ≤ length bs → position_or_len is_line_end bs ≡ k
 first_at zero [] before ends le = refl
@@ -28,7 +25,7 @@ first_at zero (b ∷ bs) before (inr h) le = ap (λ e. cond (not e) (1 + positio
 first_at (suc k) (b ∷ bs) before ends le =
     let later : (length bs ≡ k) ⊎ ((get_or bs k 0 == 10) ≡ true) = elim ends [ inl h ↦ inl (omega arith) | inr h ↦ inr h ] in
     let more : 1 + position_or_len is_line_end bs ≡ suc k = omega (arith, first_at k bs (λ j lt. before (suc j) (omega arith)) later (omega arith)) in
-    ap (λ e. cond (not e) (1 + position_or_len is_line_end bs) 0) (not_true (b == 10) (before 0 (omega arith))) ∙ more
+    ap (λ e. cond (not e) (1 + position_or_len is_line_end bs) 0) (false_from_ne_true (b == 10) (before 0 (omega arith))) ∙ more
 
 pub line_is_first : (text : List ℕ) (r : Option ℕ) → IsFirstByte (is_byte 10) text r → unwrap_or r (length text) ≡ position_or_len is_line_end text
 line_is_first text None found = sym (first_at (length text) text (λ j lt. found j (omega arith) lt) (inl refl) (omega arith))

@@ -6,6 +6,7 @@ use Rattle.std.proofs.lemmas.List.Sums.{sum_by-cons, take_while-cons}
 use Rattle.std.proofs.lemmas.List.{drop-drop, drop_all, drop_more}
 use Rattle.memchr.specs.Find.{IsFirstByte}
 use Rattle.std.proofs.Common.{Option, Some, None, ◌≡◌, ℕ, zero, suc, ◌+◌, ◌<◌, ◌≤◌, Bool, true, false, cond, List, [], ◌∷◌, length, take, drop, get_or, refl, sym, ap, subst, ◌∙◌, arith, ◌⊎◌, inl, inr}
+use Rattle.std.proofs.lemmas.Bool.{false_from_ne_true}
 use Rattle.bt_bib.specs.declared.spot.Spot.{Spot}
 use Rattle.bt_bib.specs.Spot.{at, here, spot_after}
 use Rattle.bt_bib.specs.Scan.{after_run}
@@ -44,12 +45,8 @@ count_behind : (hit : ℕ → Bool) (k : ℕ) (bs : List ℕ) → ((j : ℕ) →
 count_behind hit zero bs n le = refl
 count_behind hit (suc k) [] n le = absurd (omega arith)
 count_behind hit (suc k) (b ∷ bs) n le =
-    let miss = ap (λ (v : Bool). cond {A = ℕ} v 1 0) (missing (hit b) (n 0 (omega arith))) in
+    let miss = ap (λ (v : Bool). cond {A = ℕ} v 1 0) (false_from_ne_true (hit b) (n 0 (omega arith))) in
     omega (arith, sum_by-cons (λ x. cond {A = ℕ} (hit x) 1 0) b bs, miss, count_behind hit k bs (λ j lt. n (suc j) (omega arith)) (omega arith))
-  where
-    missing : (v : Bool) → (v ≡ true → ⊥) → v ≡ false
-    missing true n = absurd (n refl)
-    missing false n = refl
 
 count_here : (hit : ℕ → Bool) (k : ℕ) (bs : List ℕ) → k < length bs → hit (get_or bs k 0) ≡ true → count_by hit (drop k bs) ≡ 1 + count_by hit (drop (k + 1) bs)
 count_here hit k bs lt h = ap (count_by hit) (drop_more bs k 0 lt) ∙ omega (arith, sum_by-cons (λ x. cond {A = ℕ} (hit x) 1 0) (get_or bs k 0) (drop (k + 1) bs), ap (λ (v : Bool). cond {A = ℕ} v 1 0) h)

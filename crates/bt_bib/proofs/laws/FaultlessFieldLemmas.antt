@@ -4,7 +4,7 @@ use Rattle.std.specs.List.{list_all, take_while}
 use Rattle.std.proofs.Common.{◌≡◌, ℕ, zero, suc, ◌<◌, Bool, true, false, cond, List, [], ◌∷◌, ◌++◌, length, Some, None, Result, Ok, Err, refl, sym, ap, subst, ◌∙◌, append_assoc, arith}
 use Rattle.std.proofs.lemmas.List.{append-nil}
 use Rattle.std.proofs.lemmas.List.Sums.{take_while-cons}
-use Rattle.std.proofs.lemmas.Bool.{eqb-true}
+use Rattle.std.proofs.lemmas.Bool.{eqb-true, and_from}
 use Rattle.bt_text.specs.ByteTests.{is_digit, left_brace, right_brace}
 use Rattle.bt_text.specs.NameBytes.{is_name_byte}
 use Rattle.bt_bib.specs.declared.spot.Spot.{Spot}
@@ -30,7 +30,7 @@ use Rattle.bt_bib.proofs.FieldLemmas.{joined_less}
 use Rattle.bt_bib.proofs.laws.SpellingLemmas.{Stands, split}
 use Rattle.bt_bib.proofs.laws.SpelledValueLemmas.{text_part, parts_from, one_more, another}
 use Rattle.bt_bib.proofs.laws.SpelledFieldLemmas.{with_value}
-use Rattle.bt_bib.proofs.laws.FaultlessTextLemmas.{bind_ok, ok_same, stands_both, stands_spaced, stands_on, stands_run, stands_white, stands_sign, and_both, run_all, read_sign, read_name, read_enclosed}
+use Rattle.bt_bib.proofs.laws.FaultlessTextLemmas.{bind_ok, ok_same, stands_both, stands_spaced, stands_on, stands_run, stands_white, stands_sign, run_all, read_sign, read_name, read_enclosed}
 
 -- the same of a value with the place after it that is equal
 pub as_pair : {A : Type 0} (S : A → Spelling) (h : Here) (x y : A × Here) → x ≡ y → Stands (S x.0) h x.1 → Stands (S y.0) h y.1
@@ -54,7 +54,7 @@ number_run : (b : ℕ) (bs : List ℕ) → is_digit b ≡ true → is_number (ta
 number_run b bs is =
     let rest = take_while is_digit bs in
     let whole : take_while is_digit (b ∷ bs) ≡ b ∷ rest = take_while-cons is_digit b bs ∙ ap (λ v. cond v (b ∷ rest) []) is in
-    subst (λ l. is_number l ≡ true) (sym whole) (and_both (is_digit b) (list_all is_digit rest) is (run_all is_digit bs))
+    subst (λ l. is_number l ≡ true) (sym whole) (and_from (is_digit b) (list_all is_digit rest) is (run_all is_digit bs))
 
 abbrev macro_part : ℕ → List ℕ × Here → Result (Part × Here) Stop
 macro_part line n = Ok (Macro n.0 line, n.1)

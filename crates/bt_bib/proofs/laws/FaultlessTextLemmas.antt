@@ -4,7 +4,7 @@ use Rattle.std.specs.List.{list_all, list_any, take_while}
 use Rattle.std.proofs.Common.{◌≡◌, ℕ, zero, suc, ◌+◌, ◌-◌, Bool, true, false, cond, List, [], ◌∷◌, ◌++◌, length, take, drop, Some, Result, Ok, Err, refl, sym, ap, subst, ◌∙◌, append_assoc, arith}
 use Rattle.std.proofs.lemmas.List.{take_at, take-append-drop}
 use Rattle.std.proofs.lemmas.List.Sums.{take_while-cons}
-use Rattle.std.proofs.lemmas.Bool.{eqb-true}
+use Rattle.std.proofs.lemmas.Bool.{eqb-true, and_from}
 use Rattle.bt_text.specs.ByteTests.{is_white, is_digit, left_brace, right_brace}
 use Rattle.bt_text.specs.NameBytes.{is_name_byte, is_name}
 use Rattle.bt_bib.specs.declared.spot.Spot.{Spot}
@@ -59,11 +59,8 @@ stands_on A h k a = record { text = a.text; spelled = (refl, a.spelled); rest = 
 
 -- Runs
 
-pub and_both : (a b : Bool) → a ≡ true → b ≡ true → (a && b) ≡ true
-and_both a b p q = ap (λ v. v && b) p ∙ q
-
 run_all_by : (v : Bool) (test : ℕ → Bool) (b : ℕ) (bs : List ℕ) → test b ≡ v → list_all test bs ≡ true → list_all test (cond v (b ∷ bs) []) ≡ true
-run_all_by true test b bs is all = and_both (test b) (list_all test bs) is all
+run_all_by true test b bs is all = and_from (test b) (list_all test bs) is all
 run_all_by false test b bs is all = refl
 
 pub run_all : (test : ℕ → Bool) (r : List ℕ) → list_all test (take_while test r) ≡ true
@@ -107,7 +104,7 @@ name_run b bs is =
     let byte = and_first (is_name_byte b) (not (is_digit b)) is in
     let rest = take_while is_name_byte bs in
     let whole : take_while is_name_byte (b ∷ bs) ≡ b ∷ rest = take_while-cons is_name_byte b bs ∙ ap (λ v. cond v (b ∷ rest) []) byte in
-    subst (λ l. is_name l ≡ true) (sym whole) (and_both (not (is_digit b)) (list_all is_name_byte (b ∷ rest)) (and_second (is_name_byte b) (not (is_digit b)) is) (and_both (is_name_byte b) (list_all is_name_byte rest) byte (run_all is_name_byte bs)))
+    subst (λ l. is_name l ≡ true) (sym whole) (and_from (not (is_digit b)) (list_all is_name_byte (b ∷ rest)) (and_second (is_name_byte b) (not (is_digit b)) is) (and_from (is_name_byte b) (list_all is_name_byte rest) byte (run_all is_name_byte bs)))
 
 read_word_at : (what : NameRole) (s : Spot) (r n : List ℕ) (k : Here) → word what (at s r) ≡ Ok (n, k) → Stands (NameOf n) (at s r) k
 unfolding word

@@ -4,7 +4,7 @@ use Rattle.std.specs.List.{list_any}
 use Rattle.std.specs.Char.{to_ascii_lowercase}
 use Rattle.std.proofs.Common.{◌≡◌, ℕ, ◌+◌, ◌-◌, ◌<◌, ◌≤◌, Bool, true, false, cond, List, [], ◌∷◌, ◌++◌, length, take, drop, Some, None, Result, Ok, Err, refl, sym, ap, subst, ◌∙◌, arith}
 use Rattle.std.proofs.lemmas.List.{take-append-le, length-take-le, take-take, drop-append-le, drop-take, length-map}
-use Rattle.std.proofs.lemmas.Bool.{lt-ltb, le-ltb}
+use Rattle.std.proofs.lemmas.Bool.{lt-ltb, le-ltb, false_from_ne_true}
 use Rattle.std.proofs.lemmas.Slice.Eq.{bytes_eq-Decides}
 use Rattle.bt_text.specs.ByteTests.{is_white, is_digit}
 use Rattle.bt_text.specs.NameBytes.{is_name_byte}
@@ -40,12 +40,8 @@ use Rattle.bt_bib.proofs.laws.FitNameLemmas.{Bare, EndsName, word_fits, ended_cu
 use Rattle.bt_bib.proofs.laws.FitItemLemmas.{NotWhite, IsWhole, Mends, Mended, mended_as, mended_on, mended_past, typed_mended, entry_ends, unwhite}
 
 -- a type that is longer than the words of the format
-not_true : (v : Bool) → (v ≡ true → ⊥) → v ≡ false
-not_true true no_way = absurd (no_way refl)
-not_true false no_way = refl
-
 unlike : (kind expected : List ℕ) → length expected < length kind → is_same_folded kind expected ≡ false
-unlike kind expected lt = not_true (is_same_folded kind expected) (λ is.
+unlike kind expected lt = false_from_ne_true (is_same_folded kind expected) (λ is.
     let same : map to_ascii_lowercase kind ≡ map to_ascii_lowercase expected = (bytes_eq-Decides (folded kind) (folded expected)).0 is in
     omega (arith, ap length same, length-map kind to_ascii_lowercase, length-map expected to_ascii_lowercase))
 

@@ -1,7 +1,6 @@
 -- What braces and quotes enclose, parts and values on a text that is cut.
 use Rattle.std.specs.Prelude.{◌==◌}
 use Rattle.std.proofs.Common.{◌≡◌, ℕ, zero, suc, ◌+◌, ◌-◌, ◌<◌, false, cond, List, [], ◌∷◌, ◌++◌, Some, Result, Ok, Err, refl, sym, ap, subst, ◌∙◌, append_assoc, arith}
-use Rattle.std.proofs.lemmas.Bool.{ne_eqb}
 use Rattle.bt_text.specs.ByteTests.{is_white, is_digit, left_brace}
 use Rattle.bt_text.specs.NameBytes.{is_name_byte}
 use Rattle.bt_bib.specs.declared.spot.Spot.{Spot}
@@ -26,6 +25,7 @@ use Rattle.bt_bib.proofs.ReachLemmas.{Reaches, reaches_self, reaches_then, reach
 use Rattle.bt_bib.proofs.laws.CutLemmas.{cut, cut_here, cut_cons, first_cut, behind_cut, Begins, begins_as, past_cut, between_cut}
 use Rattle.bt_bib.proofs.laws.FitLemmas.{AreBytes, bytes_append, Is, Any, Never, Reads, Completes, Fits, fits_ok, fits_if, fits_as, fits_bind}
 use Rattle.bt_bib.proofs.laws.FitNameLemmas.{EndsName, past_one, past_none, past_behind, one_on, run_fits, name_fits, name_ahead}
+use Rattle.bt_bib.proofs.laws.SpelledTextLemmas.{not_none}
 
 -- The byte closes what is enclosed, and a right brace closes a brace in it.
 pub record IsShut (c : ℕ) : Type 0 where
@@ -35,9 +35,6 @@ pub record IsShut (c : ℕ) : Type 0 where
 
 one_up : (d : ℕ) → turns.Goes (suc d - 1) ≡ turns.Goes d
 one_up d = let e : suc d - 1 ≡ d = omega arith in ap (λ n. turns.Goes n) e
-
-not_none : (d : ℕ) → (suc d == 0) ≡ false
-not_none d = ne_eqb (suc d) 0 (λ e. omega arith)
 
 pub braces_shut : IsShut 125
 braces_shut = record { byte = refl; shuts = refl; rises = λ d. ap (λ v. cond v turns.Closes (cond v turns.Breaks (turns.Goes (suc d - 1)))) (not_none d) ∙ one_up d }

@@ -1,8 +1,8 @@
 -- What stands between braces or quotes is read as it is.
-use Rattle.std.specs.Prelude.{◌==◌, ◌&&◌, ◌||◌}
+use Rattle.std.specs.Prelude.{◌==◌, ◌&&◌}
 use Rattle.std.proofs.Common.{◌≡◌, ℕ, suc, ◌+◌, ◌-◌, Bool, true, false, cond, List, ◌∷◌, ◌++◌, length, take, Ok, refl, sym, ap, ◌∙◌, append_assoc, arith}
 use Rattle.std.proofs.lemmas.List.{take_at}
-use Rattle.std.proofs.lemmas.Bool.{eq-eqb, ne_eqb, false≢true}
+use Rattle.std.proofs.lemmas.Bool.{eq-eqb, ne_eqb, false≢true, or_parts}
 use Rattle.bt_text.specs.ByteTests.{is_brace, left_brace, right_brace}
 use Rattle.bt_bib.specs.declared.spot.Spot.{Spot}
 use Rattle.bt_bib.specs.declared.enclosure.Turn.TheVariants as turns
@@ -14,10 +14,6 @@ use Rattle.bt_bib.proofs.RunLemmas.{passed-nil, passed-cons}
 use Rattle.bt_bib.proofs.ReachLemmas.{passed-append}
 use Rattle.bt_bib.proofs.EnclosedLemmas.{taken, enclosed_run, enclosed_is_run, enclosed_cons}
 
-or_neither : (a b : Bool) → (a || b) ≡ false → (a ≡ false) × (b ≡ false)
-or_neither true b h = absurd (false≢true (sym h))
-or_neither false b h = (refl, h)
-
 pub and_none : (v : Bool) → (v && false) ≡ false
 and_none true = refl
 and_none false = refl
@@ -27,10 +23,10 @@ not_none d = ne_eqb (suc d) 0 (λ e. omega arith)
 
 -- what a byte that is no brace does, and what braces do, between braces and at the top
 same_deep : (close d b : ℕ) → is_brace b ≡ false → turn close (suc d) b ≡ turns.Goes (suc d)
-same_deep close d b bare = (let n = or_neither (b == left_brace) (b == right_brace) bare in rw (not_none d, n.0, n.1) (ap (λ v. cond v turns.Closes (turns.Goes (suc d))) (and_none (b == close))))
+same_deep close d b bare = (let n = or_parts (b == left_brace) (b == right_brace) bare in rw (not_none d, n.0, n.1) (ap (λ v. cond v turns.Closes (turns.Goes (suc d))) (and_none (b == close))))
 
 same_flat : (close b : ℕ) → is_brace b ≡ false → (b == close) ≡ false → turn close 0 b ≡ turns.Goes 0
-same_flat close b bare apart = (let n = or_neither (b == left_brace) (b == right_brace) bare in rw (apart, n.0, n.1) refl)
+same_flat close b bare apart = (let n = or_parts (b == left_brace) (b == right_brace) bare in rw (apart, n.0, n.1) refl)
 
 up_deep : (close d : ℕ) → turn close (suc d) left_brace ≡ turns.Goes (suc (suc d))
 up_deep close d =

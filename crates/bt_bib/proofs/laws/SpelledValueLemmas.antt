@@ -2,7 +2,7 @@
 use Rattle.std.specs.Prelude.{◌==◌, ◌||◌, not}
 use Rattle.std.specs.List.{list_all, list_any}
 use Rattle.std.proofs.Common.{◌≡◌, ℕ, Bool, true, false, cond, List, [], ◌∷◌, ◌++◌, Option, Some, None, Result, Ok, Err, refl, sym, ap, subst, ◌∙◌, append_assoc}
-use Rattle.std.proofs.lemmas.Bool.{false≢true}
+use Rattle.std.proofs.lemmas.Bool.{false≢true, or_right, or_left}
 use Rattle.bt_text.specs.ByteTests.{is_white, is_digit, left_brace, right_brace}
 use Rattle.bt_text.specs.NameBytes.{is_name_byte, is_name}
 use Rattle.bt_bib.specs.declared.spot.Spot.{Spot}
@@ -27,7 +27,7 @@ use Rattle.bt_bib.proofs.LoopLemmas.{read_out}
 use Rattle.bt_bib.proofs.FieldLemmas.{joined_less}
 use Rattle.bt_bib.proofs.laws.CutLemmas.{Begins, begins_as, Fails}
 use Rattle.bt_bib.proofs.laws.FitNameLemmas.{and_first}
-use Rattle.bt_bib.proofs.laws.SpellingLemmas.{Stands, stands_at, standing, split, either, on_line, sign_stands, white_to, white_front, ends_from, one_begins, and_second, Starts, starts_both, starts_or, starts_bytes, begins_here, IsOne, MayEnd, may_white, may_one, FailsAll, one_fails, white_fails, passes_one, other, or_cases, or_first, or_second, Stops, past_to, run_is, name_at}
+use Rattle.bt_bib.proofs.laws.SpellingLemmas.{Stands, stands_at, standing, split, either, on_line, sign_stands, white_to, white_front, ends_from, one_begins, and_second, Starts, starts_both, starts_or, starts_bytes, begins_here, IsOne, MayEnd, may_white, may_one, FailsAll, one_fails, white_fails, passes_one, other, or_cases, Stops, past_to, run_is, name_at}
 use Rattle.bt_bib.proofs.laws.SpelledTextLemmas.{enclosed_texts_are_read}
 
 -- What may stand after a part is no byte of white space, of a name or of a number.
@@ -197,7 +197,7 @@ no_more close front h b = ap read_out (gathers_none (next_part close) (joined_le
 part_ends_so : (close : Closing) (b : ℕ) → IsOne (value_ends close) b → IsOne (part_ends close) b
 part_ends_so close b h =
     let last = list_any (λ sign. sign == b) (closing_sign close ∷ []) in
-    or_cases (44 == b) last h (or_first (44 == b) (35 == b || last)) (λ e. or_second (44 == b) (35 == b || last) (or_second (35 == b) last e))
+    or_cases (44 == b) last h (or_left (44 == b) (35 == b || last)) (λ e. or_right (44 == b) (35 == b || last) (or_right (35 == b) last e))
 
 parts_to : (close : Closing) (p : Part) (ps front : List Part) (h m k : Here) → Stands (PartsOf p ps) h m → Stands White m k → Begins (IsOne (value_ends close)) k.rest → (part close h >>= λ x. parts_from close (front ++ x.0 ∷ []) x.1) ≡ Ok (front ++ p ∷ ps, k)
 parts_to close p [] front h m k x w b =

@@ -2,7 +2,7 @@
 use Rattle.std.specs.Prelude.{◌==◌, ◌&&◌, ◌||◌, not}
 use Rattle.std.specs.List.{list_all, list_any, take_while}
 use Rattle.std.proofs.Common.{◌≡◌, ℕ, Bool, true, false, cond, List, [], ◌∷◌, ◌++◌, Some, Result, Ok, Err, refl, sym, ap, subst, ◌∙◌, append_assoc}
-use Rattle.std.proofs.lemmas.Bool.{eq-eqb, eqb-true, ne_eqb, false≢true}
+use Rattle.std.proofs.lemmas.Bool.{eq-eqb, eqb-true, ne_eqb, false≢true, or_right, or_left}
 use Rattle.std.proofs.lemmas.List.Sums.{take_while-cons}
 use Rattle.bt_text.specs.ByteTests.{is_white, is_digit}
 use Rattle.bt_text.specs.NameBytes.{is_name_byte, is_name}
@@ -117,19 +117,11 @@ pub or_cases : {X : Type 0} (a b : Bool) → (a || b) ≡ true → (a ≡ true �
 or_cases true b h f g = f refl
 or_cases false b h f g = g h
 
-pub or_first : (a b : Bool) → a ≡ true → (a || b) ≡ true
-or_first true b h = refl
-or_first false b h = absurd (false≢true h)
-
-pub or_second : (a b : Bool) → b ≡ true → (a || b) ≡ true
-or_second true b h = refl
-or_second false b h = h
-
 pub may_white : (signs : List ℕ) (b : ℕ) → is_white b ≡ true → MayEnd signs b
-may_white signs b h = or_first (is_white b) (list_any (λ sign. sign == b) signs) h
+may_white signs b h = or_left (is_white b) (list_any (λ sign. sign == b) signs) h
 
 pub may_one : (signs : List ℕ) (b : ℕ) → IsOne signs b → MayEnd signs b
-may_one signs b h = or_second (is_white b) (list_any (λ sign. sign == b) signs) h
+may_one signs b h = or_right (is_white b) (list_any (λ sign. sign == b) signs) h
 
 -- a test that none of some signs passes
 abbrev pub FailsAll : (ℕ → Bool) → List ℕ → Type 0
