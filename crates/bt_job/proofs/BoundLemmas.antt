@@ -1,11 +1,12 @@
 -- No file is opened twice, so the bound of the lines doesn't matter.
-use Rattle.std.specs.Prelude.{◌||◌, not, eqb, codes, flat_map}
+use Rattle.std.specs.Prelude.{not, eqb, codes, flat_map}
 use Rattle.std.specs.List.{ends_with}
 use Rattle.std.specs.Option.{is_some, option_or, option_map}
 use Rattle.std.specs.Str.{bytes_eq}
 use Rattle.std.proofs.lemmas.List.{length-map}
 use Rattle.std.proofs.lemmas.List.Sums.{sum_by-cons}
 use Rattle.std.proofs.Common.{◌≡◌, ℕ, zero, suc, ◌+◌, ◌≤◌, Bool, true, false, cond, List, [], ◌∷◌, ◌++◌, length, length-append, append_assoc, append-nil, Option, Some, None, refl, sym, ap, ◌∙◌, arith}
+use Rattle.std.proofs.lemmas.Bool.{or_left, or_right}
 use Rattle.bt_bib.specs.declared.aux_line.Command.{Command}
 use Rattle.bt_bib.specs.declared.aux_line.Command.TheVariants.{Citation, Database, Style, Nested}
 use Rattle.bt_bib.specs.declared.aux_argument.AuxFault.{AuxFault}
@@ -42,16 +43,8 @@ weight_more weigh (f ∷ fs) names more h =
     let here : cond (is_among more f.name) 0 (weigh f.text) ≤ cond (is_among names f.name) 0 (weigh f.text) = weight_here (is_among names f.name) (is_among more f.name) (weigh f.text) (h f.name) in
     omega (arith, here, weight_more weigh fs names more h)
 
-or_true : (a b : Bool) → a ≡ true → (a || b) ≡ true
-or_true true b h = refl
-or_true false b h = cc
-
-or_right : (a b : Bool) → b ≡ true → (a || b) ≡ true
-or_right true b h = refl
-or_right false b h = h
-
 within_one : (names : List (List ℕ)) (name : List ℕ) → Within names (names ++ name ∷ [])
-within_one names name n h = is_among-append names name n ∙ or_true (is_among names n) (bytes_eq name n) h
+within_one names name n h = is_among-append names name n ∙ or_left (is_among names n) (bytes_eq name n) h
 
 within_some : (names parts : List (List ℕ)) → Within names (names ++ parts)
 within_some names [] n h = ap (λ ns. is_among ns n) (append-nil names) ∙ h

@@ -4,6 +4,7 @@ use Rattle.std.specs.List.{before_first}
 use Rattle.std.specs.Option.{is_some, is_none}
 use Rattle.std.proofs.lemmas.List.{map-append}
 use Rattle.std.proofs.Common.{◌≡◌, ℕ, suc, ◌+◌, Bool, true, false, cond, List, [], ◌∷◌, ◌++◌, length, map, append_assoc, append-nil, Option, Some, None, refl, sym, ap, ap₂, subst, ◌∙◌, arith}
+use Rattle.std.proofs.lemmas.Bool.{and_right}
 use Rattle.bt_log.specs.declared.message.Message.{Message}
 use Rattle.bt_bib.specs.declared.aux_line.Command.TheVariants.{Citation, Database, Style, Nested}
 use Rattle.bt_job.specs.declared.files.File.{File}
@@ -95,10 +96,6 @@ more_names n ns (m ∷ ms) = go (is_among (n ∷ ns) m) (more_names n ns ms) (mo
     go true p q = p
     go false p q = q
 
-and_false : (b : Bool) → (b && false) ≡ false
-and_false true = refl
-and_false false = refl
-
 -- no key and no `*` is nothing cited
 nothing_cited : (parts : List (List ℕ)) → (is_empty (keys_of parts) && is_none (star_of parts)) ≡ is_empty parts
 nothing_cited [] = refl
@@ -107,7 +104,7 @@ nothing_cited (p ∷ ps) = go (is_star p) refl ∙ sym (not_empty p ps)
     go : (b : Bool) → is_star p ≡ b → (is_empty (keys_of (p ∷ ps)) && is_none (star_of (p ∷ ps))) ≡ false
     go true e =
         ap (λ b. is_empty (keys_of (p ∷ ps)) && is_none (cond (b || is_among ps (codes "*")) (Some (length (keys_of (before_first is_star (p ∷ ps))))) None)) e
-        ∙ and_false (is_empty (keys_of (p ∷ ps)))
+        ∙ and_right (is_empty (keys_of (p ∷ ps))) false refl
     go false e =
         ap (λ b. is_empty (fold with_name [] (cond (not b) (p ∷ filter (λ part. not (is_star part)) ps) (filter (λ part. not (is_star part)) ps))) && is_none (star_of (p ∷ ps))) e
         ∙ ap (λ b. b && is_none (star_of (p ∷ ps))) (more_names p [] (filter (λ part. not (is_star part)) ps))

@@ -3,7 +3,7 @@ use Rattle.std.specs.Prelude.{◌||◌, ◌&&◌, not, codes, filter, fold}
 use Rattle.std.specs.List.{before_first}
 use Rattle.std.specs.Option.{is_some, option_or, option_map}
 use Rattle.std.specs.Str.{bytes_eq}
-use Rattle.std.proofs.lemmas.Bool.{eqb-true}
+use Rattle.std.proofs.lemmas.Bool.{eqb-true, and_parts, or_parts}
 use Rattle.std.proofs.lemmas.List.Elements.{filter-append}
 use Rattle.std.proofs.lemmas.List.Sums.{fold-append, take_while-cons}
 use Rattle.std.proofs.Common.{◌≡◌, ℕ, ◌+◌, Bool, true, false, cond, nat_eq, nat_lt, List, [], ◌∷◌, ◌++◌, length, append_assoc, append-nil, Option, Some, None, refl, sym, ap, ap₂, ◌∙◌, arith}
@@ -31,10 +31,6 @@ star_byte true b c low high is = eqb-true 42 c is
 star_byte false true c low high is = let far : 42 ≡ c + 32 = eqb-true 42 (c + 32) is in absurd (grind (arith, low, far))
 star_byte false false c low high is = eqb-true 42 c is
 
-and_left : (a b : Bool) → (a && b) ≡ true → a ≡ true
-and_left true b h = refl
-and_left false b h = h
-
 no_and : (a : Bool) → (a && false) ≡ true → false ≡ true
 no_and true h = h
 no_and false h = h
@@ -42,7 +38,7 @@ no_and false h = h
 folded_star : (key : List ℕ) → is_same_folded (codes "*") key ≡ true → is_star key ≡ true
 folded_star [] h = h
 folded_star (c ∷ []) h =
-    let is : 42 ≡ c = star_byte (nat_lt c 65) (nat_lt c 91) c refl refl (and_left _ true h) in
+    let is : 42 ≡ c = star_byte (nat_lt c 65) (nat_lt c 91) c refl refl (and_parts _ true h).0 in
     ap (λ n. nat_eq n 42 && true) (sym is)
 folded_star (c ∷ d ∷ ds) h = let wrong : false ≡ true = no_and _ h in cc
 
@@ -150,14 +146,6 @@ before_cons part parts = take_while-cons (λ p. not (is_star p)) part parts ∙ 
     go true = refl
     go false = refl
 
-or_false_left : (a b : Bool) → (a || b) ≡ false → a ≡ false
-or_false_left true b h = h
-or_false_left false b h = refl
-
-or_false_right : (a b : Bool) → (a || b) ≡ false → b ≡ false
-or_false_right true b h = cc
-or_false_right false b h = h
-
 before_more : (parts : List (List ℕ)) (part : List ℕ) → is_among parts (codes "*") ≡ true → before_first is_star (parts ++ part ∷ []) ≡ before_first is_star parts
 before_more [] part h = cc
 before_more (p ∷ ps) part h = before_cons p (ps ++ part ∷ []) ∙ go (is_star p) h (before_more ps part) ∙ sym (before_cons p ps)
@@ -171,8 +159,8 @@ before_star : (parts : List (List ℕ)) (part : List ℕ) → is_among parts (co
 before_star [] part h star = before_cons part [] ∙ ap (λ b. cond b [] (part ∷ [])) star
 before_star (p ∷ ps) part h star =
     before_cons p (ps ++ part ∷ [])
-    ∙ ap (λ b. cond b [] (p ∷ before_first is_star (ps ++ part ∷ []))) (or_false_left (is_star p) (is_among ps (codes "*")) h)
-    ∙ ap (λ qs. p ∷ qs) (before_star ps part (or_false_right (is_star p) (is_among ps (codes "*")) h) star)
+    ∙ ap (λ b. cond b [] (p ∷ before_first is_star (ps ++ part ∷ []))) (or_parts (is_star p) (is_among ps (codes "*")) h).0
+    ∙ ap (λ qs. p ∷ qs) (before_star ps part (or_parts (is_star p) (is_among ps (codes "*")) h).1 star)
 
 pub star_key : (parts : List (List ℕ)) (part : List ℕ) → is_star part ≡ false → star_of (parts ++ part ∷ []) ≡ star_of parts
 star_key parts part is = go (is_among parts (codes "*")) refl

@@ -1,12 +1,12 @@
 -- Tables of names, and the lists that they mirror.
 use Rattle.std.proofs.Common.{◌≡◌, refl, sym, ap, ◌∙◌, ℕ, ◌||◌, Bool, true, false, cond, List, [], ◌∷◌, ◌++◌}
-use Rattle.std.specs.Prelude.{bytes_eq, Vec, Result, Ok, Err, IsOk, OnOk}
+use Rattle.std.specs.Prelude.{bytes_eq, Vec}
 use Rattle.std.specs.List.{list_any}
 use Rattle.std.specs.declared.alloc.Global.{Global}
 use Rattle.std.specs.Cmp.Lexicographic.{bytes_decides, nat_list_eq_equiv}
 use Rattle.indexmap.specs.IndexSet.{insert_key}
 use Rattle.bt_job.specs.FileNames.{is_among}
-use Rattle.bt_job.proofs.NameLemmas.{is_among-append}
+use Rattle.bt_job.proofs.NameLemmas.{or_step, or_false, is_among-append}
 
 abbrev pub Keys : Type 0
 Keys = List (Vec ℕ Global)
@@ -14,19 +14,6 @@ Keys = List (Vec ℕ Global)
 -- whether keys have a name
 abbrev pub key_among : List ℕ → Keys → Bool
 key_among name keys = list_any (λ key. bytes_eq name key.items) keys
-
--- what holds where it succeeds, where it does
-pub on_ok : {A E : Type 0} (P : Type 0) (r : Result A E) → IsOk r → OnOk r P → P
-on_ok P (Ok x) ok h = h
-on_ok P (Err e) ok h = let wrong : false ≡ true = ok in cc
-
-or_step : (a b c d : Bool) → b ≡ (c || d) → (a || b) ≡ ((a || c) || d)
-or_step true b c d h = refl
-or_step false b c d h = h
-
-or_false : (a : Bool) → (a || false) ≡ a
-or_false true = refl
-or_false false = refl
 
 or_absorbs : (a b : Bool) → (b ≡ true → a ≡ true) → a ≡ (a || b)
 or_absorbs true b h = refl

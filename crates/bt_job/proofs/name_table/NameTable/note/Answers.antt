@@ -3,7 +3,8 @@ use Rattle.std.specs.Prelude.{Vec, bytes_eq}
 use Rattle.std.specs.declared.alloc.Global.{Global}
 use Rattle.indexmap.specs.IndexSet.{insert_key}
 use Rattle.bt_job.specs.FileNames.{is_among}
-use Rattle.bt_job.proofs.NameTableLemmas.{noted, on_ok}
+use Rattle.bt_text.proofs.NameLemmas.{on_ok}
+use Rattle.bt_job.proofs.NameTableLemmas.{noted}
 use Rattle.bt_job.proofs.name_table.NameTable.note.Goals as goal
 
 pub returns-clause-mirrors : goal.returns-clause-mirrors
