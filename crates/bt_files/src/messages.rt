@@ -1,7 +1,6 @@
 //! Messages with the author's names of files in place of the session's.
 
 ghost use Rattle.std.specs.Prelude.{◌≡◌, map, IfOk};
-ghost use Rattle.std.specs.Option.{option_map};
 ghost use Rattle.bt_files.specs.Messages.{name_back, said_back, place_back, put_back};
 
 use crate::names::Names;

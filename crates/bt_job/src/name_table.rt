@@ -3,7 +3,7 @@
 //! The list keeps the order and is what contracts speak of; the table is an index of it (`Mirrors`). So each name is in
 //! both, which costs a copy: a job has few names of files.
 
-ghost use Rattle.std.specs.Prelude.{◌≡◌, ℕ, List, [], ◌∷◌, ◌++◌, OnOk, OnErr};
+ghost use Rattle.std.specs.Prelude.{◌≡◌, [], ◌∷◌, ◌++◌, OnOk, OnErr};
 ghost use Rattle.bt_job.specs.inner.NameTable.{Mirrors, has_name};
 
 use bt_text::{Bytes, Sequence};

@@ -4,7 +4,7 @@ use Rattle.std.specs.Prelude.{not, ◌||◌, position}
 use Rattle.std.specs.List.{position_from}
 use Rattle.std.specs.Option.{option_map, is_some}
 use Rattle.std.specs.Str.{bytes_eq}
-use Rattle.std.proofs.lemmas.Bool.{and_parts, not-true}
+use Rattle.std.proofs.lemmas.Bool.{and_parts, not-true, or_right}
 use Rattle.std.proofs.lemmas.List.Quantifiers.{position-Some}
 use Rattle.std.proofs.lemmas.Iterator.Adapters.{position_from-zero}
 use Rattle.bt_job.specs.FileNames.{is_file_name, is_among}
@@ -130,10 +130,6 @@ named table author = go (is_own_name author)
         some_mapped author (position (λ name. bytes_eq name author) table)
         ∙ ap is_some (position_from-zero (λ (name : List ℕ). bytes_eq name author) table) ∙ place_there author 0 table
 
-or_true : (a b : Bool) → b ≡ true → (a || b) ≡ true
-or_true true b h = refl
-or_true false b h = h
-
 -- A name that was met has a session's name.
 pub met_named : (table : List (List ℕ)) (author : List ℕ) → is_some (session_name (with_author table author) author) ≡ true
 met_named table author = named (with_author table author) author ∙ go (is_own_name author) (is_among table author) refl
@@ -141,4 +137,4 @@ met_named table author = named (with_author table author) author ∙ go (is_own_
     go : (b c : Bool) → is_among table author ≡ c → (b || is_among (cond b table (cond c table (table ++ author ∷ []))) author) ≡ true
     go true c e = refl
     go false true e = e
-    go false false e = is_among-append table author author ∙ or_true (is_among table author) (bytes_eq author author) (name_itself author)
+    go false false e = is_among-append table author author ∙ or_right (is_among table author) (bytes_eq author author) (name_itself author)
