@@ -7,7 +7,7 @@ use Rattle.bt_bib.specs.declared.aux_argument.AuxFault.{AuxFault}
 use Rattle.bt_bib.specs.declared.aux_argument.AuxFault.TheVariants.{NoBrace, WhiteSpace, StuffAfter}
 use Rattle.bt_bib.specs.declared.aux_line.AuxItem.{AuxItem}
 use Rattle.bt_bib.specs.AuxLine.{opening_of}
-use Rattle.bt_job.specs.FileNames.{with_ending}
+use Rattle.bt_job.specs.FileNames.{file_name_of}
 use Rattle.bt_job.specs.Lines.{database_names, style_names}
 
 -- Writing
@@ -49,19 +49,12 @@ written items = written_from 1 items
 
 -- Other names
 
--- the file's name for which a part of a command stands
-abbrev pub name_of : Command → List ℕ → List ℕ
-name_of Citation key = key
-name_of Database part = with_ending (codes ".bib") part
-name_of Style part = with_ending (codes ".bst") part
-name_of Nested part = part
-
 -- the part for the file that has another name
 abbrev pub part_with : (List ℕ → List ℕ) → Command → List ℕ → List ℕ
 part_with f Citation key = key
-part_with f Database part = f (name_of Database part)
-part_with f Style part = f (name_of Style part)
-part_with f Nested part = f (name_of Nested part)
+part_with f Database part = f (file_name_of Database part)
+part_with f Style part = f (file_name_of Style part)
+part_with f Nested part = f (file_name_of Nested part)
 
 -- an item in which each file has another name, and each key stays
 abbrev pub item_with : (List ℕ → List ℕ) → AuxItem → AuxItem

@@ -5,10 +5,9 @@
 
 ghost use Rattle.std.specs.Prelude.{◌≡◌, ◌∷◌, ◌++◌, replicate, Some, IfOk, OnOk, if◌then◌else◌};
 ghost use Rattle.std.specs.List.{join_with_byte};
-ghost use Rattle.bt_job.specs.FileNames.{with_ending};
-ghost use Rattle.bt_files.specs.AuxText.{comma, line_feed, name_of, written_end, written_argument, written_item, written};
+ghost use Rattle.bt_files.specs.AuxText.{comma, line_feed, written_end, written_argument, written_item, written};
 
-use bt_bib::{AuxFault, AuxItem, Command};
+use bt_bib::{AuxFault, AuxItem};
 use bt_text::Bytes;
 use std::alloc::{AllocError, Global};
 
@@ -91,25 +90,4 @@ pub fn written(alloc: Global, items: &[AuxItem]) -> Result<Bytes, AllocError>
         line = item.line;
     }
     Ok(text)
-}
-
-fn with_ending(alloc: Global, ending: &[u8], name: &[u8]) -> Result<Bytes, AllocError>
-    ensures { IfOk result (λ text. text ≡ with_ending ending.now name.now) }
-{
-    if name.ends_with(ending) {
-        Bytes::copied(alloc, name)
-    } else {
-        Bytes::of(alloc, &[name, ending])
-    }
-}
-
-/// The file's name for which a part of a command stands; a key stands for itself. The only error is out of memory.
-pub fn name_of(alloc: Global, command: Command, part: &[u8]) -> Result<Bytes, AllocError>
-    ensures { IfOk result (λ name. name ≡ name_of command part.now) }
-{
-    match command {
-        Command::Database => with_ending(alloc, b".bib", part),
-        Command::Style => with_ending(alloc, b".bst", part),
-        Command::Citation | Command::Nested => Bytes::copied(alloc, part),
-    }
 }

@@ -6,6 +6,6 @@ mod aux_text;
 mod messages;
 mod names;
 
-pub use aux_text::{name_of, written};
+pub use aux_text::written;
 pub use messages::{all_put_back, put_back};
 pub use names::{Names, is_own_name};

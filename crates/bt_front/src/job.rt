@@ -11,8 +11,8 @@ ghost use Rattle.bt_files.specs.Messages.{name_back};
 ghost use Rattle.bt_front.specs.Job.{is_aux, names_given, names_with, names_of, table_of, renamed, text_under, file_under, root_under, told_under, job_meaning};
 
 use bt_bib::{AuxItem, Command, read_aux};
-use bt_files::{Names, all_put_back, is_own_name, name_of, written};
-use bt_job::File;
+use bt_files::{Names, all_put_back, is_own_name, written};
+use bt_job::{File, file_name_of};
 use bt_log::{log_bytes, terse_bytes};
 use bt_run::{Answers, Kept, Readings, Run, answers_after};
 use bt_text::{Bytes, Sequence, Shared};
@@ -36,7 +36,7 @@ fn add_parts(
         return Ok(());
     }
     'parts: for part in parts {
-        names.push(name_of(alloc, command, part.as_slice())?)?;
+        names.push(file_name_of(alloc, command, part.as_slice())?)?;
     }
     Ok(())
 }
@@ -108,7 +108,7 @@ fn part_under(
     match command {
         Command::Citation => Bytes::copied(alloc, part),
         Command::Database | Command::Style | Command::Nested => {
-            renamed(alloc, names, name_of(alloc, command, part)?.as_slice())
+            renamed(alloc, names, file_name_of(alloc, command, part)?.as_slice())
         }
     }
 }

@@ -1,7 +1,9 @@
 -- Names of files: which are allowed, and which text each has.
-use Rattle.std.specs.Prelude.{ℕ, Bool, nat_le, ◌==◌, eqb, ◌&&◌, ◌||◌, List, [], ◌∷◌, ◌++◌, length, fold, Option, Some, None, if◌then◌else◌}
+use Rattle.std.specs.Prelude.{ℕ, Bool, nat_le, ◌==◌, eqb, ◌&&◌, ◌||◌, List, [], ◌∷◌, ◌++◌, length, fold, codes, Option, Some, None, if◌then◌else◌}
 use Rattle.std.specs.List.{ends_with, list_any, list_all}
 use Rattle.std.specs.Str.{bytes_eq}
+use Rattle.bt_bib.specs.declared.aux_line.Command.{Command}
+use Rattle.bt_bib.specs.declared.aux_line.Command.TheVariants.{Citation, Database, Style, Nested}
 use Rattle.bt_job.specs.declared.files.File.{File}
 
 -- a letter, a digit or one of . - _ + /
@@ -31,6 +33,13 @@ text_of (f ∷ fs) name = if bytes_eq f.name name then Some f.text else text_of 
 -- a name with an ending, which is put after it unless it is there
 abbrev pub with_ending : List ℕ → List ℕ → List ℕ
 with_ending ending name = if ends_with eqb name ending then name else name ++ ending
+
+-- the file's name for which a part of a command stands
+abbrev pub file_name_of : Command → List ℕ → List ℕ
+file_name_of Citation key = key
+file_name_of Database part = with_ending (codes ".bib") part
+file_name_of Style part = with_ending (codes ".bst") part
+file_name_of Nested part = part
 
 -- names with one more at the end, unless it is among them
 abbrev pub with_name : List (List ℕ) → List ℕ → List (List ℕ)

@@ -7,8 +7,8 @@
 ghost use Rattle.std.specs.Prelude.{◌≡◌, IfOk};
 ghost use Rattle.std.specs.List.{list_all};
 ghost use Rattle.std.specs.Option.{option_map};
-ghost use Rattle.bt_job.specs.FileNames.{is_file_name_byte, is_file_name, with_ending, text_of};
-ghost use Rattle.bt_job.specs.inner.FileNames.{file_name_of, has_ending, met_before, name_fault};
+ghost use Rattle.bt_job.specs.FileNames.{is_file_name_byte, is_file_name, with_ending, file_name_of, text_of};
+ghost use Rattle.bt_job.specs.inner.FileNames.{has_ending, met_before, name_fault};
 
 use crate::files::File;
 use crate::reader::Reader;
@@ -69,8 +69,8 @@ fn with_ending(alloc: Global, ending: &[u8], name: &[u8]) -> Result<Bytes, Alloc
     }
 }
 
-/// The name that a part of a command stands for.
-pub fn named_by(alloc: Global, command: Command, part: &[u8]) -> Result<Bytes, AllocError>
+/// The file's name for which a part of a command stands; a key stands for itself. The only error is out of memory.
+pub fn file_name_of(alloc: Global, command: Command, part: &[u8]) -> Result<Bytes, AllocError>
     ensures { IfOk result (λ name. name ≡ file_name_of command part.now) }
 {
     match command {

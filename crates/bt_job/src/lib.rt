@@ -13,6 +13,6 @@ mod reader;
 
 pub use aux_texts::AuxTexts;
 pub use citations::Citations;
-pub use file_names::{FILE_NAME_BYTES, is_file_name, owned_text_of, text_of};
+pub use file_names::{FILE_NAME_BYTES, file_name_of, is_file_name, owned_text_of, text_of};
 pub use files::File;
 pub use nested_files::read_citations;

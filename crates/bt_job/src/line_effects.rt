@@ -6,10 +6,10 @@
 ghost use Rattle.std.specs.Prelude.{◌≡◌, ◌++◌, codes, IfOk};
 ghost use Rattle.bt_log.specs.declared.message.Said.TheVariants.{Words, OfFile};
 ghost use Rattle.bt_job.specs.declared.progress.Outcome.TheVariants.{Wrong};
-ghost use Rattle.bt_job.specs.inner.LineEffects.{told, cited_all, cited_key, cited_part, file_kind, file_found, looked_up, named, part_taken, argument_words};
+ghost use Rattle.bt_job.specs.inner.LineEffects.{cited_all, cited_part, file_kind, file_found, named, part_taken, argument_words};
 ghost use Rattle.bt_job.specs.inner.LineEffects.{fault_outcome, is_second, second_words, command_met, item_taken};
 
-use crate::file_names::{named_by, text_of};
+use crate::file_names::{file_name_of, text_of};
 use crate::files::File;
 use crate::progress::Outcome;
 use crate::reader::Reader;
@@ -181,7 +181,7 @@ impl Reader {
         match command {
             Command::Citation => self.cite(part),
             Command::Database | Command::Style | Command::Nested => {
-                let name = named_by(self.alloc, command, part)?;
+                let name = file_name_of(self.alloc, command, part)?;
                 self.take_name(files, command, name.as_slice())
             }
         }

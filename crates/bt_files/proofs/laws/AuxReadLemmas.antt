@@ -18,8 +18,8 @@ use Rattle.bt_bib.specs.AuxArgument.{ends_argument, inside, parts_in, parts_kept
 use Rattle.bt_bib.specs.inner.Cases.{is_comma, if_counted}
 use Rattle.bt_bib.specs.AuxLine.{opening_of, command_of, parting, item, items_from}
 use Rattle.bt_text.specs.White.{trimmed_end}
-use Rattle.bt_job.specs.FileNames.{is_file_name_byte, with_ending}
-use Rattle.bt_files.specs.AuxText.{name_of, part_with, item_with}
+use Rattle.bt_job.specs.FileNames.{is_file_name_byte, with_ending, file_name_of}
+use Rattle.bt_files.specs.AuxText.{part_with, item_with}
 use Rattle.bt_files.specs.laws.AuxText.{is_part_byte, is_part, is_part_count, IsWritableItem, IsWritableFrom, has_name_bytes, GivesNames}
 use Rattle.bt_files.proofs.laws.AuxTextLemmas.{Endless}
 
@@ -120,7 +120,7 @@ ended_part p ending name is ends = by_test (ends_with eqb name ending)
     by_test true = is
     by_test false = longer_part p name ending is ends
 
-named_part : (c : Command) (part : List ℕ) → is_part (parting c) part ≡ true → is_part (parting c) (name_of c part) ≡ true
+named_part : (c : Command) (part : List ℕ) → is_part (parting c) part ≡ true → is_part (parting c) (file_name_of c part) ≡ true
 named_part Citation part is = is
 named_part Database part is = ended_part Commas (codes ".bib") part is refl
 named_part Style part is = ended_part Whole (codes ".bst") part is refl
@@ -131,9 +131,9 @@ given_part f gives p name is = elim (gives name) [ inl same ↦ ap (is_part p) s
 
 renamed_part : (f : List ℕ → List ℕ) → GivesNames f → (c : Command) (part : List ℕ) → is_part (parting c) part ≡ true → is_part (parting c) (part_with f c part) ≡ true
 renamed_part f gives Citation part is = is
-renamed_part f gives Database part is = given_part f gives Commas (name_of Database part) (named_part Database part is)
-renamed_part f gives Style part is = given_part f gives Whole (name_of Style part) (named_part Style part is)
-renamed_part f gives Nested part is = given_part f gives Whole (name_of Nested part) (named_part Nested part is)
+renamed_part f gives Database part is = given_part f gives Commas (file_name_of Database part) (named_part Database part is)
+renamed_part f gives Style part is = given_part f gives Whole (file_name_of Style part) (named_part Style part is)
+renamed_part f gives Nested part is = given_part f gives Whole (file_name_of Nested part) (named_part Nested part is)
 
 renamed_item : (f : List ℕ → List ℕ) → GivesNames f → (i : AuxItem) → IsWritableItem i → IsWritableItem (item_with f i)
 renamed_item f gives i is = record {

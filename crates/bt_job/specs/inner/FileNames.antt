@@ -5,14 +5,7 @@ use Rattle.bt_bib.specs.declared.aux_line.Command.{Command}
 use Rattle.bt_bib.specs.declared.aux_line.Command.TheVariants.{Citation, Database, Style, Nested}
 use Rattle.bt_log.specs.declared.message.FileNote.{FileNote}
 use Rattle.bt_log.specs.declared.message.FileNote.TheVariants.{DatabaseTwice, AuxTwice, WrongExtension, BadFileName}
-use Rattle.bt_job.specs.FileNames.{is_file_name, is_among, with_ending}
-
--- the name that a part of a command stands for
-abbrev pub file_name_of : Command → List ℕ → List ℕ
-file_name_of Database part = with_ending (codes ".bib") part
-file_name_of Style part = with_ending (codes ".bst") part
-file_name_of Nested part = part
-file_name_of Citation part = part
+use Rattle.bt_job.specs.FileNames.{is_file_name, is_among}
 
 -- whether a name has the ending that a command asks for
 abbrev pub has_ending : Command → List ℕ → Bool

@@ -23,7 +23,8 @@ use Rattle.bt_job.specs.declared.progress.Progress.{Progress}
 use Rattle.bt_job.specs.declared.progress.Outcome.{Outcome}
 use Rattle.bt_job.specs.declared.progress.Outcome.TheVariants.{Taken, Wrong, Opens}
 use Rattle.bt_job.specs.FileNames.{with_name, text_of}
-use Rattle.bt_job.specs.inner.FileNames.{file_name_of, name_fault}
+use Rattle.bt_job.specs.FileNames.{file_name_of}
+use Rattle.bt_job.specs.inner.FileNames.{name_fault}
 
 -- with a message after the others
 abbrev pub told : Message → Progress → Progress
