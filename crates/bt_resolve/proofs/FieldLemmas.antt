@@ -16,7 +16,8 @@ use Rattle.bt_text.specs.NameList.{has_name, are_apart}
 use Rattle.bt_resolve.specs.Names.{crossref, place_of_name}
 use Rattle.bt_resolve.specs.Values.{MacroTexts, field_value, value_warnings}
 use Rattle.bt_resolve.specs.Warnings.{line_of}
-use Rattle.bt_resolve.specs.Fields.{given_value, own_value, is_declared, has_field, field_messages, declared_messages, fields_messages}
+use Rattle.bt_resolve.specs.Fields.{given_value, field_messages, fields_messages}
+use Rattle.bt_resolve.specs.inner.Cases.{own_value, is_declared, has_field, declared_messages}
 use Rattle.bt_resolve.specs.inner.Slots.{slot_of, given_by, is_filled, is_filled_at, fill, with_field, extra_messages, slot_messages}
 
 -- names that match are found alike

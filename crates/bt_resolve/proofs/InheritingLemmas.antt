@@ -8,7 +8,8 @@ use Rattle.std.proofs.lemmas.Bool.Decides.{Decides-eqb}
 use Rattle.bt_resolve.specs.declared.asked.Asked.{Asked}
 use Rattle.bt_resolve.specs.declared.stored.Stored.{Stored}
 use Rattle.bt_resolve.specs.Listed.{listed}
-use Rattle.bt_resolve.specs.Inherited.{inherited, values_of, parent_at, inherits, values_after, entries_by, entries_seen}
+use Rattle.bt_resolve.specs.Inherited.{inherited, values_after, entries_seen}
+use Rattle.bt_resolve.specs.inner.Cases.{values_of, parent_at, inherits, entries_by}
 use Rattle.bt_resolve.specs.inner.Inheritance.{inherits_from, inherits_at, all_inherit, values_read}
 
 abbrev Values : Type 0

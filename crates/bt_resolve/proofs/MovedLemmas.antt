@@ -11,7 +11,8 @@ use Rattle.bt_log.specs.declared.message.Said.TheVariants.{Words}
 use Rattle.bt_log.specs.declared.message.Message.{Message}
 use Rattle.bt_log.specs.declared.message.Place.TheVariants.{DatabaseLine}
 use Rattle.bt_log.specs.Message.{skipping}
-use Rattle.bt_resolve.specs.Faults.{fault_error, fault_messages, fault_words, dropped_name, unclosed, key_of}
+use Rattle.bt_resolve.specs.Faults.{fault_error, fault_words, dropped_name}
+use Rattle.bt_resolve.specs.inner.Cases.{fault_messages, unclosed, key_of}
 
 same_unclosed : (m : Spot) (c : Content) (close : Option Closing) → unclosed (moved_content m c) close ≡ unclosed c close
 same_unclosed m (contents.Entry e) close = refl

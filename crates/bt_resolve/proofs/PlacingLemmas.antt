@@ -8,16 +8,17 @@ use Rattle.bt_resolve.specs.declared.declared.Macro.{Macro}
 use Rattle.bt_log.specs.declared.message.Message.{Message}
 use Rattle.bt_resolve.specs.declared.stored.Stored.{Stored}
 use Rattle.bt_resolve.specs.Values.{MacroTexts}
-use Rattle.bt_resolve.specs.Macros.{with_content, macro_before}
-use Rattle.bt_resolve.specs.Stored.{with_item, stored_among}
-use Rattle.bt_resolve.specs.Messages.{for_each, preamble_at, preamble_of, messages_at, item_messages, database_messages}
+use Rattle.bt_resolve.specs.Macros.{macro_before}
+use Rattle.bt_resolve.specs.inner.Cases.{with_content, preamble_at, preamble_of, messages_at, resolved_by, with_item}
+use Rattle.bt_resolve.specs.Stored.{stored_among}
+use Rattle.bt_resolve.specs.Messages.{for_each, item_messages, database_messages}
 use Rattle.bt_resolve.specs.inner.Databases.{State, after_item, after_items, after_databases, nothing_read}
 use Rattle.std.specs.List.{flat_map}
 use Rattle.bt_resolve.specs.Listed.{listed}
 use Rattle.bt_resolve.specs.References.{reference_messages, missing_messages, list_messages}
 use Rattle.bt_resolve.specs.declared.entry.Resolved.{Resolved}
 use Rattle.bt_resolve.specs.Inherited.{entries_seen}
-use Rattle.bt_resolve.specs.Resolved.{all_items, stored_entries, preamble, messages, resolved_by}
+use Rattle.bt_resolve.specs.Resolved.{all_items, stored_entries, preamble, messages}
 
 -- the state stands after these items, the last of them first
 pub record StandsBehind (a : Asked) (ms : List Macro) (before : List Item) (s : State) : Type 0 where

@@ -8,7 +8,8 @@ use Rattle.bt_text.specs.ByName.{by_small, known, listed, with_entry}
 use Rattle.bt_text.proofs.NameLemmas.{more_by_small, absent_by_small, values_by_small, by_small_again}
 use Rattle.bt_resolve.specs.declared.stored.Stored.{Stored}
 use Rattle.bt_resolve.specs.Values.{is_named}
-use Rattle.bt_resolve.specs.Stored.{is_stored, is_referred_to}
+use Rattle.bt_resolve.specs.Stored.{is_stored}
+use Rattle.bt_resolve.specs.inner.Cases.{is_referred_to}
 use Rattle.bt_resolve.specs.inner.Store.{IsIndexed, stored_in, with_reference}
 
 abbrev key_of : Stored → List ℕ

@@ -39,38 +39,29 @@ unclosed_entry sign = codes "I was expecting a `,' or a `" ++ sign ++ codes "'"
 unfoldable pub unclosed_command : List ℕ → List ℕ → List ℕ
 unclosed_command name sign = codes "Missing \"" ++ sign ++ codes "\" in " ++ name ++ codes " command"
 
-abbrev pub unclosed : Content → Option Closing → List ℕ
-unclosed (contents.Entry e) close = unclosed_entry (sign_of close ∷ [])
-unclosed (contents.Define d) close = unclosed_command (codes "string") (sign_of close ∷ [])
-unclosed (contents.Preamble parts) close = unclosed_command (codes "preamble") (sign_of close ∷ [])
-
 unfoldable pub fault_words : Content → Option Closing → ItemFault → List ℕ
 fault_words content close EndOfFile = codes "Illegal end of database file"
 fault_words content close (MissingName what) = codes "You're missing " ++ what_name what
 fault_words content close (BadNameEnd what byte) =
     codes "\"" ++ (byte ∷ []) ++ codes "\" immediately follows " ++ what_name what
 fault_words content close ExpectedOpen = codes "I was expecting a `{' or a `('"
-fault_words content close ExpectedCommaOrClose = unclosed content close
+fault_words content close ExpectedCommaOrClose =
+    (let sign = sign_of close ∷ [] in
+    elim content [
+      | contents.Entry e ↦ unclosed_entry sign
+      | contents.Define d ↦ unclosed_command (codes "string") sign
+      | contents.Preamble parts ↦ unclosed_command (codes "preamble") sign
+    ])
 fault_words content close ExpectedEquals = codes "I was expecting an `='"
 fault_words content close UnbalancedBraces = codes "Unbalanced braces"
 fault_words content close MissingPart = codes "You're missing a field part"
 
--- the key of an entry, if it has one
-abbrev pub key_of : Content → Option (List ℕ)
-key_of (contents.Entry e) = e.key
-key_of (contents.Define d) = None
-key_of (contents.Preamble parts) = None
-
--- the error of a fault at a place of a database
+-- the error of a fault at a place of a database. It names the entry, if it has a key.
 abbrev pub fault_error : ℕ → Spot → Content → Option Closing → ItemFault → Message
 fault_error database end content close fault =
     record (skipping (Words (fault_words content close fault)) (DatabaseLine database end.line (Some end.place))
-    (dropped_name content)) { entry = key_of content }
-
--- the error of an item with a fault, at the fault's place
-abbrev pub fault_messages : ℕ → Spot → Content → Option Closing → Option ItemFault → List Message
-fault_messages database end content close None = []
-fault_messages database end content close (Some fault) = fault_error database end content close fault ∷ []
+    (dropped_name content))
+    { entry = elim content [ contents.Entry e ↦ e.key | contents.Define d ↦ None | contents.Preamble parts ↦ None ] }
 
 abbrev pub repeated : BibLine → List ℕ → Message
 repeated place key =

@@ -1,5 +1,5 @@
 -- What the fields of an entry give, and the warnings about them.
-use Rattle.std.specs.Prelude.{ℕ, Bool, ◌||◌, List, [], ◌∷◌, ◌++◌, map, find, Option, None, option_map, if◌then◌else◌}
+use Rattle.std.specs.Prelude.{ℕ, ◌||◌, List, [], ◌∷◌, ◌++◌, find, Option, None, option_map, if◌then◌else◌}
 use Rattle.std.specs.List.{list_any}
 use Rattle.bt_text.specs.CaseFolding.{is_same_folded}
 use Rattle.bt_bib.specs.declared.item.Field.{Field}
@@ -14,33 +14,19 @@ unfoldable pub given_value : MacroTexts → List Field → List ℕ → Option (
 given_value macros fields name =
     option_map (λ (f : Field). field_value macros f.value) (find (λ (f : Field). is_same_folded f.name name) fields)
 
--- what they give for a declared name. `crossref` is kept apart, and not inherited.
-abbrev pub own_value : MacroTexts → List Field → List ℕ → Option (List ℕ)
-own_value macros fields name = if is_same_folded name crossref then None else given_value macros fields name
-
-abbrev pub own_values : List (List ℕ) → MacroTexts → List Field → List (Option (List ℕ))
-own_values declared macros fields = map (own_value macros fields) declared
-
--- `crossref` is always declared
-abbrev pub is_declared : List (List ℕ) → List ℕ → Bool
-is_declared declared name = is_same_folded name crossref || has_name declared name
-
-abbrev pub has_field : List Field → List ℕ → Bool
-has_field fields name = list_any (λ (f : Field). is_same_folded f.name name) fields
-
 -- of a declared field: its value's warnings, and that a field of its name stands before it
 abbrev pub field_messages : MacroTexts → ℕ → List ℕ → List Field → Field → List Message
 field_messages macros database key before f =
     value_warnings None macros (line_of database f.line) f.name f.value
-    ++ (if has_field before f.name then extra_field (line_of database f.line) key f.name ∷ [] else [])
+    ++ (if list_any (λ (g : Field). is_same_folded g.name f.name) before
+    then extra_field (line_of database f.line) key f.name ∷ []
+    else [])
 
-abbrev pub declared_messages : List (List ℕ) → MacroTexts → ℕ → List ℕ → List Field → Field → List Message
-declared_messages declared macros database key before f =
-    if is_declared declared f.name then field_messages macros database key before f else []
-
--- of the fields after those before
+-- of the fields after those before; `crossref` is always declared
 abbrev pub fields_messages : List (List ℕ) → MacroTexts → ℕ → List ℕ → List Field → List Field → List Message
 fields_messages declared macros database key before [] = []
 fields_messages declared macros database key before (f ∷ fs) =
-    declared_messages declared macros database key before f
+    (if is_same_folded f.name crossref || has_name declared f.name
+    then field_messages macros database key before f
+    else [])
     ++ fields_messages declared macros database key (before ++ f ∷ []) fs

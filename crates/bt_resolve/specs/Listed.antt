@@ -15,12 +15,8 @@ place_of_key stored key = first_place (λ (s : Stored). is_same_folded s.key key
 abbrev pub parent_of : List Stored → Stored → Option ℕ
 parent_of stored s = option_and_then (place_of_key stored) s.crossref
 
-abbrev pub is_cited : List (List ℕ) → Option Stored → Bool
-is_cited keys None = false
-is_cited keys (Some s) = has_name keys s.key
-
 abbrev pub is_cited_at : List (List ℕ) → List Stored → ℕ → Bool
-is_cited_at keys stored p = is_cited keys (slice_get stored p)
+is_cited_at keys stored p = elim (slice_get stored p) [ None ↦ false | Some s ↦ has_name keys s.key ]
 
 abbrev pub is_among : List ℕ → ℕ → Bool
 is_among places p = list_any (λ q. q == p) places
@@ -34,24 +30,17 @@ firsts seen (p ∷ ps) = if is_among seen p then firsts seen ps else p ∷ first
 abbrev pub cited_places : List (List ℕ) → List Stored → List ℕ
 cited_places keys stored = filter_map (place_of_key stored) keys
 
--- the entries that stored entries refer to, in the order of the referring ones
-abbrev pub parents : List Stored → List ℕ
-parents stored = filter_map (parent_of stored) stored
-
--- the uncited ones of them, each where it is first referred to
+-- the uncited entries that stored ones refer to, each where it is first referred to
 abbrev pub uncited_parents : List (List ℕ) → List Stored → List ℕ
-uncited_parents keys stored = firsts [] (filter (λ p. not (is_cited_at keys stored p)) (parents stored))
-
--- all stored entries but these, in the order of the databases
-abbrev pub others_than : List ℕ → List Stored → List ℕ
-others_than these stored = filter (λ p. not (is_among these p)) (range_with_len 0 (length stored))
-
-abbrev pub listed_by : List (List ℕ) → Option ℕ → List Stored → List ℕ
-listed_by keys None stored = cited_places keys stored ++ uncited_parents keys stored
-listed_by keys (Some before) stored =
-    cited_places (take before keys) stored ++ others_than (cited_places (take before keys) stored) stored
+uncited_parents keys stored =
+    firsts [] (filter (λ p. not (is_cited_at keys stored p)) (filter_map (parent_of stored) stored))
 
 -- The cited keys that have an entry, then the uncited entries in the order in which stored ones first refer to them.
 -- With `*`: the keys before it, then all others in the order of the databases.
 unfoldable pub listed : Asked → List Stored → List ℕ
-listed a stored = listed_by a.keys a.star stored
+listed a stored = elim a.star [
+  | None ↦ cited_places a.keys stored ++ uncited_parents a.keys stored
+  | Some before ↦
+      (let cited = cited_places (take before a.keys) stored in
+      cited ++ filter (λ p. not (is_among cited p)) (range_with_len 0 (length stored)))
+]

@@ -1,8 +1,6 @@
 -- What macros stand for, and the items that define them.
-use Rattle.std.specs.Prelude.{ℕ, List, [], ◌∷◌, Option, Some, None}
+use Rattle.std.specs.Prelude.{List, [], ◌∷◌, Option, Some, None}
 use Rattle.bt_bib.specs.declared.fault.ItemFault.{ItemFault}
-use Rattle.bt_bib.specs.declared.item.Part.{Part}
-use Rattle.bt_bib.specs.declared.item.Content.{Content}
 use Rattle.bt_bib.specs.declared.item.Content.TheVariants as contents
 use Rattle.bt_bib.specs.declared.item.Item.{Item}
 use Rattle.bt_resolve.specs.declared.declared.Macro.{Macro}
@@ -19,19 +17,20 @@ abbrev pub faultless : {A : Type 0} → Option ItemFault → Option A → Option
 faultless None value = value
 faultless (Some fault) value = None
 
--- the macros after a string, from those before it
-abbrev pub with_string : Option (List ℕ) → Option (List Part) → MacroTexts → MacroTexts
-with_string None parts macros = macros
-with_string (Some name) None macros = macros
-with_string (Some name) (Some parts) macros = with_value name (value (others (Some name) macros) parts) macros
-
-abbrev pub with_content : Option ItemFault → Content → MacroTexts → MacroTexts
-with_content fault (contents.Define d) macros = with_string d.name (faultless fault d.value) macros
-with_content fault (contents.Entry e) macros = macros
-with_content fault (contents.Preamble parts) macros = macros
-
 -- A macro before an item, the items before it given from the last one back: the value of the last faultless string of
 -- its name, else the style's, else none.
 unfoldable pub macro_before : List Macro → List Item → MacroTexts
 macro_before macros [] = style_macro macros
-macro_before macros (item ∷ before) = with_content item.fault item.content (macro_before macros before)
+macro_before macros (item ∷ before) =
+    let known = macro_before macros before in
+    elim item.content [
+      | contents.Define d ↦ elim d.name [
+        | None ↦ known
+        | Some name ↦ elim (faultless item.fault d.value) [
+          | None ↦ known
+          | Some parts ↦ with_value name (value (others (Some name) known) parts) known
+        ]
+      ]
+      | contents.Entry e ↦ known
+      | contents.Preamble parts ↦ known
+    ]

@@ -28,22 +28,20 @@ nested key parent =
 abbrev pub no_entry : List ℕ → Message
 no_entry key = about Warning key (codes "Warning--I didn't find a database entry for \"" ++ key ++ codes "\"") None
 
-abbrev pub parent_messages : List ℕ → List ℕ → Option Stored → List Message
-parent_messages key name None = bad_reference key name ∷ []
-parent_messages key name (Some parent) = if is_some parent.crossref then nested key name ∷ [] else []
-
-abbrev pub crossref_messages : List Stored → List ℕ → Option (List ℕ) → List Message
-crossref_messages stored key None = []
-crossref_messages stored key (Some name) =
-    parent_messages key name (option_and_then (slice_get stored) (place_of_key stored name))
-
-abbrev pub entry_messages : List (List ℕ) → List Stored → Option Stored → List Message
-entry_messages keys stored None = []
-entry_messages keys stored (Some s) = crossref_messages stored (key_spelled keys s.key) s.crossref
-
 -- of an entry of the list, by its `crossref` as read
 unfoldable pub reference_messages : List (List ℕ) → List Stored → ℕ → List Message
-reference_messages keys stored p = entry_messages keys stored (slice_get stored p)
+reference_messages keys stored p = elim (slice_get stored p) [
+  | None ↦ []
+  | Some s ↦ elim s.crossref [
+    | None ↦ []
+    | Some name ↦
+        (let key = key_spelled keys s.key in
+        elim (option_and_then (slice_get stored) (place_of_key stored name)) [
+          | None ↦ bad_reference key name ∷ []
+          | Some parent ↦ if is_some parent.crossref then nested key name ∷ [] else []
+        ])
+  ]
+]
 
 -- of a cited key
 unfoldable pub missing_messages : List Stored → List ℕ → List Message

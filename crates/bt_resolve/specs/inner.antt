@@ -9,3 +9,4 @@ pub mod Store
 pub mod Inheritance
 pub mod Family
 pub mod Databases
+pub mod Cases

@@ -1,7 +1,7 @@
 //! What items are looked up in: the declared fields and types, and the cited keys.
 
 ghost use Rattle.std.specs.Prelude.{◌≡◌, IfOk};
-ghost use Rattle.bt_resolve.specs.Resolved.{asked};
+ghost use Rattle.bt_resolve.specs.inner.Cases.{asked};
 
 use crate::declared::{Cites, Declared};
 use crate::index::Index;

@@ -1,6 +1,6 @@
 //! Entries as they are read: which are stored, and as what.
 
-ghost use Rattle.std.specs.Prelude.{◌≡◌, ◌++◌, ◌∷◌, [], All, IfOk, IsTrue, OnOk, map};
+ghost use Rattle.std.specs.Prelude.{◌≡◌, ◌++◌, [], All, IfOk, IsTrue, OnOk, map};
 ghost use Rattle.bt_bib.specs.Moved.{moved_entry, moved_field, nowhere};
 ghost use Rattle.bt_bib.specs.Shift.{FitsField, FitsLine};
 ghost use Rattle.bt_text.specs.ByName.{known};
@@ -8,9 +8,10 @@ ghost use Rattle.bt_text.specs.CaseFolding.{folded};
 ghost use Rattle.bt_resolve.specs.Fields.{fields_messages};
 ghost use Rattle.bt_resolve.specs.inner.Entries.{standing_of};
 ghost use Rattle.bt_resolve.specs.inner.Slots.{given_by};
-ghost use Rattle.bt_resolve.specs.Messages.{key_messages, stored_messages, type_messages};
+ghost use Rattle.bt_resolve.specs.Messages.{stored_messages};
+ghost use Rattle.bt_resolve.specs.inner.Cases.{key_messages, type_messages, with_entry};
 ghost use Rattle.bt_text.specs.NameList.{are_apart};
-ghost use Rattle.bt_resolve.specs.Stored.{is_wanted, kind_of, stored_of, with_entry};
+ghost use Rattle.bt_resolve.specs.Stored.{is_wanted, kind_of, stored_of};
 ghost use Rattle.bt_resolve.specs.inner.Warnings.{line_at};
 
 use crate::faults::repeated;

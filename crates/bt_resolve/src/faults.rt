@@ -3,7 +3,8 @@
 ghost use Rattle.std.specs.Prelude.{◌≡◌, ◌++◌, IfOk, OnOk, codes};
 ghost use Rattle.bt_bib.specs.Moved.{moved, moved_content, nowhere};
 ghost use Rattle.bt_bib.specs.Shift.{FitsSpot};
-ghost use Rattle.bt_resolve.specs.Faults.{dropped_name, fault_error, fault_messages, fault_words, key_of, repeated, sign_of, unclosed, unclosed_command, unclosed_entry, what_name};
+ghost use Rattle.bt_resolve.specs.Faults.{dropped_name, fault_error, fault_words, repeated, sign_of, unclosed_command, unclosed_entry, what_name};
+ghost use Rattle.bt_resolve.specs.inner.Cases.{fault_messages, key_of, unclosed};
 
 use crate::messages::add_message;
 use crate::place::Origin;

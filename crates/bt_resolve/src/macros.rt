@@ -4,8 +4,9 @@ ghost use Rattle.std.specs.Prelude.{◌≡◌, ◌++◌, option_copied, IfOk, On
 ghost use Rattle.bt_bib.specs.Moved.{moved_value, nowhere};
 ghost use Rattle.bt_bib.specs.Shift.{FitsLine, FitsValue};
 ghost use Rattle.bt_text.specs.ByName.{known};
-ghost use Rattle.bt_resolve.specs.Macros.{faultless, style_macro, with_string};
-ghost use Rattle.bt_resolve.specs.Messages.{preamble_messages, preamble_value, string_messages};
+ghost use Rattle.bt_resolve.specs.Macros.{faultless, style_macro};
+ghost use Rattle.bt_resolve.specs.inner.Cases.{with_string, preamble_value};
+ghost use Rattle.bt_resolve.specs.Messages.{preamble_messages, string_messages};
 ghost use Rattle.bt_resolve.specs.inner.Warnings.{line_at};
 
 use crate::declared::Macro;

@@ -4,7 +4,8 @@ ghost use Rattle.std.specs.Prelude.{◌≡◌, Some, None, ◌++◌, option_and_
 ghost use Rattle.std.specs.List.{flat_map};
 ghost use Rattle.bt_resolve.specs.Inherited.{key_spelled};
 ghost use Rattle.bt_resolve.specs.Listed.{place_of_key};
-ghost use Rattle.bt_resolve.specs.References.{about, bad_reference, crossref_messages, entry_messages, missing_messages, nested, no_entry, parent_messages, reference_messages};
+ghost use Rattle.bt_resolve.specs.References.{about, bad_reference, missing_messages, nested, no_entry, reference_messages};
+ghost use Rattle.bt_resolve.specs.inner.Cases.{crossref_messages, entry_messages, parent_messages};
 
 use crate::family::Family;
 use crate::messages::add_message;

@@ -8,7 +8,8 @@ ghost use Rattle.bt_resolve.specs.inner.Databases.{nothing_read, state_of};
 ghost use Rattle.bt_resolve.specs.Listed.{listed};
 ghost use Rattle.bt_text.specs.NameList.{are_apart};
 ghost use Rattle.bt_resolve.specs.References.{list_messages};
-ghost use Rattle.bt_resolve.specs.Resolved.{resolved, resolved_by};
+ghost use Rattle.bt_resolve.specs.Resolved.{resolved};
+ghost use Rattle.bt_resolve.specs.inner.Cases.{resolved_by};
 
 use crate::asked::Asked;
 use crate::databases::{nothing_read, read_databases};

@@ -1,11 +1,12 @@
 //! The entries that are stored, with what is looked up in them.
 
 ghost use Rattle.std.specs.Prelude.{◌≡◌, ◌++◌, ◌∷◌, [], ℕ, List, Option, false, option_map, IfOk, OnOk, OnErr};
-ghost use Rattle.bt_text.specs.ByName.{HasRoom, known, listed};
+ghost use Rattle.bt_text.specs.ByName.{HasRoom, known};
 ghost use Rattle.bt_text.specs.CaseFolding.{folded};
 ghost use Rattle.bt_resolve.specs.Listed.{place_of_key};
 ghost use Rattle.bt_resolve.specs.inner.Store.{with_reference};
-ghost use Rattle.bt_resolve.specs.Stored.{is_referred_to, is_stored};
+ghost use Rattle.bt_resolve.specs.Stored.{is_stored};
+ghost use Rattle.bt_resolve.specs.inner.Cases.{is_referred_to};
 
 use crate::stored::Stored;
 use bt_text::{ByName, to_ascii_lowercase};

@@ -5,7 +5,8 @@ ghost use Rattle.std.specs.List.{flat_map};
 ghost use Rattle.bt_bib.specs.Moved.{moved_part, nowhere};
 ghost use Rattle.bt_bib.specs.Shift.{FitsLine, FitsPart};
 ghost use Rattle.bt_text.specs.ByName.{known};
-ghost use Rattle.bt_resolve.specs.Values.{joined_or_empty, is_named, is_too_long, joined_parts, length_warnings, macro_warnings, others, part_text, part_warnings, value, value_warnings, within_limit, without_first_space, without_last_space};
+ghost use Rattle.bt_resolve.specs.Values.{is_named, joined_parts, others, part_warnings, value, value_warnings, within_limit, without_first_space, without_last_space};
+ghost use Rattle.bt_resolve.specs.inner.Cases.{joined_or_empty, is_too_long, length_warnings, macro_warnings, part_text};
 ghost use Rattle.bt_resolve.specs.inner.Values.{with_part};
 ghost use Rattle.bt_resolve.specs.inner.Warnings.{line_at};
 

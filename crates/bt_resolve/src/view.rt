@@ -1,8 +1,9 @@
 //! The entries that the style sees.
 
-ghost use Rattle.std.specs.Prelude.{◌≡◌, ◌++◌, ◌∷◌, [], slice_get, IfOk, OnOk};
+ghost use Rattle.std.specs.Prelude.{◌≡◌, ◌++◌, ◌∷◌, [], IfOk, OnOk};
 ghost use Rattle.std.specs.List.{slice_index_or};
-ghost use Rattle.bt_resolve.specs.Inherited.{entries_by, entry_at, entry_seen, final_crossref, is_left_out, with_crossref};
+ghost use Rattle.bt_resolve.specs.Inherited.{entry_seen, final_crossref, is_left_out};
+ghost use Rattle.bt_resolve.specs.inner.Cases.{entries_by, entry_at, with_crossref};
 ghost use Rattle.bt_resolve.specs.Names.{crossref, place_of_name};
 ghost use Rattle.bt_resolve.specs.inner.Inheritance.{all_inherit, values_read};
 

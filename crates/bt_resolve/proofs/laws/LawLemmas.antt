@@ -13,9 +13,10 @@ use Rattle.bt_resolve.specs.declared.stored.Stored.{Stored}
 use Rattle.bt_text.specs.ByName.{first_place}
 use Rattle.bt_resolve.specs.Macros.{macro_before}
 use Rattle.bt_resolve.specs.Values.{MacroTexts}
-use Rattle.bt_resolve.specs.Stored.{stored_of, is_wanted, is_stored, with_entry, with_item, stored_among}
-use Rattle.bt_resolve.specs.Listed.{place_of_key, parent_of, is_cited_at, is_among, firsts, cited_places, parents, uncited_parents, listed_by, listed}
-use Rattle.bt_resolve.specs.Inherited.{inherits, values_after}
+use Rattle.bt_resolve.specs.Stored.{stored_of, is_wanted, is_stored, stored_among}
+use Rattle.bt_resolve.specs.Listed.{place_of_key, parent_of, is_cited_at, is_among, firsts, cited_places, uncited_parents, listed}
+use Rattle.bt_resolve.specs.Inherited.{values_after}
+use Rattle.bt_resolve.specs.inner.Cases.{inherits, parents, listed_by, with_entry, with_item}
 use Rattle.bt_resolve.specs.Resolved.{resolved, stored_entries, all_items}
 use Rattle.bt_resolve.proofs.FieldLemmas.{or_false}
 use Rattle.bt_resolve.specs.laws.Laws.{MessagesForEachMin, ListedAreStored, WantedInTurn, StoredAreWanted, KeysApart, StoredKeysApart, NothingInherited}

@@ -8,10 +8,10 @@ use Rattle.bt_resolve.specs.declared.stored.Stored.{Stored}
 use Rattle.bt_resolve.specs.declared.reading.Reading.{Reading}
 use Rattle.bt_text.specs.ByName.{known}
 use Rattle.bt_resolve.specs.Values.{MacroTexts}
-use Rattle.bt_resolve.specs.Macros.{style_macro, with_content}
-use Rattle.bt_resolve.specs.Stored.{with_item}
+use Rattle.bt_resolve.specs.Macros.{style_macro}
+use Rattle.bt_resolve.specs.inner.Cases.{with_content, preamble_of, content_messages, with_item}
 use Rattle.bt_resolve.specs.Warnings.{line_of}
-use Rattle.bt_resolve.specs.Messages.{preamble_of, content_messages, item_messages}
+use Rattle.bt_resolve.specs.Messages.{item_messages}
 
 -- what was read, with the macros as a function
 pub record State : Type 0 where

@@ -2,7 +2,8 @@
 use Rattle.std.specs.Prelude.{ℕ, List, [], ◌∷◌, Option, Some, None, slice_set, map}
 use Rattle.std.specs.List.{slice_index_or}
 use Rattle.bt_resolve.specs.declared.stored.Stored.{Stored}
-use Rattle.bt_resolve.specs.Inherited.{inherited, parent_at}
+use Rattle.bt_resolve.specs.Inherited.{inherited}
+use Rattle.bt_resolve.specs.inner.Cases.{parent_at}
 
 abbrev pub inherits_from : Option ℕ → ℕ → List (List (Option (List ℕ))) → List (List (Option (List ℕ)))
 inherits_from None p values = values

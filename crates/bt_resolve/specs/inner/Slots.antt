@@ -9,7 +9,8 @@ use Rattle.bt_resolve.specs.declared.fields.Given.{Given}
 use Rattle.bt_resolve.specs.Names.{crossref, place_of_name}
 use Rattle.bt_resolve.specs.Warnings.{line_of, extra_field}
 use Rattle.bt_resolve.specs.Values.{MacroTexts, value_warnings}
-use Rattle.bt_resolve.specs.Fields.{given_value, own_values}
+use Rattle.bt_resolve.specs.Fields.{given_value}
+use Rattle.bt_resolve.specs.inner.Cases.{own_values}
 
 -- the slot of a field, if it is declared
 abbrev pub slot_of : List (List ℕ) → List ℕ → Option Slot

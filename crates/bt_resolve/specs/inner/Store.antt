@@ -4,7 +4,7 @@ use Rattle.bt_text.specs.declared.by_name.ByName.{ByName}
 use Rattle.bt_text.specs.ByName.{by_small, known, listed}
 use Rattle.bt_text.specs.CaseFolding.{folded}
 use Rattle.bt_resolve.specs.declared.stored.Stored.{Stored}
-use Rattle.bt_resolve.specs.Stored.{is_referred_to}
+use Rattle.bt_resolve.specs.inner.Cases.{is_referred_to}
 
 -- the entries of a table, in its order
 abbrev pub stored_in : ByName Stored → List Stored

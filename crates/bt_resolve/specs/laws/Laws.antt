@@ -13,7 +13,8 @@ use Rattle.bt_resolve.specs.declared.stored.Stored.{Stored}
 use Rattle.std.specs.Prelude.{slice_get}
 use Rattle.bt_resolve.specs.Stored.{is_wanted}
 use Rattle.bt_resolve.specs.Listed.{listed}
-use Rattle.bt_resolve.specs.Inherited.{values_of, values_after}
+use Rattle.bt_resolve.specs.Inherited.{values_after}
+use Rattle.bt_resolve.specs.inner.Cases.{values_of}
 use Rattle.bt_resolve.specs.Resolved.{resolved, stored_entries}
 
 -- the messages are the same for each least number of references

@@ -1,6 +1,6 @@
 use Rattle.std.proofs.Common.{◌≡◌, ℕ, take, count_by}
 use Rattle.bt_resolve.specs.inner.Family.{count_at}
-use Rattle.bt_resolve.specs.Inherited.{is_place}
+use Rattle.bt_resolve.specs.inner.Cases.{is_place}
 use Rattle.bt_resolve.proofs.family.count_parents.Given as goal
 
 abbrev pub invariant-parents : goal.invariant-parents

@@ -1,6 +1,7 @@
 use Rattle.std.proofs.Common.{◌≡◌, ◌∙◌, ap, subst, ℕ, List, Option, IfOk}
 use Rattle.std.specs.List.{filter_map}
-use Rattle.bt_resolve.specs.Listed.{parent_of, parents}
+use Rattle.bt_resolve.specs.Listed.{parent_of}
+use Rattle.bt_resolve.specs.inner.Cases.{parents}
 use Rattle.bt_resolve.proofs.ListLemmas.{filter_map-map}
 use Rattle.bt_resolve.proofs.list.parents.Goals as goal
 

@@ -1,6 +1,6 @@
 use Rattle.std.proofs.Common.{◌∙◌, ap, ℕ, List, Option, count_by}
 use Rattle.bt_resolve.specs.Listed.{parent_of}
-use Rattle.bt_resolve.specs.Inherited.{is_place}
+use Rattle.bt_resolve.specs.inner.Cases.{is_place}
 use Rattle.bt_resolve.proofs.FamilyLemmas.{count_map}
 use Rattle.bt_resolve.proofs.family.Family.new.Goals as goal
 

@@ -1,7 +1,7 @@
 use Rattle.std.proofs.Common.{◌∙◌, ap, sym, map, ℕ, List, [], Option}
 use Rattle.std.specs.Prelude.{is_some}
 use Rattle.bt_resolve.specs.declared.stored.Stored.{Stored}
-use Rattle.bt_resolve.specs.Stored.{is_referred_to}
+use Rattle.bt_resolve.specs.inner.Cases.{is_referred_to}
 use Rattle.bt_text.proofs.NameLemmas.{by_small_again}
 use Rattle.bt_resolve.proofs.store.Store.new.Goals as goal
 

@@ -1,6 +1,6 @@
 use Rattle.std.proofs.Common.{◌≡◌, ◌++◌, [], drop}
 use Rattle.std.specs.List.{slice_index_or}
-use Rattle.bt_resolve.specs.Inherited.{entries_by}
+use Rattle.bt_resolve.specs.inner.Cases.{entries_by}
 use Rattle.bt_resolve.proofs.view.View.entries_by.Given as goal
 
 abbrev pub invariant-places : goal.invariant-places

@@ -1,7 +1,7 @@
 use Rattle.std.proofs.Common.{◌≡◌, ◌∙◌, ap, subst, ℕ, List, Option, [], IfOk}
 use Rattle.std.specs.List.{slice_index_or}
 use Rattle.bt_resolve.specs.declared.stored.Stored.{Stored}
-use Rattle.bt_resolve.specs.Inherited.{entries_by}
+use Rattle.bt_resolve.specs.inner.Cases.{entries_by}
 use Rattle.bt_resolve.specs.inner.Inheritance.{all_inherit, values_read}
 use Rattle.bt_resolve.proofs.view.View.entries_of_list.Goals as goal
 
