@@ -12,12 +12,10 @@ use Rattle.bt_resolve.specs.Macros.{macro_before}
 use Rattle.bt_resolve.specs.inner.Cases.{with_content, preamble_at, preamble_of, messages_at, resolved_by, with_item}
 use Rattle.bt_resolve.specs.Stored.{stored_among}
 use Rattle.bt_resolve.specs.Messages.{for_each, item_messages, database_messages}
-use Rattle.bt_resolve.specs.inner.Databases.{State, after_item, after_items, after_databases, nothing_read}
+use Rattle.bt_resolve.specs.inner.Databases.{State, resolved_of, after_item, after_items, after_databases, nothing_read}
 use Rattle.std.specs.List.{flat_map}
 use Rattle.bt_resolve.specs.Listed.{listed}
 use Rattle.bt_resolve.specs.References.{reference_messages, missing_messages, list_messages}
-use Rattle.bt_resolve.specs.declared.entry.Resolved.{Resolved}
-use Rattle.bt_resolve.specs.Inherited.{entries_seen}
 use Rattle.bt_resolve.specs.Resolved.{all_items, stored_entries, preamble, messages}
 
 -- the state stands after these items, the last of them first
@@ -107,12 +105,9 @@ preamble_is a ms databases = (all_add a ms databases).preamble
 messages_are : (a : Asked) (ms : List Macro) (databases : List (List Item)) → (after_databases a 1 (nothing_read ms) databases).messages ≡ database_messages a ms 1 [] databases
 messages_are a ms databases = (all_add a ms databases).messages
 
-abbrev resolved_of : Asked → ℕ → List Stored → List ℕ → List Message → Resolved
-resolved_of a min stored text told = record { entries = entries_seen a min stored; preamble = text; messages = told ++ list_messages a stored }
-
 -- what is resolved, once no database is left
 pub resolved_is : (a : Asked) (ms : List Macro) (min : ℕ) (databases : List (List Item)) (s : State) → s ≡ after_databases a 1 (nothing_read ms) databases →
-    record { entries = entries_seen a min s.stored; preamble = s.preamble; messages = s.messages ++ list_messages a s.stored } ≡ resolved_by a ms databases min
+    resolved_of a min s.stored s.preamble s.messages ≡ resolved_by a ms databases min
 unfolding messages
 resolved_is a ms min databases s is =
     let read = after_databases a 1 (nothing_read ms) databases in

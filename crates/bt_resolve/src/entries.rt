@@ -5,14 +5,14 @@ ghost use Rattle.bt_bib.specs.Moved.{moved_entry, moved_field, nowhere};
 ghost use Rattle.bt_bib.specs.Shift.{FitsField, FitsLine};
 ghost use Rattle.bt_text.specs.ByName.{known};
 ghost use Rattle.bt_text.specs.CaseFolding.{folded};
-ghost use Rattle.bt_resolve.specs.Fields.{fields_messages};
 ghost use Rattle.bt_resolve.specs.inner.Entries.{standing_of};
 ghost use Rattle.bt_resolve.specs.inner.Slots.{given_by};
 ghost use Rattle.bt_resolve.specs.Messages.{stored_messages};
-ghost use Rattle.bt_resolve.specs.inner.Cases.{key_messages, type_messages, with_entry};
+ghost use Rattle.bt_resolve.specs.inner.Cases.{type_messages, with_entry};
 ghost use Rattle.bt_text.specs.NameList.{are_apart};
 ghost use Rattle.bt_resolve.specs.Stored.{is_wanted, kind_of, stored_of};
 ghost use Rattle.bt_resolve.specs.inner.Warnings.{line_at};
+ghost use Rattle.bt_resolve.specs.inner.Readers.{messages_of_entry, messages_of_given, messages_of_stored};
 
 use crate::faults::repeated;
 use crate::fields::{FieldReader, Given};
@@ -135,9 +135,8 @@ impl Reader<'_> {
         requires fits { All (FitsField nowhere self.now.origin.start) entry.now.fields }
         ensures given { IfOk result (λ given. given ≡ given_by self.now.asked.now.fields (known macros.now)
             (map (moved_field self.now.origin.start) entry.now.fields)) }
-        ensures messages { OnOk result (messages.new ≡ messages.old ++ fields_messages self.now.asked.now.fields
-            (known macros.now) self.now.origin.database key.now []
-            (map (moved_field self.now.origin.start) entry.now.fields)) }
+        ensures messages { OnOk result (messages.new ≡ messages.old
+            ++ messages_of_given self.now (known macros.now) key.now entry.now.fields) }
     {
         let reader = FieldReader {
             alloc: self.alloc,
@@ -165,9 +164,8 @@ impl Reader<'_> {
         ensures key { IfOk result (λ stored. stored.key ≡ key.now) }
         ensures stored { IfOk result (λ stored. stored ≡ stored_of self.now.asked.now (known macros.now)
             (moved_entry self.now.origin.start entry.now) key.now) }
-        ensures messages { OnOk result (messages.new ≡ messages.old ++ stored_messages
-            self.now.asked.now (known macros.now) (line_at self.now.origin line)
-            (moved_entry self.now.origin.start entry.now) key.now) }
+        ensures messages { OnOk result (messages.new ≡ messages.old
+            ++ messages_of_stored self.now (known macros.now) line entry.now key.now) }
     {
         let kind = kind_of(entry);
         let function = self.asked.types.place(self.alloc, kind)?;
@@ -190,9 +188,8 @@ impl Reader<'_> {
         requires fits { All (FitsField nowhere self.now.origin.start) entry.now.fields }
         ensures store { OnOk result (store.new ≡ with_entry self.now.asked.now (known macros.now)
             (moved_entry self.now.origin.start entry.now) entry.now.key store.old) }
-        ensures messages { OnOk result (messages.new ≡ messages.old ++ key_messages self.now.asked.now
-            (known macros.now) store.old (line_at self.now.origin line)
-            (moved_entry self.now.origin.start entry.now) entry.now.key) }
+        ensures messages { OnOk result (messages.new ≡ messages.old
+            ++ messages_of_entry self.now (known macros.now) store.old line entry.now) }
     {
         let Some(key) = &entry.key else {
             return Ok(());

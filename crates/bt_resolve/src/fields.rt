@@ -1,14 +1,13 @@
 //! What the fields of an entry give.
 
-ghost use Rattle.std.specs.Prelude.{◌≡◌, ◌++◌, [], All, Some, None, IfOk, IsTrue, OnOk, map, slice_get};
-ghost use Rattle.bt_bib.specs.Moved.{moved_field, moved_part, nowhere};
+ghost use Rattle.std.specs.Prelude.{◌≡◌, ◌++◌, All, Some, None, IfOk, IsTrue, OnOk, map, slice_get};
+ghost use Rattle.bt_bib.specs.Moved.{moved_field, nowhere};
 ghost use Rattle.bt_bib.specs.Shift.{FitsField};
 ghost use Rattle.bt_text.specs.ByName.{known};
-ghost use Rattle.bt_resolve.specs.Fields.{fields_messages};
 ghost use Rattle.bt_text.specs.NameList.{are_apart};
-ghost use Rattle.bt_resolve.specs.inner.Slots.{extra_messages, fill, given_by, is_filled, is_filled_at, slot_messages, slot_of, with_field};
-ghost use Rattle.bt_resolve.specs.Values.{field_value, value_warnings};
-ghost use Rattle.bt_resolve.specs.inner.Warnings.{line_at};
+ghost use Rattle.bt_resolve.specs.inner.Slots.{extra_messages, fill, given_by, is_filled, is_filled_at, slot_of, with_field};
+ghost use Rattle.bt_resolve.specs.Values.{field_value};
+ghost use Rattle.bt_resolve.specs.inner.Readers.{messages_of_field, messages_of_fields, text_of_field, warnings_of_field};
 
 use crate::index::Index;
 use crate::macro_text::MacroText;
@@ -112,11 +111,8 @@ impl FieldReader<'_> {
         messages: &mut Sequence<Message>,
     ) -> Result<Shared<Bytes>, AllocError>
         requires { FitsField nowhere self.now.origin.start field.now }
-        ensures value { IfOk result (λ text. text ≡ field_value (known self.now.macros.now)
-            (map (moved_part self.now.origin.start) field.now.value)) }
-        ensures messages { OnOk result (messages.new ≡ messages.old ++ value_warnings None
-            (known self.now.macros.now) (line_at self.now.origin field.now.line) field.now.name
-            (map (moved_part self.now.origin.start) field.now.value)) }
+        ensures value { IfOk result (λ text. text ≡ text_of_field self.now field.now) }
+        ensures messages { OnOk result (messages.new ≡ messages.old ++ warnings_of_field self.now field.now) }
     {
         let reader = ValueReader {
             alloc: self.alloc,
@@ -162,11 +158,10 @@ impl FieldReader<'_> {
         messages: &mut Sequence<Message>,
     ) -> Result<(), AllocError>
         requires { FitsField nowhere self.now.origin.start field.now }
-        ensures given { OnOk result (given.new ≡ with_field (Some slot) (field_value (known self.now.macros.now)
-            (map (moved_part self.now.origin.start) field.now.value)) given.old) }
-        ensures messages { OnOk result (messages.new ≡ messages.old ++ slot_messages (Some slot) given.old
-            (known self.now.macros.now) self.now.origin.database self.now.key.now
-            (moved_field self.now.origin.start field.now)) }
+        ensures given { OnOk result (given.new
+            ≡ with_field (Some slot) (text_of_field self.now field.now) given.old) }
+        ensures messages { OnOk result (messages.new
+            ≡ messages.old ++ messages_of_field self.now (Some slot) given.old field.now) }
     {
         let value = self.value(field, messages)?;
         self.put(field, slot, value, given, messages)
@@ -181,12 +176,9 @@ impl FieldReader<'_> {
     ) -> Result<(), AllocError>
         requires { FitsField nowhere self.now.origin.start field.now }
         ensures given { OnOk result (given.new ≡ with_field (slot_of self.now.declared.now field.now.name)
-            (field_value (known self.now.macros.now) (map (moved_part self.now.origin.start) field.now.value))
-            given.old) }
+            (text_of_field self.now field.now) given.old) }
         ensures messages { OnOk result (messages.new ≡ messages.old
-            ++ slot_messages (slot_of self.now.declared.now field.now.name) given.old
-            (known self.now.macros.now) self.now.origin.database self.now.key.now
-            (moved_field self.now.origin.start field.now)) }
+            ++ messages_of_field self.now (slot_of self.now.declared.now field.now.name) given.old field.now) }
     {
         match self.slot(field.name.as_slice())? {
             None => Ok(()),
@@ -204,9 +196,7 @@ impl FieldReader<'_> {
         requires fits { All (FitsField nowhere self.now.origin.start) fields.now }
         ensures given { IfOk result (λ given. given ≡ given_by self.now.declared.now (known self.now.macros.now)
             (map (moved_field self.now.origin.start) fields.now)) }
-        ensures messages { OnOk result (messages.new ≡ messages.old ++ fields_messages self.now.declared.now
-            (known self.now.macros.now) self.now.origin.database self.now.key.now []
-            (map (moved_field self.now.origin.start) fields.now)) }
+        ensures messages { OnOk result (messages.new ≡ messages.old ++ messages_of_fields self.now fields.now) }
     {
         let mut given = Given {
             values: SparseTexts::new(self.alloc, self.declared.names().len()),

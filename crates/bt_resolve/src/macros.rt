@@ -6,8 +6,7 @@ ghost use Rattle.bt_bib.specs.Shift.{FitsLine, FitsValue};
 ghost use Rattle.bt_text.specs.ByName.{known};
 ghost use Rattle.bt_resolve.specs.Macros.{faultless, style_macro};
 ghost use Rattle.bt_resolve.specs.inner.Cases.{with_string, preamble_value};
-ghost use Rattle.bt_resolve.specs.Messages.{preamble_messages, string_messages};
-ghost use Rattle.bt_resolve.specs.inner.Warnings.{line_at};
+ghost use Rattle.bt_resolve.specs.inner.Readers.{messages_of_preamble, messages_of_string};
 
 use crate::declared::Macro;
 use crate::macro_text::MacroText;
@@ -55,9 +54,8 @@ impl Reader<'_> {
         requires value { FitsValue nowhere self.now.origin.start string.now.value }
         ensures macros { OnOk result (known macros.new ≡ with_string string.now.name
             (faultless item.now.fault (moved_value self.now.origin.start string.now.value)) (known macros.old)) }
-        ensures messages { OnOk result (messages.new ≡ messages.old ++ string_messages (known macros.old)
-            (line_at self.now.origin item.now.line) string.now.name
-            (faultless item.now.fault (moved_value self.now.origin.start string.now.value))) }
+        ensures messages { OnOk result (messages.new ≡ messages.old
+            ++ messages_of_string self.now (known macros.old) item.now string.now) }
     {
         let Some(name) = &string.name else {
             return Ok(());
@@ -89,9 +87,8 @@ impl Reader<'_> {
         requires value { FitsValue nowhere self.now.origin.start parts.now }
         ensures preamble { OnOk result (preamble.new ≡ preamble.old ++ preamble_value (known macros.now)
             (faultless item.now.fault (moved_value self.now.origin.start parts.now))) }
-        ensures messages { OnOk result (messages.new ≡ messages.old ++ preamble_messages (known macros.now)
-            (line_at self.now.origin item.now.line)
-            (faultless item.now.fault (moved_value self.now.origin.start parts.now))) }
+        ensures messages { OnOk result (messages.new ≡ messages.old
+            ++ messages_of_preamble self.now (known macros.now) item.now parts.now) }
     {
         let Some(parts) = faultless(item, parts) else {
             return Ok(());

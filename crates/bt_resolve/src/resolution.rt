@@ -4,7 +4,7 @@ ghost use Rattle.std.specs.Prelude.{◌≡◌, ◌≤◌, ◌++◌, List, length
 ghost use Rattle.bt_bib.specs.Items.{items_of};
 ghost use Rattle.bt_resolve.specs.declared.declared.Macro.{Macro};
 ghost use Rattle.bt_resolve.specs.Inherited.{entries_seen};
-ghost use Rattle.bt_resolve.specs.inner.Databases.{nothing_read, state_of};
+ghost use Rattle.bt_resolve.specs.inner.Databases.{nothing_read, state_of, resolved_of};
 ghost use Rattle.bt_resolve.specs.Listed.{listed};
 ghost use Rattle.bt_text.specs.NameList.{are_apart};
 ghost use Rattle.bt_resolve.specs.References.{list_messages};
@@ -127,11 +127,8 @@ fn resolve_read(
     read: &mut Reading,
 ) -> Result<Resolved, AllocError>
     requires { IfSome asked.now.star (λ before. before ≤ length asked.now.keys) }
-    ensures { IfOk result (λ all. all ≡ record {
-      entries = entries_seen asked.now min read.old.store;
-      preamble = read.old.preamble;
-      messages = read.old.messages ++ list_messages asked.now read.old.store;
-    }) }
+    ensures { IfOk result (λ all. all
+        ≡ resolved_of asked.now min read.old.store read.old.preamble read.old.messages) }
 {
     let entries = resolve_stored(alloc, asked, min, &read.store, &mut read.messages)?;
     let preamble = mem::replace(&mut read.preamble, Bytes::new(alloc));

@@ -1,14 +1,13 @@
 //! The value of parts joined by `#`, and the warnings that it gives.
 
 ghost use Rattle.std.specs.Prelude.{◌≡◌, ◌++◌, [], ◌∷◌, All, Some, None, map, not, option_copied, option_and_then, unwrap_or, IfOk, OnOk};
-ghost use Rattle.std.specs.List.{flat_map};
 ghost use Rattle.bt_bib.specs.Moved.{moved_part, nowhere};
 ghost use Rattle.bt_bib.specs.Shift.{FitsLine, FitsPart};
-ghost use Rattle.bt_text.specs.ByName.{known};
-ghost use Rattle.bt_resolve.specs.Values.{is_named, joined_parts, others, part_warnings, value, value_warnings, within_limit, without_first_space, without_last_space};
+ghost use Rattle.bt_resolve.specs.Values.{is_named, joined_parts, value, value_warnings, within_limit, without_first_space, without_last_space};
 ghost use Rattle.bt_resolve.specs.inner.Cases.{joined_or_empty, is_too_long, length_warnings, macro_warnings, part_text};
 ghost use Rattle.bt_resolve.specs.inner.Values.{with_part};
 ghost use Rattle.bt_resolve.specs.inner.Warnings.{line_at};
+ghost use Rattle.bt_resolve.specs.inner.Readers.{macros_for, messages_of_macro, messages_of_part, messages_of_parts, messages_of_value};
 
 use crate::joined_parts::JoinedParts;
 use crate::macro_text::MacroText;
@@ -73,8 +72,7 @@ fn join_part(
 impl<'a> ValueReader<'a> {
     /// What a macro stands for in the value.
     fn macro_text(&self, name: &[u8]) -> Result<Option<&'a MacroText>, AllocError>
-        ensures { IfOk result (λ text. option_copied text
-            ≡ others (option_copied self.now.own) (known self.now.macros.now) name.now) }
+        ensures { IfOk result (λ text. option_copied text ≡ macros_for self.now name.now) }
     {
         if is_named(self.own, name) {
             Ok(None)
@@ -106,12 +104,9 @@ impl<'a> ValueReader<'a> {
         messages: &mut Sequence<Message>,
     ) -> Result<(), AllocError>
         requires { FitsLine nowhere self.now.origin.start line }
-        ensures joined { OnOk result (joined.new ≡ option_and_then (with_part (unwrap_or
-            (others (option_copied self.now.own) (known self.now.macros.now) name.now) [])) joined.old) }
-        ensures messages { OnOk result (messages.new ≡ messages.old ++ macro_warnings
-            (is_named (option_copied self.now.own) name.now)
-            (others (option_copied self.now.own) (known self.now.macros.now) name.now)
-            (line_at self.now.origin line) name.now) }
+        ensures joined { OnOk result (joined.new
+            ≡ option_and_then (with_part (unwrap_or (macros_for self.now name.now) [])) joined.old) }
+        ensures messages { OnOk result (messages.new ≡ messages.old ++ messages_of_macro self.now name.now line) }
     {
         match self.macro_text(name)? {
             None => {
@@ -130,12 +125,9 @@ impl<'a> ValueReader<'a> {
         messages: &mut Sequence<Message>,
     ) -> Result<(), AllocError>
         requires { FitsPart nowhere self.now.origin.start part.now }
-        ensures joined { OnOk result (joined.new ≡ option_and_then (with_part
-            (part_text (others (option_copied self.now.own) (known self.now.macros.now))
-            (moved_part self.now.origin.start part.now))) joined.old) }
-        ensures messages { OnOk result (messages.new ≡ messages.old ++ part_warnings
-            (option_copied self.now.own) (known self.now.macros.now) self.now.origin.database
-            (moved_part self.now.origin.start part.now)) }
+        ensures joined { OnOk result (joined.new ≡ option_and_then
+            (with_part (part_text (macros_for self.now) (moved_part self.now.origin.start part.now))) joined.old) }
+        ensures messages { OnOk result (messages.new ≡ messages.old ++ messages_of_part self.now part.now) }
     {
         match part {
             Part::Text(text) => join_part(self.alloc, joined, JoinedParts::of_text(text)?),
@@ -151,11 +143,8 @@ impl<'a> ValueReader<'a> {
     ) -> Result<Option<JoinedParts>, AllocError>
         requires { All (FitsPart nowhere self.now.origin.start) parts.now }
         ensures joined { IfOk result (λ joined. joined ≡ within_limit
-            (joined_parts (others (option_copied self.now.own) (known self.now.macros.now))
-            (map (moved_part self.now.origin.start) parts.now))) }
-        ensures messages { OnOk result (messages.new ≡ messages.old ++ flat_map (part_warnings
-            (option_copied self.now.own) (known self.now.macros.now) self.now.origin.database)
-            (map (moved_part self.now.origin.start) parts.now)) }
+            (joined_parts (macros_for self.now) (map (moved_part self.now.origin.start) parts.now))) }
+        ensures messages { OnOk result (messages.new ≡ messages.old ++ messages_of_parts self.now parts.now) }
     {
         let mut joined = Some(JoinedParts::new(self.alloc));
         'parts: for part in parts {
@@ -200,12 +189,10 @@ impl<'a> ValueReader<'a> {
     ) -> Result<Shared<Bytes>, AllocError>
         requires line { FitsLine nowhere self.now.origin.start line }
         requires parts { All (FitsPart nowhere self.now.origin.start) parts.now }
-        ensures value { IfOk result (λ text. text ≡ value
-            (others (option_copied self.now.own) (known self.now.macros.now))
-            (map (moved_part self.now.origin.start) parts.now)) }
-        ensures messages { OnOk result (messages.new ≡ messages.old ++ value_warnings (option_copied self.now.own)
-            (known self.now.macros.now) (line_at self.now.origin line) name.now
-            (map (moved_part self.now.origin.start) parts.now)) }
+        ensures value { IfOk result (λ text. text
+            ≡ value (macros_for self.now) (map (moved_part self.now.origin.start) parts.now)) }
+        ensures messages { OnOk result (messages.new ≡ messages.old
+            ++ messages_of_value self.now name.now line parts.now) }
     {
         let joined = self.parts(parts, messages)?;
         self.finished(joined, name, line, messages)

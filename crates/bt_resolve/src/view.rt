@@ -1,11 +1,10 @@
 //! The entries that the style sees.
 
 ghost use Rattle.std.specs.Prelude.{◌≡◌, ◌++◌, ◌∷◌, [], IfOk, OnOk};
-ghost use Rattle.std.specs.List.{slice_index_or};
 ghost use Rattle.bt_resolve.specs.Inherited.{entry_seen, final_crossref, is_left_out};
 ghost use Rattle.bt_resolve.specs.inner.Cases.{entries_by, entry_at, with_crossref};
 ghost use Rattle.bt_resolve.specs.Names.{crossref, place_of_name};
-ghost use Rattle.bt_resolve.specs.inner.Inheritance.{all_inherit, values_read};
+ghost use Rattle.bt_resolve.specs.inner.Inheritance.{all_inherit, values_read, entries_with};
 
 use crate::asked::Asked;
 use crate::entry::Entry;
@@ -118,9 +117,7 @@ impl View<'_> {
         place: usize,
         entries: &mut Sequence<Entry>,
     ) -> Result<(), AllocError>
-        ensures { OnOk result (entries.new ≡ entries.old
-            ++ entries_by self.now.asked.now self.now.min self.now.family.now
-            (λ q. slice_index_or values.now q []) (place ∷ [])) }
+        ensures { OnOk result (entries.new ≡ entries.old ++ entries_with self.now values.now (place ∷ [])) }
     {
         if self.is_left_out(place)? {
             return Ok(());
@@ -141,8 +138,7 @@ impl View<'_> {
         values: &[Shared<FieldValues>],
         places: &[usize],
     ) -> Result<Sequence<Entry>, AllocError>
-        ensures { IfOk result (λ entries. entries ≡ entries_by self.now.asked.now self.now.min
-            self.now.family.now (λ q. slice_index_or values.now q []) places.now) }
+        ensures { IfOk result (λ entries. entries ≡ entries_with self.now values.now places.now) }
     {
         let mut entries = Sequence::new(self.alloc);
         'places: for place in places {
@@ -153,9 +149,8 @@ impl View<'_> {
 
     /// The entries of a list, once those of the list have inherited in its order.
     pub fn entries_of_list(&self, places: &[usize]) -> Result<Sequence<Entry>, AllocError>
-        ensures { IfOk result (λ entries. entries
-            ≡ entries_by self.now.asked.now self.now.min self.now.family.now (λ q. slice_index_or
-            (all_inherit self.now.family.now (values_read self.now.family.now) places.now) q []) places.now) }
+        ensures { IfOk result (λ entries. entries ≡ entries_with self.now
+            (all_inherit self.now.family.now (values_read self.now.family.now) places.now) places.now) }
     {
         let mut values = values_read(self.alloc, self.family.entries())?;
         all_inherit(self.alloc, self.family, places, &mut values)?;

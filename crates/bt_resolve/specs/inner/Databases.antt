@@ -4,9 +4,12 @@ use Rattle.bt_bib.specs.declared.item.Item.{Item}
 use Rattle.bt_resolve.specs.declared.asked.Asked.{Asked}
 use Rattle.bt_resolve.specs.declared.declared.Macro.{Macro}
 use Rattle.bt_log.specs.declared.message.Message.{Message}
+use Rattle.bt_resolve.specs.declared.entry.Resolved.{Resolved}
 use Rattle.bt_resolve.specs.declared.stored.Stored.{Stored}
 use Rattle.bt_resolve.specs.declared.reading.Reading.{Reading}
 use Rattle.bt_text.specs.ByName.{known}
+use Rattle.bt_resolve.specs.Inherited.{entries_seen}
+use Rattle.bt_resolve.specs.References.{list_messages}
 use Rattle.bt_resolve.specs.Values.{MacroTexts}
 use Rattle.bt_resolve.specs.Macros.{style_macro}
 use Rattle.bt_resolve.specs.inner.Cases.{with_content, preamble_of, content_messages, with_item}
@@ -49,3 +52,8 @@ after_databases a number s (these ∷ databases) = after_databases a (number + 1
 -- before the first item
 abbrev pub nothing_read : List Macro → State
 nothing_read macros = record { macros = style_macro macros; stored = []; preamble = []; messages = [] }
+
+-- what is seen after these entries were stored, and this preamble and these messages read
+abbrev pub resolved_of : Asked → ℕ → List Stored → List ℕ → List Message → Resolved
+resolved_of a min stored text told =
+    record { entries = entries_seen a min stored; preamble = text; messages = told ++ list_messages a stored }

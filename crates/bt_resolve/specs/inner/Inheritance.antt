@@ -1,9 +1,11 @@
 -- One entry after another inherits, in the list of all values as they are.
 use Rattle.std.specs.Prelude.{ℕ, List, [], ◌∷◌, Option, Some, None, slice_set, map}
 use Rattle.std.specs.List.{slice_index_or}
+use Rattle.bt_resolve.specs.declared.entry.Entry.{Entry}
 use Rattle.bt_resolve.specs.declared.stored.Stored.{Stored}
+use Rattle.bt_resolve.specs.declared.view.View.{View}
 use Rattle.bt_resolve.specs.Inherited.{inherited}
-use Rattle.bt_resolve.specs.inner.Cases.{parent_at}
+use Rattle.bt_resolve.specs.inner.Cases.{entries_by, parent_at}
 
 abbrev pub inherits_from : Option ℕ → ℕ → List (List (Option (List ℕ))) → List (List (Option (List ℕ)))
 inherits_from None p values = values
@@ -20,3 +22,7 @@ all_inherit stored values (p ∷ ps) = all_inherit stored (inherits_at stored va
 
 abbrev pub values_read : List Stored → List (List (Option (List ℕ)))
 values_read stored = map (λ (s : Stored). s.values) stored
+
+-- the entries of these places as they are seen with values in a list, without those that are left out
+abbrev pub entries_with : View → List (List (Option (List ℕ))) → List ℕ → List Entry
+entries_with v values places = entries_by v.asked.now v.min v.family.now (λ q. slice_index_or values q []) places
