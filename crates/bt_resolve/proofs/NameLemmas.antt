@@ -1,11 +1,11 @@
 -- Places of names.
-use Rattle.std.proofs.Common.{◌≡◌, ◌∙◌, ap, sym, refl, ℕ, zero, suc, ◌+◌, ◌<◌, Bool, true, false, List, [], ◌∷◌, length, drop, get_or, Option, Some, None, arith}
-use Rattle.std.specs.Prelude.{◌||◌, ◌&&◌, not, is_some, option_map, option_and_then, unwrap_or, slice_get, if◌then◌else◌}
+use Rattle.std.proofs.Common.{◌≡◌, ◌∙◌, ap, sym, refl, ℕ, suc, ◌+◌, ◌<◌, Bool, true, false, List, [], ◌∷◌, length, drop, get_or, Option, Some, None, arith}
+use Rattle.std.specs.Prelude.{option_map, option_and_then, unwrap_or, slice_get, if◌then◌else◌}
 use Rattle.std.proofs.Math.Path.{fun_ext}
 use Rattle.std.proofs.lemmas.List.{drop_more}
 use Rattle.bt_text.specs.CaseFolding.{is_same_folded}
 use Rattle.bt_text.specs.ByName.{with_value, no_value}
-use Rattle.bt_text.specs.NameList.{has_name, are_apart, same_name}
+use Rattle.bt_text.specs.NameList.{same_name}
 use Rattle.bt_resolve.specs.Inherited.{key_spelled}
 use Rattle.bt_resolve.specs.Names.{place_of_name}
 use Rattle.bt_resolve.specs.inner.Names.{from_place, places_from}
@@ -43,47 +43,6 @@ place_all t names n zero_is known = fun_ext (λ name.
     ap (λ (u : List ℕ → Place). u name) known
     ∙ ap (λ (k : ℕ). places_from names k name) zero_is
     ∙ whole (place_of_name names name))
-
-found_is : (b c : Bool) (o : Place) → is_some o ≡ c → is_some (if b then Some 0 else option_map (λ i. suc i) o) ≡ (b || c)
-found_is true c o h = refl
-found_is false c None h = h
-found_is false c (Some p) h = h
-
--- a name has a place where it is among the names
-pub place_is : (names : List (List ℕ)) (name : List ℕ) → is_some (place_of_name names name) ≡ has_name names name
-place_is [] name = refl
-place_is (n ∷ ns) name = found_is (is_same_folded n name) (has_name ns name) (place_of_name ns name) (place_is ns name)
-
-and_false : (a b : Bool) → b ≡ false → (a && b) ≡ false
-and_false true b h = h
-and_false false b h = refl
-
-not_there : (a b : Bool) → a ≡ true → (not a && b) ≡ false
-not_there true b h = refl
-not_there false b h = let wrong : false ≡ true = h in cc
-
-tail_not_apart : (names : List (List ℕ)) (k : ℕ) → are_apart (drop k names) ≡ false → are_apart names ≡ false
-tail_not_apart names zero h = h
-tail_not_apart [] (suc k) h = h
-tail_not_apart (n ∷ ns) (suc k) h = and_false (not (has_name ns n)) (are_apart ns) (tail_not_apart ns k h)
-
--- a name that stands again after itself
-pub not_apart : (names : List (List ℕ)) (k : ℕ) (x : List ℕ) → k < length names → x ≡ get_or names k x → has_name (drop (k + 1) names) x ≡ true → are_apart names ≡ false
-not_apart names k x less is again = tail_not_apart names k (ap (λ (ns : List (List ℕ)). are_apart ns) (drop_more names k x less ∙ ap (λ (y : List ℕ). y ∷ drop (k + 1) names) (sym is)) ∙ not_there (has_name (drop (k + 1) names) x) (are_apart (drop (k + 1) names)) again)
-
--- one name more, which isn't after itself
-pub apart_more : (names : List (List ℕ)) (k : ℕ) (x : List ℕ) → k < length names → x ≡ get_or names k x → has_name (drop (k + 1) names) x ≡ false → are_apart (drop (k + 1) names) ≡ true → are_apart (drop k names) ≡ true
-apart_more names k x less is new apart =
-    ap (λ (ns : List (List ℕ)). are_apart ns) (drop_more names k x less ∙ ap (λ (y : List ℕ). y ∷ drop (k + 1) names) (sym is))
-    ∙ ap (λ (b : Bool). not b && are_apart (drop (k + 1) names)) new ∙ apart
-
-from_some : (i : ℕ) (o : Place) → is_some (from_place i o) ≡ is_some o
-from_some i None = refl
-from_some i (Some k) = refl
-
--- whether a table of places has a name
-pub known_is : (t : List ℕ → Place) (names : List (List ℕ)) (n : ℕ) (name : List ℕ) → t ≡ places_from names n → is_some (t name) ≡ has_name (drop n names) name
-known_is t names n name is = ap (λ (u : List ℕ → Place). is_some (u name)) is ∙ from_some n (place_of_name (drop n names) name) ∙ place_is (drop n names) name
 
 found_step : (ns : List (List ℕ)) (n : List ℕ) (b : Bool) (o : Place) (found : Option (List ℕ)) → found ≡ option_and_then (slice_get ns) o →
     (if b then Some n else found) ≡ option_and_then (slice_get (n ∷ ns)) (if b then Some 0 else option_map (λ i. suc i) o)

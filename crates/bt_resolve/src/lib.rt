@@ -4,7 +4,6 @@
 mod asked;
 mod databases;
 mod declared;
-mod distinct_names;
 mod entries;
 mod entry;
 mod family;
@@ -30,6 +29,5 @@ mod view;
 mod warnings;
 
 pub use declared::{Cites, Declared, Macro};
-pub use distinct_names::are_apart;
 pub use entry::{Entry, Resolved};
 pub use resolution::resolve;

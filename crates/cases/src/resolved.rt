@@ -1,22 +1,30 @@
 //! Cases of databases that are resolved for a style with the fields `crossref` and `title`, a function for `misc`, and
 //! the macro `s`, which stands for `S`.
 
-ghost use Rattle.std.specs.Prelude.{◌≤◌, length, IfOk, IfSome};
+ghost use Rattle.std.specs.Prelude.{◌≡◌, ◌≤◌, [], ◌∷◌, codes, length, IfOk, IfSome, IsTrue};
+ghost use Rattle.bt_text.specs.NameList.{are_apart};
 
 use crate::answer::Answer;
 use crate::spelling::{place_at, unspelled, word_at};
 use bt_bib::{Items, read_bib};
 use bt_log::{Message, Place, Rank, Said};
-use bt_resolve::{Cites, Declared, Entry, Macro, Resolved, are_apart, resolve};
+use bt_resolve::{Cites, Declared, Entry, Macro, Resolved, resolve};
 use bt_text::{Bytes, NameList, Sequence, Shared};
 use std::alloc::{AllocError, Global};
 
-fn names(alloc: Global, names: &[&str]) -> Result<Sequence<Bytes>, AllocError> {
-    let mut all = Sequence::new(alloc);
-    for name in names {
-        all.push(Bytes::copied(alloc, name.as_bytes())?)?;
-    }
-    Ok(all)
+fn fields(alloc: Global) -> Result<Sequence<Bytes>, AllocError>
+    ensures { IfOk result (λ fields. fields ≡ codes "crossref" ∷ codes "title" ∷ []) }
+{
+    let mut fields = Sequence::new(alloc);
+    fields.push(Bytes::copied(alloc, b"crossref")?)?;
+    fields.push(Bytes::copied(alloc, b"title")?)?;
+    Ok(fields)
+}
+
+fn types(alloc: Global) -> Result<Sequence<Bytes>, AllocError> {
+    let mut types = Sequence::new(alloc);
+    types.push(Bytes::copied(alloc, b"misc")?)?;
+    Ok(types)
 }
 
 fn macros(alloc: Global) -> Result<Sequence<Macro>, AllocError> {
@@ -27,9 +35,11 @@ fn macros(alloc: Global) -> Result<Sequence<Macro>, AllocError> {
     Ok(macros)
 }
 
-fn declared(alloc: Global) -> Result<Declared, AllocError> {
-    let fields = names(alloc, &["crossref", "title"])?;
-    let types = names(alloc, &["misc"])?;
+fn declared(alloc: Global) -> Result<Declared, AllocError>
+    ensures { IfOk result (λ declared. declared.fields ≡ codes "crossref" ∷ codes "title" ∷ []) }
+{
+    let fields = fields(alloc)?;
+    let types = types(alloc)?;
     let macros = macros(alloc)?;
     Ok(Declared {
         fields,
@@ -153,11 +163,9 @@ fn push_told(
     databases: &[&Items],
     min: u32,
 ) -> Result<(), AllocError>
-    requires { IfSome cites.now.star (λ before. before ≤ length cites.now.keys) }
+    requires fields { IsTrue (are_apart declared.now.fields) }
+    requires star { IfSome cites.now.star (λ before. before ≤ length cites.now.keys) }
 {
-    if !are_apart(alloc, declared.fields.as_slice())? {
-        return Ok(());
-    }
     let resolved = resolve(alloc, declared, cites, databases, min)?;
     push_resolved(out, &resolved);
     Ok(())
@@ -175,7 +183,8 @@ fn push_told_of_case(
     cites: &Cites,
     case: &str,
 ) -> Result<(), AllocError>
-    requires { IfSome cites.now.star (λ before. before ≤ length cites.now.keys) }
+    requires fields { IsTrue (are_apart declared.now.fields) }
+    requires star { IfSome cites.now.star (λ before. before ≤ length cites.now.keys) }
 {
     let min = place_at(case, 2).min(65_535) as u32;
     let first = items(alloc, word_at(case, 3))?;
