@@ -1,4 +1,9 @@
-//! The databases are read, item for item.
+//! The databases are read in one pass, item by item.
+//!
+//! The definitions look everything up among the items before an item: the last string that defines a macro, the entries
+//! that are stored already. Done so, reading would take quadratic time. The code keeps a `Reading` instead, of what the
+//! items so far gave, in hashed tables. `specs/inner/Databases.antt` says what one more item makes of it, and
+//! `proofs/PlacingLemmas.antt` proves that this is what the definitions say of the item by its place.
 
 ghost use Rattle.std.specs.Prelude.{◌≡◌, ◌∷◌, [], IfOk, IsTrue, OnOk, map};
 ghost use Rattle.bt_bib.specs.Items.{items_of};
@@ -20,7 +25,6 @@ use bt_text::{Bytes, Sequence};
 use std::alloc::{AllocError, Global};
 
 impl Reader<'_> {
-    /// Reads what an item says.
     fn content(&self, item: &Item, reading: &mut Reading) -> Result<(), AllocError>
         requires apart { IsTrue (are_apart self.now.asked.now.fields) }
         requires fits { FitsItem nowhere self.now.origin.start item.now }
@@ -40,7 +44,6 @@ impl Reader<'_> {
         }
     }
 
-    /// Reads an item: what it says, then its fault.
     #[tactic(auto, unfolding(crate::specs::Messages::item_messages))]
     fn item(&self, item: &Item, reading: &mut Reading) -> Result<(), AllocError>
         requires apart { IsTrue (are_apart self.now.asked.now.fields) }
@@ -53,7 +56,6 @@ impl Reader<'_> {
     }
 }
 
-/// Reads an item of a database, or passes over a comment word.
 fn read_piece(
     alloc: Global,
     asked: &Asked<'_>,
@@ -79,7 +81,6 @@ fn read_piece(
     }
 }
 
-/// Reads the items of a database.
 fn read_pieces(
     alloc: Global,
     asked: &Asked<'_>,

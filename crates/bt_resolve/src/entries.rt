@@ -37,14 +37,12 @@ fn kind_of(entry: &Entry) -> &[u8]
     }
 }
 
-/// A text in small letters.
 fn small_letters(alloc: Global, text: &[u8]) -> Result<Shared<Bytes>, AllocError>
     ensures { IfOk result (λ small. small ≡ folded text.now) }
 {
     Shared::new(alloc, to_ascii_lowercase(alloc, text)?)
 }
 
-/// An entry of this key, type and function, with what its fields give.
 fn with_given(
     alloc: Global,
     key: &Shared<Bytes>,
@@ -73,7 +71,6 @@ fn with_given(
 /// How an entry stands to those that are stored.
 #[derive(Drop)]
 enum Standing {
-    /// Nothing asks for it.
     Unwanted,
     /// Its key has an entry already.
     Repeated,
@@ -82,7 +79,6 @@ enum Standing {
 }
 
 impl Reader<'_> {
-    /// Whether an entry of a key is wanted after those that are stored.
     fn is_wanted(&self, store: &Store, key: &[u8]) -> Result<bool, AllocError>
         ensures { IfOk result (λ wanted. wanted ≡ is_wanted self.now.asked.now store.now key.now) }
     {
@@ -123,7 +119,6 @@ impl Reader<'_> {
         }
     }
 
-    /// What the fields of an entry give, with their messages.
     fn given(
         &self,
         entry: &Entry,
@@ -148,7 +143,6 @@ impl Reader<'_> {
         reader.fields(entry.fields.as_slice(), messages)
     }
 
-    /// An entry as it is stored, with its messages.
     #[tactic(auto, unfolding(crate::specs::Stored::stored_of, crate::specs::Messages::stored_messages))]
     fn stored(
         &self,

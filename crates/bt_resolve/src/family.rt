@@ -1,4 +1,7 @@
 //! The stored entries, with what each refers to.
+//!
+//! Listing, inheriting and leaving out all ask which entry is whose parent, and how many children it has. Each `crossref`
+//! is looked up once, before any of them.
 
 ghost use Rattle.std.specs.Prelude.{◌≡◌, ◌+◌, ◌-◌, ◌^◌, ◌<◌, ℕ, count_by, if◌then◌else◌, map, IfOk, OnOk};
 ghost use Rattle.bt_resolve.specs.inner.Family.{count_at};
@@ -34,7 +37,6 @@ impl<'a> Model for Family<'a> {
     ghost invariant = { λ family. IsFamily family.store.now family.parents.items family.counts };
 }
 
-/// The entry that an entry refers to.
 fn parent_of(alloc: Global, store: &Store, entry: &Stored) -> Result<Option<usize>, AllocError>
     ensures { IfOk result (λ parent. parent ≡ parent_of store.now entry.now) }
 {
@@ -44,7 +46,6 @@ fn parent_of(alloc: Global, store: &Store, entry: &Stored) -> Result<Option<usiz
     }
 }
 
-/// The entry that each refers to.
 fn all_parents(alloc: Global, store: &Store) -> Result<Vec<Option<usize>>, AllocError>
     ensures { IfOk result (λ parents. parents.items ≡ map (parent_of store.now) store.now) }
 {
@@ -55,7 +56,6 @@ fn all_parents(alloc: Global, store: &Store) -> Result<Vec<Option<usize>>, Alloc
     Ok(parents)
 }
 
-/// Counts one more reference to a parent.
 fn count_parent(counts: &mut HashMap<usize, usize>, parent: Option<usize>) -> Result<(), AllocError>
     requires { (p : ℕ) → count_at counts.old p < 2 ^ 64 - 1 }
     ensures { OnOk result ((p : ℕ) → count_at counts.new p
@@ -71,7 +71,6 @@ fn count_parent(counts: &mut HashMap<usize, usize>, parent: Option<usize>) -> Re
     }
 }
 
-/// How often each place is among these.
 fn count_parents(
     alloc: Global,
     parents: &[Option<usize>],

@@ -69,14 +69,12 @@ fn unclosed(alloc: Global, content: &Content, close: Option<Closing>) -> Result<
     }
 }
 
-/// A thing of this name is missing.
 fn missing(alloc: Global, name: &[u8]) -> Result<Bytes, AllocError>
     ensures { IfOk result (λ words. words ≡ codes "You're missing " ++ name.now) }
 {
     Bytes::of(alloc, &[b"You're missing ", name])
 }
 
-/// A thing of this name is followed by a sign that can't follow it.
 fn followed(alloc: Global, sign: &[u8], name: &[u8]) -> Result<Bytes, AllocError>
     ensures { IfOk result (λ words. words ≡ codes "\"" ++ sign.now ++ codes "\" immediately follows " ++ name.now) }
 {
@@ -104,7 +102,6 @@ fn fault_words(
     }
 }
 
-/// The key of an entry, if it has one.
 fn key_of(content: &Content) -> Result<Option<Shared<Bytes>>, AllocError>
     ensures { IfOk result (λ key. key ≡ key_of content.now) }
 {
@@ -117,7 +114,6 @@ fn key_of(content: &Content) -> Result<Option<Shared<Bytes>>, AllocError>
     }
 }
 
-/// The error of a fault at a place.
 fn fault_error(
     alloc: Global,
     origin: Origin,

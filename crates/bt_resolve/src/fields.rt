@@ -1,4 +1,8 @@
 //! What the fields of an entry give.
+//!
+//! A value is made once, when its entry is read, though the definitions ask for the value of each declared name: each
+//! field goes into the slot of its name, unless the slot is filled. Its messages then come in the order of the fields,
+//! also those about a value that doesn't count.
 
 ghost use Rattle.std.specs.Prelude.{◌≡◌, ◌++◌, All, Some, None, IfOk, IsTrue, OnOk, map, slice_get};
 ghost use Rattle.bt_bib.specs.Moved.{moved_field, nowhere};
@@ -66,7 +70,6 @@ fn is_filled_at(values: &FieldValues, place: usize) -> bool
     }
 }
 
-/// Whether a slot has a value already.
 fn is_filled(given: &Given, slot: Slot) -> bool
     ensures { result ≡ is_filled slot given.now }
 {
@@ -76,7 +79,6 @@ fn is_filled(given: &Given, slot: Slot) -> bool
     }
 }
 
-/// Puts a value in its slot.
 fn fill(given: &mut Given, slot: Slot, value: Shared<Bytes>) -> Result<(), AllocError>
     ensures { OnOk result (given.new ≡ fill slot value given.old) }
 {
@@ -90,7 +92,6 @@ fn fill(given: &mut Given, slot: Slot, value: Shared<Bytes>) -> Result<(), Alloc
 }
 
 impl FieldReader<'_> {
-    /// The slot of a field, if it is declared.
     fn slot(&self, name: &[u8]) -> Result<Option<Slot>, AllocError>
         ensures { IfOk result (λ slot. slot ≡ slot_of self.now.declared.now name.now) }
     {
@@ -103,7 +104,6 @@ impl FieldReader<'_> {
         }
     }
 
-    /// The value of a field, with its warnings.
     #[tactic(auto, unfolding(crate::specs::Values::field_value))]
     fn value(
         &self,
@@ -149,7 +149,6 @@ impl FieldReader<'_> {
         }
     }
 
-    /// Reads a field that is declared: its value counts unless a field of its name stands before it.
     fn read_declared(
         &self,
         field: &Field,
@@ -167,7 +166,6 @@ impl FieldReader<'_> {
         self.put(field, slot, value, given, messages)
     }
 
-    /// Reads a field, declared or not.
     fn field(
         &self,
         field: &Field,

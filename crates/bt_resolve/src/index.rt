@@ -27,7 +27,7 @@ impl<'a> Model for Index<'a> {
     ghost invariant = { λ index. known index.places ≡ place_of_name index.names.now };
 }
 
-/// The first place of each of some names.
+/// It is filled from the last name back, so that of names that match the first keeps its place.
 fn place_table(alloc: Global, names: &[Bytes]) -> Result<ByName<usize>, AllocError>
     ensures { IfOk result (λ places. known places ≡ place_of_name names.now) }
 {

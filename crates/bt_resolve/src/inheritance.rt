@@ -1,4 +1,8 @@
 //! What entries inherit from those that they refer to.
+//!
+//! Entries inherit in the order of the list, each from its parent as that is by then. A parent that comes later in the
+//! list has not inherited itself yet, so its child doesn't get its grandparent's values. The values of all entries
+//! therefore stand in one list, in which an entry's are replaced when its turn comes.
 
 ghost use Rattle.std.specs.Prelude.{◌≡◌, [], IfOk, OnOk};
 ghost use Rattle.std.specs.List.{slice_index_or};
@@ -47,7 +51,6 @@ pub fn values_read(alloc: Global, stored: &[Stored]) -> Result<Vec<Shared<FieldV
     Ok(values)
 }
 
-/// The values of the entry of a place, once it inherits from a parent, as that is now.
 fn inherited_from(
     alloc: Global,
     values: &[Shared<FieldValues>],

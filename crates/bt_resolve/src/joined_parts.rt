@@ -1,4 +1,7 @@
 //! The texts of parts, joined.
+//!
+//! Most values have a single part, so its text is shared instead of copied. Bytes are copied only when a second part
+//! that isn't empty follows.
 
 ghost use Rattle.std.specs.Prelude.{◌≡◌, [], ◌++◌, IfOk, OnOk};
 ghost use Rattle.bt_text.specs.White.{white_joined};
@@ -8,7 +11,6 @@ use bt_text::{Bytes, Shared, is_white_joined, join_white};
 use std::alloc::{AllocError, Global};
 use std::marker::Model;
 
-/// Who has the bytes.
 #[derive(Drop)]
 enum Holder {
     /// A part that is a text has them too.
@@ -35,7 +37,6 @@ impl Model for JoinedParts {
     ghost view = { λ joined. bytes_of joined.holder };
 }
 
-/// Both pieces as one text.
 fn both(alloc: Global, front: &[u8], back: &[u8]) -> Result<Bytes, AllocError>
     ensures { IfOk result (λ text. text ≡ front.now ++ back.now) }
 {

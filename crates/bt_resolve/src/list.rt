@@ -1,4 +1,6 @@
 //! The list of entries, by their places among the stored ones.
+//!
+//! A place is put into a set when it is listed, so that asking whether it is there takes no search in the list.
 
 ghost use Rattle.std.specs.Prelude.{◌≡◌, ◌≤◌, ◌==◌, ◌++◌, ◌∷◌, [], ℕ, true, cond, filter, if◌then◌else◌, length, nat_eq, not, IfOk, IfSome, OnOk};
 ghost use Rattle.std.specs.HashSet.{contains};
@@ -27,7 +29,6 @@ pub fn is_cited_at(
     }
 }
 
-/// The entries of the keys that have one.
 fn cited_places(
     alloc: Global,
     keys: &[Bytes],
@@ -44,7 +45,6 @@ fn cited_places(
     Ok(places)
 }
 
-/// The places among those that may be missing.
 fn known_places(alloc: Global, places: &[Option<usize>]) -> Result<Vec<usize>, AllocError>
     ensures { IfOk result (λ known. known.items ≡ filter_map (λ place. place) places.now) }
 {
@@ -57,14 +57,12 @@ fn known_places(alloc: Global, places: &[Option<usize>]) -> Result<Vec<usize>, A
     Ok(known)
 }
 
-/// The entries that entries refer to.
 fn parents(alloc: Global, family: &Family<'_>) -> Result<Vec<usize>, AllocError>
     ensures { IfOk result (λ places. places.items ≡ parents family.now) }
 {
     known_places(alloc, family.parents())
 }
 
-/// Those of some places whose entries aren't cited.
 fn uncited(
     alloc: Global,
     keys: &NameList,
@@ -93,7 +91,6 @@ fn insert_place(set: &mut HashSet<usize>, place: usize) -> Result<bool, AllocErr
     Ok(new)
 }
 
-/// Puts a place after those found, unless it is among them.
 fn add_first(
     place: usize,
     seen: &mut HashSet<usize>,
@@ -112,7 +109,6 @@ fn add_first(
     }
 }
 
-/// Each of some places once, where it comes first.
 fn firsts(alloc: Global, places: &[usize]) -> Result<Vec<usize>, AllocError>
     ensures { IfOk result (λ found. found.items ≡ firsts [] places.now) }
 {
@@ -124,7 +120,6 @@ fn firsts(alloc: Global, places: &[usize]) -> Result<Vec<usize>, AllocError>
     Ok(found)
 }
 
-/// The uncited entries that entries refer to, each once.
 fn uncited_parents(
     alloc: Global,
     keys: &NameList,
@@ -137,7 +132,6 @@ fn uncited_parents(
     firsts(alloc, uncited.as_slice())
 }
 
-/// Some places, as a set.
 fn place_set(alloc: Global, places: &[usize]) -> Result<HashSet<usize>, AllocError>
     ensures { IfOk result (λ set. (p : ℕ) → contains nat_eq set p ≡ is_among places.now p) }
 {
@@ -148,7 +142,6 @@ fn place_set(alloc: Global, places: &[usize]) -> Result<HashSet<usize>, AllocErr
     Ok(set)
 }
 
-/// Puts a place after those found, unless it is in the set.
 fn add_other(set: &HashSet<usize>, place: usize, found: &mut Vec<usize>) -> Result<(), AllocError>
     ensures { OnOk result (found.new.items ≡ found.old.items
         ++ (if not (contains nat_eq set.now place) then place ∷ [] else [])) }
@@ -161,7 +154,6 @@ fn add_other(set: &HashSet<usize>, place: usize, found: &mut Vec<usize>) -> Resu
     }
 }
 
-/// The places below a number that aren't in the set.
 fn others(alloc: Global, set: &HashSet<usize>, count: usize) -> Result<Vec<usize>, AllocError>
     ensures { IfOk result (λ found. found.items
         ≡ filter (λ p. not (contains nat_eq set.now p)) (range_with_len 0 count)) }
@@ -173,7 +165,6 @@ fn others(alloc: Global, set: &HashSet<usize>, count: usize) -> Result<Vec<usize
     Ok(found)
 }
 
-/// All entries but those of some places.
 fn others_than(
     alloc: Global,
     these: &[usize],

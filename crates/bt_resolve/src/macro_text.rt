@@ -1,4 +1,7 @@
 //! What a macro stands for.
+//!
+//! Fields such as `month = jan` are a macro alone, in many entries. Its white space is joined once, where it is defined,
+//! and each such field shares the result.
 
 ghost use Rattle.std.specs.Prelude.{◌≡◌, IfOk};
 ghost use Rattle.bt_text.specs.White.{white_joined};

@@ -1,4 +1,7 @@
 //! Where a message about an item belongs.
+//!
+//! An item's lines count from its own `@`, so that an edit above it leaves the item as it was read. Only a message needs
+//! the line of the database, which is the sum of the two.
 
 ghost use Rattle.std.specs.Prelude.{◌≡◌, None};
 ghost use Rattle.bt_bib.specs.Moved.{nowhere};

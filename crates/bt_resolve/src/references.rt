@@ -14,7 +14,6 @@ use bt_log::{Message, Rank, Said};
 use bt_text::{Bytes, NameList, Sequence, Shared};
 use std::alloc::{AllocError, Global};
 
-/// A message about the entry of a key.
 fn about(
     alloc: Global,
     rank: Rank,
@@ -33,7 +32,6 @@ fn about(
     })
 }
 
-/// An entry refers to a key that has none.
 fn bad_reference(alloc: Global, key: &[u8], parent: &[u8]) -> Result<Message, AllocError>
     ensures { IfOk result (λ message. message ≡ bad_reference key.now parent.now) }
 {
@@ -70,7 +68,6 @@ fn nested(alloc: Global, key: &[u8], parent: &[u8]) -> Result<Message, AllocErro
     Ok(message)
 }
 
-/// A cited key has no entry.
 fn no_entry(alloc: Global, key: &[u8]) -> Result<Message, AllocError>
     ensures { IfOk result (λ message. message ≡ no_entry key.now) }
 {
@@ -100,7 +97,6 @@ pub fn spelled(
     }
 }
 
-/// Adds the message about the entry that an entry refers to, if there is one.
 fn tell_parent(
     alloc: Global,
     key: &[u8],
@@ -134,7 +130,6 @@ pub struct Teller<'a> {
 }
 
 impl<'a> Teller<'a> {
-    /// The stored entry of a key, if there is one.
     fn entry_of_key(&self, key: &[u8]) -> Result<Option<&'a Stored>, AllocError>
         ensures { IfOk result (λ entry. option_copied entry ≡ option_and_then
             (slice_get self.now.family.now) (place_of_key self.now.family.now key.now)) }
@@ -145,7 +140,6 @@ impl<'a> Teller<'a> {
         }
     }
 
-    /// Adds the message about a cross reference of the entry of a key, if there is one.
     fn crossref(
         &self,
         key: &[u8],
@@ -165,7 +159,6 @@ impl<'a> Teller<'a> {
         }
     }
 
-    /// Adds the message about the cross reference of an entry, if there is one.
     fn entry(
         &self,
         entry: Option<&Stored>,
@@ -183,7 +176,6 @@ impl<'a> Teller<'a> {
         }
     }
 
-    /// Adds the message about the cross reference of the entry at a place, if there is one.
     #[tactic(auto, unfolding(crate::specs::References::reference_messages))]
     fn reference(&self, place: usize, messages: &mut Sequence<Message>) -> Result<(), AllocError>
         ensures { OnOk result (messages.new ≡ messages.old
@@ -206,7 +198,6 @@ impl<'a> Teller<'a> {
         Ok(())
     }
 
-    /// Reports that a key has no entry, where it has none.
     #[tactic(auto, unfolding(crate::specs::References::missing_messages))]
     fn missing(&self, key: &[u8], messages: &mut Sequence<Message>) -> Result<(), AllocError>
         ensures { OnOk result (messages.new ≡ messages.old

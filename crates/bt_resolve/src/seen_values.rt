@@ -1,4 +1,7 @@
 //! The values of an entry as the style sees them: shared with those that it has, with `crossref` in its place.
+//!
+//! Steps of the style share a list of values, and so do a parent and its children that have none of their own. A list is
+//! copied only if `crossref` changes it.
 
 ghost use Rattle.std.specs.Prelude.{◌≡◌, [], true, slice_set, None, IfOk};
 ghost use Rattle.std.specs.List.{slice_index_or};
@@ -29,7 +32,6 @@ fn is_missing(values: &FieldValues, place: usize) -> bool
     values.get(place).is_none()
 }
 
-/// The values with one more in its place.
 fn with_value(
     alloc: Global,
     place: usize,

@@ -1,4 +1,8 @@
 //! The entries that are stored, with what is looked up in them.
+//!
+//! Whether an entry is stored depends on those before it: one of them may have its key, or refer to it by `crossref`.
+//! Both are asked for each entry of a database, so both are found by hashing. The keys that are referred to have a table
+//! of their own, since a parent mostly stands below its children: its key is known before its entry is.
 
 ghost use Rattle.std.specs.Prelude.{◌≡◌, ◌++◌, ◌∷◌, [], ℕ, List, Option, false, option_map, IfOk, OnOk, OnErr};
 ghost use Rattle.bt_text.specs.ByName.{HasRoom, known};
@@ -17,7 +21,6 @@ use std::marker::Model;
 /// whether an entry refers to a key, by hashing.
 #[derive(Drop)]
 pub struct Store {
-    /// The entries by their keys.
     entries: ByName<Stored>,
     /// The keys that entries refer to.
     referred: ByName<()>,
@@ -90,7 +93,6 @@ impl Store {
     }
 }
 
-/// The key that an entry refers to, in small letters.
 fn small_reference(alloc: Global, entry: &Stored) -> Result<Option<Vec<u8>>, AllocError>
     ensures { IfOk result (λ small. option_map (λ v. v.items) small ≡ option_map folded entry.now.crossref) }
 {

@@ -1,4 +1,7 @@
 //! The value of parts joined by `#`, and the warnings that it gives.
+//!
+//! A value may name a macro twice, whose value names another twice, and so on: forty lines of a database would fill any
+//! memory. So what is joined is dropped as soon as it exceeds the limit, and the later parts only give their warnings.
 
 ghost use Rattle.std.specs.Prelude.{◌≡◌, ◌++◌, [], ◌∷◌, All, Some, None, map, not, option_copied, option_and_then, unwrap_or, IfOk, OnOk};
 ghost use Rattle.bt_bib.specs.Moved.{moved_part, nowhere};
@@ -31,7 +34,6 @@ pub struct ValueReader<'a> {
     pub origin: Origin,
 }
 
-/// Whether a text is there and matches a name.
 fn is_named(text: Option<&[u8]>, name: &[u8]) -> bool
     ensures { result ≡ is_named (option_copied text.entry) name.now }
 {
@@ -41,7 +43,7 @@ fn is_named(text: Option<&[u8]>, name: &[u8]) -> bool
     }
 }
 
-/// Whether a text fits after another one, within the limit.
+/// Both lengths are compared by themselves, since their sum may overflow.
 fn fits_after(front: &[u8], text: &[u8]) -> bool
     ensures { result ≡ not (is_too_long (front.now ++ text.now)) }
 {
@@ -70,7 +72,6 @@ fn join_part(
 }
 
 impl<'a> ValueReader<'a> {
-    /// What a macro stands for in the value.
     fn macro_text(&self, name: &[u8]) -> Result<Option<&'a MacroText>, AllocError>
         ensures { IfOk result (λ text. option_copied text ≡ macros_for self.now name.now) }
     {
@@ -81,7 +82,6 @@ impl<'a> ValueReader<'a> {
         }
     }
 
-    /// The warning of a macro that stands for nothing.
     fn empty_macro(&self, name: &[u8], line: usize) -> Result<Message, AllocError>
         requires { FitsLine nowhere self.now.origin.start line }
         ensures { IfOk result (λ message. message ∷ [] ≡ macro_warnings
@@ -95,7 +95,6 @@ impl<'a> ValueReader<'a> {
         }
     }
 
-    /// Joins what a macro stands for, or reports that it stands for nothing.
     fn read_macro(
         &self,
         name: &[u8],
@@ -117,7 +116,6 @@ impl<'a> ValueReader<'a> {
         }
     }
 
-    /// Joins a part to those before it, with its warning if it has one.
     fn part(
         &self,
         part: &Part,
@@ -135,7 +133,6 @@ impl<'a> ValueReader<'a> {
         }
     }
 
-    /// The parts' texts joined, unless they are over the limit, with the warnings of their macros.
     fn parts(
         &self,
         parts: &[Part],

@@ -78,7 +78,6 @@ impl View<'_> {
         }
     }
 
-    /// A stored entry with these values, as the style sees it.
     fn entry_seen(&self, values: Shared<FieldValues>, entry: &Stored) -> Result<Entry, AllocError>
         ensures { IfOk result (λ seen. seen
             ≡ entry_seen self.now.asked.now self.now.min self.now.family.now values entry.now) }
@@ -92,7 +91,6 @@ impl View<'_> {
         })
     }
 
-    /// The entry of a place with these values, as the style sees it.
     fn entry_at(
         &self,
         values: Shared<FieldValues>,
@@ -110,7 +108,6 @@ impl View<'_> {
         }
     }
 
-    /// Puts the entry of a place after the others, unless it is left out.
     fn add_entry(
         &self,
         values: &[Shared<FieldValues>],
@@ -132,7 +129,6 @@ impl View<'_> {
         }
     }
 
-    /// The entries of some places with their values, without those that are left out.
     fn entries_by(
         &self,
         values: &[Shared<FieldValues>],

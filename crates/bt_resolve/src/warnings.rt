@@ -9,7 +9,6 @@ use bt_log::{Message, Rank, Said};
 use bt_text::{Bytes, Shared, to_ascii_lowercase};
 use std::alloc::{AllocError, Global};
 
-/// A warning, about the entry of a key or about none.
 fn warning_at(place: BibLine, words: Shared<Bytes>, entry: Option<Shared<Bytes>>) -> Message
     ensures { result ≡ warning_at place words entry }
 {
@@ -67,7 +66,6 @@ pub fn too_long(alloc: Global, place: BibLine, name: &[u8]) -> Result<Message, A
     naming(alloc, place, b"Warning--the value of \"", name, after)
 }
 
-/// A warning about the entry of a key.
 fn about(
     alloc: Global,
     place: BibLine,
