@@ -13,9 +13,6 @@ use Rattle.bt_resolve.specs.inner.Cases.{with_content, preamble_at, preamble_of,
 use Rattle.bt_resolve.specs.Stored.{stored_among}
 use Rattle.bt_resolve.specs.Messages.{for_each, item_messages, database_messages}
 use Rattle.bt_resolve.specs.inner.Databases.{State, resolved_of, after_item, after_items, after_databases, nothing_read}
-use Rattle.std.specs.List.{flat_map}
-use Rattle.bt_resolve.specs.Listed.{listed}
-use Rattle.bt_resolve.specs.References.{reference_messages, missing_messages, list_messages}
 use Rattle.bt_resolve.specs.Resolved.{all_items, stored_entries, preamble, messages}
 
 -- the state stands after these items, the last of them first
@@ -115,10 +112,3 @@ resolved_is a ms min databases s is =
     ∙ ap (λ (stored : List Stored). resolved_of a min stored read.preamble read.messages) (stored_is a ms databases)
     ∙ ap (λ (text : List ℕ). resolved_of a min (stored_entries a ms databases) text read.messages) (preamble_is a ms databases)
     ∙ ap (λ (told : List Message). resolved_of a min (stored_entries a ms databases) (preamble ms databases) told) (messages_are a ms databases)
-
--- the messages of the list after others
-pub list_told : (a : Asked) (stored : List Stored) (places : List ℕ) (m : List Message) → places ≡ listed a stored → m ++ flat_map (reference_messages a.keys stored) places ++ flat_map (missing_messages stored) a.keys ≡ m ++ list_messages a stored
-unfolding list_messages
-list_told a stored places m is =
-    append_assoc m (flat_map (reference_messages a.keys stored) places) (flat_map (missing_messages stored) a.keys)
-    ∙ ap (λ (ps : List ℕ). m ++ (flat_map (reference_messages a.keys stored) ps ++ flat_map (missing_messages stored) a.keys)) is

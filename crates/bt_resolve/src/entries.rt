@@ -1,6 +1,6 @@
 //! Entries as they are read: which are stored, and as what.
 
-ghost use Rattle.std.specs.Prelude.{◌≡◌, ◌++◌, [], All, IfOk, IsTrue, OnOk, map};
+ghost use Rattle.std.specs.Prelude.{◌≡◌, ◌++◌, All, IfOk, IsTrue, OnOk, map};
 ghost use Rattle.bt_bib.specs.Moved.{moved_entry, moved_field, nowhere};
 ghost use Rattle.bt_bib.specs.Shift.{FitsField, FitsLine};
 ghost use Rattle.bt_text.specs.ByName.{known};

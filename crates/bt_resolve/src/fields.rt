@@ -4,7 +4,7 @@
 //! field goes into the slot of its name, unless the slot is filled. Its messages then come in the order of the fields,
 //! also those about a value that doesn't count.
 
-ghost use Rattle.std.specs.Prelude.{◌≡◌, ◌++◌, All, Some, None, IfOk, IsTrue, OnOk, map, slice_get};
+ghost use Rattle.std.specs.Prelude.{◌≡◌, ◌++◌, All, Some, IfOk, IsTrue, OnOk, map, slice_get};
 ghost use Rattle.bt_bib.specs.Moved.{moved_field, nowhere};
 ghost use Rattle.bt_bib.specs.Shift.{FitsField};
 ghost use Rattle.bt_text.specs.ByName.{known};

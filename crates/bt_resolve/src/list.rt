@@ -48,13 +48,7 @@ fn cited_places(
 fn known_places(alloc: Global, places: &[Option<usize>]) -> Result<Vec<usize>, AllocError>
     ensures { IfOk result (λ known. known.items ≡ filter_map (λ place. place) places.now) }
 {
-    let mut known = Vec::new(alloc);
-    'places: for place in places {
-        if let Some(place) = place {
-            known.push(*place)?;
-        }
-    }
-    Ok(known)
+    places.iter().filter_map(|place| *place).collect(alloc)
 }
 
 fn parents(alloc: Global, family: &Family<'_>) -> Result<Vec<usize>, AllocError>
@@ -87,8 +81,7 @@ fn insert_place(set: &mut HashSet<usize>, place: usize) -> Result<bool, AllocErr
     ensures set { OnOk result ((p : ℕ) → contains nat_eq set.new p
         ≡ cond (place == p) true (contains nat_eq set.old p)) }
 {
-    let new = set.insert(place)?;
-    Ok(new)
+    Ok(set.insert(place)?)
 }
 
 fn add_first(
@@ -142,27 +135,13 @@ fn place_set(alloc: Global, places: &[usize]) -> Result<HashSet<usize>, AllocErr
     Ok(set)
 }
 
-fn add_other(set: &HashSet<usize>, place: usize, found: &mut Vec<usize>) -> Result<(), AllocError>
-    ensures { OnOk result (found.new.items ≡ found.old.items
-        ++ (if not (contains nat_eq set.now place) then place ∷ [] else [])) }
-{
-    if set.contains(&place) {
-        Ok(())
-    } else {
-        found.push(place)?;
-        Ok(())
-    }
-}
-
 fn others(alloc: Global, set: &HashSet<usize>, count: usize) -> Result<Vec<usize>, AllocError>
     ensures { IfOk result (λ found. found.items
         ≡ filter (λ p. not (contains nat_eq set.now p)) (range_with_len 0 count)) }
 {
-    let mut found = Vec::new(alloc);
-    'places: for place in 0..count {
-        add_other(set, place, &mut found)?;
-    }
-    Ok(found)
+    (0..count)
+        .filter(|place| !set.contains(place))
+        .collect(alloc)
 }
 
 fn others_than(

@@ -1,15 +1,15 @@
 //! The messages of the list: about cross references, and about cited keys without an entry.
 
-ghost use Rattle.std.specs.Prelude.{◌≡◌, Some, None, ◌++◌, option_and_then, option_copied, slice_get, IfOk, OnOk};
+ghost use Rattle.std.specs.Prelude.{◌≡◌, ◌++◌, option_and_then, option_copied, slice_get, IfOk, OnOk};
 ghost use Rattle.std.specs.List.{flat_map};
 ghost use Rattle.bt_resolve.specs.Inherited.{key_spelled};
-ghost use Rattle.bt_resolve.specs.Listed.{place_of_key};
-ghost use Rattle.bt_resolve.specs.References.{about, bad_reference, missing_messages, nested, no_entry, reference_messages};
-ghost use Rattle.bt_resolve.specs.inner.Cases.{crossref_messages, entry_messages, parent_messages};
+ghost use Rattle.bt_resolve.specs.Listed.{listed, place_of_key};
+ghost use Rattle.bt_resolve.specs.References.{about, bad_reference, list_messages, missing_messages, nested, no_entry, reference_messages};
+ghost use Rattle.bt_resolve.specs.inner.Cases.{entry_messages, parent_messages};
 
-use crate::family::Family;
 use crate::messages::add_message;
 use crate::stored::Stored;
+use crate::view::View;
 use bt_log::{Message, Rank, Said};
 use bt_text::{Bytes, NameList, Sequence, Shared};
 use std::alloc::{AllocError, Global};
@@ -40,8 +40,7 @@ fn bad_reference(alloc: Global, key: &[u8], parent: &[u8]) -> Result<Message, Al
         alloc,
         &[b"refers to entry \"", parent, b"\", which doesn't exist"],
     )?;
-    let message = about(alloc, Rank::Error, key, words, Some(second))?;
-    Ok(message)
+    about(alloc, Rank::Error, key, words, Some(second))
 }
 
 /// An entry refers to one that refers to something itself.
@@ -64,8 +63,7 @@ fn nested(alloc: Global, key: &[u8], parent: &[u8]) -> Result<Message, AllocErro
             b"\", which also refers to something",
         ],
     )?;
-    let message = about(alloc, Rank::Warning, key, words, Some(second))?;
-    Ok(message)
+    about(alloc, Rank::Warning, key, words, Some(second))
 }
 
 fn no_entry(alloc: Global, key: &[u8]) -> Result<Message, AllocError>
@@ -79,8 +77,7 @@ fn no_entry(alloc: Global, key: &[u8]) -> Result<Message, AllocError>
             b"\"",
         ],
     )?;
-    let message = about(alloc, Rank::Warning, key, words, None)?;
-    Ok(message)
+    about(alloc, Rank::Warning, key, words, None)
 }
 
 /// A key as it is cited; one that isn't cited, as it stands in the database.
@@ -97,39 +94,7 @@ pub fn spelled(
     }
 }
 
-fn tell_parent(
-    alloc: Global,
-    key: &[u8],
-    name: &[u8],
-    parent: Option<&Stored>,
-    messages: &mut Sequence<Message>,
-) -> Result<(), AllocError>
-    ensures { OnOk result (messages.new ≡ messages.old
-        ++ parent_messages key.now name.now (option_copied parent.entry)) }
-{
-    match parent {
-        None => add_message(messages, bad_reference(alloc, key, name)?),
-        Some(parent) => {
-            if parent.crossref.is_some() {
-                add_message(messages, nested(alloc, key, name)?)
-            } else {
-                Ok(())
-            }
-        }
-    }
-}
-
-/// What the messages of the list are worked out from: the cited keys, and the stored entries.
-#[derive(Clone, Copy, Drop)]
-pub struct Teller<'a> {
-    pub alloc: Global,
-    /// The cited keys.
-    pub keys: &'a NameList,
-    /// The stored entries.
-    pub family: &'a Family<'a>,
-}
-
-impl<'a> Teller<'a> {
+impl<'a> View<'a> {
     fn entry_of_key(&self, key: &[u8]) -> Result<Option<&'a Stored>, AllocError>
         ensures { IfOk result (λ entry. option_copied entry ≡ option_and_then
             (slice_get self.now.family.now) (place_of_key self.now.family.now key.now)) }
@@ -140,48 +105,51 @@ impl<'a> Teller<'a> {
         }
     }
 
-    fn crossref(
+    fn tell_parent(
         &self,
         key: &[u8],
-        crossref: &Option<Shared<Bytes>>,
+        name: &[u8],
         messages: &mut Sequence<Message>,
     ) -> Result<(), AllocError>
-        ensures { OnOk result (messages.new ≡ messages.old
-            ++ crossref_messages self.now.family.now key.now crossref.now) }
+        ensures { OnOk result (messages.new ≡ messages.old ++ parent_messages key.now name.now
+            (option_and_then (slice_get self.now.family.now) (place_of_key self.now.family.now name.now))) }
     {
-        match crossref {
-            None => Ok(()),
-            Some(name) => {
-                let name = name.as_slice();
-                let parent = self.entry_of_key(name)?;
-                tell_parent(self.alloc, key, name, parent, messages)
+        match self.entry_of_key(name)? {
+            None => add_message(messages, bad_reference(self.alloc, key, name)?),
+            Some(parent) => {
+                if parent.crossref.is_some() {
+                    add_message(messages, nested(self.alloc, key, name)?)
+                } else {
+                    Ok(())
+                }
             }
         }
     }
 
-    fn entry(
+    fn tell_entry(
         &self,
         entry: Option<&Stored>,
         messages: &mut Sequence<Message>,
     ) -> Result<(), AllocError>
         ensures { OnOk result (messages.new ≡ messages.old
-            ++ entry_messages self.now.keys.now self.now.family.now (option_copied entry.entry)) }
+            ++ entry_messages self.now.asked.now.keys self.now.family.now (option_copied entry.entry)) }
     {
-        match entry {
-            None => Ok(()),
-            Some(entry) => {
-                let key = spelled(self.alloc, self.keys, &entry.key)?;
-                self.crossref(key.as_slice(), &entry.crossref, messages)
-            }
-        }
+        let Some(entry) = entry else {
+            return Ok(());
+        };
+        let Some(name) = &entry.crossref else {
+            return Ok(());
+        };
+        let key = spelled(self.alloc, &self.asked.keys, &entry.key)?;
+        self.tell_parent(key.as_slice(), name.as_slice(), messages)
     }
 
     #[tactic(auto, unfolding(crate::specs::References::reference_messages))]
     fn reference(&self, place: usize, messages: &mut Sequence<Message>) -> Result<(), AllocError>
         ensures { OnOk result (messages.new ≡ messages.old
-            ++ reference_messages self.now.keys.now self.now.family.now place) }
+            ++ reference_messages self.now.asked.now.keys self.now.family.now place) }
     {
-        self.entry(self.family.entries().get(place), messages)
+        self.tell_entry(self.family.entries().get(place), messages)
     }
 
     fn references(
@@ -190,7 +158,7 @@ impl<'a> Teller<'a> {
         messages: &mut Sequence<Message>,
     ) -> Result<(), AllocError>
         ensures { OnOk result (messages.new ≡ messages.old
-            ++ flat_map (reference_messages self.now.keys.now self.now.family.now) places.now) }
+            ++ flat_map (reference_messages self.now.asked.now.keys self.now.family.now) places.now) }
     {
         'places: for place in places {
             self.reference(*place, messages)?;
@@ -224,14 +192,19 @@ impl<'a> Teller<'a> {
         Ok(())
     }
 
-    /// Adds the messages about the cross references of the entries at these places, then those about cited keys without
-    /// an entry. After out of memory a part of them may be added.
-    pub fn list(&self, places: &[usize], messages: &mut Sequence<Message>) -> Result<(), AllocError>
+    /// Adds the messages of the list, whose entries stand at these places. After out of memory a part of them may be
+    /// added.
+    #[tactic(auto, unfolding(crate::specs::References::list_messages))]
+    pub fn tell_list(
+        &self,
+        places: &[usize],
+        messages: &mut Sequence<Message>,
+    ) -> Result<(), AllocError>
+        requires { places.now ≡ listed self.now.asked.now self.now.family.now }
         ensures { OnOk result (messages.new ≡ messages.old
-            ++ flat_map (reference_messages self.now.keys.now self.now.family.now) places.now
-            ++ flat_map (missing_messages self.now.family.now) self.now.keys.now) }
+            ++ list_messages self.now.asked.now self.now.family.now) }
     {
         self.references(places, messages)?;
-        self.all_missing(self.keys.as_slice(), messages)
+        self.all_missing(self.asked.keys.as_slice(), messages)
     }
 }

@@ -3,7 +3,7 @@
 //! A value may name a macro twice, whose value names another twice, and so on: forty lines of a database would fill any
 //! memory. So what is joined is dropped as soon as it exceeds the limit, and the later parts only give their warnings.
 
-ghost use Rattle.std.specs.Prelude.{◌≡◌, ◌++◌, [], ◌∷◌, All, Some, None, map, not, option_copied, option_and_then, unwrap_or, IfOk, OnOk};
+ghost use Rattle.std.specs.Prelude.{◌≡◌, ◌++◌, [], ◌∷◌, All, None, map, not, option_copied, option_and_then, unwrap_or, IfOk, OnOk};
 ghost use Rattle.bt_bib.specs.Moved.{moved_part, nowhere};
 ghost use Rattle.bt_bib.specs.Shift.{FitsLine, FitsPart};
 ghost use Rattle.bt_resolve.specs.Values.{is_named, joined_parts, value, value_warnings, within_limit, without_first_space, without_last_space};

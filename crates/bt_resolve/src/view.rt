@@ -1,10 +1,11 @@
 //! The entries that the style sees.
 
 ghost use Rattle.std.specs.Prelude.{◌≡◌, ◌++◌, ◌∷◌, [], IfOk, OnOk};
-ghost use Rattle.bt_resolve.specs.Inherited.{entry_seen, final_crossref, is_left_out};
-ghost use Rattle.bt_resolve.specs.inner.Cases.{entries_by, entry_at, with_crossref};
+ghost use Rattle.bt_resolve.specs.Inherited.{entries_seen, entry_seen, final_crossref, is_left_out};
+ghost use Rattle.bt_resolve.specs.inner.Cases.{entry_at, with_crossref};
 ghost use Rattle.bt_resolve.specs.Names.{crossref, place_of_name};
-ghost use Rattle.bt_resolve.specs.inner.Inheritance.{all_inherit, values_read, entries_with};
+ghost use Rattle.bt_resolve.specs.Listed.{listed};
+ghost use Rattle.bt_resolve.specs.inner.Inheritance.{entries_with};
 
 use crate::asked::Asked;
 use crate::entry::Entry;
@@ -143,10 +144,11 @@ impl View<'_> {
         Ok(entries)
     }
 
-    /// The entries of a list, once those of the list have inherited in its order.
+    /// The entries that the style sees of the list, whose entries stand at these places.
     pub fn entries_of_list(&self, places: &[usize]) -> Result<Sequence<Entry>, AllocError>
-        ensures { IfOk result (λ entries. entries ≡ entries_with self.now
-            (all_inherit self.now.family.now (values_read self.now.family.now) places.now) places.now) }
+        requires { places.now ≡ listed self.now.asked.now self.now.family.now }
+        ensures { IfOk result (λ entries. entries
+            ≡ entries_seen self.now.asked.now self.now.min self.now.family.now) }
     {
         let mut values = values_read(self.alloc, self.family.entries())?;
         all_inherit(self.alloc, self.family, places, &mut values)?;

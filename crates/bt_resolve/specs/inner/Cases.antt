@@ -231,14 +231,13 @@ abbrev pub parent_messages : List ℕ → List ℕ → Option Stored → List Me
 parent_messages key name None = bad_reference key name ∷ []
 parent_messages key name (Some parent) = if is_some parent.crossref then nested key name ∷ [] else []
 
-abbrev pub crossref_messages : List Stored → List ℕ → Option (List ℕ) → List Message
-crossref_messages stored key None = []
-crossref_messages stored key (Some name) =
-    parent_messages key name (option_and_then (slice_get stored) (place_of_key stored name))
-
 abbrev pub entry_messages : List (List ℕ) → List Stored → Option Stored → List Message
 entry_messages keys stored None = []
-entry_messages keys stored (Some s) = crossref_messages stored (key_spelled keys s.key) s.crossref
+entry_messages keys stored (Some s) = elim s.crossref [
+  | None ↦ []
+  | Some name ↦
+      parent_messages (key_spelled keys s.key) name (option_and_then (slice_get stored) (place_of_key stored name))
+]
 
 -- All
 
