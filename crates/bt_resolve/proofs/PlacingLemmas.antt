@@ -4,16 +4,20 @@ use Rattle.std.proofs.lemmas.List.{reverse-append}
 use Rattle.std.proofs.lemmas.Grind.{reverse_onto}
 use Rattle.bt_bib.specs.declared.item.Item.{Item}
 use Rattle.bt_resolve.specs.declared.asked.Asked.{Asked}
+use Rattle.bt_resolve.specs.declared.declared.Cites.{Cites}
+use Rattle.bt_resolve.specs.declared.declared.Declared.{Declared}
 use Rattle.bt_resolve.specs.declared.declared.Macro.{Macro}
+use Rattle.bt_resolve.specs.declared.entry.Resolved.{Resolved}
+use Rattle.bt_resolve.specs.Inherited.{entries_seen}
 use Rattle.bt_log.specs.declared.message.Message.{Message}
 use Rattle.bt_resolve.specs.declared.stored.Stored.{Stored}
 use Rattle.bt_resolve.specs.Values.{MacroTexts}
 use Rattle.bt_resolve.specs.Macros.{macro_before}
-use Rattle.bt_resolve.specs.inner.Cases.{with_content, preamble_at, preamble_of, messages_at, resolved_by, with_item}
+use Rattle.bt_resolve.specs.inner.Cases.{with_content, preamble_at, preamble_of, messages_at, with_item, asked}
 use Rattle.bt_resolve.specs.Stored.{stored_among}
 use Rattle.bt_resolve.specs.Messages.{for_each, item_messages, database_messages}
 use Rattle.bt_resolve.specs.inner.Databases.{State, resolved_of, after_item, after_items, after_databases, nothing_read}
-use Rattle.bt_resolve.specs.Resolved.{all_items, stored_entries, preamble, messages}
+use Rattle.bt_resolve.specs.Resolved.{all_items, stored_entries, preamble, messages, resolved}
 
 -- the state stands after these items, the last of them first
 pub record StandsBehind (a : Asked) (ms : List Macro) (before : List Item) (s : State) : Type 0 where
@@ -103,12 +107,20 @@ messages_are : (a : Asked) (ms : List Macro) (databases : List (List Item)) → 
 messages_are a ms databases = (all_add a ms databases).messages
 
 -- what is resolved, once no database is left
-pub resolved_is : (a : Asked) (ms : List Macro) (min : ℕ) (databases : List (List Item)) (s : State) → s ≡ after_databases a 1 (nothing_read ms) databases →
-    resolved_of a min s.stored s.preamble s.messages ≡ resolved_by a ms databases min
+resolved_by : (a : Asked) (ms : List Macro) (min : ℕ) (databases : List (List Item)) (s : State) → s ≡ after_databases a 1 (nothing_read ms) databases →
+    resolved_of a min s.stored s.preamble s.messages
+    ≡ record { entries = entries_seen a min (stored_entries a ms databases); preamble = preamble ms databases; messages = messages a ms databases }
 unfolding messages
-resolved_is a ms min databases s is =
+resolved_by a ms min databases s is =
     let read = after_databases a 1 (nothing_read ms) databases in
     ap (λ (t : State). resolved_of a min t.stored t.preamble t.messages) is
     ∙ ap (λ (stored : List Stored). resolved_of a min stored read.preamble read.messages) (stored_is a ms databases)
     ∙ ap (λ (text : List ℕ). resolved_of a min (stored_entries a ms databases) text read.messages) (preamble_is a ms databases)
     ∙ ap (λ (told : List Message). resolved_of a min (stored_entries a ms databases) (preamble ms databases) told) (messages_are a ms databases)
+
+pub resolved_is : (d : Declared) (c : Cites) (min : ℕ) (databases : List (List Item)) (a : Asked) (before s : State) (all : Resolved) → a ≡ asked d c → before ≡ nothing_read d.macros →
+    s ≡ after_databases a 1 before databases → all ≡ resolved_of a min s.stored s.preamble s.messages → all ≡ resolved d c databases min
+unfolding resolved
+resolved_is d c min databases a before s all is_asked nothing read is =
+    is ∙ ap (λ (b : Asked). resolved_of b min s.stored s.preamble s.messages) is_asked
+    ∙ resolved_by (asked d c) d.macros min databases s (read ∙ ap (λ (b : Asked). after_databases b 1 before databases) is_asked ∙ ap (λ (t : State). after_databases (asked d c) 1 t databases) nothing)

@@ -149,23 +149,6 @@ impl FieldReader<'_> {
         }
     }
 
-    fn read_declared(
-        &self,
-        field: &Field,
-        slot: Slot,
-        given: &mut Given,
-        messages: &mut Sequence<Message>,
-    ) -> Result<(), AllocError>
-        requires { FitsField nowhere self.now.origin.start field.now }
-        ensures given { OnOk result (given.new
-            ≡ with_field (Some slot) (text_of_field self.now field.now) given.old) }
-        ensures messages { OnOk result (messages.new
-            ≡ messages.old ++ messages_of_field self.now (Some slot) given.old field.now) }
-    {
-        let value = self.value(field, messages)?;
-        self.put(field, slot, value, given, messages)
-    }
-
     fn field(
         &self,
         field: &Field,
@@ -178,10 +161,11 @@ impl FieldReader<'_> {
         ensures messages { OnOk result (messages.new ≡ messages.old
             ++ messages_of_field self.now (slot_of self.now.declared.now field.now.name) given.old field.now) }
     {
-        match self.slot(field.name.as_slice())? {
-            None => Ok(()),
-            Some(slot) => self.read_declared(field, slot, given, messages),
-        }
+        let Some(slot) = self.slot(field.name.as_slice())? else {
+            return Ok(());
+        };
+        let value = self.value(field, messages)?;
+        self.put(field, slot, value, given, messages)
     }
 
     /// Reads the fields of the entry.

@@ -4,8 +4,7 @@
 //! list has not inherited itself yet, so its child doesn't get its grandparent's values. The values of all entries
 //! therefore stand in one list, in which an entry's are replaced when its turn comes.
 
-ghost use Rattle.std.specs.Prelude.{◌≡◌, [], IfOk, OnOk};
-ghost use Rattle.std.specs.List.{slice_index_or};
+ghost use Rattle.std.specs.Prelude.{◌≡◌, IfOk, OnOk};
 ghost use Rattle.bt_resolve.specs.Inherited.{inherited};
 ghost use Rattle.bt_resolve.specs.inner.Inheritance.{all_inherit, inherits_at, values_read};
 
@@ -51,20 +50,6 @@ pub fn values_read(alloc: Global, stored: &[Stored]) -> Result<Vec<Shared<FieldV
     Ok(values)
 }
 
-fn inherited_from(
-    alloc: Global,
-    values: &[Shared<FieldValues>],
-    place: usize,
-    parent: usize,
-) -> Result<Shared<FieldValues>, AllocError>
-    ensures { IfOk result (λ filled. filled
-        ≡ inherited (slice_index_or values.now place []) (slice_index_or values.now parent [])) }
-{
-    let mine = shared_at(alloc, values, place)?;
-    let theirs = shared_at(alloc, values, parent)?;
-    inherited(alloc, &mine, &theirs)
-}
-
 /// The entry of a place inherits from its parent, as that is now.
 fn inherit_at(
     alloc: Global,
@@ -77,7 +62,9 @@ fn inherit_at(
     let Some(parent) = family.parent_at(place) else {
         return Ok(());
     };
-    let filled = inherited_from(alloc, values.as_slice(), place, parent)?;
+    let mine = shared_at(alloc, values.as_slice(), place)?;
+    let theirs = shared_at(alloc, values.as_slice(), parent)?;
+    let filled = inherited(alloc, &mine, &theirs)?;
     if place < values.len() {
         values[place] = filled;
     }

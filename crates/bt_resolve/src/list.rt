@@ -1,10 +1,11 @@
 //! The list of entries, by their places among the stored ones.
 //!
-//! A place is put into a set when it is listed, so that asking whether it is there takes no search in the list.
+//! For each entry it is asked whether the list has it already. A set of the listed places answers that; a search in the
+//! list would take quadratic time.
 
 ghost use Rattle.std.specs.Prelude.{◌≡◌, ◌≤◌, ◌==◌, ◌++◌, ◌∷◌, [], ℕ, true, cond, filter, if◌then◌else◌, length, nat_eq, not, IfOk, IfSome, OnOk};
 ghost use Rattle.std.specs.HashSet.{contains};
-ghost use Rattle.std.specs.List.{filter_map, range_with_len};
+ghost use Rattle.std.specs.List.{filter_map};
 ghost use Rattle.bt_resolve.specs.Listed.{cited_places, firsts, is_among, is_cited_at, listed, uncited_parents};
 ghost use Rattle.bt_resolve.specs.inner.Cases.{others_than, parents};
 
@@ -135,15 +136,6 @@ fn place_set(alloc: Global, places: &[usize]) -> Result<HashSet<usize>, AllocErr
     Ok(set)
 }
 
-fn others(alloc: Global, set: &HashSet<usize>, count: usize) -> Result<Vec<usize>, AllocError>
-    ensures { IfOk result (λ found. found.items
-        ≡ filter (λ p. not (contains nat_eq set.now p)) (range_with_len 0 count)) }
-{
-    (0..count)
-        .filter(|place| !set.contains(place))
-        .collect(alloc)
-}
-
 fn others_than(
     alloc: Global,
     these: &[usize],
@@ -152,7 +144,9 @@ fn others_than(
     ensures { IfOk result (λ found. found.items ≡ others_than these.now family.now) }
 {
     let set = place_set(alloc, these)?;
-    others(alloc, &set, family.entries().len())
+    (0..family.entries().len())
+        .filter(|place| !set.contains(place))
+        .collect(alloc)
 }
 
 /// The list: what is cited, then what entries refer to, or what else there is.

@@ -10,11 +10,10 @@ ghost use Rattle.bt_resolve.specs.inner.Databases.{resolved_of};
 ghost use Rattle.bt_text.specs.NameList.{are_apart};
 ghost use Rattle.bt_resolve.specs.References.{list_messages};
 ghost use Rattle.bt_resolve.specs.Resolved.{resolved};
-ghost use Rattle.bt_resolve.specs.inner.Cases.{resolved_by};
 
 use crate::asked::Asked;
 use crate::databases::{nothing_read, read_databases};
-use crate::declared::{Cites, Declared, Macro};
+use crate::declared::{Cites, Declared};
 use crate::entry::{Entry, Resolved};
 use crate::family::Family;
 use crate::list::listed;
@@ -71,26 +70,8 @@ fn resolve_read(
     })
 }
 
-fn resolve_asked(
-    alloc: Global,
-    asked: &Asked<'_>,
-    macros: &[Macro],
-    databases: &[&Items],
-    min: u32,
-) -> Result<Resolved, AllocError>
-    requires fields { IsTrue (are_apart asked.now.fields) }
-    requires star { IfSome asked.now.star (λ before. before ≤ length asked.now.keys) }
-    ensures { IfOk result (λ all. all
-        ≡ resolved_by asked.now macros.now (map (λ d. items_of d.now) databases.now) min) }
-{
-    let mut read = nothing_read(alloc, macros)?;
-    read_databases(alloc, asked, databases, &mut read)?;
-    resolve_read(alloc, asked, min, &mut read)
-}
-
 /// The list of entries that a style sees, the preamble, and all messages, from the items of the databases in their
 /// order. An uncited entry to which fewer than `min` entries refer isn't in the list.
-#[tactic(auto, unfolding(crate::specs::Resolved::resolved))]
 pub fn resolve(
     alloc: Global,
     declared: &Declared,
@@ -104,5 +85,7 @@ pub fn resolve(
         ≡ resolved declared.now cites.now (map (λ d. items_of d.now) databases.now) min) }
 {
     let asked = Asked::new(alloc, declared, cites)?;
-    resolve_asked(alloc, &asked, declared.macros.as_slice(), databases, min)
+    let mut read = nothing_read(alloc, declared.macros.as_slice())?;
+    read_databases(alloc, &asked, databases, &mut read)?;
+    resolve_read(alloc, &asked, min, &mut read)
 }

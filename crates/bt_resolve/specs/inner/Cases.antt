@@ -21,7 +21,6 @@ use Rattle.bt_resolve.specs.declared.declared.Cites.{Cites}
 use Rattle.bt_resolve.specs.declared.declared.Declared.{Declared}
 use Rattle.bt_resolve.specs.declared.declared.Macro.{Macro as StyleMacro}
 use Rattle.bt_resolve.specs.declared.entry.Entry.{Entry as SeenEntry}
-use Rattle.bt_resolve.specs.declared.entry.Resolved.{Resolved}
 use Rattle.bt_resolve.specs.declared.place.BibLine.{BibLine}
 use Rattle.bt_resolve.specs.declared.stored.Stored.{Stored}
 use Rattle.bt_resolve.specs.Names.{crossref}
@@ -33,9 +32,9 @@ use Rattle.bt_resolve.specs.Fields.{given_value, field_messages}
 use Rattle.bt_resolve.specs.Stored.{stored_of, is_wanted, is_stored, stored_among}
 use Rattle.bt_resolve.specs.Messages.{stored_messages, string_messages, preamble_messages, item_messages}
 use Rattle.bt_resolve.specs.Listed.{place_of_key, parent_of, is_among, cited_places, uncited_parents}
-use Rattle.bt_resolve.specs.Inherited.{inherited, is_left_out, key_spelled, entry_seen, entries_seen}
+use Rattle.bt_resolve.specs.Inherited.{inherited, is_left_out, key_spelled, entry_seen}
 use Rattle.bt_resolve.specs.References.{bad_reference, nested}
-use Rattle.bt_resolve.specs.Resolved.{stored_entries, preamble, messages}
+use Rattle.bt_resolve.specs.Resolved.{preamble}
 
 -- Values
 
@@ -244,10 +243,3 @@ entry_messages keys stored (Some s) = elim s.crossref [
 -- what items are looked up in
 abbrev pub asked : Declared → Cites → Asked
 asked d c = record { fields = d.fields; types = d.types; keys = c.keys; star = c.star }
-
-abbrev pub resolved_by : Asked → List StyleMacro → List (List Item) → ℕ → Resolved
-resolved_by a macros databases min = record {
-  entries = entries_seen a min (stored_entries a macros databases);
-  preamble = preamble macros databases;
-  messages = messages a macros databases;
-}
