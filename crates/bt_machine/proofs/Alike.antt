@@ -1,6 +1,7 @@
 -- An evaluation does the same at two places of an entry.
-use Rattle.std.proofs.Common.{◌≡◌, ℕ, zero, suc, ◌+◌, ◌-◌, Bool, true, false, List, [], ◌∷◌, length, Option, Some, None, refl, sym, ap, subst, ◌∙◌}
+use Rattle.std.proofs.Common.{◌≡◌, ℕ, zero, suc, ◌+◌, ◌-◌, Bool, true, false, List, [], ◌∷◌, length, Option, Some, None, refl, ap, subst}
 use Rattle.std.specs.Prelude.{ℤ, pos, negsuc, slice_index_or}
+use Rattle.std.specs.Option.{option_or}
 use Rattle.bt_style.specs.declared.builtin.Builtin.{Builtin as Primitive}
 use Rattle.bt_style.specs.declared.builtin.Builtin.TheVariants as builtin
 use Rattle.bt_style.specs.declared.style.Target.TheVariants.{Builtin, Field, EntryNumber, EntryText, GlobalNumber, GlobalText, Function}
@@ -15,8 +16,9 @@ use Rattle.bt_actions.specs.Arguments.{as_number, as_code, taken}
 use Rattle.bt_actions.specs.Given.{zero_item, empty_item}
 use Rattle.bt_actions.specs.Operands.{of_entry, field_at, number_at, text_at}
 use Rattle.bt_actions.specs.Actions.{basic}
-use Rattle.bt_machine.specs.Eval.{Counts, Ending, Done, Stopped, Runner, then_go, acted, code_body, function_body, type_function, run_function, run_type, by_sign, run_chosen, turn, turns, run_loop, built_in, act, calls_after, eval_within}
-use Rattle.bt_machine.specs.Step.{tick_limit, checked, rested, Finish, finished_at, finish_of}
+use Rattle.bt_machine.specs.Eval.{Counts, Ending, Done, Stopped, Runner, then_go, acted, code_body, default_type, function_body, run_type, by_sign, turn, turns, looped, run_with, built_in, act, calls_after, eval_within}
+use Rattle.bt_machine.specs.Step.{tick_limit, checked, Finish, finished_at}
+use Rattle.bt_machine.specs.inner.Cases.{rested, finish_of}
 use Rattle.bt_machine.proofs.Places.{Part, Place, embed, WorldsAlike, ActsAlike, same_part, on_alike, on_pairs, say_alike, taken_alike, taken_two_alike, taken_three_alike, by_entry, of_entry_alike, pushed_alike, basic_alike}
 
 module _ (e : Option Entry) (pre : List ℕ) (P P' : Place e) where
@@ -64,29 +66,22 @@ module _ (e : Option Entry) (pre : List ℕ) (P P' : Place e) where
   module _ (p : Program) (run : Runner) (f : (b : Body) → GoAlike (run b)) where
     -- functions that run others
 
-    chosen_alike : (o : Option (ℤ × Code × Code)) (s : Part) (k : Counts) → EndingsAlike (run_chosen run (o, embed e pre P s) k) (run_chosen run (o, embed e pre P' s) k)
-    chosen_alike None s k = ((same_part e pre P P') s, refl)
-    chosen_alike (Some q) s k = f (code_body (by_sign q.0 q.1 q.2)) s k
-
-    loop_alike : (o : Option (Code × Code)) (s : Part) (k : Counts) → EndingsAlike (run_loop run (o, embed e pre P s) k) (run_loop run (o, embed e pre P' s) k)
-    loop_alike None s k = ((same_part e pre P P') s, refl)
-    loop_alike (Some q) s k = turns_alike (suc (k.0 + length s.stack)) (run (code_body q.0)) (run (code_body q.1)) (f (code_body q.0)) (f (code_body q.1)) s k
-
-    function_alike : (o : Option ℕ) (s : Part) (k : Counts) → EndingsAlike (run_function p.functions run o (embed e pre P s) k) (run_function p.functions run o (embed e pre P' s) k)
-    function_alike None s k = ((same_part e pre P P') s, refl)
-    function_alike (Some n) s k = f (function_body p.functions n) s k
+    with_alike : {A : Type 0} (g : A → World → Counts → Ending) → ((a : A) → GoAlike (g a)) → (o : Option A) (s : Part) (k : Counts) → EndingsAlike (run_with g (o, embed e pre P s) k) (run_with g (o, embed e pre P' s) k)
+    with_alike g h None s k = ((same_part e pre P P') s, refl)
+    with_alike g h (Some a) s k = h a s k
 
     type_alike : (o : Option Entry) (s : Part) (k : Counts) → EndingsAlike (run_type p.functions run o (embed e pre P s) k) (run_type p.functions run o (embed e pre P' s) k)
     type_alike None s k = ((say_alike e pre P P') NoEntry s, refl)
-    type_alike (Some d) s k = function_alike (type_function p.functions d.function) s k
+    type_alike (Some d) s k =
+        with_alike _ (λ n. f (function_body p.functions n)) (option_or d.function (default_type p.functions)) s k
 
     built_in_alike : (b : Primitive) → GoAlike (built_in p run b)
     built_in_alike builtin.CallType s k =
         (by_entry e pre P P') EndingsAlike (λ o w. run_type p.functions run o w k) s (λ o. type_alike o s k)
     built_in_alike builtin.If s k =
-        (on_pairs e pre P P') EndingsAlike (λ q. run_chosen run q k) _ _ ((taken_three_alike e pre P P') builtin.If as_number as_code as_code s) (λ o s. chosen_alike o s k)
+        (on_pairs e pre P P') EndingsAlike (λ q. run_with (λ (q : ℤ × Code × Code). run (code_body (by_sign q.0 q.1 q.2))) q k) _ _ ((taken_three_alike e pre P P') builtin.If as_number as_code as_code s) (λ o s. with_alike _ (λ q. f (code_body (by_sign q.0 q.1 q.2))) o s k)
     built_in_alike builtin.While s k =
-        (on_pairs e pre P P') EndingsAlike (λ q. run_loop run q k) _ _ ((taken_two_alike e pre P P') builtin.While as_code as_code s) (λ o s. loop_alike o s k)
+        (on_pairs e pre P P') EndingsAlike (λ q. run_with (λ (q : Code × Code). looped run q.0 q.1) q k) _ _ ((taken_two_alike e pre P P') builtin.While as_code as_code s) (λ o s. with_alike _ (λ q s k. turns_alike (suc (k.0 + length s.stack)) (run (code_body q.0)) (run (code_body q.1)) (f (code_body q.0)) (f (code_body q.1)) s k) o s k)
     built_in_alike b s k =
         acted_alike (basic p b (embed e pre P s)) (basic p b (embed e pre P' s)) k ((basic_alike e pre P P') p b s)
 

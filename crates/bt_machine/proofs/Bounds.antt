@@ -1,6 +1,7 @@
 -- An evaluation never gains ticks, and ticks and values on the stack together grow by no action beyond its own tick.
 use Rattle.std.proofs.Common.{◌≡◌, ℕ, zero, suc, ◌+◌, ◌≤◌, ◌<◌, Bool, true, false, List, [], ◌∷◌, length, Option, Some, None, refl, ap, arith}
 use Rattle.std.specs.Prelude.{ℤ, pos, negsuc, if◌then◌else◌, nat_lt, nat_le, option_and_then, slice_index_or}
+use Rattle.std.specs.Option.{option_or}
 use Rattle.bt_style.specs.declared.builtin.Builtin.{Builtin as Primitive}
 use Rattle.bt_style.specs.declared.builtin.Builtin.TheVariants as builtin
 use Rattle.bt_style.specs.declared.style.Target.{Target}
@@ -11,7 +12,7 @@ use Rattle.bt_actions.specs.declared.entry.Entry.{Entry}
 use Rattle.bt_actions.specs.declared.entry.Variables.{Variables}
 use Rattle.bt_actions.specs.declared.complaint.Complaint.{Complaint}
 use Rattle.bt_actions.specs.declared.complaint.Complaint.TheVariants.{NoEntry, StackPassed, TextPassed}
-use Rattle.bt_actions.specs.Item.{Code, Name, Block, Item, Num, Txt, Fun}
+use Rattle.bt_actions.specs.Item.{Name, Block, Item, Num, Txt, Fun}
 use Rattle.bt_actions.specs.World.{World, Act, Goes, Stops, entry_of, say, with_stack}
 use Rattle.bt_actions.specs.State.{text_len, pushed, pushed_in_error, popped_from, popped, appended}
 use Rattle.bt_actions.specs.Arguments.{as_number, as_text, as_field_text, as_code, as_target, as_any, judged, taken, taken_two, taken_three}
@@ -25,7 +26,7 @@ use Rattle.bt_actions.specs.Assignment.{with_number, with_text, with_globals, wi
 use Rattle.bt_actions.specs.LogLines.{log_value, log_warning}
 use Rattle.bt_actions.specs.Stack.{duplicated, swapped}
 use Rattle.bt_actions.specs.Actions.{act_with, change_with, basic}
-use Rattle.bt_machine.specs.Eval.{Counts, Ending, Done, Stopped, Runner, then_go, acted, code_body, function_body, type_function, run_function, run_type, by_sign, run_chosen, turn, turns, run_loop, built_in, act, calls_after, eval_within}
+use Rattle.bt_machine.specs.Eval.{Counts, Ending, Done, Stopped, Runner, then_go, acted, code_body, default_type, function_body, run_type, by_sign, turn, turns, run_with, built_in, act, calls_after, eval_within}
 
 -- an action leaves at most so many values on the stack, where it doesn't stop
 abbrev pub Grows : ℕ → Act → Type 0
@@ -243,32 +244,26 @@ module _ (p : Program) (run : Runner) (h : (b : Body) → AllShrink (run b)) whe
   run_shrinks : (b : Body) (w : World) (k : Counts) (s : ℕ) → k.0 + length w.stack ≤ s → Shrinks k.0 s (run b w k)
   run_shrinks b w k s i = Shrinks_weaker _ k.0 (k.0 + length w.stack) k.0 s (omega arith) i (h b w k)
 
-  chosen_shrinks : (o : Option (ℤ × Code × Code)) (w : World) (k : Counts) (s : ℕ) → k.0 + length w.stack ≤ s → Shrinks k.0 s (run_chosen run (o, w) k)
-  chosen_shrinks None w k s i = (omega arith, i)
-  chosen_shrinks (Some q) w k s i = run_shrinks (code_body (by_sign q.0 q.1 q.2)) w k s i
-
-  loop_shrinks : (o : Option (Code × Code)) (w : World) (k : Counts) (s : ℕ) → k.0 + length w.stack ≤ s → Shrinks k.0 s (run_loop run (o, w) k)
-  loop_shrinks None w k s i = (omega arith, i)
-  loop_shrinks (Some q) w k s i =
-      Shrinks_weaker _ k.0 (k.0 + length w.stack) k.0 s (omega arith) i (turns_shrinks (suc (k.0 + length w.stack)) _ _ (h (code_body q.0)) (h (code_body q.1)) w k)
-
-  function_shrinks : (o : Option ℕ) (w : World) (k : Counts) (s : ℕ) → k.0 + length w.stack ≤ s → Shrinks k.0 s (run_function p.functions run o w k)
-  function_shrinks None w k s i = (omega arith, i)
-  function_shrinks (Some n) w k s i = run_shrinks (function_body p.functions n) w k s i
+  with_shrinks : {A : Type 0} (f : A → World → Counts → Ending) (o : Option A) (w : World) (k : Counts) (s : ℕ) → k.0 + length w.stack ≤ s → ((a : A) → Shrinks k.0 s (f a w k)) → Shrinks k.0 s (run_with f (o, w) k)
+  with_shrinks f None w k s i g = (omega arith, i)
+  with_shrinks f (Some a) w k s i g = g a
 
   type_shrinks : (o : Option Entry) (w : World) (k : Counts) (s : ℕ) → k.0 + length w.stack ≤ s → Shrinks k.0 s (run_type p.functions run o w k)
   type_shrinks None w k s i = (omega arith, i)
-  type_shrinks (Some e) w k s i = function_shrinks (type_function p.functions e.function) w k s i
+  type_shrinks (Some e) w k s i =
+      with_shrinks _ (option_or e.function (default_type p.functions)) w k s i (λ n. run_shrinks (function_body p.functions n) w k s i)
 
   built_in_shrinks : (b : Primitive) (w : World) (k : Counts) → Shrinks k.0 (suc (k.0 + length w.stack)) (built_in p run b w k)
   built_in_shrinks builtin.If w k =
       let t = taken_three builtin.If as_number as_code as_code w in
       let l = taken_three_len builtin.If as_number as_code as_code w in
-      chosen_shrinks t.0 t.1 k _ (omega arith)
+      let i : k.0 + length t.1.stack ≤ suc (k.0 + length w.stack) = omega arith in
+      with_shrinks _ t.0 t.1 k _ i (λ q. run_shrinks (code_body (by_sign q.0 q.1 q.2)) t.1 k _ i)
   built_in_shrinks builtin.While w k =
       let t = taken_two builtin.While as_code as_code w in
       let l = taken_two_len builtin.While as_code as_code w in
-      loop_shrinks t.0 t.1 k _ (omega arith)
+      let i : k.0 + length t.1.stack ≤ suc (k.0 + length w.stack) = omega arith in
+      with_shrinks _ t.0 t.1 k _ i (λ q. Shrinks_weaker _ k.0 (k.0 + length t.1.stack) k.0 _ (omega arith) i (turns_shrinks (suc (k.0 + length t.1.stack)) _ _ (h (code_body q.0)) (h (code_body q.1)) t.1 k))
   built_in_shrinks builtin.CallType w k = type_shrinks (entry_of w) w k _ (omega arith)
   built_in_shrinks b w k = acted_shrinks (basic p b w) k _ (basic_grows p b w)
 

@@ -1,6 +1,7 @@
 -- The evaluation's equations, without a bound on how deep calls stand and on how often loops turn.
 use Rattle.std.proofs.Common.{◌≡◌, ℕ, zero, suc, ◌+◌, ◌≤◌, ◌<◌, List, length, Option, Some, None, refl, ap, ◌∙◌, arith}
 use Rattle.std.specs.Prelude.{ℤ, pos, negsuc}
+use Rattle.std.specs.Option.{option_or}
 use Rattle.bt_style.specs.declared.builtin.Builtin.{Builtin as Primitive}
 use Rattle.bt_style.specs.declared.builtin.Builtin.TheVariants.{CallType, If, While}
 use Rattle.bt_style.specs.declared.style.Target.TheVariants.{Builtin, Function}
@@ -11,7 +12,7 @@ use Rattle.bt_actions.specs.declared.complaint.Complaint.TheVariants.{TicksPasse
 use Rattle.bt_actions.specs.Item.{Code}
 use Rattle.bt_actions.specs.World.{World, entry_of, say}
 use Rattle.bt_actions.specs.Arguments.{as_number, as_code, taken, taken_two, taken_three}
-use Rattle.bt_machine.specs.Eval.{Counts, Ending, Done, Stopped, Runner, then_go, code_body, function_body, type_function, run_function, run_type, by_sign, run_chosen, turn, turns, looped, run_loop, built_in, act, calls_after, eval_within, eval}
+use Rattle.bt_machine.specs.Eval.{Counts, Ending, Done, Stopped, Runner, then_go, code_body, default_type, function_body, run_type, by_sign, turn, turns, looped, run_with, built_in, act, calls_after, eval_within, eval}
 use Rattle.bt_machine.proofs.Bounds.{Shrinks, AllShrink, act_shrinks, eval_shrinks, taken_len, taken_some_len}
 
 -- the same from everywhere with at most k ticks
@@ -44,26 +45,22 @@ turns_same (suc m) (suc m') test test' body body' top ts bs t b w k hk h h' =
 
 -- an element, where what it runs is the same
 module _ (p : Program) (run run' : Runner) (k : Counts) (s : (b : Body) → AllShrink (run b)) (same : (b : Body) → Agree k.0 (run b) (run' b)) where
-  chosen_same : (o : Option (ℤ × Code × Code)) (w : World) → run_chosen run (o, w) k ≡ run_chosen run' (o, w) k
-  chosen_same None w = refl
-  chosen_same (Some q) w = same (code_body (by_sign q.0 q.1 q.2)) w k (omega arith)
-
-  loop_same : (o : Option (Code × Code)) (w : World) → run_loop run (o, w) k ≡ run_loop run' (o, w) k
-  loop_same None w = refl
-  loop_same (Some q) w =
-      turns_same (suc (k.0 + length w.stack)) (suc (k.0 + length w.stack)) _ _ _ _ k.0 (s (code_body q.0)) (s (code_body q.1)) (same (code_body q.0)) (same (code_body q.1)) w k (omega arith) (omega arith) (omega arith)
-
-  function_same : (o : Option ℕ) (w : World) → run_function p.functions run o w k ≡ run_function p.functions run' o w k
-  function_same None w = refl
-  function_same (Some n) w = same (function_body p.functions n) w k (omega arith)
+  with_same : {A : Type 0} (f f' : A → World → Counts → Ending) (o : Option A) (w : World) → ((a : A) → f a w k ≡ f' a w k) → run_with f (o, w) k ≡ run_with f' (o, w) k
+  with_same f f' None w h = refl
+  with_same f f' (Some a) w h = h a
 
   type_same : (o : Option Entry) (w : World) → run_type p.functions run o w k ≡ run_type p.functions run' o w k
   type_same None w = refl
-  type_same (Some e) w = function_same (type_function p.functions e.function) w
+  type_same (Some e) w =
+      with_same _ _ (option_or e.function (default_type p.functions)) w (λ n. same (function_body p.functions n) w k (omega arith))
 
   built_in_same : (b : Primitive) (w : World) → built_in p run b w k ≡ built_in p run' b w k
-  built_in_same If w = chosen_same (taken_three If as_number as_code as_code w).0 _
-  built_in_same While w = loop_same (taken_two While as_code as_code w).0 _
+  built_in_same If w =
+      let t = taken_three If as_number as_code as_code w in
+      with_same _ _ t.0 t.1 (λ q. same (code_body (by_sign q.0 q.1 q.2)) t.1 k (omega arith))
+  built_in_same While w =
+      let t = taken_two While as_code as_code w in
+      with_same _ _ t.0 t.1 (λ q. turns_same (suc (k.0 + length t.1.stack)) (suc (k.0 + length t.1.stack)) _ _ _ _ k.0 (s (code_body q.0)) (s (code_body q.1)) (same (code_body q.0)) (same (code_body q.1)) t.1 k (omega arith) (omega arith) (omega arith))
   built_in_same CallType w = type_same (entry_of w) w
   built_in_same _ w = refl
 

@@ -2,6 +2,7 @@
 use Rattle.std.proofs.Common.{◌≡◌, ◌≤◌, ℕ, Bool, true, false, List, [], ◌∷◌, length, Option, Some, None, refl, sym, subst}
 use Rattle.std.specs.Prelude.{ℤ, pos, if◌then◌else◌, nat_lt, nat_le, option_and_then, slice_index_or}
 use Rattle.std.proofs.lemmas.Bool.{leb-true}
+use Rattle.std.specs.Option.{option_zip}
 use Rattle.bt_style.specs.declared.builtin.Builtin.{Builtin as Primitive}
 use Rattle.bt_style.specs.declared.builtin.Builtin.TheVariants as builtin
 use Rattle.bt_style.specs.declared.style.Target.{Target}
@@ -13,7 +14,7 @@ use Rattle.bt_actions.specs.declared.complaint.Complaint.TheVariants.{NoEntry, S
 use Rattle.bt_actions.specs.Item.{Item, Num, Txt, Missing}
 use Rattle.bt_actions.specs.World.{World, Act, Goes, Stops, entry_of, say, with_stack}
 use Rattle.bt_actions.specs.State.{text_len, pushed, pushed_in_error, popped_from, popped, appended}
-use Rattle.bt_actions.specs.Arguments.{as_number, as_text, as_field_text, as_target, as_any, judged, both, taken, taken_two, taken_three}
+use Rattle.bt_actions.specs.Arguments.{as_number, as_text, as_field_text, as_target, as_any, judged, taken, taken_two, taken_three}
 use Rattle.bt_actions.specs.Given.{Given, Gives, Errs, answered, valued, zero_item, empty_item}
 use Rattle.bt_actions.specs.Numbers.{greater_of, less_of, sum_of, difference_of, byte_number, ascii_text, digits_text}
 use Rattle.bt_actions.specs.Comparison.{equality_of, emptiness_of, missing_of}
@@ -167,7 +168,7 @@ module _ (kept : Kept) where
   assigned_kept v t w s h =
       (kept.assigns v t w s h.0, subst (Each kept.OnStack) (sym (assigned_stack (v, t) w)) h.1)
 
-  both_assigned : (o : Option Item) (t : Option Target) (w : World) → Within kept.OnStack o → IsKept w → ActKept (change_with assigned (both (option_and_then as_any o) t, w))
+  both_assigned : (o : Option Item) (t : Option Target) (w : World) → Within kept.OnStack o → IsKept w → ActKept (change_with assigned (option_zip (option_and_then as_any o) t, w))
   both_assigned None t w s h = h
   both_assigned (Some v) None w s h = h
   both_assigned (Some v) (Some t) w s h = assigned_kept v t w s h

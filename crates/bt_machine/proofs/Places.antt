@@ -1,6 +1,7 @@
 -- An action does the same at two places of an entry.
 use Rattle.std.proofs.Common.{◌≡◌, ℕ, ◌+◌, Bool, true, false, ◌||◌, List, [], ◌∷◌, ◌++◌, length, Option, Some, None, refl, sym, ap, subst, ◌∙◌, append_assoc}
 use Rattle.std.specs.Prelude.{option_and_then, option_map, if◌then◌else◌, map, nat_lt, nat_le}
+use Rattle.std.specs.Option.{option_zip}
 use Rattle.bt_text.specs.declared.output.Output.{Output}
 use Rattle.bt_text.specs.Held.{written, line_ended}
 use Rattle.bt_style.specs.declared.builtin.Builtin.{Builtin as Primitive}
@@ -17,7 +18,7 @@ use Rattle.bt_actions.specs.Item.{Item, Txt}
 use Rattle.bt_actions.specs.Words.{message_of}
 use Rattle.bt_actions.specs.World.{World, Act, Goes, Stops, entry_in, entry_of, key_in, say, with_stack, with_output}
 use Rattle.bt_actions.specs.State.{text_len, pushed, pushed_in_error, popped_from, popped, appended}
-use Rattle.bt_actions.specs.Arguments.{as_number, as_text, as_field_text, as_target, as_any, is_wrong, judged, both, all_three, taken, taken_two, taken_three}
+use Rattle.bt_actions.specs.Arguments.{as_number, as_text, as_field_text, as_target, as_any, is_wrong, judged, all_three, taken, taken_two, taken_three}
 use Rattle.bt_actions.specs.Given.{Given, Gives, Errs, answered, valued, zero_item, empty_item}
 use Rattle.bt_actions.specs.Numbers.{greater_of, less_of, sum_of, difference_of, byte_number, ascii_text, digits_text}
 use Rattle.bt_actions.specs.Comparison.{equality_of, emptiness_of, missing_of}
@@ -195,7 +196,7 @@ module _ (e : Option Entry) (pre : List ℕ) (P P' : Place e) where
   taken_two_alike b lower upper s =
       let h = popped_alike _ _ (same_part s) in
       let i = popped_alike _ _ h.1 in
-      (λ d. both (option_and_then lower (i.0 d)) (option_and_then upper (h.0 d)), judged_alike b _ _ _ _ (λ d. is_wrong upper (h.0 d) || is_wrong lower (i.0 d)) i.1)
+      (λ d. option_zip (option_and_then lower (i.0 d)) (option_and_then upper (h.0 d)), judged_alike b _ _ _ _ (λ d. is_wrong upper (h.0 d) || is_wrong lower (i.0 d)) i.1)
 
   pub taken_three_alike : {A B C : Type 0} (b : Primitive) (lower : Item → Option A) (middle : Item → Option B) (upper : Item → Option C) (s : Part) → PairsAlike (taken_three b lower middle upper (embed e pre P s)) (taken_three b lower middle upper (embed e pre P' s))
   taken_three_alike b lower middle upper s =

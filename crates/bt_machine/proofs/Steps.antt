@@ -14,13 +14,14 @@ use Rattle.bt_actions.specs.declared.state.Flow.TheVariants.{Go, Stop}
 use Rattle.bt_actions.specs.declared.complaint.Complaint.TheVariants.{TicksPassed}
 use Rattle.bt_actions.specs.Item.{Code, Name, Block}
 use Rattle.bt_actions.specs.World.{World, Act, say}
-use Rattle.bt_actions.specs.Arguments.{as_number, taken}
+use Rattle.bt_actions.specs.Arguments.{as_number, as_code, taken, taken_two}
 use Rattle.bt_actions.specs.Actions.{basic}
 use Rattle.bt_actions.specs.View.{act_of}
-use Rattle.bt_machine.specs.Eval.{Counts, Ending, Done, Stopped, Runner, then_go, acted, code_body, function_body, no_definition, turn, looped, built_in, act, called, calls_after, eval}
-use Rattle.bt_machine.specs.Step.{counts_begun, step_begun, finished_at, finish_of, step}
+use Rattle.bt_machine.specs.Eval.{Counts, Ending, Done, Stopped, Runner, then_go, acted, code_body, function_body, no_definition, turn, looped, run_with, built_in, act, called, calls_after, eval}
+use Rattle.bt_machine.specs.Step.{counts_begun, step_begun, finished_at, step}
+use Rattle.bt_machine.specs.inner.Cases.{finish_of}
 use Rattle.bt_machine.specs.inner.Control.{Frame, Run, Test, left, load, LeadsTo, on_top, is_stop, checked_at, run_ended}
-use Rattle.bt_machine.proofs.Bounds.{Grows, basic_grows, taken_some_len}
+use Rattle.bt_machine.proofs.Bounds.{Grows, basic_grows, taken_two_len, taken_some_len}
 use Rattle.bt_machine.proofs.Equations.{eval-end, eval-no_tick, eval-then, looped-turn}
 
 -- an equal ending and a higher bound
@@ -115,6 +116,13 @@ pub leads_loop : (p : Program) (test body : Code) (fs fs2 : List Frame) (w w2 : 
 leads_loop p test body fs fs2 w w2 k k2 ef ew ek =
     let l = length-on_top test (Test test body ∷ fs) in
     rw (ef, ew, ek) (left-loop p test body fs w k, omega arith)
+
+-- a loop whose test and body were taken
+pub leads_while : (p : Program) (flow : Flow) (test body : Code) (fs fs' : List Frame) (w v w' : World) (k k' : Counts) → Some (test, body) ≡ (taken_two While as_code as_code w).0 → v ≡ (taken_two While as_code as_code w).1 → LeadsTo p flow fs' w' k' (then_go (looped (eval p) test body v k) (left p fs)) (load fs v k + 2) → LeadsTo p flow fs' w' k' (then_go (built_in p (eval p) While w k) (left p fs)) (load fs w k + 4)
+leads_while p flow test body fs fs' w v w' k k' e ew h =
+    let l = taken_two_len While as_code as_code w in
+    let m : length v.stack ≡ length (taken_two While as_code as_code w).1.stack = ap (λ (u : World). length u.stack) ew in
+    LeadsTo_along p flow fs' w' k' _ _ _ _ (λ i. then_go (run_with (λ (q : Code × Code). looped (eval p) q.0 q.1) (e i, ew i) k) (left p fs)) (omega arith) h
 
 -- a turn after a number above 0
 turn_above : (n : ℤ) (w : World) (k : Counts) (body again : World → Counts → Ending) → pos 0 <ℤ n → turn (Some n, w) k body again ≡ then_go (body w k) again

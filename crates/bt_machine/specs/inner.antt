@@ -2,3 +2,4 @@
 pub mod Control
 pub mod Footprint
 pub mod Substitution
+pub mod Cases

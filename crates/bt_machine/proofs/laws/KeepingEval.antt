@@ -1,6 +1,7 @@
 -- An evaluation keeps what each of its elements keeps, where every function may be pushed.
 use Rattle.std.proofs.Common.{ℕ, zero, suc, ◌+◌, List, [], ◌∷◌, length, Option, Some, None}
 use Rattle.std.specs.Prelude.{ℤ, pos, negsuc, slice_index_or}
+use Rattle.std.specs.Option.{option_or}
 use Rattle.bt_style.specs.declared.builtin.Builtin.{Builtin as Primitive}
 use Rattle.bt_style.specs.declared.builtin.Builtin.TheVariants as builtin
 use Rattle.bt_style.specs.declared.style.Target.TheVariants.{Builtin, Field, EntryNumber, EntryText, GlobalNumber, GlobalText, Function}
@@ -14,7 +15,7 @@ use Rattle.bt_actions.specs.Arguments.{as_number, as_code, taken, taken_two, tak
 use Rattle.bt_actions.specs.Given.{zero_item, empty_item}
 use Rattle.bt_actions.specs.Operands.{of_entry, field_at, number_at, text_at}
 use Rattle.bt_actions.specs.Actions.{basic}
-use Rattle.bt_machine.specs.Eval.{Counts, Ending, Done, Stopped, Runner, then_go, acted, code_body, function_body, type_function, run_function, run_type, by_sign, run_chosen, turn, turns, run_loop, built_in, act, calls_after, eval_within}
+use Rattle.bt_machine.specs.Eval.{Counts, Ending, Done, Stopped, Runner, then_go, acted, code_body, default_type, function_body, run_type, by_sign, turn, turns, run_with, built_in, act, calls_after, eval_within}
 use Rattle.bt_machine.specs.Step.{checked}
 use Rattle.bt_machine.proofs.Keeping.{Kept, IsKept, ActKept, pushed_kept, taken_kept, taken_two_kept, taken_three_kept, of_entry_kept, field_kept, basic_kept}
 
@@ -47,31 +48,23 @@ module _ (kept : Kept) (codes : (c : Code) → kept.Pushed (Fun c)) where
       then_kept (test w k) _ (t w k h) (λ w k h. turn_kept (taken builtin.While as_number w).0 (taken builtin.While as_number w).1 k body (turns m test body) (taken_kept kept builtin.While as_number w h) b (turns_kept m test body t b))
 
   module _ (p : Program) (run : Runner) (f : (b : Body) → GoKept (run b)) where
-    chosen_kept : (o : Option (ℤ × Code × Code)) (w : World) (k : Counts) → IsKept kept w → EndKept (run_chosen run (o, w) k)
-    chosen_kept None w k h = h
-    chosen_kept (Some q) w k h = f (code_body (by_sign q.0 q.1 q.2)) w k h
-
-    loop_kept : (o : Option (Code × Code)) (w : World) (k : Counts) → IsKept kept w → EndKept (run_loop run (o, w) k)
-    loop_kept None w k h = h
-    loop_kept (Some q) w k h =
-        turns_kept (suc (k.0 + length w.stack)) (run (code_body q.0)) (run (code_body q.1)) (f (code_body q.0)) (f (code_body q.1)) w k h
-
-    function_kept : (o : Option ℕ) (w : World) (k : Counts) → IsKept kept w → EndKept (run_function p.functions run o w k)
-    function_kept None w k h = h
-    function_kept (Some n) w k h = f (function_body p.functions n) w k h
+    with_kept : {A : Type 0} (g : A → World → Counts → Ending) (o : Option A) (w : World) (k : Counts) → IsKept kept w → ((a : A) → GoKept (g a)) → EndKept (run_with g (o, w) k)
+    with_kept g None w k h i = h
+    with_kept g (Some a) w k h i = i a w k h
 
     type_kept : (o : Option Entry) (w : World) (k : Counts) → IsKept kept w → EndKept (run_type p.functions run o w k)
     type_kept None w k h = h
-    type_kept (Some e) w k h = function_kept (type_function p.functions e.function) w k h
+    type_kept (Some e) w k h =
+        with_kept _ (option_or e.function (default_type p.functions)) w k h (λ n. f (function_body p.functions n))
 
     built_in_kept : (b : Primitive) → GoKept (built_in p run b)
     built_in_kept builtin.CallType w k h = type_kept (entry_of w) w k h
     built_in_kept builtin.If w k h =
         let t = taken_three builtin.If as_number as_code as_code w in
-        chosen_kept t.0 t.1 k (taken_three_kept kept builtin.If as_number as_code as_code w h)
+        with_kept _ t.0 t.1 k (taken_three_kept kept builtin.If as_number as_code as_code w h) (λ q. f (code_body (by_sign q.0 q.1 q.2)))
     built_in_kept builtin.While w k h =
         let t = taken_two builtin.While as_code as_code w in
-        loop_kept t.0 t.1 k (taken_two_kept kept builtin.While as_code as_code w h)
+        with_kept _ t.0 t.1 k (taken_two_kept kept builtin.While as_code as_code w h) (λ q w k h. turns_kept (suc (k.0 + length w.stack)) (run (code_body q.0)) (run (code_body q.1)) (f (code_body q.0)) (f (code_body q.1)) w k h)
     built_in_kept b w k h = acted_kept (basic p b w) k (basic_kept kept p b w h)
 
     act_kept : (e : Element) → GoKept (act p run e)

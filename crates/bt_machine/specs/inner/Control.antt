@@ -10,9 +10,11 @@ use Rattle.bt_actions.specs.Item.{Code, Name, Block}
 use Rattle.bt_actions.specs.World.{World}
 use Rattle.bt_actions.specs.Arguments.{as_number, taken}
 use Rattle.bt_actions.specs.View.{code_seen, world_of}
-use Rattle.bt_machine.specs.declared.machine.Frame.{Frame as HeldFrame}
-use Rattle.bt_machine.specs.declared.machine.Frame.TheVariants as held
+use Rattle.bt_machine.specs.declared.control.Control.{Control}
+use Rattle.bt_machine.specs.declared.control.Frame.{Frame as HeldFrame}
+use Rattle.bt_machine.specs.declared.control.Frame.TheVariants as held
 use Rattle.bt_machine.specs.declared.machine.Machine.{Machine}
+use Rattle.bt_machine.specs.declared.script.Script.{Script}
 use Rattle.bt_machine.specs.Eval.{Counts, Ending, Done, Stopped, then_go, code_body, turn, looped, eval}
 use Rattle.bt_machine.specs.Step.{checked}
 
@@ -48,16 +50,19 @@ on_top (Name t) fs = Run (Name t) ∷ fs
 on_top (Block End) fs = fs
 on_top (Block (Then e rest)) fs = Run (Block (Then e rest)) ∷ fs
 
--- what is left to do on a machine: what is left of its body, then what waits on its control stack
+-- what is left to do: what is left of the body, then what waits on the control stack
 abbrev pub frame_seen : HeldFrame → Frame
 frame_seen (held.Run c) = Run (code_seen c)
 frame_seen (held.Test test body) = Test (code_seen test) (code_seen body)
 
-abbrev pub waiting : Machine → List Frame
-waiting m = reverse (map frame_seen m.control.items)
+abbrev pub waiting : Control → List Frame
+waiting c = reverse (map frame_seen c.frames.items)
+
+abbrev pub frames_in : Control → List Frame
+frames_in c = on_top (Block (ops_body c.body.now)) (waiting c)
 
 abbrev pub frames_of : Machine → List Frame
-frames_of m = on_top (Block (ops_body m.body.now)) (waiting m)
+frames_of m = frames_in m.control
 
 -- a machine's counts
 abbrev pub counts : Tally → Counts
@@ -72,29 +77,29 @@ load_of m = load (frames_of m) (world_of m.state) (counts_of m)
 
 -- the load without what is left of the body
 abbrev pub waiting_load : Machine → ℕ
-waiting_load m = load (waiting m) (world_of m.state) (counts_of m)
+waiting_load m = load (waiting m.control) (world_of m.state) (counts_of m)
 
 -- the style that is run
-abbrev pub program_in : Machine → Program
-program_in m = program_of m.script.style.now
+abbrev pub program_in : Script → Program
+program_in s = program_of s.style.now
 
 -- what the machine's run leads to from here
-abbrev pub rest_of : Machine → Ending
-rest_of m = left (program_in m) (frames_of m) (world_of m.state) (counts_of m)
+abbrev pub rest_of : Script → Machine → Ending
+rest_of s m = left (program_in s) (frames_of m) (world_of m.state) (counts_of m)
 
 -- the machine stands where this run, and then what was left to do, leads to; its load is higher by so much at most
-abbrev pub CarriesOut : Machine → Machine → (Program → World → Counts → Ending) → ℕ → Flow → Type 0
-CarriesOut old new run more flow =
-    let p = program_in old in
+abbrev pub CarriesOut : Script → Machine → Machine → (Program → World → Counts → Ending) → ℕ → Flow → Type 0
+CarriesOut s old new run more flow =
+    let p = program_in s in
     LeadsTo p flow (frames_of new) (world_of new.state) (counts_of new)
     (then_go (run p (world_of old.state) (counts_of old)) (left p (frames_of old))) (load_of old + more)
 
 -- the same of a body that is run before what waited
-abbrev pub RunsBody : Machine → Machine → Body → Flow → Type 0
-RunsBody old new body flow =
-    let p = program_in old in
+abbrev pub RunsBody : Script → Machine → Machine → Body → Flow → Type 0
+RunsBody s old new body flow =
+    let p = program_in s in
     LeadsTo p flow (frames_of new) (world_of new.state) (counts_of new)
-    (then_go (eval p body (world_of old.state) (counts_of old)) (left p (waiting old))) (waiting_load old)
+    (then_go (eval p body (world_of old.state) (counts_of old)) (left p (waiting old.control))) (waiting_load old)
 
 -- whether the run was stopped
 abbrev pub is_stop : Flow → Bool

@@ -1,7 +1,7 @@
 use Rattle.std.proofs.Common.{rules, ◌≢◌, length}
 use Rattle.bt_machine.specs.inner.Control.{waiting}
 use Rattle.bt_machine.proofs.Steps.{on_top_of_some}
-use Rattle.bt_machine.proofs.machine.Machine.take_frame.Goals as goal
+use Rattle.bt_machine.proofs.control.Control.take.Goals as goal
 
 pub returns-else-is_empty-clause-frames : goal.returns-else-is_empty-clause-frames
 returns-else-is_empty-clause-frames c =
