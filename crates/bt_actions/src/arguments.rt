@@ -118,7 +118,7 @@ impl<'a> Argument<'a> for Value<'a> {
     }
 }
 
-/// What was popped as an argument of a kind, and whether something was and is of another kind.
+/// The argument, if the value is of its kind, and whether a value was there and is of another kind.
 fn judged<'a, A: Argument<'a>>(top: Option<Value<'a>>) -> (Option<A>, bool)
     ensures argument { option_map A.seen result.0 ≡ option_and_then A.kind (option_map item_of top.entry) }
     ensures wrong { result.1 ≡ is_wrong A.kind (option_map item_of top.entry) }
@@ -147,7 +147,7 @@ pub fn take<'a, A: Argument<'a>>(
     Ok(argument)
 }
 
-/// Pops two values, of which the second was the topmost one.
+/// The second value was the topmost one.
 fn pop_two<'a>(state: &mut State<'a>) -> Result<(Option<Value<'a>>, Option<Value<'a>>), AllocError>
     ensures lower { IfOk result (λ pair. option_map item_of pair.0
         ≡ (popped (popped (world_of state.old)).1).0) }

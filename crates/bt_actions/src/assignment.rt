@@ -16,7 +16,6 @@ use crate::value::Value;
 use bt_style::{Builtin, Target};
 use std::alloc::{AllocError, Global};
 
-/// What a value of another kind than its variable's is reported as.
 fn tell_wrong_kind(state: &mut State) -> Result<(), AllocError>
     ensures { OnOk result (world_of state.new
         ≡ say (Complaint.WrongKind builtin.Assign) (world_of state.old)) }
@@ -24,7 +23,6 @@ fn tell_wrong_kind(state: &mut State) -> Result<(), AllocError>
     state.tell(Complaint::WrongKind(Builtin::Assign))
 }
 
-/// Gives a number variable of the style a value.
 fn assign_global_number(
     state: &mut State,
     alloc: Global,
@@ -40,7 +38,6 @@ fn assign_global_number(
     }
 }
 
-/// Gives a text variable of the style a value.
 fn assign_global_text(
     state: &mut State,
     alloc: Global,
@@ -59,7 +56,6 @@ fn assign_global_text(
     }
 }
 
-/// Gives a number variable of the step's entry a value.
 fn assign_entry_number(
     state: &mut State,
     alloc: Global,
@@ -78,7 +74,6 @@ fn assign_entry_number(
     }
 }
 
-/// Gives a text variable of the step's entry a value.
 fn assign_entry_text(
     state: &mut State,
     alloc: Global,
@@ -100,7 +95,6 @@ fn assign_entry_text(
     }
 }
 
-/// Gives what a name stands for a value.
 fn assign_to(
     state: &mut State,
     alloc: Global,

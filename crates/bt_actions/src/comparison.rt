@@ -18,7 +18,6 @@ use bt_style::Builtin;
 use bt_text::is_white;
 use std::alloc::AllocError;
 
-/// Compares two numbers or two texts.
 fn compare(state: &mut State, lower: &Value, upper: &Value) -> Result<Flow, AllocError>
     ensures { IfOk result
         (Acts (answered (equality_of (item_of lower.now, item_of upper.now))) state.old state.new) }
@@ -41,14 +40,12 @@ pub fn equals(state: &mut State) -> Result<Flow, AllocError>
     }
 }
 
-/// Whether a text is white space alone.
 fn is_all_white(text: &[u8]) -> bool
     ensures { result ≡ list_all is_white text.now }
 {
     text.iter().all(|byte| is_white(*byte))
 }
 
-/// Whether a field is missing or a text is white space alone.
 fn is_blank(text: &Option<ShortText>) -> bool
     ensures { result ≡ is_blank text.now }
 {
@@ -69,7 +66,6 @@ pub fn empty(state: &mut State) -> Result<Flow, AllocError>
     }
 }
 
-/// Whether a field is missing.
 fn is_missing(text: &Option<ShortText>) -> bool
     ensures { result ≡ is_missing text.now }
 {

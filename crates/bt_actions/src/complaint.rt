@@ -1,4 +1,7 @@
-//! What a step reports, and in what words.
+//! The errors and warnings of a step, first in their parts, then in words.
+//!
+//! A step keeps complaints and not messages, because a message also has the key of the step's entry and the place of
+//! the command, which only the end of the step and the run add.
 
 ghost use Rattle.std.specs.Prelude.{◌≡◌, ◌++◌, codes, option_map, IfOk, map};
 ghost use Rattle.std.specs.Fmt.{signed_decimal};
@@ -54,21 +57,18 @@ pub fn decimal(alloc: Global, number: i32) -> Result<Bytes, AllocError>
     Bytes::copied(alloc, Buffer::new().format(number).as_bytes())
 }
 
-/// The words for a function of this name that got a value of the wrong kind.
 fn wrong_kind(alloc: Global, name: &[u8]) -> Result<Bytes, AllocError>
     ensures { IfOk result (λ words. words ≡ name.now ++ codes " got a value of the wrong kind") }
 {
     Bytes::of(alloc, &[name, b" got a value of the wrong kind"])
 }
 
-/// The words for a function of this name whose result is out of range.
 fn out_of_range(alloc: Global, name: &[u8]) -> Result<Bytes, AllocError>
     ensures { IfOk result (λ words. words ≡ codes "The result of " ++ name.now ++ codes " is out of range") }
 {
     Bytes::of(alloc, &[b"The result of ", name, b" is out of range"])
 }
 
-/// The words for a text that names no change of case.
 fn bad_case(alloc: Global, text: &[u8]) -> Result<Bytes, AllocError>
     ensures { IfOk result (λ words. words ≡ complaint_words (Complaint.BadCase text.now)) }
 {
@@ -78,14 +78,12 @@ fn bad_case(alloc: Global, text: &[u8]) -> Result<Bytes, AllocError>
     )
 }
 
-/// The words for a text that isn't one byte.
 fn not_one_character(alloc: Global, text: &[u8]) -> Result<Bytes, AllocError>
     ensures { IfOk result (λ words. words ≡ complaint_words (Complaint.NotOneCharacter text.now)) }
 {
     Bytes::of(alloc, &[b"\"", text, b"\" isn't a single character"])
 }
 
-/// The words for a number that isn't one from 0 to 127.
 fn not_ascii(alloc: Global, number: i32) -> Result<Bytes, AllocError>
     ensures { IfOk result (λ words. words ≡ complaint_words (Complaint.NotAscii number)) }
 {
@@ -94,7 +92,6 @@ fn not_ascii(alloc: Global, number: i32) -> Result<Bytes, AllocError>
     Bytes::of(alloc, &[number, b" isn't valid ASCII"])
 }
 
-/// The words for a number of which a list has no name.
 fn no_such_name(alloc: Global, number: i32, names: &[u8]) -> Result<Bytes, AllocError>
     ensures { IfOk result (λ words. words ≡ complaint_words (Complaint.NoSuchName number names.now)) }
 {
@@ -106,7 +103,6 @@ fn no_such_name(alloc: Global, number: i32, names: &[u8]) -> Result<Bytes, Alloc
     )
 }
 
-/// The words for the name of this number in a list, where it has more than two commas.
 fn too_many_commas(alloc: Global, number: i32, names: &[u8]) -> Result<Bytes, AllocError>
     ensures { IfOk result (λ words. words ≡ complaint_words (Complaint.TooManyCommas number names.now)) }
 {
@@ -118,7 +114,6 @@ fn too_many_commas(alloc: Global, number: i32, names: &[u8]) -> Result<Bytes, Al
     )
 }
 
-/// The words for a pattern with a fault at a place.
 fn pattern_fault(alloc: Global, pattern: &[u8], place: usize) -> Result<Bytes, AllocError>
     ensures { IfOk result (λ words. words ≡ complaint_words (Complaint.PatternFault pattern.now place)) }
 {
@@ -135,14 +130,12 @@ fn pattern_fault(alloc: Global, pattern: &[u8], place: usize) -> Result<Bytes, A
     )
 }
 
-/// The words for a warning of the style.
 fn warned(alloc: Global, text: &[u8]) -> Result<Bytes, AllocError>
     ensures { IfOk result (λ words. words ≡ complaint_words (Complaint.Warned text.now)) }
 {
     Bytes::of(alloc, &[b"Warning--", text])
 }
 
-/// The key for one more owner, if there is one.
 fn shared(key: Option<&Shared<Bytes>>) -> Result<Option<Shared<Bytes>>, AllocError>
     ensures { IfOk result (λ same. same ≡ option_map (λ bytes. bytes.now) key.entry) }
 {
@@ -212,7 +205,6 @@ impl Complaint {
         }
     }
 
-    /// The message of a complaint, in a step for the entry with this key or for none.
     fn message(&self, alloc: Global, key: Option<&Shared<Bytes>>) -> Result<Message, AllocError>
         ensures { IfOk result (λ message.
             message ≡ message_of (option_map (λ bytes. bytes.now) key.entry) self.now) }

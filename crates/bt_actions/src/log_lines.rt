@@ -18,7 +18,6 @@ use bt_style::{Builtin, Function, Style, Target};
 use bt_text::Bytes;
 use std::alloc::{AllocError, Global};
 
-/// The name at a place, or nothing.
 fn name_at(names: &[Bytes], n: usize) -> &[u8]
     ensures { result.now ≡ name_or_empty names.now n }
 {
@@ -29,7 +28,6 @@ fn name_at(names: &[Bytes], n: usize) -> &[u8]
     }
 }
 
-/// The name of the function of a number, or nothing.
 fn function_name(functions: &[Function], n: usize) -> &[u8]
     ensures { result.now ≡ name_or_empty (map (λ function. function.name) functions.now) n }
 {
@@ -40,7 +38,6 @@ fn function_name(functions: &[Function], n: usize) -> &[u8]
     }
 }
 
-/// How a style spells a name.
 #[tactic(auto, using(crate::proofs::LoggingLemmas::function_names))]
 fn target_name(style: &Style, target: Target) -> &[u8]
     ensures { result.now ≡ target_name (program_of style.now) target }
@@ -56,14 +53,12 @@ fn target_name(style: &Style, target: Target) -> &[u8]
     }
 }
 
-/// A quoted name as the log shows it.
 fn quoted_name(alloc: Global, name: &[u8]) -> Result<Bytes, AllocError>
     ensures { IfOk result (λ words. words ≡ codes "`" ++ name.now ++ codes "'") }
 {
     Bytes::of(alloc, &[b"`", name, b"'"])
 }
 
-/// A function as the log shows it.
 fn shown_code(alloc: Global, style: &Style, code: Code) -> Result<Bytes, AllocError>
     ensures { IfOk result (λ words. words ≡ shown_code (program_of style.now) (code_seen code.entry)) }
 {
@@ -73,7 +68,6 @@ fn shown_code(alloc: Global, style: &Style, code: Code) -> Result<Bytes, AllocEr
     }
 }
 
-/// The words for a missing field.
 fn shown_gap(alloc: Global, style: &Style, field: usize) -> Result<Bytes, AllocError>
     ensures { IfOk result (λ words.
         words ≡ codes "missing " ++ name_or_empty (program_of style.now).fields field) }
@@ -83,7 +77,6 @@ fn shown_gap(alloc: Global, style: &Style, field: usize) -> Result<Bytes, AllocE
     Ok(words)
 }
 
-/// A value as the log shows it.
 fn shown(alloc: Global, style: &Style, value: Value) -> Result<Bytes, AllocError>
     ensures { IfOk result (λ words. words ≡ shown_value (program_of style.now) (item_of value.entry)) }
 {
@@ -95,7 +88,6 @@ fn shown(alloc: Global, style: &Style, value: Value) -> Result<Bytes, AllocError
     }
 }
 
-/// Logs a value.
 fn log_value(
     state: &mut State,
     alloc: Global,
@@ -131,7 +123,6 @@ pub fn all(state: &mut State, alloc: Global, style: &Style) -> Result<Flow, Allo
     Ok(Flow::Go)
 }
 
-/// Logs a warning.
 fn log_warning(state: &mut State, alloc: Global, text: ShortText) -> Result<Flow, AllocError>
     ensures { IfOk result (Acts (λ world. Goes (log_warning text.entry world)) state.old state.new) }
 {

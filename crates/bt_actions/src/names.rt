@@ -30,7 +30,6 @@ pub fn num_names(state: &mut State) -> Result<Flow, AllocError>
     }
 }
 
-/// Puts a formatted name on the stack, unless it is too long for it.
 fn push_within(state: &mut State, formatted: Formatted) -> Result<Flow, AllocError>
     ensures { IfOk result (Acts (pushed_within formatted) state.old state.new) }
 {
@@ -40,7 +39,6 @@ fn push_within(state: &mut State, formatted: Formatted) -> Result<Flow, AllocErr
     }
 }
 
-/// What is reported of a list of names or a pattern in which there is a fault.
 fn fault_complaint(
     alloc: Global,
     names: &[u8],
@@ -69,7 +67,6 @@ fn fault_complaint(
     }
 }
 
-/// Puts a name in the form of a pattern on the stack, or reports what is wrong with the list of names or the pattern.
 fn push_formatted(
     state: &mut State,
     alloc: Global,

@@ -38,7 +38,6 @@ pub fn less(state: &mut State) -> Result<Flow, AllocError>
     }
 }
 
-/// Puts a number on the stack, or reports that it doesn't fit.
 fn push_fitting(state: &mut State, builtin: Builtin, number: i64) -> Result<Flow, AllocError>
     ensures { IfOk result (Acts (answered (number_given builtin number)) state.old state.new) }
 {
@@ -91,7 +90,6 @@ pub fn chr_to_int(state: &mut State, alloc: Global) -> Result<Flow, AllocError>
     }
 }
 
-/// The text of the byte of this number, which must be one from 0 to 127.
 fn push_ascii(state: &mut State, alloc: Global, number: i32) -> Result<Flow, AllocError>
     ensures { IfOk result (Acts (answered (ascii_text number)) state.old state.new) }
 {

@@ -16,7 +16,6 @@ use crate::value::Value;
 use bt_text::{Bytes, Shared, Values};
 use std::alloc::AllocError;
 
-/// The number at a place, or 0.
 fn number_at(numbers: &Values<i32>, n: usize) -> i32
     ensures { result ≡ slice_index_or numbers.now n (pos 0) }
 {
@@ -26,7 +25,6 @@ fn number_at(numbers: &Values<i32>, n: usize) -> i32
     }
 }
 
-/// The text at a place, shared with the variable, or the empty text.
 fn text_at<'a>(texts: &Values<Shared<Bytes>>, n: usize) -> Result<Text<'a>, AllocError>
     ensures { IfOk result (λ text. bytes_of text ≡ slice_index_or texts.now n []) }
 {
@@ -91,7 +89,7 @@ pub fn call_global_text(state: &mut State, n: usize) -> Result<Flow, AllocError>
     state.push_text(text)
 }
 
-/// The text of an entry's type, or nothing where the type has no function.
+/// `type$` gives the type only if the style has a function for it.
 fn kind_shown(entry: &Entry) -> Text<'_>
     ensures { bytes_of result ≡ kind_shown entry.now.function entry.now.kind }
 {

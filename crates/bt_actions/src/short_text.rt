@@ -1,4 +1,9 @@
 //! The texts that the literal stack takes.
+//!
+//! Most strings of a style are only looked at and put together again, so a text says who has its bytes: literals and
+//! fields are lent, a variable's value is shared, and only what a function made is a `Vec` of its own. `*` appends to a
+//! left text that is its own, so a loop that builds a string copies each byte once. `ShortText` keeps the limit of
+//! 65,536 bytes as its invariant: it is tested where a text is made, and no function that takes one tests it again.
 
 ghost use Rattle.std.specs.Prelude.{◌≡◌, ◌++◌, IfOk};
 ghost use Rattle.bt_actions.specs.ShortText.{bytes_of};
@@ -24,7 +29,6 @@ impl<'a> Text<'a> {
     ghost use Rattle.std.specs.Prelude.{◌≡◌, ◌++◌, IfOk};
     ghost use Rattle.bt_actions.specs.ShortText.{bytes_of};
 
-    /// The bytes.
     fn as_slice(&self) -> &[u8]
         ensures { result.now ≡ bytes_of self.now }
     {
@@ -36,7 +40,7 @@ impl<'a> Text<'a> {
         }
     }
 
-    /// The text twice, both with the same bytes.
+    /// Bytes that the text alone has become shared, so the next `twice` copies none.
     fn twice(self, alloc: Global) -> Result<(Text<'a>, Text<'a>), AllocError>
         ensures first { IfOk result (λ both. bytes_of both.0 ≡ bytes_of self.entry) }
         ensures second { IfOk result (λ both. bytes_of both.1 ≡ bytes_of self.entry) }
@@ -52,7 +56,7 @@ impl<'a> Text<'a> {
         }
     }
 
-    /// The text with more bytes after it. Bytes that it alone has are not copied.
+    /// Bytes that the text alone has aren't copied: a string that is built by `*` grows in place.
     fn followed_by(self, alloc: Global, more: &[u8]) -> Result<Text<'a>, AllocError>
         ensures { IfOk result (λ text. bytes_of text ≡ bytes_of self.entry ++ more.now) }
     {
@@ -69,7 +73,6 @@ impl<'a> Text<'a> {
     }
 }
 
-/// Both pieces in one text of its own.
 fn copied_with<'a>(alloc: Global, front: &[u8], back: &[u8]) -> Result<Text<'a>, AllocError>
     ensures { IfOk result (λ text. bytes_of text ≡ front.now ++ back.now) }
 {

@@ -11,7 +11,7 @@ use crate::state::{Flow, State};
 use crate::value::Value;
 use std::alloc::{AllocError, Global};
 
-/// Puts a value on the stack twice, where one more may pass its limit.
+/// The lower copy takes the place of the popped value, so only the upper one can pass the limit.
 fn push_twice<'a>(
     state: &mut State<'a>,
     alloc: Global,

@@ -1,4 +1,8 @@
 //! What a step works on.
+//!
+//! Each limit is tested in the one function that could pass it (`push`, `push_text`, `write`), so that a new built-in
+//! function can't forget it. An error isn't put into words here: a `Complaint` is kept, and its message is made when
+//! the step ends.
 
 use crate::complaint::{self, Complaint};
 use crate::entry::Entry;
@@ -95,7 +99,6 @@ impl<'a> State<'a> {
         }
     }
 
-    /// Reports a limit that was passed, at which the run stops.
     fn stop(&mut self, limit: Complaint) -> Result<Flow, AllocError>
         ensures { IfOk result (Acts (λ world. Stops (say limit world)) self.old self.new) }
     {
@@ -153,7 +156,7 @@ impl<'a> State<'a> {
         self.push_number(if holds { 1 } else { 0 })
     }
 
-    /// Reports an error, unless the stack is full, so that a value in place of the right one will pass its limit.
+    /// On a full stack the value that follows passes the limit, and only that is reported.
     fn tell_unless_full(&mut self, complaint: Complaint) -> Result<(), AllocError>
         ensures { OnOk result (world_of self.new ≡ told_with_room complaint (world_of self.old)) }
     {

@@ -1,4 +1,7 @@
 //! The variables that a step works on.
+//!
+//! They are the input's until the step assigns to one; then they are copied, once. A step that assigns to none of them
+//! leaves the input's own, which the next step and the outcome share.
 
 ghost use Rattle.std.specs.Prelude.{◌≡◌, slice_set};
 
@@ -7,12 +10,10 @@ use bt_text::{Bytes, Shared};
 use std::alloc::{AllocError, Global};
 use std::marker::Model;
 
-/// Who has the variables of a step.
 #[derive(Drop)]
 enum Holder<'a> {
-    /// The step's input: the step has given none of them a value.
+    /// The input has them, as long as the step assigned to none of them.
     Given(&'a Shared<Variables>),
-    /// The step.
     Own(Variables),
 }
 

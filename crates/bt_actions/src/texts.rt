@@ -45,7 +45,6 @@ pub fn end_with_period(state: &mut State, alloc: Global) -> Result<Flow, AllocEr
     }
 }
 
-/// The change of case that a text names.
 fn mode_of(name: &[u8]) -> Option<Mode>
     ensures { result ≡ mode_of name.now }
 {
@@ -57,7 +56,6 @@ fn mode_of(name: &[u8]) -> Option<Mode>
     }
 }
 
-/// Changes the case of a text as another one names it. Where that names no change the text stays.
 fn push_case<'a>(
     state: &mut State<'a>,
     alloc: Global,

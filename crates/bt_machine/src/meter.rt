@@ -1,4 +1,7 @@
 //! The count of all ticks that were taken.
+//!
+//! A value that only grows, with one function that raises it, and no copy: so the report of an edit can't leave out a
+//! step that was run.
 
 use std::marker::Model;
 

@@ -1,4 +1,8 @@
-//! What a step leaves that need not be carried out again, since an earlier one agrees with it.
+//! What a step leaves that need not be run, since an earlier one agrees with it.
+//!
+//! The outcome has the earlier step's values where the step can reach them, and the present ones elsewhere. Nearly
+//! always one of the two is equal to it as a whole. So the whole is compared first, and shared; a copy with single
+//! values put in (`substitution`) is rare.
 
 ghost use Rattle.std.specs.Prelude.{◌≡◌, ◌&&◌, IsTrue, IfOk, option_map};
 ghost use Rattle.bt_style.specs.Reach.{is_among, keeps_held};
@@ -24,7 +28,7 @@ pub fn equal_variables(old: &Variables, new: &Variables) -> bool
     same_counts(old, new) && old.numbers.is_same(&new.numbers) && old.texts.is_same(&new.texts)
 }
 
-/// Whether others' variables are as many, and have all that was left at some places.
+/// Whether `base` has as many values as `left`, and the same ones at these places.
 fn has_left(left: &Variables, base: &Variables, places: Places<'_>) -> bool
     ensures { result ≡ (same_counts left.now base.now
         && same_variables places.entry.numbers.now places.entry.texts.now left.now base.now) }
@@ -32,7 +36,7 @@ fn has_left(left: &Variables, base: &Variables, places: Places<'_>) -> bool
     same_counts(left, base) && same_variables(left, base, places.numbers, places.texts)
 }
 
-/// Others' variables, with those at some places that were left. They are shared where they have these already.
+/// Shared if they are already equal at these places.
 fn left_at(
     alloc: Global,
     left: &Variables,
@@ -48,8 +52,7 @@ fn left_at(
     Ok(Shared::new(alloc, variables_over(alloc, left, base, places)?)?)
 }
 
-/// The variables after a step that comes to those at some places. The earlier step's are shared where it had the
-/// present ones before it.
+/// The earlier step's are shared if it had the present ones before it: the common case, without any copy.
 fn variables_after(
     alloc: Global,
     old: &Variables,
@@ -67,7 +70,6 @@ fn variables_after(
     Ok(both)
 }
 
-/// The globals after a step.
 fn globals_left(
     alloc: Global,
     old: &Input,
@@ -83,7 +85,6 @@ fn globals_left(
     Ok(both)
 }
 
-/// The variables of the step's entry, if it has one.
 fn owns_left(
     alloc: Global,
     old: &Input,
@@ -110,7 +111,6 @@ fn owns_left(
     Ok(Some(both))
 }
 
-/// The held line after a step.
 fn held_left(alloc: Global, left: &Held, new: &Held, reach: &Reach) -> Result<Held, AllocError>
     ensures { IfOk result (λ held. held ≡ pick (keeps_held (is_among reach.now.targets)) left.now new.now) }
 {
@@ -121,7 +121,6 @@ fn held_left(alloc: Global, left: &Held, new: &Held, reach: &Reach) -> Result<He
     }
 }
 
-/// The same messages, shared with those who have them.
 fn shared_messages(alloc: Global, messages: &[Message]) -> Result<Sequence<Message>, AllocError>
     ensures { IfOk result (λ same. same ≡ messages.now) }
 {
@@ -132,7 +131,6 @@ fn shared_messages(alloc: Global, messages: &[Message]) -> Result<Sequence<Messa
     Ok(same)
 }
 
-/// What an earlier step left that is reached, and all else as an input has it.
 fn over(
     alloc: Global,
     old: &Input,

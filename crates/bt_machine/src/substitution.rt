@@ -1,4 +1,7 @@
-//! Reached values are put in the place of others.
+//! Variables of which those at reached places are replaced by others'.
+//!
+//! `left` is what the earlier step left and `base` what stands now. The result always has as many values as `left`:
+//! nearly always `base` has as many, and then its chunks are shared.
 
 ghost use Rattle.std.specs.Prelude.{◌≡◌, length, pos, [], false, OnOk, IfOk, drop, take};
 ghost use Rattle.bt_style.specs.Reach.{is_among};
@@ -40,7 +43,6 @@ pub fn reached_owns(reach: &Reach) -> Places<'_>
     }
 }
 
-/// Puts the number at a place in the place of another.
 fn put_number(
     alloc: Global,
     left: &Values<i32>,
@@ -52,7 +54,6 @@ fn put_number(
     base.set(alloc, place, number_at(left, place))
 }
 
-/// Puts the numbers at some places in the place of others.
 fn put_numbers(
     alloc: Global,
     left: &Values<i32>,
@@ -68,7 +69,6 @@ fn put_numbers(
     Ok(())
 }
 
-/// Puts the text at a place in the place of another.
 fn put_text(
     alloc: Global,
     left: &Values<Shared<Bytes>>,
@@ -84,7 +84,6 @@ fn put_text(
     }
 }
 
-/// Puts the texts at some places in the place of others.
 fn put_texts(
     alloc: Global,
     left: &Values<Shared<Bytes>>,
@@ -100,21 +99,19 @@ fn put_texts(
     Ok(())
 }
 
-/// The first elements of a list, all where it has no more.
 fn front<T>(items: &[T], count: usize) -> &[T]
     ensures { result.now ≡ take count items.now }
 {
     items.get(..count).unwrap_or(items)
 }
 
-/// The elements of a list after the first ones.
 fn back<T>(items: &[T], count: usize) -> &[T]
     ensures { result.now ≡ drop count items.now }
 {
     items.get(count..).unwrap_or(&[])
 }
 
-/// As many values as are left, the others' as far as there are any.
+/// As many values as `left` has: those of `base` as far as they go, then those of `left`.
 fn as_many<T: Element>(alloc: Global, left: &[T], base: &[T]) -> Result<Vec<T>, AllocError>
     ensures { IfOk result (λ values. values.items ≡ blend (λ n. false) left.now base.now) }
 {
@@ -124,7 +121,7 @@ fn as_many<T: Element>(alloc: Global, left: &[T], base: &[T]) -> Result<Vec<T>, 
     Ok(values)
 }
 
-/// The same of values that may share what they have in common: where there are as many, it is the others'.
+/// The same for lists that share chunks: if the lengths are equal, `base` itself, without a copy of its values.
 fn fitted<T: Element>(
     alloc: Global,
     left: &Values<T>,
@@ -142,7 +139,6 @@ fn fitted<T: Element>(
     Values::from_vec(alloc, values)
 }
 
-/// The same, with the numbers at some places that are left.
 fn numbers_over(
     alloc: Global,
     left: &Values<i32>,
@@ -156,7 +152,6 @@ fn numbers_over(
     Ok(numbers)
 }
 
-/// The same of texts.
 fn texts_over(
     alloc: Global,
     left: &Values<Shared<Bytes>>,
