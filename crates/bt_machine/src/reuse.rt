@@ -46,10 +46,9 @@ fn left_at(
     ensures { IfOk result (λ both. both ≡ blend_at places.entry left.now base.now) }
 {
     if has_left(left, base, places) {
-        let same = base.share()?;
-        return Ok(same);
+        return base.share();
     }
-    Ok(Shared::new(alloc, variables_over(alloc, left, base, places)?)?)
+    Shared::new(alloc, variables_over(alloc, left, base, places)?)
 }
 
 /// The earlier step's are shared if it had the present ones before it: the common case, without any copy.
@@ -66,8 +65,7 @@ fn variables_after(
     if equal_variables(old, new) {
         return left.share();
     }
-    let both = left_at(alloc, left, new, places)?;
-    Ok(both)
+    left_at(alloc, left, new, places)
 }
 
 fn globals_left(
@@ -81,8 +79,7 @@ fn globals_left(
     ensures { IfOk result (λ both. both ≡ blend_globals (is_among reach.now.targets) left.now.globals new.now.globals) }
 {
     let places = reached_globals(reach);
-    let both = variables_after(alloc, &old.globals, &left.globals, &new.globals, places)?;
-    Ok(both)
+    variables_after(alloc, &old.globals, &left.globals, &new.globals, places)
 }
 
 fn owns_left(
@@ -167,6 +164,5 @@ pub fn left_over(
     ensures over { IfOk result (λ outcome. outcome ≡ outcome_over (is_among reach.now.targets) new.now left.now) }
     ensures step { IfOk result (IsNextOutcome reach.now.targets old.now left.now new.now) }
 {
-    let outcome = over(alloc, old, left, new, reach)?;
-    Ok(outcome)
+    over(alloc, old, left, new, reach)
 }

@@ -130,8 +130,7 @@ fn fitted<T: Element>(
     ensures { IfOk result (λ values. values ≡ blend (λ n. false) left.now base.now) }
 {
     if left.len() == base.len() {
-        let same = base.copied(alloc)?;
-        return Ok(same);
+        return base.copied(alloc);
     }
     let left = left.to_vec(alloc)?;
     let base = base.to_vec(alloc)?;
