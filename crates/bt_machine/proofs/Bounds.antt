@@ -38,11 +38,6 @@ if_grows : (b : Bool) (a a' : Act) (s : ℕ) → Grows s a → Grows s a' → Gr
 if_grows true a a' s h h' = h
 if_grows false a a' s h h' = h'
 
--- one value more
-Grows_weaker : (a : Act) (s : ℕ) → Grows s a → Grows (suc s) a
-Grows_weaker (Goes w) s h = omega arith
-Grows_weaker (Stops w) s h = tt
-
 -- what is left after arguments were taken
 
 pop_len : (vs : List Item) (w : World) → length vs ≤ length w.stack → length (popped_from vs w).1.stack ≤ length w.stack
