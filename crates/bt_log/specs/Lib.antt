@@ -1,3 +1,4 @@
 pub mod Message
 pub mod Wording
 pub mod Log
+pub mod inner

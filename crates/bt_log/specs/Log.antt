@@ -45,40 +45,25 @@ abbrev pub lines_bytes : List (List ℕ) → List ℕ
 lines_bytes [] = []
 lines_bytes (line ∷ lines) = line ++ 10 ∷ lines_bytes lines
 
--- several of a thing that has this name
-abbrev pub several : ℕ → List ℕ → List ℕ
-several n name = codes "(There were " ++ decimal n ++ codes " " ++ name ++ codes "s)\n"
-
 -- how many there were of a thing that has this name
 abbrev pub count_line : ℕ → List ℕ → List ℕ
 count_line n name =
     if n == 1 then codes "(There was 1 " ++ name ++ codes ")\n"
-    else several n name
+    else codes "(There were " ++ decimal n ++ codes " " ++ name ++ codes "s)\n"
 
--- the last line of a log that comes to this status
-abbrev pub last_line_of : ℕ → List Message → List ℕ
-last_line_of status log =
+-- the last line: what the status stands for, and nothing where all is well
+abbrev pub last_line : List Message → List ℕ
+last_line log =
+    let status = status_of log in
     if status == 3 then codes "(That was a fatal error)\n"
     else if status == 2 then count_line (count_by (has_status 2) log) (codes "error message")
     else if status == 1 then count_line (count_by (has_status 1) log) (codes "warning")
     else []
 
--- the last line: what the status stands for, and nothing where all is well
-abbrev pub last_line : List Message → List ℕ
-last_line log = last_line_of (status_of log) log
-
--- each message in words, in their order
-abbrev pub messages_bytes : List Message → List ℕ
-messages_bytes log = lines_bytes (map spelled log)
-
--- the log's messages in order, then the last line
+-- each message in words, in order, then the last line
 abbrev pub log_bytes : List Message → List ℕ
-log_bytes log = messages_bytes log ++ last_line log
+log_bytes log = lines_bytes (map spelled log) ++ last_line log
 
--- the messages but the lines of files and the counts of calls
-abbrev pub terse : List Message → List Message
-terse log = filter (λ m. is_in_terse_log m.rank) log
-
--- the same without them; the last line is that of the whole log
+-- the same without the lines of files and the counts of calls; the last line is the whole log's
 abbrev pub terse_bytes : List Message → List ℕ
-terse_bytes log = messages_bytes (terse log) ++ last_line log
+terse_bytes log = lines_bytes (map spelled (filter (λ m. is_in_terse_log m.rank) log)) ++ last_line log

@@ -44,41 +44,25 @@ before_line Warning = codes "\n--line "
 before_line Error = codes "---line "
 before_line Fatal = codes "---line "
 
--- a file that was read to its end
-abbrev pub while_reading : List ℕ → List ℕ
-while_reading file = codes "---while reading file " ++ file
-
 -- the entry of a step
 abbrev pub for_entry : Option (List ℕ) → List ℕ
 for_entry None = []
 for_entry (Some key) = codes " for entry " ++ key
 
--- the command of a step
-abbrev pub while_executing : List ℕ → ℕ → List ℕ
-while_executing style line = codes "\nwhile executing---line " ++ decimal line ++ codes " of file " ++ style
-
--- An error of a step names them, and what a style logs stays as it is.
-abbrev pub step_words : Rank → Option (List ℕ) → List ℕ → ℕ → List ℕ
-step_words FileLine entry style line = []
-step_words Note entry style line = []
-step_words CallCount entry style line = []
-step_words Warning entry style line = []
-step_words Error entry style line = for_entry entry ++ while_executing style line
-step_words Fatal entry style line = for_entry entry ++ while_executing style line
-
--- where a message belongs, of a rank and about an entry or none
+-- Where a message belongs, of a rank and about an entry or none. An error of a step names the entry and the style's
+-- command; what the style logs itself stays as it is.
 abbrev pub place_words : Rank → Option (List ℕ) → Option Place → List ℕ
 place_words rank entry None = []
 place_words rank entry (Some (Line file line byte)) = before_line rank ++ decimal line ++ codes " of file " ++ file
 place_words rank entry (Some (DatabaseLine number line byte)) =
     before_line rank ++ decimal line ++ codes " of database #" ++ decimal number
-place_words rank entry (Some (WholeFile file)) = while_reading file
-place_words rank entry (Some (Step style line)) = step_words rank entry style line
-
-abbrev pub second_line : Option (List ℕ) → List ℕ
-second_line None = []
-second_line (Some words) = 10 ∷ words
+place_words rank entry (Some (WholeFile file)) = codes "---while reading file " ++ file
+place_words rank entry (Some (Step style line)) =
+    let step = for_entry entry ++ (codes "\nwhile executing---line " ++ decimal line ++ codes " of file " ++ style) in
+    elim rank [ FileLine ↦ [] | Note ↦ [] | CallCount ↦ [] | Warning ↦ [] | Error ↦ step | Fatal ↦ step ]
 
 -- a message in words
 abbrev pub spelled : Message → List ℕ
-spelled m = said_words m.said ++ place_words m.rank m.entry m.place ++ second_line m.second
+spelled m =
+    let second : List ℕ = elim m.second [ None ↦ [] | Some words ↦ 10 ∷ words ] in
+    said_words m.said ++ place_words m.rank m.entry m.place ++ second

@@ -1,8 +1,9 @@
 //! The log: its messages, its bytes, and the status that it comes to.
 
-ghost use Rattle.std.specs.Prelude.{◌≡◌, [], ◌∷◌, ◌++◌, count_by, filter, decimal, IfOk, OnOk};
+ghost use Rattle.std.specs.Prelude.{◌≡◌, [], ◌∷◌, ◌++◌, count_by, filter, IfOk, OnOk};
 ghost use Rattle.std.specs.List.{list_any};
-ghost use Rattle.bt_log.specs.Log.{rank_status, has_status, status_of, lines_bytes, several, count_line, last_line_of, last_line, messages_bytes, log_bytes, is_in_terse_log, terse, terse_bytes};
+ghost use Rattle.bt_log.specs.Log.{rank_status, has_status, status_of, lines_bytes, count_line, last_line, log_bytes, is_in_terse_log, terse_bytes};
+ghost use Rattle.bt_log.specs.inner.Cases.{several, messages_bytes, terse};
 
 use crate::message::{Message, Rank};
 use crate::wording::spell;

@@ -1,7 +1,8 @@
 //! A message in words.
 
 ghost use Rattle.std.specs.Prelude.{◌≡◌, ◌++◌, Some, codes, decimal, OnOk};
-ghost use Rattle.bt_log.specs.Wording.{kind_words, note_words, said_words, while_reading, before_line, for_entry, while_executing, step_words, place_words, second_line, spelled};
+ghost use Rattle.bt_log.specs.Wording.{kind_words, note_words, said_words, before_line, for_entry, place_words, spelled};
+ghost use Rattle.bt_log.specs.inner.Cases.{while_reading, while_executing, step_words, second_line};
 
 use crate::message::{FileKind, FileNote, Message, Place, Rank, Said};
 use bt_text::{Bytes, Shared};

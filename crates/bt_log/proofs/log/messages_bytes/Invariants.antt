@@ -1,5 +1,5 @@
 use Rattle.std.proofs.Common.{◌≡◌, ◌++◌, drop}
-use Rattle.bt_log.specs.Log.{messages_bytes}
+use Rattle.bt_log.specs.inner.Cases.{messages_bytes}
 use Rattle.bt_log.proofs.log.messages_bytes.Given as goal
 
 abbrev pub invariant-messages : goal.invariant-messages

@@ -1,5 +1,5 @@
 use Rattle.std.proofs.Common.{◌≡◌, ◌++◌, drop}
-use Rattle.bt_log.specs.Log.{messages_bytes, terse}
+use Rattle.bt_log.specs.inner.Cases.{messages_bytes, terse}
 use Rattle.bt_log.proofs.log.terse_messages.Given as goal
 
 abbrev pub invariant-messages : goal.invariant-messages
