@@ -5,7 +5,8 @@ use Rattle.std.proofs.lemmas.Bool.{false≢true}
 use Rattle.bt_names.specs.declared.faults.FormatFault.{FormatFault}
 use Rattle.bt_names.specs.declared.formatted_name.Formatted.{Formatted}
 use Rattle.bt_names.specs.declared.formatted_name.Formatted.TheVariants.{Text, Longer}
-use Rattle.bt_names.specs.FormattedName.{cut_off, cut_off_text, formatted_name, formatted_within}
+use Rattle.bt_names.specs.FormattedName.{formatted_name, formatted_within}
+use Rattle.bt_names.specs.inner.Cases.{cut_off, cut_off_text}
 use Rattle.bt_actions.specs.Item.{Txt}
 use Rattle.bt_actions.specs.World.{World, Act, Goes}
 use Rattle.bt_actions.specs.State.{pushed}

@@ -1,5 +1,5 @@
 -- What the public calls answer.
-use Rattle.std.proofs.Common.{◌≡◌, ℕ, ℤ, ◌<◌, ◌≤◌, true, List, count_by, Option, None, Some, Result, Ok, Err, IsOk, IfErr, IsErrAnd, is_ok, is_some, refl, ap, ◌∙◌}
+use Rattle.std.proofs.Common.{◌≡◌, ℕ, ℤ, ◌<◌, ◌≤◌, true, List, count_by, Option, None, Some, Result, Ok, Err, IsOk, IfErr, IsErrAnd, is_ok, is_some, refl, sym, ap, subst, ◌∙◌}
 use Rattle.std.proofs.lemmas.Bool.{false≢true}
 use Rattle.bt_text.specs.Blocks.{blocks}
 use Rattle.bt_names.specs.declared.tokens.Parts.{Parts}
@@ -10,8 +10,8 @@ use Rattle.bt_names.specs.declared.faults.FormatFault.TheVariants.{TooManyCommas
 use Rattle.bt_names.specs.Names.{name_at}
 use Rattle.bt_names.specs.NameParts.{parts_of}
 use Rattle.bt_names.specs.Patterns.{pattern_fault}
-use Rattle.bt_names.specs.Cuts.{is_comma}
-use Rattle.bt_names.specs.FormattedName.{IsNameFault, name_parts, name_parts_or_fault, parts_or_fault, IsFormatFault, formatted_name, formatted_or_fault, formatted_parts, text_or_fault}
+use Rattle.bt_names.specs.inner.Cases.{is_comma, name_parts_or_fault, parts_or_fault, formatted_or_fault, formatted_parts, text_or_fault}
+use Rattle.bt_names.specs.FormattedName.{IsNameFault, name_parts, IsFormatFault, formatted_name}
 use Rattle.bt_names.proofs.SplittingLemmas.{few_commas, too_many_commas}
 
 pub no_parts : (names : List ℕ) (n : ℤ) (name : List ℕ) → name_at names n ≡ Some name → 2 < count_by is_comma (blocks name) → name_parts names n ≡ Err TooManyCommas
@@ -24,27 +24,27 @@ ok_parts (Some p) h = refl
 
 pub some_parts : (names : List ℕ) (n : ℤ) (name : List ℕ) → name_at names n ≡ Some name → count_by is_comma (blocks name) ≤ 2 → IsOk (name_parts names n)
 unfolding name_parts
-some_parts names n name e h = rw e (ok_parts (parts_of name) (few_commas name h))
+some_parts names n name e h = subst (λ o. IsOk (name_parts_or_fault o)) (sym e) (ok_parts (parts_of name) (few_commas name h))
 
 pub no_text : (names : List ℕ) (n : ℤ) (name pattern : List ℕ) → name_at names n ≡ Some name → 2 < count_by is_comma (blocks name) → formatted_name names n pattern ≡ Err too_many
 unfolding formatted_name
-no_text names n name pattern e h = ap (λ o. formatted_or_fault o pattern) e ∙ ap (λ o. formatted_parts o pattern) (too_many_commas name h)
+no_text names n name pattern e h = ap (λ o. formatted_or_fault pattern o) e ∙ ap (λ o. formatted_parts pattern o) (too_many_commas name h)
 
-fault_text : (o : Option Parts) (pattern : List ℕ) (place : ℕ) → is_some o ≡ true → pattern_fault pattern ≡ Some place → formatted_parts o pattern ≡ Err (PatternFault place)
+fault_text : (o : Option Parts) (pattern : List ℕ) (place : ℕ) → is_some o ≡ true → pattern_fault pattern ≡ Some place → formatted_parts pattern o ≡ Err (PatternFault place)
 fault_text None pattern place h e = absurd (false≢true h)
-fault_text (Some p) pattern place h e = ap (λ f. text_or_fault f p pattern) e
+fault_text (Some p) pattern place h e = ap (λ f. text_or_fault p pattern f) e
 
 pub fault_of_pattern : (names : List ℕ) (n : ℤ) (name pattern : List ℕ) (place : ℕ) → name_at names n ≡ Some name → count_by is_comma (blocks name) ≤ 2 → pattern_fault pattern ≡ Some place → formatted_name names n pattern ≡ Err (PatternFault place)
 unfolding formatted_name
-fault_of_pattern names n name pattern place e h f = ap (λ o. formatted_or_fault o pattern) e ∙ fault_text (parts_of name) pattern place (few_commas name h) f
+fault_of_pattern names n name pattern place e h f = ap (λ o. formatted_or_fault pattern o) e ∙ fault_text (parts_of name) pattern place (few_commas name h) f
 
-ok_text : (o : Option Parts) (pattern : List ℕ) → is_some o ≡ true → pattern_fault pattern ≡ None → IsOk (formatted_parts o pattern)
+ok_text : (o : Option Parts) (pattern : List ℕ) → is_some o ≡ true → pattern_fault pattern ≡ None → IsOk (formatted_parts pattern o)
 ok_text None pattern h e = absurd (false≢true h)
-ok_text (Some p) pattern h e = ap (λ f. is_ok (text_or_fault f p pattern)) e
+ok_text (Some p) pattern h e = ap (λ f. is_ok (text_or_fault p pattern f)) e
 
 pub some_text : (names : List ℕ) (n : ℤ) (name pattern : List ℕ) → name_at names n ≡ Some name → count_by is_comma (blocks name) ≤ 2 → pattern_fault pattern ≡ None → IsOk (formatted_name names n pattern)
 unfolding formatted_name
-some_text names n name pattern e h f = rw e (ok_text (parts_of name) pattern (few_commas name h) f)
+some_text names n name pattern e h f = subst (λ o. IsOk (formatted_or_fault pattern o)) (sym e) (ok_text (parts_of name) pattern (few_commas name h) f)
 
 pub memory_name_fault : {X : Type 0} (r : Result X NameFault) (out : Result Parts NameFault) → IsErrAnd r (λ e. e ≡ no_memory) → IsOk out → IfErr r (IsNameFault out)
 memory_name_fault (Ok x) out h k = tt

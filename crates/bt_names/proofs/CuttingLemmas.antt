@@ -9,7 +9,8 @@ use Rattle.std.proofs.lemmas.Bool.{true≢false, false≢true, cases_Bool, or_pa
 use Rattle.bt_text.specs.Blocks.{blocks}
 use Rattle.bt_text.proofs.BlockLemmas.{blocks_from_start}
 use Rattle.bt_names.specs.declared.tokens.Token.{Token}
-use Rattle.bt_names.specs.Cuts.{Run, is_single, onto_gap, onto_text, runs, sign_of, tokens, is_comma, is_parting, first_or_none}
+use Rattle.bt_names.specs.Cuts.{Run, is_single, onto_text, runs, sign_of, tokens, is_parting, first_or_none}
+use Rattle.bt_names.specs.inner.Cases.{onto_gap, is_comma}
 use Rattle.bt_names.specs.inner.Cuts.{sections_from, first_section, other_sections, begins_token}
 use Rattle.bt_names.proofs.StrayLemmas.{single_from}
 

@@ -10,7 +10,8 @@ use Rattle.bt_text.specs.Length.{text_length_of}
 use Rattle.bt_names.specs.declared.tokens.Token.{Token}
 use Rattle.bt_names.specs.declared.spelling.Form.{Form}
 use Rattle.bt_names.specs.declared.spelling.Form.TheVariants.{Whole, Initials}
-use Rattle.bt_names.specs.Joints.{Between, by_signs, by_text, dotted, joined, linked, sign_before}
+use Rattle.bt_names.specs.Joints.{Between, by_signs, by_text, dotted, joined, sign_before}
+use Rattle.bt_names.specs.inner.Cases.{linked}
 use Rattle.bt_names.proofs.LengthLemmas.{text_length_push}
 
 pub dotted_more : (form : Form) (out : List ℕ) → text_length_of out ≤ text_length_of (dotted form out)
@@ -21,7 +22,7 @@ pub dotted_longer : (form : Form) (out : List ℕ) → length out ≤ length (do
 dotted_longer Whole out = omega arith
 dotted_longer Initials out = omega (arith, length-append out (46 ∷ []))
 
-linked_longer : (between : Between) (out : List ℕ) (w : Token) (ws : List Token) → length out ≤ length (linked between out w ws)
+linked_longer : (between : Between) (out : List ℕ) (w : Token) (ws : List Token) → length out ≤ length (linked out w ws between)
 linked_longer (by_text text) out w ws = omega (arith, length-append out text)
 linked_longer (by_signs form) out w ws = omega (arith, dotted_longer form out, length-append (dotted form out) (sign_before (dotted form out) w ws ∷ []))
 
@@ -29,7 +30,7 @@ linked_longer (by_signs form) out w ws = omega (arith, dotted_longer form out, l
 pub joined_longer : (between : Between) (out : List ℕ) (ws : List Token) → length out ≤ length (joined between out ws)
 joined_longer between out [] = omega arith
 joined_longer between out (w ∷ ws) =
-    let link = linked between out w ws in
+    let link = linked out w ws between in
     omega (arith, linked_longer between out w ws, length-append link w.text, joined_longer between (link ++ w.text) ws)
 
 last_same : {X : Type 0} (xs : List X) (i : ℕ) → i < length xs → eqb (i + 1) (length xs) ≡ eqb (length (drop (i + 1) xs)) 0
@@ -59,7 +60,7 @@ pub dots_stop : {X : Type 0} (r : Result X GrowthFault) (limit : ℕ) (form : Fo
 dots_stop r limit form out ws i w all stop h is same e s =
     let rest = drop (i + 1) ws in
     let dots = dotted form out in
-    let link = linked (by_signs form) out w rest in
+    let link = linked out w rest (by_signs form) in
     let whole = sym (ap (joined (by_signs form) out) (first_behind ws i w h is)) ∙ same in
     stops_through r limit dots all stop e (omega (arith, joined_longer (by_signs form) (link ++ w.text) rest, length-append link w.text, length-append dots (sign_before dots w rest ∷ []), ap length whole)) s
 

@@ -7,7 +7,8 @@ use Rattle.std.proofs.lemmas.List.Splits.{length-slice_split}
 use Rattle.std.proofs.lemmas.Bool.{true≢false, cases_Bool, eqb-true}
 use Rattle.bt_text.specs.Blocks.{blocks}
 use Rattle.bt_names.specs.declared.tokens.Token.{Token}
-use Rattle.bt_names.specs.Cuts.{is_single, kept_blocks, runs, sections, tokens, lead_after, is_comma}
+use Rattle.bt_names.specs.Cuts.{is_single, kept_blocks, runs, sections, tokens, lead_after}
+use Rattle.bt_names.specs.inner.Cases.{is_comma}
 use Rattle.bt_names.specs.inner.Cuts.{sections_from, first_section, other_sections}
 use Rattle.bt_names.specs.declared.tokens.Parts.{Parts}
 use Rattle.bt_names.specs.NameParts.{parts_of, parts_of_sections, split_at_two, with_commas, without_comma}

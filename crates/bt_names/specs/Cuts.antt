@@ -17,12 +17,9 @@ is_single test _ = false
 abbrev pub kept_blocks : List ℕ → List (List ℕ)
 kept_blocks name = filter (λ block. not (is_single (λ b. b == right_brace) block)) (blocks name)
 
-abbrev pub is_comma : List ℕ → Bool
-is_comma block = is_single (λ b. b == comma) block
-
 -- the blocks between the commas at depth 0
 abbrev pub sections : List ℕ → List (List (List ℕ))
-sections name = slice_split is_comma (kept_blocks name)
+sections name = slice_split (is_single (λ b. b == comma)) (kept_blocks name)
 
 -- White space, hyphens and ties at depth 0 part the tokens.
 abbrev pub is_parting : ℕ → Bool
@@ -33,20 +30,19 @@ pub record Run : Type 0 where
   pub gap : List ℕ
   pub text : List ℕ
 
-abbrev pub onto_gap : List ℕ → List Run → List Run
-onto_gap block [] = []
-onto_gap block (r ∷ rs) = record { gap = block ++ r.gap; text = r.text } ∷ rs
-
 abbrev pub onto_text : List ℕ → List Run → List Run
 onto_text block [] = record { gap = []; text = block } ∷ []
 onto_text block (r ∷ rs) =
     if length r.gap == 0 then record { gap = []; text = block ++ r.text } ∷ rs
     else record { gap = []; text = block } ∷ r ∷ rs
 
--- the runs of some blocks
+-- the runs of some blocks; parting blocks at the end belong to no run
 abbrev pub runs : List (List ℕ) → List Run
 runs [] = []
-runs (block ∷ rest) = if is_single is_parting block then onto_gap block (runs rest) else onto_text block (runs rest)
+runs (block ∷ rest) =
+    if is_single is_parting block
+    then elim (runs rest) [ [] ↦ [] | r ∷ rs ↦ record { gap = block ++ r.gap; text = r.text } ∷ rs ]
+    else onto_text block (runs rest)
 
 -- A gap is known by its first byte, where each white byte counts as a space.
 abbrev pub sign_of : List ℕ → ℕ

@@ -24,22 +24,12 @@ group_finished out =
     then (if ends_in_tie front then front else (if is_short front then out else front ++ space ∷ []))
     else out
 
--- `f`, `v` and `l`
-abbrev pub letter_f : ℕ
-letter_f = 102
-
-abbrev pub letter_v : ℕ
-letter_v = 118
-
-abbrev pub letter_l : ℕ
-letter_l = 108
-
--- the tokens of the part that a letter names
+-- the tokens of the part that a letter names: `f` (102), `v` (118), `l` (108), or `j`
 abbrev pub part_named : Parts → ℕ → List Token
 part_named parts b =
     let letter = to_ascii_lowercase b in
-    if letter == letter_f then parts.first
-    else (if letter == letter_v then parts.von else (if letter == letter_l then parts.last else parts.jr))
+    if letter == 102 then parts.first
+    else (if letter == 118 then parts.von else (if letter == 108 then parts.last else parts.jr))
 
 -- the tokens of a part, with what stands in the group before and after them; nothing for an empty part
 abbrev pub put_in : Between → List ℕ → List Token → List ℕ → List ℕ

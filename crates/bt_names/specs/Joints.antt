@@ -26,11 +26,12 @@ abbrev pub sign_before : List ℕ → Token → List Token → ℕ
 sign_before out w rest =
     if is_separator w.before then w.before else (if length rest == 0 || is_short out then tie else space)
 
-abbrev pub linked : Between → List ℕ → Token → List Token → List ℕ
-linked (by_text text) out w rest = out ++ text
-linked (by_signs form) out w rest = dotted form out ++ sign_before (dotted form out) w rest ∷ []
-
 -- the output out, and the tokens after it in turn
 abbrev pub joined : Between → List ℕ → List Token → List ℕ
 joined between out [] = out
-joined between out (w ∷ rest) = joined between (linked between out w rest ++ w.text) rest
+joined between out (w ∷ rest) =
+    let link : List ℕ = elim between [
+      | by_text text ↦ out ++ text
+      | by_signs form ↦ dotted form out ++ sign_before (dotted form out) w rest ∷ []
+    ] in
+    joined between (link ++ w.text) rest

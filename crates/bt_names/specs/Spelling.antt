@@ -16,10 +16,7 @@ abbrev pub initial : List ℕ → List ℕ
 initial [] = []
 initial (b ∷ t) = if is_letter b then b ∷ [] else (if begins_special (b ∷ t) then first_block (b ∷ t) else initial t)
 
-abbrev pub by_initial : Token → Token
-by_initial w = record { text = initial w.text; before = w.before }
-
 -- some tokens in this form
 abbrev pub spelled : Form → List Token → List Token
 spelled Whole ws = ws
-spelled Initials ws = map by_initial ws
+spelled Initials ws = map (λ w. record { text = initial w.text; before = w.before }) ws

@@ -3,7 +3,8 @@
 ghost use Rattle.std.specs.Prelude.{◌≡◌, ◌<◌, ◌≤◌, [], ◌∷◌, ◌++◌, ◌==◌, if◌then◌else◌, IfOk, OnOk, IfSome, IfNone, IsTrue, length, take, drop, count_by};
 ghost use Rattle.std.specs.List.{prefix_len};
 ghost use Rattle.bt_text.specs.Blocks.{blocks};
-ghost use Rattle.bt_names.specs.Cuts.{is_comma, is_parting, kept_blocks, runs, sign_of, tokens};
+ghost use Rattle.bt_names.specs.Cuts.{is_parting, runs, sign_of, tokens};
+ghost use Rattle.bt_names.specs.inner.Cases.{is_comma};
 ghost use Rattle.bt_names.specs.inner.Cuts.{begins_token, first_section, other_sections, sections_from};
 
 use crate::lent_tokens::LentToken;

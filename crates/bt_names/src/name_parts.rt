@@ -4,7 +4,8 @@ ghost use Rattle.std.specs.Prelude.{◌≡◌, ◌≤◌, ◌-◌, ◌++◌, ◌
 ghost use Rattle.std.specs.List.{position_or_len, suffix_len};
 ghost use Rattle.bt_text.specs.Blocks.{blocks};
 ghost use Rattle.bt_text.specs.ByteTests.{hyphen};
-ghost use Rattle.bt_names.specs.Cuts.{is_comma, lead_after};
+ghost use Rattle.bt_names.specs.Cuts.{lead_after};
+ghost use Rattle.bt_names.specs.inner.Cases.{is_comma};
 ghost use Rattle.bt_names.specs.Vons.{is_von};
 ghost use Rattle.bt_names.specs.NameParts.{all_but_last, last_start, parts_of, split_at_two, von_end, von_start, with_commas, without_comma};
 

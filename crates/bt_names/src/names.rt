@@ -1,6 +1,6 @@
 //! The names that a text lists.
 
-ghost use Rattle.std.specs.Prelude.{◌≡◌, ◌<◌, ◌≤◌, ◌-◌, ◌==◌, ◌&&◌, ◌||◌, length, drop, slice_index, slice_range, slice_get, IfSome, IfNone, Some, None};
+ghost use Rattle.std.specs.Prelude.{◌≡◌, ◌<◌, ◌≤◌, ◌-◌, ◌==◌, ◌&&◌, ◌||◌, length, drop, slice_range, slice_get, IfSome, IfNone, Some, None};
 ghost use Rattle.bt_names.specs.Names.{begins_with_and, has_and_at, follows_white, name_at, names_of};
 
 use bt_text::{depth_after, eq_ignore_ascii_case, is_white};

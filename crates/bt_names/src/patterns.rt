@@ -1,6 +1,6 @@
 //! The groups of a pattern, their letters, and the faults of a pattern.
 
-ghost use Rattle.std.specs.Prelude.{◌≡◌, ◌<◌, ◌≤◌, ◌-◌, ◌+◌, [], ◌∷◌, IfSome, IfNone, if◌then◌else◌, length, take, drop, slice_index};
+ghost use Rattle.std.specs.Prelude.{◌≡◌, ◌<◌, ◌≤◌, ◌-◌, ◌+◌, [], ◌∷◌, IfSome, IfNone, if◌then◌else◌, length, drop, slice_index};
 ghost use Rattle.bt_text.specs.Blocks.{begins_group};
 ghost use Rattle.bt_text.specs.Depth.{depth_at};
 ghost use Rattle.bt_names.specs.Patterns.{block_fault, first_place, inside_group, is_doubled_at, letter_end, letter_fault, letter_places, letters_from, names_part, pattern_fault};

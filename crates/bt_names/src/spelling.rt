@@ -1,8 +1,9 @@
 //! How a pattern spells the tokens of a part: whole, or by their initials.
 
-ghost use Rattle.std.specs.Prelude.{◌≡◌, ◌++◌, IfOk, OnOk, map};
+ghost use Rattle.std.specs.Prelude.{◌≡◌, IfOk, map};
 ghost use Rattle.bt_names.specs.Groups.{part_named};
-ghost use Rattle.bt_names.specs.Spelling.{by_initial, first_block, initial, spelled};
+ghost use Rattle.bt_names.specs.Spelling.{first_block, initial, spelled};
+ghost use Rattle.bt_names.specs.inner.Cases.{by_initial};
 ghost use Rattle.bt_names.specs.inner.Spelling.{abbreviated};
 
 use crate::lent_tokens::{LentParts, LentToken};

@@ -5,11 +5,12 @@ use Rattle.bt_names.specs.declared.faults.FormatFault.TheVariants.{NoSuchName, T
 use Rattle.bt_names.specs.declared.faults.NameFault.TheVariants.{TooManyCommas as too_many}
 use Rattle.bt_names.specs.declared.formatted_name.Formatted.TheVariants.{Text, Longer}
 use Rattle.bt_names.specs.Names.{has_and_at, names_of}
-use Rattle.bt_names.specs.FormattedName.{formatted_or_fault, formatted_name, formatted_within, name_parts_or_fault}
+use Rattle.bt_names.specs.FormattedName.{formatted_name, formatted_within}
+use Rattle.bt_names.specs.inner.Cases.{formatted_or_fault, name_parts_or_fault}
 
 -- the whole text as a name, in a pattern
 abbrev formatted : List ℕ → List ℕ → Result (List ℕ) FormatFault
-formatted name pattern = formatted_or_fault (Some name) pattern
+formatted name pattern = formatted_or_fault pattern (Some name)
 
 four_parts : formatted (codes "Charles Louis Xavier Joseph de la Vall{\\'e}e Poussin") (codes "{vv~}{ll}{, jj}{, f.}") ≡ Ok (codes "de~la Vall{\\'e}e~Poussin, C. L. X.~J.")
 four_parts = refl

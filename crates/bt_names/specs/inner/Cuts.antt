@@ -2,7 +2,8 @@
 use Rattle.std.specs.Prelude.{ℕ, ◌==◌, Bool, false, not, ◌||◌, List, [], ◌∷◌, drop}
 use Rattle.std.specs.List.{slice_split}
 use Rattle.bt_text.specs.Blocks.{blocks}
-use Rattle.bt_names.specs.Cuts.{comma, is_comma, is_parting, first_or_none}
+use Rattle.bt_names.specs.Cuts.{comma, is_parting, first_or_none}
+use Rattle.bt_names.specs.inner.Cases.{is_comma}
 
 -- the sections of a text that has no right brace at depth 0
 abbrev pub sections_from : List ℕ → List (List (List ℕ))

@@ -1,7 +1,7 @@
 -- The parts of a name by their initials.
 use Rattle.std.specs.Prelude.{map}
 use Rattle.bt_names.specs.declared.tokens.Parts.{Parts}
-use Rattle.bt_names.specs.Spelling.{by_initial}
+use Rattle.bt_names.specs.inner.Cases.{by_initial}
 
 -- the parts by their initials
 abbrev pub abbreviated : Parts → Parts

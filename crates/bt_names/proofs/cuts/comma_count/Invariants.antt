@@ -1,6 +1,6 @@
 use Rattle.std.proofs.Common.{◌≡◌, ◌+◌, ◌≤◌, length, count_by}
 use Rattle.bt_text.specs.Blocks.{blocks}
-use Rattle.bt_names.specs.Cuts.{is_comma}
+use Rattle.bt_names.specs.inner.Cases.{is_comma}
 use Rattle.bt_names.proofs.cuts.comma_count.Given as goal
 
 abbrev pub invariant-walk : goal.invariant-walk
