@@ -5,7 +5,8 @@ use Rattle.std.proofs.Common.{◌≡◌, ℕ, ◌+◌, ◌-◌, ◌<◌, ◌≤�
 use Rattle.std.proofs.lemmas.List.{drop_more, drop_all}
 use Rattle.std.proofs.lemmas.List.Sums.{sum_by-cons, take_while-cons}
 use Rattle.bt_bib.specs.declared.spot.Spot.{Spot}
-use Rattle.bt_bib.specs.Spot.{Here, at, here, spot_after_byte, spot_after, after_bytes, is_line_end}
+use Rattle.bt_text.specs.ByteTests.{is_line_feed}
+use Rattle.bt_bib.specs.Spot.{Here, at, here, spot_after_byte, spot_after, after_bytes}
 use Rattle.bt_bib.specs.Scan.{after_run, run}
 
 -- after the longest run of bytes that pass a test, a byte at a time
@@ -14,7 +15,7 @@ past_run test s [] = at s []
 past_run test s (b ∷ rest) = cond (test b) (past_run test (spot_after_byte b s) rest) (at s (b ∷ rest))
 
 abbrev one : ℕ → ℕ
-one b = cond (is_line_end b) 1 0
+one b = cond (is_line_feed b) 1 0
 
 pub same_spot : (a b c d : ℕ) → a ≡ c → b ≡ d → (let x : Spot = record { place = a; line = b } in x) ≡ record { place = c; line = d }
 same_spot a b c d p q = rw (p, q) refl
@@ -27,7 +28,7 @@ pub passed-nil : (s : Spot) → spot_after [] s ≡ s
 passed-nil s = same_spot _ _ _ _ (omega arith) (omega arith)
 
 pub passed-cons : (b : ℕ) (front : List ℕ) (s : Spot) → spot_after (b ∷ front) s ≡ spot_after front (spot_after_byte b s)
-passed-cons b front s = same_spot _ _ _ _ (omega arith) (ap (λ n. s.line + n) (sum_by-cons one b front) ∙ sym (one_more (is_line_end b) s.line (count_by is_line_end front)))
+passed-cons b front s = same_spot _ _ _ _ (omega arith) (ap (λ n. s.line + n) (sum_by-cons one b front) ∙ sym (one_more (is_line_feed b) s.line (count_by is_line_feed front)))
 
 pub after_bytes-cons : (b : ℕ) (front : List ℕ) (s : Spot) (rest : List ℕ) → after_bytes (b ∷ front) (at s (b ∷ rest)) ≡ after_bytes front (at (spot_after_byte b s) rest)
 after_bytes-cons b front s rest = ap (λ u. at u (drop (length front) rest)) (passed-cons b front s)

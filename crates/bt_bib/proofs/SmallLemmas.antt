@@ -4,7 +4,7 @@ use Rattle.std.specs.List.{AllByRecursion}
 use Rattle.std.proofs.Common.{◌≡◌, ℕ, zero, suc, ◌+◌, ◌<◌, ◌≤◌, ◌^◌, ◌++◌, Bool, true, false, cond, List, [], ◌∷◌, length, map, Option, Some, None, Result, Ok, Err, ap, subst, arith}
 use Rattle.std.proofs.lemmas.List.Elements.{All-from_recursion}
 use Rattle.std.proofs.lemmas.List.Sums.{count_by-le-length}
-use Rattle.bt_text.specs.ByteTests.{is_digit, left_brace, right_brace}
+use Rattle.bt_text.specs.ByteTests.{is_digit, left_brace, right_brace, is_line_feed}
 use Rattle.bt_text.specs.NameBytes.{is_name_byte}
 use Rattle.bt_bib.specs.declared.spot.Spot.{Spot}
 use Rattle.bt_bib.specs.declared.fault.NameRole.TheVariants.{EntryType, StringName, FieldName, FieldPart}
@@ -19,7 +19,7 @@ use Rattle.bt_bib.specs.declared.item.Piece.{Piece}
 use Rattle.bt_bib.specs.declared.item.Piece.TheVariants as pieces
 use Rattle.bt_bib.specs.declared.keywords.Keyword.{Keyword}
 use Rattle.bt_bib.specs.declared.keywords.Keyword.TheVariants as keywords
-use Rattle.bt_bib.specs.Spot.{Here, here, start, is_line_end, after_byte}
+use Rattle.bt_bib.specs.Spot.{Here, here, start, after_byte}
 use Rattle.bt_bib.specs.Stop.{Stop, ◌>>=◌, value_read}
 use Rattle.bt_bib.specs.Scan.{first, run, after_run, after_white, sign, closing_sign, is_key_byte}
 use Rattle.bt_bib.specs.Enclosure.{enclosed}
@@ -43,7 +43,7 @@ pub record Bound (n : ℕ) (h : Here) : Type 0 where
 pub bound : (n : ℕ) (h e : Here) → Reaches h e → Bound n h → Bound n e
 bound n h e r b = record {
   place = omega (arith, reaches_sum h e r, b.place);
-  line = omega (arith, count_by-le-length is_line_end r.front, ap (λ (u : Spot). u.place) r.spot, ap (λ (u : Spot). u.line) r.spot, b.line);
+  line = omega (arith, count_by-le-length is_line_feed r.front, ap (λ (u : Spot). u.place) r.spot, ap (λ (u : Spot). u.line) r.spot, b.line);
 }
 
 abbrev pub SmallSpot : ℕ → Spot → Type 0

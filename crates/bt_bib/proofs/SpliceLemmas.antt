@@ -12,7 +12,8 @@ use Rattle.bt_bib.specs.declared.item.Content.{Content}
 use Rattle.bt_bib.specs.declared.item.Content.TheVariants as contents
 use Rattle.bt_bib.specs.declared.item.Piece.{Piece}
 use Rattle.bt_bib.specs.declared.item.Piece.TheVariants as pieces
-use Rattle.bt_bib.specs.Spot.{Here, at, here, start, is_line_end}
+use Rattle.bt_text.specs.ByteTests.{is_line_feed}
+use Rattle.bt_bib.specs.Spot.{Here, at, here, start}
 use Rattle.bt_bib.specs.inner.Spot.{IsIn}
 use Rattle.bt_bib.specs.Pieces.{next_piece}
 use Rattle.bt_bib.specs.BibText.{pieces_of}
@@ -188,7 +189,7 @@ one_more items u v t p is so_far = append_assoc items (p ∷ []) v ∙ ap (λ l.
 pub in_reached : (text : List ℕ) (s : Spot) (e : Here) → IsIn text s → Reaches (here text s) e → IsIn text e.spot
 in_reached text s e i r = record {
   place = omega (arith, ap length r.parts, length-append r.front e.rest, length-drop s.place text, ap (λ (u : Spot). u.place) r.spot, i.place);
-  line = omega (arith, count_by-le-length is_line_end r.front, ap (λ (u : Spot). u.place) r.spot, ap (λ (u : Spot). u.line) r.spot, i.line);
+  line = omega (arith, count_by-le-length is_line_feed r.front, ap (λ (u : Spot). u.place) r.spot, ap (λ (u : Spot). u.line) r.spot, i.line);
 }
 
 pub from_in : (old new : List ℕ) (begin end inserted : ℕ) → IsSplice old new begin end inserted → IsIn new (last_end start (below begin (pieces_of old)))

@@ -1,7 +1,8 @@
 -- The lines of one .aux text that count.
-use Rattle.std.specs.Prelude.{ℕ, ◌+◌, Bool, ◌==◌, List, [], ◌∷◌, length, drop, codes, Option, Some, None, if◌then◌else◌}
+use Rattle.std.specs.Prelude.{ℕ, ◌+◌, Bool, List, [], ◌∷◌, length, drop, codes, Option, Some, None, if◌then◌else◌}
 use Rattle.std.specs.List.{slice_split, starts_with}
 use Rattle.std.specs.Prelude.{eqb}
+use Rattle.bt_text.specs.ByteTests.{is_line_feed}
 use Rattle.bt_text.specs.White.{trimmed_end}
 use Rattle.bt_bib.specs.declared.aux_line.Command.{Command}
 use Rattle.bt_bib.specs.declared.aux_line.Command.TheVariants.{Citation, Database, Style, Nested}
@@ -9,10 +10,6 @@ use Rattle.bt_bib.specs.declared.aux_argument.Parting.{Parting}
 use Rattle.bt_bib.specs.declared.aux_argument.Parting.TheVariants.{Commas, Whole}
 use Rattle.bt_bib.specs.declared.aux_line.AuxItem.{AuxItem}
 use Rattle.bt_bib.specs.AuxArgument.{argument_parts, fault_of}
-
--- a line feed
-abbrev pub is_line_end : ℕ → Bool
-is_line_end b = b == 10
 
 -- what a line that counts begins with
 abbrev pub opening_of : Command → List ℕ
@@ -57,4 +54,4 @@ items_from n (l ∷ ls) =
 
 -- the lines of a text that count
 unfoldable pub aux_lines : List ℕ → List AuxItem
-aux_lines text = items_from 1 (slice_split is_line_end text)
+aux_lines text = items_from 1 (slice_split is_line_feed text)

@@ -1,20 +1,18 @@
 -- Places of a text, with what stands from there on.
-use Rattle.std.specs.Prelude.{ℕ, ◌+◌, Bool, ◌==◌, List, [], ◌∷◌, length, drop, count_by, if◌then◌else◌}
+use Rattle.std.specs.Prelude.{ℕ, ◌+◌, List, [], ◌∷◌, length, drop, count_by, if◌then◌else◌}
+use Rattle.bt_text.specs.ByteTests.{is_line_feed}
 use Rattle.bt_bib.specs.declared.spot.Spot.{Spot}
 
 abbrev pub start : Spot
 start = record { place = 0; line = 1 }
 
-abbrev pub is_line_end : ℕ → Bool
-is_line_end b = b == 10
-
 -- the spot after a byte
 abbrev pub spot_after_byte : ℕ → Spot → Spot
-spot_after_byte b s = record { place = s.place + 1; line = if is_line_end b then s.line + 1 else s.line }
+spot_after_byte b s = record { place = s.place + 1; line = if is_line_feed b then s.line + 1 else s.line }
 
 -- the spot after some bytes
 abbrev pub spot_after : List ℕ → Spot → Spot
-spot_after front s = record { place = s.place + length front; line = s.line + count_by is_line_end front }
+spot_after front s = record { place = s.place + length front; line = s.line + count_by is_line_feed front }
 
 -- a spot of a text, and the bytes from there on
 pub record Here : Type 0 where

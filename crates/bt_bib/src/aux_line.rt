@@ -5,7 +5,8 @@
 
 ghost use Rattle.std.specs.Prelude.{◌≡◌, ◌≤◌, ◌<◌, ◌+◌, ◌^◌, [], ◌++◌, length, IfOk, OnOk, IfSome};
 ghost use Rattle.std.specs.List.{position_or_len};
-ghost use Rattle.bt_bib.specs.AuxLine.{is_line_end, command_of, opening_of, parting, item, aux_lines};
+ghost use Rattle.bt_text.specs.ByteTests.{is_line_feed};
+ghost use Rattle.bt_bib.specs.AuxLine.{command_of, opening_of, parting, item, aux_lines};
 ghost use Rattle.bt_bib.specs.inner.Cases.{if_counted};
 
 use crate::aux_argument::{AuxFault, Parting, read_argument};
@@ -60,7 +61,7 @@ pub struct AuxItem {
 
 #[tactic(auto, using(crate::proofs::AuxLemmas::line_is_first))]
 fn line_len(text: &[u8]) -> usize
-    ensures value { result ≡ position_or_len is_line_end text.now }
+    ensures value { result ≡ position_or_len is_line_feed text.now }
     ensures within { result ≤ length text.now }
     ensures room { result + 1 < 2 ^ 64 }
 {

@@ -4,7 +4,8 @@
 //! still has the places before it.
 
 ghost use Rattle.std.specs.Prelude.{◌≡◌, ◌<◌, ◌≤◌, ◌+◌, count_by, drop, length, take};
-ghost use Rattle.bt_bib.specs.Spot.{after_byte, here, is_line_end, spot_after};
+ghost use Rattle.bt_text.specs.ByteTests.{is_line_feed};
+ghost use Rattle.bt_bib.specs.Spot.{after_byte, here, spot_after};
 ghost use Rattle.bt_bib.specs.inner.Spot.{IsAhead, IsIn};
 ghost use Rattle.bt_bib.specs.Scan.{closing_sign, first, is_key_byte, after_run, run, sign, after_white};
 ghost use Rattle.bt_bib.specs.inner.Scan.{has};
@@ -64,7 +65,7 @@ impl Class {
 }
 
 fn line_ends(bytes: &[u8]) -> usize
-    ensures { result ≡ count_by is_line_end bytes.now }
+    ensures { result ≡ count_by is_line_feed bytes.now }
 {
     let mut count = 0;
     let mut rest = bytes;

@@ -8,7 +8,8 @@ use Rattle.std.specs.Cmp.Lexicographic.{nat_list_eq_equiv}
 use Rattle.std.proofs.lemmas.Iterator.Adapters.{position_from-zero}
 use Rattle.std.proofs.lemmas.Option.{slice_get-map, get_or_from_slice_get}
 use Rattle.indexmap.specs.IndexSet.{insert_key}
-use Rattle.bt_job.specs.FileNames.{is_among, with_name}
+use Rattle.bt_text.specs.NameList.{is_among}
+use Rattle.bt_job.specs.FileNames.{with_name}
 use Rattle.bt_files.specs.Names.{is_own_name, numbered, session_name, with_author}
 
 abbrev pub Keys : Type 0

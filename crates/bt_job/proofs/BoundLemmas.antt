@@ -14,7 +14,8 @@ use Rattle.bt_bib.specs.AuxLine.{aux_lines}
 use Rattle.bt_log.specs.declared.message.FileKind.TheVariants.{Aux}
 use Rattle.bt_log.specs.declared.message.FileNote.TheVariants.{NotOpened, AuxTwice, WrongExtension, BadFileName}
 use Rattle.bt_job.specs.declared.files.File.{File}
-use Rattle.bt_job.specs.FileNames.{is_file_name, is_among, text_of}
+use Rattle.bt_text.specs.NameList.{is_among}
+use Rattle.bt_job.specs.FileNames.{is_file_name, text_of}
 use Rattle.bt_job.specs.Faults.{LineFault, WrongFile, IllEnded, input_fault, first_fault}
 use Rattle.bt_job.specs.Lines.{JobLine, lines_of, has_command, input_names, line_fault, opened_by, read_on, line_count, unopened}
 use Rattle.bt_job.specs.inner.Cases.{lines_in, lines_opened}

@@ -10,7 +10,8 @@ use Rattle.bt_bib.specs.declared.aux_line.Command.TheVariants.{Citation, Databas
 use Rattle.bt_job.specs.declared.files.File.{File}
 use Rattle.bt_job.specs.declared.citations.Citations.{Citations}
 use Rattle.bt_job.specs.declared.progress.Progress.{Progress}
-use Rattle.bt_job.specs.FileNames.{is_among, text_of, with_name}
+use Rattle.bt_text.specs.NameList.{is_among}
+use Rattle.bt_job.specs.FileNames.{text_of, with_name}
 use Rattle.bt_job.specs.Lines.{JobLine, lines_of, first_with, cited, read_on, line_count, read_all, job_lines}
 use Rattle.bt_job.specs.Citations.{is_star, keys_of, star_of, databases, styles, messages, file_line, missing_of, lacks, told_missing, asked_by, citations}
 use Rattle.bt_job.specs.inner.Cases.{asked_from, lines_in}

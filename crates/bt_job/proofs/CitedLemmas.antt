@@ -8,14 +8,14 @@ use Rattle.std.proofs.lemmas.List.Elements.{filter-append}
 use Rattle.std.proofs.lemmas.List.Sums.{fold-append, take_while-cons}
 use Rattle.std.proofs.Common.{◌≡◌, ℕ, ◌+◌, Bool, true, false, cond, nat_eq, nat_lt, List, [], ◌∷◌, ◌++◌, length, append_assoc, append-nil, Option, Some, None, refl, sym, ap, ap₂, ◌∙◌, arith}
 use Rattle.bt_text.specs.CaseFolding.{folded, is_same_folded}
-use Rattle.bt_text.specs.NameList.{same_name}
+use Rattle.bt_text.specs.NameList.{same_name, is_among}
 use Rattle.bt_bib.specs.declared.aux_line.Command.TheVariants.{Citation}
 use Rattle.bt_bib.specs.declared.aux_argument.AuxFault.{AuxFault}
 use Rattle.bt_job.specs.declared.files.File.{File}
 use Rattle.bt_job.specs.declared.progress.Progress.{Progress}
 use Rattle.bt_job.specs.declared.progress.Outcome.{Outcome}
 use Rattle.bt_job.specs.declared.progress.Outcome.TheVariants.{Taken, Wrong}
-use Rattle.bt_job.specs.FileNames.{is_among, with_name}
+use Rattle.bt_job.specs.FileNames.{with_name}
 use Rattle.bt_job.specs.Faults.{LineFault, SecondStar, OtherSpelling, IllEnded, said, key_fault, right_parts}
 use Rattle.bt_job.specs.inner.Cases.{spelling_fault}
 use Rattle.bt_job.specs.Lines.{argument_fault}

@@ -16,7 +16,8 @@ use Rattle.bt_job.specs.declared.files.File.{File}
 use Rattle.bt_job.specs.declared.progress.Progress.{Progress}
 use Rattle.bt_job.specs.declared.progress.Outcome.{Outcome}
 use Rattle.bt_job.specs.declared.progress.Outcome.TheVariants.{Taken, Wrong, Opens}
-use Rattle.bt_job.specs.FileNames.{is_file_name, is_among, text_of, with_ending, with_name}
+use Rattle.bt_text.specs.NameList.{is_among}
+use Rattle.bt_job.specs.FileNames.{is_file_name, text_of, with_ending, with_name}
 use Rattle.bt_job.specs.Faults.{LineFault, WrongFile, IllEnded, said, database_fault, style_fault, input_fault, right_parts}
 use Rattle.bt_job.specs.Lines.{database_names, argument_fault}
 use Rattle.bt_job.specs.Citations.{missed}

@@ -9,13 +9,13 @@ use Rattle.std.proofs.lemmas.List.Elements.{filter-append}
 use Rattle.std.proofs.lemmas.List.Sums.{fold-append}
 use Rattle.std.proofs.Common.{◌≡◌, ℕ, ◌≤◌, Bool, true, false, cond, List, [], ◌∷◌, ◌++◌, length, length-append, map, take, drop, take-append-drop, append_assoc, append-nil, Option, Some, None, refl, sym, ap, subst, ◌∙◌, arith}
 use Rattle.bt_text.specs.CaseFolding.{is_same_folded}
-use Rattle.bt_text.specs.NameList.{same_name}
+use Rattle.bt_text.specs.NameList.{same_name, is_among}
 use Rattle.bt_bib.specs.declared.aux_line.Command.TheVariants.{Citation, Database, Style}
 use Rattle.bt_log.specs.declared.message.FileKind.TheVariants.{Bib, Bst}
 use Rattle.bt_log.specs.declared.message.FileNote.TheVariants.{NotOpened, DatabaseTwice, BadFileName}
 use Rattle.bt_job.specs.declared.files.File.{File}
 use Rattle.bt_job.specs.declared.citations.Citations.{Citations}
-use Rattle.bt_job.specs.FileNames.{is_file_name, is_among, text_of, with_name}
+use Rattle.bt_job.specs.FileNames.{is_file_name, text_of, with_name}
 use Rattle.bt_job.specs.Faults.{LineFault, WrongFile, SecondStar, OtherSpelling, PartFault, key_fault, is_there, database_fault, style_fault, right_parts}
 use Rattle.bt_job.specs.Lines.{JobLine, has_command, first_with, cited, database_names, style_names, job_lines}
 use Rattle.bt_job.specs.Citations.{is_star, keys_of, star_of, styles, citations}

@@ -14,7 +14,8 @@ use Rattle.bt_job.specs.declared.files.File.{File}
 use Rattle.bt_job.specs.declared.progress.Progress.{Progress}
 use Rattle.bt_job.specs.declared.progress.Outcome.{Outcome}
 use Rattle.bt_job.specs.declared.progress.Outcome.TheVariants.{Taken, Wrong, Opens}
-use Rattle.bt_job.specs.FileNames.{is_among, text_of, with_name, each_once}
+use Rattle.bt_text.specs.NameList.{is_among}
+use Rattle.bt_job.specs.FileNames.{text_of, with_name, each_once}
 use Rattle.bt_job.specs.Faults.{LineFault, SecondStar, OtherSpelling, IllEnded, key_fault, right_parts}
 use Rattle.bt_job.specs.inner.Cases.{spelling_fault, lines_opened}
 use Rattle.bt_job.specs.Lines.{JobLine, lines_of, has_command, first_with, cited, input_names, argument_fault, command_fault, line_fault, opened_by}

@@ -5,7 +5,7 @@ use Rattle.std.specs.List.{list_any}
 use Rattle.std.specs.declared.alloc.Global.{Global}
 use Rattle.std.specs.Cmp.Lexicographic.{bytes_decides, nat_list_eq_equiv}
 use Rattle.indexmap.specs.IndexSet.{insert_key}
-use Rattle.bt_job.specs.FileNames.{is_among}
+use Rattle.bt_text.specs.NameList.{is_among}
 use Rattle.bt_job.proofs.NameLemmas.{or_step, or_false, is_among-append}
 
 abbrev pub Keys : Type 0

@@ -11,7 +11,8 @@ use Rattle.bt_bib.specs.declared.aux_line.AuxItem.{AuxItem}
 use Rattle.bt_job.specs.declared.files.File.{File}
 use Rattle.bt_job.specs.declared.progress.Progress.{Progress}
 use Rattle.bt_job.specs.declared.progress.Outcome.TheVariants.{Wrong}
-use Rattle.bt_job.specs.FileNames.{is_among, is_file_name, with_name}
+use Rattle.bt_text.specs.NameList.{is_among}
+use Rattle.bt_job.specs.FileNames.{is_file_name, with_name}
 use Rattle.bt_job.specs.inner.Cases.{line_parts}
 use Rattle.bt_job.specs.Faults.{LineFault, SecondCommand, key_fault, database_fault, style_fault, right_parts}
 use Rattle.bt_job.specs.Lines.{JobLine, has_command, first_with, cited, database_names, style_names, argument_fault, unless_second, line_fault}

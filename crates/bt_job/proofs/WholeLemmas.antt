@@ -7,7 +7,8 @@ use Rattle.bt_bib.specs.declared.aux_line.Command.TheVariants.{Citation, Databas
 use Rattle.bt_bib.specs.declared.aux_argument.AuxFault.{AuxFault}
 use Rattle.bt_bib.specs.declared.aux_line.AuxItem.{AuxItem}
 use Rattle.bt_bib.specs.AuxArgument.{inside, parts_kept, fault_of}
-use Rattle.bt_bib.specs.AuxLine.{is_line_end, opening_of, command_of, item, items_from, aux_lines}
+use Rattle.bt_text.specs.ByteTests.{is_line_feed}
+use Rattle.bt_bib.specs.AuxLine.{opening_of, command_of, item, items_from, aux_lines}
 use Rattle.bt_bib.specs.inner.Cases.{if_counted}
 
 abbrev pub IsWhole : List (List ℕ) → Option AuxFault → Type 0
@@ -47,4 +48,4 @@ items_parted n (l ∷ ls) = counted_parted n (trimmed_end l) (command_of (trimme
 
 pub lines_parted : (text : List ℕ) → AreParted (aux_lines text)
 unfolding aux_lines
-lines_parted text = items_parted 1 (slice_split is_line_end text)
+lines_parted text = items_parted 1 (slice_split is_line_feed text)

@@ -12,7 +12,8 @@ use Rattle.bt_log.specs.declared.message.Place.TheVariants.{Line, WholeFile}
 use Rattle.bt_log.specs.Message.{plain, of_file, skipping, at}
 use Rattle.bt_job.specs.declared.files.File.{File}
 use Rattle.bt_job.specs.declared.citations.Citations.{Citations}
-use Rattle.bt_job.specs.FileNames.{is_among, text_of, each_once}
+use Rattle.bt_text.specs.NameList.{is_among}
+use Rattle.bt_job.specs.FileNames.{text_of, each_once}
 use Rattle.bt_job.specs.Faults.{LineFault, WrongFile, said, database_fault, style_fault, right_parts}
 use Rattle.bt_job.specs.Lines.{JobLine, first_with, cited, database_names, style_names, line_fault, job_lines}
 

@@ -3,7 +3,7 @@ use Rattle.std.specs.Prelude.{ℕ, Bool, not, eqb, List, [], ◌∷◌, ◌++◌
 use Rattle.std.specs.List.{ends_with}
 use Rattle.std.specs.Option.{is_some}
 use Rattle.std.specs.Str.{bytes_eq}
-use Rattle.bt_text.specs.NameList.{same_name}
+use Rattle.bt_text.specs.NameList.{same_name, is_among}
 use Rattle.bt_bib.specs.declared.aux_argument.AuxFault.{AuxFault}
 use Rattle.bt_bib.specs.declared.aux_argument.AuxFault.TheVariants.{NoBrace, WhiteSpace, StuffAfter}
 use Rattle.bt_log.specs.declared.message.FileKind.TheVariants.{Aux, Bib, Bst}
@@ -12,7 +12,7 @@ use Rattle.bt_log.specs.declared.message.FileNote.TheVariants.{NotOpened, Databa
 use Rattle.bt_log.specs.declared.message.Said.{Said}
 use Rattle.bt_log.specs.declared.message.Said.TheVariants.{Words, OfFile}
 use Rattle.bt_job.specs.declared.files.File.{File}
-use Rattle.bt_job.specs.FileNames.{is_file_name, is_among, text_of}
+use Rattle.bt_job.specs.FileNames.{is_file_name, text_of}
 
 pub data LineFault : Type 0 where
   -- a second command of this name

@@ -1,7 +1,8 @@
 -- Names of files: which are allowed, and which text each has.
 use Rattle.std.specs.Prelude.{ℕ, Bool, nat_le, ◌==◌, eqb, ◌&&◌, ◌||◌, List, [], ◌∷◌, ◌++◌, length, fold, codes, Option, Some, None, if◌then◌else◌}
-use Rattle.std.specs.List.{ends_with, list_any, list_all}
+use Rattle.std.specs.List.{ends_with, list_all}
 use Rattle.std.specs.Str.{bytes_eq}
+use Rattle.bt_text.specs.NameList.{is_among}
 use Rattle.bt_bib.specs.declared.aux_line.Command.{Command}
 use Rattle.bt_bib.specs.declared.aux_line.Command.TheVariants.{Citation, Database, Style, Nested}
 use Rattle.bt_job.specs.declared.files.File.{File}
@@ -20,10 +21,6 @@ file_name_size_limit = 64
 abbrev pub is_file_name : List ℕ → Bool
 is_file_name name =
     nat_le 1 (length name) && nat_le (length name) file_name_size_limit && list_all is_file_name_byte name
-
--- whether a name is among some
-abbrev pub is_among : List (List ℕ) → List ℕ → Bool
-is_among names name = list_any (λ n. bytes_eq n name) names
 
 -- the text of a name, if there is one
 abbrev pub text_of : List File → List ℕ → Option (List ℕ)

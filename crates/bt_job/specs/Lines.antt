@@ -7,7 +7,8 @@ use Rattle.bt_bib.specs.declared.aux_argument.AuxFault.{AuxFault}
 use Rattle.bt_bib.specs.declared.aux_line.AuxItem.{AuxItem}
 use Rattle.bt_bib.specs.AuxLine.{aux_lines}
 use Rattle.bt_job.specs.declared.files.File.{File}
-use Rattle.bt_job.specs.FileNames.{is_among, text_of, with_ending}
+use Rattle.bt_text.specs.NameList.{is_among}
+use Rattle.bt_job.specs.FileNames.{text_of, with_ending}
 use Rattle.bt_job.specs.Faults.{LineFault, SecondCommand, IllEnded, PartFault, key_fault, database_fault, style_fault, input_fault, right_parts, first_fault}
 
 -- a line that counts, of a file that is `level` levels below the root

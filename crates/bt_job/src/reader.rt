@@ -4,7 +4,7 @@
 //! `meet` and `want` change them, each together with its list.
 
 ghost use Rattle.std.specs.Prelude.{◌≡◌, OnOk, OnErr};
-ghost use Rattle.bt_job.specs.FileNames.{is_among};
+ghost use Rattle.bt_text.specs.NameList.{is_among};
 ghost use Rattle.bt_job.specs.inner.NameTable.{Mirrors};
 ghost use Rattle.bt_job.specs.inner.LineEffects.{told, logged_at, meeting, wanting};
 ghost use Rattle.bt_job.specs.inner.NestedFiles.{nothing_met, asked_for};

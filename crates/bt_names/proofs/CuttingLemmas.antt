@@ -1,5 +1,5 @@
 -- Cutting a text into sections and tokens.
-use Rattle.std.proofs.Common.{◌≡◌, ◌⊎◌, inl, inr, ℕ, zero, suc, ◌+◌, ◌<◌, ◌≤◌, Bool, true, false, cond, eqb, ◌||◌, List, [], ◌∷◌, ◌++◌, length, take, drop, map, append_assoc, append-nil, refl, sym, ap, ◌∙◌, arith}
+use Rattle.std.proofs.Common.{◌≡◌, ◌⊎◌, inl, inr, ℕ, zero, suc, ◌+◌, ◌<◌, ◌≤◌, Bool, true, false, cond, eqb, ◌||◌, List, [], ◌∷◌, ◌++◌, length, take, drop, map, append_assoc, append-nil, refl, sym, ap, ◌∙◌, arith, slice_index_or}
 use Rattle.std.specs.List.{prefix_len, slice_split, onto_first}
 use Rattle.std.proofs.Math.Dec.{eqb-suc-zero}
 use Rattle.std.proofs.Math.Seq.{take-add}
@@ -9,7 +9,7 @@ use Rattle.std.proofs.lemmas.Bool.{true≢false, false≢true, cases_Bool, or_pa
 use Rattle.bt_text.specs.Blocks.{blocks}
 use Rattle.bt_text.proofs.BlockLemmas.{blocks_from_start}
 use Rattle.bt_names.specs.declared.tokens.Token.{Token}
-use Rattle.bt_names.specs.Cuts.{Run, is_single, onto_text, runs, sign_of, tokens, is_parting, first_or_none}
+use Rattle.bt_names.specs.Cuts.{Run, is_single, onto_text, runs, sign_of, tokens, is_parting}
 use Rattle.bt_names.specs.inner.Cases.{onto_gap, is_comma}
 use Rattle.bt_names.specs.inner.Cuts.{sections_from, first_section, other_sections, begins_token}
 use Rattle.bt_names.proofs.StrayLemmas.{single_from}
@@ -20,7 +20,7 @@ use Rattle.bt_names.proofs.StrayLemmas.{single_from}
 pub single_block : (b : ℕ) (t : List ℕ) → eqb b 123 ≡ false → blocks (b ∷ t) ≡ (b ∷ []) ∷ blocks t
 single_block b t h = blocks_from_start (b ∷ t) ∙ single_from b t h ∙ ap (λ bs. (b ∷ []) ∷ bs) (sym (blocks_from_start t))
 
-nonempty_is : {X : Type 0} (l : List (List X)) → 0 < length l → l ≡ first_or_none l ∷ drop 1 l
+nonempty_is : {X : Type 0} (l : List (List X)) → 0 < length l → l ≡ slice_index_or l 0 [] ∷ drop 1 l
 nonempty_is [] h = absurd (omega arith)
 nonempty_is (x ∷ l) h = refl
 
@@ -32,7 +32,7 @@ sections_block : (t block u : List ℕ) → blocks t ≡ block ∷ blocks u → 
 sections_block t block u e h = ap (slice_split is_comma) e ∙ slice_split-cons_no is_comma block (blocks u) h ∙ ap (onto_first block) (sections_is u)
 
 pub first_section_block : (t block u : List ℕ) → blocks t ≡ block ∷ blocks u → is_comma block ≡ false → first_section t ≡ block ∷ first_section u
-first_section_block t block u e h = ap first_or_none (sections_block t block u e h)
+first_section_block t block u e h = ap (λ l. slice_index_or l 0 []) (sections_block t block u e h)
 
 pub other_sections_block : (t block u : List ℕ) → blocks t ≡ block ∷ blocks u → is_comma block ≡ false → other_sections t ≡ other_sections u
 other_sections_block t block u e h = ap (drop 1) (sections_block t block u e h)
@@ -41,7 +41,7 @@ sections_comma : (t block u : List ℕ) → blocks t ≡ block ∷ blocks u → 
 sections_comma t block u e h = ap (slice_split is_comma) e ∙ slice_split-cons_yes is_comma block (blocks u) h
 
 pub first_section_comma : (t block u : List ℕ) → blocks t ≡ block ∷ blocks u → is_comma block ≡ true → first_section t ≡ []
-first_section_comma t block u e h = ap first_or_none (sections_comma t block u e h)
+first_section_comma t block u e h = ap (λ l. slice_index_or l 0 []) (sections_comma t block u e h)
 
 pub other_sections_comma : (t block u : List ℕ) → blocks t ≡ block ∷ blocks u → is_comma block ≡ true → other_sections t ≡ sections_from u
 other_sections_comma t block u e h = ap (drop 1) (sections_comma t block u e h)

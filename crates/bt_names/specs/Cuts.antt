@@ -59,7 +59,3 @@ tokens lead (r ∷ rs) =
 abbrev pub lead_after : List Token → ℕ
 lead_after [] = 0
 lead_after (w ∷ ws) = comma
-
-abbrev pub first_or_none : {X : Type 0} → List (List X) → List X
-first_or_none [] = []
-first_or_none (x ∷ xs) = x

@@ -1,7 +1,8 @@
 -- The faults of a pattern.
-use Rattle.std.specs.Prelude.{ℕ, ◌+◌, ◌-◌, ◌==◌, Bool, ◌&&◌, if◌then◌else◌, List, [], ◌∷◌, length, take, drop, filter, slice_index, Option, None, Some, codes}
+use Rattle.std.specs.Prelude.{ℕ, ◌+◌, ◌-◌, ◌==◌, Bool, ◌&&◌, if◌then◌else◌, List, [], ◌∷◌, length, take, drop, filter, slice_index, Option, None, Some, codes, slice_get}
 use Rattle.std.specs.Char.{to_ascii_lowercase}
 use Rattle.std.specs.List.{list_any, range_with_len}
+use Rattle.std.specs.Option.{option_or}
 use Rattle.bt_text.specs.ByteTests.{is_letter, right_brace}
 use Rattle.bt_text.specs.Blocks.{blocks, begins_group}
 use Rattle.bt_text.specs.Depth.{depth, depth_at}
@@ -32,20 +33,12 @@ is_doubled_at t i = to_ascii_lowercase (slice_index t i) == to_ascii_lowercase (
 abbrev pub letter_end : List ℕ → ℕ → ℕ
 letter_end t i = if is_doubled_at t i then i + 2 else i + 1
 
-abbrev pub first_place : List ℕ → Option ℕ
-first_place [] = None
-first_place (i ∷ is) = Some i
-
 -- The first letter that may not stand there, among those at the places: the first where it names no part,
 -- else the second, or the third where the second doubles the first.
 abbrev pub letter_fault : List ℕ → List ℕ → Option ℕ
 letter_fault t [] = None
 letter_fault t (i ∷ is) =
-    if names_part (slice_index t i) then first_place (if is_doubled_at t i then drop 1 is else is) else Some i
-
-abbrev pub or_else : Option ℕ → Option ℕ → Option ℕ
-or_else (Some i) other = Some i
-or_else None other = other
+    if names_part (slice_index t i) then slice_get (if is_doubled_at t i then drop 1 is else is) 0 else Some i
 
 abbrev pub moved_by : ℕ → Option ℕ → Option ℕ
 moved_by n None = None
@@ -55,14 +48,14 @@ moved_by n (Some i) = Some (n + i)
 abbrev pub block_fault : List ℕ → Option ℕ
 block_fault block =
     if begins_group block
-    then or_else (moved_by 1 (letter_fault (inside_group block) (letter_places (inside_group block))))
+    then option_or (moved_by 1 (letter_fault (inside_group block) (letter_places (inside_group block))))
     (if depth block == 0 then None else Some (length block))
     else (if is_single (λ b. b == right_brace) block then Some 0 else None)
 
 -- the first fault of some blocks, by its place from where the first of them begins
 abbrev pub fault_of_blocks : List (List ℕ) → Option ℕ
 fault_of_blocks [] = None
-fault_of_blocks (block ∷ rest) = or_else (block_fault block) (moved_by (length block) (fault_of_blocks rest))
+fault_of_blocks (block ∷ rest) = option_or (block_fault block) (moved_by (length block) (fault_of_blocks rest))
 
 -- the place of a pattern's first fault
 abbrev pub pattern_fault : List ℕ → Option ℕ

@@ -1,14 +1,13 @@
 -- How a pattern spells the tokens of a part: whole, or by their initials.
-use Rattle.std.specs.Prelude.{ℕ, if◌then◌else◌, List, [], ◌∷◌, map}
+use Rattle.std.specs.Prelude.{ℕ, if◌then◌else◌, List, [], ◌∷◌, map, slice_index_or}
 use Rattle.bt_text.specs.Blocks.{blocks, begins_special}
 use Rattle.bt_text.specs.ByteTests.{is_letter}
 use Rattle.bt_names.specs.declared.tokens.Token.{Token}
 use Rattle.bt_names.specs.declared.spelling.Form.{Form}
 use Rattle.bt_names.specs.declared.spelling.Form.TheVariants.{Whole, Initials}
-use Rattle.bt_names.specs.Cuts.{first_or_none}
 
 abbrev pub first_block : List ℕ → List ℕ
-first_block t = first_or_none (blocks t)
+first_block t = slice_index_or (blocks t) 0 []
 
 -- the first letter at any depth, or the group of the first left brace that has a backslash after it, whichever begins
 -- first

@@ -1,9 +1,9 @@
 //! The groups of a pattern, their letters, and the faults of a pattern.
 
-ghost use Rattle.std.specs.Prelude.{◌≡◌, ◌<◌, ◌≤◌, ◌-◌, ◌+◌, [], ◌∷◌, IfSome, IfNone, if◌then◌else◌, length, drop, slice_index};
+ghost use Rattle.std.specs.Prelude.{◌≡◌, ◌<◌, ◌≤◌, ◌-◌, ◌+◌, [], ◌∷◌, IfSome, IfNone, if◌then◌else◌, length, drop, slice_index, slice_get};
 ghost use Rattle.bt_text.specs.Blocks.{begins_group};
 ghost use Rattle.bt_text.specs.Depth.{depth_at};
-ghost use Rattle.bt_names.specs.Patterns.{block_fault, first_place, inside_group, is_doubled_at, letter_end, letter_fault, letter_places, letters_from, names_part, pattern_fault};
+ghost use Rattle.bt_names.specs.Patterns.{block_fault, inside_group, is_doubled_at, letter_end, letter_fault, letter_places, letters_from, names_part, pattern_fault};
 ghost use Rattle.bt_names.specs.inner.Patterns.{IsLetterPlace};
 
 use bt_text::{block_len, depth_after, depth_of, is_letter};
@@ -32,7 +32,7 @@ pub fn inside(group: &[u8]) -> &[u8]
 #[tactic(auto, using(crate::proofs::PatternLemmas::letters))]
 pub fn next_letter(text: &[u8], start: usize) -> Option<usize>
     requires flat { depth_at text.now start ≡ 0 }
-    ensures first { result ≡ first_place (letters_from text.now start) }
+    ensures first { result ≡ slice_get (letters_from text.now start) 0 }
     ensures others { IfSome result (λ i. letters_from text.now start ≡ i ∷ letters_from text.now (i + 1)) }
     ensures none { IfNone result (letters_from text.now start ≡ []) }
     ensures place { IfSome result (IsLetterPlace text.now) }

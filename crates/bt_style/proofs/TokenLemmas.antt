@@ -3,7 +3,8 @@ use Rattle.std.proofs.Common.{◌≡◌, ℕ, zero, suc, ◌+◌, ◌-◌, ◌<�
 use Rattle.std.proofs.Math.Seq.{take-nil, drop-nil}
 use Rattle.std.proofs.lemmas.List.Sums.{sum_by-cons}
 use Rattle.std.specs.Prelude.{Option}
-use Rattle.bt_style.specs.Token.{AtEnd, piece_at, is_line_feed, line_after, tokens_after}
+use Rattle.bt_text.specs.ByteTests.{is_line_feed}
+use Rattle.bt_style.specs.Token.{AtEnd, piece_at, line_after, tokens_after}
 use Rattle.bt_style.specs.inner.Cases.{with_token}
 use Rattle.bt_style.specs.inner.Cursor.{front_piece, IsPiece, maybe_placed}
 use Rattle.bt_style.specs.declared.token.TokenKind.{TokenKind}

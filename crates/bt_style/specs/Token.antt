@@ -1,7 +1,7 @@
 -- The tokens of a style's text, each with its line.
 use Rattle.std.specs.Prelude.{ℕ, zero, suc, ◌+◌, ◌-◌, Bool, true, ◌||◌, ◌==◌, if◌then◌else◌, List, [], ◌∷◌, length, drop, Option, Some, None}
 use Rattle.std.specs.List.{before_first}
-use Rattle.bt_text.specs.ByteTests.{left_brace, right_brace, is_white}
+use Rattle.bt_text.specs.ByteTests.{left_brace, right_brace, is_white, is_line_feed}
 
 abbrev pub quote : ℕ
 quote = 34
@@ -12,9 +12,6 @@ percent_sign = 37
 -- white space, a percent sign, a brace
 abbrev pub ends_word : ℕ → Bool
 ends_word b = is_white b || b == percent_sign || b == left_brace || b == right_brace
-
-abbrev pub is_line_feed : ℕ → Bool
-is_line_feed b = b == 10
 
 -- a quote, or the line's end
 abbrev pub ends_literal : ℕ → Bool

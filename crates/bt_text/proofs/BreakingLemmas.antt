@@ -1,7 +1,7 @@
 -- Where a text is broken.
 use Rattle.std.proofs.Common.{◌≡◌, ℕ, zero, suc, ◌+◌, ◌-◌, ◌<◌, ◌≤◌, Bool, true, false, cond, List, [], ◌∷◌, ◌++◌, length, get_or, take, drop, filter, Option, Some, None, refl, ap, ◌∙◌, ◌⊎◌, inl, inr, arith}
 use Rattle.std.proofs.Common.{append-nil, set, sym}
-use Rattle.std.specs.Option.{is_some}
+use Rattle.std.specs.Option.{is_some, option_or}
 use Rattle.std.proofs.lemmas.Bool.{lt-ltb, le-ltb}
 use Rattle.std.proofs.lemmas.List.{drop-drop, drop-set, drop-set-add, drop_more}
 use Rattle.std.specs.List.{last_or, range_with_len, position_or_len, prefix_len}
@@ -9,7 +9,7 @@ use Rattle.std.proofs.Common.{ltb, leb, append_assoc, length-drop}
 use Rattle.std.proofs.lemmas.Bool.{ltb-true, leb-false}
 use Rattle.std.proofs.lemmas.List.Sums.{prefix_len-le-length}
 use Rattle.bt_text.specs.declared.output.Output.{Output}
-use Rattle.bt_text.specs.LineBreaks.{break_place, broken, broken_within, line_unless_empty, near_break, or_else, run_end}
+use Rattle.bt_text.specs.LineBreaks.{break_place, broken, broken_within, line_unless_empty, near_break, run_end}
 use Rattle.bt_text.specs.inner.Cases.{broken_at}
 use Rattle.bt_text.specs.ByteTests.{is_white, space}
 
@@ -81,11 +81,11 @@ run_within t k i e = by_test (ltb start (length t)) refl e
 break_within : (t : List ℕ) (i : ℕ) → break_place t ≡ Some i → (2 ≤ i) × (i < length t)
 break_within t i e = by_length (leb (length t) 79) refl e
   where
-    by_near : (o : Option ℕ) → near_break t ≡ o → or_else o (run_end t 80) ≡ Some i → 79 < length t → (2 ≤ i) × (i < length t)
+    by_near : (o : Option ℕ) → near_break t ≡ o → option_or o (run_end t 80) ≡ Some i → 79 < length t → (2 ≤ i) × (i < length t)
     by_near (Some j) f e h = let q = near_within t j f in let same : j ≡ i = cc in (omega arith, omega arith)
     by_near None f e h = let q = run_within t 80 i e in (omega arith, omega arith)
 
-    by_length : (b : Bool) → leb (length t) 79 ≡ b → cond b None (or_else (near_break t) (run_end t 80)) ≡ Some i → (2 ≤ i) × (i < length t)
+    by_length : (b : Bool) → leb (length t) 79 ≡ b → cond b None (option_or (near_break t) (run_end t 80)) ≡ Some i → (2 ≤ i) × (i < length t)
     by_length true h e = cc
     by_length false h e = by_near (near_break t) refl e (leb-false _ _ h)
 

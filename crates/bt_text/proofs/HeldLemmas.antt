@@ -1,12 +1,12 @@
 -- Whether a held line is broken, by its white space.
 use Rattle.std.proofs.Common.{◌≡◌, ℕ, zero, suc, ◌+◌, ◌-◌, ◌<◌, ◌≤◌, Bool, true, false, ◌||◌, not, cond, ltb, List, [], ◌∷◌, ◌++◌, length, get_or, take, drop, filter, Option, Some, None, length-append, length-drop, refl, sym, ap, ◌∙◌, arith}
 use Rattle.std.specs.List.{last_or, list_any, position_or_len, range_with_len}
-use Rattle.std.specs.Option.{is_some}
+use Rattle.std.specs.Option.{is_some, option_or}
 use Rattle.std.proofs.lemmas.Bool.{lt-leb, lt-ltb}
 use Rattle.std.proofs.lemmas.Bool.Decides.{nat_tests}
 use Rattle.std.proofs.lemmas.List.{drop-drop, drop_more, take-append-drop}
 use Rattle.std.proofs.lemmas.List.Folds.{list_any-append}
-use Rattle.bt_text.specs.LineBreaks.{break_place, near_break, or_else, run_end}
+use Rattle.bt_text.specs.LineBreaks.{break_place, near_break, run_end}
 use Rattle.bt_text.specs.ByteTests.{is_white}
 
 or_true : (a : Bool) → (a || true) ≡ true
@@ -65,7 +65,7 @@ run_some t h =
     let all : length t ≡ 80 + length rest = omega (arith, length-drop 80 t) in
     some_cond (ltb start (length t)) _ ∙ ap (ltb start) all ∙ shifted 80 (position_or_len is_white rest) (length rest) ∙ first_some is_white rest
 
-some_or_else : (o p : Option ℕ) → is_some (or_else o p) ≡ (is_some o || is_some p)
+some_or_else : (o p : Option ℕ) → is_some (option_or o p) ≡ (is_some o || is_some p)
 some_or_else (Some i) p = refl
 some_or_else None p = refl
 
@@ -73,7 +73,7 @@ some_or_else None p = refl
 pub broken_where : (t : List ℕ) → 79 < length t → is_some (break_place t) ≡ list_any is_white (drop 3 t)
 broken_where t h =
     let near = take 77 (drop 3 t) in
-    ap (λ b. is_some (cond b None (or_else (near_break t) (run_end t 80)))) (lt-leb (length t) 79 h) ∙ some_or_else (near_break t) (run_end t 80) ∙ ap (λ b. b || is_some (run_end t 80)) (near_some t h) ∙ ap (λ b. list_any is_white near || b) (run_some t h) ∙ ap (λ l. list_any is_white near || list_any is_white l) (sym (drop-drop 77 3 t)) ∙ sym (list_any-append is_white near (drop 77 (drop 3 t))) ∙ ap (list_any is_white) (take-append-drop 77 (drop 3 t))
+    ap (λ b. is_some (cond b None (option_or (near_break t) (run_end t 80)))) (lt-leb (length t) 79 h) ∙ some_or_else (near_break t) (run_end t 80) ∙ ap (λ b. b || is_some (run_end t 80)) (near_some t h) ∙ ap (λ b. list_any is_white near || b) (run_some t h) ∙ ap (λ l. list_any is_white near || list_any is_white l) (sym (drop-drop 77 3 t)) ∙ sym (list_any-append is_white near (drop 77 (drop 3 t))) ∙ ap (list_any is_white) (take-append-drop 77 (drop 3 t))
 
 -- So a long line that wasn't broken has none there.
 pub none_white : (t : List ℕ) → break_place t ≡ None → 79 < length t → list_any is_white (drop 3 t) ≡ false

@@ -3,16 +3,17 @@ use Rattle.std.proofs.Common.{◌≡◌, refl, sym, ap, subst, ◌∙◌, inl, i
 use Rattle.std.specs.Prelude.{◌<◌, is_none, ◌&&◌}
 use Rattle.std.specs.List.{list_all}
 use Rattle.std.proofs.lemmas.Bool.{cases_lt}
-use Rattle.bt_text.specs.Sparse.{or_text, filled_from}
+use Rattle.std.specs.Option.{option_or}
+use Rattle.bt_text.specs.Sparse.{filled_from}
 
 abbrev Text : Type 0
 Text = Option (List ℕ)
 
-or_none : (x : Text) → or_text x None ≡ x
+or_none : (x : Text) → option_or x None ≡ x
 or_none None = refl
 or_none (Some text) = refl
 
-or_assoc : (x y z : Text) → or_text (or_text x y) z ≡ or_text x (or_text y z)
+or_assoc : (x y z : Text) → option_or (option_or x y) z ≡ option_or x (option_or y z)
 or_assoc None y z = refl
 or_assoc (Some text) y z = refl
 
@@ -24,7 +25,7 @@ pub filled_length : (xs ys : List Text) → length (filled_from xs ys) ≡ lengt
 filled_length [] ys = refl
 filled_length (x ∷ xs) ys = ap suc (filled_length xs (drop 1 ys))
 
-pub filled_get : (xs ys : List Text) (i : ℕ) → length ys ≤ length xs → get_or (filled_from xs ys) i None ≡ or_text (get_or xs i None) (get_or ys i None)
+pub filled_get : (xs ys : List Text) (i : ℕ) → length ys ≤ length xs → get_or (filled_from xs ys) i None ≡ option_or (get_or xs i None) (get_or ys i None)
 filled_get [] [] i le = refl
 filled_get [] (y ∷ ys) i le = absurd (omega (arith, le))
 filled_get (x ∷ xs) ys zero le = refl
@@ -34,25 +35,25 @@ filled_get (x ∷ xs) (y ∷ ys) (suc i) le = filled_get xs ys i (omega (arith, 
 pub filled_put : (xs ys : List Text) (place : ℕ) (text : List ℕ) → filled_from (set xs place (Some text)) ys ≡ set (filled_from xs ys) place (Some text)
 filled_put [] ys place text = refl
 filled_put (x ∷ xs) ys zero text = refl
-filled_put (x ∷ xs) ys (suc place) text = ap (λ (vs : List Text). or_text x (get_or ys 0 None) ∷ vs) (filled_put xs (drop 1 ys) place text)
+filled_put (x ∷ xs) ys (suc place) text = ap (λ (vs : List Text). option_or x (get_or ys 0 None) ∷ vs) (filled_put xs (drop 1 ys) place text)
 
 pub filled_clear : (xs ys : List Text) (place : ℕ) → get_or ys place None ≡ None → filled_from (set xs place None) ys ≡ set (filled_from xs ys) place None
 filled_clear [] ys place none = refl
 filled_clear (x ∷ xs) ys zero none = ap (λ (v : Text). v ∷ filled_from xs (drop 1 ys)) none
-filled_clear (x ∷ xs) [] (suc place) none = ap (λ (vs : List Text). or_text x None ∷ vs) (filled_clear xs [] place refl)
-filled_clear (x ∷ xs) (y ∷ ys) (suc place) none = ap (λ (vs : List Text). or_text x y ∷ vs) (filled_clear xs ys place none)
+filled_clear (x ∷ xs) [] (suc place) none = ap (λ (vs : List Text). option_or x None ∷ vs) (filled_clear xs [] place refl)
+filled_clear (x ∷ xs) (y ∷ ys) (suc place) none = ap (λ (vs : List Text). option_or x y ∷ vs) (filled_clear xs ys place none)
 
 pub filled_twice : (xs ys zs : List Text) → length zs ≤ length ys → filled_from (filled_from xs ys) zs ≡ filled_from xs (filled_from ys zs)
 filled_twice [] ys zs le = refl
 filled_twice (x ∷ xs) [] [] le =
-    ap (λ (v : Text). v ∷ filled_from (filled_from xs []) []) (or_assoc x None None) ∙ ap (λ (vs : List Text). or_text x None ∷ vs) (filled_twice xs [] [] le)
+    ap (λ (v : Text). v ∷ filled_from (filled_from xs []) []) (or_assoc x None None) ∙ ap (λ (vs : List Text). option_or x None ∷ vs) (filled_twice xs [] [] le)
 filled_twice (x ∷ xs) [] (z ∷ zs) le = absurd (omega (arith, le))
 filled_twice (x ∷ xs) (y ∷ ys) [] le =
     ap (λ (v : Text). v ∷ filled_from (filled_from xs ys) []) (or_assoc x y None)
-    ∙ ap (λ (vs : List Text). or_text x (or_text y None) ∷ vs) (filled_twice xs ys [] (omega arith))
+    ∙ ap (λ (vs : List Text). option_or x (option_or y None) ∷ vs) (filled_twice xs ys [] (omega arith))
 filled_twice (x ∷ xs) (y ∷ ys) (z ∷ zs) le =
     ap (λ (v : Text). v ∷ filled_from (filled_from xs ys) zs) (or_assoc x y z)
-    ∙ ap (λ (vs : List Text). or_text x (or_text y z) ∷ vs) (filled_twice xs ys zs (omega (arith, le)))
+    ∙ ap (λ (vs : List Text). option_or x (option_or y z) ∷ vs) (filled_twice xs ys zs (omega (arith, le)))
 
 pub filled_gaps : (n : ℕ) (ys : List Text) → length ys ≡ n → filled_from (replicate n None) ys ≡ ys
 filled_gaps zero [] is = refl
@@ -66,7 +67,7 @@ and_true : (b : Bool) → b ≡ (b && true)
 and_true true = refl
 and_true false = refl
 
-both_none : (x y : Text) → is_none (or_text x y) ≡ (is_none x && is_none y)
+both_none : (x y : Text) → is_none (option_or x y) ≡ (is_none x && is_none y)
 both_none None y = refl
 both_none (Some text) y = refl
 

@@ -4,7 +4,8 @@ use Rattle.std.specs.Prelude.{nat_lt}
 use Rattle.std.proofs.lemmas.Bool.{cases_lt, cond-true, cond-false}
 use Rattle.std.proofs.lemmas.Bool.Decides.{nat_tests}
 use Rattle.std.proofs.lemmas.List.{append-nil}
-use Rattle.bt_text.specs.Sparse.{text_at, all_texts, IsRising, or_text, filled_from}
+use Rattle.std.specs.Option.{option_or}
+use Rattle.bt_text.specs.Sparse.{text_at, all_texts, IsRising, filled_from}
 use Rattle.bt_text.specs.inner.Merging.{Present, below, above, merged}
 use Rattle.bt_text.proofs.RangeLemmas.{Text, range_alike, range_filled}
 use Rattle.bt_text.proofs.SparseLemmas.{none_low, none_high, rising_from}
@@ -89,30 +90,30 @@ behind_high ((p, text) ∷ xs) place i high = elim (cases_lt p place) [
   ]
 ]
 
-merged_text : (xs ys : Present) (a b c i : ℕ) → a ≤ c → IsRising a c xs → IsRising a b ys → i < c → text_at (merged c xs ys) i ≡ or_text (text_at xs i) (text_at ys i)
+merged_text : (xs ys : Present) (a b c i : ℕ) → a ≤ c → IsRising a c xs → IsRising a b ys → i < c → text_at (merged c xs ys) i ≡ option_or (text_at xs i) (text_at ys i)
 merged_text [] ys a b c i most rising others low =
     ap (λ (zs : Present). text_at zs i) (sym (append-nil (below c ys))) ∙ below_low ys [] a b c i others low refl
 merged_text ((p, text) ∷ xs) ys a b c i most rising others low =
     let rest = merged c xs (above p ys) in
     let rest_rising : IsRising (p + 1) c rest = rising_merged xs (above p ys) (p + 1) b c (omega (arith, rising.1)) rising.2 (rising_behind ys a b p others) in
-    let rest_is : text_at rest i ≡ or_text (text_at xs i) (text_at (above p ys) i) = merged_text xs (above p ys) (p + 1) b c i (omega (arith, rising.1)) rising.2 (rising_behind ys a b p others) low in
+    let rest_is : text_at rest i ≡ option_or (text_at xs i) (text_at (above p ys) i) = merged_text xs (above p ys) (p + 1) b c i (omega (arith, rising.1)) rising.2 (rising_behind ys a b p others) low in
     elim (cases_lt i p) [
       | inl lt ↦
           below_low ys ((p, text) ∷ rest) a b p i others lt (none_low ((p, text) ∷ rest) p c i (omega arith, rising.1, rest_rising) lt)
-          ∙ ap (λ (t : Text). or_text t (text_at ys i)) (sym (none_low ((p, text) ∷ xs) p c i (omega arith, rising.1, rising.2) lt))
+          ∙ ap (λ (t : Text). option_or t (text_at ys i)) (sym (none_low ((p, text) ∷ xs) p c i (omega arith, rising.1, rising.2) lt))
       | inr ge ↦ below_high ys ((p, text) ∷ rest) p i ge ∙ elim (cases_lt p i) [
         | inl gt ↦
             cond-false (eqb p i) (Some text) (text_at rest i) (grind (arith, nat_tests, gt))
-            ∙ rest_is ∙ ap (or_text (text_at xs i)) (behind_high ys p i gt)
-            ∙ ap (λ (t : Text). or_text t (text_at ys i)) (sym (cond-false (eqb p i) (Some text) (text_at xs i) (grind (arith, nat_tests, gt))))
+            ∙ rest_is ∙ ap (option_or (text_at xs i)) (behind_high ys p i gt)
+            ∙ ap (λ (t : Text). option_or t (text_at ys i)) (sym (cond-false (eqb p i) (Some text) (text_at xs i) (grind (arith, nat_tests, gt))))
         | inr le ↦
             let same : eqb p i ≡ true = grind (arith, nat_tests, ge, le) in
             cond-true (eqb p i) (Some text) (text_at rest i) same
-            ∙ ap (λ (t : Text). or_text t (text_at ys i)) (sym (cond-true (eqb p i) (Some text) (text_at xs i) same))
+            ∙ ap (λ (t : Text). option_or t (text_at ys i)) (sym (cond-true (eqb p i) (Some text) (text_at xs i) same))
       ]
     ]
 
 pub all_merged : (xs ys : Present) (count other : ℕ) → IsRising 0 count xs → IsRising 0 other ys → all_texts count (merged count xs ys) ≡ filled_from (all_texts count xs) (all_texts other ys)
 all_merged xs ys count other rising others =
-    range_alike (text_at (merged count xs ys)) (λ i. or_text (text_at xs i) (text_at ys i)) 0 count (λ i le lt. merged_text xs ys 0 other count i (omega arith) rising others (omega (arith, lt)))
+    range_alike (text_at (merged count xs ys)) (λ i. option_or (text_at xs i) (text_at ys i)) 0 count (λ i le lt. merged_text xs ys 0 other count i (omega arith) rising others (omega (arith, lt)))
     ∙ sym (range_filled (text_at xs) (text_at ys) 0 count other (λ i le. none_high ys 0 other i others (omega (arith, le))))

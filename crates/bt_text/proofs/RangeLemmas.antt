@@ -1,7 +1,8 @@
 -- The texts of a range of places.
 use Rattle.std.proofs.Common.{◌≡◌, refl, sym, ap, ◌∙◌, ℕ, zero, suc, ◌+◌, ◌<◌, ◌≤◌, ◌≢◌, arith, List, [], ◌∷◌, map, set, replicate, get_or, Option, None}
 use Rattle.std.specs.List.{range_with_len}
-use Rattle.bt_text.specs.Sparse.{text_at, or_text, filled_from}
+use Rattle.std.specs.Option.{option_or}
+use Rattle.bt_text.specs.Sparse.{text_at, filled_from}
 
 -- a text or none
 abbrev pub Text : Type 0
@@ -44,10 +45,10 @@ range_behind f a (suc n) zero v le = absurd (omega (arith, le))
 range_behind f a (suc n) (suc i) v le = ap (λ (vs : List Text). f a ∷ vs) (range_behind f (a + 1) n i v (omega (arith, le)))
 
 pub range_filled : (f g : ℕ → Text) (a n m : ℕ) → ((i : ℕ) → a + m ≤ i → g i ≡ None) →
-    filled_from (map f (range_with_len a n)) (map g (range_with_len a m)) ≡ map (λ i. or_text (f i) (g i)) (range_with_len a n)
+    filled_from (map f (range_with_len a n)) (map g (range_with_len a m)) ≡ map (λ i. option_or (f i) (g i)) (range_with_len a n)
 range_filled f g a zero m none = refl
 range_filled f g a (suc n) zero none =
-    ap (λ (v : Text). or_text (f a) v ∷ filled_from (map f (range_with_len (a + 1) n)) []) (sym (none a (omega arith)))
-    ∙ ap (λ (vs : List Text). or_text (f a) (g a) ∷ vs) (range_filled f g (a + 1) n zero (λ i le. none i (omega (arith, le))))
+    ap (λ (v : Text). option_or (f a) v ∷ filled_from (map f (range_with_len (a + 1) n)) []) (sym (none a (omega arith)))
+    ∙ ap (λ (vs : List Text). option_or (f a) (g a) ∷ vs) (range_filled f g (a + 1) n zero (λ i le. none i (omega (arith, le))))
 range_filled f g a (suc n) (suc m) none =
-    ap (λ (vs : List Text). or_text (f a) (g a) ∷ vs) (range_filled f g (a + 1) n m (λ i le. none i (omega (arith, le))))
+    ap (λ (vs : List Text). option_or (f a) (g a) ∷ vs) (range_filled f g (a + 1) n m (λ i le. none i (omega (arith, le))))

@@ -26,6 +26,9 @@ tie = 126
 abbrev pub is_within : ℕ → ℕ → ℕ → Bool
 is_within low high b = nat_le low b && nat_le b high
 
+abbrev pub is_line_feed : ℕ → Bool
+is_line_feed b = b == 10
+
 -- tab, line feed, carriage return, space
 abbrev pub is_white : ℕ → Bool
 is_white b = b == 9 || b == 10 || b == 13 || b == 32

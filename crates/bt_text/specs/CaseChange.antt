@@ -5,7 +5,8 @@ use Rattle.bt_text.specs.declared.modes.Mode.{Mode}
 use Rattle.bt_text.specs.declared.modes.Mode.TheVariants.{Title, Lower, Upper}
 use Rattle.bt_text.specs.Blocks.{begins_group, begins_special, blocks}
 use Rattle.bt_text.specs.ByteTests.{backslash, is_white}
-use Rattle.bt_text.specs.Special.{Symbol, control, is_foreign, is_one_of, plain, symbols, without_large_form}
+use Rattle.bt_text.specs.NameList.{is_among}
+use Rattle.bt_text.specs.Special.{Symbol, control, is_foreign, plain, symbols, without_large_form}
 use Rattle.bt_text.specs.White.{ends_in, trimmed_end}
 
 abbrev pub changed_byte : Mode → ℕ → ℕ
@@ -20,7 +21,7 @@ small_control name gap = backslash ∷ (if is_foreign name then map to_ascii_low
 
 abbrev pub large_control : (name gap : List ℕ) → List ℕ
 large_control name gap =
-    if is_one_of without_large_form name then map to_ascii_uppercase name
+    if is_among without_large_form name then map to_ascii_uppercase name
     else backslash ∷ (if is_foreign name then map to_ascii_uppercase name else name) ++ gap
 
 abbrev pub changed_symbol : Mode → Symbol → List ℕ

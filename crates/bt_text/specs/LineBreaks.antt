@@ -1,6 +1,7 @@
 -- How a long text is broken into lines.
 use Rattle.std.specs.Prelude.{ℕ, zero, suc, ◌+◌, ◌-◌, nat_le, nat_lt, if◌then◌else◌, List, [], ◌∷◌, ◌++◌, length, take, drop, slice_index, Option, None, Some, filter}
 use Rattle.std.specs.List.{last_or, range_with_len, position_or_len, prefix_len}
+use Rattle.std.specs.Option.{option_or}
 use Rattle.bt_text.specs.declared.output.Output.{Output}
 use Rattle.bt_text.specs.ByteTests.{is_white, space}
 use Rattle.bt_text.specs.White.{trimmed_end}
@@ -24,13 +25,9 @@ run_end t i =
     let start = i + position_or_len is_white (drop i t) in
     if nat_lt start (length t) then Some (start + prefix_len is_white (drop start t) - 1) else None
 
-abbrev pub or_else : Option ℕ → Option ℕ → Option ℕ
-or_else (Some i) other = Some i
-or_else None other = other
-
 -- where a text of more than 79 bytes is broken
 abbrev pub break_place : List ℕ → Option ℕ
-break_place t = if nat_le (length t) line_width then None else or_else (near_break t) (run_end t (line_width + 1))
+break_place t = if nat_le (length t) line_width then None else option_or (near_break t) (run_end t (line_width + 1))
 
 -- A line loses the white space at its end, and is written unless nothing is left of it.
 abbrev pub line_unless_empty : List ℕ → List (List ℕ)

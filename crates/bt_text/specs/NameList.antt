@@ -1,7 +1,11 @@
--- Lists of names, which match without regard to case.
-use Rattle.std.specs.Prelude.{ℕ, Bool, true, ◌&&◌, not, List, [], ◌∷◌, Option, Some, None, if◌then◌else◌}
+-- Lists of names. Names match without regard to case, except in `is_among`.
+use Rattle.std.specs.Prelude.{ℕ, Bool, true, ◌&&◌, not, List, [], ◌∷◌, Option, Some, None, if◌then◌else◌, bytes_eq}
 use Rattle.std.specs.List.{list_any}
 use Rattle.bt_text.specs.CaseFolding.{is_same_folded}
+
+-- whether a name is among names, byte for byte
+abbrev pub is_among : List (List ℕ) → List ℕ → Bool
+is_among names name = list_any (λ n. bytes_eq n name) names
 
 -- whether a name is among names
 abbrev pub has_name : List (List ℕ) → List ℕ → Bool

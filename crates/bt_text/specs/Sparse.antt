@@ -1,5 +1,6 @@
 -- Lists of texts of which many may be missing, as the texts that are there with their places.
 use Rattle.std.specs.Prelude.{ℕ, ◌+◌, ◌<◌, ◌≤◌, ◌==◌, drop, List, [], ◌∷◌, map, Option, Some, None, slice_index_or, ⊤, if◌then◌else◌}
+use Rattle.std.specs.Option.{option_or}
 use Rattle.std.specs.List.{range_with_len}
 
 -- the text of a place, if it is there
@@ -16,11 +17,7 @@ abbrev pub IsRising : ℕ → ℕ → List (ℕ × List ℕ) → Type 0
 IsRising first count [] = ⊤
 IsRising first count ((p, text) ∷ rest) = (first ≤ p) × (p < count) × IsRising (p + 1) count rest
 
-abbrev pub or_text : Option (List ℕ) → Option (List ℕ) → Option (List ℕ)
-or_text None other = other
-or_text (Some text) other = Some text
-
 -- the texts, each that is missing taken from others
 abbrev pub filled_from : List (Option (List ℕ)) → List (Option (List ℕ)) → List (Option (List ℕ))
 filled_from [] others = []
-filled_from (text ∷ texts) others = or_text text (slice_index_or others 0 None) ∷ filled_from texts (drop 1 others)
+filled_from (text ∷ texts) others = option_or text (slice_index_or others 0 None) ∷ filled_from texts (drop 1 others)

@@ -1,6 +1,6 @@
 -- What stands in a special character.
-use Rattle.std.specs.Prelude.{ℕ, zero, suc, Bool, ◌||◌, ◌+◌, ◌==◌, if◌then◌else◌, List, [], ◌∷◌, length, take, drop, take_while, bytes_eq, codes}
-use Rattle.std.specs.List.{list_any}
+use Rattle.std.specs.Prelude.{ℕ, zero, suc, Bool, ◌||◌, ◌+◌, ◌==◌, if◌then◌else◌, List, [], ◌∷◌, length, take, drop, take_while, codes}
+use Rattle.bt_text.specs.NameList.{is_among}
 use Rattle.bt_text.specs.ByteTests.{backslash, is_brace, is_letter, is_white}
 
 -- a control sequence by its name, with the white space directly after it, or a byte outside of these
@@ -41,12 +41,9 @@ one_letter = codes "i" ∷ codes "j" ∷ codes "o" ∷ codes "O" ∷ codes "l" �
 abbrev pub without_large_form : List (List ℕ)
 without_large_form = codes "i" ∷ codes "j" ∷ codes "ss" ∷ []
 
-abbrev pub is_one_of : List (List ℕ) → List ℕ → Bool
-is_one_of names name = list_any (λ w. bytes_eq w name) names
-
 abbrev pub is_foreign : List ℕ → Bool
-is_foreign name = is_one_of two_letters name || is_one_of one_letter name
+is_foreign name = is_among two_letters name || is_among one_letter name
 
 -- the letters that stand for a control sequence where it is left out: nothing for one that isn't foreign
 abbrev pub letters_of : List ℕ → List ℕ
-letters_of name = if is_one_of two_letters name then name else (if is_one_of one_letter name then take 1 name else [])
+letters_of name = if is_among two_letters name then name else (if is_among one_letter name then take 1 name else [])

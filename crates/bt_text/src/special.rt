@@ -2,7 +2,8 @@
 
 ghost use Rattle.std.specs.Prelude.{◌≡◌, ◌+◌, ◌≤◌, length, take, drop, take_while};
 ghost use Rattle.bt_text.specs.ByteTests.{is_letter, is_white};
-ghost use Rattle.bt_text.specs.Special.{control_gap, control_name, is_foreign, is_one_of, letters_of, without_large_form};
+ghost use Rattle.bt_text.specs.NameList.{is_among};
+ghost use Rattle.bt_text.specs.Special.{control_gap, control_name, is_foreign, letters_of, without_large_form};
 ghost use Rattle.std.specs.List.{prefix_len};
 
 use crate::byte_tests::is_letter;
@@ -85,7 +86,7 @@ pub fn is_foreign(name: &[u8]) -> bool
 
 /// Whether a foreign letter has no large form.
 pub fn is_without_large_form(name: &[u8]) -> bool
-    ensures { result ≡ is_one_of without_large_form name.now }
+    ensures { result ≡ is_among without_large_form name.now }
 {
     matches!(name, b"i" | b"j" | b"ss")
 }

@@ -7,7 +7,7 @@ use Rattle.std.proofs.lemmas.List.{take_at, take_all, drop_at, length_push, reve
 use Rattle.std.proofs.lemmas.List.Elements.{All-nil, All-cons, All-head, All-tail, All-append, All-weaker}
 use Rattle.std.proofs.lemmas.List.Splits.{slice_split_none, slice_split_at}
 use Rattle.std.proofs.lemmas.List.Sums.{AllPass-from_list_all}
-use Rattle.bt_text.specs.ByteTests.{is_white}
+use Rattle.bt_text.specs.ByteTests.{is_white, is_line_feed}
 use Rattle.bt_text.specs.White.{trimmed_end}
 use Rattle.bt_bib.specs.declared.aux_line.Command.{Command}
 use Rattle.bt_bib.specs.declared.aux_line.Command.TheVariants.{Citation, Database, Style, Nested}
@@ -18,7 +18,7 @@ use Rattle.bt_bib.specs.declared.aux_argument.Parting.TheVariants.{Commas, Whole
 use Rattle.bt_bib.specs.declared.aux_line.AuxItem.{AuxItem}
 use Rattle.bt_bib.specs.AuxArgument.{ends_argument, inside, after_argument, parts_in, fault_at, parts_kept, fault_of, argument_parts}
 use Rattle.bt_bib.specs.inner.Cases.{is_comma, if_counted}
-use Rattle.bt_bib.specs.AuxLine.{is_line_end, opening_of, command_of, parting, item, items_from}
+use Rattle.bt_bib.specs.AuxLine.{opening_of, command_of, parting, item, items_from}
 use Rattle.bt_files.specs.AuxText.{comma, line_feed, written_parts, written_end, written_argument, written_item, written_from}
 use Rattle.bt_files.specs.laws.AuxText.{is_part_byte, is_part, is_part_count, IsWritableItem, IsWritableFrom}
 
@@ -218,21 +218,21 @@ counted_written i later is =
 
 -- no byte of a text is a line feed
 abbrev OneLine : List ℕ → Type 0
-OneLine t = All (λ b. is_line_end b ≡ false) t
+OneLine t = All (λ b. is_line_feed b ≡ false) t
 
-one_line : (t : List ℕ) → list_all (λ b. not (is_line_end b)) t ≡ true → OneLine t
-one_line t h = All-weaker (λ b. not (is_line_end b) ≡ true) (λ b. is_line_end b ≡ false) (λ b. neither_one (is_line_end b)) t (AllPass-from_list_all (λ b. not (is_line_end b)) t h)
+one_line : (t : List ℕ) → list_all (λ b. not (is_line_feed b)) t ≡ true → OneLine t
+one_line t h = All-weaker (λ b. not (is_line_feed b) ≡ true) (λ b. is_line_feed b ≡ false) (λ b. neither_one (is_line_feed b)) t (AllPass-from_list_all (λ b. not (is_line_feed b)) t h)
 
-endless_byte : (b : ℕ) → ends_argument b ≡ false → is_line_end b ≡ false
-endless_byte b none = false_from_ne_true (is_line_end b) (λ e. false≢true (sym none ∙ ap ends_argument (eqb-true b 10 e)))
+endless_byte : (b : ℕ) → ends_argument b ≡ false → is_line_feed b ≡ false
+endless_byte b none = false_from_ne_true (is_line_feed b) (λ e. false≢true (sym none ∙ ap ends_argument (eqb-true b 10 e)))
 
 one_line_argument : (p : Parting) (parts : List (List ℕ)) (fault : Option AuxFault) → All (λ part. is_part p part ≡ true) parts → OneLine (written_argument parts fault)
 one_line_argument p parts fault all =
-    All-append (λ b. is_line_end b ≡ false) (join_with_byte comma (written_parts fault parts)) (written_end fault)
-    (All-weaker (λ b. ends_argument b ≡ false) (λ b. is_line_end b ≡ false) endless_byte (join_with_byte comma (written_parts fault parts)) (endless_written p fault parts all))
+    All-append (λ b. is_line_feed b ≡ false) (join_with_byte comma (written_parts fault parts)) (written_end fault)
+    (All-weaker (λ b. ends_argument b ≡ false) (λ b. is_line_feed b ≡ false) endless_byte (join_with_byte comma (written_parts fault parts)) (endless_written p fault parts all))
     (one_line (written_end fault) (end_passes fault))
   where
-    end_passes : (fault : Option AuxFault) → list_all (λ b. not (is_line_end b)) (written_end fault) ≡ true
+    end_passes : (fault : Option AuxFault) → list_all (λ b. not (is_line_feed b)) (written_end fault) ≡ true
     end_passes None = refl
     end_passes (Some NoBrace) = refl
     end_passes (Some WhiteSpace) = refl
@@ -240,10 +240,10 @@ one_line_argument p parts fault all =
 
 one_line_item : (i : AuxItem) → IsWritableItem i → OneLine (written_item i)
 one_line_item i is =
-    All-append (λ b. is_line_end b ≡ false) (opening_of i.command) (written_argument i.parts i.fault) (one_line (opening_of i.command) (opening_passes i.command))
+    All-append (λ b. is_line_feed b ≡ false) (opening_of i.command) (written_argument i.parts i.fault) (one_line (opening_of i.command) (opening_passes i.command))
     (one_line_argument (parting i.command) i.parts i.fault is.parts)
   where
-    opening_passes : (c : Command) → list_all (λ b. not (is_line_end b)) (opening_of c) ≡ true
+    opening_passes : (c : Command) → list_all (λ b. not (is_line_feed b)) (opening_of c) ≡ true
     opening_passes Citation = refl
     opening_passes Database = refl
     opening_passes Style = refl
@@ -251,26 +251,26 @@ one_line_item i is =
 
 -- The text
 
-empty_lines : (n k m : ℕ) (t : List ℕ) → n + k ≡ m → items_from n (slice_split is_line_end (replicate k line_feed ++ t)) ≡ items_from m (slice_split is_line_end t)
-empty_lines n zero m t is = ap (λ (number : ℕ). items_from number (slice_split is_line_end t)) (omega arith)
+empty_lines : (n k m : ℕ) (t : List ℕ) → n + k ≡ m → items_from n (slice_split is_line_feed (replicate k line_feed ++ t)) ≡ items_from m (slice_split is_line_feed t)
+empty_lines n zero m t is = ap (λ (number : ℕ). items_from number (slice_split is_line_feed t)) (omega arith)
 empty_lines n (suc k) m t is = empty_lines (n + 1) k m t (omega arith)
 
 -- a line, and after it those of some items
 lines_after : (n : ℕ) (l : List ℕ) (items : List AuxItem) → OneLine l → IsWritableFrom (n + 1) items →
-    items_from n (slice_split is_line_end (l ++ written_from n items)) ≡ if_counted n (trimmed_end l) items (command_of (trimmed_end l))
+    items_from n (slice_split is_line_feed (l ++ written_from n items)) ≡ if_counted n (trimmed_end l) items (command_of (trimmed_end l))
 lines_after n l [] one are =
-    ap (λ (t : List ℕ). items_from n (slice_split is_line_end t)) (append-nil l)
-    ∙ ap (items_from n) (slice_split_none is_line_end l one)
+    ap (λ (t : List ℕ). items_from n (slice_split is_line_feed t)) (append-nil l)
+    ∙ ap (items_from n) (slice_split_none is_line_feed l one)
 lines_after n l (i ∷ items) one are =
     let t = written_item i ++ written_from i.line items in
     let k = i.line - n - 1 in
     let gap : i.line - n ≡ suc k = omega (arith, are.0) in
-    ap (λ (g : ℕ). items_from n (slice_split is_line_end (l ++ (replicate g line_feed ++ t)))) gap
-    ∙ ap (items_from n) (slice_split_at is_line_end l line_feed (replicate k line_feed ++ t) one refl)
+    ap (λ (g : ℕ). items_from n (slice_split is_line_feed (l ++ (replicate g line_feed ++ t)))) gap
+    ∙ ap (items_from n) (slice_split_at is_line_feed l line_feed (replicate k line_feed ++ t) one refl)
     ∙ ap (λ (later : List AuxItem). if_counted n (trimmed_end l) later (command_of (trimmed_end l)))
     (empty_lines (n + 1) k i.line t (omega (arith, are.0)) ∙ lines_after i.line (written_item i) items (one_line_item i are.1) are.2 ∙ counted_written i items are.1)
 
-pub written_is_read : (items : List AuxItem) → IsWritableFrom 1 items → items_from 1 (slice_split is_line_end (written_from 1 items)) ≡ items
+pub written_is_read : (items : List AuxItem) → IsWritableFrom 1 items → items_from 1 (slice_split is_line_feed (written_from 1 items)) ≡ items
 written_is_read [] are = refl
 written_is_read (i ∷ items) are =
     empty_lines 1 (i.line - 1) i.line (written_item i ++ written_from i.line items) (omega (arith, are.0))

@@ -1,7 +1,8 @@
 -- The laws of the crate, which no code needs. `specs/laws` has what they say.
 use Rattle.std.specs.List.{slice_split}
 use Rattle.std.proofs.Common.{map}
-use Rattle.bt_bib.specs.AuxLine.{aux_lines, is_line_end}
+use Rattle.bt_text.specs.ByteTests.{is_line_feed}
+use Rattle.bt_bib.specs.AuxLine.{aux_lines}
 use Rattle.bt_files.specs.laws.AuxText.{WrittenItemsAreRead, IsWritable, ReadItemsAreWritable, RenamedItemsAreWritable, RenamedItemsAreRead, RenamedItemsNameFiles}
 use Rattle.bt_files.specs.AuxText.{written, item_with}
 use Rattle.bt_files.proofs.laws.AuxTextLemmas
@@ -18,7 +19,7 @@ written_items_are_read = λ items are. AuxTextLemmas.written_is_read items are
 
 pub read_items_are_writable : ReadItemsAreWritable
 unfolding aux_lines IsWritable
-read_items_are_writable = λ text. AuxReadLemmas.read_is_writable 1 (slice_split is_line_end text)
+read_items_are_writable = λ text. AuxReadLemmas.read_is_writable 1 (slice_split is_line_feed text)
 
 pub renamed_items_are_writable : RenamedItemsAreWritable
 unfolding IsWritable
@@ -27,7 +28,7 @@ renamed_items_are_writable = λ f items gives are. AuxReadLemmas.renamed_is_writ
 pub renamed_items_are_read : RenamedItemsAreRead
 unfolding aux_lines written
 renamed_items_are_read = λ f text gives.
-    AuxTextLemmas.written_is_read (map (item_with f) (aux_lines text)) (AuxReadLemmas.renamed_is_writable f gives 1 (aux_lines text) (AuxReadLemmas.read_is_writable 1 (slice_split is_line_end text)))
+    AuxTextLemmas.written_is_read (map (item_with f) (aux_lines text)) (AuxReadLemmas.renamed_is_writable f gives 1 (aux_lines text) (AuxReadLemmas.read_is_writable 1 (slice_split is_line_feed text)))
 
 pub renamed_items_name_files : RenamedItemsNameFiles
 renamed_items_name_files = λ f i bib bst. AuxNameLemmas.renamed_names f bib bst i.command i.parts

@@ -8,7 +8,8 @@ use Rattle.std.proofs.lemmas.Bool.{and_from, cases_lt}
 use Rattle.std.proofs.Math.ListN.{get_or-append}
 use Rattle.std.proofs.Math.Seq.{get_or-append_seam}
 use Rattle.std.proofs.lemmas.Iterator.Adapters.{position_from-zero}
-use Rattle.bt_job.specs.FileNames.{is_file_name, is_among}
+use Rattle.bt_text.specs.NameList.{is_among}
+use Rattle.bt_job.specs.FileNames.{is_file_name}
 use Rattle.bt_job.proofs.NameLemmas.{same_bytes, name_itself}
 use Rattle.bt_files.specs.Names.{is_stand_in, is_own_name, numbered, session_name, stood_for, author_name, with_author}
 use Rattle.bt_files.proofs.TableLemmas.{Stands}

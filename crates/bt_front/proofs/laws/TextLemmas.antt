@@ -2,7 +2,8 @@
 use Rattle.std.proofs.Common.{◌≡◌, ◌⊎◌, ◌<◌, ◌^◌, ℕ, Bool, true, false, List, map, length, Option, Some, None, refl, inl, inr}
 use Rattle.std.specs.Prelude.{◌&&◌, unwrap_or}
 use Rattle.std.specs.List.{slice_split}
-use Rattle.bt_bib.specs.AuxLine.{is_line_end, aux_lines}
+use Rattle.bt_text.specs.ByteTests.{is_line_feed}
+use Rattle.bt_bib.specs.AuxLine.{aux_lines}
 use Rattle.bt_job.specs.FileNames.{is_file_name}
 use Rattle.bt_files.specs.Names.{session_name}
 use Rattle.bt_files.specs.AuxText.{written, item_with}
@@ -30,4 +31,4 @@ pub lines_kept : (table : List (List ℕ)) (text : List ℕ) → length table < 
     → aux_lines (written (map (item_with (renamed table)) (aux_lines text))) ≡ map (item_with (renamed table)) (aux_lines text)
 unfolding aux_lines written
 lines_kept table text few =
-    written_is_read (map (item_with (renamed table)) (aux_lines text)) (renamed_is_writable (renamed table) (gives_names table few) 1 (aux_lines text) (read_is_writable 1 (slice_split is_line_end text)))
+    written_is_read (map (item_with (renamed table)) (aux_lines text)) (renamed_is_writable (renamed table) (gives_names table few) 1 (aux_lines text) (read_is_writable 1 (slice_split is_line_feed text)))

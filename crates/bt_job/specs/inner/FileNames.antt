@@ -5,7 +5,8 @@ use Rattle.bt_bib.specs.declared.aux_line.Command.{Command}
 use Rattle.bt_bib.specs.declared.aux_line.Command.TheVariants.{Citation, Database, Style, Nested}
 use Rattle.bt_log.specs.declared.message.FileNote.{FileNote}
 use Rattle.bt_log.specs.declared.message.FileNote.TheVariants.{DatabaseTwice, AuxTwice, WrongExtension, BadFileName}
-use Rattle.bt_job.specs.FileNames.{is_file_name, is_among}
+use Rattle.bt_text.specs.NameList.{is_among}
+use Rattle.bt_job.specs.FileNames.{is_file_name}
 
 -- whether a name has the ending that a command asks for
 abbrev pub has_ending : Command → List ℕ → Bool

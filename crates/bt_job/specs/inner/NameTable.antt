@@ -2,7 +2,7 @@
 use Rattle.std.specs.Prelude.{◌≡◌, ℕ, Bool, List, bytes_eq}
 use Rattle.std.specs.List.{list_any}
 use Rattle.bt_job.specs.declared.name_table.NameTable.{NameTable}
-use Rattle.bt_job.specs.FileNames.{is_among}
+use Rattle.bt_text.specs.NameList.{is_among}
 
 -- whether a table has a name
 abbrev pub has_name : NameTable → List ℕ → Bool

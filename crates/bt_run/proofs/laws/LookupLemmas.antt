@@ -12,7 +12,8 @@ use Rattle.bt_log.specs.declared.message.FileNote.TheVariants.{NotOpened, Databa
 use Rattle.bt_log.specs.declared.message.Message.{Message}
 use Rattle.bt_job.specs.declared.files.File.{File}
 use Rattle.bt_job.specs.declared.citations.Citations.{Citations}
-use Rattle.bt_job.specs.FileNames.{is_file_name, is_among, text_of, each_once}
+use Rattle.bt_text.specs.NameList.{is_among}
+use Rattle.bt_job.specs.FileNames.{is_file_name, text_of, each_once}
 use Rattle.bt_job.specs.Faults.{LineFault, PartFault, WrongFile, IllEnded, database_fault, style_fault, input_fault, right_parts, first_fault}
 use Rattle.bt_job.specs.Lines.{JobLine, lines_of, has_command, first_with, cited, database_names, style_names, input_names, unless_second, command_fault, line_fault, opened_by, read_on, line_count, job_lines}
 use Rattle.bt_job.specs.Citations.{keys_of, star_of, databases, styles, missed, along, line_messages, file_line, missing_of, told_missing, asked_by, citations}

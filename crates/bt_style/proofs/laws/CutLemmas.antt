@@ -3,7 +3,8 @@
 use Rattle.std.specs.List.{count_by}
 use Rattle.std.proofs.Common.{◌≡◌, ◌∙◌, ◌⊎◌, inl, inr, ap, sym, refl, subst, ℕ, zero, suc, ◌+◌, ◌-◌, ◌≤◌, false, cond, List, [], ◌∷◌, ◌++◌, length, Option, Some, None, arith, add-zero}
 use Rattle.std.proofs.lemmas.List.Sums.{sum_by-cons}
-use Rattle.bt_style.specs.Token.{Token, Open, Glued, Tokens, AtEnd, Front, Piece, is_line_feed, may_follow, piece_at, line_after, tokens_after}
+use Rattle.bt_text.specs.ByteTests.{is_line_feed}
+use Rattle.bt_style.specs.Token.{Token, Open, Glued, Tokens, AtEnd, Front, Piece, may_follow, piece_at, line_after, tokens_after}
 use Rattle.bt_style.specs.inner.Cases.{with_token}
 use Rattle.bt_style.specs.laws.Laws.{in_front}
 use Rattle.bt_style.proofs.laws.ReaderLemmas.{IsPlain, ArePlain}

@@ -6,8 +6,8 @@ use Rattle.std.proofs.Common.{◌≡◌, ◌∙◌, ap, sym, refl, subst, ℕ, z
 use Rattle.std.proofs.Math.Seq.{drop-append_seam}
 use Rattle.std.proofs.lemmas.Bool.{cond-true, cond-false}
 use Rattle.std.proofs.lemmas.List.{length-append, length-drop, append-nil}
-use Rattle.bt_text.specs.ByteTests.{is_white}
-use Rattle.bt_style.specs.Token.{Open, Close, Word, Literal, Unclosed, Glued, Piece, ends_word, is_line_feed, ends_literal, may_follow, literal_piece, piece_at}
+use Rattle.bt_text.specs.ByteTests.{is_white, is_line_feed}
+use Rattle.bt_style.specs.Token.{Open, Close, Word, Literal, Unclosed, Glued, Piece, ends_word, ends_literal, may_follow, literal_piece, piece_at}
 use Rattle.bt_style.specs.inner.Cases.{literal_end}
 
 -- What stands before the first of some bytes

@@ -6,7 +6,8 @@ use Rattle.bt_style.specs.declared.fault.StyleFault.{StyleFault}
 use Rattle.bt_style.specs.declared.builtin.Builtin.{Builtin}
 use Rattle.bt_style.specs.declared.verbs.Stage.{Stage}
 use Rattle.bt_style.specs.Builtins.{table, place_of, name_of}
-use Rattle.bt_style.specs.Token.{Token, Tokens, AtEnd, Front, is_line_feed, piece_at, tokens_after, tokens_of, count}
+use Rattle.bt_text.specs.ByteTests.{is_line_feed}
+use Rattle.bt_style.specs.Token.{Token, Tokens, AtEnd, Front, piece_at, tokens_after, tokens_of, count}
 use Rattle.bt_style.specs.Program.{Program}
 use Rattle.bt_style.specs.Names.{builtin_named, place_in, target_named}
 use Rattle.bt_style.specs.Reader.{commands_at, reading, style_of}

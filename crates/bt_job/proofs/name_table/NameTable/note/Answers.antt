@@ -2,7 +2,7 @@ use Rattle.std.proofs.Common.{◌≡◌, ◌∙◌, ap, sym, ℕ, List, [], ◌�
 use Rattle.std.specs.Prelude.{Vec, bytes_eq}
 use Rattle.std.specs.declared.alloc.Global.{Global}
 use Rattle.indexmap.specs.IndexSet.{insert_key}
-use Rattle.bt_job.specs.FileNames.{is_among}
+use Rattle.bt_text.specs.NameList.{is_among}
 use Rattle.bt_text.proofs.NameLemmas.{on_ok}
 use Rattle.bt_job.proofs.NameTableLemmas.{noted}
 use Rattle.bt_job.proofs.name_table.NameTable.note.Goals as goal
