@@ -21,7 +21,7 @@ rank_status Fatal = 3
 abbrev pub has_status : ℕ → Message → Bool
 has_status status m = rank_status m.rank == status
 
--- 3 where a message is fatal, else 2 where one is an error, else 1 where one is a warning, else 0
+-- 3 if a message is fatal, else 2 if one is an error, else 1 if one is a warning, else 0
 abbrev pub status_of : List Message → ℕ
 status_of log =
     if list_any (has_status 3) log then 3
@@ -51,7 +51,7 @@ count_line n name =
     if n == 1 then codes "(There was 1 " ++ name ++ codes ")\n"
     else codes "(There were " ++ decimal n ++ codes " " ++ name ++ codes "s)\n"
 
--- the last line: what the status stands for, and nothing where all is well
+-- the last line: what the status stands for, and nothing if it is 0
 abbrev pub last_line : List Message → List ℕ
 last_line log =
     let status = status_of log in

@@ -1,4 +1,7 @@
-//! The log: its messages, its bytes, and the status that it comes to.
+//! The log: its bytes, and the status that it gives a run.
+//!
+//! Messages stay in their parts until here. So a caller can still replace the name of a file in them, and count them by
+//! rank instead of by their words.
 
 ghost use Rattle.std.specs.Prelude.{◌≡◌, [], ◌∷◌, ◌++◌, count_by, filter, IfOk, OnOk};
 ghost use Rattle.std.specs.List.{list_any};
@@ -12,7 +15,7 @@ use itoa::Buffer;
 use std::alloc::{AllocError, Global};
 
 impl Rank {
-    /// The status of a log that has messages of this rank alone.
+    /// The status of a log whose messages all have this rank.
     fn status(self) -> u8
         ensures { result ≡ rank_status self }
     {
@@ -24,7 +27,6 @@ impl Rank {
         }
     }
 
-    /// Whether the terse log has messages of this rank.
     fn is_in_terse_log(self) -> bool
         ensures { result ≡ is_in_terse_log self }
     {
@@ -49,8 +51,7 @@ fn count(log: &[Message], status: u8) -> usize
         .count()
 }
 
-/// The status of a log: 3 where a message is fatal, else 2 where one is an error, else 1 where one
-/// is a warning, else 0.
+/// The status of a log: 3 if a message is fatal, else 2 if one is an error, else 1 if one is a warning, else 0.
 pub fn status(log: &[Message]) -> u8
     ensures { result ≡ status_of log.now }
 {
@@ -65,7 +66,7 @@ pub fn status(log: &[Message]) -> u8
     }
 }
 
-/// The line that says how many there were of a thing that has this name, in the plural.
+/// For any count but 1. `name` is the singular, and gets an `s`.
 fn several(alloc: Global, count: usize, name: &[u8]) -> Result<Bytes, AllocError>
     ensures { IfOk result (λ line. line ≡ several count name.now) }
 {
@@ -75,7 +76,6 @@ fn several(alloc: Global, count: usize, name: &[u8]) -> Result<Bytes, AllocError
     Ok(line)
 }
 
-/// The line that says how many there were of a thing that has this name, in the singular where there was one.
 fn count_line(alloc: Global, count: usize, name: &[u8]) -> Result<Bytes, AllocError>
     ensures { IfOk result (λ line. line ≡ count_line count name.now) }
 {
@@ -97,7 +97,6 @@ fn last_line(alloc: Global, log: &[Message]) -> Result<Bytes, AllocError>
     }
 }
 
-/// Adds a line and a line feed.
 fn add_line(text: &mut Bytes, line: &[u8]) -> Result<(), AllocError>
     ensures { OnOk result (text.new ≡ text.old ++ line.now ++ 10 ∷ []) }
 {
@@ -116,7 +115,6 @@ pub fn lines_bytes(alloc: Global, lines: &[Shared<Bytes>]) -> Result<Bytes, Allo
     Ok(text)
 }
 
-/// Adds a message in words and a line feed.
 fn add_message(text: &mut Bytes, message: &Message) -> Result<(), AllocError>
     ensures { OnOk result (text.new ≡ text.old ++ messages_bytes (message.now ∷ [])) }
 {
@@ -124,7 +122,6 @@ fn add_message(text: &mut Bytes, message: &Message) -> Result<(), AllocError>
     text.append(b"\n")
 }
 
-/// Each message in words, with a line feed after it.
 fn messages_bytes(alloc: Global, log: &[Message]) -> Result<Bytes, AllocError>
     ensures { IfOk result (λ bytes. bytes ≡ messages_bytes log.now) }
 {
@@ -135,7 +132,6 @@ fn messages_bytes(alloc: Global, log: &[Message]) -> Result<Bytes, AllocError>
     Ok(text)
 }
 
-/// Adds a message in words and a line feed, if the terse log has it.
 fn add_tersely(text: &mut Bytes, message: &Message) -> Result<(), AllocError>
     ensures { OnOk result (text.new ≡ text.old ++ messages_bytes (terse (message.now ∷ []))) }
 {
@@ -146,7 +142,6 @@ fn add_tersely(text: &mut Bytes, message: &Message) -> Result<(), AllocError>
     }
 }
 
-/// Each message that the terse log has, in words, with a line feed after it.
 fn terse_messages(alloc: Global, log: &[Message]) -> Result<Bytes, AllocError>
     ensures { IfOk result (λ bytes. bytes ≡ messages_bytes (terse log.now)) }
 {
@@ -157,7 +152,7 @@ fn terse_messages(alloc: Global, log: &[Message]) -> Result<Bytes, AllocError>
     Ok(text)
 }
 
-/// The bytes of the log: its messages in words, then the last line, which is empty where the status is 0.
+/// The bytes of the log: its messages in words, then the last line, which is empty if the status is 0.
 pub fn log_bytes(alloc: Global, log: &[Message]) -> Result<Bytes, AllocError>
     ensures { IfOk result (λ bytes. bytes ≡ log_bytes log.now) }
 {
@@ -166,7 +161,7 @@ pub fn log_bytes(alloc: Global, log: &[Message]) -> Result<Bytes, AllocError>
     Ok(text)
 }
 
-/// The bytes of the log without the lines of files and the counts of calls; the last line is that of the whole log.
+/// The bytes of the log without the lines of files and the counts of calls; the last line is the whole log's.
 pub fn terse_bytes(alloc: Global, log: &[Message]) -> Result<Bytes, AllocError>
     ensures { IfOk result (λ bytes. bytes ≡ terse_bytes log.now) }
 {

@@ -77,7 +77,7 @@ impl Said {
 }
 
 /// Where a message belongs. Lines and databases are numbered from 1, and a byte is the number of bytes before it in its
-/// file, where the reader knows that.
+/// file, if the reader knows it.
 #[derive(Debug, Drop)]
 pub enum Place {
     /// A line of a file.
@@ -104,7 +104,6 @@ pub enum Place {
 }
 
 impl Place {
-    /// The same place, whose file's name has one more owner.
     fn share(&self) -> Result<Place, AllocError>
         ensures { IfOk result (λ place. place ≡ self.now) }
     {
@@ -142,7 +141,7 @@ pub struct Message {
     pub said: Said,
     /// The key of the entry that it is about, if it is about one.
     pub entry: Option<Shared<Bytes>>,
-    /// Where it belongs; none where it belongs to the run, or as long as that isn't known.
+    /// Where it belongs; none if it belongs to the run, or as long as that isn't known.
     pub place: Option<Place>,
     /// What it says on a second line, after its place.
     pub second: Option<Shared<Bytes>>,
@@ -225,7 +224,6 @@ impl Message {
     }
 }
 
-/// The same text, if there is one, for one more owner.
 fn shared(text: &Option<Shared<Bytes>>) -> Result<Option<Shared<Bytes>>, AllocError>
     ensures { IfOk result (λ same. same ≡ text.now) }
 {

@@ -1,4 +1,7 @@
-//! A message in words.
+//! A message in words: what it says, then where it belongs, then its second line.
+//!
+//! Each function appends all its pieces in one call. The definition spells the same pieces in a row, so the two texts are
+//! equal by computation, without a lemma. And the pieces go straight into the log: no message is made as a text first.
 
 ghost use Rattle.std.specs.Prelude.{◌≡◌, ◌++◌, Some, codes, decimal, OnOk};
 ghost use Rattle.bt_log.specs.Wording.{kind_words, note_words, said_words, before_line, for_entry, place_words, spelled};
@@ -9,7 +12,6 @@ use bt_text::{Bytes, Shared};
 use itoa::Buffer;
 use std::alloc::AllocError;
 
-/// A number in decimal, in a buffer.
 fn decimal(buffer: &mut Buffer, number: usize) -> &[u8]
     ensures { result.now ≡ decimal number }
 {
@@ -26,7 +28,6 @@ fn kind_words(kind: FileKind) -> &'static [u8]
     }
 }
 
-/// Adds the line of an `.aux` file below the first.
 fn add_nested(text: &mut Bytes, level: usize, file: &[u8]) -> Result<(), AllocError>
     ensures { OnOk result (text.new ≡ text.old ++ (codes "A level-" ++ decimal level ++ codes " auxiliary file: " ++ file.now)) }
 {
@@ -35,7 +36,6 @@ fn add_nested(text: &mut Bytes, level: usize, file: &[u8]) -> Result<(), AllocEr
     text.append_all(&[b"A level-", level, b" auxiliary file: ", file])
 }
 
-/// Adds a number and a file, in that order, after what is before them.
 fn add_numbered(
     text: &mut Bytes,
     before: &[u8],
@@ -49,7 +49,6 @@ fn add_numbered(
     text.append_all(&[before, number, b": ", file])
 }
 
-/// Adds that a file of a kind isn't there.
 fn add_not_opened(text: &mut Bytes, kind: &[u8], file: &[u8]) -> Result<(), AllocError>
     ensures { OnOk result (text.new
         ≡ text.old ++ (codes "I couldn't open " ++ kind.now ++ codes " file " ++ file.now)) }
@@ -57,7 +56,6 @@ fn add_not_opened(text: &mut Bytes, kind: &[u8], file: &[u8]) -> Result<(), Allo
     text.append_all(&[b"I couldn't open ", kind, b" file ", file])
 }
 
-/// Adds what a message says of a file.
 fn add_note(text: &mut Bytes, note: FileNote, file: &[u8]) -> Result<(), AllocError>
     ensures { OnOk result (text.new ≡ text.old ++ note_words note file.now) }
 {
@@ -76,7 +74,6 @@ fn add_note(text: &mut Bytes, note: FileNote, file: &[u8]) -> Result<(), AllocEr
     }
 }
 
-/// Adds what a message says.
 fn add_said(text: &mut Bytes, said: &Said) -> Result<(), AllocError>
     ensures { OnOk result (text.new ≡ text.old ++ said_words said.now) }
 {
@@ -95,7 +92,6 @@ fn before_line(rank: Rank) -> &'static [u8]
     }
 }
 
-/// Adds the entry of a step.
 fn add_entry(text: &mut Bytes, entry: &Option<Shared<Bytes>>) -> Result<(), AllocError>
     ensures { OnOk result (text.new ≡ text.old ++ for_entry entry.now) }
 {
@@ -105,7 +101,6 @@ fn add_entry(text: &mut Bytes, entry: &Option<Shared<Bytes>>) -> Result<(), Allo
     Ok(())
 }
 
-/// Adds a line and a file, in that order, after what is before them.
 fn add_file_line(
     text: &mut Bytes,
     before: &[u8],
@@ -119,7 +114,6 @@ fn add_file_line(
     text.append_all(&[before, line, b" of file ", file])
 }
 
-/// Adds the entry and the command of a step.
 fn add_command(
     text: &mut Bytes,
     entry: &Option<Shared<Bytes>>,
@@ -133,7 +127,6 @@ fn add_command(
     Ok(())
 }
 
-/// Adds what a step's message says of the step.
 fn add_step(
     text: &mut Bytes,
     rank: Rank,
@@ -149,7 +142,6 @@ fn add_step(
     }
 }
 
-/// Adds a line of the database of a number.
 fn add_database_line(
     text: &mut Bytes,
     before: &[u8],
@@ -166,14 +158,12 @@ fn add_database_line(
     text.append_all(&[before, line, b" of database #", number])
 }
 
-/// Adds the name of a file that was read to its end.
 fn add_whole_file(text: &mut Bytes, file: &[u8]) -> Result<(), AllocError>
     ensures { OnOk result (text.new ≡ text.old ++ while_reading file.now) }
 {
     text.append_all(&[b"---while reading file ", file])
 }
 
-/// Adds where a message belongs.
 fn add_place(
     text: &mut Bytes,
     rank: Rank,
@@ -197,7 +187,6 @@ fn add_place(
     }
 }
 
-/// Adds a second line.
 fn add_second(text: &mut Bytes, second: &Option<Shared<Bytes>>) -> Result<(), AllocError>
     ensures { OnOk result (text.new ≡ text.old ++ second_line second.now) }
 {

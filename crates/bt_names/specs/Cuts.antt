@@ -44,7 +44,7 @@ runs (block ∷ rest) =
     then elim (runs rest) [ [] ↦ [] | r ∷ rs ↦ record { gap = block ++ r.gap; text = r.text } ∷ rs ]
     else onto_text block (runs rest)
 
--- A gap is known by its first byte, where each white byte counts as a space.
+-- A gap is known by its first byte. Any white byte counts as a space.
 abbrev pub sign_of : List ℕ → ℕ
 sign_of [] = 0
 sign_of (b ∷ gap) = if is_white b then space else b
@@ -55,7 +55,7 @@ tokens lead [] = []
 tokens lead (r ∷ rs) =
     record { text = r.text; before = lead } ∷ map (λ s. record { text = s.text; before = sign_of s.gap }) rs
 
--- Before the first token of a section stands a comma, where tokens stand before that.
+-- A comma stands before the first token of a section, if there are tokens before it.
 abbrev pub lead_after : List Token → ℕ
 lead_after [] = 0
 lead_after (w ∷ ws) = comma

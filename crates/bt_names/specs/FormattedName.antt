@@ -19,7 +19,7 @@ name_parts names n = elim (name_at names n) [
   | Some name ↦ elim (parts_of name) [ None ↦ Err too_many_commas | Some parts ↦ Ok parts ]
 ]
 
--- A fault is reported as it is. Memory runs out only where there is no other fault.
+-- A fault is reported as it is. Out of memory is reported only if there is no other fault.
 abbrev pub IsNameFault : Result Parts NameFault → NameFault → Type 0
 IsNameFault r no_memory = IsOk r
 IsNameFault r no_such_name = r ≡ Err no_such_name
@@ -38,14 +38,14 @@ formatted_name names n pattern = elim (name_at names n) [
   ]
 ]
 
--- A fault is reported as it is. Memory runs out only where there is no other fault.
+-- A fault is reported as it is. Out of memory is reported only if there is no other fault.
 abbrev pub IsFormatFault : Result (List ℕ) FormatFault → FormatFault → Type 0
 IsFormatFault r OutOfMemory = IsOk r
 IsFormatFault r NoSuchName = r ≡ Err NoSuchName
 IsFormatFault r TooManyCommas = r ≡ Err TooManyCommas
 IsFormatFault r (PatternFault place) = r ≡ Err (PatternFault place)
 
--- the n-th name in a pattern, where it has at most limit bytes
+-- the n-th name in a pattern, if it has at most limit bytes
 unfoldable pub formatted_within : List ℕ → ℤ → List ℕ → ℕ → Result Formatted FormatFault
 formatted_within names n pattern limit = elim (formatted_name names n pattern) [
   | Ok t ↦ Ok (if nat_le (length t) limit then Text t else Longer)

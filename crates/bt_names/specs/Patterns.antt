@@ -9,7 +9,7 @@ use Rattle.bt_text.specs.Depth.{depth, depth_at}
 use Rattle.bt_names.specs.Cuts.{is_single}
 
 -- A block that begins with a left brace is a group. What stands inside it goes up to its right brace, or to the
--- pattern's end where it has none.
+-- pattern's end if it has none.
 abbrev pub inside_group : List ℕ → List ℕ
 inside_group group = if depth group == 0 then take (length group - 2) (drop 1 group) else drop 1 group
 
@@ -33,8 +33,8 @@ is_doubled_at t i = to_ascii_lowercase (slice_index t i) == to_ascii_lowercase (
 abbrev pub letter_end : List ℕ → ℕ → ℕ
 letter_end t i = if is_doubled_at t i then i + 2 else i + 1
 
--- The first letter that may not stand there, among those at the places: the first where it names no part,
--- else the second, or the third where the second doubles the first.
+-- The first letter that may not stand there, among those at the places: the first if it names no part,
+-- else the second, or the third if the second doubles the first.
 abbrev pub letter_fault : List ℕ → List ℕ → Option ℕ
 letter_fault t [] = None
 letter_fault t (i ∷ is) =

@@ -13,8 +13,8 @@ is_cased b = is_small b || is_large b
 abbrev pub begins_small : List ℕ → Bool
 begins_small t = is_small (unwrap_or (find is_cased t) 0)
 
--- A special character is judged by the name of its first control sequence, where that is a foreign letter, and else by
--- what stands after that name.
+-- A special character is judged by the name of its first control sequence if that is a foreign letter, else by what
+-- stands after the name.
 abbrev pub special_is_small : List ℕ → Bool
 special_is_small (a ∷ b ∷ t) =
     begins_small (if is_foreign (control_name t) then control_name t else drop (length (control_name t)) t)

@@ -1,4 +1,7 @@
 //! Cuts a name at its commas and into its tokens.
+//!
+//! The definition cuts the whole name into blocks, the blocks into sections and those into runs. The code walks once over
+//! the bytes of a section, block by block, and lends each token its bytes from the name.
 
 ghost use Rattle.std.specs.Prelude.{◌≡◌, ◌<◌, ◌≤◌, [], ◌∷◌, ◌++◌, ◌==◌, if◌then◌else◌, IfOk, OnOk, IfSome, IfNone, IsTrue, length, take, drop, count_by};
 ghost use Rattle.std.specs.List.{prefix_len};
@@ -11,7 +14,6 @@ use crate::lent_tokens::LentToken;
 use bt_text::{block_len, depth_after, is_separator, is_white};
 use std::alloc::{AllocError, Global};
 
-/// Whether a block is a comma.
 fn is_comma(block: &[u8]) -> bool
     ensures { result ≡ is_comma block.now }
 {
@@ -34,14 +36,12 @@ pub fn comma_count(name: &[u8]) -> usize
     count
 }
 
-/// Whether a byte parts tokens.
 fn is_parting(byte: u8) -> bool
     ensures { result ≡ is_parting byte }
 {
     is_white(byte) || is_separator(byte)
 }
 
-/// How many bytes that part tokens stand at a text's beginning.
 fn gap_len(text: &[u8]) -> usize
     ensures within { result ≤ length text.now }
     ensures len { result ≡ prefix_len is_parting text.now }
@@ -49,7 +49,7 @@ fn gap_len(text: &[u8]) -> usize
     text.iter().take_while(|byte| is_parting(**byte)).count()
 }
 
-/// What a gap is known by: its first byte, where white space counts as a space.
+/// A gap is known by its first byte. Any white byte counts as a space.
 fn sign_of(gap: &[u8]) -> u8
     ensures { result ≡ sign_of gap.now }
 {
@@ -66,7 +66,6 @@ fn sign_or_lead(found: &[LentToken], lead: u8, gap: &[u8]) -> u8
     if found.is_empty() { lead } else { sign_of(gap) }
 }
 
-/// Whether a text begins with a token.
 fn begins_token(text: &[u8]) -> bool
     ensures { result ≡ begins_token text.now }
 {
@@ -76,7 +75,6 @@ fn begins_token(text: &[u8]) -> bool
     }
 }
 
-/// How many bytes the token has that a text begins with.
 fn token_len(text: &[u8]) -> usize
     requires { IsTrue (begins_token text.now) }
     ensures some { 0 < result }
@@ -94,7 +92,6 @@ fn token_len(text: &[u8]) -> usize
     }
 }
 
-/// Puts a token after others.
 fn push_token<'a>(
     found: &mut Vec<LentToken<'a>>,
     text: &'a [u8],

@@ -27,8 +27,8 @@ pub enum Formatted {
 
 /// The parts of the n-th of the names that a text lists, counted from 1.
 ///
-/// The faults are reported in this order: `NoSuchName` where n is 0 or less or above the number of names,
-/// `TooManyCommas` where the name has more than two, `OutOfMemory`. The first two take no memory.
+/// The faults are reported in this order: `NoSuchName` if n is 0 or less or above the number of names, `TooManyCommas` if
+/// the name has more than two, `OutOfMemory`. The first two take no memory.
 #[tactic(auto, unfolding(crate::specs::FormattedName::name_parts))]
 pub fn parts(alloc: Global, names: &[u8], n: i32) -> Result<Parts, NameFault>
     ensures parts { IfOk result (λ parts. name_parts names.now n ≡ Ok parts) }
@@ -46,7 +46,7 @@ pub fn parts(alloc: Global, names: &[u8], n: i32) -> Result<Parts, NameFault>
     Ok(parts)
 }
 
-/// The n-th of the names that a text lists, counted from 1, in a pattern, where that has at most `limit` bytes.
+/// The n-th of the names that a text lists, counted from 1, in a pattern, if that has at most `limit` bytes.
 ///
 /// It asks for little more memory than the names and the limit need, however long the whole text would be. The faults
 /// are those of `format`.
@@ -82,9 +82,9 @@ pub fn format_within(
 
 /// The n-th of the names that a text lists, counted from 1, in a pattern.
 ///
-/// The faults are reported in this order: `NoSuchName` where n is 0 or less or above the number of names,
-/// `TooManyCommas` where the name has more than two, `PatternFault` with the place of the first fault of the pattern,
-/// `OutOfMemory`. The first three take no memory.
+/// The faults are reported in this order: `NoSuchName` if n is 0 or less or above the number of names, `TooManyCommas` if
+/// the name has more than two, `PatternFault` with the place of the first fault of the pattern, `OutOfMemory`. The first
+/// three take no memory.
 #[tactic(auto, unfolding(crate::specs::FormattedName::formatted_within))]
 pub fn format(alloc: Global, names: &[u8], n: i32, pattern: &[u8]) -> Result<Bytes, FormatFault>
     ensures text { IfOk result (λ text. formatted_name names.now n pattern.now ≡ Ok text) }

@@ -1,4 +1,8 @@
 //! What the groups of a pattern give, and a whole pattern.
+//!
+//! Each group is made in a text of its own, because its last byte may still change: a tie at the end goes, or becomes a
+//! space. Then it is copied to the output. Both stop as soon as the limit is passed, so a long pattern can't use up
+//! memory.
 
 ghost use Rattle.std.specs.Prelude.{◌≡◌, ◌≤◌, ◌+◌, ◌++◌, ◌==◌, ◌<◌, IfErr, IfOk, OnOk, length};
 ghost use Rattle.std.specs.List.{suffix_len};
@@ -19,21 +23,19 @@ use std::alloc::Global;
 /// How many bytes there is room for at first: most groups, and most names, have no more.
 const GROUP_BYTES: usize = 32;
 
-/// How many ties stand at a text's end.
 fn trailing_ties(text: &[u8]) -> usize
     ensures { result ≡ suffix_len (λ b. b == tie) text.now }
 {
     text.iter().rev().take_while(|byte| **byte == b'~').count()
 }
 
-/// Whether a text ends in a tie.
 fn ends_in_tie(text: &[u8]) -> bool
     ensures { result ≡ ends_in_tie text.now }
 {
     0 < trailing_ties(text)
 }
 
-/// Of two ties at a group's end one goes, and a single one becomes a space after 3 text characters.
+/// If a group ends in two ties, one goes. A single one becomes a space if 3 text characters stand before it.
 fn finish(out: &mut Vec<u8>)
     ensures { out.new.items ≡ group_finished out.old.items }
 {
@@ -75,7 +77,6 @@ fn ended(out: Vec<u8>, limit: usize, behind: &[u8]) -> Result<Vec<u8>, GrowthFau
     Ok(out)
 }
 
-/// The tokens of a part with a text between them, and what stands in the group before and after them.
 fn put_in_by_text(
     alloc: Global,
     limit: usize,
@@ -97,7 +98,6 @@ fn put_in_by_text(
     }
 }
 
-/// The tokens of a part with signs between them, and what stands in the group before and after them.
 fn put_in_by_signs(
     alloc: Global,
     limit: usize,
@@ -119,7 +119,7 @@ fn put_in_by_signs(
     }
 }
 
-/// The tokens of a part in a group, where a group directly after the letter is the text between them.
+/// A group directly after the letter is the text between the tokens.
 fn with_tokens(
     alloc: Global,
     limit: usize,
@@ -140,7 +140,6 @@ fn with_tokens(
     }
 }
 
-/// The form that the letter at a place stands for.
 fn form_at(text: &[u8], place: usize) -> Form
     requires { place < length text.now }
     ensures { result ≡ form_at text.now place }
@@ -152,7 +151,7 @@ fn form_at(text: &[u8], place: usize) -> Form
     }
 }
 
-/// What a group gives, from what stands inside it.
+/// `text` is what stands inside the group.
 fn group_output(
     alloc: Global,
     limit: usize,
@@ -174,7 +173,6 @@ fn group_output(
     }
 }
 
-/// Puts after `out` what a block of a pattern gives.
 fn push_block(
     alloc: Global,
     out: &mut Vec<u8>,

@@ -1,4 +1,7 @@
 //! Texts that grow up to a limit.
+//!
+//! A name in a pattern can be far longer than both: a group can put a long text between many tokens. Whoever calls wants
+//! at most so many bytes, so nothing beyond them is ever made.
 
 ghost use Rattle.std.specs.Prelude.{◌≡◌, ◌≤◌, ◌+◌, ◌++◌, OnOk, IfErr, length};
 ghost use Rattle.bt_names.specs.inner.Growth.{StopsAt};

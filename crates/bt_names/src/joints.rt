@@ -52,7 +52,6 @@ fn push_dot(out: &mut Vec<u8>, limit: usize, form: Form) -> Result<(), GrowthFau
     }
 }
 
-/// What goes before a token.
 fn sign(before: u8, is_last: bool, is_short: bool) -> u8
     ensures { result
         ≡ (if is_separator before then before else (if is_last || is_short then tie else space)) }
@@ -66,7 +65,7 @@ fn sign(before: u8, is_last: bool, is_short: bool) -> u8
     }
 }
 
-/// Whether an output that was short before is so still: it has fewer than 3 text characters.
+/// An output only grows, so once it has 3 text characters they aren't counted again for each token.
 fn stays_short(was_short: bool, out: &[u8]) -> bool
     requires { was_short ≡ false → 3 ≤ text_length_of out.now }
     ensures { result ≡ is_short out.now }

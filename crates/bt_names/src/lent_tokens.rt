@@ -1,4 +1,7 @@
 //! Tokens and parts whose bytes a name has.
+//!
+//! A name is cut and formatted without a copy of its tokens: each lends its bytes until they are put into the output. For
+//! contracts a lent token is a token, so the definitions know nothing of it.
 
 ghost use Rattle.std.specs.Prelude.{◌≡◌, IfOk};
 
@@ -47,7 +50,6 @@ impl<'a> LentToken<'a> {
     }
 }
 
-/// Tokens that have their bytes.
 fn copied(alloc: Global, tokens: &[LentToken]) -> Result<Sequence<Token>, AllocError>
     ensures { IfOk result (λ copies. copies ≡ tokens.now) }
 {

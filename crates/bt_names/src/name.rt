@@ -1,4 +1,6 @@
 //! A name, and what is kept of it.
+//!
+//! A right brace at depth 0 is left out of a name. Hardly any name has one, so only such a name is copied.
 
 ghost use Rattle.std.specs.Prelude.{◌≡◌, IfOk, false};
 ghost use Rattle.bt_text.specs.Blocks.{blocks};
@@ -22,7 +24,6 @@ fn has_stray_brace(name: &[u8]) -> bool
     false
 }
 
-/// A name without the right braces at depth 0.
 fn without_stray_braces(alloc: Global, name: &[u8]) -> Result<Bytes, AllocError>
     ensures { IfOk result (λ kept. blocks kept ≡ kept_blocks name.now) }
 {
@@ -37,7 +38,7 @@ fn without_stray_braces(alloc: Global, name: &[u8]) -> Result<Bytes, AllocError>
     Ok(Bytes::from_vec(kept))
 }
 
-/// A name, beside a copy of what is kept of it where that is not all. Contracts see the name.
+/// A name, with a copy of what is kept of it if that isn't all. Contracts see the name.
 #[derive(Drop)]
 pub struct Name<'a> {
     bytes: &'a [u8],

@@ -16,14 +16,12 @@ use crate::vons::is_von;
 use std::alloc::{AllocError, Global};
 use std::marker::Model;
 
-/// All tokens but the last.
 fn all_but_last<'t, 'a>(tokens: &'t [LentToken<'a>]) -> &'t [LentToken<'a>]
     ensures { result.now ≡ all_but_last tokens.now }
 {
     &tokens[..tokens.len().saturating_sub(1)]
 }
 
-/// How many tokens stand before the first von token.
 fn tokens_before_von(tokens: &[LentToken]) -> usize
     ensures within { result ≤ length tokens.now }
     ensures len { result ≡ position_or_len is_von tokens.now }
@@ -31,7 +29,6 @@ fn tokens_before_von(tokens: &[LentToken]) -> usize
     tokens.iter().take_while(|token| !is_von(*token)).count()
 }
 
-/// How many tokens stand after the last von token.
 fn tokens_after_von(tokens: &[LentToken]) -> usize
     ensures within { result ≤ length tokens.now }
     ensures len { result ≡ suffix_len (λ w. not (is_von w)) tokens.now }
@@ -62,14 +59,12 @@ fn tied_tokens(tokens: &[LentToken]) -> usize
         .count()
 }
 
-/// Where the von tokens begin.
 fn von_start(tokens: &[LentToken]) -> usize
     ensures { result ≡ von_start tokens.now }
 {
     tokens_before_von(all_but_last(tokens))
 }
 
-/// Where the von tokens end.
 fn von_end(tokens: &[LentToken]) -> usize
     ensures within { result ≤ length tokens.now }
     ensures place { result ≡ von_end tokens.now }
@@ -86,7 +81,6 @@ fn last_start(tokens: &[LentToken]) -> usize
     tokens.len().saturating_sub(tied_tokens(tokens) + 1)
 }
 
-/// Tokens cut at two places: First, von and Last.
 fn split_at_two<'t, 'a>(tokens: &'t [LentToken<'a>], start: usize, end: usize) -> LentParts<'t, 'a>
     requires first { start ≤ end }
     requires second { end ≤ length tokens.now }
@@ -100,7 +94,6 @@ fn split_at_two<'t, 'a>(tokens: &'t [LentToken<'a>], start: usize, end: usize) -
     }
 }
 
-/// The parts of a name without a comma.
 fn without_comma<'t, 'a>(tokens: &'t [LentToken<'a>]) -> LentParts<'t, 'a>
     ensures { result ≡ without_comma tokens.now }
 {
@@ -114,7 +107,6 @@ fn without_comma<'t, 'a>(tokens: &'t [LentToken<'a>]) -> LentParts<'t, 'a>
     }
 }
 
-/// The parts of a name with commas.
 fn with_commas<'t, 'a>(
     tokens: &'t [LentToken<'a>],
     jr: &'t [LentToken<'a>],
@@ -202,7 +194,6 @@ fn lead_after(tokens: &[LentToken]) -> u8
     if tokens.is_empty() { 0 } else { b',' }
 }
 
-/// What stands before the first token after two sections.
 fn lead_after_two(front: &[LentToken], second: &[LentToken]) -> u8
     ensures { result ≡ lead_after (front.now ++ second.now) }
 {

@@ -1,4 +1,7 @@
 //! The names that a text lists.
+//!
+//! The definition looks at each place whether `and` stands there at depth 0. The code does so in one pass with a depth
+//! counter, and allocates nothing: `num.names$` only counts, and `format.name$` looks at one name.
 
 ghost use Rattle.std.specs.Prelude.{◌≡◌, ◌<◌, ◌≤◌, ◌-◌, ◌==◌, ◌&&◌, ◌||◌, length, drop, slice_range, slice_get, IfSome, IfNone, Some, None};
 ghost use Rattle.bt_names.specs.Names.{begins_with_and, has_and_at, follows_white, name_at, names_of};
@@ -15,7 +18,6 @@ fn begins_with_and(text: &[u8]) -> bool
     }
 }
 
-/// Whether white space stands directly before a place.
 fn follows_white(text: &[u8], place: usize) -> bool
     requires { place < length text.now }
     ensures { result ≡ follows_white text.now place }
@@ -33,14 +35,13 @@ fn has_and_at(text: &[u8], place: usize) -> bool
     follows_white(text, place) && begins_with_and(rest)
 }
 
-/// Whether a byte is the first letter of a separator.
+/// The first letter of a separator. Most places have another byte, and need no longer test.
 fn begins_separator(byte: u8) -> bool
     ensures { result ≡ (byte == 97 || byte == 65) }
 {
     matches!(byte, b'a' | b'A')
 }
 
-/// Whether a separator stands at a place of this depth.
 fn separates(names: &[u8], place: usize, depth: usize) -> bool
     requires { place < length names.now }
     ensures { result ≡ (depth == 0 && has_and_at names.now place) }
@@ -52,7 +53,7 @@ fn separates(names: &[u8], place: usize, depth: usize) -> bool
     }
 }
 
-/// How many names a text lists: one more than there are separators outside of braces, and none where it is empty.
+/// How many names a text lists: one more than there are separators outside of braces, and none if it is empty.
 #[tactic(auto, using(crate::proofs::ListingLemmas::counting), unfolding(crate::specs::Names::names_of))]
 pub fn count(names: &[u8]) -> usize
     ensures { result ≡ length (names_of names.now) }
@@ -71,7 +72,6 @@ pub fn count(names: &[u8]) -> usize
     count
 }
 
-/// The bytes from a place up to another.
 fn between(text: &[u8], start: usize, end: usize) -> &[u8]
     requires { end ≤ length text.now }
     ensures { result.now ≡ slice_range text.now start end }
@@ -79,7 +79,6 @@ fn between(text: &[u8], start: usize, end: usize) -> &[u8]
     text.get(start..end).unwrap_or(&[])
 }
 
-/// The bytes from a place on.
 fn from_place(text: &[u8], start: usize) -> &[u8]
     ensures { result.now ≡ drop start text.now }
 {

@@ -49,7 +49,6 @@ pub fn next_letter(text: &[u8], start: usize) -> Option<usize>
     None
 }
 
-/// Whether a letter names a part.
 fn names_part(byte: u8) -> bool
     ensures { result ≡ names_part byte }
 {
@@ -88,7 +87,6 @@ pub fn letter_end(text: &[u8], place: usize) -> usize
     }
 }
 
-/// The first letter that may not stand inside a group.
 fn letter_fault(text: &[u8]) -> Option<usize>
     ensures place { result ≡ letter_fault text.now (letter_places text.now) }
     ensures within { IfSome result (λ i. i < length text.now) }
@@ -105,7 +103,6 @@ fn letter_fault(text: &[u8]) -> Option<usize>
     }
 }
 
-/// The first fault of a block.
 fn block_fault(block: &[u8]) -> Option<usize>
     ensures place { result ≡ block_fault block.now }
     ensures within { IfSome result (λ i. i ≤ length block.now) }

@@ -50,14 +50,12 @@ fn initial(text: &[u8]) -> &[u8]
     &[]
 }
 
-/// A token by its initial.
 fn by_initial<'a>(token: &LentToken<'a>) -> LentToken<'a>
     ensures { result ≡ by_initial token.now }
 {
     LentToken::new(initial(token.text()), token.before())
 }
 
-/// Tokens by their initials.
 fn by_initials<'a>(
     alloc: Global,
     tokens: &[LentToken<'a>],
@@ -112,7 +110,6 @@ impl<'t, 'a> Spelled<'t, 'a> {
         })
     }
 
-    /// The parts by their initials.
     fn initials(&self) -> LentParts<'_, 'a>
         ensures { result ≡ abbreviated self.now }
     {

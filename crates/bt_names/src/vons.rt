@@ -7,14 +7,12 @@ ghost use Rattle.bt_names.specs.Vons.{begins_small, is_cased, is_von, is_von_tex
 use crate::lent_tokens::LentToken;
 use bt_text::{begins_special, block_len, control_name_len, is_foreign};
 
-/// Whether a byte is a letter with a case.
 fn is_cased(byte: u8) -> bool
     ensures { result ≡ is_cased byte }
 {
     matches!(byte, b'a'..=b'z' | b'A'..=b'Z')
 }
 
-/// Whether a byte is a small letter.
 fn is_small(byte: u8) -> bool
     ensures { result ≡ is_small byte }
 {
@@ -47,7 +45,6 @@ fn control_is_small(text: &[u8]) -> bool
     }
 }
 
-/// What a block says of its token.
 fn verdict(block: &[u8]) -> Option<bool>
     ensures { result ≡ verdict_of block.now }
 {
@@ -64,7 +61,6 @@ fn verdict(block: &[u8]) -> Option<bool>
     }
 }
 
-/// Whether a text is a von token.
 fn is_von_text(text: &[u8]) -> bool
     ensures { result ≡ is_von_text text.now }
 {

@@ -14,7 +14,7 @@ changed_byte Upper b = to_ascii_uppercase b
 changed_byte Lower b = to_ascii_lowercase b
 changed_byte Title b = to_ascii_lowercase b
 
--- A foreign letter changes its name, or loses its backslash and gap where it has no large form. Other control
+-- A foreign letter changes its name, or loses its backslash and gap if it has no large form. Other control
 -- sequences stay.
 abbrev pub small_control : (name gap : List ℕ) → List ℕ
 small_control name gap = backslash ∷ (if is_foreign name then map to_ascii_lowercase name else name) ++ gap

@@ -2,7 +2,7 @@
 use Rattle.std.specs.Prelude.{◌≡◌, ◌≢◌, ℕ, ◌+◌, ◌-◌, ◌<◌, ◌==◌, if◌then◌else◌, List, length, take, slice_index, fold}
 use Rattle.bt_text.specs.ByteTests.{left_brace, right_brace}
 
--- the depth after the byte b, where it is d before it
+-- the depth after the byte b, if it is d before it
 abbrev pub depth_after : ℕ → ℕ → ℕ
 depth_after d b = if b == left_brace then d + 1 else (if b == right_brace then d - 1 else d)
 

@@ -7,7 +7,7 @@ use Rattle.bt_text.specs.LineBreaks.{broken, line_unless_empty}
 abbrev pub written : List ℕ → List ℕ → Output
 written held t = broken (held ++ t)
 
--- where nothing is held, an empty line; else what is held without the white space at its end, unless it is white alone
+-- if nothing is held, an empty line; else what is held without the white space at its end, unless it is white alone
 abbrev pub ended_lines : List ℕ → List (List ℕ)
 ended_lines [] = [] ∷ []
 ended_lines (b ∷ t) = line_unless_empty (b ∷ t)

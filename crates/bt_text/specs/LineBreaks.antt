@@ -6,7 +6,7 @@ use Rattle.bt_text.specs.declared.output.Output.{Output}
 use Rattle.bt_text.specs.ByteTests.{is_white, space}
 use Rattle.bt_text.specs.White.{trimmed_end}
 
--- how many bytes a line has at most, where it can be broken
+-- how many bytes a line has at most, if it can be broken
 abbrev pub line_width : ℕ
 line_width = 79
 

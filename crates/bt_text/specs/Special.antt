@@ -44,6 +44,6 @@ without_large_form = codes "i" ∷ codes "j" ∷ codes "ss" ∷ []
 abbrev pub is_foreign : List ℕ → Bool
 is_foreign name = is_among two_letters name || is_among one_letter name
 
--- the letters that stand for a control sequence where it is left out: nothing for one that isn't foreign
+-- the letters that stand for a control sequence when it is left out: nothing for one that isn't foreign
 abbrev pub letters_of : List ℕ → List ℕ
 letters_of name = if is_among two_letters name then name else (if is_among one_letter name then take 1 name else [])

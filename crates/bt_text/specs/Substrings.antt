@@ -4,7 +4,7 @@ use Rattle.bt_text.specs.ByteTests.{right_brace}
 use Rattle.bt_text.specs.Depth.{depth}
 use Rattle.bt_text.specs.Pieces.{Piece, pieces, bytes_of, is_character}
 
--- the pieces up to the n-th text character, with it, or all where there are fewer
+-- the pieces up to the n-th text character, with it, or all if there are fewer
 abbrev pub first_characters : ℕ → List Piece → List Piece
 first_characters n [] = []
 first_characters zero (p ∷ ps) = []
@@ -18,7 +18,7 @@ abbrev pub text_prefix_of : List ℕ → ℤ → List ℕ
 text_prefix_of t (pos n) = closed (flat_map bytes_of (first_characters n (pieces t)))
 text_prefix_of t (negsuc n) = []
 
--- the last n bytes, or all where there are fewer
+-- the last n bytes, or all if there are fewer
 abbrev pub last_bytes : ℕ → List ℕ → List ℕ
 last_bytes n t = drop (length t - n) t
 

@@ -53,7 +53,6 @@ impl<V: Drop> ByName<V> {
         Ok(self.get(alloc, name)?.is_some())
     }
 
-    /// The place of a name in small letters.
     fn place_small(&self, small: &[u8]) -> Option<usize>
         ensures { result ≡ first_place (λ e. bytes_eq small.now e.0) (listed self.now) }
     {
@@ -97,7 +96,7 @@ impl<V: Drop> ByName<V> {
         self.values.reserve(1)
     }
 
-    /// Gives a name in small letters a value, in the place of the one that it has, where there is room for it.
+    /// Gives a name in small letters a value, in the place of the one that it has. The table needs room for it.
     pub fn put(&mut self, small: Vec<u8>, value: V)
         requires { HasRoom self.old }
         ensures { (other : List ℕ) → at_small self.new other

@@ -1,4 +1,7 @@
-//! The change of case.
+//! The change of case, in one pass over the blocks of a text.
+//!
+//! The definition looks at all that stands before a block to see whether a title spares it. The code carries that along
+//! in a `TitlePlace` instead, so a title takes linear time.
 
 ghost use Rattle.std.specs.Prelude.{◌≡◌, ◌≤◌, ◌++◌, ◌∷◌, ◌==◌, if◌then◌else◌, IfOk, OnOk, length, take, drop, flat_map, map};
 ghost use Rattle.bt_text.specs.CaseChange.{changed_block, changed_byte, changed_case, changed_symbol};
@@ -13,7 +16,6 @@ use crate::special::{control_parts, is_foreign, is_without_large_form};
 use crate::title_place::TitlePlace;
 use std::alloc::{AllocError, Global};
 
-/// A byte in the case of the mode.
 fn changed_byte(mode: Mode, byte: u8) -> u8
     ensures { result ≡ changed_byte mode byte }
 {
@@ -23,7 +25,6 @@ fn changed_byte(mode: Mode, byte: u8) -> u8
     }
 }
 
-/// Puts bytes after `out` in the case of the mode.
 fn push_changed(out: &mut Vec<u8>, mode: Mode, text: &[u8]) -> Result<(), AllocError>
     ensures { OnOk result (out.new.items ≡ out.old.items ++ map (changed_byte mode) text.now) }
 {
@@ -57,7 +58,6 @@ fn push_whole(out: &mut Vec<u8>, mode: Mode, name: &[u8], gap: &[u8]) -> Result<
     Ok(())
 }
 
-/// Puts a control sequence after `out`.
 fn push_control(out: &mut Vec<u8>, mode: Mode, name: &[u8], gap: &[u8]) -> Result<(), AllocError>
     ensures { OnOk result (out.new.items ≡ out.old.items ++ changed_control mode name.now gap.now) }
 {
@@ -74,7 +74,6 @@ fn push_control(out: &mut Vec<u8>, mode: Mode, name: &[u8], gap: &[u8]) -> Resul
     }
 }
 
-/// Puts a special character after `out`.
 fn push_special(out: &mut Vec<u8>, mode: Mode, text: &[u8]) -> Result<(), AllocError>
     ensures { OnOk result (out.new.items
         ≡ out.old.items ++ flat_map (changed_symbol mode) (symbols text.now)) }
@@ -93,7 +92,6 @@ fn push_special(out: &mut Vec<u8>, mode: Mode, text: &[u8]) -> Result<(), AllocE
     Ok(())
 }
 
-/// Puts a block after `out`.
 fn push_block(out: &mut Vec<u8>, mode: Mode, block: &[u8]) -> Result<(), AllocError>
     ensures { OnOk result (out.new.items ≡ out.old.items ++ changed_block mode block.now) }
 {
@@ -106,7 +104,7 @@ fn push_block(out: &mut Vec<u8>, mode: Mode, block: &[u8]) -> Result<(), AllocEr
     }
 }
 
-/// Puts a block after `out`, as it is where the mode spares it.
+/// Puts a block after `out`, unchanged if the mode spares it.
 fn push_part(
     out: &mut Vec<u8>,
     mode: Mode,

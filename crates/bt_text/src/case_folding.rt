@@ -17,7 +17,6 @@ pub fn to_ascii_lowercase(alloc: Global, text: &[u8]) -> Result<Bytes, AllocErro
     Ok(Bytes::from_vec(small))
 }
 
-/// Whether each byte is the same in small letters.
 fn has_no_capitals(text: &[u8]) -> bool
     ensures { result ≡ list_all (λ byte. nat_eq (ascii_lowercase byte) byte) text.now }
 {

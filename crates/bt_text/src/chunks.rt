@@ -1,4 +1,7 @@
 //! A list in chunks of one length, which its copies share.
+//!
+//! A copy takes an owner's count for each chunk, and the first change in a chunk copies that chunk alone. There is no
+//! index over the chunks: a place is found by a division.
 
 ghost use Rattle.std.specs.Prelude.{◌≡◌, ◌<◌, ◌*◌, ◌/◌, ◌++◌, [], IsTrue, length, take, slice_get, slice_set, option_copied, IfOk, OnOk, OnErr};
 ghost use Rattle.bt_text.specs.inner.Chunks.{all_of};
@@ -8,7 +11,8 @@ use std::alloc::{AllocError, Global};
 use std::marker::Model;
 use std::rc::Rc;
 
-/// How many values a chunk has.
+/// How many values a chunk has. To copy a list of n values and change one takes n / 64 counts and 64 values: the least
+/// that any length of chunks gives for 4,096 values, and 376 for 20,000.
 pub const CHUNK: usize = 64;
 
 /// Values with several owners, until one of these changes them.
@@ -26,7 +30,6 @@ impl<T> Model for Chunk<T> {
 }
 
 impl<T: Element> Chunk<T> {
-    /// These values, with one owner.
     fn new(alloc: Global, items: Vec<T>) -> Result<Self, AllocError>
         ensures { IfOk result (λ chunk. chunk ≡ items.items) }
     {
@@ -35,8 +38,7 @@ impl<T: Element> Chunk<T> {
         })
     }
 
-    /// The same values for one more owner; they are not copied. The one error is that they have no room for another
-    /// owner.
+    /// Takes no memory. The one error is that the count of owners is full.
     fn share(&self) -> Result<Self, AllocError>
         ensures { IfOk result (λ chunk. chunk ≡ self.now) }
     {
@@ -45,22 +47,19 @@ impl<T: Element> Chunk<T> {
         })
     }
 
-    /// The values.
     fn as_slice(&self) -> &[T]
         ensures { result.now ≡ self.now }
     {
         self.items.as_slice()
     }
 
-    /// The value at a place, if there is one.
     fn get(&self, place: usize) -> Option<&T>
         ensures { option_copied result ≡ slice_get self.now place }
     {
         self.items.as_slice().get(place)
     }
 
-    /// Puts a value in the place of another. Where the values have other owners, these keep what they had. The one
-    /// error is out of memory; all values are then as before.
+    /// Other owners keep the values that they had. The one error is out of memory; all values are then as before.
     fn set(&mut self, alloc: Global, place: usize, item: T) -> Result<(), AllocError>
         requires { place < length self.old }
         ensures ok { OnOk result (self.new ≡ slice_set self.old place item) }
@@ -163,7 +162,6 @@ impl<T: Element> Chunks<T> {
     }
 }
 
-/// Puts the values of chunks after others.
 fn append_all<T: Element>(
     alloc: Global,
     chunks: &[Chunk<T>],
@@ -177,7 +175,6 @@ fn append_all<T: Element>(
     Ok(())
 }
 
-/// Whether chunks are the same.
 fn same_chunks<T: Element>(chunks: &[Chunk<T>], others: &[Chunk<T>]) -> bool
     ensures { IsTrue result → chunks.now ≡ others.now }
 {
@@ -192,7 +189,6 @@ fn same_chunks<T: Element>(chunks: &[Chunk<T>], others: &[Chunk<T>]) -> bool
     true
 }
 
-/// The same chunks for one more owner.
 fn shared<T: Element>(alloc: Global, chunks: &[Chunk<T>]) -> Result<Vec<Chunk<T>>, AllocError>
     ensures { IfOk result (λ same. same.items ≡ chunks.now) }
 {

@@ -3,7 +3,7 @@
 ghost use Rattle.std.specs.Prelude.{◌≡◌, ◌<◌, ◌↔◌, IsTrue};
 ghost use Rattle.bt_text.specs.Depth.{IsBalanced, depth, depth_after};
 
-/// The depth after a byte, where it is `depth` before it.
+/// The depth after a byte, if it is `depth` before it.
 pub fn depth_after(depth: usize, byte: u8) -> usize
     requires { depth < usize.MAX }
     ensures { result ≡ depth_after depth byte }

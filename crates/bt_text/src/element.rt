@@ -38,7 +38,6 @@ fn shared(alloc: Global, texts: &[Shared<Bytes>]) -> Result<Vec<Shared<Bytes>>, 
     Ok(same)
 }
 
-/// Whether two lists of texts are the same.
 fn same_texts(texts: &[Shared<Bytes>], others: &[Shared<Bytes>]) -> bool
     ensures { IsTrue result → texts.now ≡ others.now }
 {

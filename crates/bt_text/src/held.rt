@@ -1,4 +1,9 @@
-//! The line that is written and has not ended yet.
+//! The line that is written and has not ended yet: BibTeX's output buffer.
+//!
+//! A held line is broken as soon as it can be, so it has no place for a break: that is the invariant. A write therefore
+//! looks for white space only in the new bytes and, if the line is short, in the at most 76 old ones after place 2. A
+//! style that writes a long line in many small pieces takes linear time; a scan of the whole line at each write would
+//! take quadratic time.
 
 ghost use Rattle.std.specs.Prelude.{◌≡◌, ◌≢◌, ◌<◌, ◌≤◌, ◌+◌, ◌++◌, ◌↔◌, [], length, drop, is_some, IfOk, OnOk, OnErr, Err};
 ghost use Rattle.std.specs.List.{list_any};
@@ -56,14 +61,12 @@ impl Model for Held {
     ghost invariant = { λ held. (length held.bytes ≤ 65536) × (break_place held.bytes ≡ None) };
 }
 
-/// What stands after the first bytes of a text.
 fn behind(text: &[u8], place: usize) -> &[u8]
     ensures { result.now ≡ drop place text.now }
 {
     text.get(place..).unwrap_or(&[])
 }
 
-/// Puts what the end of a held line gives after `lines`.
 fn end_line(alloc: Global, held: &[u8], lines: &mut Sequence<Bytes>) -> Result<(), AllocError>
     ensures ok { OnOk result (lines.new ≡ lines.old ++ ended_lines held.now) }
     ensures err { OnErr result (lines.new ≡ lines.old) }
@@ -103,7 +106,7 @@ impl Held {
     }
 
     /// Writes a text after what is held, and puts the lines that are broken off after `lines`. `TooLong` comes
-    /// exactly where both together have more than 65,536 bytes, and before any memory is asked for. After a fault the
+    /// exactly if both together have more than 65,536 bytes, and before any memory is asked for. After a fault the
     /// held line and `lines` are as before.
     #[tactic(auto, using(crate::proofs::BreakingLemmas::broken_whole, crate::proofs::BreakingLemmas::lines_whole))]
     pub fn write(
@@ -132,14 +135,14 @@ impl Held {
         Ok(())
     }
 
-    /// Whether white space is held after place 2. Of a longer line it is known that there is none.
+    /// Whether white space is held after place 2. A line of more than 79 bytes has none there, by the invariant.
     fn has_white(&self) -> bool
         ensures { result ≡ list_any is_white (drop 3 self.now) }
     {
         self.bytes.len() <= 79 && has_white(behind(self.bytes.as_slice(), 3))
     }
 
-    /// Whether lines are broken off where a text is written after what is held.
+    /// Whether lines are broken off when a text is written after what is held.
     #[tactic(auto, using(crate::proofs::HeldLemmas::written_where))]
     fn breaks_with(&self, text: &[u8]) -> bool
         requires { length self.now + length text.now ≤ 65536 }
@@ -150,7 +153,6 @@ impl Held {
             && (self.has_white() || has_white(behind(text, 3usize.saturating_sub(held))))
     }
 
-    /// What is held with a text after it, broken into lines.
     fn broken_with(&self, alloc: Global, text: &[u8]) -> Result<Output, AllocError>
         ensures output { IfOk result (λ output. output ≡ written self.now text.now) }
         ensures whole { IfOk result (λ output. break_place output.held ≡ None) }

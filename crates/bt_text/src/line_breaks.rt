@@ -40,7 +40,6 @@ fn run_end(text: &[u8]) -> Option<usize>
     }
 }
 
-/// Where a text is broken.
 fn break_place(text: &[u8]) -> Option<usize>
     ensures place { result ≡ break_place text.now }
     ensures within { IfSome result (λ i. (3 ≤ i) × (i < length text.now)) }
@@ -66,8 +65,8 @@ pub fn push_line(alloc: Global, lines: &mut Sequence<Bytes>, text: &[u8]) -> Res
     Ok(())
 }
 
-/// The lines that a text is broken into, and what is held then. What stands after a break place goes on after two
-/// spaces, which are put over the two bytes before it: they are in a line by then.
+/// The lines that a text is broken into, and what is held then. The rest of a text after a break place begins with two
+/// spaces. They overwrite the two bytes before it, which are in a line by then, so the rest is never moved.
 pub fn break_lines(alloc: Global, text: Vec<u8>) -> Result<Output, AllocError>
     ensures output { IfOk result (λ output. output ≡ broken text.items) }
     ensures whole { IfOk result (λ output. break_place output.held ≡ None) }

@@ -17,7 +17,6 @@ pub fn is_name_byte(byte: u8) -> bool
         )
 }
 
-/// How many name bytes a text begins with.
 fn name_bytes_len(text: &[u8]) -> usize
     ensures within { result ≤ length text.now }
     ensures len { result ≡ prefix_len is_name_byte text.now }
@@ -42,7 +41,6 @@ pub fn name_len(text: &[u8]) -> usize
     }
 }
 
-/// Whether a text has name bytes alone.
 fn has_name_bytes_alone(text: &[u8]) -> bool
     ensures { result ≡ list_all is_name_byte text.now }
 {

@@ -7,7 +7,6 @@ ghost use Rattle.bt_text.specs.Period.{ends_sentence, with_period};
 use crate::bytes::Bytes;
 use std::alloc::{AllocError, Global};
 
-/// Whether a byte ends a sentence.
 fn is_end(byte: u8) -> bool
     ensures { result ≡ ends_sentence (Some byte) }
 {

@@ -14,7 +14,7 @@ use std::marker::Model;
 /// those that are missing. These take no memory.
 #[derive(Debug, Drop)]
 pub struct PlacedTexts {
-    /// How long the list is.
+    /// How long the list is, with the texts that are missing.
     count: usize,
     /// The texts that are there with their places, which rise.
     present: Vec<(usize, Shared<Bytes>)>,
@@ -76,7 +76,7 @@ impl PlacedTexts {
         }
     }
 
-    /// Puts a text in a place; one after the end stays as it is.
+    /// A place after the end stays as it is.
     fn put(&mut self, place: usize, text: Shared<Bytes>) -> Result<(), AllocError>
         ensures ok { OnOk result (self.new ≡ slice_set self.old place (Some text)) }
         ensures err { OnErr result (self.new ≡ self.old) }
@@ -93,7 +93,6 @@ impl PlacedTexts {
         }
     }
 
-    /// Takes away the text of a place, if there is one.
     fn clear(&mut self, place: usize)
         ensures { self.new ≡ slice_set self.old place None }
     {
@@ -158,7 +157,6 @@ fn search(present: &[(usize, Shared<Bytes>)], place: usize) -> Result<usize, usi
     present.binary_search_by_key(&place, |there| there.0)
 }
 
-/// The same texts with their places, each for one more owner.
 fn copied(
     alloc: Global,
     present: &[(usize, Shared<Bytes>)],
@@ -213,14 +211,12 @@ fn merged(
     Ok(all)
 }
 
-/// Whether two texts with their places are the same.
 fn same_text(text: &(usize, Shared<Bytes>), other: &(usize, Shared<Bytes>)) -> bool
     ensures { result ≡ same_text text.now other.now }
 {
     text.0 == other.0 && text.1.as_slice() == other.1.as_slice()
 }
 
-/// Whether the same texts have the same places.
 fn same_present(texts: &[(usize, Shared<Bytes>)], others: &[(usize, Shared<Bytes>)]) -> bool
     ensures { result ≡ same_present texts.now others.now }
 {

@@ -11,7 +11,6 @@ use crate::bytes::Bytes;
 use crate::special::{control_split, letters_of};
 use std::alloc::{AllocError, Global};
 
-/// Puts after `out` what is kept of a special character.
 fn purify_special(out: &mut Vec<u8>, text: &[u8]) -> Result<(), AllocError>
     ensures { OnOk result (out.new.items ≡ out.old.items ++ flat_map purified_symbol (symbols text.now)) }
 {
@@ -31,7 +30,7 @@ fn purify_special(out: &mut Vec<u8>, text: &[u8]) -> Result<(), AllocError>
     Ok(())
 }
 
-/// Puts after `out` what is kept of bytes outside special characters.
+/// Puts after `out` what is kept outside special characters: there white space and separators become spaces.
 fn purify_bytes(out: &mut Vec<u8>, text: &[u8]) -> Result<(), AllocError>
     ensures { OnOk result (out.new.items ≡ out.old.items ++ flat_map purified_byte text.now) }
 {
@@ -45,7 +44,6 @@ fn purify_bytes(out: &mut Vec<u8>, text: &[u8]) -> Result<(), AllocError>
     Ok(())
 }
 
-/// Puts after `out` what is kept of a block.
 #[tactic(auto, using(crate::proofs::PieceLemmas::purified_plain_block))]
 fn purify_block(out: &mut Vec<u8>, block: &[u8]) -> Result<(), AllocError>
     ensures { OnOk result (out.new.items ≡ out.old.items ++ flat_map purified_piece (block_pieces block.now)) }

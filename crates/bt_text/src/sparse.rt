@@ -1,4 +1,8 @@
 //! Texts by their places, of which many may be missing.
+//!
+//! An entry has few of the fields that a style declares, and inherits the rest of its parent's. Its own texts lie over at
+//! most one shared list, never over a chain of them, so a look-up takes at most two searches, however long the line of
+//! parents is.
 
 ghost use Rattle.std.specs.Prelude.{◌≡◌, ◌↔◌, IsTrue, length, replicate, take, is_none, slice_index_or, slice_set, None, option_copied, IfOk, OnOk, OnErr};
 ghost use Rattle.std.specs.List.{list_all};
@@ -10,7 +14,7 @@ use crate::shared::Shared;
 use std::alloc::{AllocError, Global};
 use std::marker::Model;
 
-/// How many texts are many: these are shared by the texts that are filled from them.
+/// A list of fewer texts is copied instead of shared: the usual entry then has one flat list, with one search.
 const MANY: usize = 64;
 
 /// A list of texts of which many may be missing, laid over another one from which those that it lacks are taken.
@@ -34,7 +38,7 @@ impl Model for SparseTexts {
     ghost invariant = { λ texts. length (unwrap_or texts.base []) ≤ length texts.own };
 }
 
-/// Texts that are theirs alone where they are few, and to be shared where they are many.
+/// Texts in one list: their own if they are few, ready to be shared if they are many.
 #[tactic(auto, using(crate::proofs::LayerLemmas::filled_none, crate::proofs::LayerLemmas::filled_gaps))]
 fn settled(alloc: Global, texts: PlacedTexts) -> Result<SparseTexts, AllocError>
     ensures { IfOk result (λ same. same ≡ texts) }
@@ -51,8 +55,8 @@ fn settled(alloc: Global, texts: PlacedTexts) -> Result<SparseTexts, AllocError>
     })
 }
 
-/// The texts, each that is missing taken from those of a base. The base is shared where the own texts are few beside
-/// it, and else all are put into one list.
+/// The texts, each that is missing taken from those of a base. The base is shared if the own texts are at most an eighth
+/// of it. Else all are put into one list, which then has fewer than nine times as many texts as were own.
 fn over(
     alloc: Global,
     own: PlacedTexts,
@@ -69,7 +73,6 @@ fn over(
     })
 }
 
-/// Texts, each that is missing taken from others.
 #[tactic(auto, using(crate::proofs::LayerLemmas::filled_twice, crate::proofs::LayerLemmas::filled_none))]
 fn filled(
     alloc: Global,
@@ -85,7 +88,6 @@ fn filled(
     }
 }
 
-/// Whether two texts that may be missing are the same.
 fn same_text(text: Option<&Shared<Bytes>>, other: Option<&Shared<Bytes>>) -> bool
     ensures { IsTrue result ↔ option_copied text.entry ≡ option_copied other.entry }
 {
@@ -151,7 +153,6 @@ impl SparseTexts {
         }
     }
 
-    /// Takes away the text of a place, if there is one.
     #[tactic(auto, using(crate::proofs::LayerLemmas::filled_clear, crate::proofs::LayerLemmas::filled_none))]
     fn clear(&mut self, place: usize) -> Result<(), AllocError>
         ensures ok { OnOk result (self.new ≡ slice_set self.old place None) }
@@ -227,7 +228,7 @@ impl SparseTexts {
         }
     }
 
-    /// Whether others are the same, and as many, by each place.
+    /// Place by place, for when there is no memory for whole lists: a comparison can't fail.
     fn is_same_everywhere(&self, others: &SparseTexts) -> bool
         ensures { IsTrue result ↔ self.now ≡ others.now }
     {

@@ -9,7 +9,6 @@ ghost use Rattle.std.specs.List.{prefix_len};
 use crate::byte_tests::is_letter;
 use crate::white::white_run;
 
-/// How many letters a text begins with.
 fn letters_len(text: &[u8]) -> usize
     ensures within { result ≤ length text.now }
     ensures len { result ≡ prefix_len is_letter text.now }
@@ -91,7 +90,7 @@ pub fn is_without_large_form(name: &[u8]) -> bool
     matches!(name, b"i" | b"j" | b"ss")
 }
 
-/// The letters that stand for a control sequence where it is left out.
+/// The letters that stand for a control sequence when it is left out.
 pub fn letters_of(name: &[u8]) -> &[u8]
     ensures { result.now ≡ letters_of name.now }
 {

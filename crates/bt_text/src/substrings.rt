@@ -12,7 +12,6 @@ use crate::depth::depth_of;
 use crate::length::block_characters;
 use std::alloc::{AllocError, Global};
 
-/// At most `len` bytes from a place on.
 fn bytes_from(text: &[u8], place: usize, len: usize) -> &[u8]
     ensures { result.now ≡ take len (drop place text.now) }
 {
@@ -48,7 +47,6 @@ pub fn substring(alloc: Global, text: &[u8], start: i32, len: i32) -> Result<Byt
     Bytes::copied(alloc, part(text, start, len))
 }
 
-/// Whether a byte is a brace.
 fn is_brace(byte: u8) -> bool
     ensures { result ≡ is_brace byte }
 {
@@ -73,7 +71,6 @@ fn plain_prefix_len(text: &[u8], most: usize) -> usize
     text.len()
 }
 
-/// The beginning of a block with its first `most` text characters.
 fn block_prefix(block: &[u8], most: usize) -> &[u8]
     requires { 0 < most }
     ensures { result.now ≡ flat_map bytes_of (first_characters most (block_pieces block.now)) }
@@ -95,7 +92,6 @@ fn push_closers(out: &mut Vec<u8>, count: usize) -> Result<(), AllocError>
     Ok(())
 }
 
-/// The beginning of a text with its first `most` text characters.
 fn first_characters(alloc: Global, text: &[u8], most: usize) -> Result<Vec<u8>, AllocError>
     ensures { IfOk result (λ t. t.items ≡ flat_map bytes_of (first_characters most (pieces text.now))) }
 {

@@ -1,4 +1,8 @@
-//! Values by their places, of which copies share what they have in common where there are many.
+//! Values by their places. Copies share what they have in common, if there are many.
+//!
+//! A step of a style copies the variables when it first assigns one, and changes few of them. Usual styles have fewer
+//! than 64, and copying a short vector is faster than sharing. A style may declare thousands, so beyond 64 the values are
+//! in chunks that copies share.
 
 ghost use Rattle.std.specs.Prelude.{◌≡◌, [], IsTrue, length, slice_get, slice_set, option_copied, IfOk, OnOk, OnErr};
 
@@ -11,11 +15,9 @@ use std::marker::Model;
 /// of more, all but the first few are in chunks, which a copy shares until one of them is changed.
 #[derive(Debug, Drop)]
 pub struct Values<T> {
-    /// How many values there are.
     count: usize,
-    /// The first of them, which this list alone has.
+    /// Those before the whole chunks: fewer than 64, and never shared.
     first: Vec<T>,
-    /// Those after them.
     more: Chunks<T>,
 }
 

@@ -34,7 +34,6 @@ pub fn has_white(text: &[u8]) -> bool
     text.iter().any(|byte| is_white(*byte))
 }
 
-/// How many bytes of white space stand at a text's end.
 fn trailing_white(text: &[u8]) -> usize
     ensures within { result ≤ length text.now }
     ensures len { result ≡ suffix_len is_white text.now }
@@ -52,7 +51,6 @@ pub fn trim_end(text: &[u8]) -> &[u8]
     &text[..text.len() - trailing_white(text)]
 }
 
-/// Whether a text begins with white space.
 fn begins_white(text: &[u8]) -> bool
     ensures { result ≡ begins_white text.now }
 {

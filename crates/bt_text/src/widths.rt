@@ -8,6 +8,7 @@ ghost use Rattle.bt_text.specs.Widths.{byte_width, control_width, piece_width, s
 use crate::blocks::{begins_special, block_len};
 use crate::special::{control_split, letters_of};
 
+/// The widths of the bytes from 32, the space, to 126, the tie. All other bytes have none.
 const WIDTHS: [u16; 95] = [
     278, 278, 500, 833, 500, 833, 778, 278, 389, 389, 500, 778, 278, 333, 278, 500, 500, 500, 500,
     500, 500, 500, 500, 500, 500, 500, 278, 278, 278, 778, 472, 472, 778, 750, 708, 722, 764, 681,
@@ -16,7 +17,6 @@ const WIDTHS: [u16; 95] = [
     278, 833, 556, 500, 556, 528, 392, 394, 389, 556, 528, 722, 528, 528, 444, 500, 1000, 500, 500,
 ];
 
-/// An entry of the table.
 #[tactic(auto, unfolding(crate::specs::Widths::widths))]
 fn table_width(place: usize) -> u16
     requires { place < 95 }
@@ -42,7 +42,6 @@ fn byte_width(byte: u8) -> u32
     }
 }
 
-/// The width of a control sequence.
 fn control_width(name: &[u8]) -> u32
     ensures exact { result ≡ control_width name.now }
     ensures narrow { result ≤ 1028 }
@@ -72,7 +71,6 @@ fn plain_width(byte: u8) -> u32
     }
 }
 
-/// The width of a special character.
 fn special_width(text: &[u8]) -> u32
     requires { length text.now ≤ 65536 }
     ensures exact { result ≡ sum_by symbol_width (symbols text.now) }
@@ -106,7 +104,6 @@ fn bytes_width(text: &[u8]) -> u32
     total
 }
 
-/// The width of a block.
 #[tactic(auto, using(crate::proofs::WidthsLemmas::block_width))]
 fn block_width(block: &[u8]) -> u32
     requires { length block.now ≤ 65536 }
