@@ -72,8 +72,7 @@ fn several(alloc: Global, count: usize, name: &[u8]) -> Result<Bytes, AllocError
 {
     let mut buffer = Buffer::new();
     let count = buffer.format(count).as_bytes();
-    let line = Bytes::of(alloc, &[b"(There were ", count, b" ", name, b"s)\n"])?;
-    Ok(line)
+    Bytes::of(alloc, &[b"(There were ", count, b" ", name, b"s)\n"])
 }
 
 fn count_line(alloc: Global, count: usize, name: &[u8]) -> Result<Bytes, AllocError>

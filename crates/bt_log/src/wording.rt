@@ -123,8 +123,7 @@ fn add_command(
     ensures { OnOk result (text.new ≡ text.old ++ (for_entry entry.now ++ while_executing style.now line)) }
 {
     add_entry(text, entry)?;
-    add_file_line(text, b"\nwhile executing---line ", line, style)?;
-    Ok(())
+    add_file_line(text, b"\nwhile executing---line ", line, style)
 }
 
 fn add_step(

@@ -42,8 +42,7 @@ pub fn parts(alloc: Global, names: &[u8], n: i32) -> Result<Parts, NameFault>
     }
     let name = Name::new(alloc, name)?;
     let sections = sections_of(alloc, &name)?;
-    let parts = sections.parts().copied(alloc)?;
-    Ok(parts)
+    Ok(sections.parts().copied(alloc)?)
 }
 
 /// The n-th of the names that a text lists, counted from 1, in a pattern, if that has at most `limit` bytes.

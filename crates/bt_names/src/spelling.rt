@@ -62,11 +62,7 @@ fn by_initials<'a>(
 ) -> Result<Vec<LentToken<'a>>, AllocError>
     ensures { IfOk result (λ short. short.items ≡ map by_initial tokens.now) }
 {
-    let mut short = Vec::with_capacity(alloc, tokens.len())?;
-    'walk: for token in tokens {
-        short.push(by_initial(token))?;
-    }
-    Ok(short)
+    tokens.iter().map(|token| by_initial(token)).collect(alloc)
 }
 
 /// The parts of a name in both forms, so that each initial is looked for once. Contracts see the whole parts.

@@ -1,5 +1,5 @@
 -- Blocks by a depth counter.
-use Rattle.std.proofs.Common.{◌≡◌, ℕ, zero, suc, ◌+◌, ◌<◌, ◌≤◌, cond, eqb, List, [], ◌∷◌, ◌++◌, length, get_or, take, drop, refl, ap, ◌∙◌, arith}
+use Rattle.std.proofs.Common.{◌≡◌, ℕ, zero, suc, ◌+◌, ◌<◌, cond, eqb, List, [], ◌∷◌, ◌++◌, length, get_or, take, drop, refl, ap, ◌∙◌, arith}
 use Rattle.std.specs.List.{onto_first}
 use Rattle.std.proofs.lemmas.List.{take_more}
 use Rattle.std.proofs.Math.Dec.{eqb-suc-zero}
@@ -30,14 +30,6 @@ blocks_from_start t = blocks_behind_from [] t
 abbrev pub first_len : ℕ → List ℕ → ℕ
 first_len d [] = 0
 first_len d (b ∷ t) = suc (cond (eqb (depth_after d b) 0) 0 (first_len (depth_after d b) t))
-
-pub first_len_within : (d : ℕ) (t : List ℕ) → first_len d t ≤ length t
-first_len_within d [] = omega arith
-first_len_within d (b ∷ t) = by_depth (depth_after d b) (first_len_within (depth_after d b) t)
-  where
-    by_depth : (e : ℕ) → first_len e t ≤ length t → suc (cond (eqb e 0) 0 (first_len e t)) ≤ suc (length t)
-    by_depth zero h = omega arith
-    by_depth (suc e) h = rw eqb-suc-zero (omega arith)
 
 -- The first block is so many bytes, and the blocks of what follows it are the others.
 pub blocks_from_first : (d b : ℕ) (t : List ℕ) → blocks_from d (b ∷ t) ≡ take (first_len d (b ∷ t)) (b ∷ t) ∷ blocks_from 0 (drop (first_len d (b ∷ t)) (b ∷ t))

@@ -1,5 +1,5 @@
 -- Texts, each that is missing taken from others.
-use Rattle.std.proofs.Common.{◌≡◌, refl, sym, ap, subst, ◌∙◌, inl, inr, ℕ, zero, suc, ◌+◌, ◌≤◌, Bool, true, false, arith, List, [], ◌∷◌, length, set, drop, replicate, get_or, Option, Some, None}
+use Rattle.std.proofs.Common.{◌≡◌, refl, ap, subst, ◌∙◌, inl, inr, ℕ, zero, suc, ◌+◌, ◌≤◌, Bool, true, false, arith, List, [], ◌∷◌, length, set, drop, replicate, get_or, Option, Some, None}
 use Rattle.std.specs.Prelude.{◌<◌, is_none, ◌&&◌}
 use Rattle.std.specs.List.{list_all}
 use Rattle.std.proofs.lemmas.Bool.{cases_lt}

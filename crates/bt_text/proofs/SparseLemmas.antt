@@ -1,5 +1,5 @@
 -- Texts with their places: how one is found, put and taken away.
-use Rattle.std.proofs.Common.{◌≡◌, refl, sym, ap, subst, ◌∙◌, ℕ, zero, suc, ◌+◌, ◌<◌, ◌≤◌, ◌≢◌, eqb, Bool, true, false, arith, List, [], ◌∷◌, map, length, set, drop, get_or, if◌then◌else◌, Option, Some, None, Result, Ok, Err, IfOk, IfErr, inl, inr}
+use Rattle.std.proofs.Common.{◌≡◌, refl, sym, ap, subst, ◌∙◌, ℕ, zero, suc, ◌+◌, ◌<◌, ◌≤◌, ◌≢◌, eqb, Bool, true, false, arith, List, [], ◌∷◌, map, length, set, drop, get_or, if◌then◌else◌, Some, None, Result, Ok, Err, IfOk, IfErr, inl, inr}
 use Rattle.std.specs.Prelude.{is_none, is_some, bytes_eq, ◌&&◌, ◌==◌, ◌↔◌}
 use Rattle.std.specs.Cmp.Lexicographic.{bytes_decides}
 use mathlib.Core.Bool.{false≢true}

@@ -1,5 +1,5 @@
 -- Texts in which each run of white space is one space.
-use Rattle.std.proofs.Common.{◌≡◌, refl, sym, ap, ◌∙◌, ℕ, ◌≤◌, ◌+◌, Bool, true, false, arith, List, [], ◌∷◌, ◌++◌, length, take, drop, get_or, if◌then◌else◌}
+use Rattle.std.proofs.Common.{◌≡◌, refl, ap, ◌∙◌, ℕ, ◌≤◌, ◌+◌, Bool, true, false, arith, List, [], ◌∷◌, ◌++◌, length, take, drop, get_or, if◌then◌else◌}
 use Rattle.std.specs.Prelude.{◌↔◌}
 use Rattle.std.proofs.lemmas.List.{length-append, take_all}
 use Rattle.bt_text.specs.ByteTests.{is_white, space}

@@ -3,7 +3,7 @@
 //! The definition looks at all that stands before a block to see whether a title spares it. The code carries that along
 //! in a `TitlePlace` instead, so a title takes linear time.
 
-ghost use Rattle.std.specs.Prelude.{◌≡◌, ◌≤◌, ◌++◌, ◌∷◌, ◌==◌, if◌then◌else◌, IfOk, OnOk, length, take, drop, flat_map, map};
+ghost use Rattle.std.specs.Prelude.{◌≡◌, ◌++◌, ◌∷◌, ◌==◌, if◌then◌else◌, IfOk, OnOk, flat_map, map};
 ghost use Rattle.bt_text.specs.CaseChange.{changed_block, changed_byte, changed_case, changed_symbol};
 ghost use Rattle.bt_text.specs.inner.Cases.{changed_control};
 ghost use Rattle.bt_text.specs.Special.{is_foreign, symbols};
@@ -54,8 +54,7 @@ fn push_whole(out: &mut Vec<u8>, mode: Mode, name: &[u8], gap: &[u8]) -> Result<
 {
     out.push(b'\\')?;
     push_name(out, mode, name)?;
-    out.extend_from_slice(gap)?;
-    Ok(())
+    out.extend_from_slice(gap)
 }
 
 fn push_control(out: &mut Vec<u8>, mode: Mode, name: &[u8], gap: &[u8]) -> Result<(), AllocError>

@@ -3,7 +3,7 @@
 ghost use Rattle.std.specs.Prelude.{◌≡◌, IsTrue, IfOk};
 
 use crate::bytes::Bytes;
-use crate::shared::Shared;
+use crate::shared::{Shared, shared_all};
 use std::alloc::{AllocError, Global};
 
 /// A value of which lists can be copied and compared.
@@ -27,17 +27,6 @@ impl Element for i32 {
     }
 }
 
-/// The same texts for one more owner; none of them is copied.
-fn shared(alloc: Global, texts: &[Shared<Bytes>]) -> Result<Vec<Shared<Bytes>>, AllocError>
-    ensures { IfOk result (λ same. same.items ≡ texts.now) }
-{
-    let mut same = Vec::with_capacity(alloc, texts.len())?;
-    'texts: for text in texts {
-        same.push(text.share()?)?;
-    }
-    Ok(same)
-}
-
 fn same_texts(texts: &[Shared<Bytes>], others: &[Shared<Bytes>]) -> bool
     ensures { IsTrue result → texts.now ≡ others.now }
 {
@@ -54,7 +43,7 @@ fn same_texts(texts: &[Shared<Bytes>], others: &[Shared<Bytes>]) -> bool
 
 impl Element for Shared<Bytes> {
     fn copied(alloc: Global, items: &[Shared<Bytes>]) -> Result<Vec<Shared<Bytes>>, AllocError> {
-        shared(alloc, items)
+        shared_all(alloc, items)
     }
 
     fn are_same(items: &[Shared<Bytes>], others: &[Shared<Bytes>]) -> bool {

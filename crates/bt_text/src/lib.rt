@@ -49,7 +49,7 @@ pub use name_list::NameList;
 pub use period::add_period;
 pub use purification::purify;
 pub use sequence::Sequence;
-pub use shared::Shared;
+pub use shared::{Shared, shared_all};
 pub use sparse::SparseTexts;
 pub use special::{control_name_len, is_foreign};
 pub use substrings::{substring, text_prefix};

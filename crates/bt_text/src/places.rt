@@ -163,7 +163,7 @@ fn copied(
 ) -> Result<Vec<(usize, Shared<Bytes>)>, AllocError>
     ensures { IfOk result (λ same. same.items ≡ present.now) }
 {
-    let mut same = Vec::new(alloc);
+    let mut same = Vec::with_capacity(alloc, present.len())?;
     'texts: for (place, text) in present {
         same.push((*place, text.share()?))?;
     }

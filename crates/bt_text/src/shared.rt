@@ -41,6 +41,20 @@ impl<T: Drop> Shared<T> {
     }
 }
 
+/// The same values, each for one more owner; none of them is copied.
+pub fn shared_all<T: Drop>(
+    alloc: Global,
+    values: &[Shared<T>],
+) -> Result<Vec<Shared<T>>, AllocError>
+    ensures { IfOk result (λ same. same.items ≡ values.now) }
+{
+    let mut same = Vec::with_capacity(alloc, values.len())?;
+    'values: for value in values {
+        same.push(value.share()?)?;
+    }
+    Ok(same)
+}
+
 impl<T> Deref for Shared<T> {
     type Target = T;
 

@@ -1,4 +1,4 @@
-use Rattle.std.proofs.Common.{◌∙◌, ◌++◌, ◌≡◌, ap, fold, map, sym}
+use Rattle.std.proofs.Common.{◌∙◌, map}
 use Rattle.std.proofs.lemmas.List.{drop_all}
 use Rattle.bt_text.proofs.JoinedLemmas.{joined_behind}
 use Rattle.bt_text.proofs.bytes.Bytes.append_all.Goals as goal

@@ -1,5 +1,0 @@
-use Rattle.std.proofs.Common.{◌≡◌, take}
-use Rattle.bt_text.proofs.element.shared.Given as goal
-
-abbrev pub invariant-texts : goal.invariant-texts
-invariant-texts l = l.same.items ≡ take l.text-index l.texts
