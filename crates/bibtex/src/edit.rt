@@ -39,7 +39,7 @@ impl<'a> Edit<'a> {
         match self {
             Edit::Write(name, _) => Edit::Write(name, bytes),
             Edit::Splice(name, start, end, _) => Edit::Splice(name, start, end, bytes),
-            edit => edit,
+            Edit::Remove(_) | Edit::Root(_) | Edit::MinCrossrefs(_) => self,
         }
     }
 }

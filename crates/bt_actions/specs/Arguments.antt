@@ -1,6 +1,7 @@
 -- How built-in functions take their arguments: all of them from the top on, with an error for each that isn't there;
 -- then, where one that was there is of a wrong kind, one error more.
 use Rattle.std.specs.Prelude.{ℕ, ℤ, Bool, false, ◌||◌, List, Option, Some, None, if◌then◌else◌, is_none, option_and_then}
+use Rattle.std.specs.Option.{option_zip}
 use Rattle.bt_style.specs.declared.builtin.Builtin.{Builtin as Primitive}
 use Rattle.bt_style.specs.declared.style.Target.{Target}
 use Rattle.bt_actions.specs.declared.complaint.Complaint.TheVariants.{WrongKind}
@@ -57,12 +58,6 @@ is_wrong kind (Some v) = is_none (kind v)
 abbrev pub judged : Primitive → Bool → World → World
 judged b wrong w = if wrong then say (WrongKind b) w else w
 
--- two values, where both are there
-abbrev pub both : {A B : Type 0} → Option A → Option B → Option (A × B)
-both None o = None
-both (Some a) None = None
-both (Some a) (Some b) = Some (a, b)
-
 -- three values, where all are there
 abbrev pub all_three : {A B C : Type 0} → Option A → Option B → Option C → Option (A × B × C)
 all_three None o p = None
@@ -82,7 +77,7 @@ abbrev pub taken_two : {A B : Type 0} → Primitive → (Item → Option A) → 
 taken_two b lower upper w =
     let top = popped w in
     let next = popped top.1 in (
-      both (option_and_then lower next.0) (option_and_then upper top.0),
+      option_zip (option_and_then lower next.0) (option_and_then upper top.0),
       judged b (is_wrong upper top.0 || is_wrong lower next.0) next.1,
     )
 

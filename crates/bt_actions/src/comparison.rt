@@ -1,12 +1,12 @@
 //! The functions that look at values of several kinds.
 
-ghost use Rattle.std.specs.Prelude.{◌≡◌, IfOk, option_map};
+ghost use Rattle.std.specs.Prelude.{◌≡◌, IfOk};
 ghost use Rattle.std.specs.List.{list_all};
 ghost use Rattle.bt_text.specs.ByteTests.{is_white};
 ghost use Rattle.bt_actions.specs.Arguments.{as_any, as_field_text, taken, taken_two};
 ghost use Rattle.bt_actions.specs.Given.{valued, answered, zero_item};
 ghost use Rattle.bt_actions.specs.Comparison.{equality_of, emptiness_of, missing_of, is_blank, is_missing};
-ghost use Rattle.bt_actions.specs.View.{world_of, item_of, Acts};
+ghost use Rattle.bt_actions.specs.View.{item_of, Acts};
 ghost use Rattle.bt_style.specs.declared.builtin.Builtin.TheVariants as builtin;
 
 use crate::arguments::{take, take_two};

@@ -1,11 +1,11 @@
 //! The functions on lists of names.
 
-ghost use Rattle.std.specs.Prelude.{◌≡◌, IfOk, pos, ℤ, List, ℕ};
+ghost use Rattle.std.specs.Prelude.{◌≡◌, IfOk};
 ghost use Rattle.bt_actions.specs.Arguments.{as_number, as_text, taken, taken_three};
 ghost use Rattle.bt_actions.specs.Given.{Errs, valued, answered, zero_item, empty_item};
 ghost use Rattle.bt_actions.specs.Names.{names_counted, name_formatted};
 ghost use Rattle.bt_actions.specs.inner.Names.{pushed_within};
-ghost use Rattle.bt_actions.specs.View.{world_of, Acts};
+ghost use Rattle.bt_actions.specs.View.{Acts};
 ghost use Rattle.bt_names.specs.FormattedName.{formatted_name, IsFormatFault};
 ghost use Rattle.bt_style.specs.declared.builtin.Builtin.TheVariants as builtin;
 

@@ -1,11 +1,10 @@
 //! The functions on numbers.
 
-ghost use Rattle.std.specs.Prelude.{◌≡◌, IfOk};
+ghost use Rattle.std.specs.Prelude.{IfOk};
 ghost use Rattle.bt_actions.specs.Arguments.{as_number, as_text, taken, taken_two};
-ghost use Rattle.bt_actions.specs.Given.{valued, answered, zero_item, empty_item, truth, number_given};
+ghost use Rattle.bt_actions.specs.Given.{valued, answered, zero_item, empty_item, number_given};
 ghost use Rattle.bt_actions.specs.Numbers.{greater_of, less_of, sum_of, difference_of, byte_number, ascii_text, digits_text};
-ghost use Rattle.bt_actions.specs.State.{pushed};
-ghost use Rattle.bt_actions.specs.View.{world_of, Acts};
+ghost use Rattle.bt_actions.specs.View.{Acts};
 ghost use Rattle.bt_style.specs.declared.builtin.Builtin.TheVariants as builtin;
 
 use crate::arguments::{take, take_two};

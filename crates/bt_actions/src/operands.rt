@@ -1,12 +1,12 @@
 //! What fields and variables, the key, the type and the preamble put on the stack.
 
-ghost use Rattle.std.specs.Prelude.{◌≡◌, IfOk, None, [], pos, option_map, slice_index_or};
+ghost use Rattle.std.specs.Prelude.{◌≡◌, IfOk, None, [], pos, slice_index_or};
 ghost use Rattle.bt_actions.specs.Item.{Txt};
 ghost use Rattle.bt_actions.specs.State.{pushed};
 ghost use Rattle.bt_actions.specs.Given.{zero_item, empty_item};
 ghost use Rattle.bt_actions.specs.Operands.{kind_shown, field_at, number_at, text_at, key_item, kind_item, of_entry, global_number, global_text};
 ghost use Rattle.bt_actions.specs.ShortText.{bytes_of};
-ghost use Rattle.bt_actions.specs.View.{world_of, Acts};
+ghost use Rattle.bt_actions.specs.View.{Acts};
 
 use crate::complaint::Complaint;
 use crate::entry::Entry;

@@ -1,10 +1,10 @@
 //! The functions that look at the stack alone.
 
-ghost use Rattle.std.specs.Prelude.{◌≡◌, ◌∷◌, IfOk};
+ghost use Rattle.std.specs.Prelude.{◌∷◌, IfOk};
 ghost use Rattle.bt_actions.specs.World.{Goes, with_stack};
 ghost use Rattle.bt_actions.specs.State.{popped, pushed};
 ghost use Rattle.bt_actions.specs.Stack.{duplicated, swapped};
-ghost use Rattle.bt_actions.specs.View.{world_of, item_of, Acts};
+ghost use Rattle.bt_actions.specs.View.{item_of, Acts};
 
 use crate::complaint::Complaint;
 use crate::state::{Flow, State};

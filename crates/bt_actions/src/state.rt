@@ -45,7 +45,7 @@ pub struct State<'a> {
 }
 
 impl<'a> State<'a> {
-    ghost use Rattle.std.specs.Prelude.{◌≡◌, ◌≤◌, ◌<◌, [], ◌∷◌, length, IfOk, OnOk, IfNone, IfSome, OnSome, option_map, vec_len};
+    ghost use Rattle.std.specs.Prelude.{◌≡◌, ◌≤◌, ◌<◌, [], ◌∷◌, IfOk, OnOk, IfNone, IfSome, OnSome, option_map, vec_len};
     ghost use Rattle.bt_actions.specs.Item.{Num, Txt};
     ghost use Rattle.bt_actions.specs.World.{Stops, say, with_stack};
     ghost use Rattle.bt_actions.specs.State.{popped, pushed, pushed_in_error, limit_passed, appended, held_line_ended, text_len};

@@ -5,8 +5,8 @@ ghost use Rattle.bt_actions.specs.Item.{Txt};
 ghost use Rattle.bt_actions.specs.Arguments.{as_number, as_text, taken, taken_two, taken_three};
 ghost use Rattle.bt_actions.specs.Given.{valued, answered, zero_item, empty_item, number_given};
 ghost use Rattle.bt_actions.specs.Texts.{join_of, period_of, mode_of, case_of, purified_of, substring_given, prefix_of, length_of, width_given, quote};
-ghost use Rattle.bt_actions.specs.State.{pushed, appended, held_line_ended};
-ghost use Rattle.bt_actions.specs.View.{world_of, Acts};
+ghost use Rattle.bt_actions.specs.State.{pushed};
+ghost use Rattle.bt_actions.specs.View.{Acts};
 ghost use Rattle.bt_style.specs.declared.builtin.Builtin.TheVariants as builtin;
 
 use crate::arguments::{take, take_three, take_two};

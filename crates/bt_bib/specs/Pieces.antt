@@ -75,12 +75,14 @@ opening h = elim (first h.rest) [
 abbrev pub after_closing : Closing → Here → Result Here Stop
 after_closing close h = sign (closing_sign close) ExpectedCommaOrClose h
 
+-- `key , field = value , .. }`, from the key on
 abbrev pub entry_item : Spot → List ℕ → Closing → Here → Piece × Here
 entry_item start kind close h =
     let fields = all (next_field close) (after_white (after_run (is_key_byte close) h)) in
     let entry : Entry = record { kind = Some kind; key = Some (run (is_key_byte close) h); fields = fields.0 } in
     ended_item start h.spot.line (contents.Entry entry) (Some close) fields.1
 
+-- `name = value }`, from the name on
 abbrev pub string_item : Spot → Closing → Here → Piece × Here
 string_item start close h =
     let named = name StringName name_ends h in
@@ -90,6 +92,7 @@ string_item start close h =
     let line : ℕ = elim definition.name [ Some name ↦ h.spot.line | None ↦ start.line ] in
     ended_item start line (contents.Define definition) (Some close) (valued >>= λ v. after_closing close v.1)
 
+-- `value }`, from the value on
 abbrev pub preamble_item : Spot → Closing → Here → Piece × Here
 preamble_item start close h =
     let valued = value close h in

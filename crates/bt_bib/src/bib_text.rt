@@ -21,6 +21,7 @@ use memchr::memchr;
 use std::alloc::{AllocError, Global};
 
 impl Reader<'_> {
+    /// The next `@`, or the text's end.
     fn seek(&self, from: Spot) -> Spot
         requires { IsIn self.now.text.now from }
         ensures value { here self.now.text.now result ≡ after_run is_text (here self.now.text.now from) }
@@ -50,6 +51,7 @@ impl Reader<'_> {
         Ok((piece, end))
     }
 
+    /// The next piece and the place after it, or none and the text's end.
     #[tactic(auto, unfolding(crate::specs::Pieces::next_piece))]
     pub fn next_piece(&self, from: Spot) -> Result<(Option<PlacedPiece>, Spot), AllocError>
         requires { IsIn self.now.text.now from }

@@ -15,6 +15,7 @@ use crate::stop::ReadStop;
 use bt_text::Sequence;
 
 impl Reader<'_> {
+    /// A field, and the white space after it.
     #[tactic(auto, unfolding(crate::specs::Fields::field))]
     fn field(&self, from: Spot, close: Closing) -> Result<(Field, Spot), ReadStop>
         requires { IsIn self.now.text.now from }

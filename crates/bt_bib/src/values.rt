@@ -41,6 +41,7 @@ impl Reader<'_> {
         }
     }
 
+    /// A part of a value, and the white space after it.
     #[tactic(auto, unfolding(crate::specs::Values::part))]
     fn part(&self, from: Spot, close: Closing) -> Result<(Part, Spot), ReadStop>
         requires { IsIn self.now.text.now from }

@@ -35,6 +35,7 @@ fn printed_log(session: &Session, terse: bool) -> &[u8]
     }
 }
 
+/// Prints a log, as far as that succeeds.
 #[tactic(auto, using(crate::proofs::TellLemmas::printed))]
 fn print_log<O: Sink>(out: &mut O, log: &[u8])
     requires { (O.seen out.old).failures < 2 ^ 64 - 1 }

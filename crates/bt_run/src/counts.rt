@@ -16,6 +16,7 @@ use std::alloc::{AllocError, Global};
 #[derive(Clone, Copy)]
 struct Tally<'a> {
     steps: &'a [Shared<Step>],
+    /// By the function's place in the table.
     calls: [u128; BUILTIN_COUNT],
     ghost counted: { (place : ℕ) → place < 37 → slice_index_or calls place 0 ≡ calls_at steps.now place },
     ghost bounded: { (place : ℕ) → place < 37 → slice_index_or calls place 0 < 2 ^ 96 },

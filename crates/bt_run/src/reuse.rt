@@ -29,6 +29,7 @@ pub struct Lookup {
 /// What a run counts and keeps while it goes over the steps of an earlier one.
 #[derive(Drop)]
 pub struct Reuse {
+    /// The ticks of the steps that were carried out.
     pub meter: Meter,
     /// How many steps were carried out; those that were taken over don't count.
     pub ran: u128,
