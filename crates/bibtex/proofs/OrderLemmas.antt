@@ -1,5 +1,5 @@
 -- Each name stands once after an edit, if it did before.
-use Rattle.std.proofs.Common.{◌≡◌, subst, ℕ, List, [], length, Option, Some, None, Ok}
+use Rattle.std.proofs.Common.{◌≡◌, subst, [], length, Option, Some, None, Ok}
 use Rattle.std.specs.Prelude.{unwrap_or}
 use Rattle.bt_job.specs.FileNames.{text_of}
 use Rattle.bibtex.specs.declared.edit.Refusal.{Refusal}

@@ -3,7 +3,6 @@ use Rattle.std.specs.Prelude.{ℕ, ◌+◌, ◌-◌, List, [], length, Bool, not
 use Rattle.std.specs.Option.{is_none}
 use Rattle.bibtex.specs.declared.edit.Refusal.{Refusal}
 use Rattle.bibtex.specs.declared.edit.Refusal.TheVariants.{BadName, NoSuchFile, RangeOutside, FileTooLarge, TooManyFiles, OutOfMemory}
-use Rattle.bt_run.specs.declared.answers.Report.{Report}
 use Rattle.bt_job.specs.declared.files.File.{File}
 use Rattle.bt_job.specs.FileNames.{is_file_name, text_of}
 use Rattle.bibtex.specs.Edit.{Edit, write, splice, remove, root_name, min_crossrefs, bytes_of}

@@ -1,6 +1,6 @@
 //! Texts and files with a part of them changed, beside those that are there.
 
-ghost use Rattle.std.specs.Prelude.{◌≡◌, ◌<◌, ◌≤◌, ◌++◌, take, length, IfOk, IfSome};
+ghost use Rattle.std.specs.Prelude.{◌≡◌, ◌<◌, ◌≤◌, length, IfOk, IfSome};
 ghost use Rattle.bibtex.specs.Present.{place_of_file, with_text, without, replaced};
 
 use bt_job::File;

@@ -1,7 +1,6 @@
 //! The first reason to refuse a change.
 
-ghost use Rattle.std.specs.Prelude.{◌≡◌, length};
-ghost use Rattle.std.specs.Option.{option_map};
+ghost use Rattle.std.specs.Prelude.{◌≡◌};
 ghost use Rattle.bibtex.specs.Present.{is_root_name};
 ghost use Rattle.bibtex.specs.Applied.{write_refusal, range_refusal, splice_refusal, remove_refusal, root_refusal, code_of};
 

@@ -1,6 +1,6 @@
 //! A session: it keeps the present state and what it means, and changes both by edits.
 
-ghost use Rattle.std.specs.Prelude.{◌≡◌, [], length, IfOk, IfErr, OnErr, Ok, Err};
+ghost use Rattle.std.specs.Prelude.{◌≡◌, IfOk, IfErr, OnErr, Ok};
 ghost use Rattle.std.specs.Option.{option_map};
 
 use crate::draft::Draft;

@@ -11,7 +11,7 @@ use crate::reread::Reread;
 use bt_bib::Splice;
 use bt_job::{File, text_of};
 use bt_text::{Bytes, Sequence, Shared};
-use std::alloc::{AllocError, Global};
+use std::alloc::AllocError;
 
 /// What a session is about: the present texts, each under its name, the root name, and how many entries have to refer
 /// to an uncited one for it to be listed.

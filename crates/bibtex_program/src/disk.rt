@@ -36,8 +36,6 @@ impl<'a, R: Files> Disk<'a, R> {
 }
 
 impl<R: Files> Folder for Disk<'_, R> {
-    ghost use Rattle.bt_one_shot.specs.Folders.{Seen};
-
     ghost seen = { λ d. record {
       held = None;
       looked_up = None;

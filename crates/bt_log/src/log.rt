@@ -3,7 +3,7 @@
 //! Messages stay in their parts until here. So a caller can still replace the name of a file in them, and count them by
 //! rank instead of by their words.
 
-ghost use Rattle.std.specs.Prelude.{◌≡◌, [], ◌∷◌, ◌++◌, count_by, filter, IfOk, OnOk};
+ghost use Rattle.std.specs.Prelude.{◌≡◌, [], ◌∷◌, ◌++◌, count_by, IfOk, OnOk};
 ghost use Rattle.std.specs.List.{list_any};
 ghost use Rattle.bt_log.specs.Log.{rank_status, has_status, status_of, lines_bytes, count_line, last_line, log_bytes, is_in_terse_log, terse_bytes};
 ghost use Rattle.bt_log.specs.inner.Cases.{several, messages_bytes, terse};

@@ -11,7 +11,7 @@ ghost use Rattle.bt_names.specs.inner.Cases.{is_comma};
 ghost use Rattle.bt_names.specs.inner.Cuts.{begins_token, first_section, other_sections, sections_from};
 
 use crate::lent_tokens::LentToken;
-use bt_text::{block_len, depth_after, is_separator, is_white};
+use bt_text::{block_len, is_separator, is_white};
 use std::alloc::{AllocError, Global};
 
 fn is_comma(block: &[u8]) -> bool

@@ -5,7 +5,7 @@ ghost use Rattle.bt_text.specs.ByteTests.{backslash, is_small, left_brace};
 ghost use Rattle.bt_names.specs.Vons.{begins_small, is_cased, is_von, is_von_text, special_is_small, verdict_of};
 
 use crate::lent_tokens::LentToken;
-use bt_text::{begins_special, block_len, control_name_len, is_foreign};
+use bt_text::{block_len, control_name_len, is_foreign};
 
 fn is_cased(byte: u8) -> bool
     ensures { result ≡ is_cased byte }

@@ -1,5 +1,5 @@
 -- What is reported on a sink, one text after another.
-use Rattle.std.proofs.Common.{◌≡◌, inl, inr, true, ℕ, ◌+◌, List, [], ◌++◌, append_assoc, append-nil, ap, sym, ◌∙◌, subst, refl, arith, Option, None, Some, Result, Ok, Err}
+use Rattle.std.proofs.Common.{◌≡◌, inl, inr, ℕ, ◌+◌, List, [], ◌++◌, append_assoc, append-nil, ap, sym, ◌∙◌, subst, refl, arith, Option, None, Some, Result, Ok, Err}
 use Rattle.std.specs.Io.KnownBytes.{Appends}
 use Rattle.bt_streams.specs.Writes.{WritesAll, WritesPart, Says}
 use Rattle.bt_streams.proofs.WriteLemmas.{appends_more, part_behind}

@@ -10,7 +10,7 @@ use Rattle.bt_log.specs.declared.message.Message.{Message}
 use Rattle.bt_resolve.specs.declared.stored.Stored.{Stored}
 use Rattle.bt_resolve.specs.declared.place.BibLine.{BibLine}
 use Rattle.bt_resolve.specs.Names.{place_of_name}
-use Rattle.bt_resolve.specs.Values.{MacroTexts, value, value_warnings}
+use Rattle.bt_resolve.specs.Values.{MacroTexts, value_warnings}
 use Rattle.bt_resolve.specs.Macros.{faultless, macro_before}
 use Rattle.bt_resolve.specs.Warnings.{line_of, no_function}
 use Rattle.bt_resolve.specs.Faults.{repeated, fault_error}

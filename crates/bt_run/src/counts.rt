@@ -1,6 +1,6 @@
 //! How often each built-in function was called in a run, and the lines of the log that tell it.
 
-ghost use Rattle.std.specs.Prelude.{◌≡◌, ℕ, ◌+◌, ◌++◌, ◌*◌, ◌≤◌, ◌<◌, ◌^◌, length, map, sum_by, slice_index_or, codes, decimal, IfOk, OnOk};
+ghost use Rattle.std.specs.Prelude.{◌≡◌, ℕ, ◌+◌, ◌++◌, ◌≤◌, ◌<◌, ◌^◌, length, map, sum_by, slice_index_or, codes, decimal, IfOk, OnOk};
 ghost use Rattle.bt_style.specs.Builtins.{place_of, name_of};
 ghost use Rattle.bt_style.specs.Names.{row_of};
 ghost use Rattle.bt_run.specs.Counts.{calls_at, all_calls, count_message, total_line, function_line, with_counts};

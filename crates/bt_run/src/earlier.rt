@@ -1,7 +1,7 @@
 //! What a run goes over of an earlier one.
 
-ghost use Rattle.std.specs.Prelude.{◌≡◌, ◌≤◌, None, length, map, IfOk, IsTrue};
-ghost use Rattle.bt_run.specs.inner.Earlier.{fixed, ArePlaced, AreSame};
+ghost use Rattle.std.specs.Prelude.{◌≡◌, None, map, IfOk};
+ghost use Rattle.bt_run.specs.inner.Earlier.{ArePlaced, AreSame};
 
 use crate::course::Step;
 use crate::same_input::equal_fixed;

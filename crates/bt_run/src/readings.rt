@@ -1,6 +1,5 @@
 //! What was read of texts, which outlasts the runs that read them.
 
-ghost use Rattle.std.specs.Prelude.{◌≡◌};
 ghost use Rattle.bt_style.specs.Fault.{Gives};
 ghost use Rattle.bt_style.specs.Program.{program_of};
 ghost use Rattle.bt_style.specs.Reader.{style_of};

@@ -1,6 +1,6 @@
 //! What a line of the loop asks for.
 
-ghost use Rattle.std.specs.Prelude.{◌≡◌, ℕ, ◌≤◌, ◌∷◌, [], length, position, ◌==◌, MatchOption, option_copied};
+ghost use Rattle.std.specs.Prelude.{◌≡◌, position, ◌==◌, option_copied};
 ghost use Rattle.bt_serve.specs.Commands.{words_in_line, number_of, request_of_words, one_word, two_words, write_of, splice_of, remove_of, root_of, min_of};
 ghost use Rattle.bt_serve.specs.inner.Commands.{FirstWord};
 ghost use Rattle.bt_serve.specs.inner.Asked.{request_seen};

@@ -1,8 +1,7 @@
 //! Reads lines and counted bytes from a source.
 
-ghost use Rattle.std.specs.Prelude.{◌≡◌, ℕ, List, ◌+◌, ◌-◌, ◌^◌, ◌<◌, ◌≤◌, ◌++◌, length, take, [], ◌∷◌, IfOk, IfErr, OnOk, OnErr, MatchResult};
-ghost use Rattle.std.specs.Io.KnownBytes.{Consumes, Keeps};
-ghost use Rattle.bt_serve.specs.Reads.{HasNoFeed};
+ghost use Rattle.std.specs.Prelude.{◌≡◌, ◌+◌, ◌-◌, ◌^◌, ◌<◌, ◌≤◌, length, IfOk, OnOk, OnErr, MatchResult};
+ghost use Rattle.std.specs.Io.KnownBytes.{Keeps};
 ghost use Rattle.bt_serve.specs.inner.Reads.{ReadsByte, ReadsLine, ReadsPart, SkipsLine, ReadsAll, ReadsBelow, DropsAll};
 
 use bt_streams::{Source, StreamFailed};

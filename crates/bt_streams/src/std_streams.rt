@@ -1,6 +1,6 @@
 //! Readers and writers of the standard library as sources and sinks.
 
-ghost use Rattle.std.specs.Prelude.{◌≡◌, ◌-◌, ◌^◌, length, true, false};
+ghost use Rattle.std.specs.Prelude.{◌≡◌, ◌-◌, ◌^◌, true, false};
 
 use crate::streams::{Sink, Source, StreamFailed};
 use std::io::{Read, Write};

@@ -4,7 +4,7 @@
 //! declaration first makes room in the table, then pushes onto the list, and then puts the name into the table, which
 //! can't fail: out of memory, both stay as they were.
 
-ghost use Rattle.std.specs.Prelude.{◌≡◌, None, IfOk, OnOk, OnErr, length, is_some};
+ghost use Rattle.std.specs.Prelude.{◌≡◌, None, IfOk, OnOk, OnErr, length};
 ghost use Rattle.bt_style.specs.Program.{program_of};
 ghost use Rattle.bt_style.specs.Tree.{ops_body};
 ghost use Rattle.bt_style.specs.Names.{target_named, macro_named, is_macro};

@@ -1,6 +1,6 @@
 //! Texts in a list with their places.
 
-ghost use Rattle.std.specs.Prelude.{◌≡◌, ◌<◌, ◌++◌, ◌↔◌, ℕ, IsTrue, length, replicate, is_none, slice_index_or, slice_set, Some, None, option_copied, IfOk, IfErr, OnOk, OnErr};
+ghost use Rattle.std.specs.Prelude.{◌≡◌, ◌++◌, ◌↔◌, ℕ, IsTrue, length, replicate, is_none, slice_index_or, slice_set, Some, None, option_copied, IfOk, IfErr, OnOk, OnErr};
 ghost use Rattle.std.specs.List.{list_all};
 ghost use Rattle.bt_text.specs.Sparse.{filled_from};
 ghost use Rattle.bt_text.specs.inner.Merging.{below, above, merged, same_present, same_text, IsGap, IsAt, IsInOrder};

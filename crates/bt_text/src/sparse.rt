@@ -4,7 +4,7 @@
 //! most one shared list, never over a chain of them, so a look-up takes at most two searches, however long the line of
 //! parents is.
 
-ghost use Rattle.std.specs.Prelude.{◌≡◌, ◌↔◌, IsTrue, length, replicate, take, is_none, slice_index_or, slice_set, None, option_copied, IfOk, OnOk, OnErr};
+ghost use Rattle.std.specs.Prelude.{◌≡◌, ◌↔◌, IsTrue, length, replicate, is_none, slice_index_or, slice_set, None, option_copied, IfOk, OnOk, OnErr};
 ghost use Rattle.std.specs.List.{list_all};
 ghost use Rattle.bt_text.specs.Sparse.{filled_from};
 

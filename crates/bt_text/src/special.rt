@@ -1,6 +1,6 @@
 //! Control sequences, and the foreign letters among them.
 
-ghost use Rattle.std.specs.Prelude.{◌≡◌, ◌≤◌, length, take, drop, take_while};
+ghost use Rattle.std.specs.Prelude.{◌≡◌, ◌≤◌, length, take, drop};
 ghost use Rattle.bt_text.specs.ByteTests.{is_letter};
 ghost use Rattle.bt_text.specs.NameList.{is_among};
 ghost use Rattle.bt_text.specs.Special.{control_gap, control_name, is_foreign, letters_of, without_large_form};

@@ -1,6 +1,6 @@
 //! How wide a text is printed.
 
-ghost use Rattle.std.specs.Prelude.{◌≡◌, ◌≤◌, ◌*◌, ◌+◌, ◌<◌, length, slice_index, sum_by};
+ghost use Rattle.std.specs.Prelude.{◌≡◌, ◌≤◌, ◌*◌, ◌<◌, length, slice_index, sum_by};
 ghost use Rattle.bt_text.specs.Pieces.{block_pieces};
 ghost use Rattle.bt_text.specs.Special.{plain, symbols};
 ghost use Rattle.bt_text.specs.Widths.{byte_width, control_width, piece_width, symbol_width, width_of, widths};

@@ -181,7 +181,6 @@ impl<'a> Memory<'a> {
 }
 
 impl Folder for Memory<'_> {
-    ghost use Rattle.bt_one_shot.specs.Folders.{Seen};
     ghost use Rattle.fakes.specs.Held.{held_in};
 
     ghost seen = { λ m. record {

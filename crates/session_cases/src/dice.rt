@@ -1,6 +1,5 @@
 //! Random choices from a seed.
 
-use rand_core::{Rng, SeedableRng};
 use rand_xoshiro::Xoshiro256PlusPlus;
 
 #[derive(Drop)]

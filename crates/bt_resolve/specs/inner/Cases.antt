@@ -34,7 +34,6 @@ use Rattle.bt_resolve.specs.Messages.{stored_messages, string_messages, preamble
 use Rattle.bt_resolve.specs.Listed.{place_of_key, parent_of, is_among, cited_places, uncited_parents}
 use Rattle.bt_resolve.specs.Inherited.{inherited, is_left_out, key_spelled, entry_seen}
 use Rattle.bt_resolve.specs.References.{bad_reference, nested}
-use Rattle.bt_resolve.specs.Resolved.{preamble}
 
 -- Values
 

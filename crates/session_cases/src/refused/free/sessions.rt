@@ -1,6 +1,6 @@
 //! Sessions: what they answer, edits that they refuse, and commands of the loop that change nothing.
 
-ghost use Rattle.std.specs.Prelude.{◌≡◌, ◌<◌, ◌^◌, ◌-◌};
+ghost use Rattle.std.specs.Prelude.{◌<◌, ◌^◌, ◌-◌};
 
 use crate::refused::free::Free;
 use crate::refused::sessions::{begun, drafted};
