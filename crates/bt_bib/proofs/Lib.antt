@@ -9,14 +9,13 @@ pub mod SeekLemmas
 pub mod PieceLemmas
 pub mod AlikeLemmas
 pub mod SameLemmas
-pub mod FieldMoveLemmas
-pub mod PieceMoveLemmas
+pub mod SameFieldLemmas
+pub mod SamePieceLemmas
 pub mod BoundaryLemmas
 pub mod KeptLemmas
 pub mod RiseLemmas
-pub mod SmallLemmas
-pub mod SpliceLemmas
 pub mod PlacedLemmas
+pub mod SpliceLemmas
 pub mod SplitLemmas
 pub mod laws
 mod rows

@@ -1,190 +1,91 @@
--- Pieces that are kept apart from where they stand: read so, and taken over to another place.
+-- The places of a text's pieces lie in it, and a piece is read as a text of its own.
 use Rattle.std.specs.Prelude.{All}
 use Rattle.std.specs.List.{AllByRecursion}
-use Rattle.std.proofs.Common.{◌≡◌, ℕ, ◌+◌, ◌-◌, ◌<◌, ◌≤◌, ◌^◌, List, [], ◌∷◌, ◌++◌, length, length-drop, take, drop, map, Option, Some, None, refl, sym, ap, subst, ◌∙◌, arith}
-use Rattle.std.proofs.lemmas.List.{take-append-drop}
-use Rattle.std.proofs.lemmas.List.Elements.{All-from_recursion, recursion_from_All, All-map}
+use Rattle.std.proofs.Common.{◌≡◌, ℕ, zero, suc, ◌+◌, ◌<◌, ◌^◌, List, [], ◌∷◌, ◌++◌, length, drop, map, Option, Some, None, Ok, sym, ap, subst, ◌∙◌, length-append, length-drop, arith}
+use Rattle.std.proofs.lemmas.List.{drop-drop}
+use Rattle.std.proofs.lemmas.List.Elements.{All-from_recursion}
+use Rattle.std.proofs.lemmas.List.Sums.{count_by-le-length}
 use Rattle.bt_bib.specs.declared.spot.Spot.{Spot}
-use Rattle.bt_bib.specs.declared.item.Part.{Part}
-use Rattle.bt_bib.specs.declared.item.Part.TheVariants.{Text, Macro}
-use Rattle.bt_bib.specs.declared.item.Field.{Field}
-use Rattle.bt_bib.specs.declared.item.Content.{Content}
-use Rattle.bt_bib.specs.declared.item.Content.TheVariants as contents
 use Rattle.bt_bib.specs.declared.item.Piece.{Piece}
-use Rattle.bt_bib.specs.declared.item.Piece.TheVariants as pieces
-use Rattle.bt_bib.specs.Spot.{Here, at, here, start, after_byte}
+use Rattle.bt_bib.specs.declared.placed_pieces.PlacedPiece.{PlacedPiece}
+use Rattle.bt_text.specs.ByteTests.{is_line_feed}
+use Rattle.bt_bib.specs.Spot.{Here, at, here, start, spot_from, here_from}
 use Rattle.bt_bib.specs.inner.Spot.{IsIn, IsAhead}
-use Rattle.bt_bib.specs.Pieces.{piece}
+use Rattle.bt_bib.specs.Scan.{first, after_run}
+use Rattle.bt_bib.specs.Pieces.{piece, placed, next_piece}
 use Rattle.bt_bib.specs.BibText.{pieces_of}
-use Rattle.bt_bib.specs.inner.Cases.{pieces_from}
-use Rattle.bt_bib.specs.Moved.{nowhere, moved, moved_part, moved_value, moved_field, moved_content, moved_piece}
-use Rattle.bt_bib.specs.Boundaries.{start_of, end_of, last_end}
-use Rattle.bt_bib.specs.Shift.{FitsPart, FitsSpot, FitsValue, FitsField, FitsContent, FitsPiece}
-use Rattle.bt_bib.specs.inner.Shift.{rebased, rebased_part, rebased_value, rebased_field, rebased_content, rebased_piece}
-use Rattle.bt_bib.specs.PlacedPieces.{IsPlaced}
-use Rattle.bt_bib.specs.inner.PlacedPieces.{BeginsAfter}
-use Rattle.bt_bib.proofs.RunLemmas.{same_spot}
-use Rattle.bt_bib.proofs.ReachLemmas.{Reaches, reaches_then, behind_reaches}
-use Rattle.bt_bib.proofs.PieceLemmas.{piece_reaches}
-use Rattle.bt_bib.proofs.AlikeLemmas.{Alike}
-use Rattle.bt_bib.proofs.PieceMoveLemmas.{piece_same}
-use Rattle.bt_bib.proofs.BoundaryLemmas.{piece_ends, here_reached, rest_law, moved_law}
-use Rattle.bt_bib.proofs.KeptLemmas.{piece_still}
-use Rattle.bt_bib.proofs.RiseLemmas.{piece_starts}
-use Rattle.bt_bib.proofs.SmallLemmas.{all_mapped, piece_small, fits_piece, SmallPiece}
-use Rattle.bt_bib.proofs.SpliceLemmas.{map_same, piece_rebased, in_reached}
+use Rattle.bt_bib.specs.inner.Cases.{pieces_from, is_text, next_piece_from}
+use Rattle.bt_bib.specs.inner.PlacedPieces.{rebased_piece, FitsPiece}
+use Rattle.bt_bib.proofs.ReachLemmas.{Reaches, reaches_then, past_reaches}
+use Rattle.bt_bib.proofs.ManyLemmas.{IsLess}
+use Rattle.bt_bib.proofs.PieceLemmas.{piece_ahead, placed_reaches, next_piece_less, next_piece_reaches}
+use Rattle.bt_bib.proofs.BoundaryLemmas.{here_reached, pieces_by, pieces_step}
 
--- where a moved piece begins and ends
-pub start_moved : (m : Spot) (p : Piece) → start_of (moved_piece m p) ≡ moved m (start_of p)
-start_moved m (pieces.Comment s e) = refl
-start_moved m (pieces.Item i) = refl
-
-from_nowhere : (s : Spot) → moved s nowhere ≡ s
-from_nowhere s = same_spot _ _ _ _ (omega arith) (omega arith)
-
-pub placed_start : (s e : Spot) (p : Piece) → IsPlaced s e p → s ≡ start_of (moved_piece s p)
-placed_start s e p is = sym (start_moved s p ∙ ap (moved s) is.begins ∙ from_nowhere s)
-
--- a copy at its place
-pub rebased_nowhere : (s : Spot) (p : Piece) → rebased_piece nowhere s p ≡ moved_piece s p
-rebased_nowhere s p = ap (rebased_piece nowhere s) (sym (piece_still p)) ∙ piece_rebased nowhere s p
-
--- taken over to another place
-abbrev pub Behind : Spot → Spot → Type 0
-Behind a s = (a.place ≤ s.place) × (a.line ≤ s.line)
-
-num_again : (x a b s : ℕ) → a ≤ s → x + s - a + b ≡ x + (s - a + b)
-num_again x a b s le = omega arith
-
-spot_again : (a b s : Spot) → Behind a s → (x : Spot) → rebased a b (moved s x) ≡ moved (rebased a b s) x
-spot_again a b s le x = same_spot _ _ _ _ (num_again x.place a.place b.place s.place le.0) (num_again x.line a.line b.line s.line le.1)
-
-part_again : (a b s : Spot) → Behind a s → (p : Part) → rebased_part a b (moved_part s p) ≡ moved_part (rebased a b s) p
-part_again a b s le (Text t) = refl
-part_again a b s le (Macro t line) = ap (Macro t) (num_again line a.line b.line s.line le.1)
-
-value_again : (a b s : Spot) → Behind a s → (v : Option (List Part)) → rebased_value a b (moved_value s v) ≡ moved_value (rebased a b s) v
-value_again a b s le None = refl
-value_again a b s le (Some parts) = ap (λ (v : List Part). Some v) (map_same (rebased_part a b) (moved_part s) (moved_part (rebased a b s)) (part_again a b s le) parts)
-
-field_again : (a b s : Spot) → Behind a s → (f : Field) → rebased_field a b (moved_field s f) ≡ moved_field (rebased a b s) f
-field_again a b s le f = rw (num_again f.line a.line b.line s.line le.1, map_same (rebased_part a b) (moved_part s) (moved_part (rebased a b s)) (part_again a b s le) f.value) refl
-
-content_again : (a b s : Spot) → Behind a s → (c : Content) → rebased_content a b (moved_content s c) ≡ moved_content (rebased a b s) c
-content_again a b s le (contents.Entry e) = rw (map_same (rebased_field a b) (moved_field s) (moved_field (rebased a b s)) (field_again a b s le) e.fields) refl
-content_again a b s le (contents.Define d) = rw (value_again a b s le d.value) refl
-content_again a b s le (contents.Preamble v) = ap (λ v. contents.Preamble v) (value_again a b s le v)
-
-piece_again : (a b s : Spot) → Behind a s → (p : Piece) → rebased_piece a b (moved_piece s p) ≡ moved_piece (rebased a b s) p
-piece_again a b s le (pieces.Comment x e) = rw (spot_again a b s le x, spot_again a b s le e) refl
-piece_again a b s le (pieces.Item i) = rw (spot_again a b s le i.start, spot_again a b s le i.end, num_again i.line a.line b.line s.line le.1, content_again a b s le i.content) refl
-
--- its numbers fit there too
-fits_number : (x a b s : ℕ) → a ≤ s → x + s - a + b < 2 ^ 64 → x - 0 + (s - a + b) < 2 ^ 64
-fits_number x a b s le lt = omega (arith, lt, le)
-
-fits_spot : (a b s : Spot) → Behind a s → (x : Spot) → FitsSpot a b (moved s x) → FitsSpot nowhere (rebased a b s) x
-fits_spot a b s le x f = (fits_number x.place a.place b.place s.place le.0 f.0, fits_number x.line a.line b.line s.line le.1 f.1)
-
-fits_part : (a b s : Spot) → Behind a s → (p : Part) → FitsPart a b (moved_part s p) → FitsPart nowhere (rebased a b s) p
-fits_part a b s le (Text t) f = tt
-fits_part a b s le (Macro t line) f = fits_number line a.line b.line s.line le.1 f
-
-fits_all : {A : Type 0} (f : A → A) (P Q : A → Type 0) → ((x : A) → P (f x) → Q x) → (xs : List A) → All P (map f xs) → All Q xs
-fits_all f P Q k xs all = All-from_recursion Q xs (all_mapped f P Q k xs (recursion_from_All P (map f xs) all))
-
-fits_parts : (a b s : Spot) → Behind a s → (ps : List Part) → All (FitsPart a b) (map (moved_part s) ps) → All (FitsPart nowhere (rebased a b s)) ps
-fits_parts a b s le ps all = fits_all (moved_part s) (FitsPart a b) (FitsPart nowhere (rebased a b s)) (fits_part a b s le) ps all
-
-fits_value : (a b s : Spot) → Behind a s → (v : Option (List Part)) → FitsValue a b (moved_value s v) → FitsValue nowhere (rebased a b s) v
-fits_value a b s le None f = tt
-fits_value a b s le (Some ps) f = fits_parts a b s le ps f
-
-fits_field : (a b s : Spot) → Behind a s → (f : Field) → FitsField a b (moved_field s f) → FitsField nowhere (rebased a b s) f
-fits_field a b s le f h = record { line = fits_number f.line a.line b.line s.line le.1 h.line; value = fits_parts a b s le f.value h.value }
-
-fits_content : (a b s : Spot) → Behind a s → (c : Content) → FitsContent a b (moved_content s c) → FitsContent nowhere (rebased a b s) c
-fits_content a b s le (contents.Entry e) h = fits_all (moved_field s) (FitsField a b) (FitsField nowhere (rebased a b s)) (fits_field a b s le) e.fields h
-fits_content a b s le (contents.Define d) h = fits_value a b s le d.value h
-fits_content a b s le (contents.Preamble v) h = fits_value a b s le v h
-
-fits_again : (a b s : Spot) → Behind a s → (p : Piece) → FitsPiece a b (moved_piece s p) → FitsPiece nowhere (rebased a b s) p
-fits_again a b s le (pieces.Comment x e) h = (fits_spot a b s le x h.0, fits_spot a b s le e h.1)
-fits_again a b s le (pieces.Item i) h = record {
-  start = fits_spot a b s le i.start h.start;
-  end = fits_spot a b s le i.end h.end;
-  line = fits_number i.line a.line b.line s.line le.1 h.line;
-  content = fits_content a b s le i.content h.content;
+pub in_reached : (text : List ℕ) (s : Spot) (e : Here) → IsIn text s → Reaches (here text s) e → IsIn text e.spot
+in_reached text s e i r = record {
+  place = omega (arith, ap length r.parts, length-append r.front e.rest, length-drop s.place text, ap (λ (u : Spot). u.place) r.spot, i.place);
+  line = omega (arith, count_by-le-length is_line_feed r.front, ap (λ (u : Spot). u.place) r.spot, ap (λ (u : Spot). u.line) r.spot, i.line);
 }
 
--- where it begins, seen from what it shows
-begins : (a s e : Spot) (p : Piece) → IsPlaced s e p → BeginsAfter a (moved_piece s p) → Behind a s
-begins a s e p is le = subst (Behind a) (sym (placed_start s e p is)) le
+-- all spots of a text's pieces lie in it
+abbrev LiesIn : List ℕ → PlacedPiece → Type 0
+LiesIn text p = IsIn text p.start × IsIn text p.end
 
--- what a piece's place and end fit
+abbrev LieBy : List ℕ → Option PlacedPiece × Here → Type 0
+LieBy text (None, e) = Unit {0}
+LieBy text (Some p, e) = LiesIn text p
 
--- a piece that is taken over
-pub taken_over : (a b s e t u : Spot) (p q : Piece) → IsPlaced s e p → FitsPiece a b (moved_piece s p) → BeginsAfter a (moved_piece s p) → t ≡ rebased a b s → u ≡ rebased a b e → q ≡ p → IsPlaced t u q
-taken_over a b s e t u p q is fits le is_start is_end same =
-    let back = begins a s e p is le in
-    let start : start_of q ≡ nowhere = ap start_of same ∙ is.begins in
-    let ends : u ≡ moved t (end_of q) = is_end ∙ ap (rebased a b) is.ends ∙ spot_again a b s back (end_of p) ∙ ap (λ x. moved x (end_of p)) (sym is_start) ∙ ap (λ x. moved t (end_of x)) (sym same) in
-    let there : FitsPiece nowhere t p = subst (λ x. FitsPiece nowhere x p) (sym is_start) (fits_again a b s back p fits) in
-    record { begins = start; ends = ends; fits = subst (λ x. FitsPiece nowhere t x) (sym same) there }
+lie_at : (text : List ℕ) (s : Spot) (g : Here) (o : Option ℕ) → IsIn text s → Reaches (here text s) g → LieBy text (next_piece_from g o)
+lie_at text s g None i r = tt
+lie_at text s g (Some b) i r = (in_reached text s g i r, in_reached text s (here_from g.spot (piece g.rest).1) i (reaches_then (here text s) g (here_from g.spot (piece g.rest).1) r (placed_reaches g (piece g.rest).1 (piece_ahead g.rest))))
 
-pub shown_over : (a b s e t : Spot) (p q : Piece) → IsPlaced s e p → BeginsAfter a (moved_piece s p) → t ≡ rebased a b s → q ≡ p → moved_piece t q ≡ rebased_piece a b (moved_piece s p)
-shown_over a b s e t p q is le is_start same = ap (moved_piece t) same ∙ ap (λ x. moved_piece x p) is_start ∙ sym (piece_again a b s (begins a s e p is le) p)
+lie_next : (text : List ℕ) (s : Spot) → IsIn text s → LieBy text (next_piece (here text s))
+unfolding next_piece
+lie_next text s i = (let g = after_run is_text (here text s) in lie_at text s g (first g.rest) i (past_reaches is_text (here text s)))
+
+lie_step : (text : List ℕ) (s : Spot) (x : Option PlacedPiece × Here) → IsIn text s → Reaches (here text s) x.1 → IsLess (here text s) (Ok x) → LieBy text x → ((e : Spot) → IsIn text e → length (drop e.place text) < length (drop s.place text) → AllByRecursion (LiesIn text) (pieces_from (here text e))) → AllByRecursion (LiesIn text) (pieces_by x)
+lie_step text s (None, e) i r less lie step = tt
+lie_step text s (Some p, e) i r less lie step =
+    let there = here_reached text s e r in
+    (lie, subst (λ k. AllByRecursion (LiesIn text) (pieces_from k)) (sym there) (step e.spot (in_reached text s e i r) (subst (λ (k : Here). length k.rest < length (drop s.place text)) there less)))
+
+lie_below : (n : ℕ) (text : List ℕ) (s : Spot) → IsIn text s → length (drop s.place text) < n → AllByRecursion (LiesIn text) (pieces_from (here text s))
+lie_below zero text s i lt = absurd (omega arith)
+lie_below (suc n) text s i lt =
+    let h = here text s in
+    subst (AllByRecursion (LiesIn text)) (sym (pieces_step h)) (lie_step text s (next_piece h) i (next_piece_reaches h) (next_piece_less h) (lie_next text s i) (λ e j less. lie_below n text e j (omega (arith, less, lt))))
+
+pieces_lie : (text : List ℕ) → AllByRecursion (LiesIn text) (pieces_of text)
+unfolding pieces_of
+pieces_lie text = lie_below (suc (length text)) text start (record { place = omega arith; line = omega arith }) (omega arith)
+
+-- so the places of a copy that is one of these pieces fit
+all_last : {A : Type 0} (P : A → Type 0) (xs ys : List A) → AllByRecursion P (xs ++ ys) → AllByRecursion P ys
+all_last P [] ys h = h
+all_last P (x ∷ xs) ys h = all_last P xs ys h.1
+
+fits : (text : List ℕ) (a b : Spot) (ps : List PlacedPiece) → length text + 1 < 2 ^ 64 → AllByRecursion (LiesIn text) (map (rebased_piece a b) ps) → AllByRecursion (FitsPiece a b) ps
+fits text a b [] lt h = tt
+fits text a b (p ∷ ps) lt h =
+    let s = h.0.0 in
+    let e = h.0.1 in
+    (((omega (arith, lt, s.place), omega (arith, lt, s.place, s.line)), (omega (arith, lt, e.place), omega (arith, lt, e.place, e.line))), fits text a b ps lt h.1)
+
+pub last_ones_fit : (text : List ℕ) (front back : List PlacedPiece) (a b : Spot) → length text + 1 < 2 ^ 64 → pieces_of text ≡ front ++ map (rebased_piece a b) back → All (FitsPiece a b) back
+last_ones_fit text front back a b lt is = All-from_recursion (FitsPiece a b) back (fits text a b back lt (all_last (LiesIn text) front (map (rebased_piece a b) back) (subst (AllByRecursion (LiesIn text)) is (pieces_lie text))))
 
 -- a piece that is read from its `@` on
-
 pub record ReadApart (text : List ℕ) (s e : Spot) (p : Piece) : Type 0 where
-  pub shown : piece (here text s) ≡ (moved_piece s p, here text (moved s e))
-  pub ahead : IsAhead text s (moved s e)
-  pub placed : IsPlaced s (moved s e) p
+  pub shown : placed s (piece (drop s.place text)) ≡ (record { start = s; end = spot_from s e; piece = p }, here text (spot_from s e))
+  pub ahead : IsAhead text s (spot_from s e)
 
-in_place : (text : List ℕ) (s : Spot) → IsIn text s → (e : Here) → Reaches (here text s) e → IsIn text e.spot
-in_place text s i e r = in_reached text s e i r
-
-pub read_apart : (text : List ℕ) (s e : Spot) (p : Piece) → length text + 1 < 2 ^ 64 → IsIn text s → piece (here (drop s.place text) nowhere) ≡ (p, here (drop s.place text) e) → ReadApart text s e p
-read_apart text s e p lt i is =
-    let rest = drop s.place text in
-    let h = here rest nowhere in
-    let k = here text s in
-    let reached : Reaches k (piece k).1 = reaches_then k (after_byte k) (piece k).1 (behind_reaches k) (piece_reaches k) in
-    let limit = e.place + 1 in
-    let a : Alike s limit h k = record { spot = sym (from_nowhere s); rest = refl } in
-    let at_end : (piece h).1.spot ≡ e = ap (λ (x : Piece × Here). x.1.spot) is in
-    let same = (piece_same s limit h k (omega arith) a).alike (omega (arith, ap (λ (x : Spot). x.place) at_end)) in
-    let shown : (piece k).0 ≡ moved_piece s p = same.0 ∙ ap (λ (x : Piece × Here). moved_piece s x.0) is in
-    let end : (piece k).1.spot ≡ moved s e = same.1.spot ∙ ap (moved s) at_end in
-    let whole : piece k ≡ (moved_piece s p, here text (moved s e)) = ap (λ x. ((piece k).0, x)) (here_reached text s (piece k).1 reached) ∙ rw (shown, end) refl in
-    let inside : IsIn text (moved s e) = subst (IsIn text) end (in_place text s i (piece k).1 reached) in
-    let begins : start_of p ≡ nowhere = ap (λ (x : Piece × Here). start_of x.0) (sym is) ∙ piece_starts h in
-    let ends : e ≡ end_of p = sym at_end ∙ sym (piece_ends h) ∙ ap (λ (x : Piece × Here). end_of x.0) is in
-    let small : SmallPiece (length text + 1) (rebased_piece nowhere s p) = subst (SmallPiece (length text + 1)) (shown ∙ sym (rebased_nowhere s p)) (piece_small (length text + 1) k (record { place = omega (arith, i.place, length-drop s.place text); line = i.line })) in
+pub read_apart : (text : List ℕ) (s e : Spot) (p : Piece) → IsIn text s → piece (drop s.place text) ≡ (p, here (drop s.place text) e) → ReadApart text s e p
+read_apart text s e p i is =
+    let h = here text s in
+    let there : here_from s (here (drop s.place text) e) ≡ here text (spot_from s e) = ap (at (spot_from s e)) (drop-drop e.place s.place text ∙ ap (λ n. drop n text) (omega arith)) in
+    let reached : Reaches h (here text (spot_from s e)) = subst (Reaches h) (ap (λ (x : Piece × Here). here_from s x.1) is ∙ there) (placed_reaches h (piece h.rest).1 (piece_ahead h.rest)) in
+    let inside = in_reached text s (here text (spot_from s e)) i reached in
     record {
-      shown = whole;
+      shown = ap (placed s) is ∙ ap (λ k. (let q : PlacedPiece = record { start = s; end = spot_from s e; piece = p } in (q, k))) there;
       ahead = record { order = omega arith; place = inside.place; line = inside.line };
-      placed = record { begins = begins; ends = ap (moved s) ends; fits = fits_piece (length text + 1) nowhere s lt p small };
     }
-
--- what stands after a boundary of a text begins after it
-every : {A : Type 0} (P : A → Type 0) → ((x : A) → P x) → (xs : List A) → AllByRecursion P xs
-every P k [] = tt
-every P k (x ∷ xs) = (k x, every P k xs)
-
-moved_behind : (a : Spot) (p : Piece) → BeginsAfter a (moved_piece a p)
-moved_behind a p = subst (Behind a) (sym (start_moved a p)) (omega arith, omega arith)
-
-all_behind : (a : Spot) (ps : List Piece) → All (λ p. BeginsAfter a (moved_piece a p)) ps
-all_behind a ps = All-from_recursion (λ p. BeginsAfter a (moved_piece a p)) ps (every (λ p. BeginsAfter a (moved_piece a p)) (moved_behind a) ps)
-
-pub rest_behind : (text : List ℕ) (ps : List Piece) (count : ℕ) (a : Spot) → ps ≡ pieces_of text → a ≡ last_end start (take count ps) → All (BeginsAfter a) (drop count ps)
-unfolding pieces_of
-rest_behind text ps count a is last =
-    let front = take count ps in
-    let r = drop a.place text in
-    let parts : pieces_from (here text start) ≡ front ++ drop count ps = sym is ∙ sym (take-append-drop count ps) in
-    let rest : drop count ps ≡ pieces_from (here text a) = rest_law text start front (drop count ps) parts ∙ ap (λ s. pieces_from (here text s)) (sym last) in
-    let own : pieces_from (here text a) ≡ map (moved_piece a) (pieces_from (at nowhere r)) = ap (λ s. pieces_from (at s r)) (sym (from_nowhere a)) ∙ moved_law a nowhere r in
-    subst (All (BeginsAfter a)) (sym (rest ∙ own)) (All-map (BeginsAfter a) (moved_piece a) (pieces_from (at nowhere r)) (all_behind a (pieces_from (at nowhere r))))

@@ -1,104 +1,47 @@
 -- What is kept of a text, what is read again, and what is moved.
 use Rattle.std.specs.Prelude.{nat_lt, nat_le, ◌==◌, ◌&&◌}
-use Rattle.std.proofs.Common.{◌≡◌, ℕ, ◌+◌, ◌-◌, ◌<◌, ◌≤◌, Bool, true, false, cond, List, [], ◌∷◌, ◌++◌, length, take, drop, map, Option, Some, None, refl, sym, ap, subst, ◌∙◌, append_assoc, length-append, length-drop, arith, inl, inr}
+use Rattle.std.proofs.Common.{◌≡◌, ℕ, ◌+◌, ◌-◌, ◌<◌, ◌≤◌, Bool, true, false, cond, List, [], ◌∷◌, ◌++◌, length, take, drop, map, Some, None, refl, sym, ap, subst, ◌∙◌, append_assoc, length-append, arith, inl, inr}
 use Rattle.std.proofs.lemmas.List.{drop-drop, append-nil, take_at, drop_at, length-take-le, take-append-drop}
 use Rattle.std.proofs.lemmas.Bool.{cases_lt, lt-leb, le-leb, leb-true, ltb-true}
-use Rattle.std.proofs.lemmas.List.Sums.{count_by-le-length}
 use Rattle.bt_bib.specs.declared.spot.Spot.{Spot}
-use Rattle.bt_bib.specs.declared.item.Part.{Part}
-use Rattle.bt_bib.specs.declared.item.Part.TheVariants.{Text, Macro}
-use Rattle.bt_bib.specs.declared.item.Field.{Field}
-use Rattle.bt_bib.specs.declared.item.Content.{Content}
-use Rattle.bt_bib.specs.declared.item.Content.TheVariants as contents
-use Rattle.bt_bib.specs.declared.item.Piece.{Piece}
-use Rattle.bt_bib.specs.declared.item.Piece.TheVariants as pieces
-use Rattle.bt_text.specs.ByteTests.{is_line_feed}
-use Rattle.bt_bib.specs.Spot.{Here, at, here, start}
+use Rattle.bt_bib.specs.declared.placed_pieces.PlacedPiece.{PlacedPiece}
+use Rattle.bt_bib.specs.Spot.{at, here, start, item_start, spot_from}
 use Rattle.bt_bib.specs.inner.Spot.{IsIn}
 use Rattle.bt_bib.specs.Pieces.{next_piece}
 use Rattle.bt_bib.specs.BibText.{pieces_of}
 use Rattle.bt_bib.specs.inner.Cases.{pieces_from}
-use Rattle.bt_bib.specs.Moved.{nowhere, moved, moved_part, moved_value, moved_field, moved_content, moved_piece}
-use Rattle.bt_bib.specs.Boundaries.{end_of, last_end, Rises}
+use Rattle.bt_bib.specs.Boundaries.{last_end, Rises, moved_piece}
 use Rattle.bt_bib.specs.inner.Boundaries.{below, InOrder}
 use Rattle.bt_bib.specs.Splice.{IsSplice, is_common, is_boundary, reread_from, reread_upto}
 use Rattle.bt_bib.specs.inner.CommonBoundary.{until, IsJoint}
-use Rattle.bt_bib.specs.inner.Shift.{rebased, rebased_part, rebased_value, rebased_field, rebased_content, rebased_piece}
+use Rattle.bt_bib.specs.inner.PlacedPieces.{rebased, rebased_piece}
 use Rattle.bt_bib.proofs.RunLemmas.{same_spot}
-use Rattle.bt_bib.proofs.ReachLemmas.{Reaches}
-use Rattle.bt_bib.proofs.AlikeLemmas.{Alike}
+use Rattle.bt_bib.proofs.PlacedLemmas.{in_reached}
 use Rattle.bt_bib.proofs.BoundaryLemmas.{rest_law, moved_law, EndsAt, next_ends, pieces_by, pieces_step}
-use Rattle.bt_bib.proofs.KeptLemmas.{kept_law, keeps, still, map_still}
+use Rattle.bt_bib.proofs.KeptLemmas.{kept_law, keeps}
 use Rattle.bt_bib.proofs.RiseLemmas.{spans_rise, below_zero, from_is_greatest, first_boundary, least_is_first, boundary_is_last}
 
--- moved to one spot, or to another
-num_rebased : (x a b : ℕ) → x + a - a + b ≡ x + b
-num_rebased x a b = omega arith
-
-spot_rebased : (a b s : Spot) → rebased a b (moved a s) ≡ moved b s
-spot_rebased a b s = same_spot _ _ _ _ (num_rebased s.place a.place b.place) (num_rebased s.line a.line b.line)
-
-part_rebased : (a b : Spot) (p : Part) → rebased_part a b (moved_part a p) ≡ moved_part b p
-part_rebased a b (Text t) = refl
-part_rebased a b (Macro t line) = ap (Macro t) (num_rebased line a.line b.line)
-
-pub map_same : {A : Type 0} (f g k : A → A) → ((x : A) → f (g x) ≡ k x) → (xs : List A) → map f (map g xs) ≡ map k xs
-map_same f g k e [] = refl
-map_same f g k e (x ∷ xs) = rw (e x, map_same f g k e xs) refl
-
-value_rebased : (a b : Spot) (v : Option (List Part)) → rebased_value a b (moved_value a v) ≡ moved_value b v
-value_rebased a b None = refl
-value_rebased a b (Some parts) = ap (λ (v : List Part). Some v) (map_same (rebased_part a b) (moved_part a) (moved_part b) (part_rebased a b) parts)
-
-field_rebased : (a b : Spot) (f : Field) → rebased_field a b (moved_field a f) ≡ moved_field b f
-field_rebased a b f = rw (num_rebased f.line a.line b.line, map_same (rebased_part a b) (moved_part a) (moved_part b) (part_rebased a b) f.value) refl
-
-content_rebased : (a b : Spot) (c : Content) → rebased_content a b (moved_content a c) ≡ moved_content b c
-content_rebased a b (contents.Entry e) = rw (map_same (rebased_field a b) (moved_field a) (moved_field b) (field_rebased a b) e.fields) refl
-content_rebased a b (contents.Define d) = rw (value_rebased a b d.value) refl
-content_rebased a b (contents.Preamble v) = ap (λ v. contents.Preamble v) (value_rebased a b v)
-
-pub piece_rebased : (a b : Spot) (p : Piece) → rebased_piece a b (moved_piece a p) ≡ moved_piece b p
-piece_rebased a b (pieces.Comment s e) = rw (spot_rebased a b s, spot_rebased a b e) refl
-piece_rebased a b (pieces.Item i) = rw (spot_rebased a b i.start, spot_rebased a b i.end, num_rebased i.line a.line b.line, content_rebased a b i.content) refl
-
 -- after a boundary that both texts have, the pieces are the old ones moved
+spot_rebased : (a b s : Spot) → rebased a b (spot_from a s) ≡ spot_from b s
+spot_rebased a b s = same_spot _ _ _ _ (omega arith) (omega arith)
+
+all_rebased : (a b : Spot) (ps : List PlacedPiece) → map (rebased_piece a b) (map (moved_piece a) ps) ≡ map (moved_piece b) ps
+all_rebased a b [] = refl
+all_rebased a b (p ∷ ps) = rw (spot_rebased a b p.start, spot_rebased a b p.end, all_rebased a b ps) refl
+
 pub rebased_law : (a b : Spot) (r : List ℕ) → pieces_from (at b r) ≡ map (rebased_piece a b) (pieces_from (at a r))
 rebased_law a b r =
-    let none : Spot = record { place = 0; line = 0 } in
-    let from : (s : Spot) → moved s none ≡ s = λ s. same_spot _ _ _ _ (omega arith) (omega arith) in
-    let to : (s : Spot) → pieces_from (at s r) ≡ map (moved_piece s) (pieces_from (at none r)) = λ s. ap (λ u. pieces_from (at u r)) (sym (from s)) ∙ moved_law s none r in
-    to b ∙ sym (map_same (rebased_piece a b) (moved_piece a) (moved_piece b) (piece_rebased a b) (pieces_from (at none r))) ∙ ap (map (rebased_piece a b)) (sym (to a))
+    let own = pieces_from (at item_start r) in
+    let from : (s : Spot) → pieces_from (at s r) ≡ map (moved_piece s) own = λ s. ap (λ u. pieces_from (at u r)) (same_spot _ _ _ _ (omega arith) (omega arith)) ∙ moved_law s item_start r in
+    from b ∙ sym (all_rebased a b own) ∙ ap (map (rebased_piece a b)) (sym (from a))
 
 -- a copy that moves nowhere
-still_number : (n : ℕ) → n - 0 + 0 ≡ n
-still_number n = omega arith
+still_spot : (s : Spot) → rebased item_start item_start s ≡ s
+still_spot s = same_spot _ _ _ _ (omega arith) (omega arith)
 
-still_spot : (s : Spot) → rebased nowhere nowhere s ≡ s
-still_spot s = same_spot _ _ _ _ (still_number s.place) (still_number s.line)
-
-still_part : (p : Part) → rebased_part nowhere nowhere p ≡ p
-still_part (Text t) = refl
-still_part (Macro t line) = ap (Macro t) (still_number line)
-
-still_value : (v : Option (List Part)) → rebased_value nowhere nowhere v ≡ v
-still_value None = refl
-still_value (Some parts) = ap (λ (v : List Part). Some v) (map_still (rebased_part nowhere nowhere) still_part parts)
-
-still_field : (f : Field) → rebased_field nowhere nowhere f ≡ f
-still_field f = rw (still_number f.line, map_still (rebased_part nowhere nowhere) still_part f.value) refl
-
-still_content : (c : Content) → rebased_content nowhere nowhere c ≡ c
-still_content (contents.Entry e) = rw (map_still (rebased_field nowhere nowhere) still_field e.fields) refl
-still_content (contents.Define d) = rw (still_value d.value) refl
-still_content (contents.Preamble v) = ap (λ v. contents.Preamble v) (still_value v)
-
-still_piece : (p : Piece) → rebased_piece nowhere nowhere p ≡ p
-still_piece (pieces.Comment s e) = rw (still_spot s, still_spot e) refl
-still_piece (pieces.Item i) = rw (still_spot i.start, still_spot i.end, still_number i.line, still_content i.content) refl
-
-pub all_still : (ps : List Piece) → map (rebased_piece nowhere nowhere) ps ≡ ps
-all_still ps = map_still (rebased_piece nowhere nowhere) still_piece ps
+pub all_still : (ps : List PlacedPiece) → map (rebased_piece item_start item_start) ps ≡ ps
+all_still [] = refl
+all_still (p ∷ ps) = rw (still_spot p.start, still_spot p.end, all_still ps) refl
 
 -- what a splice leaves
 begin_taken : (old new : List ℕ) (begin end inserted : ℕ) → IsSplice old new begin end inserted → length (take begin old) ≡ begin
@@ -111,17 +54,17 @@ pub same_back : (old new : List ℕ) (begin end inserted : ℕ) → IsSplice old
 same_back old new begin end inserted is = ap (drop (begin + inserted)) is.text ∙ drop_at (take begin old ++ is.bytes) (drop end old) (begin + inserted) (omega (arith, length-append (take begin old) is.bytes, begin_taken old new begin end inserted is, is.count))
 
 -- those up to a boundary are a front of all
-abbrev pub behind_until : (ℕ → Bool) → Spot → List Piece → List Piece
+abbrev pub behind_until : (ℕ → Bool) → Spot → List PlacedPiece → List PlacedPiece
 behind_until test s [] = []
-behind_until test s (p ∷ ps) = cond (test s.place) (p ∷ ps) (behind_until test (end_of p) ps)
+behind_until test s (p ∷ ps) = cond (test s.place) (p ∷ ps) (behind_until test p.end ps)
 
-split_if : (b : Bool) (p : Piece) (ps xs ys : List Piece) → ps ≡ xs ++ ys → p ∷ ps ≡ cond b [] (p ∷ xs) ++ cond b (p ∷ ps) ys
+split_if : (b : Bool) (p : PlacedPiece) (ps xs ys : List PlacedPiece) → ps ≡ xs ++ ys → p ∷ ps ≡ cond b [] (p ∷ xs) ++ cond b (p ∷ ps) ys
 split_if true p ps xs ys e = refl
-split_if false p ps xs ys e = ap (λ (l : List Piece). p ∷ l) e
+split_if false p ps xs ys e = ap (λ (l : List PlacedPiece). p ∷ l) e
 
-until_splits : (test : ℕ → Bool) (s : Spot) (ps : List Piece) → ps ≡ until test s ps ++ behind_until test s ps
+until_splits : (test : ℕ → Bool) (s : Spot) (ps : List PlacedPiece) → ps ≡ until test s ps ++ behind_until test s ps
 until_splits test s [] = refl
-until_splits test s (p ∷ ps) = split_if (test s.place) p ps (until test (end_of p) ps) (behind_until test (end_of p) ps) (until_splits test (end_of p) ps)
+until_splits test s (p ∷ ps) = split_if (test s.place) p ps (until test p.end ps) (behind_until test p.end ps) (until_splits test p.end ps)
 
 -- what is kept, and what is read from there on
 pub kept_pieces : (old new : List ℕ) (begin end inserted : ℕ) → IsSplice old new begin end inserted → pieces_of new ≡ below begin (pieces_of old) ++ pieces_from (here new (last_end start (below begin (pieces_of old))))
@@ -142,10 +85,10 @@ respliced_law old new begin end inserted is test =
     let all : begin - 0 ≡ begin = omega arith in
     let front : take (begin - 0) old ≡ take (begin - 0) new = ap (λ n. take n old) all ∙ sym (same_front old new begin end inserted is) ∙ ap (λ n. take n new) (sym all) in
     kept_law old new start begin front
-    ∙ ap (λ (l : List Piece). kept ++ l) (until_splits test from ps ∙ ap (λ (l : List Piece). until test from ps ++ l) (rest_law new from (until test from ps) (behind_until test from ps) (until_splits test from ps)))
+    ∙ ap (λ (l : List PlacedPiece). kept ++ l) (until_splits test from ps ∙ ap (λ (l : List PlacedPiece). until test from ps ++ l) (rest_law new from (until test from ps) (behind_until test from ps) (until_splits test from ps)))
 
 -- after a boundary that both texts have, the old pieces are moved
-pub joined_law : (old new : List ℕ) (begin end inserted : ℕ) → IsSplice old new begin end inserted → (front back : List Piece) (b : Spot) → pieces_of old ≡ front ++ back → begin + inserted ≤ b.place → (last_end start front).place + (begin + inserted) ≡ b.place + end → pieces_from (here new b) ≡ map (rebased_piece (last_end start front) b) back
+pub joined_law : (old new : List ℕ) (begin end inserted : ℕ) → IsSplice old new begin end inserted → (front back : List PlacedPiece) (b : Spot) → pieces_of old ≡ front ++ back → begin + inserted ≤ b.place → (last_end start front).place + (begin + inserted) ≡ b.place + end → pieces_from (here new b) ≡ map (rebased_piece (last_end start front) b) back
 unfolding pieces_of
 joined_law old new begin end inserted is front back b parts le place =
     let a = last_end start front in
@@ -156,72 +99,65 @@ joined_law old new begin end inserted is front back b parts le place =
     ap (λ r. pieces_from (at b r)) same ∙ rebased_law a b (drop a.place old) ∙ ap (map (rebased_piece a b)) (sym (rest_law old start front back parts))
 
 -- a loop that reads on up to such a boundary
-pub until_done : (test : ℕ → Bool) (s : Spot) (ps : List Piece) → test s.place ≡ true → until test s ps ≡ []
+pub until_done : (test : ℕ → Bool) (s : Spot) (ps : List PlacedPiece) → test s.place ≡ true → until test s ps ≡ []
 until_done test s [] h = refl
 until_done test s (p ∷ ps) h = rw h refl
 
-pub until_more : (test : ℕ → Bool) (s : Spot) (p : Piece) (ps : List Piece) → test s.place ≡ false → until test s (p ∷ ps) ≡ p ∷ until test (end_of p) ps
+pub until_more : (test : ℕ → Bool) (s : Spot) (p : PlacedPiece) (ps : List PlacedPiece) → test s.place ≡ false → until test s (p ∷ ps) ≡ p ∷ until test p.end ps
 until_more test s p ps h = rw h refl
 
 pub ends_here : (text : List ℕ) (s e : Spot) → next_piece (here text s) ≡ (None, here text e) → pieces_from (here text s) ≡ []
 ends_here text s e is = pieces_step (here text s) ∙ ap pieces_by is
 
-pub goes_on : (text : List ℕ) (s e : Spot) (p : Piece) → next_piece (here text s) ≡ (Some p, here text e) → (pieces_from (here text s) ≡ p ∷ pieces_from (here text e)) × (end_of p ≡ e)
+pub goes_on : (text : List ℕ) (s e : Spot) (p : PlacedPiece) → next_piece (here text s) ≡ (Some p, here text e) → (pieces_from (here text s) ≡ p ∷ pieces_from (here text e)) × (p.end ≡ e)
 goes_on text s e p is = (pieces_step (here text s) ∙ ap pieces_by is, subst EndsAt is (next_ends (here text s)))
 
 -- nothing more comes
-pub nothing_more : (items u t : List Piece) → u ≡ [] → items ++ u ≡ t → items ≡ t
+pub nothing_more : (items u t : List PlacedPiece) → u ≡ [] → items ++ u ≡ t → items ≡ t
 nothing_more items u t none so_far = sym (append-nil items) ∙ ap (λ l. items ++ l) (sym none) ∙ so_far
 
 pub none_until : (test : ℕ → Bool) (text : List ℕ) (s e : Spot) → next_piece (here text s) ≡ (None, here text e) → until test s (pieces_from (here text s)) ≡ []
 none_until test text s e is = ap (until test s) (ends_here text s e is)
 
 -- one more piece was read again
-pub one_until : (test : ℕ → Bool) (text : List ℕ) (s e : Spot) (p : Piece) → test s.place ≡ false → next_piece (here text s) ≡ (Some p, here text e) → until test s (pieces_from (here text s)) ≡ p ∷ until test e (pieces_from (here text e))
+pub one_until : (test : ℕ → Bool) (text : List ℕ) (s e : Spot) (p : PlacedPiece) → test s.place ≡ false → next_piece (here text s) ≡ (Some p, here text e) → until test s (pieces_from (here text s)) ≡ p ∷ until test e (pieces_from (here text e))
 one_until test text s e p h is =
     let on = goes_on text s e p is in
     ap (until test s) on.0 ∙ until_more test s p (pieces_from (here text e)) h ∙ ap (λ u. p ∷ until test u (pieces_from (here text e))) on.1
 
-pub one_more : (items u v t : List Piece) (p : Piece) → u ≡ p ∷ v → items ++ u ≡ t → (items ++ p ∷ []) ++ v ≡ t
+pub one_more : (items u v t : List PlacedPiece) (p : PlacedPiece) → u ≡ p ∷ v → items ++ u ≡ t → (items ++ p ∷ []) ++ v ≡ t
 one_more items u v t p is so_far = append_assoc items (p ∷ []) v ∙ ap (λ l. items ++ l) (sym is) ∙ so_far
 
 -- The boundary that lies below the splice stands in the new text.
-pub in_reached : (text : List ℕ) (s : Spot) (e : Here) → IsIn text s → Reaches (here text s) e → IsIn text e.spot
-in_reached text s e i r = record {
-  place = omega (arith, ap length r.parts, length-append r.front e.rest, length-drop s.place text, ap (λ (u : Spot). u.place) r.spot, i.place);
-  line = omega (arith, count_by-le-length is_line_feed r.front, ap (λ (u : Spot). u.place) r.spot, ap (λ (u : Spot). u.line) r.spot, i.line);
-}
-
 pub from_in : (old new : List ℕ) (begin end inserted : ℕ) → IsSplice old new begin end inserted → IsIn new (last_end start (below begin (pieces_of old)))
 unfolding pieces_of
 from_in old new begin end inserted is =
     let all : begin - 0 ≡ begin = omega arith in
-    let a : Alike nowhere begin (here old start) (here new start) = record { spot = sym (still start); rest = ap (λ n. take n old) all ∙ sym (same_front old new begin end inserted is) ∙ ap (λ n. take n new) (sym all) } in
-    let k = keeps nowhere begin (here old start) (here new start) a in
-    subst (IsIn new) (k.spot ∙ still (last_end start (below begin (pieces_from (here old start))))) (in_reached new start k.on (record { place = omega arith; line = omega arith }) k.way)
+    let k = keeps begin (here old start) (here new start) (record { spot = refl; rest = ap (λ n. take n old) all ∙ sym (same_front old new begin end inserted is) ∙ ap (λ n. take n new) (sym all) }) in
+    subst (IsIn new) k.spot (in_reached new start k.on (record { place = omega arith; line = omega arith }) k.way)
 
 -- before the inserted bytes no boundary is common
-not_common : (begin end inserted : ℕ) (old : List Piece) (place : ℕ) → place < begin → is_common old begin end inserted place ≡ false
+not_common : (begin end inserted : ℕ) (old : List PlacedPiece) (place : ℕ) → place < begin → is_common old begin end inserted place ≡ false
 not_common begin end inserted old place lt = rw (lt-leb (begin + inserted) place (omega arith)) refl
 
 -- boundaries below the splice are passed over
-skip_if : (test : ℕ → Bool) (begin len : ℕ) (ys : List Piece) (s : Spot) (p : Piece) (ps : List Piece) (b : Bool) → test s.place ≡ false → (b ≡ true → first_boundary test len (end_of p) (below begin ps ++ ys) ≡ first_boundary test len (last_end (end_of p) (below begin ps)) ys) → first_boundary test len s (cond b (p ∷ below begin ps) [] ++ ys) ≡ first_boundary test len (last_end s (cond b (p ∷ below begin ps) [])) ys
+skip_if : (test : ℕ → Bool) (begin len : ℕ) (ys : List PlacedPiece) (s : Spot) (p : PlacedPiece) (ps : List PlacedPiece) (b : Bool) → test s.place ≡ false → (b ≡ true → first_boundary test len p.end (below begin ps ++ ys) ≡ first_boundary test len (last_end p.end (below begin ps)) ys) → first_boundary test len s (cond b (p ∷ below begin ps) [] ++ ys) ≡ first_boundary test len (last_end s (cond b (p ∷ below begin ps) [])) ys
 skip_if test begin len ys s p ps true h k = rw h (k refl)
 skip_if test begin len ys s p ps false h k = refl
 
-skip_below : (test : ℕ → Bool) (begin len : ℕ) (ys : List Piece) → ((n : ℕ) → n < begin → test n ≡ false) → (s : Spot) (ps : List Piece) → s.place < begin → first_boundary test len s (below begin ps ++ ys) ≡ first_boundary test len (last_end s (below begin ps)) ys
+skip_below : (test : ℕ → Bool) (begin len : ℕ) (ys : List PlacedPiece) → ((n : ℕ) → n < begin → test n ≡ false) → (s : Spot) (ps : List PlacedPiece) → s.place < begin → first_boundary test len s (below begin ps ++ ys) ≡ first_boundary test len (last_end s (below begin ps)) ys
 skip_below test begin len ys none s [] lt = refl
-skip_below test begin len ys none s (p ∷ ps) lt = skip_if test begin len ys s p ps (nat_lt (end_of p).place begin) (none s.place lt) (λ h. skip_below test begin len ys none (end_of p) ps (ltb-true (end_of p).place begin h))
+skip_below test begin len ys none s (p ∷ ps) lt = skip_if test begin len ys s p ps (nat_lt p.end.place begin) (none s.place lt) (λ h. skip_below test begin len ys none p.end ps (ltb-true p.end.place begin h))
 
 -- the first boundary that passes is where reading up to it stops
-found_if : (test : ℕ → Bool) (len : ℕ) (s : Spot) (p : Piece) (ps : List Piece) (b : Bool) → test s.place ≡ b → (b ≡ false → first_boundary test len (end_of p) ps ≡ cond (test (last_end (end_of p) (until test (end_of p) ps)).place) (last_end (end_of p) (until test (end_of p) ps)).place len)
-    → cond b s.place (first_boundary test len (end_of p) ps) ≡ cond (test (last_end s (cond b [] (p ∷ until test (end_of p) ps))).place) (last_end s (cond b [] (p ∷ until test (end_of p) ps))).place len
+found_if : (test : ℕ → Bool) (len : ℕ) (s : Spot) (p : PlacedPiece) (ps : List PlacedPiece) (b : Bool) → test s.place ≡ b → (b ≡ false → first_boundary test len p.end ps ≡ cond (test (last_end p.end (until test p.end ps)).place) (last_end p.end (until test p.end ps)).place len)
+    → cond b s.place (first_boundary test len p.end ps) ≡ cond (test (last_end s (cond b [] (p ∷ until test p.end ps))).place) (last_end s (cond b [] (p ∷ until test p.end ps))).place len
 found_if test len s p ps true is k = rw is refl
 found_if test len s p ps false is k = k refl
 
-first_is : (test : ℕ → Bool) (len : ℕ) (s : Spot) (ps : List Piece) → first_boundary test len s ps ≡ (let stop = last_end s (until test s ps) in cond (test stop.place) stop.place len)
+first_is : (test : ℕ → Bool) (len : ℕ) (s : Spot) (ps : List PlacedPiece) → first_boundary test len s ps ≡ (let stop = last_end s (until test s ps) in cond (test stop.place) stop.place len)
 first_is test len s [] = refl
-first_is test len s (p ∷ ps) = found_if test len s p ps (test s.place) refl (λ _. first_is test len (end_of p) ps)
+first_is test len s (p ∷ ps) = found_if test len s p ps (test s.place) refl (λ _. first_is test len p.end ps)
 
 -- Reading goes on up to where the rereading stops, or to the new text's end.
 pub upto_law : (old new : List ℕ) (begin end inserted : ℕ) → IsSplice old new begin end inserted →
@@ -242,12 +178,12 @@ upto_law old new begin end inserted is =
 pub from_law : (old : List ℕ) (begin : ℕ) → reread_from old begin ≡ (last_end start (below begin (pieces_of old))).place
 from_law old begin = from_is_greatest (length old) begin (pieces_of old) (spans_rise old)
 
-pub in_order : (text : List ℕ) (ps : List Piece) → ps ≡ pieces_of text → InOrder ps
+pub in_order : (text : List ℕ) (ps : List PlacedPiece) → ps ≡ pieces_of text → InOrder ps
 in_order text ps is = (length text, subst (Rises (length text) 0) (sym is) (spans_rise text))
 
 -- where a place of the new text is a boundary of both
 
-pub common_is_last : (old : List Piece) (begin end inserted place count : ℕ) (s : Spot) → InOrder old → begin + inserted ≤ place → below (place - (begin + inserted) + end + 1) old ≡ take count old → s ≡ last_end start (take count old) → is_common old begin end inserted place ≡ (s.place == (place - (begin + inserted) + end))
+pub common_is_last : (old : List PlacedPiece) (begin end inserted place count : ℕ) (s : Spot) → InOrder old → begin + inserted ≤ place → below (place - (begin + inserted) + end + 1) old ≡ take count old → s ≡ last_end start (take count old) → is_common old begin end inserted place ≡ (s.place == (place - (begin + inserted) + end))
 common_is_last old begin end inserted place count s order le is last =
     let back = place - (begin + inserted) + end in
     ap (λ v. v && is_boundary old back) (le-leb (begin + inserted) place le)
@@ -259,11 +195,11 @@ and_left : (a b : Bool) → (a && b) ≡ true → a ≡ true
 and_left true b h = refl
 and_left false b h = h
 
-common_le : (begin end inserted : ℕ) (old : List Piece) (place : ℕ) → is_common old begin end inserted place ≡ true → begin + inserted ≤ place
+common_le : (begin end inserted : ℕ) (old : List PlacedPiece) (place : ℕ) → is_common old begin end inserted place ≡ true → begin + inserted ≤ place
 common_le begin end inserted old place h = leb-true (begin + inserted) place (and_left (nat_le (begin + inserted) place) _ h)
 
 -- what respliced answers, at what the code has at hand
-abbrev pub Law : List ℕ → List ℕ → ℕ → ℕ → ℕ → List Piece → Type 0
+abbrev pub Law : List ℕ → List ℕ → ℕ → ℕ → ℕ → List PlacedPiece → Type 0
 Law old new begin end inserted ps = (from stop : Spot) → from ≡ last_end start (below begin ps) → stop ≡ last_end from (until (is_common ps begin end inserted) from (pieces_from (here new from)))
     → (pieces_of new ≡ below begin ps ++ (until (is_common ps begin end inserted) from (pieces_from (here new from)) ++ pieces_from (here new stop))) × (reread_upto old new begin end inserted ≡ cond (is_common ps begin end inserted stop.place) stop.place (length new)) × (reread_from old begin ≡ from.place) × IsIn new from
 
@@ -280,20 +216,20 @@ law_at old new begin end inserted is from stop e f =
       subst (IsIn new) (sym e) (from_in old new begin end inserted is),
     )
 
-pub law_of : (old new : List ℕ) (begin end inserted : ℕ) (ps : List Piece) → IsSplice old new begin end inserted → ps ≡ pieces_of old → Law old new begin end inserted ps
+pub law_of : (old new : List ℕ) (begin end inserted : ℕ) (ps : List PlacedPiece) → IsSplice old new begin end inserted → ps ≡ pieces_of old → Law old new begin end inserted ps
 law_of old new begin end inserted ps is e = subst (Law old new begin end inserted) (sym e) (law_at old new begin end inserted is)
 
 -- where nothing more comes
-pub final_end : (new : List ℕ) (kept again : List Piece) (stop : Spot) → pieces_of new ≡ kept ++ (again ++ pieces_from (here new stop)) → pieces_from (here new stop) ≡ [] → kept ++ again ≡ pieces_of new
+pub final_end : (new : List ℕ) (kept again : List PlacedPiece) (stop : Spot) → pieces_of new ≡ kept ++ (again ++ pieces_from (here new stop)) → pieces_from (here new stop) ≡ [] → kept ++ again ≡ pieces_of new
 final_end new kept again stop law none = sym (law ∙ ap (λ l. kept ++ (again ++ l)) none ∙ ap (λ l. kept ++ l) (append-nil again))
 
 -- after a common boundary
-pub joined_back : (old new : List ℕ) (begin end inserted count : ℕ) (ps : List Piece) (stop back : Spot) → IsSplice old new begin end inserted → ps ≡ pieces_of old → IsJoint ps begin end inserted stop.place (Some count) → back ≡ last_end start (take count ps) → pieces_from (here new stop) ≡ map (rebased_piece back stop) (drop count ps)
+pub joined_back : (old new : List ℕ) (begin end inserted count : ℕ) (ps : List PlacedPiece) (stop back : Spot) → IsSplice old new begin end inserted → ps ≡ pieces_of old → IsJoint ps begin end inserted stop.place (Some count) → back ≡ last_end start (take count ps) → pieces_from (here new stop) ≡ map (rebased_piece back stop) (drop count ps)
 joined_back old new begin end inserted count ps stop back is e joint last =
     let le = common_le begin end inserted ps stop.place joint.0 in
     let parts : pieces_of old ≡ take count ps ++ drop count ps = sym e ∙ sym (take-append-drop count ps) in
     joined_law old new begin end inserted is (take count ps) (drop count ps) stop parts le (omega (arith, joint.2, le))
     ∙ ap (λ s. map (rebased_piece s stop) (drop count ps)) (sym last)
 
-pub final_common : (new : List ℕ) (kept again back moved_back : List Piece) (stop : Spot) → pieces_of new ≡ kept ++ (again ++ pieces_from (here new stop)) → pieces_from (here new stop) ≡ moved_back → (kept ++ again) ++ moved_back ≡ pieces_of new
+pub final_common : (new : List ℕ) (kept again back moved_back : List PlacedPiece) (stop : Spot) → pieces_of new ≡ kept ++ (again ++ pieces_from (here new stop)) → pieces_from (here new stop) ≡ moved_back → (kept ++ again) ++ moved_back ≡ pieces_of new
 final_common new kept again back moved_back stop law is = append_assoc kept again moved_back ∙ ap (λ l. kept ++ (again ++ l)) (sym is) ∙ sym law

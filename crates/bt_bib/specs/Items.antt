@@ -1,11 +1,20 @@
 -- The items among the pieces of a database.
 use Rattle.std.specs.Prelude.{List, [], ◌∷◌}
+use Rattle.bt_bib.specs.declared.spot.Spot.{Spot}
 use Rattle.bt_bib.specs.declared.item.Item.{Item}
-use Rattle.bt_bib.specs.declared.item.Piece.{Piece}
 use Rattle.bt_bib.specs.declared.item.Piece.TheVariants as pieces
+use Rattle.bt_bib.specs.declared.placed_pieces.PlacedPiece.{PlacedPiece}
+
+-- an item with the spots of its `@` and of what stands after it; for a faulty item that is where its fault stands
+pub record PlacedItem : Type 0 where
+  pub start : Spot
+  pub end : Spot
+  pub item : Item
 
 -- the items, without the comment words
-abbrev pub items_of : List Piece → List Item
+abbrev pub items_of : List PlacedPiece → List PlacedItem
 items_of [] = []
-items_of (pieces.Comment start end ∷ ps) = items_of ps
-items_of (pieces.Item item ∷ ps) = item ∷ items_of ps
+items_of (p ∷ ps) = elim p.piece [
+  | pieces.Comment ↦ items_of ps
+  | pieces.Item item ↦ record { start = p.start; end = p.end; item = item } ∷ items_of ps
+]

@@ -12,11 +12,8 @@ pub mod Fields
 pub mod Keywords
 pub mod Pieces
 pub mod BibText
-pub mod Moved
 pub mod Boundaries
 pub mod Splice
-pub mod Shift
-pub mod PlacedPieces
 pub mod Parts
 pub mod Split
 pub mod inner

@@ -7,7 +7,8 @@
 -- | preamble | `@preamble{ value }`                |
 -- | entry    | `@type{ key , field = value , .. }` |
 --
--- Of a faulty item stays what was read whole, and it ends where its fault stands.
+-- Of a faulty item stays what was read whole, and it ends where its fault stands. The lines in a piece count from that of
+-- its `@`.
 use Rattle.std.specs.Prelude.{ℕ, ◌==◌, not, List, [], codes, Option, Some, None, Result, Ok, Err, if◌then◌else◌}
 use Rattle.bt_text.specs.ByteTests.{left_brace}
 use Rattle.bt_bib.specs.declared.spot.Spot.{Spot}
@@ -23,7 +24,8 @@ use Rattle.bt_bib.specs.declared.item.Piece.{Piece}
 use Rattle.bt_bib.specs.declared.item.Piece.TheVariants as pieces
 use Rattle.bt_bib.specs.declared.keywords.Keyword.{Keyword}
 use Rattle.bt_bib.specs.declared.keywords.Keyword.TheVariants as keywords
-use Rattle.bt_bib.specs.Spot.{Here, after_byte}
+use Rattle.bt_bib.specs.declared.placed_pieces.PlacedPiece.{PlacedPiece}
+use Rattle.bt_bib.specs.Spot.{Here, at, item_start, spot_from, here_from, after_byte}
 use Rattle.bt_bib.specs.Scan.{first, run, after_run, after_white, sign, closing_sign, is_key_byte}
 use Rattle.bt_bib.specs.Stop.{Stop, ◌>>=◌, value_read}
 use Rattle.bt_bib.specs.Names.{word, name_ended, name}
@@ -33,33 +35,15 @@ use Rattle.bt_bib.specs.Fields.{next_field, name_ends}
 use Rattle.bt_bib.specs.Keywords.{keyword_of}
 
 -- an item that ends well, or at a fault
-abbrev pub ended_item : Spot → ℕ → Content → Option Closing → Result Here Stop → Piece × Here
-ended_item start line content close (Ok end) = (
-  pieces.Item (record {
-    start = start;
-    end = end.spot;
-    line = line;
-    content = content;
-    close = close;
-    fault = None;
-  }),
-  end,
-)
-ended_item start line content close (Err stop) = (
-  pieces.Item (record {
-    start = start;
-    end = stop.1.spot;
-    line = line;
-    content = content;
-    close = close;
-    fault = Some stop.0;
-  }),
-  stop.1,
-)
+abbrev pub ended_item : ℕ → Content → Option Closing → Result Here Stop → Piece × Here
+ended_item line content close (Ok end) =
+    (pieces.Item (record { line = line; content = content; close = close; fault = None }), end)
+ended_item line content close (Err stop) =
+    (pieces.Item (record { line = line; content = content; close = close; fault = Some stop.0 }), stop.1)
 
 -- an item whose fault stands before its opening sign
-abbrev pub unopened : Spot → Content → Stop → Piece × Here
-unopened start content stop = ended_item start start.line content None (Err stop)
+abbrev pub unopened : Content → Stop → Piece × Here
+unopened content stop = ended_item 0 content None (Err stop)
 
 -- how an item is closed that is opened here
 unfoldable pub opening : Here → Result (Closing × Here) Stop
@@ -76,27 +60,27 @@ abbrev pub after_closing : Closing → Here → Result Here Stop
 after_closing close h = sign (closing_sign close) ExpectedCommaOrClose h
 
 -- `key , field = value , .. }`, from the key on
-abbrev pub entry_item : Spot → List ℕ → Closing → Here → Piece × Here
-entry_item start kind close h =
+abbrev pub entry_item : List ℕ → Closing → Here → Piece × Here
+entry_item kind close h =
     let fields = all (next_field close) (after_white (after_run (is_key_byte close) h)) in
     let entry : Entry = record { kind = Some kind; key = Some (run (is_key_byte close) h); fields = fields.0 } in
-    ended_item start h.spot.line (contents.Entry entry) (Some close) fields.1
+    ended_item h.spot.line (contents.Entry entry) (Some close) fields.1
 
 -- `name = value }`, from the name on
-abbrev pub string_item : Spot → Closing → Here → Piece × Here
-string_item start close h =
+abbrev pub string_item : Closing → Here → Piece × Here
+string_item close h =
     let named = name StringName name_ends h in
     let valued = named >>= λ n. sign 61 ExpectedEquals (after_white n.1)
     >>= λ equals. value close (after_white equals) in
     let definition : Definition = record { name = value_read named; value = value_read valued } in
-    let line : ℕ = elim definition.name [ Some name ↦ h.spot.line | None ↦ start.line ] in
-    ended_item start line (contents.Define definition) (Some close) (valued >>= λ v. after_closing close v.1)
+    let line : ℕ = elim definition.name [ Some name ↦ h.spot.line | None ↦ 0 ] in
+    ended_item line (contents.Define definition) (Some close) (valued >>= λ v. after_closing close v.1)
 
 -- `value }`, from the value on
-abbrev pub preamble_item : Spot → Closing → Here → Piece × Here
-preamble_item start close h =
+abbrev pub preamble_item : Closing → Here → Piece × Here
+preamble_item close h =
     let valued = value close h in
-    ended_item start start.line (contents.Preamble (value_read valued)) (Some close)
+    ended_item 0 (contents.Preamble (value_read valued)) (Some close)
     (valued >>= λ v. after_closing close v.1)
 
 -- an entry of which at most the type was read
@@ -107,35 +91,36 @@ abbrev pub unread_string : Content
 unread_string = contents.Define (record { name = None; value = None })
 
 -- an item that is read on after its opening sign and white space
-abbrev pub item_opened : Spot → Content → (Closing → Here → Piece × Here) → Result (Closing × Here) Stop → Piece × Here
-item_opened start unread read (Err stop) = unopened start unread stop
-item_opened start unread read (Ok o) = read o.0 (after_white o.1)
+abbrev pub item_opened : Content → (Closing → Here → Piece × Here) → Result (Closing × Here) Stop → Piece × Here
+item_opened unread read (Err stop) = unopened unread stop
+item_opened unread read (Ok o) = read o.0 (after_white o.1)
 
 -- what a type begins, from the place after it on
-abbrev pub item_of_type : Keyword → Spot → List ℕ → Here → Piece × Here
-item_of_type keywords.Comment start kind h = (pieces.Comment start h.spot, h)
-item_of_type keywords.String start kind h =
-    item_opened start unread_string (string_item start) (opening (after_white h))
-item_of_type keywords.Preamble start kind h =
-    item_opened start (contents.Preamble None) (preamble_item start) (opening (after_white h))
-item_of_type keywords.Entry start kind h =
-    item_opened start (unread_entry (Some kind)) (entry_item start kind) (opening (after_white h))
+abbrev pub item_of_type : Keyword → List ℕ → Here → Piece × Here
+item_of_type keywords.Comment kind h = (pieces.Comment, h)
+item_of_type keywords.String kind h = item_opened unread_string string_item (opening (after_white h))
+item_of_type keywords.Preamble kind h = item_opened (contents.Preamble None) preamble_item (opening (after_white h))
+item_of_type keywords.Entry kind h = item_opened (unread_entry (Some kind)) (entry_item kind) (opening (after_white h))
 
--- a comment word or an item, from its `@` on
-unfoldable pub piece : Here → Piece × Here
-piece h = elim (word EntryType (after_white (after_byte h))) [
-  | Err stop ↦ unopened h.spot (unread_entry None) stop
+-- a comment word or an item, from the `@` on with which a text begins
+unfoldable pub piece : List ℕ → Piece × Here
+piece text = elim (word EntryType (after_white (after_byte (at item_start text)))) [
+  | Err stop ↦ unopened (unread_entry None) stop
   | Ok w ↦ elim (name_ended EntryType (codes "{(") w.1) [
-    | Err stop ↦ unopened h.spot (unread_entry (Some w.0)) stop
-    | Ok end ↦ item_of_type (keyword_of w.0) h.spot w.0 end
+    | Err stop ↦ unopened (unread_entry (Some w.0)) stop
+    | Ok end ↦ item_of_type (keyword_of w.0) w.0 end
   ]
 ]
 
+-- a piece whose `@` stands at a spot, and what stands after it
+abbrev pub placed : Spot → Piece × Here → PlacedPiece × Here
+placed start p = (record { start = start; end = spot_from start p.1.spot; piece = p.0 }, here_from start p.1)
+
 -- the next `@` with what it begins, or none
-unfoldable pub next_piece : Here → Option Piece × Here
+unfoldable pub next_piece : Here → Option PlacedPiece × Here
 next_piece h =
     (let at_sign = after_run (λ b. not (b == 64)) h in
     elim (first at_sign.rest) [
       | None ↦ (None, at_sign)
-      | Some b ↦ (let p = piece at_sign in (Some p.0, p.1))
+      | Some b ↦ (let p = placed at_sign.spot (piece at_sign.rest) in (Some p.0, p.1))
     ])

@@ -1,7 +1,7 @@
 -- Splices of a text, and what is read again after one.
 use Rattle.std.specs.Prelude.{◌≡◌, ℕ, ◌+◌, ◌-◌, ◌≤◌, nat_lt, nat_le, ◌==◌, Bool, ◌&&◌, max, min, List, [], ◌∷◌, ◌++◌, length, take, drop}
 use Rattle.std.specs.List.{filter, list_any}
-use Rattle.bt_bib.specs.declared.item.Piece.{Piece}
+use Rattle.bt_bib.specs.declared.placed_pieces.PlacedPiece.{PlacedPiece}
 use Rattle.bt_bib.specs.Boundaries.{boundaries}
 use Rattle.bt_bib.specs.BibText.{pieces_of}
 
@@ -23,11 +23,11 @@ abbrev pub least : ℕ → List ℕ → ℕ
 least most [] = most
 least most (x ∷ xs) = min x (least most xs)
 
-abbrev pub is_boundary : List Piece → ℕ → Bool
+abbrev pub is_boundary : List PlacedPiece → ℕ → Bool
 is_boundary ps place = list_any (λ b. b == place) (boundaries ps)
 
 -- a place of the new text, at or after the inserted bytes, that is a boundary of the old one when moved back
-abbrev pub is_common : List Piece → ℕ → ℕ → ℕ → ℕ → Bool
+abbrev pub is_common : List PlacedPiece → ℕ → ℕ → ℕ → ℕ → Bool
 is_common old begin end inserted place =
     nat_le (begin + inserted) place && is_boundary old (place - (begin + inserted) + end)
 

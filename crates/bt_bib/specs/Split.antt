@@ -1,8 +1,7 @@
 -- Where a database is cut into parts of limited length.
 use Rattle.std.specs.Prelude.{◌≡◌, ℕ, ◌+◌, ◌-◌, nat_le, nat_lt, Bool, true, ◌&&◌, ◌||◌, List, [], ◌∷◌, ◌++◌, if◌then◌else◌}
 use Rattle.std.specs.List.{list_all}
-use Rattle.bt_bib.specs.declared.item.Piece.{Piece}
-use Rattle.bt_bib.specs.Boundaries.{start_of, end_of}
+use Rattle.bt_bib.specs.declared.placed_pieces.PlacedPiece.{PlacedPiece}
 use Rattle.bt_bib.specs.Parts.{is_whole}
 
 -- Between a piece that ends at `end` and the next one, which begins at `begin`: the place one byte after the end, and the
@@ -18,13 +17,13 @@ abbrev pub places_behind : ℕ → ℕ → List ℕ
 places_behind end limit = if nat_lt end limit && nat_lt (end + 1) limit then (end + 1) ∷ [] else []
 
 -- where a text can be cut, from the end of a piece on
-unfoldable pub places_after : ℕ → Bool → List Piece → ℕ → List ℕ
+unfoldable pub places_after : ℕ → Bool → List PlacedPiece → ℕ → List ℕ
 places_after end whole [] limit = places_behind end limit
 places_after end whole (p ∷ ps) limit =
-    places_between end whole (start_of p).place ++ places_after (end_of p).place (is_whole p) ps limit
+    places_between end whole p.start.place ++ places_after p.end.place (is_whole p.piece) ps limit
 
 -- where a whole text with these pieces and this length can be cut
-abbrev pub cut_places : List Piece → ℕ → List ℕ
+abbrev pub cut_places : List PlacedPiece → ℕ → List ℕ
 cut_places ps limit = places_after 0 true ps limit
 
 -- A part that began at `from` would have more than `most` bytes up to a place, and can be cut at `last` before it.

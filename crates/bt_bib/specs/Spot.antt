@@ -6,6 +6,10 @@ use Rattle.bt_bib.specs.declared.spot.Spot.{Spot}
 abbrev pub start : Spot
 start = record { place = 0; line = 1 }
 
+-- where the `@` of an item stands, from which its own places and lines count
+abbrev pub item_start : Spot
+item_start = record { place = 0; line = 0 }
+
 -- the spot after a byte
 abbrev pub spot_after_byte : ℕ → Spot → Spot
 spot_after_byte b s = record { place = s.place + 1; line = if is_line_feed b then s.line + 1 else s.line }
@@ -14,6 +18,10 @@ spot_after_byte b s = record { place = s.place + 1; line = if is_line_feed b the
 abbrev pub spot_after : List ℕ → Spot → Spot
 spot_after front s = record { place = s.place + length front; line = s.line + count_by is_line_feed front }
 
+-- a spot that counts from another one, as a spot of the text
+abbrev pub spot_from : Spot → Spot → Spot
+spot_from first s = record { place = s.place + first.place; line = s.line + first.line }
+
 -- a spot of a text, and the bytes from there on
 pub record Here : Type 0 where
   pub spot : Spot
@@ -21,6 +29,9 @@ pub record Here : Type 0 where
 
 abbrev pub at : Spot → List ℕ → Here
 at s rest = record { spot = s; rest = rest }
+
+abbrev pub here_from : Spot → Here → Here
+here_from first h = at (spot_from first h.spot) h.rest
 
 abbrev pub here : List ℕ → Spot → Here
 here text s = at s (drop s.place text)

@@ -8,5 +8,4 @@ pub mod Many
 pub mod Pieces
 pub mod Boundaries
 pub mod CommonBoundary
-pub mod Shift
 pub mod PlacedPieces

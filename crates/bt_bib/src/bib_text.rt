@@ -3,12 +3,12 @@
 //! Each piece is read as if its `@` were at place 0 of line 0, and stored beside its real place. So the pieces
 //! after an edit need only new places: nothing in them is read or copied again (`splice.rt`).
 
-ghost use Rattle.std.specs.Prelude.{◌≡◌, IfOk};
+ghost use Rattle.std.specs.Prelude.{◌≡◌, drop, IfOk};
 ghost use Rattle.bt_bib.specs.Spot.{here};
 ghost use Rattle.bt_bib.specs.inner.Spot.{IsAhead, IsIn};
 ghost use Rattle.bt_bib.specs.inner.Stop.{Makes};
 ghost use Rattle.bt_bib.specs.Scan.{after_run};
-ghost use Rattle.bt_bib.specs.Pieces.{next_piece, piece};
+ghost use Rattle.bt_bib.specs.Pieces.{next_piece, piece, placed};
 ghost use Rattle.bt_bib.specs.BibText.{pieces_of};
 ghost use Rattle.bt_bib.specs.inner.Cases.{pieces_from, is_text};
 
@@ -35,20 +35,20 @@ impl Reader<'_> {
     /// The piece that begins with the `@` at `start`, stored as read from there, and the place after it.
     pub fn placed_piece(&self, start: Spot) -> Result<(PlacedPiece, Spot), AllocError>
         requires { IsIn self.now.text.now start }
-        ensures { Makes self.now.text.now start result (piece (here self.now.text.now start)) }
+        ensures { Makes self.now.text.now start result (placed start (piece (drop start.place self.now.text.now))) }
     {
         let own = Reader {
             alloc: self.alloc,
             text: &self.text[start.place..],
             known: self.known,
         };
-        let (piece, reached) = own.piece(Spot::NOWHERE)?;
+        let (piece, reached) = own.piece()?;
         let end = Spot {
             place: reached.place + start.place,
             line: reached.line + start.line,
         };
-        let piece = PlacedPiece::new(start, end, Shared::new(self.alloc, piece)?);
-        Ok((piece, end))
+        let piece = Shared::new(self.alloc, piece)?;
+        Ok((PlacedPiece { start, end, piece }, end))
     }
 
     /// The next piece and the place after it, or none and the text's end.

@@ -17,7 +17,7 @@ pub fn count_below(pieces: &[PlacedPiece], limit: usize) -> usize
     ensures within { result ≤ length pieces.now }
     ensures value { below limit pieces.now ≡ take result pieces.now }
 {
-    pieces.partition_point(|piece| piece.end().place < limit)
+    pieces.partition_point(|piece| piece.end.place < limit)
 }
 
 /// The last boundary among the first `count` pieces of a text.
@@ -28,6 +28,6 @@ pub fn last_boundary(pieces: &[PlacedPiece], count: usize) -> Spot
     if count == 0 {
         Spot::START
     } else {
-        pieces[count - 1].end()
+        pieces[count - 1].end
     }
 }

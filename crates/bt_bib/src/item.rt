@@ -1,7 +1,6 @@
 //! The items of a database, and what is read of them.
 
 use crate::fault::ItemFault;
-use crate::spot::Spot;
 use bt_text::{Bytes, Sequence, Shared};
 
 /// The sign that ends what stands after an item's type.
@@ -18,7 +17,7 @@ pub enum Closing {
 pub enum Part {
     /// The bytes between two braces or quotes, or a run of digits.
     Text(Shared<Bytes>),
-    /// A macro's name as written, and its line.
+    /// A macro's name as written, and its line, counted from that of the item's `@`.
     Macro(Shared<Bytes>, usize),
 }
 
@@ -27,7 +26,7 @@ pub enum Part {
 pub struct Field {
     /// Its name as written.
     pub name: Shared<Bytes>,
-    /// The line of its name.
+    /// The line of its name, counted from that of the item's `@`.
     pub line: usize,
     /// The parts of its value, one or more, in their order.
     pub value: Sequence<Part>,
@@ -64,13 +63,9 @@ pub enum Content {
     Preamble(Option<Sequence<Part>>),
 }
 
-/// An item, or what was read of one before its fault.
+/// An item, or what was read of one before its fault. Its lines count from that of its `@`.
 #[derive(Debug, Drop)]
 pub struct Item {
-    /// The place of its `@`.
-    pub start: Spot,
-    /// The place after it; for a faulty item that of its fault, whose line this has.
-    pub end: Spot,
     /// The line of an entry's key or a string's name, else of the `@`.
     pub line: usize,
     /// What kind of item it is, and what was read of it.
@@ -84,8 +79,8 @@ pub struct Item {
 /// What begins with an `@`.
 #[derive(Debug, Drop)]
 pub enum Piece {
-    /// The word `@comment`, from its `@` to the place after it. What follows is read as if the word weren't there.
-    Comment(Spot, Spot),
+    /// The word `@comment`. What follows is read as if the word weren't there.
+    Comment,
     /// An item.
     Item(Item),
 }

@@ -1,9 +1,7 @@
 //! The items of a whole database.
 
 ghost use Rattle.std.specs.Prelude.{◌≡◌, [], ◌++◌, ◌∷◌, map, All, IfOk, OnOk, OnErr};
-ghost use Rattle.bt_bib.specs.Shift.{FitsPiece};
-ghost use Rattle.bt_bib.specs.inner.Shift.{rebased_piece};
-ghost use Rattle.bt_bib.specs.inner.PlacedPieces.{BeginsAfter};
+ghost use Rattle.bt_bib.specs.inner.PlacedPieces.{rebased_piece, FitsPiece};
 
 use crate::placed_pieces::PlacedPiece;
 use crate::spot::Spot;
@@ -21,9 +19,9 @@ pub struct Items {
 
 impl Model for Items {
     ghost use Rattle.std.specs.Prelude.{List};
-    ghost use Rattle.bt_bib.specs.declared.item.Piece.{Piece};
+    ghost use Rattle.bt_bib.specs.declared.placed_pieces.PlacedPiece.{PlacedPiece};
 
-    ghost Value = { List Piece };
+    ghost Value = { List PlacedPiece };
 
     ghost view = { λ items. items.pieces };
 }
@@ -60,8 +58,7 @@ impl Items {
         a: Spot,
         b: Spot,
     ) -> Result<Items, AllocError>
-        requires fits { All (FitsPiece a b) others.now }
-        requires after_byte { All (BeginsAfter a) others.now }
+        requires { All (FitsPiece a b) others.now }
         ensures { IfOk result (λ all. all ≡ self ++ map (rebased_piece a b) others.now) }
     {
         let mut items = self;

@@ -18,7 +18,6 @@ mod pieces;
 mod placed_pieces;
 mod reader;
 mod scan;
-mod shift;
 mod splice;
 mod split;
 mod spot;

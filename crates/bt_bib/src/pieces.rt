@@ -5,7 +5,7 @@
 //! `read_string` and `read_preamble` fill a value of their caller, so that a `?` loses nothing.
 
 ghost use Rattle.std.specs.Prelude.{◌≡◌, [], None, IfOk};
-ghost use Rattle.bt_bib.specs.Spot.{here};
+ghost use Rattle.bt_bib.specs.Spot.{here, item_start};
 ghost use Rattle.bt_bib.specs.inner.Spot.{IsIn};
 ghost use Rattle.bt_bib.specs.inner.Stop.{Fills, Finds, Gives, Makes};
 ghost use Rattle.bt_bib.specs.Keywords.{keyword_of};
@@ -25,13 +25,12 @@ use std::alloc::{AllocError, Global};
 
 /// An item that ends well or at its fault.
 fn item(
-    start: Spot,
     line: usize,
     content: Content,
     close: Option<Closing>,
     end: Result<Spot, ReadStop>,
 ) -> Result<(Piece, Spot), AllocError>
-    ensures { IfOk result (IsItem start line content close end) }
+    ensures { IfOk result (IsItem line content close end) }
 {
     let (end, fault) = match end {
         Ok(end) => (end, None),
@@ -41,8 +40,6 @@ fn item(
         },
     };
     let item = Item {
-        start,
-        end,
         line,
         content,
         close,
@@ -52,10 +49,10 @@ fn item(
 }
 
 /// An item whose fault stands before its opening sign.
-fn unopened(start: Spot, content: Content, halt: ReadStop) -> Result<(Piece, Spot), AllocError>
-    ensures { IfOk result (IsItem start start.line content None (Err halt)) }
+fn unopened(content: Content, halt: ReadStop) -> Result<(Piece, Spot), AllocError>
+    ensures { IfOk result (IsItem 0 content None (Err halt)) }
 {
-    item(start, start.line, content, None, Err(halt))
+    item(0, content, None, Err(halt))
 }
 
 /// An entry of which at most the type was read.
@@ -96,13 +93,12 @@ impl Reader<'_> {
 
     fn entry_item(
         &self,
-        start: Spot,
         kind: Shared<Bytes>,
         close: Closing,
         from: Spot,
     ) -> Result<(Piece, Spot), AllocError>
         requires { IsIn self.now.text.now from }
-        ensures { Makes self.now.text.now from result (entry_item start kind close (here self.now.text.now from)) }
+        ensures { Makes self.now.text.now from result (entry_item kind close (here self.now.text.now from)) }
     {
         let (key, end) = self.run(from, Class::Key(close))?;
         let mut found = Sequence::new(self.alloc);
@@ -112,7 +108,7 @@ impl Reader<'_> {
             key: Some(key),
             fields: found,
         };
-        item(start, from.line, Content::Entry(entry), Some(close), end)
+        item(from.line, Content::Entry(entry), Some(close), end)
     }
 
     /// Reads a string from its name on into `found`, up to its end or its fault.
@@ -134,14 +130,9 @@ impl Reader<'_> {
         self.after_closing(end, close)
     }
 
-    fn string_item(
-        &self,
-        start: Spot,
-        close: Closing,
-        from: Spot,
-    ) -> Result<(Piece, Spot), AllocError>
+    fn string_item(&self, close: Closing, from: Spot) -> Result<(Piece, Spot), AllocError>
         requires { IsIn self.now.text.now from }
-        ensures { Makes self.now.text.now from result (string_item start close (here self.now.text.now from)) }
+        ensures { Makes self.now.text.now from result (string_item close (here self.now.text.now from)) }
     {
         let mut found = Definition {
             name: None,
@@ -150,9 +141,9 @@ impl Reader<'_> {
         let end = self.read_string(from, close, &mut found);
         let line = match &found.name {
             Some(_) => from.line,
-            None => start.line,
+            None => 0,
         };
-        item(start, line, Content::Define(found), Some(close), end)
+        item(line, Content::Define(found), Some(close), end)
     }
 
     /// Reads a preamble from its value on into `found`, up to its end or its fault.
@@ -171,30 +162,19 @@ impl Reader<'_> {
         self.after_closing(end, close)
     }
 
-    fn preamble_item(
-        &self,
-        start: Spot,
-        close: Closing,
-        from: Spot,
-    ) -> Result<(Piece, Spot), AllocError>
+    fn preamble_item(&self, close: Closing, from: Spot) -> Result<(Piece, Spot), AllocError>
         requires { IsIn self.now.text.now from }
-        ensures { Makes self.now.text.now from result (preamble_item start close (here self.now.text.now from)) }
+        ensures { Makes self.now.text.now from result (preamble_item close (here self.now.text.now from)) }
     {
         let mut found = None;
         let end = self.read_preamble(from, close, &mut found);
-        item(
-            start,
-            start.line,
-            Content::Preamble(found),
-            Some(close),
-            end,
-        )
+        item(0, Content::Preamble(found), Some(close), end)
     }
 
-    fn string(&self, start: Spot, from: Spot) -> Result<(Piece, Spot), AllocError>
+    fn string(&self, from: Spot) -> Result<(Piece, Spot), AllocError>
         requires { IsIn self.now.text.now from }
         ensures { Makes self.now.text.now from result
-            (item_of_type Keyword.String start [] (here self.now.text.now from)) }
+            (item_of_type Keyword.String [] (here self.now.text.now from)) }
     {
         match self.opening(self.after_white(from)) {
             Err(halt) => {
@@ -202,71 +182,60 @@ impl Reader<'_> {
                     name: None,
                     value: None,
                 };
-                unopened(start, Content::Define(unread), halt)
+                unopened(Content::Define(unread), halt)
             }
-            Ok(opened) => self.string_item(start, opened.0, self.after_white(opened.1)),
+            Ok(opened) => self.string_item(opened.0, self.after_white(opened.1)),
         }
     }
 
-    fn preamble(&self, start: Spot, from: Spot) -> Result<(Piece, Spot), AllocError>
+    fn preamble(&self, from: Spot) -> Result<(Piece, Spot), AllocError>
         requires { IsIn self.now.text.now from }
         ensures { Makes self.now.text.now from result
-            (item_of_type Keyword.Preamble start [] (here self.now.text.now from)) }
+            (item_of_type Keyword.Preamble [] (here self.now.text.now from)) }
     {
         match self.opening(self.after_white(from)) {
-            Err(halt) => unopened(start, Content::Preamble(None), halt),
-            Ok(opened) => self.preamble_item(start, opened.0, self.after_white(opened.1)),
+            Err(halt) => unopened(Content::Preamble(None), halt),
+            Ok(opened) => self.preamble_item(opened.0, self.after_white(opened.1)),
         }
     }
 
-    fn entry(
-        &self,
-        start: Spot,
-        kind: Shared<Bytes>,
-        from: Spot,
-    ) -> Result<(Piece, Spot), AllocError>
+    fn entry(&self, kind: Shared<Bytes>, from: Spot) -> Result<(Piece, Spot), AllocError>
         requires { IsIn self.now.text.now from }
         ensures { Makes self.now.text.now from result
-            (item_of_type Keyword.Entry start kind (here self.now.text.now from)) }
+            (item_of_type Keyword.Entry kind (here self.now.text.now from)) }
     {
         match self.opening(self.after_white(from)) {
-            Err(halt) => unopened(start, unread_entry(self.alloc, Some(kind)), halt),
-            Ok(opened) => self.entry_item(start, kind, opened.0, self.after_white(opened.1)),
+            Err(halt) => unopened(unread_entry(self.alloc, Some(kind)), halt),
+            Ok(opened) => self.entry_item(kind, opened.0, self.after_white(opened.1)),
         }
     }
 
-    fn typed(
-        &self,
-        start: Spot,
-        kind: Shared<Bytes>,
-        from: Spot,
-    ) -> Result<(Piece, Spot), AllocError>
+    fn typed(&self, kind: Shared<Bytes>, from: Spot) -> Result<(Piece, Spot), AllocError>
         requires { IsIn self.now.text.now from }
         ensures { Makes self.now.text.now from result
-            (item_of_type (keyword_of kind) start kind (here self.now.text.now from)) }
+            (item_of_type (keyword_of kind) kind (here self.now.text.now from)) }
     {
         match Keyword::of(kind.as_slice()) {
-            Keyword::Comment => Ok((Piece::Comment(start, from), from)),
-            Keyword::String => self.string(start, from),
-            Keyword::Preamble => self.preamble(start, from),
-            Keyword::Entry => self.entry(start, kind, from),
+            Keyword::Comment => Ok((Piece::Comment, from)),
+            Keyword::String => self.string(from),
+            Keyword::Preamble => self.preamble(from),
+            Keyword::Entry => self.entry(kind, from),
         }
     }
 
-    /// A comment word or an item, from its `@` on.
+    /// A comment word or an item, from the `@` on with which the text begins.
     #[tactic(auto, unfolding(crate::specs::Pieces::piece))]
-    pub fn piece(&self, start: Spot) -> Result<(Piece, Spot), AllocError>
-        requires { IsIn self.now.text.now start }
-        ensures { Makes self.now.text.now start result (piece (here self.now.text.now start)) }
+    pub fn piece(&self) -> Result<(Piece, Spot), AllocError>
+        ensures { Makes self.now.text.now item_start result (piece self.now.text.now) }
     {
-        let from = self.after_white(self.after_byte(start));
+        let from = self.after_white(self.after_byte(Spot::ITEM_START));
         let (kind, end) = match self.word(from, NameRole::EntryType) {
             Ok(read) => read,
-            Err(halt) => return unopened(start, unread_entry(self.alloc, None), halt),
+            Err(halt) => return unopened(unread_entry(self.alloc, None), halt),
         };
         match self.ended(end, NameRole::EntryType, b"{(") {
-            Ok(end) => self.typed(start, kind, end),
-            Err(halt) => unopened(start, unread_entry(self.alloc, Some(kind)), halt),
+            Ok(end) => self.typed(kind, end),
+            Err(halt) => unopened(unread_entry(self.alloc, Some(kind)), halt),
         }
     }
 }

@@ -56,7 +56,7 @@ impl Items {
             known: &[],
         };
         let front = Items::new(alloc);
-        let items = front.with_rebased(&old[..kept], Spot::NOWHERE, Spot::NOWHERE)?;
+        let items = front.with_rebased(&old[..kept], Spot::ITEM_START, Spot::ITEM_START)?;
         let splice = Splice {
             begin: start,
             end,

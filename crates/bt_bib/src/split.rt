@@ -19,10 +19,10 @@ use crate::placed_pieces::PlacedPiece;
 use std::alloc::{AllocError, Global};
 
 fn is_whole(piece: &PlacedPiece) -> bool
-    ensures { result ≡ is_whole piece.now }
+    ensures { result ≡ is_whole piece.now.piece }
 {
-    match piece.piece() {
-        Piece::Comment(_, _) => false,
+    match &*piece.piece {
+        Piece::Comment => false,
         Piece::Item(item) => item.fault.is_none(),
     }
 }
@@ -64,8 +64,8 @@ fn cut_places(alloc: Global, pieces: &[PlacedPiece], limit: usize) -> Result<Vec
     let mut end = 0;
     let mut whole = true;
     'pieces: for piece in pieces {
-        add_between(&mut places, end, whole, piece.start().place)?;
-        end = piece.end().place;
+        add_between(&mut places, end, whole, piece.start.place)?;
+        end = piece.end.place;
         whole = is_whole(piece);
     }
     add_behind(&mut places, end, limit)?;
@@ -133,7 +133,7 @@ pub fn split_places(
 fn lies_before(limit: usize, piece: &PlacedPiece) -> bool
     ensures { result ≡ lies_before limit piece.now }
 {
-    let end = piece.end().place;
+    let end = piece.end.place;
     end < limit || (is_whole(piece) && end == limit)
 }
 

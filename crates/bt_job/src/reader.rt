@@ -96,7 +96,7 @@ impl Reader {
     {
         let place = Place::Line {
             file: file.share()?,
-            line,
+            line: line as u128,
             byte: None,
         };
         let message = Message::skipping(self.alloc, said, place, b"command")?;

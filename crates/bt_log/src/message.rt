@@ -83,13 +83,13 @@ pub enum Place {
     /// A line of a file.
     Line {
         file: Shared<Bytes>,
-        line: usize,
+        line: u128,
         byte: Option<usize>,
     },
     /// A line of a database, by the number of the database, as long as its file's name isn't known.
     DatabaseLine {
         database: usize,
-        line: usize,
+        line: u128,
         byte: Option<usize>,
     },
     /// A file as a whole.

@@ -12,7 +12,7 @@ use bt_text::{Bytes, Shared};
 use itoa::Buffer;
 use std::alloc::AllocError;
 
-fn decimal(buffer: &mut Buffer, number: usize) -> &[u8]
+fn decimal(buffer: &mut Buffer, number: u128) -> &[u8]
     ensures { result.now ≡ decimal number }
 {
     buffer.format(number).as_bytes()
@@ -32,7 +32,7 @@ fn add_nested(text: &mut Bytes, level: usize, file: &[u8]) -> Result<(), AllocEr
     ensures { OnOk result (text.new ≡ text.old ++ (codes "A level-" ++ decimal level ++ codes " auxiliary file: " ++ file.now)) }
 {
     let mut buffer = Buffer::new();
-    let level = decimal(&mut buffer, level);
+    let level = decimal(&mut buffer, level as u128);
     text.append_all(&[b"A level-", level, b" auxiliary file: ", file])
 }
 
@@ -45,7 +45,7 @@ fn add_numbered(
     ensures { OnOk result (text.new ≡ text.old ++ (before.now ++ decimal number ++ codes ": " ++ file.now)) }
 {
     let mut buffer = Buffer::new();
-    let number = decimal(&mut buffer, number);
+    let number = decimal(&mut buffer, number as u128);
     text.append_all(&[before, number, b": ", file])
 }
 
@@ -101,12 +101,7 @@ fn add_entry(text: &mut Bytes, entry: &Option<Shared<Bytes>>) -> Result<(), Allo
     Ok(())
 }
 
-fn add_file_line(
-    text: &mut Bytes,
-    before: &[u8],
-    line: usize,
-    file: &[u8],
-) -> Result<(), AllocError>
+fn add_file_line(text: &mut Bytes, before: &[u8], line: u128, file: &[u8]) -> Result<(), AllocError>
     ensures { OnOk result (text.new ≡ text.old ++ (before.now ++ decimal line ++ codes " of file " ++ file.now)) }
 {
     let mut buffer = Buffer::new();
@@ -123,7 +118,7 @@ fn add_command(
     ensures { OnOk result (text.new ≡ text.old ++ (for_entry entry.now ++ while_executing style.now line)) }
 {
     add_entry(text, entry)?;
-    add_file_line(text, b"\nwhile executing---line ", line, style)
+    add_file_line(text, b"\nwhile executing---line ", line as u128, style)
 }
 
 fn add_step(
@@ -144,7 +139,7 @@ fn add_step(
 fn add_database_line(
     text: &mut Bytes,
     before: &[u8],
-    line: usize,
+    line: u128,
     number: usize,
 ) -> Result<(), AllocError>
     ensures { OnOk result (text.new
@@ -153,7 +148,7 @@ fn add_database_line(
     let mut digits = Buffer::new();
     let line = decimal(&mut digits, line);
     let mut buffer = Buffer::new();
-    let number = decimal(&mut buffer, number);
+    let number = decimal(&mut buffer, number as u128);
     text.append_all(&[before, line, b" of database #", number])
 }
 

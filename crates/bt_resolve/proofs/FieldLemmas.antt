@@ -15,7 +15,7 @@ use Rattle.bt_text.specs.ByName.{no_value}
 use Rattle.bt_text.specs.NameList.{has_name, are_apart}
 use Rattle.bt_resolve.specs.Names.{crossref, place_of_name}
 use Rattle.bt_resolve.specs.Values.{MacroTexts, field_value, value_warnings}
-use Rattle.bt_resolve.specs.Warnings.{line_of}
+use Rattle.bt_resolve.specs.declared.place.Origin.{Origin}
 use Rattle.bt_resolve.specs.Fields.{given_value, field_messages, fields_messages}
 use Rattle.bt_resolve.specs.inner.Cases.{own_value, is_declared, has_field, declared_messages}
 use Rattle.bt_resolve.specs.inner.Slots.{slot_of, given_by, is_filled, is_filled_at, fill, with_field, extra_messages, slot_messages}
@@ -277,27 +277,27 @@ field_step ns macros before f all_apart = step_by ns macros before f (is_same_fo
 
 -- ---- and its messages
 
-abbrev Tells : List (List ℕ) → MacroTexts → ℕ → List ℕ → List Field → Field → Option Slot → Type 0
-Tells ns macros database key before f slot = slot_messages slot (given_by ns macros before) macros database key f ≡ declared_messages ns macros database key before f
+abbrev Tells : List (List ℕ) → MacroTexts → Origin → List ℕ → List Field → Field → Option Slot → Type 0
+Tells ns macros origin key before f slot = slot_messages slot (given_by ns macros before) macros origin key f ≡ declared_messages ns macros origin key before f
 
 -- of a declared field, whose slot is filled where a field of its name stands before
-tells_slot : (ns : List (List ℕ)) (macros : MacroTexts) (database : ℕ) (key : List ℕ) (before : List Field) (f : Field) (slot : Slot) → is_declared ns f.name ≡ true → is_filled slot (given_by ns macros before) ≡ has_field before f.name → Tells ns macros database key before f (Some slot)
-tells_slot ns macros database key before f slot declared filled =
-    ap (λ (b : Bool). value_warnings None macros (line_of database f.line) f.name f.value ++ extra_messages b database key f) filled
-    ∙ sym (cond-true (is_declared ns f.name) (field_messages macros database key before f) [] declared)
+tells_slot : (ns : List (List ℕ)) (macros : MacroTexts) (origin : Origin) (key : List ℕ) (before : List Field) (f : Field) (slot : Slot) → is_declared ns f.name ≡ true → is_filled slot (given_by ns macros before) ≡ has_field before f.name → Tells ns macros origin key before f (Some slot)
+tells_slot ns macros origin key before f slot declared filled =
+    ap (λ (b : Bool). value_warnings None macros origin f.line f.name f.value ++ extra_messages b origin key f) filled
+    ∙ sym (cond-true (is_declared ns f.name) (field_messages macros origin key before f) [] declared)
 
-tells_by : (ns : List (List ℕ)) (macros : MacroTexts) (database : ℕ) (key : List ℕ) (before : List Field) (f : Field) (b : Bool) (o : Option ℕ) → is_same_folded f.name crossref ≡ b → place_of_name ns f.name ≡ o → Tells ns macros database key before f (if b then Some Crossref else option_map (λ p. Value p) o)
-tells_by ns macros database key before f true o is at =
-    tells_slot ns macros database key before f Crossref (ap (λ (b : Bool). b || has_name ns f.name) is)
+tells_by : (ns : List (List ℕ)) (macros : MacroTexts) (origin : Origin) (key : List ℕ) (before : List Field) (f : Field) (b : Bool) (o : Option ℕ) → is_same_folded f.name crossref ≡ b → place_of_name ns f.name ≡ o → Tells ns macros origin key before f (if b then Some Crossref else option_map (λ p. Value p) o)
+tells_by ns macros origin key before f true o is at =
+    tells_slot ns macros origin key before f Crossref (ap (λ (b : Bool). b || has_name ns f.name) is)
     (sym (ap (λ (v : Option (List ℕ)). is_some v) (given_alike macros before f.name crossref is)) ∙ given_is macros before f.name)
-tells_by ns macros database key before f false None is at =
-    sym (cond-false (is_declared ns f.name) (field_messages macros database key before f) [] (ap (λ (b : Bool). b || has_name ns f.name) is ∙ no_place ns f.name at))
-tells_by ns macros database key before f false (Some p) is at =
-    tells_slot ns macros database key before f (Value p) (ap (λ (b : Bool). b || has_name ns f.name) is ∙ a_place ns f.name p at)
+tells_by ns macros origin key before f false None is at =
+    sym (cond-false (is_declared ns f.name) (field_messages macros origin key before f) [] (ap (λ (b : Bool). b || has_name ns f.name) is ∙ no_place ns f.name at))
+tells_by ns macros origin key before f false (Some p) is at =
+    tells_slot ns macros origin key before f (Value p) (ap (λ (b : Bool). b || has_name ns f.name) is ∙ a_place ns f.name p at)
     (filled_is ns macros before f.name p is at ∙ given_is macros before f.name)
 
-field_told : (ns : List (List ℕ)) (macros : MacroTexts) (database : ℕ) (key : List ℕ) (before : List Field) (f : Field) → slot_messages (slot_of ns f.name) (given_by ns macros before) macros database key f ≡ declared_messages ns macros database key before f
-field_told ns macros database key before f = tells_by ns macros database key before f (is_same_folded f.name crossref) (place_of_name ns f.name) refl refl
+field_told : (ns : List (List ℕ)) (macros : MacroTexts) (origin : Origin) (key : List ℕ) (before : List Field) (f : Field) → slot_messages (slot_of ns f.name) (given_by ns macros before) macros origin key f ≡ declared_messages ns macros origin key before f
+field_told ns macros origin key before f = tells_by ns macros origin key before f (is_same_folded f.name crossref) (place_of_name ns f.name) refl refl
 
 -- ---- in a loop over the fields
 
@@ -309,19 +309,19 @@ fields_next ns macros fields i f g apart less is so_far =
     ∙ ap (λ (x : Field). given_by ns macros (take i fields ++ x ∷ [])) is
     ∙ ap (given_by ns macros) (sym (take_more fields i f less))
 
-pub told_next : (ns : List (List ℕ)) (macros : MacroTexts) (database : ℕ) (key : List ℕ) (m : List Message) (fields : List Field) (i : ℕ) (f : Field) (g : Given) → i < length fields → f ≡ get_or fields i f →
+pub told_next : (ns : List (List ℕ)) (macros : MacroTexts) (origin : Origin) (key : List ℕ) (m : List Message) (fields : List Field) (i : ℕ) (f : Field) (g : Given) → i < length fields → f ≡ get_or fields i f →
     g ≡ given_by ns macros (take i fields) →
-    (m ++ slot_messages (slot_of ns f.name) g macros database key f) ++ fields_messages ns macros database key (take (i + 1) fields) (drop (i + 1) fields)
-    ≡ m ++ fields_messages ns macros database key (take i fields) (drop i fields)
-told_next ns macros database key m fields i f g less is so_far =
+    (m ++ slot_messages (slot_of ns f.name) g macros origin key f) ++ fields_messages ns macros origin key (take (i + 1) fields) (drop (i + 1) fields)
+    ≡ m ++ fields_messages ns macros origin key (take i fields) (drop i fields)
+told_next ns macros origin key m fields i f g less is so_far =
     let t : take (i + 1) fields ≡ take i fields ++ f ∷ [] = take_more fields i f less ∙ ap (λ (x : Field). take i fields ++ x ∷ []) (sym is) in
     let d : drop i fields ≡ f ∷ drop (i + 1) fields = drop_more fields i f less ∙ ap (λ (x : Field). x ∷ drop (i + 1) fields) (sym is) in
-    let rest = fields_messages ns macros database key (take (i + 1) fields) (drop (i + 1) fields) in
-    ap (λ (h : Given). (m ++ slot_messages (slot_of ns f.name) h macros database key f) ++ rest) so_far
-    ∙ ap (λ (told : List Message). (m ++ told) ++ rest) (field_told ns macros database key (take i fields) f)
-    ∙ append_assoc m (declared_messages ns macros database key (take i fields) f) rest
-    ∙ ap (λ (t : List Field). m ++ (declared_messages ns macros database key (take i fields) f ++ fields_messages ns macros database key t (drop (i + 1) fields))) t
-    ∙ ap (λ (d : List Field). m ++ fields_messages ns macros database key (take i fields) d) (sym d)
+    let rest = fields_messages ns macros origin key (take (i + 1) fields) (drop (i + 1) fields) in
+    ap (λ (h : Given). (m ++ slot_messages (slot_of ns f.name) h macros origin key f) ++ rest) so_far
+    ∙ ap (λ (told : List Message). (m ++ told) ++ rest) (field_told ns macros origin key (take i fields) f)
+    ∙ append_assoc m (declared_messages ns macros origin key (take i fields) f) rest
+    ∙ ap (λ (t : List Field). m ++ (declared_messages ns macros origin key (take i fields) f ++ fields_messages ns macros origin key t (drop (i + 1) fields))) t
+    ∙ ap (λ (d : List Field). m ++ fields_messages ns macros origin key (take i fields) d) (sym d)
 
 -- before the first field
 pub nothing_given : (ns : List (List ℕ)) (macros : MacroTexts) (values : Values) → values ≡ map no_value ns → let g : Given = record { values = values; crossref = None } in g ≡ given_by ns macros []

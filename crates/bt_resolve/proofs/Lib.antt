@@ -5,7 +5,6 @@ pub mod FamilyLemmas
 pub mod ListLemmas
 pub mod InheritingLemmas
 pub mod PlacingLemmas
-pub mod MovedLemmas
 pub mod SparseValueLemmas
 pub mod ValueLemmas
 pub mod laws

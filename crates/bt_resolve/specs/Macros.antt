@@ -2,7 +2,7 @@
 use Rattle.std.specs.Prelude.{List, [], ◌∷◌, Option, Some, None}
 use Rattle.bt_bib.specs.declared.fault.ItemFault.{ItemFault}
 use Rattle.bt_bib.specs.declared.item.Content.TheVariants as contents
-use Rattle.bt_bib.specs.declared.item.Item.{Item}
+use Rattle.bt_bib.specs.Items.{PlacedItem}
 use Rattle.bt_resolve.specs.declared.declared.Macro.{Macro}
 use Rattle.bt_text.specs.ByName.{no_value, with_value}
 use Rattle.bt_resolve.specs.Values.{MacroTexts, others, value}
@@ -19,14 +19,14 @@ faultless (Some fault) value = None
 
 -- A macro before an item, the items before it given from the last one back: the value of the last faultless string of
 -- its name, else the style's, else none.
-unfoldable pub macro_before : List Macro → List Item → MacroTexts
+unfoldable pub macro_before : List Macro → List PlacedItem → MacroTexts
 macro_before macros [] = style_macro macros
-macro_before macros (item ∷ before) =
+macro_before macros (placed ∷ before) =
     let known = macro_before macros before in
-    elim item.content [
+    elim placed.item.content [
       | contents.Define d ↦ elim d.name [
         | None ↦ known
-        | Some name ↦ elim (faultless item.fault d.value) [
+        | Some name ↦ elim (faultless placed.item.fault d.value) [
           | None ↦ known
           | Some parts ↦ with_value name (value (others (Some name) known) parts) known
         ]

@@ -2,7 +2,7 @@
 use Rattle.std.specs.Prelude.{ℕ, Bool, not, ◌||◌, ◌&&◌, List, [], ◌∷◌, ◌++◌, Some, None, is_some, unwrap_or, if◌then◌else◌, map}
 use Rattle.std.specs.List.{list_any}
 use Rattle.bt_text.specs.CaseFolding.{folded, is_same_folded}
-use Rattle.bt_bib.specs.declared.item.Item.{Item}
+use Rattle.bt_bib.specs.Items.{PlacedItem}
 use Rattle.bt_bib.specs.declared.item.Content.TheVariants as contents
 use Rattle.bt_bib.specs.declared.item.Entry.{Entry}
 use Rattle.bt_resolve.specs.declared.asked.Asked.{Asked}
@@ -36,11 +36,11 @@ abbrev pub is_stored : List Stored → List ℕ → Bool
 is_stored stored key = list_any (λ (s : Stored). is_same_folded s.key key) stored
 
 -- the stored entries of these items, in the order of the databases: for each key the first wanted entry
-unfoldable pub stored_among : Asked → List Macro → List Item → List Stored
+unfoldable pub stored_among : Asked → List Macro → List PlacedItem → List Stored
 stored_among a macros [] = []
-stored_among a macros (item ∷ before) =
+stored_among a macros (placed ∷ before) =
     let stored = stored_among a macros before in
-    elim item.content [
+    elim placed.item.content [
       | contents.Entry e ↦ elim e.key [
         | None ↦ stored
         | Some key ↦

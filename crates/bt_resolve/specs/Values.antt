@@ -6,8 +6,8 @@ use Rattle.bt_text.specs.White.{white_joined}
 use Rattle.bt_bib.specs.declared.item.Part.{Part}
 use Rattle.bt_bib.specs.declared.item.Part.TheVariants.{Text, Macro}
 use Rattle.bt_log.specs.declared.message.Message.{Message}
-use Rattle.bt_resolve.specs.declared.place.BibLine.{BibLine}
-use Rattle.bt_resolve.specs.Warnings.{line_of, undefined_macro, own_macro, too_long}
+use Rattle.bt_resolve.specs.declared.place.Origin.{Origin}
+use Rattle.bt_resolve.specs.Warnings.{line_at, undefined_macro, own_macro, too_long}
 
 -- what each macro stands for, if it is defined
 abbrev pub MacroTexts : Type 0
@@ -47,20 +47,20 @@ unfoldable pub field_value : MacroTexts → List Part → List ℕ
 field_value macros parts = without_last_space (without_first_space (value macros parts))
 
 -- a macro that stands for nothing here gives a warning
-abbrev pub part_warnings : Option (List ℕ) → MacroTexts → ℕ → Part → List Message
-part_warnings own macros database (Text text) = []
-part_warnings own macros database (Macro name line) =
-    (let place = line_of database line in
+abbrev pub part_warnings : Option (List ℕ) → MacroTexts → Origin → Part → List Message
+part_warnings own macros origin (Text text) = []
+part_warnings own macros origin (Macro name line) =
+    (let place = line_at origin line in
     elim (others own macros name) [
       | Some text ↦ []
       | None ↦ if is_named own name then own_macro place name ∷ [] else undefined_macro place name ∷ []
     ])
 
 -- The warnings of a value: those of its macros, each at its own line, and that it is too long, at the line of its name.
-unfoldable pub value_warnings : Option (List ℕ) → MacroTexts → BibLine → List ℕ → List Part → List Message
-value_warnings own macros place name parts =
-    flat_map (part_warnings own macros place.database) parts
+unfoldable pub value_warnings : Option (List ℕ) → MacroTexts → Origin → ℕ → List ℕ → List Part → List Message
+value_warnings own macros origin line name parts =
+    flat_map (part_warnings own macros origin) parts
     ++ elim (within_limit (joined_parts (others own macros) parts)) [
-      | None ↦ too_long place name ∷ []
+      | None ↦ too_long (line_at origin line) name ∷ []
       | Some text ↦ []
     ]

@@ -1,15 +1,21 @@
 -- The words of the warnings that items give.
-use Rattle.std.specs.Prelude.{ℕ, List, ◌++◌, codes, Option, Some, None}
+use Rattle.std.specs.Prelude.{ℕ, ◌+◌, List, ◌++◌, codes, Option, Some, None}
 use Rattle.bt_text.specs.CaseFolding.{folded}
 use Rattle.bt_log.specs.declared.message.Rank.TheVariants.{Warning}
 use Rattle.bt_log.specs.declared.message.Said.TheVariants.{Words}
 use Rattle.bt_log.specs.declared.message.Place.TheVariants.{DatabaseLine}
 use Rattle.bt_log.specs.declared.message.Message.{Message}
+use Rattle.bt_bib.specs.Items.{PlacedItem}
 use Rattle.bt_resolve.specs.declared.place.BibLine.{BibLine}
+use Rattle.bt_resolve.specs.declared.place.Origin.{Origin}
 
--- a line of a database, by the database's number
-abbrev pub line_of : ℕ → ℕ → BibLine
-line_of database line = record { database = database; line = line }
+-- where an item of a database stands, by the database's number
+abbrev pub origin_of : ℕ → PlacedItem → Origin
+origin_of database placed = record { database = database; line = placed.start.line }
+
+-- a line of an item, which counts from that of its `@`, as a line of the database
+abbrev pub line_at : Origin → ℕ → BibLine
+line_at origin line = record { database = origin.database; line = origin.line + line }
 
 -- a warning at a line of a database, about the entry of a key or about none
 abbrev pub warning_at : BibLine → List ℕ → Option (List ℕ) → Message

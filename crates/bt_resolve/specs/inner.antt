@@ -1,6 +1,5 @@
 -- What only helpers, loops and proofs need: no part of the meaning.
 pub mod Names
-pub mod Warnings
 pub mod Values
 pub mod JoinedParts
 pub mod Slots

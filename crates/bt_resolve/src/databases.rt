@@ -7,8 +7,6 @@
 
 ghost use Rattle.std.specs.Prelude.{◌≡◌, ◌∷◌, [], IfOk, IsTrue, OnOk, map};
 ghost use Rattle.bt_bib.specs.Items.{items_of};
-ghost use Rattle.bt_bib.specs.Moved.{moved_item, nowhere};
-ghost use Rattle.bt_bib.specs.Shift.{FitsItem};
 ghost use Rattle.bt_text.specs.NameList.{are_apart};
 ghost use Rattle.bt_resolve.specs.inner.Databases.{after_content, after_databases, after_item, after_items, nothing_read, state_of};
 
@@ -20,16 +18,15 @@ use crate::place::Origin;
 use crate::reader::Reader;
 use crate::reading::Reading;
 use crate::store::Store;
-use bt_bib::{Content, Item, Items, Piece, PlacedPiece};
+use bt_bib::{Content, Item, Items, Piece, PlacedPiece, Spot};
 use bt_text::{Bytes, Sequence};
 use std::alloc::{AllocError, Global};
 
 impl Reader<'_> {
     fn content(&self, item: &Item, reading: &mut Reading) -> Result<(), AllocError>
-        requires apart { IsTrue (are_apart self.now.asked.now.fields) }
-        requires fits { FitsItem nowhere self.now.origin.start item.now }
-        ensures { OnOk result (state_of reading.new ≡ after_content self.now.asked.now self.now.origin.database
-            (moved_item self.now.origin.start item.now) (state_of reading.old)) }
+        requires { IsTrue (are_apart self.now.asked.now.fields) }
+        ensures { OnOk result (state_of reading.new
+            ≡ after_content self.now.asked.now self.now.origin item.now (state_of reading.old)) }
     {
         let Reading {
             macros,
@@ -45,14 +42,19 @@ impl Reader<'_> {
     }
 
     #[tactic(auto, unfolding(crate::specs::Messages::item_messages))]
-    fn item(&self, item: &Item, reading: &mut Reading) -> Result<(), AllocError>
-        requires apart { IsTrue (are_apart self.now.asked.now.fields) }
-        requires fits { FitsItem nowhere self.now.origin.start item.now }
-        ensures { OnOk result (state_of reading.new ≡ after_item self.now.asked.now self.now.origin.database
-            (moved_item self.now.origin.start item.now) (state_of reading.old)) }
+    fn item(&self, item: &Item, end: Spot, reading: &mut Reading) -> Result<(), AllocError>
+        requires { IsTrue (are_apart self.now.asked.now.fields) }
+        ensures { OnOk result (state_of reading.new
+            ≡ after_item self.now.asked.now self.now.origin end item.now (state_of reading.old)) }
     {
         self.content(item, reading)?;
-        tell_fault(self.alloc, self.origin, item, &mut reading.messages)
+        tell_fault(
+            self.alloc,
+            self.origin.database,
+            end,
+            item,
+            &mut reading.messages,
+        )
     }
 }
 
@@ -67,16 +69,18 @@ fn read_piece(
     ensures { OnOk result (state_of reading.new
         ≡ after_items asked.now database (state_of reading.old) (items_of (piece.now ∷ []))) }
 {
-    match piece.piece() {
-        Piece::Comment(_, _) => Ok(()),
+    match &*piece.piece {
+        Piece::Comment => Ok(()),
         Piece::Item(item) => {
-            let start = piece.start();
             let reader = Reader {
                 alloc,
                 asked: &*asked,
-                origin: Origin { database, start },
+                origin: Origin {
+                    database,
+                    line: piece.start.line,
+                },
             };
-            reader.item(item, reading)
+            reader.item(item, piece.end, reading)
         }
     }
 }

@@ -1,8 +1,6 @@
 //! Entries as they are read: which are stored, and as what.
 
-ghost use Rattle.std.specs.Prelude.{◌≡◌, ◌++◌, All, IfOk, IsTrue, OnOk, map};
-ghost use Rattle.bt_bib.specs.Moved.{moved_entry, moved_field, nowhere};
-ghost use Rattle.bt_bib.specs.Shift.{FitsField, FitsLine};
+ghost use Rattle.std.specs.Prelude.{◌≡◌, ◌++◌, IfOk, IsTrue, OnOk};
 ghost use Rattle.bt_text.specs.ByName.{known};
 ghost use Rattle.bt_text.specs.CaseFolding.{folded};
 ghost use Rattle.bt_resolve.specs.inner.Entries.{standing_of};
@@ -11,7 +9,7 @@ ghost use Rattle.bt_resolve.specs.Messages.{stored_messages};
 ghost use Rattle.bt_resolve.specs.inner.Cases.{type_messages, with_entry};
 ghost use Rattle.bt_text.specs.NameList.{are_apart};
 ghost use Rattle.bt_resolve.specs.Stored.{is_wanted, kind_of, stored_of};
-ghost use Rattle.bt_resolve.specs.inner.Warnings.{line_at};
+ghost use Rattle.bt_resolve.specs.Warnings.{line_at};
 ghost use Rattle.bt_resolve.specs.inner.Readers.{messages_of_entry, messages_of_given, messages_of_stored};
 
 use crate::faults::repeated;
@@ -109,7 +107,6 @@ impl Reader<'_> {
         key: &[u8],
         messages: &mut Sequence<Message>,
     ) -> Result<(), AllocError>
-        requires { FitsLine nowhere self.now.origin.start line }
         ensures { OnOk result (messages.new ≡ messages.old
             ++ type_messages function (line_at self.now.origin line) key.now) }
     {
@@ -126,10 +123,9 @@ impl Reader<'_> {
         macros: &ByName<MacroText>,
         messages: &mut Sequence<Message>,
     ) -> Result<Given, AllocError>
-        requires apart { IsTrue (are_apart self.now.asked.now.fields) }
-        requires fits { All (FitsField nowhere self.now.origin.start) entry.now.fields }
+        requires { IsTrue (are_apart self.now.asked.now.fields) }
         ensures given { IfOk result (λ given. given ≡ given_by self.now.asked.now.fields (known macros.now)
-            (map (moved_field self.now.origin.start) entry.now.fields)) }
+            entry.now.fields) }
         ensures messages { OnOk result (messages.new ≡ messages.old
             ++ messages_of_given self.now (known macros.now) key.now entry.now.fields) }
     {
@@ -152,12 +148,10 @@ impl Reader<'_> {
         macros: &ByName<MacroText>,
         messages: &mut Sequence<Message>,
     ) -> Result<Stored, AllocError>
-        requires apart { IsTrue (are_apart self.now.asked.now.fields) }
-        requires line { FitsLine nowhere self.now.origin.start line }
-        requires fits { All (FitsField nowhere self.now.origin.start) entry.now.fields }
+        requires { IsTrue (are_apart self.now.asked.now.fields) }
         ensures key { IfOk result (λ stored. stored.key ≡ key.now) }
         ensures stored { IfOk result (λ stored. stored ≡ stored_of self.now.asked.now (known macros.now)
-            (moved_entry self.now.origin.start entry.now) key.now) }
+            entry.now key.now) }
         ensures messages { OnOk result (messages.new ≡ messages.old
             ++ messages_of_stored self.now (known macros.now) line entry.now key.now) }
     {
@@ -177,11 +171,9 @@ impl Reader<'_> {
         store: &mut Store,
         messages: &mut Sequence<Message>,
     ) -> Result<(), AllocError>
-        requires apart { IsTrue (are_apart self.now.asked.now.fields) }
-        requires line { FitsLine nowhere self.now.origin.start line }
-        requires fits { All (FitsField nowhere self.now.origin.start) entry.now.fields }
+        requires { IsTrue (are_apart self.now.asked.now.fields) }
         ensures store { OnOk result (store.new ≡ with_entry self.now.asked.now (known macros.now)
-            (moved_entry self.now.origin.start entry.now) entry.now.key store.old) }
+            entry.now entry.now.key store.old) }
         ensures messages { OnOk result (messages.new ≡ messages.old
             ++ messages_of_entry self.now (known macros.now) store.old line entry.now) }
     {

@@ -1,14 +1,11 @@
 //! The words of the errors of items.
 
 ghost use Rattle.std.specs.Prelude.{◌≡◌, ◌++◌, IfOk, OnOk, codes};
-ghost use Rattle.bt_bib.specs.Moved.{moved, moved_content, nowhere};
-ghost use Rattle.bt_bib.specs.Shift.{FitsSpot};
 ghost use Rattle.bt_resolve.specs.Faults.{dropped_name, fault_error, fault_words, repeated, sign_of, unclosed_command, unclosed_entry, what_name};
 ghost use Rattle.bt_resolve.specs.inner.Cases.{fault_messages, key_of, unclosed};
 
 use crate::messages::add_message;
-use crate::place::Origin;
-use bt_bib::{Closing, Content, Item, ItemFault, NameRole};
+use bt_bib::{Closing, Content, Item, ItemFault, NameRole, Spot};
 use bt_log::{Message, Place, Said};
 use bt_text::{Bytes, Sequence, Shared};
 use std::alloc::{AllocError, Global};
@@ -116,41 +113,40 @@ fn key_of(content: &Content) -> Result<Option<Shared<Bytes>>, AllocError>
 
 fn fault_error(
     alloc: Global,
-    origin: Origin,
+    database: usize,
+    end: Spot,
     item: &Item,
     fault: ItemFault,
 ) -> Result<Message, AllocError>
-    requires { FitsSpot nowhere origin.start item.now.end }
-    ensures { IfOk result (λ message. message ≡ fault_error origin.database (moved origin.start item.now.end)
-        item.now.content item.now.close fault) }
+    ensures { IfOk result (λ message. message ≡ fault_error database end item.now.content item.now.close fault) }
 {
     let words = fault_words(alloc, &item.content, item.close, fault)?;
     let said = Said::Words(Shared::new(alloc, words)?);
     let place = Place::DatabaseLine {
-        database: origin.database,
-        line: item.end.line + origin.start.line,
-        byte: Some(item.end.place + origin.start.place),
+        database,
+        line: end.line as u128,
+        byte: Some(end.place),
     };
     let mut message = Message::skipping(alloc, said, place, dropped_name(&item.content))?;
     message.entry = key_of(&item.content)?;
     Ok(message)
 }
 
-/// Reports the fault of an item, if it has one.
+/// Reports the fault of an item of a database, if it has one. The item ends where its fault stands.
 pub fn tell_fault(
     alloc: Global,
-    origin: Origin,
+    database: usize,
+    end: Spot,
     item: &Item,
     messages: &mut Sequence<Message>,
 ) -> Result<(), AllocError>
-    requires { FitsSpot nowhere origin.start item.now.end }
-    ensures { OnOk result (messages.new ≡ messages.old ++ fault_messages origin.database
-        (moved origin.start item.now.end) (moved_content origin.start item.now.content) item.now.close item.now.fault) }
+    ensures { OnOk result (messages.new ≡ messages.old ++ fault_messages database end
+        item.now.content item.now.close item.now.fault) }
 {
     match item.fault {
         None => Ok(()),
         Some(fault) => {
-            add_message(messages, fault_error(alloc, origin, item, fault)?)?;
+            add_message(messages, fault_error(alloc, database, end, item, fault)?)?;
             Ok(())
         }
     }

@@ -4,9 +4,7 @@
 //! field goes into the slot of its name, unless the slot is filled. Its messages then come in the order of the fields,
 //! also those about a value that doesn't count.
 
-ghost use Rattle.std.specs.Prelude.{◌≡◌, ◌++◌, All, Some, IfOk, IsTrue, OnOk, map, slice_get};
-ghost use Rattle.bt_bib.specs.Moved.{moved_field, nowhere};
-ghost use Rattle.bt_bib.specs.Shift.{FitsField};
+ghost use Rattle.std.specs.Prelude.{◌≡◌, ◌++◌, Some, IfOk, IsTrue, OnOk, slice_get};
 ghost use Rattle.bt_text.specs.ByName.{known};
 ghost use Rattle.bt_text.specs.NameList.{are_apart};
 ghost use Rattle.bt_resolve.specs.inner.Slots.{extra_messages, fill, given_by, is_filled, is_filled_at, slot_of, with_field};
@@ -110,7 +108,6 @@ impl FieldReader<'_> {
         field: &Field,
         messages: &mut Sequence<Message>,
     ) -> Result<Shared<Bytes>, AllocError>
-        requires { FitsField nowhere self.now.origin.start field.now }
         ensures value { IfOk result (λ text. text ≡ text_of_field self.now field.now) }
         ensures messages { OnOk result (messages.new ≡ messages.old ++ warnings_of_field self.now field.now) }
     {
@@ -134,11 +131,9 @@ impl FieldReader<'_> {
         given: &mut Given,
         messages: &mut Sequence<Message>,
     ) -> Result<(), AllocError>
-        requires { FitsField nowhere self.now.origin.start field.now }
         ensures given { OnOk result (given.new ≡ with_field (Some slot) value given.old) }
         ensures messages { OnOk result (messages.new ≡ messages.old
-            ++ extra_messages (is_filled slot given.old) self.now.origin.database self.now.key.now
-            (moved_field self.now.origin.start field.now)) }
+            ++ extra_messages (is_filled slot given.old) self.now.origin self.now.key.now field.now) }
     {
         if is_filled(given, slot) {
             let place = self.origin.place(field.line);
@@ -155,7 +150,6 @@ impl FieldReader<'_> {
         given: &mut Given,
         messages: &mut Sequence<Message>,
     ) -> Result<(), AllocError>
-        requires { FitsField nowhere self.now.origin.start field.now }
         ensures given { OnOk result (given.new ≡ with_field (slot_of self.now.declared.now field.now.name)
             (text_of_field self.now field.now) given.old) }
         ensures messages { OnOk result (messages.new ≡ messages.old
@@ -174,10 +168,9 @@ impl FieldReader<'_> {
         fields: &[Field],
         messages: &mut Sequence<Message>,
     ) -> Result<Given, AllocError>
-        requires apart { IsTrue (are_apart self.now.declared.now) }
-        requires fits { All (FitsField nowhere self.now.origin.start) fields.now }
+        requires { IsTrue (are_apart self.now.declared.now) }
         ensures given { IfOk result (λ given. given ≡ given_by self.now.declared.now (known self.now.macros.now)
-            (map (moved_field self.now.origin.start) fields.now)) }
+            fields.now) }
         ensures messages { OnOk result (messages.new ≡ messages.old ++ messages_of_fields self.now fields.now) }
     {
         let mut given = Given {

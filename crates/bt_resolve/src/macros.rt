@@ -1,8 +1,6 @@
 //! What macros stand for, and the strings that define them.
 
 ghost use Rattle.std.specs.Prelude.{◌≡◌, ◌++◌, option_copied, IfOk, OnOk};
-ghost use Rattle.bt_bib.specs.Moved.{moved_value, nowhere};
-ghost use Rattle.bt_bib.specs.Shift.{FitsLine, FitsValue};
 ghost use Rattle.bt_text.specs.ByName.{known};
 ghost use Rattle.bt_resolve.specs.Macros.{faultless, style_macro};
 ghost use Rattle.bt_resolve.specs.inner.Cases.{with_string, preamble_value};
@@ -50,10 +48,8 @@ impl Reader<'_> {
         macros: &mut ByName<MacroText>,
         messages: &mut Sequence<Message>,
     ) -> Result<(), AllocError>
-        requires line { FitsLine nowhere self.now.origin.start item.now.line }
-        requires value { FitsValue nowhere self.now.origin.start string.now.value }
         ensures macros { OnOk result (known macros.new ≡ with_string string.now.name
-            (faultless item.now.fault (moved_value self.now.origin.start string.now.value)) (known macros.old)) }
+            (faultless item.now.fault string.now.value) (known macros.old)) }
         ensures messages { OnOk result (messages.new ≡ messages.old
             ++ messages_of_string self.now (known macros.old) item.now string.now) }
     {
@@ -83,10 +79,8 @@ impl Reader<'_> {
         preamble: &mut Bytes,
         messages: &mut Sequence<Message>,
     ) -> Result<(), AllocError>
-        requires line { FitsLine nowhere self.now.origin.start item.now.line }
-        requires value { FitsValue nowhere self.now.origin.start parts.now }
         ensures preamble { OnOk result (preamble.new ≡ preamble.old ++ preamble_value (known macros.now)
-            (faultless item.now.fault (moved_value self.now.origin.start parts.now))) }
+            (faultless item.now.fault parts.now)) }
         ensures messages { OnOk result (messages.new ≡ messages.old
             ++ messages_of_preamble self.now (known macros.now) item.now parts.now) }
     {

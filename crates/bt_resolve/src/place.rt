@@ -4,12 +4,8 @@
 //! the line of the database, which is the sum of the two.
 
 ghost use Rattle.std.specs.Prelude.{◌≡◌, None};
-ghost use Rattle.bt_bib.specs.Moved.{nowhere};
-ghost use Rattle.bt_bib.specs.Shift.{FitsLine};
 ghost use Rattle.bt_log.specs.declared.message.Place.TheVariants.{DatabaseLine};
-ghost use Rattle.bt_resolve.specs.inner.Warnings.{line_at};
-
-use bt_bib::Spot;
+ghost use Rattle.bt_resolve.specs.Warnings.{line_at};
 
 /// A line of a database.
 #[derive(Clone, Copy, PartialEq, Eq)]
@@ -17,7 +13,7 @@ pub struct BibLine {
     /// The number of the database, from 1.
     pub database: usize,
     /// The line, from 1.
-    pub line: usize,
+    pub line: u128,
 }
 
 impl BibLine {
@@ -38,19 +34,18 @@ impl BibLine {
 pub struct Origin {
     /// The number of its database, from 1.
     pub database: usize,
-    /// Where its `@` stands there.
-    pub start: Spot,
+    /// The line of its `@` there, from 1.
+    pub line: usize,
 }
 
 impl Origin {
     /// A line of the item.
     pub fn place(self, line: usize) -> BibLine
-        requires { FitsLine nowhere self.start line }
         ensures { result ≡ line_at self line }
     {
         BibLine {
             database: self.database,
-            line: line + self.start.line,
+            line: self.line as u128 + line as u128,
         }
     }
 }

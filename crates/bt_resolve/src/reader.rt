@@ -1,9 +1,7 @@
 //! What reads an item of a database.
 
 ghost use Rattle.std.specs.Prelude.{◌≡◌};
-ghost use Rattle.bt_bib.specs.Moved.{nowhere};
-ghost use Rattle.bt_bib.specs.Shift.{FitsLine};
-ghost use Rattle.bt_resolve.specs.inner.Warnings.{line_at};
+ghost use Rattle.bt_resolve.specs.Warnings.{line_at};
 
 use crate::asked::Asked;
 use crate::place::{BibLine, Origin};
@@ -22,7 +20,6 @@ pub struct Reader<'a> {
 impl Reader<'_> {
     /// A line of the item.
     pub fn place(&self, line: usize) -> BibLine
-        requires { FitsLine nowhere self.now.origin.start line }
         ensures { result ≡ line_at self.now.origin line }
     {
         self.origin.place(line)

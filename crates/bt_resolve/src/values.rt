@@ -3,13 +3,11 @@
 //! A value may name a macro twice, whose value names another twice, and so on: forty lines of a database would fill any
 //! memory. So what is joined is dropped as soon as it exceeds the limit, and the later parts only give their warnings.
 
-ghost use Rattle.std.specs.Prelude.{◌≡◌, ◌++◌, [], ◌∷◌, All, None, map, not, option_copied, option_and_then, unwrap_or, IfOk, OnOk};
-ghost use Rattle.bt_bib.specs.Moved.{moved_part, nowhere};
-ghost use Rattle.bt_bib.specs.Shift.{FitsLine, FitsPart};
+ghost use Rattle.std.specs.Prelude.{◌≡◌, ◌++◌, [], ◌∷◌, None, not, option_copied, option_and_then, unwrap_or, IfOk, OnOk};
 ghost use Rattle.bt_resolve.specs.Values.{is_named, joined_parts, value, value_warnings, within_limit, without_first_space, without_last_space};
 ghost use Rattle.bt_resolve.specs.inner.Cases.{joined_or_empty, is_too_long, length_warnings, macro_warnings, part_text};
 ghost use Rattle.bt_resolve.specs.inner.Values.{with_part};
-ghost use Rattle.bt_resolve.specs.inner.Warnings.{line_at};
+ghost use Rattle.bt_resolve.specs.Warnings.{line_at};
 ghost use Rattle.bt_resolve.specs.inner.Readers.{macros_for, messages_of_macro, messages_of_part, messages_of_parts, messages_of_value};
 
 use crate::joined_parts::JoinedParts;
@@ -83,7 +81,6 @@ impl<'a> ValueReader<'a> {
     }
 
     fn empty_macro(&self, name: &[u8], line: usize) -> Result<Message, AllocError>
-        requires { FitsLine nowhere self.now.origin.start line }
         ensures { IfOk result (λ message. message ∷ [] ≡ macro_warnings
             (is_named (option_copied self.now.own) name.now) None (line_at self.now.origin line) name.now) }
     {
@@ -102,7 +99,6 @@ impl<'a> ValueReader<'a> {
         joined: &mut Option<JoinedParts>,
         messages: &mut Sequence<Message>,
     ) -> Result<(), AllocError>
-        requires { FitsLine nowhere self.now.origin.start line }
         ensures joined { OnOk result (joined.new
             ≡ option_and_then (with_part (unwrap_or (macros_for self.now name.now) [])) joined.old) }
         ensures messages { OnOk result (messages.new ≡ messages.old ++ messages_of_macro self.now name.now line) }
@@ -122,9 +118,8 @@ impl<'a> ValueReader<'a> {
         joined: &mut Option<JoinedParts>,
         messages: &mut Sequence<Message>,
     ) -> Result<(), AllocError>
-        requires { FitsPart nowhere self.now.origin.start part.now }
         ensures joined { OnOk result (joined.new ≡ option_and_then
-            (with_part (part_text (macros_for self.now) (moved_part self.now.origin.start part.now))) joined.old) }
+            (with_part (part_text (macros_for self.now) part.now)) joined.old) }
         ensures messages { OnOk result (messages.new ≡ messages.old ++ messages_of_part self.now part.now) }
     {
         match part {
@@ -138,9 +133,8 @@ impl<'a> ValueReader<'a> {
         parts: &[Part],
         messages: &mut Sequence<Message>,
     ) -> Result<Option<JoinedParts>, AllocError>
-        requires { All (FitsPart nowhere self.now.origin.start) parts.now }
         ensures joined { IfOk result (λ joined. joined ≡ within_limit
-            (joined_parts (macros_for self.now) (map (moved_part self.now.origin.start) parts.now))) }
+            (joined_parts (macros_for self.now) parts.now)) }
         ensures messages { OnOk result (messages.new ≡ messages.old ++ messages_of_parts self.now parts.now) }
     {
         let mut joined = Some(JoinedParts::new(self.alloc));
@@ -158,7 +152,6 @@ impl<'a> ValueReader<'a> {
         line: usize,
         messages: &mut Sequence<Message>,
     ) -> Result<Shared<Bytes>, AllocError>
-        requires { FitsLine nowhere self.now.origin.start line }
         ensures value { IfOk result (λ text. text ≡ joined_or_empty joined) }
         ensures messages { OnOk result (messages.new ≡ messages.old
             ++ length_warnings joined (line_at self.now.origin line) name.now) }
@@ -184,10 +177,8 @@ impl<'a> ValueReader<'a> {
         parts: &[Part],
         messages: &mut Sequence<Message>,
     ) -> Result<Shared<Bytes>, AllocError>
-        requires line { FitsLine nowhere self.now.origin.start line }
-        requires parts { All (FitsPart nowhere self.now.origin.start) parts.now }
         ensures value { IfOk result (λ text. text
-            ≡ value (macros_for self.now) (map (moved_part self.now.origin.start) parts.now)) }
+            ≡ value (macros_for self.now) parts.now) }
         ensures messages { OnOk result (messages.new ≡ messages.old
             ++ messages_of_value self.now name.now line parts.now) }
     {

@@ -6,7 +6,7 @@ use Rattle.bt_style.specs.declared.style.Command.{Command}
 use Rattle.bt_style.specs.declared.style.Function.{Function}
 use Rattle.bt_style.specs.declared.style.Style.{Style}
 use Rattle.bt_style.specs.Program.{Definition, definition_of, definitions_of, program_of}
-use Rattle.bt_bib.specs.declared.item.Piece.{Piece}
+use Rattle.bt_bib.specs.declared.placed_pieces.PlacedPiece.{PlacedPiece}
 use Rattle.bt_bib.specs.Items.{items_of}
 use Rattle.bt_bib.specs.BibText.{pieces_of}
 use Rattle.bt_resolve.specs.declared.declared.Declared.{Declared}
@@ -40,7 +40,7 @@ items_by files databases names are_texts =
     maps (λ text. items_of (pieces_of text)) (λ (d : Database). d.text) databases ∙ ap (map (λ text. items_of (pieces_of text))) are_texts ∙ sym (maps (λ text. items_of (pieces_of text)) (text_in files) names)
 
 -- what the databases give, from references to their items
-pub found_by : {R : Type 0} (now : R → List Piece) (items items_seen : List R) (databases seen_databases : List Database) (job : Job) (number : ℕ) (d : Declared) (all : Resolved) → d ≡ declared_before number job.program → map (λ (d : Database). d.text) databases ≡ map (text_in job.files) job.databases → seen_databases ≡ databases → map (λ i. items_of (now i)) items ≡ map (λ (d : Database). items_of (pieces_of d.text)) seen_databases → items_seen ≡ items → all ≡ resolved d job.cites (map (λ i. items_of (now i)) items_seen) job.min → all ≡ found_for job number
+pub found_by : {R : Type 0} (now : R → List PlacedPiece) (items items_seen : List R) (databases seen_databases : List Database) (job : Job) (number : ℕ) (d : Declared) (all : Resolved) → d ≡ declared_before number job.program → map (λ (d : Database). d.text) databases ≡ map (text_in job.files) job.databases → seen_databases ≡ databases → map (λ i. items_of (now i)) items ≡ map (λ (d : Database). items_of (pieces_of d.text)) seen_databases → items_seen ≡ items → all ≡ resolved d job.cites (map (λ i. items_of (now i)) items_seen) job.min → all ≡ found_for job number
 found_by now items items_seen databases seen_databases job number d all is_declared are_texts same_databases are_items same_items is =
     let seen : map (λ i. items_of (now i)) items_seen ≡ map (items_in job.files) job.databases =
     ap (map (λ i. items_of (now i))) same_items ∙ are_items ∙ ap (map (λ (d : Database). items_of (pieces_of d.text))) same_databases ∙ items_by job.files databases job.databases are_texts in

@@ -6,8 +6,7 @@ use Rattle.bt_style.specs.declared.style.Action.TheVariants as actions
 use Rattle.bt_style.specs.declared.style.Command.{Command}
 use Rattle.bt_style.specs.declared.style.Macro.{Macro}
 use Rattle.bt_style.specs.Program.{Definition, Program}
-use Rattle.bt_bib.specs.declared.item.Item.{Item}
-use Rattle.bt_bib.specs.Items.{items_of}
+use Rattle.bt_bib.specs.Items.{PlacedItem, items_of}
 use Rattle.bt_bib.specs.BibText.{pieces_of}
 use Rattle.bt_actions.specs.declared.entry.Variables.{Variables}
 use Rattle.bt_actions.specs.declared.entry.Entry.{Entry}
@@ -75,7 +74,7 @@ abbrev pub text_in : List File → List ℕ → List ℕ
 text_in files name = unwrap_or (text_of files name) []
 
 -- the items of a database
-abbrev pub items_in : List File → List ℕ → List Item
+abbrev pub items_in : List File → List ℕ → List PlacedItem
 items_in files name = items_of (pieces_of (text_in files name))
 
 -- what the databases give for the citations, at the command of this number

@@ -71,7 +71,7 @@ pub fn fault_told(alloc: Global, file: &[u8], fault: StyleFault) -> Result<Messa
 {
     let place = Place::Line {
         file: Shared::<Bytes>::copied(alloc, file)?,
-        line: fault.line,
+        line: fault.line as u128,
         byte: None,
     };
     Ok(Message {

@@ -38,6 +38,11 @@ impl Answer {
     }
 
     pub fn count(&mut self, n: usize) {
+        self.line(n as u128);
+    }
+
+    /// A line of a message to base 10.
+    pub fn line(&mut self, n: u128) {
         match format!(in self.alloc; "{n}") {
             Ok(digits) => self.put(digits.as_bytes()),
             Err(AllocError) => self.is_out_of_memory = true,

@@ -5,7 +5,7 @@ use crate::answer::Answer;
 use crate::spelling::{text_at, word_at};
 use bt_bib::{
     Closing, Content, Definition, Entry, Field, Item, ItemFault, Items, NameRole, Part, Piece,
-    PlacedPiece, Spot, read_bib,
+    PlacedPiece, read_bib,
 };
 use bt_text::{Bytes, Sequence, Shared};
 use std::alloc::{AllocError, Global};
@@ -42,14 +42,14 @@ fn closing_words(close: Option<Closing>) -> &'static [u8] {
 
 #[derive(Drop)]
 struct Spelled {
-    from: Spot,
+    from: usize,
     out: Answer,
 }
 
 impl Spelled {
     fn new(alloc: Global) -> Spelled {
         Spelled {
-            from: Spot { place: 0, line: 0 },
+            from: 0,
             out: Answer::new(alloc),
         }
     }
@@ -63,7 +63,7 @@ impl Spelled {
     }
 
     fn line(&mut self, line: usize) {
-        self.out.count(self.from.line.saturating_add(line));
+        self.out.count(self.from.saturating_add(line));
     }
 
     fn text(&mut self, label: &[u8], text: &Option<Shared<Bytes>>) {
@@ -153,7 +153,7 @@ impl Spelled {
 
     fn fault(&mut self, fault: ItemFault, line: usize) {
         self.out.put(fault_word(fault));
-        self.line(line);
+        self.out.count(line);
         self.cause(fault);
     }
 
@@ -173,52 +173,43 @@ impl Spelled {
         }
     }
 
-    fn span(&mut self, item: &Item) {
-        let start = self.from.place.saturating_add(item.start.place);
-        let end = self.from.place.saturating_add(item.end.place);
-        let line = self.from.line.saturating_add(item.line);
-        self.out.count(start);
+    fn span(&mut self, placed: &PlacedPiece, item: &Item) {
+        self.out.count(placed.start.place);
         self.out.put(b"..");
-        self.out.count(end);
+        self.out.count(placed.end.place);
         self.out.put(b" line=");
-        self.out.count(line);
+        self.line(item.line);
         self.out.put(b" ");
     }
 
-    fn item(&mut self, item: &Item) {
-        self.span(item);
+    fn item(&mut self, placed: &PlacedPiece, item: &Item) {
+        self.span(placed, item);
         self.content(item);
         self.out.put(b" fault=");
         match item.fault {
-            Some(fault) => self.fault(fault, item.end.line),
+            Some(fault) => self.fault(fault, placed.end.line),
             None => self.out.put(b"."),
         }
     }
 
     fn last_fault(&mut self, placed: &PlacedPiece) {
-        self.from = placed.start();
-        if let Piece::Item(item) = placed.piece() {
-            self.place_and_fault(item);
-        }
-    }
-
-    fn place_and_fault(&mut self, item: &Item) {
-        if let Some(fault) = item.fault {
-            self.out
-                .count(self.from.place.saturating_add(item.end.place));
+        if let Piece::Item(item) = &*placed.piece
+            && let Some(fault) = item.fault
+        {
+            self.out.count(placed.end.place);
             self.out.put(b" ");
-            self.fault(fault, item.end.line);
+            self.fault(fault, placed.end.line);
         }
     }
 
     /// An item after others, with ` ; ` before it; a comment word is left out.
     fn piece(&mut self, placed: &PlacedPiece) {
-        self.from = placed.start();
-        if let Piece::Item(item) = placed.piece() {
+        self.from = placed.start.line;
+        if let Piece::Item(item) = &*placed.piece {
             if !self.out.is_empty() {
                 self.out.put(b" ; ");
             }
-            self.item(item);
+            self.item(placed, item);
         }
     }
 }
@@ -242,7 +233,7 @@ fn last_fault(alloc: Global, items: &Items) -> Result<Bytes, AllocError> {
 fn item_count(items: &Items) -> usize {
     let mut count: usize = 0;
     for piece in items.pieces() {
-        if let Piece::Item(_) = piece.piece() {
+        if let Piece::Item(_) = &*piece.piece {
             count = count.saturating_add(1);
         }
     }

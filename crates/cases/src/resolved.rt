@@ -118,7 +118,7 @@ fn push_message(out: &mut Answer, message: &Message) {
     if let Some(Place::DatabaseLine { database, line, .. }) = &message.place {
         out.count(*database);
         out.put(b":");
-        out.count(*line);
+        out.line(*line);
         out.put(b" ");
     }
     match &message.said {

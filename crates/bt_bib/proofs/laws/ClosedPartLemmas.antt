@@ -2,7 +2,6 @@
 use Rattle.std.specs.Prelude.{nat_lt, ◌==◌, ◌||◌, ◌&&◌}
 use Rattle.std.specs.List.{list_all}
 use Rattle.std.proofs.Common.{append_assoc, ◌≡◌, ℕ, zero, suc, ◌+◌, ◌-◌, ◌<◌, ◌≤◌, Bool, true, false, cond, List, [], ◌∷◌, ◌++◌, length, take, drop, map, Option, Some, None, Ok, refl, sym, ap, subst, ◌∙◌, arith, inl, inr, length-append}
-use Rattle.std.specs.Option.{is_none}
 use Rattle.std.proofs.Math.Seq.{take-append-add, drop-append-add, take-append_seam, drop-append_seam, take-length}
 use Rattle.std.proofs.lemmas.List.{append-nil, take-append-le, drop-append-le}
 use Rattle.std.proofs.lemmas.Bool.{ltb-true, eqb-true, false≢true, and_parts, and_from, or_cases, or_left, or_right, lt-ltb, eq-eqb}
@@ -10,13 +9,13 @@ use Rattle.bt_bib.specs.declared.spot.Spot.{Spot}
 use Rattle.bt_bib.specs.declared.item.Item.{Item}
 use Rattle.bt_bib.specs.declared.item.Piece.{Piece}
 use Rattle.bt_bib.specs.declared.item.Piece.TheVariants as pieces
+use Rattle.bt_bib.specs.declared.placed_pieces.PlacedPiece.{PlacedPiece}
 use Rattle.bt_bib.specs.Spot.{Here, at, start, spot_after, spot_after_byte}
 use Rattle.bt_bib.specs.Scan.{first, after_run}
-use Rattle.bt_bib.specs.Pieces.{piece, next_piece}
+use Rattle.bt_bib.specs.Pieces.{piece, placed, next_piece}
+use Rattle.bt_bib.specs.Boundaries.{moved_piece}
 use Rattle.bt_bib.specs.BibText.{pieces_of}
-use Rattle.bt_bib.specs.inner.Cases.{next_one, pieces_from, is_text}
-use Rattle.bt_bib.specs.Moved.{nowhere, moved_piece, moved_option}
-use Rattle.bt_bib.specs.Boundaries.{end_of}
+use Rattle.bt_bib.specs.inner.Cases.{next_one, next_at, pieces_from, is_text}
 use Rattle.bt_bib.specs.laws.Laws.{offset}
 use Rattle.bt_bib.specs.Splice.{IsSplice}
 use Rattle.bt_bib.specs.Parts.{is_whole, lies_before, is_closed}
@@ -27,14 +26,13 @@ use Rattle.bt_bib.proofs.ManyLemmas.{IsLess}
 use Rattle.bt_bib.proofs.laws.SpellingLemmas.{Stops}
 use Rattle.bt_bib.proofs.laws.SpelledItemLemmas.{spelled_items_are_read}
 use Rattle.bt_bib.proofs.laws.FaultlessItemLemmas.{past_stops, read_piece}
-use Rattle.bt_bib.proofs.laws.FaultlessDatabaseLemmas.{at_sign}
+use Rattle.bt_bib.proofs.laws.FaultlessDatabaseLemmas.{at_sign, item_stands}
 use Rattle.bt_bib.proofs.PieceLemmas.{next_piece_reaches, next_piece_less}
 use Rattle.bt_bib.proofs.AlikeLemmas.{Alike}
 use Rattle.bt_bib.proofs.SameLemmas.{Same}
-use Rattle.bt_bib.proofs.PieceMoveLemmas.{next_piece_same}
-use Rattle.bt_bib.proofs.BoundaryLemmas.{pieces_by, pieces_step, piece_ends}
-use Rattle.bt_bib.proofs.KeptLemmas.{still, piece_still}
-use Rattle.bt_bib.proofs.laws.PartLemmas.{run_nil, run_cons, none_from, same_from, step_from, item_here, stands_moved, no_fault}
+use Rattle.bt_bib.proofs.SamePieceLemmas.{next_piece_same}
+use Rattle.bt_bib.proofs.BoundaryLemmas.{pieces_by, pieces_step}
+use Rattle.bt_bib.proofs.laws.PartLemmas.{run_nil, run_cons, none_from, same_from, step_from, stands_moved, no_fault}
 
 -- ---- closed texts
 
@@ -62,34 +60,34 @@ joined_none rest h s is =
     same ∙ ap (λ ps. ps ++ pieces_from (at (spot_after h.rest h.spot) rest)) (sym (none_from h (at s []) is refl))
 
 -- after what is read
-joined_then : (rest : List ℕ) (h e : Here) (p : Piece) → next_piece h ≡ (Some p, e) → next_piece (with_rest h rest) ≡ (Some p, with_rest e rest) → IsJoined rest e → IsJoined rest h
+joined_then : (rest : List ℕ) (h e : Here) (p : PlacedPiece) → next_piece h ≡ (Some p, e) → next_piece (with_rest h rest) ≡ (Some p, with_rest e rest) → IsJoined rest e → IsJoined rest h
 joined_then rest h e p is next later =
-    let x : Reaches h e = subst (λ (x : Option Piece × Here). Reaches h x.1) is (next_piece_reaches h) in
+    let x : Reaches h e = subst (λ (x : Option PlacedPiece × Here). Reaches h x.1) is (next_piece_reaches h) in
     let spot : spot_after h.rest h.spot ≡ spot_after e.rest e.spot = ap (λ r. spot_after r h.spot) x.parts ∙ passed-append x.front e.rest h.spot ∙ ap (spot_after e.rest) (sym x.spot) in
     pieces_step (with_rest h rest) ∙ ap pieces_by next ∙ ap (λ ps. p ∷ ps) later
     ∙ ap (λ u. p ∷ (pieces_from e ++ pieces_from (at u rest))) (sym spot)
     ∙ ap (λ ps. ps ++ pieces_from (at (spot_after h.rest h.spot) rest)) (sym (pieces_step h ∙ ap pieces_by is))
 
-joined_below : (rest : List ℕ) (h e : Here) (p : Piece) → next_piece h ≡ (Some p, e) → e.spot.place < h.spot.place + length h.rest → next_piece (with_rest h rest) ≡ (Some p, with_rest e rest)
+joined_below : (rest : List ℕ) (h e : Here) (p : PlacedPiece) → next_piece h ≡ (Some p, e) → e.spot.place < h.spot.place + length h.rest → next_piece (with_rest h rest) ≡ (Some p, with_rest e rest)
 joined_below rest h e p is lt =
     let s = h.spot in
     let r = h.rest in
     let k = with_rest h rest in
     let limit = s.place + length r in
     let less : limit - s.place ≡ length r = omega arith in
-    let alike : Alike nowhere limit h k = record { spot = sym (still s); rest = ap (λ j. take j r) less ∙ take-length r ∙ sym (take-append_seam r rest) ∙ ap (λ j. take j (r ++ rest)) (sym less) } in
-    let same : Same nowhere limit (moved_option (moved_piece nowhere)) (Ok (Some p, e)) (next_one k) = subst (λ (x : Option Piece × Here). Same nowhere limit (moved_option (moved_piece nowhere)) (Ok x) (next_one k)) is (next_piece_same nowhere limit h k alike) in
+    let alike : Alike limit h k = record { spot = refl; rest = ap (λ j. take j r) less ∙ take-length r ∙ sym (take-append_seam r rest) ∙ ap (λ j. take j (r ++ rest)) (sym less) } in
+    let same : Same limit (Ok (Some p, e)) (next_one k) = subst (λ (x : Option PlacedPiece × Here). Same limit (Ok x) (next_one k)) is (next_piece_same limit h k alike) in
     let t = same.alike lt in
     let g = t.0 in
-    let one : next_piece k ≡ (Some (moved_piece nowhere p), g) = cc t.1 in
-    let to_e : Reaches h e = subst (λ (x : Option Piece × Here). Reaches h x.1) is (next_piece_reaches h) in
-    let to_g : Reaches k g = subst (λ (x : Option Piece × Here). Reaches k x.1) one (next_piece_reaches k) in
-    let spot : g.spot ≡ e.spot = t.2.spot ∙ still e.spot in
+    let one : next_piece k ≡ (Some p, g) = cc t.1 in
+    let to_e : Reaches h e = subst (λ (x : Option PlacedPiece × Here). Reaches h x.1) is (next_piece_reaches h) in
+    let to_g : Reaches k g = subst (λ (x : Option PlacedPiece × Here). Reaches k x.1) one (next_piece_reaches k) in
+    let spot : g.spot ≡ e.spot = t.2.spot in
     let f = to_e.front in
     let count : length to_g.front ≡ length f = omega (arith, ap (λ (s : Spot). s.place) to_g.spot, ap (λ (s : Spot). s.place) to_e.spot, ap (λ (s : Spot). s.place) spot) in
     let bytes : drop (length f) (r ++ rest) ≡ e.rest ++ rest = ap (λ l. drop (length f) (l ++ rest)) to_e.parts ∙ ap (drop (length f)) (append_assoc f e.rest rest) ∙ drop-append_seam f (e.rest ++ rest) in
     let left : g.rest ≡ e.rest ++ rest = sym (drop-append_seam to_g.front g.rest) ∙ ap (drop (length to_g.front)) (sym to_g.parts) ∙ ap (λ j. drop j (r ++ rest)) count ∙ bytes in
-    one ∙ ap (λ q. (Some q, g)) (piece_still p) ∙ ap (λ u. (Some p, at u g.rest)) spot ∙ ap (λ l. (Some p, at e.spot l)) left
+    one ∙ ap (λ u. (Some p, at u g.rest)) spot ∙ ap (λ l. (Some p, at e.spot l)) left
 
 run_on_by : (v : Bool) (rest : List ℕ) (s : Spot) (b : ℕ) (bs : List ℕ) → is_text b ≡ v → (let c = cond v (past_run is_text (spot_after_byte b s) bs) (at s (b ∷ bs)) in 0 < length c.rest → (0 < length (past_run is_text (spot_after_byte b s) bs).rest → past_run is_text (spot_after_byte b s) (bs ++ rest) ≡ with_rest (past_run is_text (spot_after_byte b s) bs) rest) → past_run is_text s (b ∷ (bs ++ rest)) ≡ with_rest c rest)
 run_on_by false rest s b bs is lt step = run_cons s b (bs ++ rest) ∙ ap (λ v. cond v (past_run is_text (spot_after_byte b s) (bs ++ rest)) (at s (b ∷ (bs ++ rest)))) is
@@ -101,10 +99,11 @@ unfolding past_run
 run_on rest s [] lt = absurd (omega arith)
 run_on rest s (b ∷ bs) lt = run_on_by (is_text b) rest s b bs refl lt (run_on rest (spot_after_byte b s) bs)
 
-joined_at : (rest : List ℕ) (h a : Here) (b : ℕ) (bs : List ℕ) (i : Item) → after_run is_text h ≡ a → a.rest ≡ b ∷ bs → first a.rest ≡ Some 64 → (piece a).0 ≡ pieces.Item i → i.fault ≡ None → (piece a).1.rest ≡ [] → next_piece (with_rest h rest) ≡ (Some (pieces.Item i), with_rest (piece a).1 rest)
+joined_at : (rest : List ℕ) (h a : Here) (b : ℕ) (bs : List ℕ) (i : Item) → after_run is_text h ≡ a → a.rest ≡ b ∷ bs → first a.rest ≡ Some 64 → (piece a.rest).0 ≡ pieces.Item i → i.fault ≡ None → (piece a.rest).1.rest ≡ [] → (let p = placed a.spot (piece a.rest) in next_piece (with_rest h rest) ≡ (Some p.0, with_rest p.1 rest))
 joined_at rest h a b bs i is starts sign item faultless ends =
-    let e = (piece a).1 in
-    let x = item_here 0 h a (piece a) i item faultless (read_piece a sign) in
+    let q = (piece a.rest).1 in
+    let p = placed a.spot (piece a.rest) in
+    let x = item_stands a.rest (piece a.rest) i item faultless (read_piece a.rest sign) in
     let t = x.text in
     let bytes : a.rest ≡ t = x.rest ∙ ap (λ l. t ++ l) ends ∙ append-nil t in
     let walked = past_is_run is_text in
@@ -112,13 +111,13 @@ joined_at rest h a b bs i is starts sign item faultless ends =
     let long : 0 < length (past_run is_text h.spot h.rest).rest = omega (arith, ap (λ (k : Here). length k.rest) way, ap length starts) in
     let found : after_run is_text (with_rest h rest) ≡ with_rest a rest = walked h.spot (h.rest ++ rest) ∙ run_on rest h.spot h.rest long ∙ ap (λ k. with_rest k rest) way in
     let step = step_from (with_rest h rest) (with_rest a rest) b (bs ++ rest) found (ap (λ l. l ++ rest) starts) in
-    let read : piece (with_rest a rest) ≡ (pieces.Item i, at (spot_after t a.spot) rest) = ap (λ l. piece (at a.spot (l ++ rest))) bytes ∙ spelled_items_are_read i a.spot t rest x.spelled in
-    step ∙ ap (λ (p : Piece × Here). (Some p.0, p.1)) read ∙ ap (λ u. (Some (pieces.Item i), at u rest)) (sym x.spot) ∙ ap (λ l. (Some (pieces.Item i), at e.spot (l ++ rest))) (sym ends)
+    let read : piece (a.rest ++ rest) ≡ ((piece a.rest).0, at q.spot rest) = ap (λ l. piece (l ++ rest)) bytes ∙ spelled_items_are_read i t rest x.spelled ∙ ap (λ u. (pieces.Item i, at u rest)) (sym x.spot) ∙ ap (λ y. (y, at q.spot rest)) (sym item) in
+    step ∙ ap (next_at a.spot) read ∙ ap (λ l. (Some p.0, at p.1.spot (l ++ rest))) (sym ends)
 
-whole_end : (rest : List ℕ) (h a : Here) (b : ℕ) (bs : List ℕ) → after_run is_text h ≡ a → a.rest ≡ b ∷ bs → first a.rest ≡ Some 64 → (x : Piece × Here) → piece a ≡ x → is_whole x.0 ≡ true → x.1.rest ≡ [] → next_piece (with_rest h rest) ≡ (Some x.0, with_rest x.1 rest)
-whole_end rest h a b bs is starts sign (pieces.Comment s e, k) reads whole ends = absurd (false≢true whole)
+whole_end : (rest : List ℕ) (h a : Here) (b : ℕ) (bs : List ℕ) → after_run is_text h ≡ a → a.rest ≡ b ∷ bs → first a.rest ≡ Some 64 → (x : Piece × Here) → piece a.rest ≡ x → is_whole x.0 ≡ true → x.1.rest ≡ [] → next_piece (with_rest h rest) ≡ (Some (placed a.spot x).0, with_rest (placed a.spot x).1 rest)
+whole_end rest h a b bs is starts sign (pieces.Comment, k) reads whole ends = absurd (false≢true whole)
 whole_end rest h a b bs is starts sign (pieces.Item i, k) reads whole ends =
-    joined_at rest h a b bs i is starts sign (ap (λ (x : Piece × Here). x.0) reads) (no_fault i.fault whole) (ap (λ (x : Piece × Here). x.1.rest) reads ∙ ends) ∙ ap (λ (x : Piece × Here). (Some (pieces.Item i), with_rest x.1 rest)) reads
+    joined_at rest h a b bs i is starts sign (ap (λ (x : Piece × Here). x.0) reads) (no_fault i.fault whole) (ap (λ (x : Piece × Here). x.1.rest) reads ∙ ends) ∙ ap (λ x. (Some (placed a.spot x).0, with_rest (placed a.spot x).1 rest)) reads
 
 nothing_left : (r : List ℕ) → length r ≡ 0 → r ≡ []
 nothing_left [] is = refl
@@ -128,23 +127,23 @@ joined_by : (rest : List ℕ) (h : Here) (s : Spot) (r : List ℕ) → after_run
 joined_by rest h s [] is stop all later = joined_none rest h s is
 joined_by rest h s (b ∷ bs) is stop all later =
     let a = at s (b ∷ bs) in
-    let e = (piece a).1 in
-    let p = (piece a).0 in
+    let x = piece a.rest in
+    let e = (placed s x).1 in
+    let p = (placed s x).0 in
     let limit = h.spot.place + length h.rest in
     let step = step_from h a b bs is refl in
-    let less : length e.rest < length h.rest = subst (λ (x : Option Piece × Here). IsLess h (Ok x)) step (next_piece_less h) in
-    let ahead : Reaches h e = subst (λ (x : Option Piece × Here). Reaches h x.1) step (next_piece_reaches h) in
+    let less : length e.rest < length h.rest = subst (λ (x : Option PlacedPiece × Here). IsLess h (Ok x)) step (next_piece_less h) in
+    let ahead : Reaches h e = subst (λ (x : Option PlacedPiece × Here). Reaches h x.1) step (next_piece_reaches h) in
     let sum = reaches_sum h e ahead in
     let these : pieces_from h ≡ p ∷ pieces_from e = pieces_step h ∙ ap pieces_by step in
     let both = and_parts (lies_before limit p) (list_all (lies_before limit) (pieces_from e)) (subst (λ ps. list_all (lies_before limit) ps ≡ true) these all) in
     let after : IsJoined rest e = later e less (subst (λ n. list_all (lies_before n) (pieces_from e) ≡ true) (sym sum) both.1) in
-    let ends : (end_of p).place ≡ e.spot.place = ap (λ (s : Spot). s.place) (piece_ends a) in
-    elim (or_cases (nat_lt (end_of p).place limit) (is_whole p && (end_of p).place == limit) both.0) [
-      | inl v ↦ joined_then rest h e p step (joined_below rest h e p step (omega (arith, ltb-true (end_of p).place limit v, ends))) after
+    elim (or_cases (nat_lt p.end.place limit) (is_whole p.piece && p.end.place == limit) both.0) [
+      | inl v ↦ joined_then rest h e p step (joined_below rest h e p step (ltb-true p.end.place limit v)) after
       | inr v ↦
-          (let two = and_parts (is_whole p) ((end_of p).place == limit) v in
-          let none : e.rest ≡ [] = nothing_left e.rest (omega (arith, sum, ends, eqb-true (end_of p).place limit two.1)) in
-          joined_then rest h e p step (whole_end rest h a b bs is refl (ap (λ b. Some b) (at_sign b stop)) (piece a) refl two.0 none) after)
+          (let two = and_parts (is_whole p.piece) (p.end.place == limit) v in
+          let none : e.rest ≡ [] = nothing_left e.rest (omega (arith, sum, eqb-true p.end.place limit two.1)) in
+          joined_then rest h e p step (whole_end rest h a b bs is refl (ap (λ b. Some b) (at_sign b stop)) x refl two.0 none) after)
     ]
 
 joined_fuel : (fuel : ℕ) (rest : List ℕ) (h : Here) → length h.rest < fuel → list_all (lies_before (h.spot.place + length h.rest)) (pieces_from h) ≡ true → IsJoined rest h
@@ -154,11 +153,11 @@ joined_fuel (suc fuel) rest h lt all =
     joined_by rest h a.spot a.rest refl (past_stops is_text h) all (λ e less there. joined_fuel fuel rest e (omega arith) there)
 
 -- a closed text, where it stands
-closed_moved : (limit : ℕ) (m : Spot) (ps : List Piece) → list_all (lies_before limit) ps ≡ true → list_all (lies_before (limit + m.place)) (map (moved_piece m) ps) ≡ true
+closed_moved : (limit : ℕ) (m : Spot) (ps : List PlacedPiece) → list_all (lies_before limit) ps ≡ true → list_all (lies_before (limit + m.place)) (map (moved_piece m) ps) ≡ true
 closed_moved limit m [] all = refl
 closed_moved limit m (p ∷ ps) all =
     let both = and_parts (lies_before limit p) (list_all (lies_before limit) ps) all in
-    and_from (lies_before (limit + m.place) (moved_piece m p)) (list_all (lies_before (limit + m.place)) (map (moved_piece m) ps)) (one p both.0) (closed_moved limit m ps both.1)
+    and_from (lies_before (limit + m.place) (moved_piece m p)) (list_all (lies_before (limit + m.place)) (map (moved_piece m) ps)) (ended p.end (is_whole p.piece) both.0) (closed_moved limit m ps both.1)
   where
     ended : (end : Spot) (whole : Bool) → (nat_lt end.place limit || (whole && end.place == limit)) ≡ true → (nat_lt (end.place + m.place) (limit + m.place) || (whole && (end.place + m.place) == (limit + m.place))) ≡ true
     ended end whole h = elim (or_cases (nat_lt end.place limit) (whole && end.place == limit) h) [
@@ -167,10 +166,6 @@ closed_moved limit m (p ∷ ps) all =
           (let two = and_parts whole (end.place == limit) v in
           or_right (nat_lt (end.place + m.place) (limit + m.place)) (whole && (end.place + m.place) == (limit + m.place)) (and_from whole ((end.place + m.place) == (limit + m.place)) two.0 (eq-eqb (end.place + m.place) (limit + m.place) (omega (arith, eqb-true end.place limit two.1)))))
     ]
-
-    one : (p : Piece) → lies_before limit p ≡ true → lies_before (limit + m.place) (moved_piece m p) ≡ true
-    one (pieces.Comment s e) h = ended e false h
-    one (pieces.Item i) h = ended i.end (is_none i.fault) h
 
 joined_here : (s : Spot) (front rest : List ℕ) → start.line ≤ s.line → is_closed front ≡ true → pieces_from (at s (front ++ rest)) ≡ pieces_at s front ++ pieces_from (at (spot_after front s) rest)
 unfolding pieces_of

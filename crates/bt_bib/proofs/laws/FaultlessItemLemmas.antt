@@ -17,7 +17,7 @@ use Rattle.bt_bib.specs.declared.item.Piece.{Piece}
 use Rattle.bt_bib.specs.declared.item.Piece.TheVariants as pieces
 use Rattle.bt_bib.specs.declared.keywords.Keyword.{Keyword}
 use Rattle.bt_bib.specs.declared.keywords.Keyword.TheVariants as keywords
-use Rattle.bt_bib.specs.Spot.{Here, at, spot_after_byte, spot_after, after_byte, after_bytes}
+use Rattle.bt_bib.specs.Spot.{Here, at, item_start, spot_after_byte, spot_after, after_byte, after_bytes}
 use Rattle.bt_bib.specs.Scan.{first, run, after_run, after_white, sign, closing_sign, is_key_byte}
 use Rattle.bt_bib.specs.Stop.{Stop, ◌>>=◌, value_read}
 use Rattle.bt_bib.specs.Names.{word, name_ended, name}
@@ -28,14 +28,15 @@ use Rattle.bt_bib.specs.inner.Cases.{field_or_close, many_by, name_line, type_en
 use Rattle.bt_bib.specs.Keywords.{keyword_of}
 use Rattle.bt_bib.specs.Pieces.{ended_item, opening, after_closing, entry_item, string_item, preamble_item, item_opened, item_of_type, piece, unread_entry, unread_string}
 use Rattle.bt_bib.specs.laws.Spelling.{Spelling, ◌▸◌, ◌⋯◌, Bytes, Written, White, Sign, OnLine, Provided, MayEndName}
-use Rattle.bt_bib.specs.laws.Spelled.{NameOf, ValueOf, FieldOf, FieldsOf, EndsKey, Keyed, opening_sign, IsWord, WordOf, Head, ItemOf, AnEntry, AString, APreamble}
+use Rattle.bt_bib.specs.laws.Spelled.{NameOf, ValueOf, FieldOf, FieldsOf, EndsKey, Keyed, opening_sign, IsWord, WordOf, Head, whole, CommentWord, ItemOf, AnEntry, AString, APreamble}
 use Rattle.bt_bib.proofs.RunLemmas.{passed-nil, past_run, past_is_run}
 use Rattle.bt_bib.proofs.ManyLemmas.{IsLess, all_is}
+use Rattle.bt_bib.proofs.PieceLemmas.{item_here}
 use Rattle.bt_bib.proofs.FieldLemmas.{next_field_less}
 use Rattle.bt_bib.proofs.laws.CutLemmas.{Begins}
 use Rattle.bt_bib.proofs.laws.SpellingLemmas.{Stands, split, starts_white, Stops, past_to}
 use Rattle.bt_bib.proofs.laws.SpelledFieldLemmas.{one_field, fields_start}
-use Rattle.bt_bib.proofs.laws.SpelledItemLemmas.{type_signs, ended_at, valued_by}
+use Rattle.bt_bib.proofs.laws.SpelledItemLemmas.{type_signs, valued_by}
 use Rattle.bt_bib.proofs.laws.FaultlessTextLemmas.{bind_ok, ok_same, stands_both, stands_spaced, stands_on, stands_run, stands_white, stands_sign, run_all, read_sign, read_word, read_ended, read_name}
 use Rattle.bt_bib.proofs.laws.FaultlessFieldLemmas.{stands_this, stands_that, read_value, equals_stand, read_field}
 
@@ -172,28 +173,32 @@ head_stands keyword n close A h e o k w opens a =
 
 -- Items
 
--- A faultless piece stands there as it is spelled.
-abbrev pub PieceStands : Here → Piece × Here → Type 0
-PieceStands h (pieces.Comment start end, k) = (start ≡ h.spot) × (end ≡ k.spot) × MayEndName type_signs k.rest × Stands (Sign 64 ⋯ WordOf keywords.Comment) h k
-PieceStands h (pieces.Item i, k) = i.fault ≡ None → Stands (ItemOf i) h k
+-- where an item stands, whose spelling counts from its own `@`
+abbrev pub Own : (List ℕ → Type 0) → Spelling
+Own P s text = P text
 
-item_stands : (h : Here) (start : Spot) (line : ℕ) (content : Content) (close : Closing) (r : Result Here Stop) → ((k : Here) → r ≡ Ok k → Stands (ItemOf (ended_at start k.spot line content close)) h k) → PieceStands h (ended_item start line content (Some close) r)
-item_stands h start line content close (Ok k) f = λ faultless. f k refl
-item_stands h start line content close (Err stop) f = λ faultless. absurd (cc faultless)
+-- A faultless piece is spelled by the bytes of which it is read.
+abbrev pub PieceStands : List ℕ → Piece × Here → Type 0
+PieceStands t (pieces.Comment, k) = MayEndName type_signs k.rest × Stands (Own CommentWord) (item_here t) k
+PieceStands t (pieces.Item i, k) = i.fault ≡ None → Stands (Own (ItemOf i)) (item_here t) k
 
-as_item : (A : Spelling) (line : ℕ) (content : Content) (close : Closing) (h k : Here) → ((text : List ℕ) → A h.spot text → ItemOf (ended_at h.spot (spot_after text h.spot) line content close) h.spot text) → Stands A h k → Stands (ItemOf (ended_at h.spot k.spot line content close)) h k
-as_item A line content close h k f x = record { text = x.text; spelled = subst (λ end. ItemOf (ended_at h.spot end line content close) h.spot x.text) (sym x.spot) (f x.text x.spelled); rest = x.rest; spot = x.spot }
+item_stands : (t : List ℕ) (line : ℕ) (content : Content) (close : Closing) (r : Result Here Stop) → ((k : Here) → r ≡ Ok k → Stands (Own (ItemOf (whole line content close))) (item_here t) k) → PieceStands t (ended_item line content (Some close) r)
+item_stands t line content close (Ok k) f = λ faultless. f k refl
+item_stands t line content close (Err stop) f = λ faultless. absurd (cc faultless)
 
-entry_stands : (n : List ℕ) (close : Closing) (h e o : Here) → Worded keywords.Entry n h e → opening (after_white e) ≡ Ok (close, o) → PieceStands h (entry_item h.spot n close (after_white o))
-entry_stands n close h e o w opens =
+as_item : (A : Spelling) (line : ℕ) (content : Content) (close : Closing) (t : List ℕ) (k : Here) → ((text : List ℕ) → A item_start text → ItemOf (whole line content close) text) → Stands A (item_here t) k → Stands (Own (ItemOf (whole line content close))) (item_here t) k
+as_item A line content close t k f x = record { text = x.text; spelled = f x.text x.spelled; rest = x.rest; spot = x.spot }
+
+entry_stands : (n : List ℕ) (close : Closing) (t : List ℕ) (e o : Here) → Worded keywords.Entry n (item_here t) e → opening (after_white e) ≡ Ok (close, o) → PieceStands t (entry_item n close (after_white o))
+entry_stands n close t e o w opens =
     let q = after_white o in
     let key = run (is_key_byte close) q in
     let inside = after_white (after_run (is_key_byte close) q) in
     let fields = all (next_field close) inside in
     let K = Keyed close key (FieldsOf close fields.0) in
     let content = contents.Entry (record { kind = Some n; key = Some key; fields = fields.0 }) in
-    item_stands h h.spot q.spot.line content close fields.1 (λ k is.
-    as_item (Head keywords.Entry n close (OnLine q.spot.line K)) q.spot.line content close h k (λ text x. AnEntry x) (head_stands keywords.Entry n close (OnLine q.spot.line K) h e o k w opens
+    item_stands t q.spot.line content close fields.1 (λ k is.
+    as_item (Head keywords.Entry n close (OnLine q.spot.line K)) q.spot.line content close t k (λ text x. AnEntry x) (head_stands keywords.Entry n close (OnLine q.spot.line K) (item_here t) e o k w opens
     (stands_on K q k (keyed_by close q key fields.0 k refl (past_stops is_white o) (read_fields (suc (length inside.rest)) close inside fields.0 k (omega arith) (ap (λ (r : Result Here Stop). (fields.0, r)) is))))))
 
 -- a value, and the sign that closes the item
@@ -202,37 +207,37 @@ closed_stands close h v k is closes =
     let one = split (ValueOf v.0) White h v.1 (read_value close h v.0 v.1 is) in
     stands_spaced (ValueOf v.0) (Sign (closing_sign close)) h one.mid v.1 k one.front one.back (read_sign (closing_sign close) ExpectedCommaOrClose v.1 k closes)
 
-abbrev string_made : Closing → Spot → ℕ → Result (List ℕ × Here) Stop → Result (List Part × Here) Stop → Piece × Here
-string_made close start line named valued = ended_item start (name_line line start.line (value_read named)) (contents.Define (record { name = value_read named; value = value_read valued })) (Some close) (valued >>= λ v. after_closing close v.1)
+abbrev string_made : Closing → ℕ → Result (List ℕ × Here) Stop → Result (List Part × Here) Stop → Piece × Here
+string_made close line named valued = ended_item (name_line line (value_read named)) (contents.Define (record { name = value_read named; value = value_read valued })) (Some close) (valued >>= λ v. after_closing close v.1)
 
-string_by : (text : List ℕ) (close : Closing) (h e o : Here) (named : Result (List ℕ × Here) Stop) (valued : Result (List Part × Here) Stop) → Worded keywords.String text h e → opening (after_white e) ≡ Ok (close, o) → name StringName name_ends (after_white o) ≡ named → valued_by close named ≡ valued → PieceStands h (string_made close h.spot (after_white o).spot.line named valued)
-string_by text close h e o named (Err stop) w opens is reads = λ faultless. absurd (cc faultless)
-string_by text close h e o (Err stop) (Ok v) w opens is reads = absurd (cc reads)
-string_by text close h e o (Ok n) (Ok v) w opens is reads =
+string_by : (text : List ℕ) (close : Closing) (t : List ℕ) (e o : Here) (named : Result (List ℕ × Here) Stop) (valued : Result (List Part × Here) Stop) → Worded keywords.String text (item_here t) e → opening (after_white e) ≡ Ok (close, o) → name StringName name_ends (after_white o) ≡ named → valued_by close named ≡ valued → PieceStands t (string_made close (after_white o).spot.line named valued)
+string_by text close t e o named (Err stop) w opens is reads = λ faultless. absurd (cc faultless)
+string_by text close t e o (Err stop) (Ok v) w opens is reads = absurd (cc reads)
+string_by text close t e o (Ok n) (Ok v) w opens is reads =
     let q = after_white o in
     let V = ValueOf v.0 ⋯ Sign (closing_sign close) in
     let N = NameOf n.0 ⋯ Sign 61 ⋯ V in
     let line = q.spot.line in
     let content = contents.Define (record { name = Some n.0; value = Some v.0 }) in
     let equals = bind_ok (sign 61 ExpectedEquals (after_white n.1)) (λ equals. value close (after_white equals)) v reads in
-    item_stands h h.spot line content close (after_closing close v.1) (λ k closes.
-    as_item (Head keywords.String text close (OnLine line N)) line content close h k (λ text x. AString x) (head_stands keywords.String text close (OnLine line N) h e o k w opens
+    item_stands t line content close (after_closing close v.1) (λ k closes.
+    as_item (Head keywords.String text close (OnLine line N)) line content close t k (λ text x. AString x) (head_stands keywords.String text close (OnLine line N) (item_here t) e o k w opens
     (stands_on N q k (equals_stand n.0 V q n.1 equals.0 k (read_name StringName name_ends q n.0 n.1 is) equals.1 (closed_stands close (after_white equals.0) v k equals.2 closes)))))
 
-abbrev preamble_made : Closing → Spot → Result (List Part × Here) Stop → Piece × Here
-preamble_made close start valued = ended_item start start.line (contents.Preamble (value_read valued)) (Some close) (valued >>= λ v. after_closing close v.1)
+abbrev preamble_made : Closing → Result (List Part × Here) Stop → Piece × Here
+preamble_made close valued = ended_item 0 (contents.Preamble (value_read valued)) (Some close) (valued >>= λ v. after_closing close v.1)
 
-preamble_by : (text : List ℕ) (close : Closing) (h e o : Here) (valued : Result (List Part × Here) Stop) → Worded keywords.Preamble text h e → opening (after_white e) ≡ Ok (close, o) → value close (after_white o) ≡ valued → PieceStands h (preamble_made close h.spot valued)
-preamble_by text close h e o (Err stop) w opens is = λ faultless. absurd (cc faultless)
-preamble_by text close h e o (Ok v) w opens is =
+preamble_by : (text : List ℕ) (close : Closing) (t : List ℕ) (e o : Here) (valued : Result (List Part × Here) Stop) → Worded keywords.Preamble text (item_here t) e → opening (after_white e) ≡ Ok (close, o) → value close (after_white o) ≡ valued → PieceStands t (preamble_made close valued)
+preamble_by text close t e o (Err stop) w opens is = λ faultless. absurd (cc faultless)
+preamble_by text close t e o (Ok v) w opens is =
     let V = ValueOf v.0 ⋯ Sign (closing_sign close) in
     let content = contents.Preamble (Some v.0) in
-    item_stands h h.spot h.spot.line content close (after_closing close v.1) (λ k closes.
-    as_item (Head keywords.Preamble text close V) h.spot.line content close h k (λ text x. APreamble x) (head_stands keywords.Preamble text close V h e o k w opens (closed_stands close (after_white o) v k is closes)))
+    item_stands t 0 content close (after_closing close v.1) (λ k closes.
+    as_item (Head keywords.Preamble text close V) 0 content close t k (λ text x. APreamble x) (head_stands keywords.Preamble text close V (item_here t) e o k w opens (closed_stands close (after_white o) v k is closes)))
 
-opened_by : (h : Here) (unread : Content) (made : Closing → Here → Piece × Here) (r : Result (Closing × Here) Stop) → ((close : Closing) (o : Here) → r ≡ Ok (close, o) → PieceStands h (made close (after_white o))) → PieceStands h (item_opened h.spot unread made r)
-opened_by h unread made (Err stop) f = λ faultless. absurd (cc faultless)
-opened_by h unread made (Ok (close, o)) f = f close o refl
+opened_by : (t : List ℕ) (unread : Content) (made : Closing → Here → Piece × Here) (r : Result (Closing × Here) Stop) → ((close : Closing) (o : Here) → r ≡ Ok (close, o) → PieceStands t (made close (after_white o))) → PieceStands t (item_opened unread made r)
+opened_by t unread made (Err stop) f = λ faultless. absurd (cc faultless)
+opened_by t unread made (Ok (close, o)) f = f close o refl
 
 as_word : (keyword : Keyword) (n : List ℕ) (s : Spot) (t : List ℕ) → keyword_of n ≡ keyword → NameOf n s t → Bytes n (IsWord keyword n) s t
 as_word keyword n s t is (Written named) = Written (named, is)
@@ -243,26 +248,28 @@ worded keyword n h e is sign x = record { sign = sign; word = record { text = x.
 any_word : (keyword : Keyword) (n : List ℕ) (s : Spot) (t : List ℕ) → Bytes n (IsWord keyword n) s t → WordOf keyword s t
 any_word keyword n s t (Written is) = is
 
-typed_stands : (keyword : Keyword) (n : List ℕ) (h e : Here) → keyword_of n ≡ keyword → first h.rest ≡ Some 64 → Stands (NameOf n) (after_white (after_byte h)) e → MayEndName type_signs e.rest → PieceStands h (item_of_type keyword h.spot n e)
-typed_stands keywords.Comment n h e is sign x ends =
+typed_stands : (keyword : Keyword) (n t : List ℕ) (e : Here) → keyword_of n ≡ keyword → first t ≡ Some 64 → Stands (NameOf n) (after_white (after_byte (item_here t))) e → MayEndName type_signs e.rest → PieceStands t (item_of_type keyword n e)
+typed_stands keywords.Comment n t e is sign x ends =
+    let h = item_here t in
     let w = worded keywords.Comment n h e is sign x in
     let q = after_white (after_byte h) in
     let any : Stands (WordOf keywords.Comment) q e = record { text = w.word.text; spelled = any_word keywords.Comment n q.spot w.word.text w.word.spelled; rest = w.word.rest; spot = w.word.spot } in
-    (refl, refl, ends, stands_spaced (Sign 64) (WordOf keywords.Comment) h (after_byte h) q e (stands_sign 64 h sign) (stands_white (after_byte h)) any)
-typed_stands keywords.String n h e is sign x ends = opened_by h unread_string (string_item h.spot) (opening (after_white e)) (λ close o opens. string_by n close h e o (name StringName name_ends (after_white o)) (valued_by close (name StringName name_ends (after_white o))) (worded keywords.String n h e is sign x) opens refl refl)
-typed_stands keywords.Preamble n h e is sign x ends = opened_by h (contents.Preamble None) (preamble_item h.spot) (opening (after_white e)) (λ close o opens. preamble_by n close h e o (value close (after_white o)) (worded keywords.Preamble n h e is sign x) opens refl)
-typed_stands keywords.Entry n h e is sign x ends = opened_by h (unread_entry (Some n)) (entry_item h.spot n) (opening (after_white e)) (λ close o opens. entry_stands n close h e o (worded keywords.Entry n h e is sign x) opens)
+    let all = stands_spaced (Sign 64) (WordOf keywords.Comment) h (after_byte h) q e (stands_sign 64 h sign) (stands_white (after_byte h)) any in
+    (ends, record { text = all.text; spelled = all.spelled; rest = all.rest; spot = all.spot })
+typed_stands keywords.String n t e is sign x ends = opened_by t unread_string string_item (opening (after_white e)) (λ close o opens. string_by n close t e o (name StringName name_ends (after_white o)) (valued_by close (name StringName name_ends (after_white o))) (worded keywords.String n (item_here t) e is sign x) opens refl refl)
+typed_stands keywords.Preamble n t e is sign x ends = opened_by t (contents.Preamble None) preamble_item (opening (after_white e)) (λ close o opens. preamble_by n close t e o (value close (after_white o)) (worded keywords.Preamble n (item_here t) e is sign x) opens refl)
+typed_stands keywords.Entry n t e is sign x ends = opened_by t (unread_entry (Some n)) (entry_item n) (opening (after_white e)) (λ close o opens. entry_stands n close t e o (worded keywords.Entry n (item_here t) e is sign x) opens)
 
-type_ended_by : (n : List ℕ) (h c : Here) (r : Result Here Stop) → name_ended EntryType type_signs c ≡ r → first h.rest ≡ Some 64 → Stands (NameOf n) (after_white (after_byte h)) c → PieceStands h (type_ended h.spot n r)
-type_ended_by n h c (Err stop) is sign x = λ faultless. absurd (cc faultless)
-type_ended_by n h c (Ok e) is sign x =
+type_ended_by : (n t : List ℕ) (c : Here) (r : Result Here Stop) → name_ended EntryType type_signs c ≡ r → first t ≡ Some 64 → Stands (NameOf n) (after_white (after_byte (item_here t))) c → PieceStands t (type_ended n r)
+type_ended_by n t c (Err stop) is sign x = λ faultless. absurd (cc faultless)
+type_ended_by n t c (Ok e) is sign x =
     let ends = read_ended EntryType type_signs c e is in
-    typed_stands (keyword_of n) n h e refl sign (subst (Stands (NameOf n) (after_white (after_byte h))) ends.0 x) (subst (λ (k : Here). MayEndName type_signs k.rest) ends.0 ends.1)
+    typed_stands (keyword_of n) n t e refl sign (subst (Stands (NameOf n) (after_white (after_byte (item_here t)))) ends.0 x) (subst (λ (k : Here). MayEndName type_signs k.rest) ends.0 ends.1)
 
-type_read_by : (h : Here) (r : Result (List ℕ × Here) Stop) → word EntryType (after_white (after_byte h)) ≡ r → first h.rest ≡ Some 64 → PieceStands h (type_read h.spot r)
-type_read_by h (Err stop) is sign = λ faultless. absurd (cc faultless)
-type_read_by h (Ok (n, c)) is sign = type_ended_by n h c (name_ended EntryType type_signs c) refl sign (read_word EntryType (after_white (after_byte h)) n c is)
+type_read_by : (t : List ℕ) (r : Result (List ℕ × Here) Stop) → word EntryType (after_white (after_byte (item_here t))) ≡ r → first t ≡ Some 64 → PieceStands t (type_read r)
+type_read_by t (Err stop) is sign = λ faultless. absurd (cc faultless)
+type_read_by t (Ok (n, c)) is sign = type_ended_by n t c (name_ended EntryType type_signs c) refl sign (read_word EntryType (after_white (after_byte (item_here t))) n c is)
 
-pub read_piece : (h : Here) → first h.rest ≡ Some 64 → PieceStands h (piece h)
+pub read_piece : (t : List ℕ) → first t ≡ Some 64 → PieceStands t (piece t)
 unfolding piece
-read_piece h sign = type_read_by h (word EntryType (after_white (after_byte h))) refl sign
+read_piece t sign = type_read_by t (word EntryType (after_white (after_byte (item_here t)))) refl sign

@@ -15,28 +15,30 @@ use Rattle.bt_bib.specs.declared.fault.ItemFault.TheVariants.{MissingName, BadNa
 use Rattle.bt_bib.specs.declared.fault.NameRole.TheVariants.{EntryType}
 use Rattle.bt_bib.specs.declared.item.Item.{Item}
 use Rattle.bt_bib.specs.declared.item.Piece.{Piece}
+use Rattle.bt_bib.specs.declared.placed_pieces.PlacedPiece.{PlacedPiece}
 use Rattle.bt_bib.specs.declared.item.Piece.TheVariants as pieces
 use Rattle.bt_bib.specs.declared.keywords.Keyword.TheVariants as keywords
-use Rattle.bt_bib.specs.Spot.{Here, at, here, start, spot_after_byte}
+use Rattle.bt_bib.specs.Spot.{Here, at, here, start, item_start, spot_from, here_from, spot_after_byte}
+use Rattle.bt_bib.specs.Items.{PlacedItem}
 use Rattle.bt_bib.specs.Stop.{Stop}
 use Rattle.bt_bib.specs.Scan.{first, run, after_run, after_white}
 use Rattle.bt_bib.specs.Names.{word, name_ended}
 use Rattle.bt_bib.specs.Keywords.{keyword_of}
-use Rattle.bt_bib.specs.Pieces.{opening, item_of_type, piece, next_piece, entry_item, item_opened, unread_entry}
+use Rattle.bt_bib.specs.Pieces.{opening, item_of_type, piece, placed, next_piece, entry_item, item_opened, unread_entry}
 use Rattle.bt_bib.specs.BibText.{pieces_of}
 use Rattle.bt_bib.specs.inner.Cases.{pieces_from, word_from, type_ended, type_read, is_text, next_piece_from}
-use Rattle.bt_bib.specs.Boundaries.{start_of, end_of, last_end, Rises}
+use Rattle.bt_bib.specs.Boundaries.{last_end, Rises}
 use Rattle.bt_bib.specs.inner.Boundaries.{end_place, below}
-use Rattle.bt_bib.specs.laws.Laws.{FaultIsFirst}
+use Rattle.bt_bib.specs.laws.Laws.{as_piece, FaultIsFirst}
 use Rattle.bt_bib.proofs.RunLemmas.{past_run}
 use Rattle.bt_bib.proofs.ReachLemmas.{Reaches, reaches_then, reaches_place, reaches_sum, past_reaches, white_reaches, word_advances}
-use Rattle.bt_bib.proofs.PieceLemmas.{typed_reaches, type_read_reaches, piece_reaches}
-use Rattle.bt_bib.proofs.BoundaryLemmas.{piece_ends, pieces_by, pieces_step, rest_law}
+use Rattle.bt_bib.proofs.PieceLemmas.{item_here, typed_reaches, type_read_reaches, piece_ahead, piece_further, placed_reaches}
+use Rattle.bt_bib.proofs.BoundaryLemmas.{pieces_by, pieces_step, rest_law}
 use Rattle.bt_bib.proofs.KeptLemmas.{kept_law}
-use Rattle.bt_bib.proofs.RiseLemmas.{piece_starts, spans_rise, rises_le}
+use Rattle.bt_bib.proofs.RiseLemmas.{spans_rise, rises_le}
 use Rattle.bt_bib.proofs.laws.CutLemmas.{cut, cut_here, first_cut, behind_cut, begins_as, Next, past_cut, past_longer}
 use Rattle.bt_bib.proofs.laws.FitLemmas.{AreBytes, Is, Never, Fits}
-use Rattle.bt_bib.proofs.laws.FitNameLemmas.{Bare, EndsName, word_fits, ended_cut, ended_here, past_behind, past_one, past_none, one_on, and_first}
+use Rattle.bt_bib.proofs.laws.FitNameLemmas.{Bare, EndsName, word_fits, ended_cut, ended_here, past_behind, past_one, past_none, and_first}
 use Rattle.bt_bib.proofs.laws.FitItemLemmas.{NotWhite, IsWhole, Mends, Mended, mended_as, mended_on, mended_past, typed_mended, entry_ends, unwhite}
 
 -- a type that is longer than the words of the format
@@ -56,24 +58,24 @@ long_type kind le =
 abbrev empty_braces : List ℕ
 empty_braces = 123 ∷ 125 ∷ []
 
-entry_typed : (s : Spot) (kind : List ℕ) (t : Spot) → IsWhole (item_of_type keywords.Entry s kind (at t empty_braces))
+entry_typed : (kind : List ℕ) (t : Spot) → IsWhole (item_of_type keywords.Entry kind (at t empty_braces))
 unfolding opening
-entry_typed s kind t = subst (λ k. IsWhole (item_opened s (unread_entry (Some kind)) (entry_item s kind) (opening k))) (sym (past_none is_white t empty_braces (unwhite 123 (125 ∷ []) refl))) (entry_ends s kind (spot_after_byte 123 t))
+entry_typed kind t = subst (λ k. IsWhole (item_opened (unread_entry (Some kind)) (entry_item kind) (opening k))) (sym (past_none is_white t empty_braces (unwhite 123 (125 ∷ []) refl))) (entry_ends kind (spot_after_byte 123 t))
 
-type_closed : (s : Spot) (kind : List ℕ) (t : Spot) → keyword_of kind ≡ keywords.Entry → IsWhole (type_ended s kind (name_ended EntryType (codes "{(") (at t empty_braces)))
+type_closed : (kind : List ℕ) (t : Spot) → keyword_of kind ≡ keywords.Entry → IsWhole (type_ended kind (name_ended EntryType (codes "{(") (at t empty_braces)))
 unfolding name_ended
-type_closed s kind t is = subst (λ w. IsWhole (item_of_type w s kind (at t empty_braces))) (sym is) (entry_typed s kind t)
+type_closed kind t is = subst (λ w. IsWhole (item_of_type w kind (at t empty_braces))) (sym is) (entry_typed kind t)
 
-type_missing : (s : Spot) (h : Here) → Mends NotWhite h h (λ more. type_read s (word EntryType (cut h h more)))
+type_missing : (h : Here) → Mends NotWhite h h (λ more. type_read (word EntryType (cut h h more)))
 unfolding word
-type_missing s h =
+type_missing h =
     let more : List ℕ = 97 ∷ empty_braces in
     let kind : List ℕ = run is_name_byte (at h.spot more) in
     record {
       more = more;
       bytes = refl;
       begins = λ le. unwhite 97 empty_braces refl;
-      whole = subst (λ k. IsWhole (type_read s (word EntryType k))) (sym (cut_here h h more (omega arith))) (subst (λ k. IsWhole (type_read s (Ok (kind, k)))) (sym (past_one is_name_byte h.spot 97 empty_braces refl (record { byte = 123; rest = 125 ∷ []; is = refl; fits = refl }))) (type_closed s kind (spot_after_byte 97 h.spot) refl));
+      whole = subst (λ k. IsWhole (type_read (word EntryType k))) (sym (cut_here h h more (omega arith))) (subst (λ k. IsWhole (type_read (Ok (kind, k)))) (sym (past_one is_name_byte h.spot 97 empty_braces refl (record { byte = 123; rest = 125 ∷ []; is = refl; fits = refl }))) (type_closed kind (spot_after_byte 97 h.spot) refl));
     }
 
 -- Nine letters more, and `{}`: so long a type is none of the words of the format, and `@comment` begins an entry too.
@@ -87,9 +89,9 @@ past_letters : (s : Spot) → past_run is_name_byte s letters ≡ at (nine s) em
 unfolding past_run
 past_letters s = refl
 
-type_longer : (s u : Spot) (b : ℕ) (bs : List ℕ) → (is_name_byte b && not (is_digit b)) ≡ true → (let h = at u (b ∷ bs) in let k = after_run is_name_byte h in IsWhole (type_read s (word EntryType (cut h k letters))))
+type_longer : (u : Spot) (b : ℕ) (bs : List ℕ) → (is_name_byte b && not (is_digit b)) ≡ true → (let h = at u (b ∷ bs) in let k = after_run is_name_byte h in IsWhole (type_read (word EntryType (cut h k letters))))
 unfolding word
-type_longer s u b bs is =
+type_longer u b bs is =
     let h = at u (b ∷ bs) in
     let k = after_run is_name_byte h in
     let way = past_behind is_name_byte u b bs (and_first (is_name_byte b) (not (is_digit b)) is) in
@@ -99,7 +101,7 @@ type_longer s u b bs is =
     let end : after_run is_name_byte longer ≡ at (nine k.spot) empty_braces = past_longer is_name_byte h letters ∙ past_letters k.spot in
     let found : word EntryType longer ≡ Ok (kind, at (nine k.spot) empty_braces) = ap (word_from EntryType longer) (first_cut h k letters lt (past_reaches is_name_byte h)) ∙ ap (λ v. cond v (Ok (kind, after_run is_name_byte longer)) (Err (MissingName EntryType, longer))) is ∙ ap (λ e. Ok (kind, e)) end in
     let long : 9 ≤ length kind = omega (arith, ap (λ (e : Here). e.spot.place) end) in
-    subst (λ r. IsWhole (type_read s r)) (sym found) (type_closed s kind (nine k.spot) (long_type kind long))
+    subst (λ r. IsWhole (type_read r)) (sym found) (type_closed kind (nine k.spot) (long_type kind long))
 
 -- what a type that was read begins
 fits_at : {A : Type 0} (S P : ℕ → Type 0) (h : Here) (x : Result (A × Here) Stop) (y : Here → List ℕ → Result (A × Here) Stop) (a : A) (k : Here) → x ≡ Ok (a, k) → Fits S P h x y → (e : Here) (more : List ℕ) → Reaches k e → Next P k e more → y e more ≡ Ok (a, cut k e more)
@@ -114,56 +116,56 @@ brace_bare b is = ap is_name_byte is
 brace_ends : (b : ℕ) → Is 123 b → EndsName type_signs b
 brace_ends b is = subst (EndsName type_signs) (sym is) (record { bare = refl; ends = refl })
 
-goes_on : (s : Spot) (h k : Here) (kind : List ℕ) → h.spot.place < k.spot.place → word EntryType h ≡ Ok (kind, k) → ((e : Here) (more : List ℕ) → Reaches k e → Next (EndsName type_signs) k e more → name_ended EntryType type_signs (cut k e more) ≡ Ok (cut k e more)) → Mended NotWhite h (item_of_type (keyword_of kind) s kind k) (λ e more. type_read s (word EntryType (cut h e more)))
-goes_on s h k kind lt is stays = mended_on NotWhite (Is 123) h k (item_of_type (keyword_of kind) s kind k) (λ e more. type_read s (word EntryType (cut h e more))) (λ e more. item_of_type (keyword_of kind) s kind (cut k e more)) lt (typed_reaches (keyword_of kind) s kind k) (λ e more way next.
-    ap (type_read s) (fits_at (Is 97) Bare h (word EntryType h) (λ e more. word EntryType (cut h e more)) kind k is (word_fits EntryType h) e more way (λ le. begins_as brace_bare (next le))) ∙ ap (type_ended s kind) (stays e more way (λ le. begins_as brace_ends (next le)))) (typed_mended (keyword_of kind) s kind k)
+goes_on : (h k : Here) (kind : List ℕ) → h.spot.place < k.spot.place → word EntryType h ≡ Ok (kind, k) → ((e : Here) (more : List ℕ) → Reaches k e → Next (EndsName type_signs) k e more → name_ended EntryType type_signs (cut k e more) ≡ Ok (cut k e more)) → Mended NotWhite h (item_of_type (keyword_of kind) kind k) (λ e more. type_read (word EntryType (cut h e more)))
+goes_on h k kind lt is stays = mended_on NotWhite (Is 123) h k (item_of_type (keyword_of kind) kind k) (λ e more. type_read (word EntryType (cut h e more))) (λ e more. item_of_type (keyword_of kind) kind (cut k e more)) lt (typed_reaches (keyword_of kind) kind k) (λ e more way next.
+    ap (type_read) (fits_at (Is 97) Bare h (word EntryType h) (λ e more. word EntryType (cut h e more)) kind k is (word_fits EntryType h) e more way (λ le. begins_as brace_bare (next le))) ∙ ap (type_ended kind) (stays e more way (λ le. begins_as brace_ends (next le)))) (typed_mended (keyword_of kind) kind k)
 
-ended_mended_by : (s : Spot) (h : Here) (kind : List ℕ) (t : Spot) (c : ℕ) (cs : List ℕ) (v : Bool) → (is_white c || list_any (λ sign. sign == c) type_signs) ≡ v → (let k = at t (c ∷ cs) in h.spot.place < t.place → word EntryType h ≡ Ok (kind, k) → IsWhole (type_read s (word EntryType (cut h k letters))) → Mended NotWhite h (type_ended s kind (cond v (Ok k) (Err (BadNameEnd EntryType c, k)))) (λ e more. type_read s (word EntryType (cut h e more))))
-ended_mended_by s h kind t c cs true ends lt is whole = goes_on s h (at t (c ∷ cs)) kind lt is (λ e more way next. ended_cut EntryType type_signs t c cs e more ends way next)
-ended_mended_by s h kind t c cs false ends lt is whole = record { by = λ f fault. record { more = letters; bytes = refl; begins = λ le. absurd (omega arith); whole = whole } }
+ended_mended_by : (h : Here) (kind : List ℕ) (t : Spot) (c : ℕ) (cs : List ℕ) (v : Bool) → (is_white c || list_any (λ sign. sign == c) type_signs) ≡ v → (let k = at t (c ∷ cs) in h.spot.place < t.place → word EntryType h ≡ Ok (kind, k) → IsWhole (type_read (word EntryType (cut h k letters))) → Mended NotWhite h (type_ended kind (cond v (Ok k) (Err (BadNameEnd EntryType c, k)))) (λ e more. type_read (word EntryType (cut h e more))))
+ended_mended_by h kind t c cs true ends lt is whole = goes_on h (at t (c ∷ cs)) kind lt is (λ e more way next. ended_cut EntryType type_signs t c cs e more ends way next)
+ended_mended_by h kind t c cs false ends lt is whole = record { by = λ f fault. record { more = letters; bytes = refl; begins = λ le. absurd (omega arith); whole = whole } }
 
-ended_mended : (s : Spot) (h : Here) (kind : List ℕ) (t : Spot) (r : List ℕ) → (let k = at t r in h.spot.place < t.place → word EntryType h ≡ Ok (kind, k) → IsWhole (type_read s (word EntryType (cut h k letters))) → Mended NotWhite h (type_ended s kind (name_ended EntryType type_signs k)) (λ e more. type_read s (word EntryType (cut h e more))))
+ended_mended : (h : Here) (kind : List ℕ) (t : Spot) (r : List ℕ) → (let k = at t r in h.spot.place < t.place → word EntryType h ≡ Ok (kind, k) → IsWhole (type_read (word EntryType (cut h k letters))) → Mended NotWhite h (type_ended kind (name_ended EntryType type_signs k)) (λ e more. type_read (word EntryType (cut h e more))))
 unfolding name_ended
-ended_mended s h kind t [] lt is whole = goes_on s h (at t []) kind lt is (λ e more way next. (let le : e.spot.place ≤ t.place = omega (arith, reaches_sum (at t []) e way) in ended_here EntryType type_signs (at t []) e more le (next le)))
-ended_mended s h kind t (c ∷ cs) lt is whole = ended_mended_by s h kind t c cs (is_white c || list_any (λ sign. sign == c) type_signs) refl lt is whole
+ended_mended h kind t [] lt is whole = goes_on h (at t []) kind lt is (λ e more way next. (let le : e.spot.place ≤ t.place = omega (arith, reaches_sum (at t []) e way) in ended_here EntryType type_signs (at t []) e more le (next le)))
+ended_mended h kind t (c ∷ cs) lt is whole = ended_mended_by h kind t c cs (is_white c || list_any (λ sign. sign == c) type_signs) refl lt is whole
 
-type_by : (s u : Spot) (b : ℕ) (bs : List ℕ) (v : Bool) → (is_name_byte b && not (is_digit b)) ≡ v → (let h = at u (b ∷ bs) in Mended NotWhite h (type_read s (cond v (Ok (run is_name_byte h, after_run is_name_byte h)) (Err (MissingName EntryType, h)))) (λ e more. type_read s (word EntryType (cut h e more))))
+type_by : (u : Spot) (b : ℕ) (bs : List ℕ) (v : Bool) → (is_name_byte b && not (is_digit b)) ≡ v → (let h = at u (b ∷ bs) in Mended NotWhite h (type_read (cond v (Ok (run is_name_byte h, after_run is_name_byte h)) (Err (MissingName EntryType, h)))) (λ e more. type_read (word EntryType (cut h e more))))
 unfolding word
-type_by s u b bs true is =
+type_by u b bs true is =
     let h = at u (b ∷ bs) in
     let k = after_run is_name_byte h in
     let kind : List ℕ = run is_name_byte h in
     let way = past_behind is_name_byte u b bs (and_first (is_name_byte b) (not (is_digit b)) is) in
     let found : word EntryType h ≡ Ok (kind, k) = ap (λ v. cond v (Ok (kind, k)) (Err (MissingName EntryType, h))) is in
-    ended_mended s h kind k.spot k.rest (omega (arith, reaches_place (at (spot_after_byte b u) bs) k way)) found (type_longer s u b bs is)
-type_by s u b bs false is = record { by = λ f fault. type_missing s (at u (b ∷ bs)) }
+    ended_mended h kind k.spot k.rest (omega (arith, reaches_place (at (spot_after_byte b u) bs) k way)) found (type_longer u b bs is)
+type_by u b bs false is = record { by = λ f fault. type_missing (at u (b ∷ bs)) }
 
-type_mended : (s u : Spot) (r : List ℕ) → Mended NotWhite (at u r) (type_read s (word EntryType (at u r))) (λ e more. type_read s (word EntryType (cut (at u r) e more)))
+type_mended : (u : Spot) (r : List ℕ) → Mended NotWhite (at u r) (type_read (word EntryType (at u r))) (λ e more. type_read (word EntryType (cut (at u r) e more)))
 unfolding word
-type_mended s u [] = record { by = λ f fault. type_missing s (at u []) }
-type_mended s u (b ∷ bs) = type_by s u b bs (is_name_byte b && not (is_digit b)) refl
+type_mended u [] = record { by = λ f fault. type_missing (at u []) }
+type_mended u (b ∷ bs) = type_by u b bs (is_name_byte b && not (is_digit b)) refl
 
-piece_mended : (u : Spot) (b : ℕ) (bs : List ℕ) → (let h = at u (b ∷ bs) in Mended Never h (piece h) (λ e more. piece (cut h e more)))
+piece_mended : (b : ℕ) (bs : List ℕ) → (let h = item_here (b ∷ bs) in Mended Never h (piece (b ∷ bs)) (λ e more. piece (cut h e more).rest))
 unfolding piece
-piece_mended u b bs =
-    let h = at u (b ∷ bs) in
-    let g = at (spot_after_byte b u) bs in
+piece_mended b bs =
+    let h = item_here (b ∷ bs) in
+    let g = at (spot_after_byte b item_start) bs in
     let w = after_white g in
-    let read : Here → Piece × Here = λ k. type_read u (word EntryType k) in
-    let way = type_read_reaches w u (word EntryType w) (word_advances EntryType w) in
-    mended_as Never NotWhite h g g (piece h) (λ e more. piece (cut h e more)) (λ e more. read (after_white (cut g e more))) (omega arith) (reaches_then g w (read w).1 (white_reaches g) way) (λ e more way. ap (λ k. read (after_white k)) (behind_cut u b bs e more (omega (arith, reaches_place g e way)))) (mended_past NotWhite is_white g (read w) read (λ b is. is) way (type_mended u w.spot w.rest))
+    let read : Here → Piece × Here = λ k. type_read (word EntryType k) in
+    let way = type_read_reaches w (word EntryType w) (word_advances EntryType w) in
+    mended_as Never NotWhite h g g (piece (b ∷ bs)) (λ e more. piece (cut h e more).rest) (λ e more. read (after_white (cut g e more))) (omega arith) (reaches_then g w (read w).1 (white_reaches g) way) (λ e more way. ap (λ k. read (after_white k)) (behind_cut item_start b bs e more (omega (arith, reaches_place g e way)))) (mended_past NotWhite is_white g (read w) read (λ b is. is) way (type_mended w.spot w.rest))
 
 -- From a boundary on a faulty item is read; after a cut at its fault's place some bytes make it whole.
-record Mending (g : Here) (i : Item) : Type 0 where
+record Mending (g : Here) (i : PlacedItem) : Type 0 where
   end : Here
   way : Reaches g end
   spot : end.spot ≡ i.end
   more : List ℕ
   bytes : AreBytes more
-  whole : Item
+  whole : PlacedItem
   start : whole.start ≡ i.start
-  faultless : whole.fault ≡ None
-  read : pieces_from (cut g end more) ≡ pieces.Item whole ∷ []
+  faultless : whole.item.fault ≡ None
+  read : pieces_from (cut g end more) ≡ as_piece whole ∷ []
 
 pieces_none : (s : Spot) → pieces_from (at s []) ≡ []
 unfolding next_piece
@@ -173,68 +175,69 @@ none_left : (e : Here) → e.rest ≡ [] → pieces_from e ≡ []
 none_left e is = ap (λ r. pieces_from (at e.spot r)) is ∙ pieces_none e.spot
 
 mends_item : (S : ℕ → Type 0) (h : Here) (x : Piece × Here) (y : Here → List ℕ → Piece × Here) (i : Item) (f : ItemFault) → x.0 ≡ pieces.Item i → i.fault ≡ Some f → Mended S h x y → Mends S h x.1 (y x.1)
-mends_item S h (pieces.Comment s t, e) y i f is fault m = absurd cc
+mends_item S h (pieces.Comment, e) y i f is fault m = absurd cc
 mends_item S h (pieces.Item j, e) y i f is fault m =
     let same : j ≡ i = cc is in
     m.by f (ap (λ (i : Item). i.fault) same ∙ fault)
 
 record Alone (s : Spot) (x : Piece × Here) : Type 0 where
-  whole : Item
+  whole : PlacedItem
   start : whole.start ≡ s
-  faultless : whole.fault ≡ None
-  read : pieces_by (Some x.0, x.1) ≡ pieces.Item whole ∷ []
+  faultless : whole.item.fault ≡ None
+  read : pieces_by (Some (placed s x).0, (placed s x).1) ≡ as_piece whole ∷ []
 
-alone : (s : Spot) (x : Piece × Here) → start_of x.0 ≡ s → IsWhole x → Alone s x
-alone s (pieces.Comment a b, e) starts whole = absurd whole
-alone s (pieces.Item i, e) starts whole = record { whole = i; start = starts; faultless = whole.0; read = ap (λ ps. pieces.Item i ∷ ps) (none_left e whole.1) }
+alone : (s : Spot) (x : Piece × Here) → IsWhole x → Alone s x
+alone s (pieces.Comment, e) whole = absurd whole
+alone s (pieces.Item i, e) whole = (let w : PlacedItem = record { start = s; end = spot_from s e.spot; item = i } in record { whole = w; start = refl; faultless = whole.0; read = ap (λ ps. as_piece w ∷ ps) (none_left (here_from s e) whole.1) })
 
-pieces_are : (k : Here) (x : Piece × Here) (ps : List Piece) → next_piece k ≡ (Some x.0, x.1) → pieces_by (Some x.0, x.1) ≡ ps → pieces_from k ≡ ps
+pieces_are : (k : Here) (x : PlacedPiece × Here) (ps : List PlacedPiece) → next_piece k ≡ (Some x.0, x.1) → pieces_by (Some x.0, x.1) ≡ ps → pieces_from k ≡ ps
 pieces_are k x ps next is = pieces_step k ∙ ap pieces_by next ∙ is
 
-mending_at : (g : Here) (u : Spot) (r : List ℕ) (i : Item) (f : ItemFault) (back : List Piece) → after_run is_text g ≡ at u r → pieces_by (next_piece_from (at u r) (first r)) ≡ pieces.Item i ∷ back → i.fault ≡ Some f → Mending g i
+mending_at : (g : Here) (u : Spot) (r : List ℕ) (i : PlacedItem) (f : ItemFault) (back : List PlacedPiece) → after_run is_text g ≡ at u r → pieces_by (next_piece_from (at u r) (first r)) ≡ as_piece i ∷ back → i.item.fault ≡ Some f → Mending g i
 unfolding next_piece
 mending_at g u [] i f back at_sign is fault = absurd (cc is)
 mending_at g u (b ∷ bs) i f back at_sign is fault =
-    let h = at u (b ∷ bs) in
-    let p = piece h in
-    let one : p.0 ≡ pieces.Item i = cc is in
-    let m = mends_item Never h p (λ e more. piece (cut h e more)) i f one fault (piece_mended u b bs) in
-    let e = p.1 in
-    let ahead = piece_reaches h in
-    let lt : u.place < e.spot.place = omega (arith, reaches_place (at (spot_after_byte b u) bs) e ahead) in
-    let inner = reaches_then h (at (spot_after_byte b u) bs) e (one_on u b bs) ahead in
+    let r : List ℕ = b ∷ bs in
+    let h = at u r in
+    let p = piece r in
+    let one : (placed u p).0 ≡ as_piece i = cc is in
+    let m = mends_item Never (item_here r) p (λ e more. piece (cut (item_here r) e more).rest) i.item f (ap (λ (q : PlacedPiece). q.piece) one) fault (piece_mended b bs) in
+    let e = (placed u p).1 in
+    let lt : u.place < e.spot.place = omega (arith, piece_further b bs) in
+    let inner = placed_reaches h p.1 (piece_ahead r) in
     let to_sign : Reaches g h = subst (λ k. Reaches g k) at_sign (past_reaches is_text g) in
     let q = cut h e m.more in
     let found : after_run is_text (cut g e m.more) ≡ q = past_cut is_text g e m.more (subst (λ k. Reaches k e) (sym at_sign) inner) (λ le. absurd (omega (arith, ap (λ (k : Here). k.spot.place) at_sign))) ∙ ap (λ k. cut k e m.more) at_sign in
-    let next : next_piece (cut g e m.more) ≡ (Some (piece q).0, (piece q).1) = ap (λ (k : Here). next_piece_from k (first k.rest)) found ∙ ap (next_piece_from q) (first_cut h e m.more lt inner) in
-    let starts : u ≡ i.start = sym (piece_starts h) ∙ ap start_of one in
-    let a = alone i.start (piece q) (subst (λ v. start_of (piece q).0 ≡ v) starts (piece_starts q)) m.whole in
+    let next : next_piece (cut g e m.more) ≡ (Some (placed u (piece q.rest)).0, (placed u (piece q.rest)).1) = ap (λ (k : Here). next_piece_from k (first k.rest)) found ∙ ap (next_piece_from q) (first_cut h e m.more lt inner) in
+    let count : p.1.spot.place - 0 ≡ e.spot.place - u.place = omega arith in
+    let bytes : (cut (item_here r) p.1 m.more).rest ≡ q.rest = ap (λ n. take n r ++ m.more) count in
+    let a = alone u (piece q.rest) (subst (λ t. IsWhole (piece t)) bytes m.whole) in
     record {
       end = e;
       way = reaches_then g h e to_sign inner;
-      spot = sym (piece_ends h) ∙ ap end_of one;
+      spot = ap (λ (q : PlacedPiece). q.end) one;
       more = m.more;
       bytes = m.bytes;
       whole = a.whole;
-      start = a.start;
+      start = a.start ∙ ap (λ (q : PlacedPiece). q.start) one;
       faultless = a.faultless;
-      read = pieces_are (cut g e m.more) (piece q) (pieces.Item a.whole ∷ []) next a.read;
+      read = pieces_are (cut g e m.more) (placed u (piece q.rest)) (as_piece a.whole ∷ []) next a.read;
     }
 
-mending : (g : Here) (i : Item) (f : ItemFault) (back : List Piece) → pieces_from g ≡ pieces.Item i ∷ back → i.fault ≡ Some f → Mending g i
+mending : (g : Here) (i : PlacedItem) (f : ItemFault) (back : List PlacedPiece) → pieces_from g ≡ as_piece i ∷ back → i.item.fault ≡ Some f → Mending g i
 unfolding next_piece
 mending g i f back is fault = (let h = after_run is_text g in mending_at g h.spot h.rest i f back refl (sym (pieces_step g) ∙ is) fault)
 
 -- the pieces before one are those that end before the place after its beginning
-before : (n place : ℕ) (front : List Piece) (p : Piece) (back : List Piece) → Rises n place (front ++ p ∷ back) → place ≤ (start_of p).place
+before : (n place : ℕ) (front : List PlacedPiece) (p : PlacedPiece) (back : List PlacedPiece) → Rises n place (front ++ p ∷ back) → place ≤ p.start.place
 before n place [] p back r = r.0
 before n place (q ∷ front) p back r = omega (arith, r.0, r.1, before n (end_place q) front p back r.2)
 
-front_kept : (n place : ℕ) (front : List Piece) (p : Piece) (back : List Piece) → Rises n place (front ++ p ∷ back) → below ((start_of p).place + 1) (front ++ p ∷ back) ≡ front
-front_kept n place [] p back r = rw (le-ltb (end_place p) ((start_of p).place + 1) (omega (arith, r.1))) refl
-front_kept n place (q ∷ front) p back r = rw (lt-ltb (end_place q) ((start_of p).place + 1) (omega (arith, before n (end_place q) front p back r.2))) (ap (λ l. q ∷ l) (front_kept n (end_place q) front p back r.2))
+front_kept : (n place : ℕ) (front : List PlacedPiece) (p : PlacedPiece) (back : List PlacedPiece) → Rises n place (front ++ p ∷ back) → below (p.start.place + 1) (front ++ p ∷ back) ≡ front
+front_kept n place [] p back r = rw (le-ltb (end_place p) (p.start.place + 1) (omega (arith, r.1))) refl
+front_kept n place (q ∷ front) p back r = rw (lt-ltb (end_place q) (p.start.place + 1) (omega (arith, before n (end_place q) front p back r.2))) (ap (λ l. q ∷ l) (front_kept n (end_place q) front p back r.2))
 
-span_of : (n place : ℕ) (front : List Piece) (p : Piece) (back : List Piece) → Rises n place (front ++ p ∷ back) → ((start_of p).place < end_place p) × (end_place p ≤ n)
+span_of : (n place : ℕ) (front : List PlacedPiece) (p : PlacedPiece) (back : List PlacedPiece) → Rises n place (front ++ p ∷ back) → (p.start.place < end_place p) × (end_place p ≤ n)
 span_of n place [] p back r = (r.1, rises_le n (end_place p) back r.2)
 span_of n place (q ∷ front) p back r = span_of n (end_place q) front p back r.2
 
@@ -249,7 +252,7 @@ here_cut text a e more le inside =
 pub fault_is_first : FaultIsFirst
 unfolding pieces_of
 fault_is_first text front back i f is fault =
-    let p = pieces.Item i in
+    let p = as_piece i in
     let a = last_end start front in
     let g = here text a in
     let m = mending g i f back (sym (rest_law text start front (p ∷ back) is)) fault in

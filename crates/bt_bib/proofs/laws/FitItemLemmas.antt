@@ -38,7 +38,7 @@ NotWhite b = is_white b ≡ false
 
 -- an item without a fault that ends with its text
 abbrev pub IsWhole : Piece × Here → Type 0
-IsWhole (pieces.Comment s t, e) = ⊥
+IsWhole (pieces.Comment, e) = ⊥
 IsWhole (pieces.Item i, e) = (i.fault ≡ None) × (e.rest ≡ [])
 
 -- After a cut at e some bytes complete an item that is read from h on; where nothing was read of it they begin with S.
@@ -49,7 +49,7 @@ pub record Mends (S : ℕ → Type 0) (h e : Here) (y : List ℕ → Piece × He
   pub whole : IsWhole (y more)
 
 abbrev pub MendsBy : (ℕ → Type 0) → Here → Piece × Here → (Here → List ℕ → Piece × Here) → Type 0
-MendsBy S h (pieces.Comment s t, e) y = Unit {0}
+MendsBy S h (pieces.Comment, e) y = Unit {0}
 MendsBy S h (pieces.Item i, e) y = (f : ItemFault) → i.fault ≡ Some f → Mends S h e (y e)
 
 -- a piece that is read from h on, and y where the text is cut
@@ -57,7 +57,7 @@ pub record Mended (S : ℕ → Type 0) (h : Here) (x : Piece × Here) (y : Here 
   pub by : MendsBy S h x y
 
 pub mended_as : (S T : ℕ → Type 0) (h g k : Here) (x : Piece × Here) (y z : Here → List ℕ → Piece × Here) → h.spot.place < g.spot.place → Reaches g x.1 → ((e : Here) (more : List ℕ) → Reaches g e → y e more ≡ z e more) → Mended T k x z → Mended S h x y
-mended_as S T h g k (pieces.Comment s t, e) y z lt way same m = record { by = tt }
+mended_as S T h g k (pieces.Comment, e) y z lt way same m = record { by = tt }
 mended_as S T h g k (pieces.Item i, e) y z lt way same m = record {
   by = λ f is.
       let c = m.by f is in
@@ -66,7 +66,7 @@ mended_as S T h g k (pieces.Item i, e) y z lt way same m = record {
 
 -- the same where the text may be cut at k
 pub mended_on : (S T : ℕ → Type 0) (h k : Here) (x : Piece × Here) (y z : Here → List ℕ → Piece × Here) → h.spot.place < k.spot.place → Reaches k x.1 → ((e : Here) (more : List ℕ) → Reaches k e → Next T k e more → y e more ≡ z e more) → Mended T k x z → Mended S h x y
-mended_on S T h k (pieces.Comment s t, e) y z lt way same m = record { by = tt }
+mended_on S T h k (pieces.Comment, e) y z lt way same m = record { by = tt }
 mended_on S T h k (pieces.Item i, e) y z lt way same m = record {
   by = λ f is.
       let c = m.by f is in
@@ -74,7 +74,7 @@ mended_on S T h k (pieces.Item i, e) y z lt way same m = record {
 }
 
 pub mended_past : (S : ℕ → Type 0) (test : ℕ → Bool) (h : Here) (x : Piece × Here) (f : Here → Piece × Here) → ((b : ℕ) → S b → test b ≡ false) → Reaches (after_run test h) x.1 → Mended S (after_run test h) x (λ e more. f (cut (after_run test h) e more)) → Mended S h x (λ e more. f (after_run test (cut h e more)))
-mended_past S test h (pieces.Comment s t, e) f apart way m = record { by = tt }
+mended_past S test h (pieces.Comment, e) f apart way m = record { by = tt }
 mended_past S test h (pieces.Item i, e) f apart way m = record {
   by = λ fault is.
       let c = m.by fault is in
@@ -94,16 +94,16 @@ record Finishes (h e : Here) (y : List ℕ → Result Here Stop) : Type 0 where
   spot : Spot
   is : y more ≡ Ok (at spot [])
 
-item_mended : (start : Spot) (line : ℕ) (content : Content) (close : Option Closing) (h : Here) (r : Result Here Stop) (lines : Here → List ℕ → ℕ) (contents : Here → List ℕ → Content) (z : Here → List ℕ → Result Here Stop) → ((f : ItemFault) (e : Here) → r ≡ Err (f, e) → Finishes h e (z e)) → Mended NotWhite h (ended_item start line content close r) (λ e more. ended_item start (lines e more) (contents e more) close (z e more))
-item_mended start line content close h (Ok e) lines contents z k = record { by = λ f is. absurd cc }
-item_mended start line content close h (Err stop) lines contents z k = record {
+item_mended : (line : ℕ) (content : Content) (close : Option Closing) (h : Here) (r : Result Here Stop) (lines : Here → List ℕ → ℕ) (contents : Here → List ℕ → Content) (z : Here → List ℕ → Result Here Stop) → ((f : ItemFault) (e : Here) → r ≡ Err (f, e) → Finishes h e (z e)) → Mended NotWhite h (ended_item line content close r) (λ e more. ended_item (lines e more) (contents e more) close (z e more))
+item_mended line content close h (Ok e) lines contents z k = record { by = λ f is. absurd cc }
+item_mended line content close h (Err stop) lines contents z k = record {
   by = λ f is.
       let c = k stop.0 stop.1 refl in
       record {
         more = c.more;
         bytes = c.bytes;
         begins = c.begins;
-        whole = subst (λ r. IsWhole (ended_item start (lines stop.1 c.more) (contents stop.1 c.more) close r)) (sym c.is) (refl, refl);
+        whole = subst (λ r. IsWhole (ended_item (lines stop.1 c.more) (contents stop.1 c.more) close r)) (sym c.is) (refl, refl);
       };
 }
 
@@ -128,8 +128,8 @@ entry_finishes kind close h e f is =
       is = ap (λ k. fields_end close (after_white k)) first ∙ ap (fields_end close) then ∙ c.is;
     }
 
-entry_mended : (start : Spot) (kind : List ℕ) (close : Closing) (h : Here) → Mended NotWhite h (entry_item start kind close h) (λ e more. entry_item start kind close (cut h e more))
-entry_mended start kind close h = item_mended start h.spot.line (contents.Entry (entry_read kind close h).0) (Some close) h (entry_read kind close h).1 (λ e more. h.spot.line) (λ e more. contents.Entry (entry_read kind close (cut h e more)).0) (λ e more. (entry_read kind close (cut h e more)).1) (λ f e is. entry_finishes kind close h e f is)
+entry_mended : (kind : List ℕ) (close : Closing) (h : Here) → Mended NotWhite h (entry_item kind close h) (λ e more. entry_item kind close (cut h e more))
+entry_mended kind close h = item_mended h.spot.line (contents.Entry (entry_read kind close h).0) (Some close) h (entry_read kind close h).1 (λ e more. h.spot.line) (λ e more. contents.Entry (entry_read kind close (cut h e more)).0) (λ e more. (entry_read kind close (cut h e more)).1) (λ f e is. entry_finishes kind close h e f is)
 
 -- strings and preambles
 closes_last : (close : Closing) (s : Spot) → after_closing close (at s (closing_sign close ∷ [])) ≡ Ok (at (spot_after_byte (closing_sign close) s) [])
@@ -176,15 +176,15 @@ finishes_closed S close h (Ok x) y sub fits f e is =
 one_not_white : (c : ℕ) → is_white c ≡ false → (b : ℕ) → Is c b → NotWhite b
 one_not_white c not b is = ap is_white is ∙ not
 
-string_mended : (start : Spot) (close : Closing) (h : Here) → Mended NotWhite h (string_item start close h) (λ e more. string_item start close (cut h e more))
-string_mended start close h =
+string_mended : (close : Closing) (h : Here) → Mended NotWhite h (string_item close h) (λ e more. string_item close (cut h e more))
+string_mended close h =
     let read = string_read close h in
-    item_mended start (name_line h.spot.line start.line read.0.name) (contents.Define read.0) (Some close) h read.1 (λ e more. name_line h.spot.line start.line (string_read close (cut h e more)).0.name) (λ e more. contents.Define (string_read close (cut h e more)).0) (λ e more. (string_read close (cut h e more)).1) (finishes_closed (Is 97) close h (valued close h) (λ e more. valued close (cut h e more)) (one_not_white 97 refl) (named_fits close StringName (λ n q. value close (after_white q)) h (λ n. white_right close)))
+    item_mended (name_line h.spot.line read.0.name) (contents.Define read.0) (Some close) h read.1 (λ e more. name_line h.spot.line (string_read close (cut h e more)).0.name) (λ e more. contents.Define (string_read close (cut h e more)).0) (λ e more. (string_read close (cut h e more)).1) (finishes_closed (Is 97) close h (valued close h) (λ e more. valued close (cut h e more)) (one_not_white 97 refl) (named_fits close StringName (λ n q. value close (after_white q)) h (λ n. white_right close)))
 
-preamble_mended : (start : Spot) (close : Closing) (h : Here) → Mended NotWhite h (preamble_item start close h) (λ e more. preamble_item start close (cut h e more))
-preamble_mended start close h =
+preamble_mended : (close : Closing) (h : Here) → Mended NotWhite h (preamble_item close h) (λ e more. preamble_item close (cut h e more))
+preamble_mended close h =
     let read = preamble_read close h in
-    item_mended start start.line (contents.Preamble read.0) (Some close) h read.1 (λ e more. start.line) (λ e more. contents.Preamble (preamble_read close (cut h e more)).0) (λ e more. (preamble_read close (cut h e more)).1) (finishes_closed (Is 49) close h (value close h) (λ e more. value close (cut h e more)) (one_not_white 49 refl) (value_fits close h))
+    item_mended 0 (contents.Preamble read.0) (Some close) h read.1 (λ e more. 0) (λ e more. contents.Preamble (preamble_read close (cut h e more)).0) (λ e more. (preamble_read close (cut h e more)).1) (finishes_closed (Is 49) close h (value close h) (λ e more. value close (cut h e more)) (one_not_white 49 refl) (value_fits close h))
 
 -- some bytes that are an item's rest after the left brace that opens it
 record Rest (read : Closing → Here → Piece × Here) : Type 0 where
@@ -195,71 +195,71 @@ record Rest (read : Closing → Here → Piece × Here) : Type 0 where
 pub unwhite : (c : ℕ) (tail : List ℕ) → is_white c ≡ false → Begins NotWhite (c ∷ tail)
 unwhite c tail is = record { byte = c; rest = tail; is = refl; fits = is }
 
-pub entry_ends : (start : Spot) (kind : List ℕ) (s : Spot) → IsWhole (entry_item start kind Brace (after_white (at s (125 ∷ []))))
+pub entry_ends : (kind : List ℕ) (s : Spot) → IsWhole (entry_item kind Brace (after_white (at s (125 ∷ []))))
 unfolding sign enclosed word name_ended name many part next_part value field next_field
-entry_ends start kind s = subst (λ k. IsWhole (entry_item start kind Brace k)) (sym (past_none is_white s (125 ∷ []) (unwhite 125 [] refl))) (refl, refl)
+entry_ends kind s = subst (λ k. IsWhole (entry_item kind Brace k)) (sym (past_none is_white s (125 ∷ []) (unwhite 125 [] refl))) (refl, refl)
 
-entry_rest : (start : Spot) (kind : List ℕ) → Rest (entry_item start kind)
-entry_rest start kind = record { word = 125 ∷ []; bytes = refl; whole = entry_ends start kind }
+entry_rest : (kind : List ℕ) → Rest (entry_item kind)
+entry_rest kind = record { word = 125 ∷ []; bytes = refl; whole = entry_ends kind }
 
-string_rest : (start : Spot) → Rest (string_item start)
+string_rest : Rest string_item
 unfolding sign enclosed word name_ended name many part next_part value field next_field
-string_rest start = record { word = 97 ∷ 61 ∷ 49 ∷ 125 ∷ []; bytes = refl; whole = λ s. subst (λ k. IsWhole (string_item start Brace k)) (sym (past_none is_white s (97 ∷ 61 ∷ 49 ∷ 125 ∷ []) (unwhite 97 (61 ∷ 49 ∷ 125 ∷ []) refl))) (refl, refl) }
+string_rest = record { word = 97 ∷ 61 ∷ 49 ∷ 125 ∷ []; bytes = refl; whole = λ s. subst (λ k. IsWhole (string_item Brace k)) (sym (past_none is_white s (97 ∷ 61 ∷ 49 ∷ 125 ∷ []) (unwhite 97 (61 ∷ 49 ∷ 125 ∷ []) refl))) (refl, refl) }
 
-preamble_rest : (start : Spot) → Rest (preamble_item start)
+preamble_rest : Rest preamble_item
 unfolding sign enclosed word name_ended name many part next_part value field next_field
-preamble_rest start = record { word = 49 ∷ 125 ∷ []; bytes = refl; whole = λ s. subst (λ k. IsWhole (preamble_item start Brace k)) (sym (past_none is_white s (49 ∷ 125 ∷ []) (unwhite 49 (125 ∷ []) refl))) (refl, refl) }
+preamble_rest = record { word = 49 ∷ 125 ∷ []; bytes = refl; whole = λ s. subst (λ k. IsWhole (preamble_item Brace k)) (sym (past_none is_white s (49 ∷ 125 ∷ []) (unwhite 49 (125 ∷ []) refl))) (refl, refl) }
 
 -- what an opening sign begins
-unopened_mends : (start : Spot) (unread : Content) (read : Closing → Here → Piece × Here) (h : Here) → Rest read → Mends (Is 123) h h (λ more. item_opened start unread read (opening (cut h h more)))
+unopened_mends : (unread : Content) (read : Closing → Here → Piece × Here) (h : Here) → Rest read → Mends (Is 123) h h (λ more. item_opened unread read (opening (cut h h more)))
 unfolding opening
-unopened_mends start unread read h rest = record {
+unopened_mends unread read h rest = record {
   more = 123 ∷ rest.word;
   bytes = rest.bytes;
   begins = λ le. record { byte = 123; rest = rest.word; is = refl; fits = refl };
-  whole = subst (λ k. IsWhole (item_opened start unread read (opening k))) (sym (cut_here h h (123 ∷ rest.word) (omega arith))) (rest.whole (spot_after_byte 123 h.spot));
+  whole = subst (λ k. IsWhole (item_opened unread read (opening k))) (sym (cut_here h h (123 ∷ rest.word) (omega arith))) (rest.whole (spot_after_byte 123 h.spot));
 }
 
-opened_by : (start : Spot) (unread : Content) (read : Closing → Here → Piece × Here) (s : Spot) (b : ℕ) (bs : List ℕ) (close : Closing) → (let h = at s (b ∷ bs) in let g = at (spot_after_byte b s) bs in
-    ((e : Here) (more : List ℕ) → Reaches g e → opening (cut h e more) ≡ Ok (close, cut g e more)) → ((e : Here) → Reaches e (read close e).1) → Mended NotWhite (after_white g) (read close (after_white g)) (λ e more. read close (cut (after_white g) e more)) → Mended (Is 123) h (read close (after_white g)) (λ e more. item_opened start unread read (opening (cut h e more))))
-opened_by start unread read s b bs close same ahead m =
+opened_by : (unread : Content) (read : Closing → Here → Piece × Here) (s : Spot) (b : ℕ) (bs : List ℕ) (close : Closing) → (let h = at s (b ∷ bs) in let g = at (spot_after_byte b s) bs in
+    ((e : Here) (more : List ℕ) → Reaches g e → opening (cut h e more) ≡ Ok (close, cut g e more)) → ((e : Here) → Reaches e (read close e).1) → Mended NotWhite (after_white g) (read close (after_white g)) (λ e more. read close (cut (after_white g) e more)) → Mended (Is 123) h (read close (after_white g)) (λ e more. item_opened unread read (opening (cut h e more))))
+opened_by unread read s b bs close same ahead m =
     let h = at s (b ∷ bs) in
     let g = at (spot_after_byte b s) bs in
-    mended_as (Is 123) NotWhite h g g (read close (after_white g)) (λ e more. item_opened start unread read (opening (cut h e more))) (λ e more. read close (after_white (cut g e more))) (omega arith) (reaches_then g (after_white g) (read close (after_white g)).1 (white_reaches g) (ahead (after_white g))) (λ e more way. ap (item_opened start unread read) (same e more way)) (mended_past NotWhite is_white g (read close (after_white g)) (read close) (λ b is. is) (ahead (after_white g)) m)
+    mended_as (Is 123) NotWhite h g g (read close (after_white g)) (λ e more. item_opened unread read (opening (cut h e more))) (λ e more. read close (after_white (cut g e more))) (omega arith) (reaches_then g (after_white g) (read close (after_white g)).1 (white_reaches g) (ahead (after_white g))) (λ e more way. ap (item_opened unread read) (same e more way)) (mended_past NotWhite is_white g (read close (after_white g)) (read close) (λ b is. is) (ahead (after_white g)) m)
 
-opening_by : (start : Spot) (unread : Content) (read : Closing → Here → Piece × Here) (s : Spot) (b : ℕ) (bs : List ℕ) (v u : Bool) → (b == left_brace) ≡ v → (b == 40) ≡ u → ((close : Closing) (e : Here) → Reaches e (read close e).1) → ((close : Closing) (k : Here) → Mended NotWhite k (read close k) (λ e more. read close (cut k e more))) → Rest read → (let h = at s (b ∷ bs) in let g = at (spot_after_byte b s) bs in
-    Mended (Is 123) h (item_opened start unread read (cond v (Ok (Brace, g)) (cond u (Ok (Parenthesis, g)) (Err (ExpectedOpen, h))))) (λ e more. item_opened start unread read (opening (cut h e more))))
+opening_by : (unread : Content) (read : Closing → Here → Piece × Here) (s : Spot) (b : ℕ) (bs : List ℕ) (v u : Bool) → (b == left_brace) ≡ v → (b == 40) ≡ u → ((close : Closing) (e : Here) → Reaches e (read close e).1) → ((close : Closing) (k : Here) → Mended NotWhite k (read close k) (λ e more. read close (cut k e more))) → Rest read → (let h = at s (b ∷ bs) in let g = at (spot_after_byte b s) bs in
+    Mended (Is 123) h (item_opened unread read (cond v (Ok (Brace, g)) (cond u (Ok (Parenthesis, g)) (Err (ExpectedOpen, h))))) (λ e more. item_opened unread read (opening (cut h e more))))
 unfolding opening
-opening_by start unread read s b bs true u left round ahead m rest =
+opening_by unread read s b bs true u left round ahead m rest =
     let h = at s (b ∷ bs) in
     let g = at (spot_after_byte b s) bs in
     let two : Here → Result (Closing × Here) Stop = λ k. cond (b == 40) (Ok (Parenthesis, after_byte k)) (Err (ExpectedOpen, k)) in
-    opened_by start unread read s b bs Brace (λ e more way.
+    opened_by unread read s b bs Brace (λ e more way.
     let lt : s.place < e.spot.place = omega (arith, reaches_place g e way) in
     ap (opening_from (cut h e more)) (first_cut h e more lt (reaches_then h g e (one_on s b bs) way)) ∙ ap (λ v. cond v (Ok (Brace, after_byte (cut h e more))) (two (cut h e more))) left ∙ ap (λ k. Ok (Brace, k)) (behind_cut s b bs e more lt)) (ahead Brace) (m Brace (after_white g))
-opening_by start unread read s b bs false true left round ahead m rest =
+opening_by unread read s b bs false true left round ahead m rest =
     let h = at s (b ∷ bs) in
     let g = at (spot_after_byte b s) bs in
     let two : Here → Result (Closing × Here) Stop = λ k. cond (b == 40) (Ok (Parenthesis, after_byte k)) (Err (ExpectedOpen, k)) in
-    opened_by start unread read s b bs Parenthesis (λ e more way.
+    opened_by unread read s b bs Parenthesis (λ e more way.
     let lt : s.place < e.spot.place = omega (arith, reaches_place g e way) in
     ap (opening_from (cut h e more)) (first_cut h e more lt (reaches_then h g e (one_on s b bs) way)) ∙ ap (λ v. cond v (Ok (Brace, after_byte (cut h e more))) (two (cut h e more))) left ∙ ap (λ v. cond v (Ok (Parenthesis, after_byte (cut h e more))) (Err (ExpectedOpen, cut h e more))) round ∙ ap (λ k. Ok (Parenthesis, k)) (behind_cut s b bs e more lt)) (ahead Parenthesis) (m Parenthesis (after_white g))
-opening_by start unread read s b bs false false left round ahead m rest = record { by = λ f is. unopened_mends start unread read (at s (b ∷ bs)) rest }
+opening_by unread read s b bs false false left round ahead m rest = record { by = λ f is. unopened_mends unread read (at s (b ∷ bs)) rest }
 
-opened_mended : (start : Spot) (unread : Content) (read : Closing → Here → Piece × Here) (s : Spot) (r : List ℕ) → ((close : Closing) (e : Here) → Reaches e (read close e).1) → ((close : Closing) (k : Here) → Mended NotWhite k (read close k) (λ e more. read close (cut k e more))) → Rest read → Mended (Is 123) (at s r) (item_opened start unread read (opening (at s r))) (λ e more. item_opened start unread read (opening (cut (at s r) e more)))
+opened_mended : (unread : Content) (read : Closing → Here → Piece × Here) (s : Spot) (r : List ℕ) → ((close : Closing) (e : Here) → Reaches e (read close e).1) → ((close : Closing) (k : Here) → Mended NotWhite k (read close k) (λ e more. read close (cut k e more))) → Rest read → Mended (Is 123) (at s r) (item_opened unread read (opening (at s r))) (λ e more. item_opened unread read (opening (cut (at s r) e more)))
 unfolding opening
-opened_mended start unread read s [] ahead m rest = record { by = λ f is. unopened_mends start unread read (at s []) rest }
-opened_mended start unread read s (b ∷ bs) ahead m rest = opening_by start unread read s b bs (b == left_brace) (b == 40) refl refl ahead m rest
+opened_mended unread read s [] ahead m rest = record { by = λ f is. unopened_mends unread read (at s []) rest }
+opened_mended unread read s (b ∷ bs) ahead m rest = opening_by unread read s b bs (b == left_brace) (b == 40) refl refl ahead m rest
 
 -- what a type begins
-opened_reach : (start : Spot) (unread : Content) (read : Closing → Here → Piece × Here) (w : Here) → ((close : Closing) (e : Here) → Reaches e (read close e).1) → Reaches w (item_opened start unread read (opening w)).1
-opened_reach start unread read w ahead = opened_reaches w start unread read (opening w) (opening_advances w) ahead
+opened_reach : (unread : Content) (read : Closing → Here → Piece × Here) (w : Here) → ((close : Closing) (e : Here) → Reaches e (read close e).1) → Reaches w (item_opened unread read (opening w)).1
+opened_reach unread read w ahead = opened_reaches w unread read (opening w) (opening_advances w) ahead
 
-behind_type : (start : Spot) (unread : Content) (read : Closing → Here → Piece × Here) (h : Here) → ((close : Closing) (e : Here) → Reaches e (read close e).1) → ((close : Closing) (k : Here) → Mended NotWhite k (read close k) (λ e more. read close (cut k e more))) → Rest read → Mended (Is 123) h (item_opened start unread read (opening (after_white h))) (λ e more. item_opened start unread read (opening (after_white (cut h e more))))
-behind_type start unread read h ahead m rest = (let w = after_white h in mended_past (Is 123) is_white h (item_opened start unread read (opening w)) (λ k. item_opened start unread read (opening k)) (one_not_white 123 refl) (opened_reach start unread read w ahead) (opened_mended start unread read w.spot w.rest ahead m rest))
+behind_type : (unread : Content) (read : Closing → Here → Piece × Here) (h : Here) → ((close : Closing) (e : Here) → Reaches e (read close e).1) → ((close : Closing) (k : Here) → Mended NotWhite k (read close k) (λ e more. read close (cut k e more))) → Rest read → Mended (Is 123) h (item_opened unread read (opening (after_white h))) (λ e more. item_opened unread read (opening (after_white (cut h e more))))
+behind_type unread read h ahead m rest = (let w = after_white h in mended_past (Is 123) is_white h (item_opened unread read (opening w)) (λ k. item_opened unread read (opening k)) (one_not_white 123 refl) (opened_reach unread read w ahead) (opened_mended unread read w.spot w.rest ahead m rest))
 
-pub typed_mended : (keyword : Keyword) (start : Spot) (kind : List ℕ) (h : Here) → Mended (Is 123) h (item_of_type keyword start kind h) (λ e more. item_of_type keyword start kind (cut h e more))
-typed_mended keywords.Comment start kind h = record { by = tt }
-typed_mended keywords.String start kind h = behind_type start unread_string (string_item start) h (string_reaches start) (string_mended start) (string_rest start)
-typed_mended keywords.Preamble start kind h = behind_type start (contents.Preamble None) (preamble_item start) h (preamble_reaches start) (preamble_mended start) (preamble_rest start)
-typed_mended keywords.Entry start kind h = behind_type start (unread_entry (Some kind)) (entry_item start kind) h (entry_reaches start kind) (entry_mended start kind) (entry_rest start kind)
+pub typed_mended : (keyword : Keyword) (kind : List ℕ) (h : Here) → Mended (Is 123) h (item_of_type keyword kind h) (λ e more. item_of_type keyword kind (cut h e more))
+typed_mended keywords.Comment kind h = record { by = tt }
+typed_mended keywords.String kind h = behind_type unread_string string_item h string_reaches string_mended string_rest
+typed_mended keywords.Preamble kind h = behind_type (contents.Preamble None) preamble_item h preamble_reaches preamble_mended preamble_rest
+typed_mended keywords.Entry kind h = behind_type (unread_entry (Some kind)) (entry_item kind) h (entry_reaches kind) (entry_mended kind) (entry_rest kind)

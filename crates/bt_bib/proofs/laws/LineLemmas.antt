@@ -1,7 +1,7 @@
 -- The lines in what was read lie between that of its beginning and that of its end.
 use Rattle.std.specs.Prelude.{◌==◌, codes, All}
 use Rattle.std.specs.List.{AllByRecursion}
-use Rattle.std.proofs.Common.{◌≡◌, ℕ, zero, suc, ◌≤◌, Bool, true, false, cond, List, [], ◌∷◌, length, Option, Some, None, Result, Ok, Err, refl, sym, ap, subst, arith}
+use Rattle.std.proofs.Common.{◌≡◌, ℕ, zero, suc, ◌+◌, ◌-◌, ◌≤◌, Bool, true, false, cond, List, [], ◌∷◌, length, Option, Some, None, Result, Ok, Err, refl, sym, ap, subst, arith}
 use Rattle.std.proofs.lemmas.List.Elements.{All-from_recursion}
 use Rattle.bt_text.specs.ByteTests.{is_digit, left_brace, right_brace}
 use Rattle.bt_text.specs.NameBytes.{is_name_byte}
@@ -16,9 +16,10 @@ use Rattle.bt_bib.specs.declared.item.Content.{Content}
 use Rattle.bt_bib.specs.declared.item.Content.TheVariants as contents
 use Rattle.bt_bib.specs.declared.item.Piece.{Piece}
 use Rattle.bt_bib.specs.declared.item.Piece.TheVariants as pieces
+use Rattle.bt_bib.specs.declared.placed_pieces.PlacedPiece.{PlacedPiece}
 use Rattle.bt_bib.specs.declared.keywords.Keyword.{Keyword}
 use Rattle.bt_bib.specs.declared.keywords.Keyword.TheVariants as keywords
-use Rattle.bt_bib.specs.Spot.{Here, here, start, after_byte}
+use Rattle.bt_bib.specs.Spot.{Here, here, start, spot_from, after_byte}
 use Rattle.bt_bib.specs.Stop.{Stop, ◌>>=◌, value_read}
 use Rattle.bt_bib.specs.Scan.{first, run, after_run, after_white, sign, closing_sign, is_key_byte}
 use Rattle.bt_bib.specs.Enclosure.{enclosed}
@@ -31,10 +32,10 @@ use Rattle.bt_bib.specs.Pieces.{ended_item, opening, after_closing, entry_item, 
 use Rattle.bt_bib.specs.BibText.{pieces_of}
 use Rattle.bt_bib.specs.laws.BibText.{bib_items}
 use Rattle.bt_bib.specs.inner.Cases.{next_one, field_or_close, next_field_from, many_by, entry_read, string_read, name_line, preamble_read, type_ended, type_read, is_text, next_piece_from, raw_part, part_from, joined_from}
-use Rattle.bt_bib.specs.Items.{items_of}
+use Rattle.bt_bib.specs.Items.{PlacedItem, items_of}
 use Rattle.bt_bib.specs.laws.Laws.{PartLiesIn, ValueLiesIn, FieldLiesIn, ContentLiesIn, LinesLieIn, LinesLieInside}
-use Rattle.bt_bib.proofs.ReachLemmas.{Reaches, reaches_then, behind_reaches, past_reaches, white_reaches, Advances, Moves, advances_from, word_advances, ended_moves, name_advances, sign_moves, part_advances, joined_advances, value_advances, field_advances, next_field_advances, raw_part_advances_from, many_moves}
-use Rattle.bt_bib.proofs.PieceLemmas.{opening_advances, closed_moves, entry_moves, string_moves, preamble_moves, equalled, valued, next_piece_reaches}
+use Rattle.bt_bib.proofs.ReachLemmas.{Reaches, reaches_then, behind_reaches, past_reaches, white_reaches, Advances, Moves, advances_from, name_advances, sign_moves, part_advances, joined_advances, value_advances, field_advances, next_field_advances, raw_part_advances_from, many_moves}
+use Rattle.bt_bib.proofs.PieceLemmas.{item_here, closed_moves, entry_moves, string_moves, equalled, valued, next_piece_reaches}
 
 line_le : (h e : Here) → Reaches h e → h.spot.line ≤ e.spot.line
 line_le h e r = omega (arith, ap (λ (s : Spot). s.line) r.spot)
@@ -203,16 +204,20 @@ all_parts : (low high : ℕ) (v : Option (List Part)) → SomeIn (AllIn PartLies
 all_parts low high None h = tt
 all_parts low high (Some parts) h = All-from_recursion (PartLiesIn low high) parts h
 
-abbrev PieceLies : Piece → Type 0
-PieceLies (pieces.Comment s e) = Unit {0}
-PieceLies (pieces.Item i) = LinesLieIn i
+-- what was read of a piece, up to the line of its end
+abbrev PieceLies : ℕ → Piece → Type 0
+PieceLies high pieces.Comment = Unit {0}
+PieceLies high (pieces.Item i) = (i.line ≤ high) × ContentLiesIn i.line high i.content
 
-item_lies : (s : Spot) (line : ℕ) (content : Content) (close : Option Closing) (r : Result Here Stop) → s.line ≤ line → line ≤ end_line r → ContentLiesIn line (end_line r) content → PieceLies (ended_item s line content close r).0
-item_lies s line content close (Ok e) p q h = record { line = (p, q); content = h }
-item_lies s line content close (Err stop) p q h = record { line = (p, q); content = h }
+abbrev ReadLies : Piece × Here → Type 0
+ReadLies x = PieceLies x.1.spot.line x.0
 
-entry_lies : (s : Spot) (kind : List ℕ) (close : Closing) (h : Here) → s.line ≤ h.spot.line → PieceLies (entry_item s kind close h).0
-entry_lies s kind close h le =
+item_lies : (line : ℕ) (content : Content) (close : Option Closing) (r : Result Here Stop) → line ≤ end_line r → ContentLiesIn line (end_line r) content → ReadLies (ended_item line content close r)
+item_lies line content close (Ok e) q h = (q, h)
+item_lies line content close (Err stop) q h = (q, h)
+
+entry_lies : (kind : List ℕ) (close : Closing) (h : Here) → ReadLies (entry_item kind close h)
+entry_lies kind close h =
     let e = after_run (is_key_byte close) h in
     let w = after_white e in
     let read = entry_read kind close h in
@@ -220,7 +225,7 @@ entry_lies s kind close h le =
     let end = end_line fields.1 in
     let lies = many_lies FieldIn wider_field (next_field close) (next_field_advances close) (next_field_lies close) (suc (length w.rest)) w in
     let low = line_le h w (reaches_then h e w (past_reaches (is_key_byte close) h) (white_reaches e)) in
-    item_lies s h.spot.line (contents.Entry read.0) (Some close) read.1 le (moves_line h read.1 (entry_moves kind close h)) (all_fields h.spot.line end fields.0 (all_weaker (FieldIn w.spot.line end) (FieldIn h.spot.line end) (wider_field h.spot.line w.spot.line end end low (omega arith)) fields.0 lies))
+    item_lies h.spot.line (contents.Entry read.0) (Some close) read.1 (moves_line h read.1 (entry_moves kind close h)) (all_fields h.spot.line end fields.0 (all_weaker (FieldIn w.spot.line end) (FieldIn h.spot.line end) (wider_field h.spot.line w.spot.line end end low (omega arith)) fields.0 lies))
 
 -- a value that is closed after it
 given_lies : (close : Closing) (low : ℕ) (h : Here) (r : Result (List Part × Here) Stop) → low ≤ h.spot.line → Lies (AllIn PartLiesIn) h r → SomeIn (AllIn PartLiesIn) low (end_line (r >>= λ v. after_closing close v.1)) (value_read r)
@@ -236,79 +241,83 @@ valued_lies close h =
     lies_from (AllIn PartLiesIn) wider_parts h w (value close w) to_w (value_lies close w)))
 
 -- Without a name there is no value.
-no_name : (close : Closing) (low : ℕ) (x : Result (List ℕ × Here) Stop) (k : List ℕ × Here → Result (List Part × Here) Stop) (h : Here) → low ≤ h.spot.line → Lies (AllIn PartLiesIn) h (x >>= k) → SomeIn (AllIn PartLiesIn) (name_line h.spot.line low (value_read x)) (end_line (x >>= k >>= λ v. after_closing close v.1)) (value_read (x >>= k))
-no_name close low (Err stop) k h le p = tt
-no_name close low (Ok n) k h le p = given_lies close h.spot.line h (k n) (omega arith) p
+no_name : (close : Closing) (x : Result (List ℕ × Here) Stop) (k : List ℕ × Here → Result (List Part × Here) Stop) (h : Here) → Lies (AllIn PartLiesIn) h (x >>= k) → SomeIn (AllIn PartLiesIn) (name_line h.spot.line (value_read x)) (end_line (x >>= k >>= λ v. after_closing close v.1)) (value_read (x >>= k))
+no_name close (Err stop) k h p = tt
+no_name close (Ok n) k h p = given_lies close h.spot.line h (k n) (omega arith) p
 
-name_line_low : (low line : ℕ) (n : Option (List ℕ)) → low ≤ line → low ≤ name_line line low n
-name_line_low low line (Some n) le = le
-name_line_low low line None le = omega arith
+name_line_high : (line high : ℕ) (n : Option (List ℕ)) → line ≤ high → name_line line n ≤ high
+name_line_high line high (Some n) q = q
+name_line_high line high None q = omega arith
 
-name_line_high : (low line high : ℕ) (n : Option (List ℕ)) → low ≤ line → line ≤ high → name_line line low n ≤ high
-name_line_high low line high (Some n) p q = q
-name_line_high low line high None p q = omega arith
-
-string_lies : (s : Spot) (close : Closing) (h : Here) → s.line ≤ h.spot.line → PieceLies (string_item s close h).0
-string_lies s close h le =
+string_lies : (close : Closing) (h : Here) → ReadLies (string_item close h)
+string_lies close h =
     let read = string_read close h in
-    let line = name_line h.spot.line s.line read.0.name in
-    let low = name_line_low s.line h.spot.line read.0.name le in
-    let high = name_line_high s.line h.spot.line (end_line read.1) read.0.name le (moves_line h read.1 (string_moves close h)) in
-    item_lies s line (contents.Define read.0) (Some close) read.1 low high (all_parts line (end_line read.1) read.0.value (no_name close s.line (name StringName name_ends h) (λ n. equalled close (after_white n.1)) h le (valued_lies close h)))
+    let line = name_line h.spot.line read.0.name in
+    let high = name_line_high h.spot.line (end_line read.1) read.0.name (moves_line h read.1 (string_moves close h)) in
+    item_lies line (contents.Define read.0) (Some close) read.1 high (all_parts line (end_line read.1) read.0.value (no_name close (name StringName name_ends h) (λ n. equalled close (after_white n.1)) h (valued_lies close h)))
 
-preamble_lies : (s : Spot) (close : Closing) (h : Here) → s.line ≤ h.spot.line → PieceLies (preamble_item s close h).0
-preamble_lies s close h le =
-    let read = preamble_read close h in
-    let high = moves_line h read.1 (preamble_moves close h) in
-    item_lies s s.line (contents.Preamble read.0) (Some close) read.1 (omega arith) (omega (arith, high)) (all_parts s.line (end_line read.1) read.0 (given_lies close s.line h (value close h) le (value_lies close h)))
+preamble_lies : (close : Closing) (h : Here) → ReadLies (preamble_item close h)
+preamble_lies close h = (let read = preamble_read close h in item_lies 0 (contents.Preamble read.0) (Some close) read.1 (omega arith) (all_parts 0 (end_line read.1) read.0 (given_lies close 0 h (value close h) (omega arith) (value_lies close h))))
 
 no_fields : (low high : ℕ) → All (FieldLiesIn low high) []
 no_fields low high = All-from_recursion (FieldLiesIn low high) [] tt
 
 -- before the opening sign
-unread_lies : (s : Spot) (content : Content) (stop : Stop) → s.line ≤ stop.1.spot.line → ContentLiesIn s.line stop.1.spot.line content → PieceLies (ended_item s s.line content None (Err stop)).0
-unread_lies s content stop le h = item_lies s s.line content None (Err stop) (omega arith) le h
+unread_lies : (content : Content) (stop : Stop) → ((high : ℕ) → ContentLiesIn 0 high content) → ReadLies (ended_item 0 content None (Err stop))
+unread_lies content stop h = item_lies 0 content None (Err stop) (omega arith) (h stop.1.spot.line)
 
-opened_lies : (s : Spot) (unread : Content) (read : Closing → Here → Piece × Here) (h : Here) (r : Result (Closing × Here) Stop) → s.line ≤ h.spot.line → ((high : ℕ) → ContentLiesIn s.line high unread) → Advances h r → ((close : Closing) (e : Here) → s.line ≤ e.spot.line → PieceLies (read close e).0) → PieceLies (item_opened s unread read r).0
-opened_lies s unread read h (Err stop) le u a k = unread_lies s unread stop (omega (arith, line_le h stop.1 a.ahead)) (u stop.1.spot.line)
-opened_lies s unread read h (Ok o) le u a k = k o.0 (after_white o.1) (omega (arith, line_le h o.1 a.ahead, line_le o.1 (after_white o.1) (white_reaches o.1)))
+opened_lies : (unread : Content) (read : Closing → Here → Piece × Here) (r : Result (Closing × Here) Stop) → ((high : ℕ) → ContentLiesIn 0 high unread) → ((close : Closing) (e : Here) → ReadLies (read close e)) → ReadLies (item_opened unread read r)
+opened_lies unread read (Err stop) u k = unread_lies unread stop u
+opened_lies unread read (Ok o) u k = k o.0 (after_white o.1)
 
-typed_lies : (keyword : Keyword) (s : Spot) (kind : List ℕ) (h : Here) → s.line ≤ h.spot.line → PieceLies (item_of_type keyword s kind h).0
-typed_lies keywords.Comment s kind h le = tt
-typed_lies keywords.String s kind h le = opened_lies s unread_string (string_item s) (after_white h) (opening (after_white h)) (omega (arith, line_le h (after_white h) (white_reaches h))) (λ _. tt) (opening_advances (after_white h)) (string_lies s)
-typed_lies keywords.Preamble s kind h le = opened_lies s (contents.Preamble None) (preamble_item s) (after_white h) (opening (after_white h)) (omega (arith, line_le h (after_white h) (white_reaches h))) (λ _. tt) (opening_advances (after_white h)) (preamble_lies s)
-typed_lies keywords.Entry s kind h le = opened_lies s (unread_entry (Some kind)) (entry_item s kind) (after_white h) (opening (after_white h)) (omega (arith, line_le h (after_white h) (white_reaches h))) (no_fields s.line) (opening_advances (after_white h)) (entry_lies s kind)
+typed_lies : (keyword : Keyword) (kind : List ℕ) (h : Here) → ReadLies (item_of_type keyword kind h)
+typed_lies keywords.Comment kind h = tt
+typed_lies keywords.String kind h = opened_lies unread_string string_item (opening (after_white h)) (λ _. tt) string_lies
+typed_lies keywords.Preamble kind h = opened_lies (contents.Preamble None) preamble_item (opening (after_white h)) (λ _. tt) preamble_lies
+typed_lies keywords.Entry kind h = opened_lies (unread_entry (Some kind)) (entry_item kind) (opening (after_white h)) (no_fields 0) (entry_lies kind)
 
-type_ended_lies : (s : Spot) (kind : List ℕ) (h : Here) (r : Result Here Stop) → s.line ≤ h.spot.line → Moves h r → PieceLies (type_ended s kind r).0
-type_ended_lies s kind h (Err stop) le m = unread_lies s (unread_entry (Some kind)) stop (omega (arith, line_le h stop.1 m.ahead)) (no_fields s.line stop.1.spot.line)
-type_ended_lies s kind h (Ok e) le m = typed_lies (keyword_of kind) s kind e (omega (arith, line_le h e m.ahead))
+type_ended_lies : (kind : List ℕ) (r : Result Here Stop) → ReadLies (type_ended kind r)
+type_ended_lies kind (Err stop) = unread_lies (unread_entry (Some kind)) stop (no_fields 0)
+type_ended_lies kind (Ok e) = typed_lies (keyword_of kind) kind e
 
-type_read_lies : (s : Spot) (h : Here) (r : Result (List ℕ × Here) Stop) → s.line ≤ h.spot.line → Advances h r → PieceLies (type_read s r).0
-type_read_lies s h (Err stop) le a = unread_lies s (unread_entry None) stop (omega (arith, line_le h stop.1 a.ahead)) (no_fields s.line stop.1.spot.line)
-type_read_lies s h (Ok w) le a = type_ended_lies s w.0 w.1 (name_ended EntryType (codes "{(") w.1) (omega (arith, line_le h w.1 a.ahead)) (ended_moves EntryType (codes "{(") w.1)
+type_read_lies : (r : Result (List ℕ × Here) Stop) → ReadLies (type_read r)
+type_read_lies (Err stop) = unread_lies (unread_entry None) stop (no_fields 0)
+type_read_lies (Ok w) = type_ended_lies w.0 (name_ended EntryType (codes "{(") w.1)
 
-piece_lies : (h : Here) → PieceLies (piece h).0
+piece_lies : (text : List ℕ) → ReadLies (piece text)
 unfolding piece
-piece_lies h =
-    let w = after_white (after_byte h) in
-    type_read_lies h.spot w (word EntryType w) (omega (arith, line_le h (after_byte h) (behind_reaches h), line_le (after_byte h) w (white_reaches (after_byte h)))) (word_advances EntryType w)
+piece_lies text = type_read_lies (word EntryType (after_white (after_byte (item_here text))))
 
-abbrev PieceAnywhere : ℕ → ℕ → Piece → Type 0
-PieceAnywhere low high p = PieceLies p
+-- pieces where they stand
+abbrev LiesAt : Spot → Spot → Piece → Type 0
+LiesAt from end pieces.Comment = Unit {0}
+LiesAt from end (pieces.Item i) = LinesLieIn (record { start = from; end = end; item = i })
 
-next_lies_from : (h g : Here) (o : Option ℕ) → Lies (SomeIn PieceAnywhere) h (Ok (next_piece_from g o))
+lies_at : (s : Spot) (x : Piece × Here) → ReadLies x → LiesAt s (spot_from s x.1.spot) x.0
+lies_at s (pieces.Comment, e) h = tt
+lies_at s (pieces.Item i, e) h =
+    let line : e.spot.line ≡ e.spot.line + s.line - s.line = omega arith in
+    record { line = omega (arith, h.0); content = subst (λ n. ContentLiesIn i.line n i.content) line h.1 }
+
+abbrev Anywhere : ℕ → ℕ → PlacedPiece → Type 0
+Anywhere low high p = LiesAt p.start p.end p.piece
+
+next_lies_from : (h g : Here) (o : Option ℕ) → Lies (SomeIn Anywhere) h (Ok (next_piece_from g o))
 next_lies_from h g None = tt
-next_lies_from h g (Some b) = piece_lies g
+next_lies_from h g (Some b) = lies_at g.spot (piece g.rest) (piece_lies g.rest)
 
-next_lies : (h : Here) → Lies (SomeIn PieceAnywhere) h (next_one h)
+next_lies : (h : Here) → Lies (SomeIn Anywhere) h (next_one h)
 unfolding next_piece
 next_lies h = next_lies_from h (after_run is_text h) (first (after_run is_text h).rest)
 
-items_lie : (ps : List Piece) → AllByRecursion PieceLies ps → AllByRecursion LinesLieIn (items_of ps)
-items_lie [] h = tt
-items_lie (pieces.Comment s e ∷ ps) h = items_lie ps h.1
-items_lie (pieces.Item i ∷ ps) h = (h.0, items_lie ps h.1)
+one_lies : (from end : Spot) (x : Piece) (rest : List PlacedItem) → LiesAt from end x → AllByRecursion LinesLieIn rest → AllByRecursion LinesLieIn (elim x [ pieces.Comment ↦ rest | pieces.Item item ↦ record { start = from; end = end; item = item } ∷ rest ])
+one_lies from end pieces.Comment rest h all = all
+one_lies from end (pieces.Item i) rest h all = (h, all)
+
+items_lie : (low high : ℕ) (ps : List PlacedPiece) → AllByRecursion (Anywhere low high) ps → AllByRecursion LinesLieIn (items_of ps)
+items_lie low high [] h = tt
+items_lie low high (p ∷ ps) h = one_lies p.start p.end p.piece (items_of ps) h.0 (items_lie low high ps h.1)
 
 pub lines_lie_inside : LinesLieInside
 unfolding pieces_of
-lines_lie_inside text = All-from_recursion LinesLieIn (bib_items text) (items_lie (pieces_of text) (many_lies PieceAnywhere (λ a b c d p q x h. h) next_one (λ h. record { ahead = next_piece_reaches h }) next_lies (suc (length text)) (here text start)))
+lines_lie_inside text = All-from_recursion LinesLieIn (bib_items text) (items_lie 0 0 (pieces_of text) (many_lies Anywhere (λ a b c d p q x h. h) next_one (λ h. record { ahead = next_piece_reaches h }) next_lies (suc (length text)) (here text start)))

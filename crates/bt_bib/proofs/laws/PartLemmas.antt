@@ -12,13 +12,12 @@ use Rattle.bt_bib.specs.declared.fault.ItemFault.{ItemFault}
 use Rattle.bt_bib.specs.declared.item.Item.{Item}
 use Rattle.bt_bib.specs.declared.item.Piece.{Piece}
 use Rattle.bt_bib.specs.declared.item.Piece.TheVariants as pieces
-use Rattle.bt_bib.specs.Spot.{Here, at, start, spot_after, spot_after_byte}
+use Rattle.bt_bib.specs.declared.placed_pieces.PlacedPiece.{PlacedPiece}
+use Rattle.bt_bib.specs.Spot.{Here, at, start, item_start, spot_after, spot_after_byte}
 use Rattle.bt_bib.specs.Scan.{first, after_run}
-use Rattle.bt_bib.specs.Pieces.{piece, next_piece}
+use Rattle.bt_bib.specs.Pieces.{piece, placed, next_piece}
 use Rattle.bt_bib.specs.BibText.{pieces_of}
-use Rattle.bt_bib.specs.inner.Cases.{next_one, pieces_from, is_text, next_piece_from}
-use Rattle.bt_bib.specs.Moved.{nowhere, moved_piece, moved_option}
-use Rattle.bt_bib.specs.Boundaries.{start_of, end_of}
+use Rattle.bt_bib.specs.inner.Cases.{next_one, next_at, pieces_from, is_text, next_piece_from}
 use Rattle.bt_bib.specs.laws.Laws.{offset}
 use Rattle.bt_bib.specs.laws.Spelled.{ItemOf}
 use Rattle.bt_bib.specs.Parts.{is_whole, lies_before, lies_behind, is_cut, AreCuts}
@@ -26,17 +25,15 @@ use Rattle.bt_bib.specs.laws.Parts.{pieces_at, pieces_in_parts, PartsAreRead}
 use Rattle.bt_bib.proofs.RunLemmas.{past_run, past_is_run, passed-nil, passed-cons}
 use Rattle.bt_bib.proofs.ReachLemmas.{Reaches, reaches_sum, reaches_place, passed-append, past_reaches}
 use Rattle.bt_bib.proofs.ManyLemmas.{IsLess}
-use Rattle.bt_bib.proofs.laws.SpellingLemmas.{Stands, Stops}
+use Rattle.bt_bib.proofs.laws.SpellingLemmas.{Stops}
 use Rattle.bt_bib.proofs.laws.SpelledItemLemmas.{spelled_items_are_read}
-use Rattle.bt_bib.proofs.laws.FaultlessItemLemmas.{PieceStands, past_stops, read_piece}
-use Rattle.bt_bib.proofs.laws.FaultlessDatabaseLemmas.{at_sign}
-use Rattle.bt_bib.proofs.PieceLemmas.{next_piece_reaches, next_piece_less, piece_reaches}
+use Rattle.bt_bib.proofs.laws.FaultlessItemLemmas.{past_stops, read_piece}
+use Rattle.bt_bib.proofs.laws.FaultlessDatabaseLemmas.{at_sign, item_stands}
+use Rattle.bt_bib.proofs.PieceLemmas.{piece_further, next_piece_reaches, next_piece_less}
 use Rattle.bt_bib.proofs.AlikeLemmas.{Alike}
 use Rattle.bt_bib.proofs.SameLemmas.{Same}
-use Rattle.bt_bib.proofs.PieceMoveLemmas.{next_piece_same}
-use Rattle.bt_bib.proofs.BoundaryLemmas.{pieces_by, pieces_step, piece_ends, moved_law}
-use Rattle.bt_bib.proofs.KeptLemmas.{still, piece_still}
-use Rattle.bt_bib.proofs.RiseLemmas.{piece_starts}
+use Rattle.bt_bib.proofs.SamePieceLemmas.{next_piece_same}
+use Rattle.bt_bib.proofs.BoundaryLemmas.{pieces_by, pieces_step, moved_law}
 use Rattle.bt_bib.proofs.laws.LawLemmas.{from_offset}
 
 -- ---- text before the next `@`
@@ -120,30 +117,30 @@ front_then n h e x le =
     (record { front = f; parts = front; spot = x.spot }, ap (λ s. at s (drop n h.rest)) spot ∙ ap (at (spot_after (take m e.rest) e.spot)) rest)
 
 -- a piece that ends below the cut
-parted_below : (n : ℕ) (h e : Here) (p : Piece) → n ≤ length h.rest → next_piece h ≡ (Some p, e) → e.spot.place < h.spot.place + n → IsParted (n - (e.spot.place - h.spot.place)) e → IsParted n h
+parted_below : (n : ℕ) (h e : Here) (p : PlacedPiece) → n ≤ length h.rest → next_piece h ≡ (Some p, e) → e.spot.place < h.spot.place + n → IsParted (n - (e.spot.place - h.spot.place)) e → IsParted n h
 parted_below n h e p within is lt later =
     let s = h.spot in
     let r = h.rest in
     let k = front_of n s r in
     let limit = s.place + n in
     let m = n - (e.spot.place - s.place) in
-    let ahead : Reaches h e = subst (λ (x : Option Piece × Here). Reaches h x.1) is (next_piece_reaches h) in
+    let ahead : Reaches h e = subst (λ (x : Option PlacedPiece × Here). Reaches h x.1) is (next_piece_reaches h) in
     let up = reaches_place h e ahead in
     let less : limit - s.place ≡ n = omega arith in
     let twice : take n (take n r) ≡ take n r = take-within n r within in
-    let alike : Alike nowhere limit h k = record { spot = sym (still s); rest = ap (λ j. take j r) less ∙ sym twice ∙ ap (λ j. take j (take n r)) (sym less) } in
-    let same : Same nowhere limit (moved_option (moved_piece nowhere)) (Ok (Some p, e)) (next_one k) = subst (λ (x : Option Piece × Here). Same nowhere limit (moved_option (moved_piece nowhere)) (Ok x) (next_one k)) is (next_piece_same nowhere limit h k alike) in
+    let alike : Alike limit h k = record { spot = refl; rest = ap (λ j. take j r) less ∙ sym twice ∙ ap (λ j. take j (take n r)) (sym less) } in
+    let same : Same limit (Ok (Some p, e)) (next_one k) = subst (λ (x : Option PlacedPiece × Here). Same limit (Ok x) (next_one k)) is (next_piece_same limit h k alike) in
     let t = same.alike lt in
     let g = t.0 in
-    let one : next_piece k ≡ (Some (moved_piece nowhere p), g) = cc t.1 in
-    let found : Reaches k g = subst (λ (x : Option Piece × Here). Reaches k x.1) one (next_piece_reaches k) in
+    let one : next_piece k ≡ (Some p, g) = cc t.1 in
+    let found : Reaches k g = subst (λ (x : Option PlacedPiece × Here). Reaches k x.1) one (next_piece_reaches k) in
     let to = front_then n h e ahead (omega arith) in
-    let spot : g.spot ≡ e.spot = t.2.spot ∙ still e.spot in
+    let spot : g.spot ≡ e.spot = t.2.spot in
     let left : length g.rest ≡ limit - e.spot.place = omega (arith, reaches_sum k g found, length-take-le n r within, ap (λ (s : Spot). s.place) spot) in
     let by : limit - e.spot.place ≡ m = omega (arith, up) in
     let rest : g.rest ≡ take m e.rest = sym (take_all (limit - e.spot.place) g.rest (omega (arith, left))) ∙ sym t.2.rest ∙ ap (λ j. take j e.rest) by in
     let there : g ≡ front_of m e.spot e.rest = ap (λ u. at u g.rest) spot ∙ ap (at e.spot) rest in
-    let front : pieces_from k ≡ p ∷ pieces_from (front_of m e.spot e.rest) = pieces_step k ∙ ap pieces_by one ∙ ap (λ q. q ∷ pieces_from g) (piece_still p) ∙ ap (λ u. p ∷ pieces_from u) there in
+    let front : pieces_from k ≡ p ∷ pieces_from (front_of m e.spot e.rest) = pieces_step k ∙ ap pieces_by one ∙ ap (λ u. p ∷ pieces_from u) there in
     pieces_step h ∙ ap pieces_by is ∙ ap (λ ps. p ∷ ps) later
     ∙ ap (λ u. p ∷ (pieces_from (front_of m e.spot e.rest) ++ pieces_from u)) (sym to.1)
     ∙ ap (λ ps. ps ++ pieces_from (rest_of n s r)) (sym front)
@@ -186,53 +183,47 @@ run_front zero s (b ∷ bs) le = run_zero (is_text b) s b bs le
 run_front (suc n) s (b ∷ bs) le = run_front_by (is_text b) n s b bs refl (past_up (spot_after_byte b s) bs) (run_front n (spot_after_byte b s) bs) le
 
 -- the pieces from the next `@` on
-pub step_from : (h a : Here) (b : ℕ) (bs : List ℕ) → after_run is_text h ≡ a → a.rest ≡ b ∷ bs → next_piece h ≡ (Some (piece a).0, (piece a).1)
+pub step_from : (h a : Here) (b : ℕ) (bs : List ℕ) → after_run is_text h ≡ a → a.rest ≡ b ∷ bs → next_piece h ≡ next_at a.spot (piece a.rest)
 unfolding next_piece
 step_from h a b bs is starts = ap (λ (q : Here). next_piece_from q (first q.rest)) is ∙ ap (λ (r : List ℕ). next_piece_from a (first r)) starts
 
-pub item_here : (n : ℕ) (h a : Here) (x : Piece × Here) (i : Item) → x.0 ≡ pieces.Item i → i.fault ≡ None → PieceStands a x → Stands (ItemOf i) a x.1
-item_here n h a (pieces.Comment start end, k) i is faultless stands = absurd (cc is)
-item_here n h a (pieces.Item j, k) i is faultless stands =
-    let same : j ≡ i = cc is in
-    subst (λ i. Stands (ItemOf i) a k) same (stands (ap (λ (i : Item). i.fault) same ∙ faultless))
-
 -- a faultless item is read of its own bytes
-alone : (i : Item) (s : Spot) (t : List ℕ) → ItemOf i s t → piece (at s t) ≡ (pieces.Item i, at (spot_after t s) [])
-alone i s t spelled = ap (λ r. piece (at s r)) (sym (append-nil t)) ∙ spelled_items_are_read i s t [] spelled
+alone : (i : Item) (t : List ℕ) → ItemOf i t → piece t ≡ (pieces.Item i, at (spot_after t item_start) [])
+alone i t spelled = ap piece (sym (append-nil t)) ∙ spelled_items_are_read i t [] spelled
 
-parted_at : (n : ℕ) (h a : Here) (b : ℕ) (bs : List ℕ) (i : Item) → n ≤ length h.rest → after_run is_text h ≡ a → a.rest ≡ b ∷ bs → first a.rest ≡ Some 64 → (piece a).0 ≡ pieces.Item i → i.fault ≡ None → (piece a).1.spot.place ≡ h.spot.place + n → IsParted n h
+parted_at : (n : ℕ) (h a : Here) (b : ℕ) (bs : List ℕ) (i : Item) → n ≤ length h.rest → after_run is_text h ≡ a → a.rest ≡ b ∷ bs → first a.rest ≡ Some 64 → (piece a.rest).0 ≡ pieces.Item i → i.fault ≡ None → (piece a.rest).1.spot.place + a.spot.place ≡ h.spot.place + n → IsParted n h
 parted_at n h a b bs i within is starts sign item faultless ends =
     let s = h.spot in
     let r = h.rest in
     let k = front_of n s r in
-    let e = (piece a).1 in
-    let x = item_here n h a (piece a) i item faultless (read_piece a sign) in
+    let q = (piece a.rest).1 in
+    let p = (placed a.spot (piece a.rest)).0 in
+    let e = (placed a.spot (piece a.rest)).1 in
+    let x = item_stands a.rest (piece a.rest) i item faultless (read_piece a.rest sign) in
     let t = x.text in
     let to_a : Reaches h a = subst (λ k. Reaches h k) is (past_reaches is_text h) in
     let up = reaches_place h a to_a in
-    let count : e.spot.place ≡ a.spot.place + length t = ap (λ (s : Spot). s.place) x.spot in
+    let count : q.spot.place ≡ length t = omega (arith, ap (λ (s : Spot). s.place) x.spot) in
     let walked = past_is_run is_text s r in
     let way : past_run is_text s r ≡ a = sym walked ∙ is in
     let fronted : past_run is_text s (take n r) ≡ at a.spot (take (n - (a.spot.place - s.place)) a.rest) = subst (λ (a : Here). a.spot.place - s.place ≤ n → past_run is_text s (take n r) ≡ at a.spot (take (n - (a.spot.place - s.place)) a.rest)) way (run_front n s r) (omega (arith, count, ends)) in
     let long_as : n - (a.spot.place - s.place) ≡ length t = omega (arith, count, ends, up) in
-    let bytes : take (n - (a.spot.place - s.place)) a.rest ≡ t = ap (λ j. take j a.rest) long_as ∙ ap (take (length t)) x.rest ∙ take-append_seam t e.rest in
+    let bytes : take (n - (a.spot.place - s.place)) a.rest ≡ t = ap (λ j. take j a.rest) long_as ∙ ap (take (length t)) x.rest ∙ take-append_seam t q.rest in
     let found : after_run is_text k ≡ at a.spot t = past_is_run is_text s (take n r) ∙ fronted ∙ ap (at a.spot) bytes in
-    let long : 0 < length t = omega (arith, count, further a b bs starts) in
-    let one : next_piece k ≡ (Some (pieces.Item i), at e.spot []) = by_byte t (at a.spot t) k long refl found ∙ ap (λ (p : Piece × Here). (Some p.0, p.1)) (alone i a.spot t x.spelled) ∙ ap (λ u. (Some (pieces.Item i), at u [])) (sym x.spot) in
+    let long : 0 < length t = omega (arith, count, subst (λ r. 0 < (piece r).1.spot.place) (sym starts) (piece_further b bs)) in
+    let whole : piece t ≡ ((piece a.rest).0, at q.spot []) = alone i t x.spelled ∙ ap (λ u. (pieces.Item i, at u [])) (sym x.spot) ∙ ap (λ y. (y, at q.spot [])) (sym item) in
+    let one : next_piece k ≡ (Some p, at e.spot []) = by_byte t (at a.spot t) k long refl found ∙ ap (next_at a.spot) whole in
     let nothing : pieces_from (at e.spot []) ≡ [] = none_from (at e.spot []) (at e.spot []) (past_is_run is_text e.spot [] ∙ run_nil e.spot) refl in
-    let front : pieces_from k ≡ pieces.Item i ∷ [] = pieces_step k ∙ ap pieces_by one ∙ ap (λ ps. pieces.Item i ∷ ps) nothing in
-    let ahead : Reaches h e = subst (λ (x : Option Piece × Here). Reaches h x.1) (step_from h a b bs is starts) (next_piece_reaches h) in
+    let front : pieces_from k ≡ p ∷ [] = pieces_step k ∙ ap pieces_by one ∙ ap (λ ps. p ∷ ps) nothing in
+    let ahead : Reaches h e = subst (λ (x : Option PlacedPiece × Here). Reaches h x.1) (step_from h a b bs is starts) (next_piece_reaches h) in
     let to = front_then n h e ahead (omega (arith, ends)) in
     let no_more : n - (e.spot.place - s.place) ≡ 0 = omega (arith, ends) in
     let last : rest_of n s r ≡ e = to.1 ∙ ap (λ j. rest_of j e.spot e.rest) no_more ∙ ap (λ u. at u e.rest) (passed-nil e.spot) in
-    pieces_step h ∙ ap pieces_by (step_from h a b bs is starts) ∙ ap (λ p. p ∷ pieces_from e) item
-    ∙ ap (λ u. pieces.Item i ∷ pieces_from u) (sym last)
+    pieces_step h ∙ ap pieces_by (step_from h a b bs is starts)
+    ∙ ap (λ u. p ∷ pieces_from u) (sym last)
     ∙ ap (λ ps. ps ++ pieces_from (rest_of n s r)) (sym front)
   where
-    further : (a : Here) (b : ℕ) (bs : List ℕ) → a.rest ≡ b ∷ bs → a.spot.place < (piece a).1.spot.place
-    further a b bs is = subst (λ (r : List ℕ). a.spot.place < (piece (at a.spot r)).1.spot.place) (sym is) (omega (arith, reaches_place (at (spot_after_byte b a.spot) bs) (piece (at a.spot (b ∷ bs))).1 (piece_reaches (at a.spot (b ∷ bs)))))
-
-    by_byte : (t : List ℕ) (g k : Here) → 0 < length t → g.rest ≡ t → after_run is_text k ≡ g → next_piece k ≡ (Some (piece g).0, (piece g).1)
+    by_byte : (t : List ℕ) (g k : Here) → 0 < length t → g.rest ≡ t → after_run is_text k ≡ g → next_piece k ≡ next_at g.spot (piece g.rest)
     by_byte [] g k lt is found = absurd (omega arith)
     by_byte (c ∷ cs) g k lt is found = step_from k g c cs found is
 
@@ -242,10 +233,10 @@ pub no_fault : (f : Option ItemFault) → is_none f ≡ true → f ≡ None
 no_fault None h = refl
 no_fault (Some f) h = absurd (false≢true h)
 
-end_lies : (n : ℕ) (h a : Here) (b : ℕ) (bs : List ℕ) → n ≤ length h.rest → after_run is_text h ≡ a → a.rest ≡ b ∷ bs → first a.rest ≡ Some 64 → (x : Piece × Here) → piece a ≡ x → (let limit = h.spot.place + n in (nat_lt x.1.spot.place limit ≡ true → IsParted n h) → (is_whole x.0 ≡ true) × ((x.1.spot.place == limit) ≡ true) → IsParted n h)
-end_lies n h a b bs within is starts sign (pieces.Comment s e, k) reads less y = absurd (false≢true y.0)
-end_lies n h a b bs within is starts sign (pieces.Item i, k) reads less y =
-    parted_at n h a b bs i within is starts sign (ap (λ (x : Piece × Here). x.0) reads) (no_fault i.fault y.0) (ap (λ (x : Piece × Here). x.1.spot.place) reads ∙ eqb-true k.spot.place (h.spot.place + n) y.1)
+end_lies : (n : ℕ) (h a : Here) (b : ℕ) (bs : List ℕ) → n ≤ length h.rest → after_run is_text h ≡ a → a.rest ≡ b ∷ bs → first a.rest ≡ Some 64 → (x : Piece × Here) → piece a.rest ≡ x → (is_whole x.0 ≡ true) × ((x.1.spot.place + a.spot.place == (h.spot.place + n)) ≡ true) → IsParted n h
+end_lies n h a b bs within is starts sign (pieces.Comment, k) reads y = absurd (false≢true y.0)
+end_lies n h a b bs within is starts sign (pieces.Item i, k) reads y =
+    parted_at n h a b bs i within is starts sign (ap (λ (x : Piece × Here). x.0) reads) (no_fault i.fault y.0) (ap (λ (x : Piece × Here). x.1.spot.place + a.spot.place) reads ∙ eqb-true (k.spot.place + a.spot.place) (h.spot.place + n) y.1)
 
 parted_by : (n : ℕ) (h : Here) (s : Spot) (r : List ℕ) → after_run is_text h ≡ at s r → Stops is_text r → n ≤ length h.rest → s.place - h.spot.place < n → is_cut (pieces_from h) (h.spot.place + n) ≡ true → ((e : Here) (m : ℕ) → length e.rest < length h.rest → m ≤ length e.rest → is_cut (pieces_from e) (e.spot.place + m) ≡ true → IsParted m e) → IsParted n h
 parted_by n h s [] is stop within lt cut later =
@@ -253,31 +244,27 @@ parted_by n h s [] is stop within lt cut later =
     absurd (omega (arith, reaches_sum h (at s []) to_a))
 parted_by n h s (b ∷ bs) is stop within lt cut later =
     let a = at s (b ∷ bs) in
-    let e = (piece a).1 in
-    let p = (piece a).0 in
+    let x = piece a.rest in
+    let e = (placed s x).1 in
+    let p = (placed s x).0 in
     let limit = h.spot.place + n in
     let step = step_from h a b bs is refl in
-    let less : length e.rest < length h.rest = subst (λ (x : Option Piece × Here). IsLess h (Ok x)) step (next_piece_less h) in
-    let ahead : Reaches h e = subst (λ (x : Option Piece × Here). Reaches h x.1) step (next_piece_reaches h) in
+    let less : length e.rest < length h.rest = subst (λ (x : Option PlacedPiece × Here). IsLess h (Ok x)) step (next_piece_less h) in
+    let ahead : Reaches h e = subst (λ (x : Option PlacedPiece × Here). Reaches h x.1) step (next_piece_reaches h) in
     let all : pieces_from h ≡ p ∷ pieces_from e = pieces_step h ∙ ap pieces_by step in
     let parts = and_parts (lies_before limit p || lies_behind limit p) (list_all (λ p. lies_before limit p || lies_behind limit p) (pieces_from e)) (subst (λ ps. is_cut ps limit ≡ true) all cut) in
-    let begins : (start_of p).place ≡ s.place = ap (λ (s : Spot). s.place) (piece_starts a) in
     let to_a : Reaches h a = subst (λ k. Reaches h k) is (past_reaches is_text h) in
     let m = n - (e.spot.place - h.spot.place) in
-    let below : nat_lt e.spot.place limit ≡ true → IsParted n h = (λ v.
-    let under = ltb-true e.spot.place limit v in
-    let on : e.spot.place + m ≡ limit = omega (arith, under, reaches_place h e ahead) in
-    parted_below n h e p within step under (later e m less (omega (arith, reaches_sum h e ahead, reaches_place h e ahead)) (ap (is_cut (pieces_from e)) on ∙ parts.1))) in
-    let ends : (end_of p).place ≡ e.spot.place = ap (λ (s : Spot). s.place) (piece_ends a) in
     elim (or_cases (lies_before limit p) (lies_behind limit p) parts.0) [
       | inl before ↦
-          elim (or_cases (nat_lt (end_of p).place limit) (is_whole p && (end_of p).place == limit) before) [
-            | inl v ↦ below (ap (λ j. nat_lt j limit) (sym ends) ∙ v)
-            | inr v ↦
-                (let two = and_parts (is_whole p) ((end_of p).place == limit) v in
-                end_lies n h a b bs within is refl (ap (λ b. Some b) (at_sign b stop)) (piece a) refl below (two.0, ap (λ j. j == limit) (sym ends) ∙ two.1))
+          elim (or_cases (nat_lt p.end.place limit) (is_whole p.piece && p.end.place == limit) before) [
+            | inl v ↦
+                let under = ltb-true e.spot.place limit v in
+                let on : e.spot.place + m ≡ limit = omega (arith, under, reaches_place h e ahead) in
+                parted_below n h e p within step under (later e m less (omega (arith, reaches_sum h e ahead, reaches_place h e ahead)) (ap (is_cut (pieces_from e)) on ∙ parts.1))
+            | inr v ↦ end_lies n h a b bs within is refl (ap (λ b. Some b) (at_sign b stop)) x refl (and_parts (is_whole p.piece) (p.end.place == limit) v)
           ]
-      | inr behind ↦ absurd (omega (arith, leb-true limit (start_of p).place behind, begins, lt, reaches_place h a to_a))
+      | inr behind ↦ absurd (omega (arith, leb-true limit s.place behind, lt, reaches_place h a to_a))
     ]
 
 parted_below_fuel : (fuel n : ℕ) (h : Here) → length h.rest < fuel → n ≤ length h.rest → is_cut (pieces_from h) (h.spot.place + n) ≡ true → IsParted n h
@@ -299,11 +286,11 @@ pub stands_moved : (s : Spot) (r : List ℕ) → start.line ≤ s.line → piece
 unfolding pieces_of
 stands_moved s r le = sym (moved_law (offset s) start r) ∙ ap (λ u. pieces_from (at u r)) (from_offset s le)
 
-cuts_of_rest : (from end : ℕ) (front back : List Piece) (cs : List ℕ) → AreCuts (front ++ back) from end cs → AreCuts back from end cs
+cuts_of_rest : (from end : ℕ) (front back : List PlacedPiece) (cs : List ℕ) → AreCuts (front ++ back) from end cs → AreCuts back from end cs
 cuts_of_rest from end front back [] a = a
 cuts_of_rest from end front back (c ∷ cs) a = (a.0, (and_parts (list_all (λ p. lies_before c p || lies_behind c p) front) (is_cut back c) (sym (list_all-append (λ p. lies_before c p || lies_behind c p) front back) ∙ a.1)).1, cuts_of_rest c end front back cs a.2)
 
-within_end : (ps : List Piece) (from end : ℕ) (cs : List ℕ) → AreCuts ps from end cs → from ≤ end
+within_end : (ps : List PlacedPiece) (from end : ℕ) (cs : List ℕ) → AreCuts ps from end cs → from ≤ end
 within_end ps from end [] a = a
 within_end ps from end (c ∷ cs) a = omega (arith, a.0, within_end ps c end cs a.2)
 

@@ -11,16 +11,14 @@ use Rattle.bt_bib.specs.declared.item.Closing.{Closing}
 use Rattle.bt_bib.specs.declared.item.Closing.TheVariants.{Brace, Parenthesis}
 use Rattle.bt_bib.specs.declared.item.Part.{Part}
 use Rattle.bt_bib.specs.declared.item.Field.{Field}
-use Rattle.bt_bib.specs.declared.item.Content.{Content}
 use Rattle.bt_bib.specs.declared.item.Content.TheVariants as contents
 use Rattle.bt_bib.specs.declared.item.Entry.{Entry}
 use Rattle.bt_bib.specs.declared.item.Definition.{Definition}
-use Rattle.bt_bib.specs.declared.item.Item.{Item}
 use Rattle.bt_bib.specs.declared.item.Piece.{Piece}
 use Rattle.bt_bib.specs.declared.item.Piece.TheVariants as pieces
 use Rattle.bt_bib.specs.declared.keywords.Keyword.{Keyword}
 use Rattle.bt_bib.specs.declared.keywords.Keyword.TheVariants as keywords
-use Rattle.bt_bib.specs.Spot.{Here, at, start, spot_after, after_byte}
+use Rattle.bt_bib.specs.Spot.{Here, at, item_start, spot_after, after_byte}
 use Rattle.bt_bib.specs.Scan.{run, after_run, after_white, sign, closing_sign, is_key_byte}
 use Rattle.bt_bib.specs.Stop.{Stop, ◌>>=◌, value_read}
 use Rattle.bt_bib.specs.Names.{word, name}
@@ -30,9 +28,10 @@ use Rattle.bt_bib.specs.Fields.{next_field}
 use Rattle.bt_bib.specs.Pieces.{ended_item, opening, after_closing, entry_item, string_item, preamble_item, item_opened, item_of_type, piece, unread_entry, unread_string}
 use Rattle.bt_bib.specs.inner.Cases.{opening_from, entry_read, name_line, string_read, preamble_read, type_ended, type_read}
 use Rattle.bt_bib.specs.laws.Spelling.{Spelling, ◌▸◌, ◌⋯◌, Bytes, Written, White, Sign, OnLine, Provided, MayEndName}
-use Rattle.bt_bib.specs.laws.Spelled.{NameOf, ValueOf, FieldsOf, EndsKey, Keyed, opening_sign, IsWord, Head, AnEntry, AString, APreamble}
+use Rattle.bt_bib.specs.laws.Spelled.{NameOf, ValueOf, FieldsOf, EndsKey, Keyed, opening_sign, IsWord, Head, whole, AnEntry, AString, APreamble}
 use Rattle.bt_bib.specs.laws.SpelledLaws.{SpelledItemsAreRead, value_ends}
 use Rattle.bt_bib.proofs.RunLemmas.{passed-nil}
+use Rattle.bt_bib.proofs.PieceLemmas.{item_here}
 use Rattle.bt_bib.proofs.laws.CutLemmas.{Begins, begins_as, Fails}
 use Rattle.bt_bib.proofs.laws.FitNameLemmas.{and_first}
 use Rattle.bt_bib.proofs.laws.SpellingLemmas.{Stands, stands_at, standing, split, on_line, sign_stands, sign_to, white_to, white_front, begins_on, ends_from, Starts, starts_both, starts_bytes, begins_here, IsOne, MayEnd, may_white, may_one, one_fails, white_fails, passes_one, stops_from, past_to, run_is, word_to, ended_to, bare}
@@ -127,11 +126,11 @@ is_word : (keyword : Keyword) (text : List ℕ) (h k : Here) → Stands (Bytes t
 is_word keyword text h k x = right_at text (IsWord keyword text) h.spot x.text x.spelled
 
 -- from `@` on, by what stands after its word
-pub typed_by : (keyword : Keyword) (text : List ℕ) (s : Spot) (b k : Here) → Stands (Bytes text (IsWord keyword text)) b k → MayEndName type_signs k.rest → type_read s (word EntryType b) ≡ item_of_type keyword s text k
-typed_by keyword text s b k x ends =
-    ap (type_read s) (standing (Bytes text (IsWord keyword text)) (λ h k. MayEndName type_signs k.rest → word EntryType h ≡ Ok (text, k)) (word_at keyword text) b k x ends)
-    ∙ ap (type_ended s text) (ended_to EntryType type_signs k.spot k.rest ends)
-    ∙ ap (λ w. item_of_type w s text k) (is_word keyword text b k x).1
+pub typed_by : (keyword : Keyword) (text : List ℕ) (b k : Here) → Stands (Bytes text (IsWord keyword text)) b k → MayEndName type_signs k.rest → type_read (word EntryType b) ≡ item_of_type keyword text k
+typed_by keyword text b k x ends =
+    ap type_read (standing (Bytes text (IsWord keyword text)) (λ h k. MayEndName type_signs k.rest → word EntryType h ≡ Ok (text, k)) (word_at keyword text) b k x ends)
+    ∙ ap (type_ended text) (ended_to EntryType type_signs k.spot k.rest ends)
+    ∙ ap (λ w. item_of_type w text k) (is_word keyword text b k x).1
 
 -- `@`, and after white space what stands there
 pub at_sign_to : (A : Spelling) (h k : Here) → Starts (Fails is_white) A → Stands (Sign 64 ⋯ A) h k → (mid : Here) × (after_white (after_byte h) ≡ mid) × Stands A mid k
@@ -146,21 +145,21 @@ word_starts keyword [] s t (Written is) = absurd (false≢true is.0)
 word_starts keyword (b ∷ bs) s t x = starts_bytes (Fails is_white) b bs (IsWord keyword (b ∷ bs)) (λ is. name_unwhite b (starts_name b bs is.0).1) s t x
 
 -- an item up to what stands after its opening sign
-record Headed (keyword : Keyword) (text : List ℕ) (close : Closing) (A : Spelling) (h k : Here) : Type 0 where
+record Headed (keyword : Keyword) (text : List ℕ) (close : Closing) (A : Spelling) (r : List ℕ) (k : Here) : Type 0 where
   end : Here
   open_end : Here
   inside : Here
-  read : piece h ≡ item_of_type keyword h.spot text end
+  read : piece r ≡ item_of_type keyword text end
   opens : opening (after_white end) ≡ Ok (close, open_end)
   after_run : after_white open_end ≡ inside
   stands : Stands A inside k
 
-headed : (keyword : Keyword) (text : List ℕ) (close : Closing) (A : Spelling) (h k : Here) → Starts (Fails is_white) A → Stands (Head keyword text close A) h k → Headed keyword text close A h k
+headed : (keyword : Keyword) (text : List ℕ) (close : Closing) (A : Spelling) (r : List ℕ) (k : Here) → Starts (Fails is_white) A → Stands (Head keyword text close A) (item_here r) k → Headed keyword text close A r k
 unfolding piece
-headed keyword text close A h k starts x =
+headed keyword text close A r k starts x =
     let W : Spelling = Bytes text (IsWord keyword text) in
     let O : Spelling = Sign (opening_sign close) in
-    let one = at_sign_to (W ⋯ O ⋯ A) h k (starts_both (Fails is_white) W (White ▸ O ⋯ A) (word_starts keyword text)) x in
+    let one = at_sign_to (W ⋯ O ⋯ A) (item_here r) k (starts_both (Fails is_white) W (White ▸ O ⋯ A) (word_starts keyword text)) x in
     let two = split W (White ▸ O ⋯ A) one.0 k one.2 in
     let three = split White (O ⋯ A) two.mid k two.back in
     let four = split O (White ▸ A) three.mid k three.back in
@@ -171,7 +170,7 @@ headed keyword text close A h k starts x =
       end = two.mid;
       open_end = four.mid;
       inside = five.mid;
-      read = ap (λ q. type_read h.spot (word EntryType q)) one.1 ∙ typed_by keyword text h.spot one.0 two.mid two.front ends;
+      read = ap (λ q. type_read (word EntryType q)) one.1 ∙ typed_by keyword text one.0 two.mid two.front ends;
       opens = ap opening (white_to two.mid three.mid three.front (begins_as (one_fails is_white type_signs refl) opens)) ∙ opens_to close three.mid four.mid four.front;
       after_run = white_to four.mid five.mid five.front (begins_here (Fails is_white) A starts five.mid k five.back);
       stands = five.back;
@@ -179,19 +178,16 @@ headed keyword text close A h k starts x =
 
 -- Items
 
-abbrev pub ended_at : Spot → Spot → ℕ → Content → Closing → Item
-ended_at start end line content close = record { start = start; end = end; line = line; content = content; close = Some close; fault = None }
-
 ends_white : (close : Closing) (b : ℕ) → IsOne (value_ends close) b → is_white b ≡ false
 ends_white close b is = one_fails is_white (value_ends close) (ends_unwhite close) b is
 
-entry_to : (kind key : List ℕ) (fields : List Field) (close : Closing) (line : ℕ) (h k : Here) → Stands (Head keywords.Entry kind close (OnLine line (Keyed close key (FieldsOf close fields)))) h k →
-    piece h ≡ (pieces.Item (ended_at h.spot k.spot line (contents.Entry (record { kind = Some kind; key = Some key; fields = fields })) close), k)
-entry_to kind key fields close line h k x =
+entry_to : (kind key : List ℕ) (fields : List Field) (close : Closing) (line : ℕ) (t : List ℕ) (k : Here) → Stands (Head keywords.Entry kind close (OnLine line (Keyed close key (FieldsOf close fields)))) (item_here t) k →
+    piece t ≡ (pieces.Item (whole line (contents.Entry (record { kind = Some kind; key = Some key; fields = fields })) close), k)
+entry_to kind key fields close line t k x =
     let F = FieldsOf close fields in
     let K = Keyed close key F in
     let starts : Starts (Fails is_white) F = λ s t x. begins_as (ends_white close) (fields_start close fields s t x) in
-    let hd = headed keywords.Entry kind close (OnLine line K) h k (λ s t x. key_starts close key F starts s t x.1) x in
+    let hd = headed keywords.Entry kind close (OnLine line K) t k (λ s t x. key_starts close key F starts s t x.1) x in
     let on = on_line line K hd.inside k hd.stands in
     let kr = key_to close key F hd.inside k starts on.1 in
     let entry : List ℕ → List Field → Entry = λ key fields. record { kind = Some kind; key = Some key; fields = fields } in
@@ -200,10 +196,10 @@ entry_to kind key fields close line h k x =
     let read : entry_read kind close hd.inside ≡ (entry key fields, Ok k) =
     ap (λ n. with_key n (fields_of (after_white (after_run (is_key_byte close) hd.inside)))) kr.run ∙ ap (λ q. with_key key (fields_of q)) kr.after_run ∙ ap (with_key key) (fields_to close fields [] kr.inside k kr.stands) in
     hd.read
-    ∙ ap (item_opened h.spot (unread_entry (Some kind)) (entry_item h.spot kind)) hd.opens
-    ∙ ap (entry_item h.spot kind close) hd.after_run
-    ∙ ap (λ (r : Entry × Result Here Stop). ended_item h.spot hd.inside.spot.line (contents.Entry r.0) (Some close) r.1) read
-    ∙ ap (λ l. ended_item h.spot l (contents.Entry (entry key fields)) (Some close) (Ok k)) (sym on.0)
+    ∙ ap (item_opened (unread_entry (Some kind)) (entry_item kind)) hd.opens
+    ∙ ap (entry_item kind close) hd.after_run
+    ∙ ap (λ (r : Entry × Result Here Stop). ended_item hd.inside.spot.line (contents.Entry r.0) (Some close) r.1) read
+    ∙ ap (λ l. ended_item l (contents.Entry (entry key fields)) (Some close) (Ok k)) (sym on.0)
 
 -- a value, and the sign that closes the item
 record ClosedValue (close : Closing) (ps : List Part) (h k : Here) : Type 0 where
@@ -235,13 +231,13 @@ valued_by close named = named >>= λ n. sign 61 ExpectedEquals (after_white n.1)
 valued_to : (close : Closing) (n : List ℕ) (end equals inside last : Here) (ps : List Part) → sign 61 ExpectedEquals (after_white end) ≡ Ok equals → after_white equals ≡ inside → value close inside ≡ Ok (ps, last) → valued_by close (Ok (n, end)) ≡ Ok (ps, last)
 valued_to close n end equals inside last ps signed spaced valued = ap (λ (r : Result Here Stop). r >>= λ equals. value close (after_white equals)) signed ∙ ap (value close) spaced ∙ valued
 
-string_to : (text n : List ℕ) (ps : List Part) (close : Closing) (line : ℕ) (h k : Here) → Stands (Head keywords.String text close (OnLine line (NameOf n ⋯ Sign 61 ⋯ ValueOf ps ⋯ Sign (closing_sign close)))) h k →
-    piece h ≡ (pieces.Item (ended_at h.spot k.spot line (contents.Define (record { name = Some n; value = Some ps })) close), k)
-string_to text n ps close line h k x =
+string_to : (text n : List ℕ) (ps : List Part) (close : Closing) (line : ℕ) (t : List ℕ) (k : Here) → Stands (Head keywords.String text close (OnLine line (NameOf n ⋯ Sign 61 ⋯ ValueOf ps ⋯ Sign (closing_sign close)))) (item_here t) k →
+    piece t ≡ (pieces.Item (whole line (contents.Define (record { name = Some n; value = Some ps })) close), k)
+string_to text n ps close line t k x =
     let V = ValueOf ps ⋯ Sign (closing_sign close) in
     let N = NameOf n ⋯ Sign 61 ⋯ V in
     let starts : Starts (Fails is_white) N = starts_both (Fails is_white) (NameOf n) (White ▸ Sign 61 ⋯ V) (name_starts (Fails is_white) (λ b d is. name_unwhite b is) n) in
-    let hd = headed keywords.String text close (OnLine line N) h k (λ s t x. starts s t x.1) x in
+    let hd = headed keywords.String text close (OnLine line N) t k (λ s t x. starts s t x.1) x in
     let on = on_line line N hd.inside k hd.stands in
     let e = equated StringName n V hd.inside k (closed_starts close ps) on.1 in
     let v = closed_value close ps e.inside k e.stands in
@@ -249,22 +245,22 @@ string_to text n ps close line h k x =
     let valued : valued_by close (Ok (n, e.end)) ≡ Ok (ps, v.end) = valued_to close n e.end e.equals e.inside v.end ps e.sign e.after_white v.value in
     let read : string_read close hd.inside ≡ (definition, Ok k) = ap (λ r. string_by close r (valued_by close r)) e.named ∙ ap (string_by close (Ok (n, e.end))) valued ∙ ap (λ (r : Result Here Stop). (definition, r)) v.closes in
     hd.read
-    ∙ ap (item_opened h.spot unread_string (string_item h.spot)) hd.opens
-    ∙ ap (string_item h.spot close) hd.after_run
-    ∙ ap (λ (r : Definition × Result Here Stop). ended_item h.spot (name_line hd.inside.spot.line h.spot.line r.0.name) (contents.Define r.0) (Some close) r.1) read
-    ∙ ap (λ l. ended_item h.spot l (contents.Define definition) (Some close) (Ok k)) (sym on.0)
+    ∙ ap (item_opened unread_string string_item) hd.opens
+    ∙ ap (string_item close) hd.after_run
+    ∙ ap (λ (r : Definition × Result Here Stop). ended_item (name_line hd.inside.spot.line r.0.name) (contents.Define r.0) (Some close) r.1) read
+    ∙ ap (λ l. ended_item l (contents.Define definition) (Some close) (Ok k)) (sym on.0)
 
-preamble_to : (text : List ℕ) (ps : List Part) (close : Closing) (h k : Here) → Stands (Head keywords.Preamble text close (ValueOf ps ⋯ Sign (closing_sign close))) h k →
-    piece h ≡ (pieces.Item (ended_at h.spot k.spot h.spot.line (contents.Preamble (Some ps)) close), k)
-preamble_to text ps close h k x =
+preamble_to : (text : List ℕ) (ps : List Part) (close : Closing) (t : List ℕ) (k : Here) → Stands (Head keywords.Preamble text close (ValueOf ps ⋯ Sign (closing_sign close))) (item_here t) k →
+    piece t ≡ (pieces.Item (whole 0 (contents.Preamble (Some ps)) close), k)
+preamble_to text ps close t k x =
     let V = ValueOf ps ⋯ Sign (closing_sign close) in
-    let hd = headed keywords.Preamble text close V h k (closed_starts close ps) x in
+    let hd = headed keywords.Preamble text close V t k (closed_starts close ps) x in
     let v = closed_value close ps hd.inside k hd.stands in
-    let make : Option (List Part) × Result Here Stop → Piece × Here = λ r. ended_item h.spot h.spot.line (contents.Preamble r.0) (Some close) r.1 in
+    let make : Option (List Part) × Result Here Stop → Piece × Here = λ r. ended_item 0 (contents.Preamble r.0) (Some close) r.1 in
     let read : preamble_read close hd.inside ≡ (Some ps, Ok k) = ap (λ (r : Result (List Part × Here) Stop). (value_read r, r >>= λ v. after_closing close v.1)) v.value ∙ ap (λ (r : Result Here Stop). (Some ps, r)) v.closes in
-    hd.read ∙ ap (item_opened h.spot (contents.Preamble None) (preamble_item h.spot)) hd.opens ∙ ap (preamble_item h.spot close) hd.after_run ∙ ap make read
+    hd.read ∙ ap (item_opened (contents.Preamble None) preamble_item) hd.opens ∙ ap (preamble_item close) hd.after_run ∙ ap make read
 
 pub spelled_items_are_read : SpelledItemsAreRead
-spelled_items_are_read i s text rest (AnEntry {line = line} {kind = kind} {key = key} {fields = fields} {close = close} x) = (let e = Head keywords.Entry kind close (OnLine line (Keyed close key (FieldsOf close fields))) in entry_to kind key fields close line (at s (text ++ rest)) (at (spot_after text s) rest) (stands_at e s text rest x))
-spelled_items_are_read i s text rest (AString {line = line} {word = word} {name = name} {value = value} {close = close} x) = (let e = Head keywords.String word close (OnLine line (NameOf name ⋯ Sign 61 ⋯ ValueOf value ⋯ Sign (closing_sign close))) in string_to word name value close line (at s (text ++ rest)) (at (spot_after text s) rest) (stands_at e s text rest x))
-spelled_items_are_read i s text rest (APreamble {word = word} {value = value} {close = close} x) = (let e = Head keywords.Preamble word close (ValueOf value ⋯ Sign (closing_sign close)) in preamble_to word value close (at s (text ++ rest)) (at (spot_after text s) rest) (stands_at e s text rest x))
+spelled_items_are_read i text rest (AnEntry {line = line} {kind = kind} {key = key} {fields = fields} {close = close} x) = (let e = Head keywords.Entry kind close (OnLine line (Keyed close key (FieldsOf close fields))) in entry_to kind key fields close line (text ++ rest) (at (spot_after text item_start) rest) (stands_at e item_start text rest x))
+spelled_items_are_read i text rest (AString {line = line} {word = word} {name = name} {value = value} {close = close} x) = (let e = Head keywords.String word close (OnLine line (NameOf name ⋯ Sign 61 ⋯ ValueOf value ⋯ Sign (closing_sign close))) in string_to word name value close line (text ++ rest) (at (spot_after text item_start) rest) (stands_at e item_start text rest x))
+spelled_items_are_read i text rest (APreamble {word = word} {value = value} {close = close} x) = (let e = Head keywords.Preamble word close (ValueOf value ⋯ Sign (closing_sign close)) in preamble_to word value close (text ++ rest) (at (spot_after text item_start) rest) (stands_at e item_start text rest x))

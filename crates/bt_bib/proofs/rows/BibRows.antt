@@ -9,8 +9,8 @@ use Rattle.bt_bib.specs.declared.item.Closing.{Closing}
 use Rattle.bt_bib.specs.declared.item.Closing.TheVariants.{Brace, Parenthesis}
 use Rattle.bt_bib.specs.declared.item.Part.TheVariants.{Text, Macro}
 use Rattle.bt_bib.specs.declared.item.Content.TheVariants as contents
-use Rattle.bt_bib.specs.declared.item.Piece.{Piece}
 use Rattle.bt_bib.specs.declared.item.Piece.TheVariants as pieces
+use Rattle.bt_bib.specs.declared.placed_pieces.PlacedPiece.{PlacedPiece}
 use Rattle.bt_bib.specs.Scan.{sign}
 use Rattle.bt_bib.specs.Enclosure.{enclosed}
 use Rattle.bt_bib.specs.Names.{word, name_ended, name}
@@ -18,23 +18,31 @@ use Rattle.bt_bib.specs.Many.{many}
 use Rattle.bt_bib.specs.Values.{part, next_part, value}
 use Rattle.bt_bib.specs.Fields.{field, next_field}
 use Rattle.bt_bib.specs.Pieces.{opening, piece, next_piece, unread_string}
+use Rattle.bt_bib.specs.Items.{PlacedItem}
 use Rattle.bt_bib.specs.BibText.{pieces_of}
 use Rattle.bt_bib.specs.laws.BibText.{bib_items}
 
 abbrev spot : ℕ → ℕ → Spot
 spot place line = record { place = place; line = line }
 
-abbrev fault_in : List Item → Option (ItemFault × Spot)
+abbrev fault_in : List PlacedItem → Option (ItemFault × Spot)
 fault_in [] = None
-fault_in (i ∷ is) = elim i.fault [ None ↦ fault_in is | Some fault ↦ Some (fault, i.end) ]
+fault_in (i ∷ is) = elim i.item.fault [ None ↦ fault_in is | Some fault ↦ Some (fault, i.end) ]
 
 -- the first fault of a text, and where it stands
 abbrev first_fault : List ℕ → Option (ItemFault × Spot)
 first_fault text = fault_in (bib_items text)
 
--- an entry of type `misc` and key `a` on line 1, with one field of one part
-abbrev titled : Spot → Spot → Closing → List ℕ → Piece
-titled start end close text = pieces.Item (record { start = start; end = end; line = 1; content = contents.Entry (record { kind = Some (codes "misc"); key = Some (codes "a"); fields = record { name = codes "title"; line = 1; value = Text text ∷ [] } ∷ [] }); close = Some close; fault = None })
+-- an item from one spot to another, whose lines count from that of its `@`
+abbrev item : Spot → Spot → Item → PlacedPiece
+item start end i = record { start = start; end = end; piece = pieces.Item i }
+
+abbrev comment : Spot → Spot → PlacedPiece
+comment start end = record { start = start; end = end; piece = pieces.Comment }
+
+-- an entry of type `misc` and key `a` on the line of its `@`, with one field of one part
+abbrev titled : Spot → Spot → Closing → List ℕ → PlacedPiece
+titled start end close text = item start end (record { line = 0; content = contents.Entry (record { kind = Some (codes "misc"); key = Some (codes "a"); fields = record { name = codes "title"; line = 0; value = Text text ∷ [] } ∷ [] }); close = Some close; fault = None })
 
 end_of_file : first_fault (codes "@misc{a, t = ") ≡ Some (EndOfFile, spot 13 1)
 unfolding sign enclosed word name_ended name many part next_part value field next_field opening piece next_piece pieces_of
@@ -100,7 +108,7 @@ missing_part_below : first_fault (codes "\n@misc{a, t = }") ≡ Some (MissingPar
 unfolding sign enclosed word name_ended name many part next_part value field next_field opening piece next_piece pieces_of
 missing_part_below = refl
 
-comment_is_reentered : pieces_of (codes "@comment{@misc{a, title = {T}}}") ≡ pieces.Comment (spot 0 1) (spot 8 1) ∷ titled (spot 9 1) (spot 30 1) Brace (codes "T") ∷ []
+comment_is_reentered : pieces_of (codes "@comment{@misc{a, title = {T}}}") ≡ comment (spot 0 1) (spot 8 1) ∷ titled (spot 9 1) (spot 30 1) Brace (codes "T") ∷ []
 unfolding sign enclosed word name_ended name many part next_part value field next_field opening piece next_piece pieces_of
 comment_is_reentered = refl
 
@@ -108,27 +116,27 @@ parentheses_and_quotes : pieces_of (codes "@misc(a, title = \"x {\"} y\",)") ≡
 unfolding sign enclosed word name_ended name many part next_part value field next_field opening piece next_piece pieces_of
 parentheses_and_quotes = refl
 
-joined_parts : pieces_of (codes "@misc{a, title = {a  b\nc} # nix}") ≡ pieces.Item (record { start = spot 0 1; end = spot 32 2; line = 1; content = contents.Entry (record { kind = Some (codes "misc"); key = Some (codes "a"); fields = record { name = codes "title"; line = 1; value = Text (codes "a  b\nc") ∷ Macro (codes "nix") 2 ∷ [] } ∷ [] }); close = Some Brace; fault = None }) ∷ []
+joined_parts : pieces_of (codes "@misc{a, title = {a  b\nc} # nix}") ≡ item (spot 0 1) (spot 32 2) (record { line = 0; content = contents.Entry (record { kind = Some (codes "misc"); key = Some (codes "a"); fields = record { name = codes "title"; line = 0; value = Text (codes "a  b\nc") ∷ Macro (codes "nix") 1 ∷ [] } ∷ [] }); close = Some Brace; fault = None }) ∷ []
 unfolding sign enclosed word name_ended name many part next_part value field next_field opening piece next_piece pieces_of
 joined_parts = refl
 
-string_and_preamble : pieces_of (codes "@string{m = \"1\"}@preamble(m#2)") ≡ pieces.Item (record { start = spot 0 1; end = spot 16 1; line = 1; content = contents.Define (record { name = Some (codes "m"); value = Some (Text (codes "1") ∷ []) }); close = Some Brace; fault = None }) ∷ pieces.Item (record { start = spot 16 1; end = spot 30 1; line = 1; content = contents.Preamble (Some (Macro (codes "m") 1 ∷ Text (codes "2") ∷ [])); close = Some Parenthesis; fault = None }) ∷ []
+string_and_preamble : pieces_of (codes "@string{m = \"1\"}@preamble(m#2)") ≡ item (spot 0 1) (spot 16 1) (record { line = 0; content = contents.Define (record { name = Some (codes "m"); value = Some (Text (codes "1") ∷ []) }); close = Some Brace; fault = None }) ∷ item (spot 16 1) (spot 30 1) (record { line = 0; content = contents.Preamble (Some (Macro (codes "m") 0 ∷ Text (codes "2") ∷ [])); close = Some Parenthesis; fault = None }) ∷ []
 unfolding sign enclosed word name_ended name many part next_part value field next_field opening piece next_piece pieces_of
 string_and_preamble = refl
 
-at_is_a_name_byte : pieces_of (codes "@@misc{a}") ≡ pieces.Item (record { start = spot 0 1; end = spot 9 1; line = 1; content = contents.Entry (record { kind = Some (codes "@misc"); key = Some (codes "a"); fields = [] }); close = Some Brace; fault = None }) ∷ []
+at_is_a_name_byte : pieces_of (codes "@@misc{a}") ≡ item (spot 0 1) (spot 9 1) (record { line = 0; content = contents.Entry (record { kind = Some (codes "@misc"); key = Some (codes "a"); fields = [] }); close = Some Brace; fault = None }) ∷ []
 unfolding sign enclosed word name_ended name many part next_part value field next_field opening piece next_piece pieces_of
 at_is_a_name_byte = refl
 
-empty_key_at_the_end : pieces_of (codes "@misc{\n") ≡ pieces.Item (record { start = spot 0 1; end = spot 7 2; line = 2; content = contents.Entry (record { kind = Some (codes "misc"); key = Some []; fields = [] }); close = Some Brace; fault = Some EndOfFile }) ∷ []
+empty_key_at_the_end : pieces_of (codes "@misc{\n") ≡ item (spot 0 1) (spot 7 2) (record { line = 1; content = contents.Entry (record { kind = Some (codes "misc"); key = Some []; fields = [] }); close = Some Brace; fault = Some EndOfFile }) ∷ []
 unfolding sign enclosed word name_ended name many part next_part value field next_field opening piece next_piece pieces_of
 empty_key_at_the_end = refl
 
-fields_read_whole_stay : pieces_of (codes "@misc{a, b = 1, c = d # }") ≡ pieces.Item (record { start = spot 0 1; end = spot 24 1; line = 1; content = contents.Entry (record { kind = Some (codes "misc"); key = Some (codes "a"); fields = record { name = codes "b"; line = 1; value = Text (codes "1") ∷ [] } ∷ [] }); close = Some Brace; fault = Some MissingPart }) ∷ []
+fields_read_whole_stay : pieces_of (codes "@misc{a, b = 1, c = d # }") ≡ item (spot 0 1) (spot 24 1) (record { line = 0; content = contents.Entry (record { kind = Some (codes "misc"); key = Some (codes "a"); fields = record { name = codes "b"; line = 0; value = Text (codes "1") ∷ [] } ∷ [] }); close = Some Brace; fault = Some MissingPart }) ∷ []
 unfolding sign enclosed word name_ended name many part next_part value field next_field opening piece next_piece pieces_of
 fields_read_whole_stay = refl
 
-value_whole_at_the_end : pieces_of (codes "@misc{a, b = m") ≡ pieces.Item (record { start = spot 0 1; end = spot 14 1; line = 1; content = contents.Entry (record { kind = Some (codes "misc"); key = Some (codes "a"); fields = record { name = codes "b"; line = 1; value = Macro (codes "m") 1 ∷ [] } ∷ [] }); close = Some Brace; fault = Some EndOfFile }) ∷ []
+value_whole_at_the_end : pieces_of (codes "@misc{a, b = m") ≡ item (spot 0 1) (spot 14 1) (record { line = 0; content = contents.Entry (record { kind = Some (codes "misc"); key = Some (codes "a"); fields = record { name = codes "b"; line = 0; value = Macro (codes "m") 0 ∷ [] } ∷ [] }); close = Some Brace; fault = Some EndOfFile }) ∷ []
 unfolding sign enclosed word name_ended name many part next_part value field next_field opening piece next_piece pieces_of
 value_whole_at_the_end = refl
 
@@ -140,7 +148,7 @@ comma_in_a_preamble : first_fault (codes "@preamble{n,}") ≡ Some (ExpectedComm
 unfolding sign enclosed word name_ended name many part next_part value field next_field opening piece next_piece pieces_of
 comma_in_a_preamble = refl
 
-string_at_the_end : pieces_of (codes "@string") ≡ pieces.Item (record { start = spot 0 1; end = spot 7 1; line = 1; content = unread_string; close = None; fault = Some EndOfFile }) ∷ []
+string_at_the_end : pieces_of (codes "@string") ≡ item (spot 0 1) (spot 7 1) (record { line = 0; content = unread_string; close = None; fault = Some EndOfFile }) ∷ []
 unfolding sign enclosed word name_ended name many part next_part value field next_field opening piece next_piece pieces_of
 string_at_the_end = refl
 

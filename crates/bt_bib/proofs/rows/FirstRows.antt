@@ -8,12 +8,13 @@ use Rattle.bt_bib.specs.Many.{many}
 use Rattle.bt_bib.specs.Values.{part, next_part, value}
 use Rattle.bt_bib.specs.Fields.{field, next_field}
 use Rattle.bt_bib.specs.Pieces.{opening, piece, next_piece}
+use Rattle.bt_bib.specs.Items.{PlacedItem}
 use Rattle.bt_bib.specs.BibText.{pieces_of}
 use Rattle.bt_bib.specs.laws.BibText.{bib_items}
 
 -- the faults of the items of a text's beginning with others after it
 abbrev completed : List ℕ → ℕ → List ℕ → List (Option ItemFault)
-completed text place others = map (λ i. i.fault) (bib_items (take place text ++ others))
+completed text place others = map (λ (i : PlacedItem). i.item.fault) (bib_items (take place text ++ others))
 
 of_a_value : completed (codes "@misc{a, t = ") 13 (codes "1}") ≡ None ∷ []
 unfolding sign enclosed word name_ended name many part next_part value field next_field opening piece next_piece pieces_of

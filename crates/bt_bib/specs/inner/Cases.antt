@@ -5,7 +5,7 @@ use Rattle.bt_bib.specs.Fields.{field, name_ends, next_field}
 use Rattle.bt_bib.specs.Keywords.{keyword_of}
 use Rattle.bt_bib.specs.Many.{all}
 use Rattle.bt_bib.specs.Names.{name, name_ended}
-use Rattle.bt_bib.specs.Pieces.{after_closing, item_of_type, next_piece, piece, unopened, unread_entry}
+use Rattle.bt_bib.specs.Pieces.{after_closing, item_of_type, next_piece, piece, placed, unopened, unread_entry}
 use Rattle.bt_bib.specs.Scan.{after_run, after_white, closing_sign, first, is_key_byte, run, sign}
 use Rattle.bt_bib.specs.Spot.{Here, after_byte}
 use Rattle.bt_bib.specs.Stop.{Stop, value_read, ◌>>=◌}
@@ -26,15 +26,16 @@ use Rattle.bt_bib.specs.declared.item.Field.{Field}
 use Rattle.bt_bib.specs.declared.item.Part.{Part}
 use Rattle.bt_bib.specs.declared.item.Part.TheVariants.{Macro, Text}
 use Rattle.bt_bib.specs.declared.item.Piece.{Piece}
+use Rattle.bt_bib.specs.declared.placed_pieces.PlacedPiece.{PlacedPiece}
 use Rattle.bt_bib.specs.declared.spot.Spot.{Spot}
 use Rattle.bt_text.specs.ByteTests.{is_digit, is_white, left_brace, right_brace}
 use Rattle.bt_text.specs.NameBytes.{is_name_byte}
 use Rattle.std.specs.List.{list_any}
 use Rattle.std.specs.Prelude.{[], Bool, Err, List, None, Ok, Option, Result, Some, codes, if◌then◌else◌, not, ℕ, ◌&&◌, ◌==◌, ◌||◌, ◌∷◌}
 
-abbrev pub type_ended : Spot → List ℕ → Result Here Stop → Piece × Here
-type_ended start kind (Err stop) = unopened start (unread_entry (Some kind)) stop
-type_ended start kind (Ok h) = item_of_type (keyword_of kind) start kind h
+abbrev pub type_ended : List ℕ → Result Here Stop → Piece × Here
+type_ended kind (Err stop) = unopened (unread_entry (Some kind)) stop
+type_ended kind (Ok h) = item_of_type (keyword_of kind) kind h
 
 -- after a comma: a field, or the end of the entry
 abbrev pub field_or_close : Closing → Here → Option ℕ → Result (Option Field × Here) Stop
@@ -48,13 +49,17 @@ many_by later (Err stop) = ([], Err stop)
 many_by later (Ok (None, h)) = ([], Ok h)
 many_by later (Ok (Some a, h)) = (let others = later h in (a ∷ others.0, others.1))
 
-abbrev pub type_read : Spot → Result (List ℕ × Here) Stop → Piece × Here
-type_read start (Err stop) = unopened start (unread_entry None) stop
-type_read start (Ok w) = type_ended start w.0 (name_ended EntryType (codes "{(") w.1)
+abbrev pub type_read : Result (List ℕ × Here) Stop → Piece × Here
+type_read (Err stop) = unopened (unread_entry None) stop
+type_read (Ok w) = type_ended w.0 (name_ended EntryType (codes "{(") w.1)
 
-abbrev pub next_piece_from : Here → Option ℕ → Option Piece × Here
+-- a piece whose `@` stands at a spot, as the next one
+abbrev pub next_at : Spot → Piece × Here → Option PlacedPiece × Here
+next_at start x = (let p = placed start x in (Some p.0, p.1))
+
+abbrev pub next_piece_from : Here → Option ℕ → Option PlacedPiece × Here
 next_piece_from h None = (None, h)
-next_piece_from h (Some b) = (let p = piece h in (Some p.0, p.1))
+next_piece_from h (Some b) = next_at h.spot (piece h.rest)
 
 -- `key , field = value , .. }`, from the key on
 abbrev pub entry_read : List ℕ → Closing → Here → Entry × Result Here Stop
@@ -99,17 +104,17 @@ abbrev pub is_text : ℕ → Bool
 is_text b = not (b == 64)
 
 -- the next piece, which no fault stops
-abbrev pub next_one : Here → Result (Option Piece × Here) Stop
+abbrev pub next_one : Here → Result (Option PlacedPiece × Here) Stop
 next_one h = Ok (next_piece h)
 
 -- the pieces from here on
-abbrev pub pieces_from : Here → List Piece
+abbrev pub pieces_from : Here → List PlacedPiece
 pieces_from h = (all next_one h).0
 
--- the line of a name that was read, else another
-abbrev pub name_line : ℕ → ℕ → Option (List ℕ) → ℕ
-name_line line other None = other
-name_line line other (Some name) = line
+-- the line of a name that was read, else that of the `@`
+abbrev pub name_line : ℕ → Option (List ℕ) → ℕ
+name_line line None = 0
+name_line line (Some name) = line
 
 abbrev pub is_comma : ℕ → Bool
 is_comma b = b == 44

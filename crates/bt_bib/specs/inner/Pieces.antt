@@ -9,32 +9,12 @@ use Rattle.bt_bib.specs.declared.stop.ReadStop.{ReadStop}
 use Rattle.bt_bib.specs.declared.stop.ReadStop.TheVariants.{OutOfMemory, Stopped}
 
 -- A piece of the code, with the place after it, is an item with such an end; where memory ran out, none is.
-abbrev pub IsFaulty : Spot → ℕ → Content → Option Closing → ReadStop → Piece × Spot → Type 0
-IsFaulty start line content close OutOfMemory made = ⊥
-IsFaulty start line content close (Stopped fault s) made =
-    made ≡ (
-      pieces.Item (record {
-        start = start;
-        end = s;
-        line = line;
-        content = content;
-        close = close;
-        fault = Some fault;
-      }),
-      s,
-    )
+abbrev pub IsFaulty : ℕ → Content → Option Closing → ReadStop → Piece × Spot → Type 0
+IsFaulty line content close OutOfMemory made = ⊥
+IsFaulty line content close (Stopped fault s) made =
+    made ≡ (pieces.Item (record { line = line; content = content; close = close; fault = Some fault }), s)
 
-abbrev pub IsItem : Spot → ℕ → Content → Option Closing → Result Spot ReadStop → Piece × Spot → Type 0
-IsItem start line content close (Ok s) made =
-    made ≡ (
-      pieces.Item (record {
-        start = start;
-        end = s;
-        line = line;
-        content = content;
-        close = close;
-        fault = None;
-      }),
-      s,
-    )
-IsItem start line content close (Err halt) made = IsFaulty start line content close halt made
+abbrev pub IsItem : ℕ → Content → Option Closing → Result Spot ReadStop → Piece × Spot → Type 0
+IsItem line content close (Ok s) made =
+    made ≡ (pieces.Item (record { line = line; content = content; close = close; fault = None }), s)
+IsItem line content close (Err halt) made = IsFaulty line content close halt made

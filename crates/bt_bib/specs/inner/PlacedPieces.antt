@@ -1,9 +1,18 @@
--- Where a piece begins.
-use Rattle.std.specs.Prelude.{◌≤◌}
+-- Pieces whose text stands somewhere else.
+use Rattle.std.specs.Prelude.{◌+◌, ◌-◌, ◌<◌, ◌^◌}
 use Rattle.bt_bib.specs.declared.spot.Spot.{Spot}
-use Rattle.bt_bib.specs.declared.item.Piece.{Piece}
-use Rattle.bt_bib.specs.Boundaries.{start_of}
+use Rattle.bt_bib.specs.declared.placed_pieces.PlacedPiece.{PlacedPiece}
 
--- It begins at or after a spot.
-abbrev pub BeginsAfter : Spot → Piece → Type 0
-BeginsAfter a p = (a.place ≤ (start_of p).place) × (a.line ≤ (start_of p).line)
+-- a spot after a, where the text from a on stands from b on
+abbrev pub rebased : Spot → Spot → Spot → Spot
+rebased a b s = record { place = s.place - a.place + b.place; line = s.line - a.line + b.line }
+
+abbrev pub rebased_piece : Spot → Spot → PlacedPiece → PlacedPiece
+rebased_piece a b p = record { start = rebased a b p.start; end = rebased a b p.end; piece = p.piece }
+
+-- the numbers that this gives fit a usize
+abbrev pub FitsSpot : Spot → Spot → Spot → Type 0
+FitsSpot a b s = (s.place - a.place + b.place < 2 ^ 64) × (s.line - a.line + b.line < 2 ^ 64)
+
+abbrev pub FitsPiece : Spot → Spot → PlacedPiece → Type 0
+FitsPiece a b p = FitsSpot a b p.start × FitsSpot a b p.end

@@ -9,9 +9,8 @@ use Rattle.bt_bib.specs.declared.item.Part.TheVariants.{Text, Macro}
 use Rattle.bt_bib.specs.declared.item.Field.{Field}
 use Rattle.bt_bib.specs.declared.item.Content.{Content}
 use Rattle.bt_bib.specs.declared.item.Content.TheVariants as contents
-use Rattle.bt_bib.specs.declared.item.Item.{Item}
-use Rattle.bt_bib.specs.declared.item.Piece.{Piece}
 use Rattle.bt_bib.specs.declared.item.Piece.TheVariants as pieces
+use Rattle.bt_bib.specs.declared.placed_pieces.PlacedPiece.{PlacedPiece}
 use Rattle.bt_bib.specs.Spot.{Here, start}
 use Rattle.bt_bib.specs.Many.{many, all}
 use Rattle.bt_bib.specs.Values.{next_part}
@@ -19,8 +18,8 @@ use Rattle.bt_bib.specs.Fields.{next_field}
 use Rattle.bt_bib.specs.Pieces.{next_piece}
 use Rattle.bt_bib.specs.BibText.{pieces_of}
 use Rattle.bt_bib.specs.laws.BibText.{bib_items}
-use Rattle.bt_bib.specs.Moved.{moved_piece}
-use Rattle.bt_bib.specs.Boundaries.{last_end, Rises}
+use Rattle.bt_bib.specs.Items.{PlacedItem}
+use Rattle.bt_bib.specs.Boundaries.{last_end, Rises, moved_piece}
 use Rattle.bt_bib.specs.Splice.{is_boundary, IsSplice}
 
 -- how far a boundary lies after the first place of a text
@@ -29,7 +28,7 @@ offset a = record { place = a.place; line = a.line - 1 }
 
 -- From a boundary on, the pieces of a text are those of its rest as a text of its own, moved.
 abbrev pub RestIsMoved : Type 0
-RestIsMoved = (text : List ℕ) (front back : List Piece) → pieces_of text ≡ front ++ back →
+RestIsMoved = (text : List ℕ) (front back : List PlacedPiece) → pieces_of text ≡ front ++ back →
     (let a = last_end start front in back ≡ map (moved_piece (offset a)) (pieces_of (drop a.place text)))
 
 -- A boundary of the old text below a splice is one of the new text.
@@ -37,13 +36,17 @@ abbrev pub BoundaryStays : Type 0
 BoundaryStays = (old new : List ℕ) (begin end inserted place : ℕ) → IsSplice old new begin end inserted →
     place < begin → is_boundary (pieces_of old) place ≡ true → is_boundary (pieces_of new) place ≡ true
 
+-- an item as a piece
+abbrev pub as_piece : PlacedItem → PlacedPiece
+as_piece i = record { start = i.start; end = i.end; piece = pieces.Item i.item }
+
 -- With the byte at the fault's place, or the text's end there, no well-formed item begins: each text that agrees up to
 -- that byte has the same items up to this one, and this one with the same fault.
 abbrev pub FaultIsFinal : Type 0
-FaultIsFinal = (text other : List ℕ) (front back : List Piece) (i : Item) (f : ItemFault) →
-    pieces_of text ≡ front ++ pieces.Item i ∷ back → i.fault ≡ Some f →
+FaultIsFinal = (text other : List ℕ) (front back : List PlacedPiece) (i : PlacedItem) (f : ItemFault) →
+    pieces_of text ≡ front ++ as_piece i ∷ back → i.item.fault ≡ Some f →
     take (i.end.place + 1) other ≡ take (i.end.place + 1) text →
-    (rest : List Piece) × (pieces_of other ≡ front ++ pieces.Item i ∷ rest)
+    (rest : List PlacedPiece) × (pieces_of other ≡ front ++ as_piece i ∷ rest)
 
 -- a number that a byte can be
 abbrev pub is_byte : ℕ → Bool
@@ -51,17 +54,17 @@ is_byte b = nat_lt b 256
 
 -- The bytes of a faulty item up to its fault's place begin a well-formed one: put some others after them, and an item
 -- without a fault begins where the faulty one does. What stands before it is read as before.
-pub record Completion (text : List ℕ) (front : List Piece) (i : Item) : Type 0 where
+pub record Completion (text : List ℕ) (front : List PlacedPiece) (i : PlacedItem) : Type 0 where
   pub rest : List ℕ
   pub bytes : list_all is_byte rest ≡ true
-  pub whole : Item
+  pub whole : PlacedItem
   pub start : whole.start ≡ i.start
-  pub faultless : whole.fault ≡ None
-  pub read : pieces_of (take i.end.place text ++ rest) ≡ front ++ pieces.Item whole ∷ []
+  pub faultless : whole.item.fault ≡ None
+  pub read : pieces_of (take i.end.place text ++ rest) ≡ front ++ as_piece whole ∷ []
 
 abbrev pub FaultIsFirst : Type 0
-FaultIsFirst = (text : List ℕ) (front back : List Piece) (i : Item) (f : ItemFault) →
-    pieces_of text ≡ front ++ pieces.Item i ∷ back → i.fault ≡ Some f → Completion text front i
+FaultIsFirst = (text : List ℕ) (front back : List PlacedPiece) (i : PlacedItem) (f : ItemFault) →
+    pieces_of text ≡ front ++ as_piece i ∷ back → i.item.fault ≡ Some f → Completion text front i
 
 -- Each line of a value lies from one line to another.
 abbrev pub PartLiesIn : ℕ → ℕ → Part → Type 0
@@ -81,10 +84,10 @@ ContentLiesIn low high (contents.Entry e) = All (FieldLiesIn low high) e.fields
 ContentLiesIn low high (contents.Define d) = ValueLiesIn low high d.value
 ContentLiesIn low high (contents.Preamble value) = ValueLiesIn low high value
 
--- The lines of an item lie from that of its beginning to that of its end.
-pub record LinesLieIn (i : Item) : Type 0 where
-  pub line : (i.start.line ≤ i.line) × (i.line ≤ i.end.line)
-  pub content : ContentLiesIn i.line i.end.line i.content
+-- The lines of an item, which count from that of its beginning, lie from there to that of its end.
+pub record LinesLieIn (i : PlacedItem) : Type 0 where
+  pub line : i.start.line + i.item.line ≤ i.end.line
+  pub content : ContentLiesIn i.item.line (i.end.line - i.start.line) i.item.content
 
 -- Of each text, the spans of the pieces rise, up to its end, and the lines of each item lie inside it.
 abbrev pub SpansRise : Type 0

@@ -1,20 +1,20 @@
 -- A text in parts, each read as a text of its own: their items are those of the text.
 use Rattle.std.specs.Prelude.{◌≡◌, ℕ, ◌+◌, ◌-◌, Bool, true, false, ◌||◌, List, [], ◌∷◌, ◌++◌, length, take, drop, map}
 use Rattle.bt_bib.specs.declared.spot.Spot.{Spot}
-use Rattle.bt_bib.specs.declared.item.Piece.{Piece}
+use Rattle.bt_bib.specs.declared.placed_pieces.PlacedPiece.{PlacedPiece}
 use Rattle.bt_bib.specs.Spot.{start, spot_after}
+use Rattle.bt_bib.specs.Boundaries.{moved_piece}
 use Rattle.bt_bib.specs.BibText.{pieces_of}
-use Rattle.bt_bib.specs.Moved.{moved_piece}
 use Rattle.bt_bib.specs.laws.Laws.{offset}
 use Rattle.bt_bib.specs.Splice.{IsSplice}
 use Rattle.bt_bib.specs.Parts.{AreCuts, is_closed}
 
 -- the pieces of a part, read as a text of its own and moved to where the part begins
-abbrev pub pieces_at : Spot → List ℕ → List Piece
+abbrev pub pieces_at : Spot → List ℕ → List PlacedPiece
 pieces_at s part = map (moved_piece (offset s)) (pieces_of part)
 
 -- the pieces of the parts of a text that begins at a spot, in order
-abbrev pub pieces_in_parts : Spot → List ℕ → List ℕ → List Piece
+abbrev pub pieces_in_parts : Spot → List ℕ → List ℕ → List PlacedPiece
 pieces_in_parts s text [] = pieces_at s text
 pieces_in_parts s text (c ∷ cs) =
     (let count = c - s.place in
@@ -41,7 +41,7 @@ AreClosed (part ∷ []) = Unit {0}
 AreClosed (part ∷ next ∷ parts) = (is_closed part ≡ true) × AreClosed (next ∷ parts)
 
 -- the pieces of texts that follow one another from a spot on, each text read on its own
-abbrev pub pieces_in_turn : Spot → List (List ℕ) → List Piece
+abbrev pub pieces_in_turn : Spot → List (List ℕ) → List PlacedPiece
 pieces_in_turn s [] = []
 pieces_in_turn s (part ∷ parts) = pieces_at s part ++ pieces_in_turn (spot_after part s) parts
 

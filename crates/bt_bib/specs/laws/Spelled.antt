@@ -17,7 +17,6 @@ use Rattle.std.specs.Prelude.{◌≡◌, ℕ, Bool, true, false, ◌&&◌, not, 
 use Rattle.std.specs.List.{list_all}
 use Rattle.bt_text.specs.ByteTests.{is_digit, left_brace, right_brace}
 use Rattle.bt_text.specs.NameBytes.{is_name}
-use Rattle.bt_bib.specs.declared.spot.Spot.{Spot}
 use Rattle.bt_bib.specs.declared.item.Closing.{Closing}
 use Rattle.bt_bib.specs.declared.item.Closing.TheVariants.{Brace, Parenthesis}
 use Rattle.bt_bib.specs.declared.item.Part.{Part}
@@ -28,12 +27,13 @@ use Rattle.bt_bib.specs.declared.item.Content.TheVariants as contents
 use Rattle.bt_bib.specs.declared.item.Item.{Item}
 use Rattle.bt_bib.specs.declared.item.Piece.{Piece}
 use Rattle.bt_bib.specs.declared.item.Piece.TheVariants as pieces
+use Rattle.bt_bib.specs.declared.placed_pieces.PlacedPiece.{PlacedPiece}
 use Rattle.bt_bib.specs.declared.keywords.Keyword.{Keyword}
 use Rattle.bt_bib.specs.declared.keywords.Keyword.TheVariants as keywords
-use Rattle.bt_bib.specs.Spot.{spot_after}
+use Rattle.bt_bib.specs.Spot.{item_start, spot_after}
 use Rattle.bt_bib.specs.Scan.{closing_sign, is_key_byte}
 use Rattle.bt_bib.specs.Keywords.{keyword_of}
-use Rattle.bt_bib.specs.laws.Spelling.{Spelling, ◌▸◌, ◌or◌, ◌⋯◌, Bytes, White, Sign, OnLine, From, Provided, IsEnclosed, MayEndName}
+use Rattle.bt_bib.specs.laws.Spelling.{Spelling, ◌▸◌, ◌or◌, ◌⋯◌, Bytes, White, Sign, OnLine, Provided, IsEnclosed, MayEndName}
 
 -- signs
 abbrev pub at_sign : ℕ
@@ -119,36 +119,46 @@ WordOf keyword s word = IsWord keyword word
 abbrev pub Head : Keyword → List ℕ → Closing → Spelling → Spelling
 Head keyword word close A = Sign at_sign ⋯ Bytes word (IsWord keyword word) ⋯ Sign (opening_sign close) ⋯ A
 
--- an item without a fault that this text is, where it stands here
-abbrev pub whole : Spot → List ℕ → ℕ → Content → Closing → Item
-whole s text line content close =
-    record { start = s; end = spot_after text s; line = line; content = content; close = Some close; fault = None }
+-- an item without a fault
+abbrev pub whole : ℕ → Content → Closing → Item
+whole line content close = record { line = line; content = content; close = Some close; fault = None }
 
--- an item: its line is that of the key, of the name that a string defines, or of the `@` of a preamble
-pub data ItemOf : Item → Spot → List ℕ → Type 0 where
-  AnEntry : {s : Spot} {text : List ℕ} {line : ℕ} {kind key : List ℕ} {fields : List Field} {close : Closing} →
-      Head keywords.Entry kind close (OnLine line (Keyed close key (FieldsOf close fields))) s text →
-      ItemOf (whole s text line (contents.Entry (record { kind = Some kind; key = Some key; fields = fields })) close)
-      s text
-  AString : {s : Spot} {text : List ℕ} {line : ℕ} {word name : List ℕ} {value : List Part} {close : Closing} →
+-- an item, from its `@` on: its line is that of the key, of the name that a string defines, or of the `@` of a preamble
+pub data ItemOf : Item → List ℕ → Type 0 where
+  AnEntry : {text : List ℕ} {line : ℕ} {kind key : List ℕ} {fields : List Field} {close : Closing} →
+      Head keywords.Entry kind close (OnLine line (Keyed close key (FieldsOf close fields))) item_start text →
+      ItemOf (whole line (contents.Entry (record { kind = Some kind; key = Some key; fields = fields })) close) text
+  AString : {text : List ℕ} {line : ℕ} {word name : List ℕ} {value : List Part} {close : Closing} →
       Head keywords.String word close
-      (OnLine line (NameOf name ⋯ Sign equals_sign ⋯ ValueOf value ⋯ Sign (closing_sign close))) s text →
-      ItemOf (whole s text line (contents.Define (record { name = Some name; value = Some value })) close) s text
-  APreamble : {s : Spot} {text : List ℕ} {word : List ℕ} {value : List Part} {close : Closing} →
-      Head keywords.Preamble word close (ValueOf value ⋯ Sign (closing_sign close)) s text →
-      ItemOf (whole s text s.line (contents.Preamble (Some value)) close) s text
+      (OnLine line (NameOf name ⋯ Sign equals_sign ⋯ ValueOf value ⋯ Sign (closing_sign close))) item_start text →
+      ItemOf (whole line (contents.Define (record { name = Some name; value = Some value })) close) text
+  APreamble : {text : List ℕ} {word : List ℕ} {value : List Part} {close : Closing} →
+      Head keywords.Preamble word close (ValueOf value ⋯ Sign (closing_sign close)) item_start text →
+      ItemOf (whole 0 (contents.Preamble (Some value)) close) text
 
 -- text between the items
 abbrev pub Skipped : Spelling
 Skipped s text = list_all (λ b. not (b == at_sign)) text ≡ true
 
--- `@comment` from one spot to another, and what stands after it
-abbrev pub Commented : Spot → Spot → Spelling → Spelling
-Commented start end A =
-    From start (Sign at_sign ⋯ WordOf keywords.Comment ▸ From end (Provided (MayEndName (codes "{(")) A))
+-- `@comment`
+abbrev pub CommentWord : List ℕ → Type 0
+CommentWord text = (Sign at_sign ⋯ WordOf keywords.Comment) item_start text
+
+-- a piece without a fault, from its `@` on
+abbrev pub PieceOf : Piece → List ℕ → Type 0
+PieceOf pieces.Comment text = CommentWord text
+PieceOf (pieces.Item item) text = ItemOf item text
+
+-- a piece where it stands, from one spot to another
+abbrev pub PlacedOf : PlacedPiece → Spelling
+PlacedOf p s text = (p.start ≡ s) × (p.end ≡ spot_after text s) × PieceOf p.piece text
+
+-- what may stand after a piece: after a comment word what may end a name
+abbrev pub MayFollow : Piece → List ℕ → Type 0
+MayFollow pieces.Comment text = MayEndName (codes "{(") text
+MayFollow (pieces.Item item) text = Unit {0}
 
 -- a whole text
-abbrev pub DatabaseOf : List Piece → Spelling
+abbrev pub DatabaseOf : List PlacedPiece → Spelling
 DatabaseOf [] = Skipped
-DatabaseOf (pieces.Item item ∷ ps) = Skipped ▸ ItemOf item ▸ DatabaseOf ps
-DatabaseOf (pieces.Comment start end ∷ ps) = Skipped ▸ Commented start end (DatabaseOf ps)
+DatabaseOf (p ∷ ps) = Skipped ▸ PlacedOf p ▸ Provided (MayFollow p.piece) (DatabaseOf ps)

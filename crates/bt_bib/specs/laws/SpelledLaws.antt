@@ -8,13 +8,16 @@ use Rattle.bt_bib.specs.declared.item.Field.{Field}
 use Rattle.bt_bib.specs.declared.item.Item.{Item}
 use Rattle.bt_bib.specs.declared.item.Piece.{Piece}
 use Rattle.bt_bib.specs.declared.item.Piece.TheVariants as pieces
-use Rattle.bt_bib.specs.Spot.{at, spot_after, start}
+use Rattle.bt_bib.specs.declared.placed_pieces.PlacedPiece.{PlacedPiece}
+use Rattle.bt_bib.specs.Spot.{at, spot_after, start, item_start}
+use Rattle.bt_bib.specs.Items.{PlacedItem}
 use Rattle.bt_bib.specs.Scan.{closing_sign}
 use Rattle.bt_bib.specs.Enclosure.{enclosed}
 use Rattle.bt_bib.specs.Values.{part, part_ends, value}
 use Rattle.bt_bib.specs.Fields.{field}
 use Rattle.bt_bib.specs.Pieces.{piece}
 use Rattle.bt_bib.specs.BibText.{pieces_of}
+use Rattle.bt_bib.specs.laws.Laws.{as_piece}
 use Rattle.bt_bib.specs.laws.Spelling.{◌▸◌, White, IsEnclosed, BeginsBy}
 use Rattle.bt_bib.specs.laws.Spelled.{PartOf, ValueOf, FieldOf, ItemOf, DatabaseOf}
 
@@ -46,27 +49,27 @@ SpelledFieldsAreRead = (close : Closing) (f : Field) (s : Spot) (text rest : Lis
 
 -- An item is read as it is spelled, whatever stands after it.
 abbrev pub SpelledItemsAreRead : Type 0
-SpelledItemsAreRead = (i : Item) (s : Spot) (text rest : List ℕ) → ItemOf i s text →
-    piece (at s (text ++ rest)) ≡ (pieces.Item i, at (spot_after text s) rest)
+SpelledItemsAreRead = (i : Item) (text rest : List ℕ) → ItemOf i text →
+    piece (text ++ rest) ≡ (pieces.Item i, at (spot_after text item_start) rest)
 
 -- So is a whole database.
 abbrev pub SpelledDatabasesAreRead : Type 0
-SpelledDatabasesAreRead = (ps : List Piece) (text : List ℕ) → DatabaseOf ps start text → pieces_of text ≡ ps
+SpelledDatabasesAreRead = (ps : List PlacedPiece) (text : List ℕ) → DatabaseOf ps start text → pieces_of text ≡ ps
 
 -- The other way round, the bytes of a text from the beginning of a faultless item up to its end spell it.
 abbrev pub bytes_between : Spot → Spot → List ℕ → List ℕ
 bytes_between begin end text = take (end.place - begin.place) (drop begin.place text)
 
 abbrev pub FaultlessItemsAreSpelled : Type 0
-FaultlessItemsAreSpelled = (text : List ℕ) (front back : List Piece) (i : Item) →
-    pieces_of text ≡ front ++ pieces.Item i ∷ back → i.fault ≡ None →
-    ItemOf i i.start (bytes_between i.start i.end text)
+FaultlessItemsAreSpelled = (text : List ℕ) (front back : List PlacedPiece) (i : PlacedItem) →
+    pieces_of text ≡ front ++ as_piece i ∷ back → i.item.fault ≡ None →
+    ItemOf i.item (bytes_between i.start i.end text)
 
 -- A text in which no fault is found spells what is read of it.
 abbrev pub IsFaultless : Piece → Type 0
-IsFaultless (pieces.Comment _ _) = Unit {0}
+IsFaultless pieces.Comment = Unit {0}
 IsFaultless (pieces.Item item) = item.fault ≡ None
 
 abbrev pub FaultlessDatabasesAreSpelled : Type 0
-FaultlessDatabasesAreSpelled = (text : List ℕ) → All IsFaultless (pieces_of text) →
+FaultlessDatabasesAreSpelled = (text : List ℕ) → All (λ (p : PlacedPiece). IsFaultless p.piece) (pieces_of text) →
     DatabaseOf (pieces_of text) start text

@@ -41,10 +41,6 @@ Sign b = Bytes (b ∷ []) (Unit {0})
 abbrev pub OnLine : ℕ → Spelling → Spelling
 OnLine line A s text = (line ≡ s.line) × A s text
 
--- from this spot on
-abbrev pub From : Spot → Spelling → Spelling
-From start A s text = (start ≡ s) × A s text
-
 -- where the text itself is so
 abbrev pub Provided : (List ℕ → Type 0) → Spelling → Spelling
 Provided IsRight A s text = IsRight text × A s text

@@ -3,7 +3,7 @@ use Rattle.std.proofs.Common.{◌≡◌, ◌∙◌, ap, sym, refl, append_assoc,
 use Rattle.std.specs.Prelude.{◌==◌, ◌&&◌, not, cond, slice_get, filter, filter_map, option_map, option_and_then, if◌then◌else◌}
 use Rattle.std.specs.List.{AllByRecursion, range_with_len, cons_option}
 use Rattle.bt_text.specs.CaseFolding.{is_same_folded}
-use Rattle.bt_bib.specs.declared.item.Item.{Item}
+use Rattle.bt_bib.specs.Items.{PlacedItem}
 use Rattle.bt_bib.specs.declared.item.Content.{Content}
 use Rattle.bt_bib.specs.declared.item.Content.TheVariants as contents
 use Rattle.bt_bib.specs.declared.item.Entry.{Entry}
@@ -122,10 +122,10 @@ apart_item a macros (contents.Entry e) ss h = apart_entry a macros e e.key ss h
 apart_item a macros (contents.Define s) ss h = h
 apart_item a macros (contents.Preamble p) ss h = h
 
-apart_among : (a : Asked) (ms : List Macro) (before : List Item) → KeysApart (stored_among a ms before)
+apart_among : (a : Asked) (ms : List Macro) (before : List PlacedItem) → KeysApart (stored_among a ms before)
 unfolding stored_among
 apart_among a ms [] = tt
-apart_among a ms (item ∷ before) = apart_item a (macro_before ms before) item.content (stored_among a ms before) (apart_among a ms before)
+apart_among a ms (placed ∷ before) = apart_item a (macro_before ms before) placed.item.content (stored_among a ms before) (apart_among a ms before)
 
 pub stored_apart : StoredKeysApart
 unfolding stored_entries
@@ -152,10 +152,10 @@ wanted_item a macros (contents.Entry e) ss h = wanted_entry a macros e e.key ss 
 wanted_item a macros (contents.Define s) ss h = h
 wanted_item a macros (contents.Preamble p) ss h = h
 
-wanted_among : (a : Asked) (ms : List Macro) (before : List Item) → WantedInTurn a [] (stored_among a ms before)
+wanted_among : (a : Asked) (ms : List Macro) (before : List PlacedItem) → WantedInTurn a [] (stored_among a ms before)
 unfolding stored_among
 wanted_among a ms [] = tt
-wanted_among a ms (item ∷ before) = wanted_item a (macro_before ms before) item.content (stored_among a ms before) (wanted_among a ms before)
+wanted_among a ms (placed ∷ before) = wanted_item a (macro_before ms before) placed.item.content (stored_among a ms before) (wanted_among a ms before)
 
 pub stored_wanted : StoredAreWanted
 unfolding stored_entries

@@ -2,7 +2,6 @@
 use Rattle.std.specs.Prelude.{◌≡◌, ℕ, List, [], ◌∷◌, codes, length, replicate, Option, Some, None, refl}
 use Rattle.bt_bib.specs.declared.item.Part.TheVariants.{Macro}
 use Rattle.bt_resolve.specs.Values.{value, value_warnings}
-use Rattle.bt_resolve.specs.Warnings.{line_of}
 use Rattle.bt_resolve.proofs.rows.RowWords.{warning}
 
 -- each macro stands for so many letters
@@ -21,7 +20,7 @@ over_the_limit = refl
 
 -- and it is reported at the line of its name, in small letters
 told_over_the_limit :
-    value_warnings None (letters 32769) (line_of 1 3) (codes "Title") (Macro (codes "m") 4 ∷ Macro (codes "m") 4 ∷ [])
+    value_warnings None (letters 32769) (record { database = 1; line = 1 }) 2 (codes "Title") (Macro (codes "m") 3 ∷ Macro (codes "m") 3 ∷ [])
     ≡ warning 1 3 (codes "Warning--the value of \"title\" is over 65536 bytes") ∷ []
 unfolding value_warnings
 told_over_the_limit = refl

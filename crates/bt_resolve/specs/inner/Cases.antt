@@ -11,10 +11,10 @@ use Rattle.bt_bib.specs.declared.item.Content.{Content}
 use Rattle.bt_bib.specs.declared.item.Content.TheVariants as contents
 use Rattle.bt_bib.specs.declared.item.Entry.{Entry}
 use Rattle.bt_bib.specs.declared.item.Field.{Field}
-use Rattle.bt_bib.specs.declared.item.Item.{Item}
 use Rattle.bt_bib.specs.declared.item.Part.{Part}
 use Rattle.bt_bib.specs.declared.item.Part.TheVariants.{Text, Macro}
 use Rattle.bt_bib.specs.declared.spot.Spot.{Spot}
+use Rattle.bt_bib.specs.Items.{PlacedItem}
 use Rattle.bt_log.specs.declared.message.Message.{Message}
 use Rattle.bt_resolve.specs.declared.asked.Asked.{Asked}
 use Rattle.bt_resolve.specs.declared.declared.Cites.{Cites}
@@ -22,9 +22,10 @@ use Rattle.bt_resolve.specs.declared.declared.Declared.{Declared}
 use Rattle.bt_resolve.specs.declared.declared.Macro.{Macro as StyleMacro}
 use Rattle.bt_resolve.specs.declared.entry.Entry.{Entry as SeenEntry}
 use Rattle.bt_resolve.specs.declared.place.BibLine.{BibLine}
+use Rattle.bt_resolve.specs.declared.place.Origin.{Origin}
 use Rattle.bt_resolve.specs.declared.stored.Stored.{Stored}
 use Rattle.bt_resolve.specs.Names.{crossref}
-use Rattle.bt_resolve.specs.Warnings.{undefined_macro, own_macro, too_long, no_function}
+use Rattle.bt_resolve.specs.Warnings.{origin_of, line_at, undefined_macro, own_macro, too_long, no_function}
 use Rattle.bt_resolve.specs.Faults.{sign_of, unclosed_entry, unclosed_command, fault_error, repeated}
 use Rattle.bt_resolve.specs.Values.{MacroTexts, is_named, others, value}
 use Rattle.bt_resolve.specs.Macros.{faultless, macro_before}
@@ -107,9 +108,9 @@ is_declared declared name = is_same_folded name crossref || has_name declared na
 abbrev pub has_field : List Field → List ℕ → Bool
 has_field fields name = list_any (λ (f : Field). is_same_folded f.name name) fields
 
-abbrev pub declared_messages : List (List ℕ) → MacroTexts → ℕ → List ℕ → List Field → Field → List Message
-declared_messages declared macros database key before f =
-    if is_declared declared f.name then field_messages macros database key before f else []
+abbrev pub declared_messages : List (List ℕ) → MacroTexts → Origin → List ℕ → List Field → Field → List Message
+declared_messages declared macros origin key before f =
+    if is_declared declared f.name then field_messages macros origin key before f else []
 
 -- Entries
 
@@ -134,24 +135,25 @@ with_item a macros content stored = elim content [
 abbrev pub type_messages : Option ℕ → BibLine → List ℕ → List Message
 type_messages function place key = elim function [ None ↦ no_function place key ∷ [] | Some f ↦ [] ]
 
-abbrev pub key_messages : Asked → MacroTexts → List Stored → BibLine → Entry → Option (List ℕ) → List Message
-key_messages a macros stored place e None = []
-key_messages a macros stored place e (Some key) =
+abbrev pub key_messages : Asked → MacroTexts → List Stored → Origin → ℕ → Entry → Option (List ℕ) → List Message
+key_messages a macros stored origin line e None = []
+key_messages a macros stored origin line e (Some key) =
     if is_wanted a stored key
-    then (if is_stored stored key then repeated place key ∷ [] else stored_messages a macros place e key)
+    then (if is_stored stored key then repeated (line_at origin line) key ∷ [] else stored_messages a macros origin line e key)
     else []
 
-abbrev pub content_messages : Asked → MacroTexts → List Stored → BibLine → Option ItemFault → Content → List Message
-content_messages a macros stored place fault content = elim content [
-  | contents.Entry e ↦ key_messages a macros stored place e e.key
-  | contents.Define d ↦ string_messages macros place d.name (faultless fault d.value)
-  | contents.Preamble parts ↦ preamble_messages macros place (faultless fault parts)
+abbrev pub content_messages : Asked → MacroTexts → List Stored → Origin → ℕ → Option ItemFault → Content → List Message
+content_messages a macros stored origin line fault content = elim content [
+  | contents.Entry e ↦ key_messages a macros stored origin line e e.key
+  | contents.Define d ↦ string_messages macros origin line d.name (faultless fault d.value)
+  | contents.Preamble parts ↦ preamble_messages macros origin line (faultless fault parts)
 ]
 
 -- what an item of a database gives, from the items before it
-abbrev pub messages_at : Asked → List StyleMacro → ℕ → List Item → Item → List Message
-messages_at a macros database before item =
-    item_messages a (macro_before macros before) (stored_among a macros before) database item
+abbrev pub messages_at : Asked → List StyleMacro → ℕ → List PlacedItem → PlacedItem → List Message
+messages_at a macros database before placed =
+    item_messages a (macro_before macros before) (stored_among a macros before) (origin_of database placed) placed.end
+    placed.item
 
 -- Preambles
 
@@ -167,8 +169,9 @@ preamble_of macros fault content = elim content [
 ]
 
 -- what an item adds to the preamble, from the items before it
-abbrev pub preamble_at : List StyleMacro → List Item → Item → List ℕ
-preamble_at macros before item = preamble_of (macro_before macros before) item.fault item.content
+abbrev pub preamble_at : List StyleMacro → List PlacedItem → PlacedItem → List ℕ
+preamble_at macros before placed =
+    preamble_of (macro_before macros before) placed.item.fault placed.item.content
 
 -- The list
 

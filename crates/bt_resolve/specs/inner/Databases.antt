@@ -1,6 +1,9 @@
 -- What reading one more item makes of what was read so far.
 use Rattle.std.specs.Prelude.{ℕ, ◌+◌, List, [], ◌∷◌, ◌++◌}
 use Rattle.bt_bib.specs.declared.item.Item.{Item}
+use Rattle.bt_bib.specs.declared.spot.Spot.{Spot}
+use Rattle.bt_bib.specs.Items.{PlacedItem}
+use Rattle.bt_resolve.specs.declared.place.Origin.{Origin}
 use Rattle.bt_resolve.specs.declared.asked.Asked.{Asked}
 use Rattle.bt_resolve.specs.declared.declared.Macro.{Macro}
 use Rattle.bt_log.specs.declared.message.Message.{Message}
@@ -13,7 +16,7 @@ use Rattle.bt_resolve.specs.References.{list_messages}
 use Rattle.bt_resolve.specs.Values.{MacroTexts}
 use Rattle.bt_resolve.specs.Macros.{style_macro}
 use Rattle.bt_resolve.specs.inner.Cases.{with_content, preamble_of, content_messages, with_item}
-use Rattle.bt_resolve.specs.Warnings.{line_of}
+use Rattle.bt_resolve.specs.Warnings.{origin_of}
 use Rattle.bt_resolve.specs.Messages.{item_messages}
 
 -- what was read, with the macros as a function
@@ -26,26 +29,29 @@ pub record State : Type 0 where
 abbrev pub state_of : Reading → State
 state_of r = record { macros = known r.macros; stored = r.store; preamble = r.preamble; messages = r.messages }
 
-abbrev pub after_content : Asked → ℕ → Item → State → State
-after_content a database item s = record {
+abbrev pub after_content : Asked → Origin → Item → State → State
+after_content a origin item s = record {
   macros = with_content item.fault item.content s.macros;
   stored = with_item a s.macros item.content s.stored;
   preamble = s.preamble ++ preamble_of s.macros item.fault item.content;
-  messages = s.messages ++ content_messages a s.macros s.stored (line_of database item.line) item.fault item.content;
+  messages = s.messages ++ content_messages a s.macros s.stored origin item.line item.fault item.content;
 }
 
-abbrev pub after_item : Asked → ℕ → Item → State → State
-after_item a database item s =
-    record (after_content a database item s)
-    { messages = s.messages ++ item_messages a s.macros s.stored database item }
+abbrev pub after_item : Asked → Origin → Spot → Item → State → State
+after_item a origin end item s =
+    record (after_content a origin item s)
+    { messages = s.messages ++ item_messages a s.macros s.stored origin end item }
+
+abbrev pub after_placed : Asked → ℕ → PlacedItem → State → State
+after_placed a database placed s = after_item a (origin_of database placed) placed.end placed.item s
 
 -- after the items of a database
-abbrev pub after_items : Asked → ℕ → State → List Item → State
+abbrev pub after_items : Asked → ℕ → State → List PlacedItem → State
 after_items a database s [] = s
-after_items a database s (item ∷ items) = after_items a database (after_item a database item s) items
+after_items a database s (placed ∷ items) = after_items a database (after_placed a database placed s) items
 
 -- after the databases from this number on
-abbrev pub after_databases : Asked → ℕ → State → List (List Item) → State
+abbrev pub after_databases : Asked → ℕ → State → List (List PlacedItem) → State
 after_databases a number s [] = s
 after_databases a number s (these ∷ databases) = after_databases a (number + 1) (after_items a number s these) databases
 

@@ -1,13 +1,11 @@
--- What readers give for the parts of an item. The lines of an item count from its `@`, so a part is moved to where the
--- item stands before the meaning is asked about it.
-use Rattle.std.specs.Prelude.{ℕ, List, [], map, Option, None, option_copied}
+-- What readers give for the parts of an item.
+use Rattle.std.specs.Prelude.{ℕ, List, [], Option, None, option_copied}
 use Rattle.std.specs.List.{flat_map}
 use Rattle.bt_bib.specs.declared.item.Definition.{Definition}
 use Rattle.bt_bib.specs.declared.item.Entry.{Entry}
 use Rattle.bt_bib.specs.declared.item.Field.{Field}
 use Rattle.bt_bib.specs.declared.item.Item.{Item}
 use Rattle.bt_bib.specs.declared.item.Part.{Part}
-use Rattle.bt_bib.specs.Moved.{moved_entry, moved_field, moved_part, moved_value}
 use Rattle.bt_log.specs.declared.message.Message.{Message}
 use Rattle.bt_text.specs.ByName.{known}
 use Rattle.bt_resolve.specs.declared.fields.FieldReader.{FieldReader}
@@ -22,7 +20,7 @@ use Rattle.bt_resolve.specs.Fields.{fields_messages}
 use Rattle.bt_resolve.specs.Messages.{preamble_messages, stored_messages, string_messages}
 use Rattle.bt_resolve.specs.inner.Cases.{key_messages, macro_warnings}
 use Rattle.bt_resolve.specs.inner.Slots.{slot_messages}
-use Rattle.bt_resolve.specs.inner.Warnings.{line_at}
+use Rattle.bt_resolve.specs.Warnings.{line_at}
 
 -- Values
 
@@ -36,54 +34,54 @@ messages_of_macro r name line =
 
 abbrev pub messages_of_part : ValueReader → Part → List Message
 messages_of_part r part =
-    part_warnings (option_copied r.own) (known r.macros.now) r.origin.database (moved_part r.origin.start part)
+    part_warnings (option_copied r.own) (known r.macros.now) r.origin part
 
 abbrev pub messages_of_parts : ValueReader → List Part → List Message
 messages_of_parts r parts =
-    flat_map (part_warnings (option_copied r.own) (known r.macros.now) r.origin.database)
-    (map (moved_part r.origin.start) parts)
+    flat_map (part_warnings (option_copied r.own) (known r.macros.now) r.origin)
+    parts
 
 abbrev pub messages_of_value : ValueReader → List ℕ → ℕ → List Part → List Message
 messages_of_value r name line parts =
-    value_warnings (option_copied r.own) (known r.macros.now) (line_at r.origin line) name
-    (map (moved_part r.origin.start) parts)
+    value_warnings (option_copied r.own) (known r.macros.now) r.origin line name
+    parts
 
 -- Fields
 
 abbrev pub text_of_field : FieldReader → Field → List ℕ
-text_of_field r f = field_value (known r.macros.now) (map (moved_part r.origin.start) f.value)
+text_of_field r f = field_value (known r.macros.now) f.value
 
 abbrev pub warnings_of_field : FieldReader → Field → List Message
 warnings_of_field r f =
-    value_warnings None (known r.macros.now) (line_at r.origin f.line) f.name (map (moved_part r.origin.start) f.value)
+    value_warnings None (known r.macros.now) r.origin f.line f.name f.value
 
 abbrev pub messages_of_field : FieldReader → Option Slot → Given → Field → List Message
 messages_of_field r slot given f =
-    slot_messages slot given (known r.macros.now) r.origin.database r.key.now (moved_field r.origin.start f)
+    slot_messages slot given (known r.macros.now) r.origin r.key.now f
 
 abbrev pub messages_of_fields : FieldReader → List Field → List Message
 messages_of_fields r fields =
-    fields_messages r.declared.now (known r.macros.now) r.origin.database r.key.now []
-    (map (moved_field r.origin.start) fields)
+    fields_messages r.declared.now (known r.macros.now) r.origin r.key.now []
+    fields
 
 -- Items
 
 abbrev pub messages_of_given : Reader → MacroTexts → List ℕ → List Field → List Message
 messages_of_given r macros key fields =
-    fields_messages r.asked.now.fields macros r.origin.database key [] (map (moved_field r.origin.start) fields)
+    fields_messages r.asked.now.fields macros r.origin key [] fields
 
 abbrev pub messages_of_stored : Reader → MacroTexts → ℕ → Entry → List ℕ → List Message
 messages_of_stored r macros line e key =
-    stored_messages r.asked.now macros (line_at r.origin line) (moved_entry r.origin.start e) key
+    stored_messages r.asked.now macros r.origin line e key
 
 abbrev pub messages_of_entry : Reader → MacroTexts → List Stored → ℕ → Entry → List Message
 messages_of_entry r macros stored line e =
-    key_messages r.asked.now macros stored (line_at r.origin line) (moved_entry r.origin.start e) e.key
+    key_messages r.asked.now macros stored r.origin line e e.key
 
 abbrev pub messages_of_string : Reader → MacroTexts → Item → Definition → List Message
 messages_of_string r macros item d =
-    string_messages macros (line_at r.origin item.line) d.name (faultless item.fault (moved_value r.origin.start d.value))
+    string_messages macros r.origin item.line d.name (faultless item.fault d.value)
 
 abbrev pub messages_of_preamble : Reader → MacroTexts → Item → Option (List Part) → List Message
 messages_of_preamble r macros item parts =
-    preamble_messages macros (line_at r.origin item.line) (faultless item.fault (moved_value r.origin.start parts))
+    preamble_messages macros r.origin item.line (faultless item.fault parts)

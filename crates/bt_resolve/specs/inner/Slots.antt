@@ -6,8 +6,9 @@ use Rattle.bt_log.specs.declared.message.Message.{Message}
 use Rattle.bt_resolve.specs.declared.fields.Slot.{Slot}
 use Rattle.bt_resolve.specs.declared.fields.Slot.TheVariants.{Crossref, Value}
 use Rattle.bt_resolve.specs.declared.fields.Given.{Given}
+use Rattle.bt_resolve.specs.declared.place.Origin.{Origin}
 use Rattle.bt_resolve.specs.Names.{crossref, place_of_name}
-use Rattle.bt_resolve.specs.Warnings.{line_of, extra_field}
+use Rattle.bt_resolve.specs.Warnings.{line_at, extra_field}
 use Rattle.bt_resolve.specs.Values.{MacroTexts, value_warnings}
 use Rattle.bt_resolve.specs.Fields.{given_value}
 use Rattle.bt_resolve.specs.inner.Cases.{own_values}
@@ -40,11 +41,11 @@ abbrev pub with_field : Option Slot → List ℕ → Given → Given
 with_field None text g = g
 with_field (Some slot) text g = if is_filled slot g then g else fill slot text g
 
-abbrev pub extra_messages : Bool → ℕ → List ℕ → Field → List Message
-extra_messages again database key f = if again then extra_field (line_of database f.line) key f.name ∷ [] else []
+abbrev pub extra_messages : Bool → Origin → List ℕ → Field → List Message
+extra_messages again origin key f = if again then extra_field (line_at origin f.line) key f.name ∷ [] else []
 
-abbrev pub slot_messages : Option Slot → Given → MacroTexts → ℕ → List ℕ → Field → List Message
-slot_messages None g macros database key f = []
-slot_messages (Some slot) g macros database key f =
-    value_warnings None macros (line_of database f.line) f.name f.value
-    ++ extra_messages (is_filled slot g) database key f
+abbrev pub slot_messages : Option Slot → Given → MacroTexts → Origin → List ℕ → Field → List Message
+slot_messages None g macros origin key f = []
+slot_messages (Some slot) g macros origin key f =
+    value_warnings None macros origin f.line f.name f.value
+    ++ extra_messages (is_filled slot g) origin key f

@@ -2,7 +2,7 @@
 use Rattle.std.specs.Prelude.{IsTrue, map, ◌≡◌, ℕ, ◌<◌, true, false, List, [], ◌∷◌, ◌++◌, length, None}
 use Rattle.std.specs.List.{AllByRecursion}
 use Rattle.bt_text.specs.CaseFolding.{is_same_folded}
-use Rattle.bt_bib.specs.declared.item.Item.{Item}
+use Rattle.bt_bib.specs.Items.{PlacedItem}
 use Rattle.bt_resolve.specs.declared.asked.Asked.{Asked}
 use Rattle.bt_resolve.specs.declared.declared.Cites.{Cites}
 use Rattle.bt_resolve.specs.declared.declared.Declared.{Declared}
@@ -19,7 +19,7 @@ use Rattle.bt_resolve.specs.Resolved.{resolved, stored_entries}
 
 -- the messages are the same for each least number of references
 abbrev pub MessagesForEachMin : Type 0
-MessagesForEachMin = (d : Declared) (c : Cites) (databases : List (List Item)) (m n : ℕ) →
+MessagesForEachMin = (d : Declared) (c : Cites) (databases : List (List PlacedItem)) (m n : ℕ) →
     (resolved d c databases m).messages ≡ (resolved d c databases n).messages
 
 -- each place of the list is that of a stored entry
@@ -33,7 +33,7 @@ WantedInTurn a before (s ∷ ss) = (is_wanted a before s.key ≡ true) × Wanted
 
 -- all entries are cited, or the key of each stored one is, or one that is stored before it refers to it
 abbrev pub StoredAreWanted : Type 0
-StoredAreWanted = (a : Asked) (macros : List Macro) (databases : List (List Item)) →
+StoredAreWanted = (a : Asked) (macros : List Macro) (databases : List (List PlacedItem)) →
     WantedInTurn a [] (stored_entries a macros databases)
 
 -- no two keys match
@@ -42,7 +42,7 @@ KeysApart [] = Unit {0}
 KeysApart (s ∷ ss) = AllByRecursion (λ (t : Stored). is_same_folded s.key t.key ≡ false) ss × KeysApart ss
 
 abbrev pub StoredKeysApart : Type 0
-StoredKeysApart = (a : Asked) (macros : List Macro) (databases : List (List Item)) →
+StoredKeysApart = (a : Asked) (macros : List Macro) (databases : List (List PlacedItem)) →
     KeysApart (stored_entries a macros databases)
 
 -- where no entry refers to another, each has the values that were read
@@ -52,5 +52,5 @@ NothingInherited = (stored : List Stored) → AllByRecursion (λ (s : Stored). s
 
 -- where no two cited keys match, no two entries of the list have keys that match
 abbrev pub EntriesApart : Type 0
-EntriesApart = (d : Declared) (c : Cites) (databases : List (List Item)) (min : ℕ) → IsTrue (are_apart c.keys) →
+EntriesApart = (d : Declared) (c : Cites) (databases : List (List PlacedItem)) (min : ℕ) → IsTrue (are_apart c.keys) →
     are_apart (map (λ (e : Entry). e.key) (resolved d c databases min).entries) ≡ true

@@ -201,7 +201,7 @@ fn spellings(alloc: Global, databases: &[Database]) -> Result<Spellings, AllocEr
     let mut spellings = IndexMap::new(alloc);
     'databases: for database in databases {
         'pieces: for placed in database.items.pieces() {
-            if let Some((_, key)) = entry(placed.piece()) {
+            if let Some((_, key)) = entry(&placed.piece) {
                 let low = folded(alloc, key)?;
                 if !spellings.contains_key(low.as_slice()) {
                     let _ = spellings.insert(low, Bytes::copied(alloc, key)?)?;
@@ -224,7 +224,7 @@ fn entries_of<'a>(
     let mut entries = Vec::new(alloc);
     'databases: for database in databases {
         'pieces: for placed in database.items.pieces() {
-            if let Some((entry, key)) = entry(placed.piece())
+            if let Some((entry, key)) = entry(&placed.piece)
                 && (all || keys.contains(folded(alloc, key)?.as_slice()))
             {
                 entries.push((entry, key))?;

@@ -10,7 +10,7 @@ use std::alloc::{AllocError, Global};
 const SHOWN: usize = 160;
 
 /// A line of a text, and how many bytes stand before it.
-fn line_of(text: &[u8], number: usize) -> Option<(usize, &[u8])> {
+fn line_of(text: &[u8], number: u128) -> Option<(usize, &[u8])> {
     let mut before = 0usize;
     let mut left = number;
     'lines: for line in text.split(|byte| *byte == b'\n') {
@@ -28,9 +28,9 @@ fn begins_item(line: &[u8]) -> bool {
 }
 
 /// The number of the line in which the item begins that reaches into a line, if that is an earlier one.
-fn item_line(text: &[u8], number: usize) -> Option<usize> {
+fn item_line(text: &[u8], number: u128) -> Option<u128> {
     let mut begun = None;
-    let mut current = 1usize;
+    let mut current = 1u128;
     'lines: for line in text.split(|byte| *byte == b'\n') {
         if begins_item(line) {
             begun = Some(current);
@@ -60,7 +60,7 @@ fn indentation(alloc: Global, line: &[u8]) -> Result<Bytes, AllocError> {
 #[derive(Drop)]
 struct Shown<'a> {
     file: &'a [u8],
-    line: usize,
+    line: u128,
     byte: Option<usize>,
 }
 

@@ -1,5 +1,5 @@
 use Rattle.std.proofs.Common.{◌≡◌, ◌++◌, take, map}
-use Rattle.bt_bib.specs.inner.Shift.{rebased_piece}
+use Rattle.bt_bib.specs.inner.PlacedPieces.{rebased_piece}
 use Rattle.bt_bib.proofs.items.Items.with_rebased.Given as goal
 
 abbrev pub invariant-pieces : goal.invariant-pieces

@@ -1,12 +1,11 @@
-use Rattle.std.proofs.Common.{◌≡◌, ◌++◌, take, map, option_copied}
+use Rattle.std.proofs.Common.{◌≡◌, ◌++◌, take, option_copied}
 use Rattle.std.specs.List.{flat_map}
-use Rattle.bt_bib.specs.Moved.{moved_part}
 use Rattle.bt_text.specs.ByName.{known}
 use Rattle.bt_resolve.specs.Values.{joined_parts, others, part_warnings, within_limit}
 use Rattle.bt_resolve.proofs.values.ValueReader.parts.Given as goal
 
 abbrev pub invariant-parts : goal.invariant-parts
 invariant-parts l = record {
-  joined : l.joined ≡ within_limit (joined_parts (others (option_copied l.self.own) (known l.self.macros.now)) (map (moved_part l.self.origin.start) (take l.part-index l.parts)));
-  messages : l.messages ≡ l.initial.messages ++ flat_map (part_warnings (option_copied l.self.own) (known l.self.macros.now) l.self.origin.database) (map (moved_part l.self.origin.start) (take l.part-index l.parts));
+  joined : l.joined ≡ within_limit (joined_parts (others (option_copied l.self.own) (known l.self.macros.now)) (take l.part-index l.parts));
+  messages : l.messages ≡ l.initial.messages ++ flat_map (part_warnings (option_copied l.self.own) (known l.self.macros.now) l.self.origin) (take l.part-index l.parts);
 }
