@@ -3,7 +3,7 @@
 use Rattle.std.specs.Prelude.{ℕ, List, Result, Ok, codes}
 use Rattle.bt_style.specs.declared.fault.FaultKind.TheVariants.{UnclosedText, UnclosedBrace, StrayByte, MissingArgument}
 use Rattle.bt_style.specs.declared.fault.StyleFault.{StyleFault}
-use Rattle.bt_style.specs.Fault.{fault}
+use Rattle.bt_style.specs.Fault.{fault, ◌>>=◌}
 use Rattle.bt_style.specs.Token.{Open, Close, Word, Literal, Unclosed, Glued, Tokens, AtEnd, Front}
 
 -- the brace that opens an argument

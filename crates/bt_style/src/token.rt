@@ -3,7 +3,7 @@
 ghost use Rattle.std.specs.Prelude.{◌≡◌, ◌+◌, ◌<◌, length};
 ghost use Rattle.std.specs.List.{before_first};
 ghost use Rattle.bt_text.specs.ByteTests.{is_line_feed};
-ghost use Rattle.bt_style.specs.Token.{ends_word, ends_literal, may_follow};
+ghost use Rattle.bt_style.specs.Token.{ends_word, ends_literal, may_follow, literal_piece};
 ghost use Rattle.bt_style.specs.inner.Cursor.{IsPiece, front_piece};
 
 use bt_text::is_white;
