@@ -29,7 +29,7 @@ use bt_text::Bytes;
 use spelling::word_at;
 use std::alloc::{AllocError, Global};
 use std::io;
-use std::io::{BufReader, BufWriter, Write};
+use std::io::{BufRead, BufReader, BufWriter, Write};
 
 fn push_answer_of_texts(alloc: Global, out: &mut Answer, case: &str) -> Result<(), AllocError> {
     match word_at(case, 0) {

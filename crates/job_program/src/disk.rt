@@ -9,6 +9,7 @@ use bt_text::Bytes;
 use std::alloc::{AllocError, Global};
 use std::fs::{self, File, OpenOptions};
 use std::io::{ErrorKind, Read, Write};
+use std::os::unix::fs::MetadataExt;
 
 /// The bytes of a file, or `None` if there is none of this name that can be read. The one error is out of memory.
 pub fn read(alloc: Global, rt: &HostRuntime, path: &str) -> Result<Option<Bytes>, AllocError> {

@@ -18,6 +18,7 @@ use crate::options::{Options, Request, parse};
 use crate::report::complain;
 use crate::script::{BETWEEN, FILES_WANTED, HAND_OVER, Script};
 use crate::search::Search;
+use crate::version::VERSION;
 use bt_job::File;
 use bt_log::{Message, log_bytes};
 use bt_run::{Answers, Run};

@@ -1,5 +1,6 @@
 //! Random choices from a seed.
 
+use rand_core::{Rng, SeedableRng};
 use rand_xoshiro::Xoshiro256PlusPlus;
 
 #[derive(Drop)]

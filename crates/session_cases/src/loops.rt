@@ -2,13 +2,13 @@
 
 mod script;
 
-ghost use Rattle.std.specs.Prelude.{◌<◌, ◌-◌, ◌^◌};
+ghost use Rattle.std.specs.Prelude.{◌≡◌, ◌<◌, ◌-◌, ◌^◌};
 
 use crate::loops::script::{Step, first_step};
 use anyhow::Result;
 use bibtex::{Refusal, Session};
 use bt_serve::{ServeFault, serve};
-use bt_streams::{Sink, Source};
+use bt_streams::{Sink, Source, StreamFailed};
 use fakes::{Giver, Limits, Taker};
 use std::alloc::{AllocError, Global};
 use std::cell::Cell;
