@@ -1,0 +1,4 @@
+pub mod Units
+pub mod Lines
+pub mod Positions
+pub mod laws

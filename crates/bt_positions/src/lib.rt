@@ -1,0 +1,14 @@
+//! Positions in a text, a line and a character as an editor counts them, and the offsets of their bytes.
+//!
+//! The Language Server Protocol counts characters in units of UTF-16 or, if the client offers it, in bytes of UTF-8.
+//! BibTeX's files are bytes and may be in no encoding at all, so every offset of every text has a position: bytes that
+//! aren't UTF-8 count as their form suggests. A file in Latin-1 reaches the editor as UTF-8; `Counting` has its widths.
+#![tactic(auto)]
+
+mod counting;
+mod lines;
+mod places;
+
+pub use counting::Counting;
+pub use lines::first_line;
+pub use places::{Position, offset_of, position_of};
