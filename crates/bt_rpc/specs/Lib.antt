@@ -1,0 +1,3 @@
+pub mod Messages
+pub mod inner
+pub mod laws

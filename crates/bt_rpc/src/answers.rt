@@ -1,0 +1,68 @@
+//! Answers and notifications.
+
+ghost use Rattle.std.specs.Prelude.{◌≡◌, IfOk};
+ghost use Rattle.serde_json.specs.View.{view};
+ghost use Rattle.bt_rpc.specs.Messages.{response, error_response, notification, code_of, words_of};
+
+use serde_json::{Value, json};
+use std::alloc::{AllocError, Global};
+
+/// Why a request has no result, in the words of JSON-RPC.
+#[derive(Clone, Copy, Debug, PartialEq, Eq)]
+pub enum RpcError {
+    /// The body isn't JSON.
+    ParseError,
+    /// The value isn't a message.
+    InvalidRequest,
+    MethodNotFound,
+    InvalidParams,
+    /// Out of memory.
+    InternalError,
+}
+
+fn code_of(error: RpcError) -> i64
+    ensures { result ≡ code_of error }
+{
+    match error {
+        RpcError::ParseError => -32700,
+        RpcError::InvalidRequest => -32600,
+        RpcError::MethodNotFound => -32601,
+        RpcError::InvalidParams => -32602,
+        RpcError::InternalError => -32603,
+    }
+}
+
+fn words_of(error: RpcError) -> &'static str
+    ensures { result.now ≡ words_of error }
+{
+    match error {
+        RpcError::ParseError => "the message isn't JSON",
+        RpcError::InvalidRequest => "the message isn't one of JSON-RPC 2.0",
+        RpcError::MethodNotFound => "the method is unknown",
+        RpcError::InvalidParams => "the method's parameters are wrong",
+        RpcError::InternalError => "out of memory",
+    }
+}
+
+/// The answer to a request with this id that has a result.
+pub fn response(alloc: Global, id: &Value, answer: &Value) -> Result<Value, AllocError>
+    ensures { IfOk result (λ v. view v ≡ response (view id.now) (view answer.now)) }
+{
+    json!(in alloc; {"jsonrpc": "2.0", "id": id, "result": answer})
+}
+
+/// The answer to a request with this id that has no result.
+pub fn error_response(alloc: Global, id: &Value, error: RpcError) -> Result<Value, AllocError>
+    ensures { IfOk result (λ v. view v ≡ error_response (view id.now) error) }
+{
+    let code = code_of(error);
+    let words = words_of(error);
+    json!(in alloc; {"jsonrpc": "2.0", "id": id, "error": {"code": code, "message": words}})
+}
+
+/// A notification of the server.
+pub fn notification(alloc: Global, method: &str, params: &Value) -> Result<Value, AllocError>
+    ensures { IfOk result (λ v. view v ≡ notification method.now (view params.now)) }
+{
+    json!(in alloc; {"jsonrpc": "2.0", "method": method, "params": params})
+}
