@@ -1,4 +1,5 @@
 pub mod Units
 pub mod Lines
 pub mod Positions
+pub mod inner
 pub mod laws

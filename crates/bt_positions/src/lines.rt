@@ -1,7 +1,19 @@
-//! The lines of a text, as an editor counts them: a line ends after LF, CR LF, or a CR that no LF follows.
+//! The lines of a text: where they begin, and the first one.
 
-ghost use Rattle.std.specs.Prelude.{◌≡◌, ◌≤◌, length};
-ghost use Rattle.bt_positions.specs.Lines.{begins_with_feed, ends_line, place_of_line, line_ends, first_line};
+ghost use Rattle.std.specs.Prelude.{◌≡◌, ◌≤◌, [], ◌∷◌, ◌++◌, length, if◌then◌else◌, IfOk, OnOk};
+ghost use Rattle.bt_positions.specs.Lines.{begins_with_feed, ends_line, first_line};
+ghost use Rattle.bt_positions.specs.inner.LineStarts.{line_starts};
+
+use std::alloc::{AllocError, Global};
+
+/// Whose lines are counted.
+#[derive(Clone, Copy, Debug, PartialEq, Eq)]
+pub enum Lines {
+    /// A line ends after LF, CR LF, or a CR that no LF follows.
+    Editor,
+    /// A line ends after LF.
+    Bibtex,
+}
 
 /// Whether a text begins with a line feed.
 fn begins_with_feed(text: &[u8]) -> bool
@@ -14,52 +26,37 @@ fn begins_with_feed(text: &[u8]) -> bool
 }
 
 /// Whether a line ends between a byte and what follows it.
-fn ends_line(byte: u8, rest: &[u8]) -> bool
-    ensures { result ≡ ends_line byte rest.now }
+fn ends_line(lines: Lines, byte: u8, rest: &[u8]) -> bool
+    ensures { result ≡ ends_line lines byte rest.now }
 {
-    byte == b'\n' || (byte == b'\r' && !begins_with_feed(rest))
+    match lines {
+        Lines::Editor => byte == b'\n' || (byte == b'\r' && !begins_with_feed(rest)),
+        Lines::Bibtex => byte == b'\n',
+    }
 }
 
-/// The offset at which a line begins, counted from 0; the text's length if it has fewer lines.
-pub fn place_of_line(text: &[u8], line: usize) -> usize
-    ensures value { result ≡ place_of_line line text.now }
-    ensures within { result ≤ length text.now }
+fn push_if(starts: &mut Vec<usize>, ends: bool, start: usize) -> Result<(), AllocError>
+    ensures { OnOk result (starts.new.items ≡ starts.old.items ++ (if ends then start ∷ [] else [])) }
 {
-    let mut left = line;
+    if ends {
+        starts.push(start)?;
+    }
+    Ok(())
+}
+
+/// The offsets at which lines begin, from the second line on.
+pub fn line_starts(alloc: Global, lines: Lines, text: &[u8]) -> Result<Vec<usize>, AllocError>
+    ensures { IfOk result (λ starts. starts.items ≡ line_starts lines 0 text.now) }
+{
+    let mut starts = Vec::new(alloc);
     let mut place = 0;
     let mut rest = text;
     'bytes: while let [first, others @ ..] = rest {
-        if left == 0 {
-            return place;
-        }
-        if ends_line(*first, others) {
-            left -= 1;
-        }
         place += 1;
+        push_if(&mut starts, ends_line(lines, *first, others), place)?;
         rest = others;
     }
-    place
-}
-
-/// How many lines end within the first `place` bytes.
-pub fn line_ends(text: &[u8], place: usize) -> usize
-    ensures value { result ≡ line_ends place text.now }
-    ensures within { result ≤ place }
-{
-    let mut left = place;
-    let mut count = 0;
-    let mut rest = text;
-    'bytes: while let [first, others @ ..] = rest {
-        if left == 0 {
-            return count;
-        }
-        if ends_line(*first, others) {
-            count += 1;
-        }
-        left -= 1;
-        rest = others;
-    }
-    count
+    Ok(starts)
 }
 
 /// The length of the first line, without its end.

@@ -5,6 +5,7 @@ use native.Mathlib.Numerals.{unary_clauses}
 use Rattle.std.specs.Prelude.{◌&&◌, ◌==◌, not, Bool, cond}
 use Rattle.bt_positions.specs.declared.counting.Counting.{Counting}
 use Rattle.bt_positions.specs.Units.{width, fitting}
+use Rattle.bt_positions.specs.declared.lines.Lines.TheVariants.{Editor}
 use Rattle.bt_positions.specs.Lines.{begins_with_feed, place_of_line, line_ends, first_line}
 use Rattle.bt_positions.specs.laws.Places.{is_place}
 
@@ -21,14 +22,14 @@ fits_back c zero (b ∷ t) p e = grind (arith, common_steps)
 fits_back c (suc n) (b ∷ t) p e = grind (arith, common_steps, fits_back c n t)
 
 -- A line begins before the places in it.
-pub start_within : (c : Counting) (n : ℕ) (t : List ℕ) → is_place c n t ≡ true → place_of_line (line_ends n t) t ≤ n
+pub start_within : (c : Counting) (n : ℕ) (t : List ℕ) → is_place c n t ≡ true → place_of_line Editor (line_ends n t) t ≤ n
 start_within c n [] p = grind (arith, common_steps)
 start_within c zero (b ∷ t) p = grind (arith, common_steps)
 start_within c (suc n) (b ∷ t) p = grind (arith, common_steps, start_within c n t)
 
 -- One byte further, behind the first line.
 pub line_step : (n b : ℕ) (t : List ℕ) → 1 ≤ line_ends (suc n) (b ∷ t) →
-    place_of_line (line_ends (suc n) (b ∷ t)) (b ∷ t) ≡ suc (place_of_line (line_ends n t) t)
+    place_of_line Editor (line_ends (suc n) (b ∷ t)) (b ∷ t) ≡ suc (place_of_line Editor (line_ends n t) t)
 line_step n b t p = grind (arith, common_steps)
 
 -- The place of a position whose line begins here.
@@ -41,11 +42,11 @@ back_next c s n b t = grind (arith, common_steps)
 
 -- One byte more before a place.
 pub back_step : (c : Counting) (n b k : ℕ) (t : List ℕ) → k ≡ line_ends (suc n) (b ∷ t) → is_place c (suc n) (b ∷ t) ≡ true →
-    back c (place_of_line (line_ends n t) t) n t ≡ n → back c (place_of_line k (b ∷ t)) (suc n) (b ∷ t) ≡ suc n
+    back c (place_of_line Editor (line_ends n t) t) n t ≡ n → back c (place_of_line Editor k (b ∷ t)) (suc n) (b ∷ t) ≡ suc n
 back_step c n b zero t e p ih = grind (arith, common_steps, fits_back c (suc n) (b ∷ t) p (sym e))
 back_step c n b (suc k) t e p ih =
     let step = line_step n b t (grind (arith, e)) in
-    rw (e, step, back_next c (place_of_line (line_ends n t) t) n b t, ih) refl
+    rw (e, step, back_next c (place_of_line Editor (line_ends n t) t) n b t, ih) refl
 
 -- The second of two that both hold.
 pub and_right : (a b : Bool) → (a && b) ≡ true → b ≡ true
@@ -66,7 +67,7 @@ place_tail c n b t p =
 
 -- From a place to its position and back, where the line begins at this place.
 pub comes_back : (c : Counting) (n : ℕ) (t : List ℕ) → is_place c n t ≡ true →
-    back c (place_of_line (line_ends n t) t) n t ≡ n
+    back c (place_of_line Editor (line_ends n t) t) n t ≡ n
 comes_back c n [] p = grind (arith, common_steps)
 comes_back c zero (b ∷ t) p = grind (arith, common_steps)
 comes_back c (suc n) (b ∷ t) p =
