@@ -1,4 +1,3 @@
-pub mod ReadLemmas
 pub mod WordLemmas
 pub mod TakenLemmas
 pub mod TurnLemmas

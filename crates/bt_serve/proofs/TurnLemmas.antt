@@ -1,31 +1,18 @@
 -- From what was read and written to a turn of the loop.
-use Rattle.std.proofs.Common.{◌≡◌, ◌≢◌, inl, inr, ℕ, ◌<◌, ◌≤◌, List, [], ◌∷◌, ◌++◌, length, refl, ap, sym, ◌∙◌, subst, arith, append_assoc, append-nil, length-append, Option, None, Some, Bool, true, false, Result, Ok, Err}
+use Rattle.std.proofs.Common.{◌≡◌, ◌≢◌, inl, inr, ℕ, ◌<◌, ◌≤◌, List, [], ◌∷◌, ◌++◌, length, refl, ap, sym, ◌∙◌, subst, arith, append_assoc, append-nil, length-append, Option, Some, Bool, true, false, Result, Ok, Err}
 use Rattle.std.proofs.lemmas.Bool.Decides.{nat_tests}
 use Rattle.std.specs.List.{AllByRecursion, flat_map}
 use Rattle.std.proofs.lemmas.Grind.{flat_map-append}
-use Rattle.std.specs.Io.KnownBytes.{Consumes, Appends, IsAtEnd}
-use Rattle.bt_serve.proofs.ReadLemmas.{consumes_more}
-use Rattle.bt_serve.specs.Reads.{HasNoFeed}
+use Rattle.std.specs.Io.KnownBytes.{Consumes, IsAtEnd}
+use Rattle.bt_streams.proofs.ReadLemmas.{consumes_more}
+use Rattle.bt_streams.proofs.KnownLemmas.{consumed, appended, at_end}
+use Rattle.bt_streams.specs.Reads.{HasNoFeed}
 use Rattle.bibtex.specs.declared.state.State.{State}
 use Rattle.bt_serve.specs.Commands.{Request, Command, request_of, request_of_words, words_in_line, too_long, ends, answer, after, answers_to, state_after, command_text, MayRunOut, MayRunOutInTurn}
 use Rattle.bt_serve.specs.Serves.{Answered, IsCommand, Turn, loop_ended}
 use Rattle.bt_serve.specs.inner.Serves.{Replies}
 use Rattle.bt_serve.specs.declared.fault.ServeFault.{ServeFault}
 use Rattle.bt_serve.specs.declared.fault.ServeFault.TheVariants.{ReadFailed, WriteFailed, Truncated}
-
-pub consumed : (a b : Option (List ℕ)) (xs input : List ℕ) → Consumes a b xs → a ≡ Some input → (rest : List ℕ) × (b ≡ Some rest) × (input ≡ xs ++ rest)
-consumed None b xs input p e = absurd (cc)
-consumed (Some u) None xs input p e = absurd p
-consumed (Some u) (Some v) xs input p e = let k : input ≡ u = cc in (v, refl, k ∙ p)
-
-pub appended : (a b : Option (List ℕ)) (xs said : List ℕ) → Appends a b xs → a ≡ Some said → (said' : List ℕ) × (b ≡ Some said') × (said' ≡ said ++ xs)
-appended None b xs said p e = absurd (cc)
-appended (Some u) None xs said p e = absurd p
-appended (Some u) (Some v) xs said p e = let k : u ≡ said = cc in (v, refl, p ∙ ap (λ t. t ++ xs) k)
-
-pub at_end : (a : Option (List ℕ)) (xs : List ℕ) → IsAtEnd a → a ≡ Some xs → xs ≡ []
-at_end None xs p e = absurd (cc)
-at_end (Some u) xs p e = let k : xs ≡ u = cc in k ∙ p
 
 first_empty : (xs ys : List ℕ) → [] ≡ xs ++ ys → xs ≡ []
 first_empty [] ys e = refl
@@ -34,10 +21,6 @@ first_empty (x ∷ xs) ys e = absurd (cc)
 second_empty : (xs ys : List ℕ) → [] ≡ xs ++ ys → ys ≡ []
 second_empty [] ys e = sym e
 second_empty (x ∷ xs) ys e = absurd (cc)
-
-pub no_feed_both : (xs ys : List ℕ) → HasNoFeed xs → HasNoFeed ys → HasNoFeed (xs ++ ys)
-no_feed_both [] ys p q = q
-no_feed_both (x ∷ xs) ys p q = (p.0, no_feed_both xs ys p.1 q)
 
 -- A command whose line ends with a line feed.
 pub turn_line : (line mid input said : List ℕ) (request : Request) (old new held held' : Option (List ℕ)) (state state' : State) (r : Result Bool ServeFault) →

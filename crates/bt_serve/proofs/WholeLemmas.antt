@@ -3,7 +3,7 @@ use Rattle.std.proofs.Common.{◌≡◌, ◌≢◌, inl, inr, ℕ, zero, suc, �
 use Rattle.std.specs.List.{AllByRecursion, flat_map}
 use Rattle.std.proofs.Math.Seq.{take-append_seam, drop-append_seam}
 use Rattle.std.proofs.lemmas.Bool.Decides.{nat_tests}
-use Rattle.bt_serve.specs.Reads.{HasNoFeed}
+use Rattle.bt_streams.specs.Reads.{HasNoFeed}
 use Rattle.bt_serve.specs.Commands.{Command, request_of, bytes_brought, command_text}
 use Rattle.bt_serve.specs.Serves.{IsCommand, IsCut}
 use Rattle.bt_serve.specs.Whole.{Cut, Line, before_feed, behind_feed, first_line, text_after_line, with_first, command_at, commands_within, commands_of}

@@ -1,12 +1,13 @@
 -- The commands of an input, and the answers to them.
-use Rattle.std.specs.Prelude.{◌≡◌, ℕ, ◌+◌, ◌*◌, ◌-◌, Bool, true, false, ◌&&◌, ◌==◌, nat_le, nat_lt, bytes_eq, codes, decimal, if◌then◌else◌, ◌++◌, List, [], ◌∷◌, length, fold, Option, Some, None, Result, Ok, Err}
-use Rattle.std.specs.List.{list_all, slice_split}
+use Rattle.std.specs.Prelude.{◌≡◌, ℕ, Bool, true, false, ◌==◌, nat_le, nat_lt, bytes_eq, codes, decimal, if◌then◌else◌, ◌++◌, List, [], ◌∷◌, length, Option, Some, None, Result, Ok, Err}
+use Rattle.std.specs.List.{slice_split}
 use Rattle.bt_run.specs.declared.answers.Report.{Report}
 use Rattle.bibtex.specs.declared.edit.Refusal.{Refusal}
 use Rattle.bibtex.specs.declared.edit.Refusal.TheVariants.{OutOfMemory}
 use Rattle.bibtex.specs.declared.state.State.{State}
 use Rattle.bibtex.specs.Present.{shown, reported}
 use Rattle.bibtex.specs.Edit.{Edit, write, splice, remove, root_name, min_crossrefs, with_bytes}
+use Rattle.bt_streams.specs.Numbers.{number_of}
 use Rattle.bibtex.specs.Applied.{applied, code_of, state_or, unless_out_of_memory}
 
 -- what a line asks for
@@ -25,16 +26,6 @@ pub record Command : Type 0 where
 -- the words of a line, which single spaces part
 abbrev pub words_in_line : List ℕ → List (List ℕ)
 words_in_line line = slice_split (λ b. b == 32) line
-
--- 0 to 9
-abbrev pub is_digit : ℕ → Bool
-is_digit b = nat_le 48 b && nat_le b 57
-
--- a number of 1 to 10 digits
-abbrev pub number_of : List ℕ → Option ℕ
-number_of w =
-    if nat_lt 0 (length w) && (nat_le (length w) 10 && list_all is_digit w)
-    then Some (fold (λ n b. n * 10 + (b - 48)) 0 w) else None
 
 -- what `write` asks for, by its name and its number
 abbrev pub write_of : List ℕ → Option ℕ → Request

@@ -1,5 +1,4 @@
 pub mod Faults
-pub mod Reads
 pub mod Commands
 pub mod Serves
 pub mod Whole

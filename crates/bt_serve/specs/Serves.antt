@@ -1,7 +1,7 @@
 -- What one turn of the loop does, where the source and the sink tell their bytes.
 use Rattle.std.specs.Prelude.{◌≡◌, ℕ, ◌<◌, ◌++◌, ◌≢◌, ◌⊎◌, flat_map, Bool, true, false, List, [], ◌∷◌, length, Some, Result, Ok, Err}
 use Rattle.std.specs.List.{AllByRecursion}
-use Rattle.bt_serve.specs.Reads.{HasNoFeed}
+use Rattle.bt_streams.specs.Reads.{HasNoFeed}
 use Rattle.bibtex.specs.declared.state.State.{State}
 use Rattle.bt_streams.specs.Seen.{Drawn, Sunk}
 use Rattle.bt_serve.specs.Commands.{bytes_brought, ends, request_of, Command, command_text, answer, after, answers_to, state_after, MayRunOut, MayRunOutInTurn}

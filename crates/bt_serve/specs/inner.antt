@@ -1,5 +1,4 @@
 -- What only helpers, loops and proofs need: no part of the meaning.
-pub mod Reads
 pub mod Commands
 pub mod Asked
 pub mod Serves

@@ -11,9 +11,8 @@ ghost use Rattle.bt_serve.specs.Faults.{HandsOn};
 
 use crate::command::Request;
 use crate::fault::ServeFault;
-use crate::input::{drop_bytes, read_bytes};
 use bibtex::{Edit, FILE_BYTES, Refusal, Report, Session, code_of};
-use bt_streams::{Sink, Source, StreamFailed, say};
+use bt_streams::{Sink, Source, StreamFailed, drop_bytes, read_bytes, say};
 use itoa::Buffer;
 use std::alloc::Global;
 

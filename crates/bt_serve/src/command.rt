@@ -1,11 +1,12 @@
 //! What a line of the loop asks for.
 
 ghost use Rattle.std.specs.Prelude.{◌≡◌, position, ◌==◌, option_copied};
-ghost use Rattle.bt_serve.specs.Commands.{words_in_line, number_of, request_of_words, one_word, two_words, write_of, splice_of, remove_of, root_of, min_of};
+ghost use Rattle.bt_serve.specs.Commands.{words_in_line, request_of_words, one_word, two_words, write_of, splice_of, remove_of, root_of, min_of};
 ghost use Rattle.bt_serve.specs.inner.Commands.{FirstWord};
 ghost use Rattle.bt_serve.specs.inner.Asked.{request_seen};
 
 use bibtex::Edit;
+use bt_streams::number;
 
 /// What a line asks for.
 #[derive(Clone, Copy)]
@@ -158,21 +159,4 @@ fn first_space(text: &[u8]) -> Option<usize>
     ensures { result ≡ position (λ b. b == 32) text.now }
 {
     text.iter().position(|b| *b == b' ')
-}
-
-/// A number of 1 to 10 digits.
-fn number(word: &[u8]) -> Option<usize>
-    ensures { result ≡ number_of word.now }
-{
-    if word.is_empty() || word.len() > 10 {
-        return None;
-    }
-    let mut value = 0;
-    'digits: for byte in word {
-        if !byte.is_ascii_digit() {
-            return None;
-        }
-        value = value * 10 + (*byte - b'0') as usize;
-    }
-    Some(value)
 }

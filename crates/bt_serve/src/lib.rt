@@ -4,7 +4,6 @@
 mod answer;
 mod command;
 mod fault;
-mod input;
 mod turns;
 
 pub use fault::ServeFault;

@@ -9,9 +9,8 @@ ghost use Rattle.bt_serve.specs.Edits.{IsEdited};
 use crate::answer::answer_request;
 use crate::command::{Request, parse};
 use crate::fault::ServeFault;
-use crate::input::{LineEnd, read_line, skip_line};
 use bibtex::Session;
-use bt_streams::{Sink, Source};
+use bt_streams::{LineEnd, Sink, Source, read_line, skip_line};
 use std::alloc::Global;
 
 /// Reads the next command and answers it. Says whether it was the last one.

@@ -1,1 +1,3 @@
+pub mod ReadLemmas
 pub mod WriteLemmas
+pub mod KnownLemmas

@@ -1,2 +1,4 @@
 pub mod Seen
+pub mod Reads
+pub mod Numbers
 pub mod Writes

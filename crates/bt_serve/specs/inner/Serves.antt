@@ -1,7 +1,7 @@
 -- What one request does, and how it is answered.
 use Rattle.std.specs.Prelude.{◌≡◌, ℕ, ◌+◌, Some, Bool, List, length, Option, Result, Ok, Err, OnOk}
 use Rattle.std.specs.Io.KnownBytes.{Consumes, Appends, IsAtEnd}
-use Rattle.bt_serve.specs.inner.Reads.{ReadsBelow}
+use Rattle.bt_streams.specs.Reads.{ReadsBelow}
 use Rattle.bt_streams.specs.Writes.{AppendsPart}
 use Rattle.bt_run.specs.declared.answers.Report.{Report}
 use Rattle.bibtex.specs.declared.edit.Refusal.{Refusal}

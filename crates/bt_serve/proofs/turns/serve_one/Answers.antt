@@ -1,7 +1,7 @@
 use Rattle.std.proofs.Common.{◌<◌, ◌≤◌, ◌++◌, length, take, arith, Ok, Err, ◌∙◌, length-append}
 use Rattle.std.proofs.lemmas.List.{length-take-le}
-use Rattle.bt_serve.proofs.ReadLemmas.{consumes_more}
-use Rattle.bt_serve.proofs.TurnLemmas.{feed_turn, end_turn, part_turn, consumes_line, no_feed_both, not_empty, request_short, request_long}
+use Rattle.bt_streams.proofs.ReadLemmas.{consumes_more, no_feed_both}
+use Rattle.bt_serve.proofs.TurnLemmas.{feed_turn, end_turn, part_turn, consumes_line, not_empty, request_short, request_long}
 use Rattle.bt_serve.proofs.turns.serve_one.Goals as goal
 
 pub returns-in-Ok-Feed-clause-turns : goal.returns-in-Ok-Feed-clause-turns

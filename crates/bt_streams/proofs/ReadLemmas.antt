@@ -3,7 +3,7 @@ use Rattle.std.proofs.Common.{◌≡◌, ◌≢◌, ℕ, ◌+◌, ◌≤◌, Lis
 use Rattle.std.proofs.lemmas.List.{length-take-le, take-append-le}
 use Rattle.std.proofs.Math.Seq.{take-append-add}
 use Rattle.std.specs.Io.KnownBytes.{Consumes, Keeps}
-use Rattle.bt_serve.specs.Reads.{HasNoFeed}
+use Rattle.bt_streams.specs.Reads.{HasNoFeed}
 
 -- One read after another.
 pub consumes_more : (a b c : Option (List ℕ)) (xs ys : List ℕ) → Consumes a b xs → Consumes b c ys → Consumes a c (xs ++ ys)
@@ -27,6 +27,11 @@ consumes_kept (Some u) (Some v) p = sym p
 pub no_feed_more : (xs : List ℕ) (b : ℕ) → HasNoFeed xs → b ≢ 10 → HasNoFeed (xs ++ b ∷ [])
 no_feed_more [] b p q = (q, tt)
 no_feed_more (x ∷ xs) b p q = (p.0, no_feed_more xs b p.1 q)
+
+-- Two texts without a line feed.
+pub no_feed_both : (xs ys : List ℕ) → HasNoFeed xs → HasNoFeed ys → HasNoFeed (xs ++ ys)
+no_feed_both [] ys p q = q
+no_feed_both (x ∷ xs) ys p q = (p.0, no_feed_both xs ys p.1 q)
 
 -- The front of a text whose middle was written.
 pub take_two : (a n : ℕ) (xs ys zs : List ℕ) → a ≤ length xs → n ≤ length ys → take (a + n) (take a xs ++ (ys ++ zs)) ≡ take a xs ++ take n ys

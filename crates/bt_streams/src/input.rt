@@ -2,11 +2,11 @@
 
 ghost use Rattle.std.specs.Prelude.{◌≡◌, ◌+◌, ◌-◌, ◌^◌, ◌<◌, ◌≤◌, length, IfOk, OnOk, OnErr, MatchResult};
 ghost use Rattle.std.specs.Io.KnownBytes.{Keeps};
-ghost use Rattle.bt_serve.specs.inner.Reads.{ReadsByte, ReadsLine, ReadsPart, SkipsLine, ReadsAll, ReadsBelow, DropsAll};
+ghost use Rattle.bt_streams.specs.Reads.{ReadsByte, ReadsLine, ReadsPart, SkipsLine, ReadsAll, ReadsBelow, DropsAll};
 
-use bt_streams::{Source, StreamFailed};
+use crate::streams::{Source, StreamFailed};
 
-/// What a line is followed by.
+/// How a line that was read ends.
 #[derive(Clone, Copy)]
 pub enum LineEnd {
     /// A line of this number of bytes, and a line feed.
@@ -34,8 +34,8 @@ fn read_byte<S: Source>(source: &mut S) -> Result<Option<u8>, StreamFailed>
     }
 }
 
-/// Reads a line into the buffer. Its line feed is read and isn't stored. After a failure the buffer has what was read
-/// of the line.
+/// Reads a line into the buffer, without its line feed, and returns how it ends. After a failure the buffer has the part
+/// that was read.
 pub fn read_line<S: Source>(source: &mut S, buffer: &mut [u8]) -> Result<LineEnd, StreamFailed>
     requires { (S.seen source.old).failures < 2 ^ 64 - 1 }
     ensures line { IfOk result (ReadsLine (S.seen source.old).rest (S.seen source.new).rest buffer.new) }
@@ -55,7 +55,7 @@ pub fn read_line<S: Source>(source: &mut S, buffer: &mut [u8]) -> Result<LineEnd
     Ok(LineEnd::None)
 }
 
-/// Reads on to the end of the line, and says whether it has a line feed.
+/// Reads up to the end of the line, and returns whether a line feed ends it.
 pub fn skip_line<S: Source>(source: &mut S) -> Result<bool, StreamFailed>
     requires { (S.seen source.old).failures < 2 ^ 64 - 1 }
     ensures line { IfOk result (SkipsLine (S.seen source.old).rest (S.seen source.new).rest) }
@@ -72,7 +72,8 @@ pub fn skip_line<S: Source>(source: &mut S) -> Result<bool, StreamFailed>
     Ok(false)
 }
 
-/// Fills the buffer, and says whether the input was long enough. After a failure the buffer has what was read.
+/// Fills the buffer, and returns whether the input was long enough. After a failure the buffer has the part that was
+/// read.
 pub fn read_bytes<S: Source>(source: &mut S, buffer: &mut [u8]) -> Result<bool, StreamFailed>
     requires { (S.seen source.old).failures < 2 ^ 64 - 1 }
     ensures all { IfOk result (ReadsAll (S.seen source.old).rest (S.seen source.new).rest buffer.new) }
@@ -91,7 +92,7 @@ pub fn read_bytes<S: Source>(source: &mut S, buffer: &mut [u8]) -> Result<bool, 
     Ok(true)
 }
 
-/// Reads `count` bytes and drops them, and says whether the input was long enough.
+/// Reads `count` bytes and drops them, and returns whether the input was long enough.
 pub fn drop_bytes<S: Source>(source: &mut S, count: usize) -> Result<bool, StreamFailed>
     requires { (S.seen source.old).failures < 2 ^ 64 - 1 }
     ensures all { IfOk result (DropsAll (S.seen source.old).rest (S.seen source.new).rest count) }

@@ -1,6 +1,6 @@
 use Rattle.std.proofs.Common.{◌≡◌, ◌-◌, ◌≤◌, take, length}
 use Rattle.std.specs.Io.KnownBytes.{Consumes}
-use Rattle.bt_serve.proofs.input.read_bytes.Given as goal
+use Rattle.bt_streams.proofs.input.read_bytes.Given as goal
 
 abbrev pub invariant-pieces : goal.invariant-pieces
 invariant-pieces g l =

@@ -1,7 +1,7 @@
 use Rattle.std.proofs.Common.{◌≤◌, ◌++◌, take, arith, length-append}
 use Rattle.std.proofs.lemmas.List.{length-take, length-take-le}
-use Rattle.bt_serve.proofs.ReadLemmas.{consumes_more}
-use Rattle.bt_serve.proofs.input.drop_bytes.Goals as goal
+use Rattle.bt_streams.proofs.ReadLemmas.{consumes_more}
+use Rattle.bt_streams.proofs.input.drop_bytes.Goals as goal
 
 pub pieces-preserved : goal.pieces-preserved
 pieces-preserved g c =

@@ -1,7 +1,7 @@
 use Rattle.std.proofs.Common.{ℕ, ◌+◌, length, arith, ◌<◌, refl}
 use Rattle.std.proofs.lemmas.Grind.{take-set_at}
-use Rattle.bt_serve.proofs.ReadLemmas.{line_more}
-use Rattle.bt_serve.proofs.input.read_line.Goals as goal
+use Rattle.bt_streams.proofs.ReadLemmas.{line_more}
+use Rattle.bt_streams.proofs.input.read_line.Goals as goal
 
 pub line-preserved : goal.line-preserved
 line-preserved g c =

@@ -1,7 +1,7 @@
 use Rattle.std.proofs.Common.{◌≡◌, ◌+◌, ◌-◌, ◌*◌, ◌^◌, ◌<◌, take, true}
 use Rattle.std.specs.List.{fold, list_all}
-use Rattle.bt_serve.specs.Commands.{is_digit}
-use Rattle.bt_serve.proofs.command.number.Given as goal
+use Rattle.bt_streams.specs.Numbers.{is_digit}
+use Rattle.bt_streams.proofs.numbers.number.Given as goal
 
 abbrev pub invariant-digits : goal.invariant-digits
 invariant-digits l =

@@ -1,6 +1,6 @@
 use Rattle.std.proofs.Common.{◌≡◌, ◌≤◌}
-use Rattle.bt_serve.specs.inner.Reads.{ReadsPart}
-use Rattle.bt_serve.proofs.input.skip_line.Given as goal
+use Rattle.bt_streams.specs.Reads.{ReadsPart}
+use Rattle.bt_streams.proofs.input.skip_line.Given as goal
 
 abbrev pub invariant-rest : goal.invariant-rest
 invariant-rest g l =

@@ -1,6 +1,6 @@
 use Rattle.std.proofs.Common.{◌++◌, ◌∷◌, [], arith}
-use Rattle.bt_serve.proofs.ReadLemmas.{consumes_more, no_feed_more}
-use Rattle.bt_serve.proofs.input.skip_line.Goals as goal
+use Rattle.bt_streams.proofs.ReadLemmas.{consumes_more, no_feed_more}
+use Rattle.bt_streams.proofs.input.skip_line.Goals as goal
 
 pub rest-preserved : goal.rest-preserved
 rest-preserved g c =

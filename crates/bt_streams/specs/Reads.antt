@@ -1,9 +1,13 @@
 -- What is read of a source: a byte, a line, a part of one, counted bytes.
-use Rattle.std.specs.Prelude.{◌≡◌, ℕ, ◌<◌, ◌++◌, List, [], ◌∷◌, length, take, Option, None, Some, Bool, true, false}
+use Rattle.std.specs.Prelude.{◌≡◌, ◌≢◌, ℕ, ◌<◌, ◌++◌, List, [], ◌∷◌, length, take, Option, None, Some, Bool, true, false}
 use Rattle.std.specs.Io.KnownBytes.{Consumes, IsAtEnd}
-use Rattle.bt_serve.specs.declared.input.LineEnd.{LineEnd}
-use Rattle.bt_serve.specs.declared.input.LineEnd.TheVariants.{Feed, End, None as Unended}
-use Rattle.bt_serve.specs.Reads.{HasNoFeed}
+use Rattle.bt_streams.specs.declared.input.LineEnd.{LineEnd}
+use Rattle.bt_streams.specs.declared.input.LineEnd.TheVariants.{Feed, End, None as Unended}
+
+-- no line feed
+abbrev pub HasNoFeed : List ℕ → Type 0
+HasNoFeed [] = Unit {0}
+HasNoFeed (b ∷ bs) = (b ≢ 10) × HasNoFeed bs
 
 -- one byte, or none at the end
 abbrev pub ReadsByte : Option (List ℕ) → Option (List ℕ) → Option ℕ → Type 0

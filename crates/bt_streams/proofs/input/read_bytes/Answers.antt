@@ -1,6 +1,6 @@
 use Rattle.std.proofs.Common.{arith}
-use Rattle.bt_serve.proofs.ReadLemmas.{consumes_part}
-use Rattle.bt_serve.proofs.input.read_bytes.Goals as goal
+use Rattle.bt_streams.proofs.ReadLemmas.{consumes_part}
+use Rattle.bt_streams.proofs.input.read_bytes.Goals as goal
 
 pub pieces-preserved : goal.pieces-preserved
 pieces-preserved g c =

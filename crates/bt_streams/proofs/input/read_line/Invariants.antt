@@ -1,7 +1,7 @@
 use Rattle.std.proofs.Common.{◌≡◌, ◌+◌, ◌≤◌, take}
 use Rattle.std.specs.Io.KnownBytes.{Consumes}
-use Rattle.bt_serve.specs.Reads.{HasNoFeed}
-use Rattle.bt_serve.proofs.input.read_line.Given as goal
+use Rattle.bt_streams.specs.Reads.{HasNoFeed}
+use Rattle.bt_streams.proofs.input.read_line.Given as goal
 
 abbrev pub invariant-line : goal.invariant-line
 invariant-line g l =

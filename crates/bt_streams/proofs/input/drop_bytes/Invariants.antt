@@ -1,6 +1,6 @@
 use Rattle.std.proofs.Common.{◌≡◌, ◌+◌, ◌≤◌, List, ℕ, length}
 use Rattle.std.specs.Io.KnownBytes.{Consumes}
-use Rattle.bt_serve.proofs.input.drop_bytes.Given as goal
+use Rattle.bt_streams.proofs.input.drop_bytes.Given as goal
 
 abbrev pub invariant-pieces : goal.invariant-pieces
 invariant-pieces g l =
