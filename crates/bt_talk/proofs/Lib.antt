@@ -1,0 +1,4 @@
+pub mod PlainLemmas
+pub mod SendLemmas
+pub mod TalkLemmas
+pub mod laws

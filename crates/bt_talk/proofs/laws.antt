@@ -1,0 +1,3 @@
+-- Only laws need these.
+pub mod OnceLemmas
+pub mod Laws

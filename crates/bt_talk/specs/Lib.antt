@@ -1,0 +1,4 @@
+pub mod Replies
+pub mod Handled
+pub mod Talks
+pub mod laws

@@ -1,0 +1,35 @@
+-- What is said to the frames of an input.
+use Rattle.std.specs.Prelude.{◌≡◌, ℕ, Bool, true, false, List, [], ◌++◌, Result, flat_map}
+use Rattle.serde_json.specs.Data.{Data}
+use Rattle.serde_json.specs.Written.{compact_text}
+use Rattle.bt_frames.specs.Framed.{framed}
+use Rattle.bt_rpc.specs.declared.answers.RpcError.{RpcError}
+use Rattle.bt_talk.specs.Handled.{Mail, IsFrame, Handled}
+
+-- messages, each in its frame
+abbrev pub sent : List Data → List ℕ
+sent messages = flat_map (λ m. framed (compact_text m)) messages
+
+-- Each frame of an input, up to what is left of it, was handled once, in order, from one state of the desk to another. The
+-- bytes are what was said, each message in its frame.
+pub data Talks {D : Type 0} (answers : D → List ℕ → Data → Result Data RpcError → List Data → D → Type 0)
+    (notes : D → List ℕ → Data → List Data → D → Type 0) : List ℕ → List ℕ → D → List ℕ → D → Type 0 where
+  -- no frame
+  none : (rest : List ℕ) (d : D) → Talks answers notes rest rest d [] d
+  -- one frame, and then others
+  more : (input frame mid rest bytes : List ℕ) (mail : Mail) (said : List Data) (d e f : D) → IsFrame frame mail → input ≡ frame ++ mid →
+      Handled answers notes mail d said e → Talks answers notes mid rest e bytes f → Talks answers notes input rest d (sent said ++ bytes) f
+
+-- One turn of the loop: the input has ended, or a frame was handled and what was said is written.
+abbrev pub Turn : {D : Type 0} → (D → List ℕ → Data → Result Data RpcError → List Data → D → Type 0) →
+    (D → List ℕ → Data → List Data → D → Type 0) → Bool → List ℕ → List ℕ → D → List ℕ → List ℕ → D → Type 0
+Turn {D} answers notes true input rest d said said' e = (input ≡ []) × (rest ≡ []) × (said' ≡ said) × (e ≡ d)
+Turn {D} answers notes false input rest d said said' e =
+    (frame : List ℕ) × (mail : Mail) × (messages : List Data) × IsFrame frame mail × (input ≡ frame ++ rest) ×
+    Handled answers notes mail d messages e × (said' ≡ said ++ sent messages)
+
+-- The whole loop: each frame was handled, up to the message that ended the loop or to the input's end.
+abbrev pub Talked : {D : Type 0} → (D → List ℕ → Data → Result Data RpcError → List Data → D → Type 0) →
+    (D → List ℕ → Data → List Data → D → Type 0) → (D → Bool) → Bool → List ℕ → List ℕ → D → List ℕ → D → Type 0
+Talked {D} answers notes is_over true input rest d bytes e = Talks answers notes input rest d bytes e × (is_over e ≡ true)
+Talked {D} answers notes is_over false input rest d bytes e = Talks answers notes input rest d bytes e × (rest ≡ [])

@@ -1,0 +1,3 @@
+-- Only laws need these.
+pub mod Once
+pub mod Laws

@@ -1,0 +1,79 @@
+//! The loop.
+
+ghost use Rattle.std.specs.Prelude.{◌≡◌, ℕ, List, ◌-◌, ◌^◌, ◌<◌, ◌++◌, Some, OnOk, IfOk, true};
+ghost use Rattle.bt_talk.specs.Talks.{Turn, Talked};
+
+use crate::desk::Desk;
+use crate::handling::{error_without_id, handle};
+use crate::sending::{TalkFault, send_all};
+use bt_frames::{Frame, read_frame};
+use bt_rpc::RpcError;
+use bt_streams::{Sink, Source};
+use std::alloc::Global;
+
+/// Reads the next frame, handles it and writes what is said. Returns true at the end of the input.
+fn turn<S: Source, K: Sink, D: Desk>(
+    alloc: Global,
+    source: &mut S,
+    sink: &mut K,
+    desk: &mut D,
+) -> Result<bool, TalkFault>
+    requires reads { (S.seen source.old).failures < 2 ^ 64 - 1 }
+    requires writes { (K.seen sink.old).failures < 2 ^ 64 - 1 }
+    ensures turn { (input said : List ℕ) → (S.seen source.old).rest ≡ Some input →
+        (K.seen sink.old).contents ≡ Some said →
+        IfOk result (λ over. (rest said' : List ℕ) × ((S.seen source.new).rest ≡ Some rest) ×
+        ((K.seen sink.new).contents ≡ Some said') ×
+        Turn D.answers D.notes over input rest desk.old said said' desk.new) }
+    ensures reads { OnOk result ((S.seen source.new).failures ≡ (S.seen source.old).failures) }
+    ensures writes { OnOk result ((K.seen sink.new).failures ≡ (K.seen sink.old).failures) }
+    ensures lowers { OnOk result ((S.seen source.new).reads_left < (S.seen source.old).reads_left) }
+{
+    match read_frame(alloc, source) {
+        Err(_) => Err(TalkFault::ReadFailed),
+        Ok(Frame::End) => Ok(true),
+        Ok(Frame::Cut) => Err(TalkFault::Truncated),
+        Ok(Frame::NoLength) => {
+            let said = error_without_id(alloc, RpcError::ParseError)?;
+            send_all(alloc, sink, &said)?;
+            Ok(false)
+        }
+        Ok(Frame::TooLarge) => {
+            let said = error_without_id(alloc, RpcError::InternalError)?;
+            send_all(alloc, sink, &said)?;
+            Ok(false)
+        }
+        Ok(Frame::Body(body)) => {
+            let said = handle(alloc, desk, &body)?;
+            send_all(alloc, sink, &said)?;
+            Ok(false)
+        }
+    }
+}
+
+/// Reads frames, handles each once and in order, and writes what is said. Returns true after the message that ends the
+/// loop, false at the end of the input, and a fault if a read or a write fails, the input ends inside a frame, or memory
+/// runs out twice.
+pub fn talk<S: Source, K: Sink, D: Desk>(
+    alloc: Global,
+    source: &mut S,
+    sink: &mut K,
+    desk: &mut D,
+) -> Result<bool, TalkFault>
+    requires reads { (S.seen source.old).failures < 2 ^ 64 - 1 }
+    requires writes { (K.seen sink.old).failures < 2 ^ 64 - 1 }
+    ensures all { (input said : List ℕ) → (S.seen source.old).rest ≡ Some input →
+        (K.seen sink.old).contents ≡ Some said →
+        IfOk result (λ over. (rest bytes : List ℕ) × ((S.seen source.new).rest ≡ Some rest) ×
+        ((K.seen sink.new).contents ≡ Some (said ++ bytes)) ×
+        Talked D.answers D.notes D.is_over over input rest desk.old bytes desk.new) }
+{
+    'turns: loop {
+        if turn(alloc, source, sink, desk)? {
+            return Ok(false);
+        }
+        if desk.is_over() {
+            return Ok(true);
+        }
+    }
+}
