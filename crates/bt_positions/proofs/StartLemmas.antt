@@ -1,10 +1,13 @@
 -- Where lines begin.
 use Rattle.std.specs.List.Sorted.{IsNonDecreasingBy}
-use Rattle.std.proofs.Common.{◌≡◌, ℕ, zero, suc, ◌+◌, ◌-◌, ◌<◌, ◌≤◌, Bool, true, false, cond, List, [], ◌∷◌, ◌++◌, length, get_or, refl, sym, ap, subst, ◌∙◌, append_assoc, append-nil, arith}
+use Rattle.std.proofs.Common.{◌≡◌, ℕ, zero, suc, ◌+◌, ◌-◌, ◌<◌, ◌≤◌, Bool, true, false, cond, List, [], ◌∷◌, ◌++◌, length, drop, get_or, Some, None, refl, sym, ap, subst, ◌∙◌, append_assoc, append-nil, arith}
 use Rattle.std.proofs.lemmas.Grind.{common_steps}
+use Rattle.std.proofs.lemmas.List.{drop_all, drop_more}
+use Rattle.memchr.specs.Find.{IsFirstByte, is_byte2}
+use Rattle.std.specs.Prelude.{◌==◌, ◌||◌, ◌&&◌, not}
 use Rattle.bt_positions.specs.declared.lines.Lines.{Lines}
-use Rattle.bt_positions.specs.declared.lines.Lines.TheVariants.{Editor}
-use Rattle.bt_positions.specs.Lines.{ends_line, place_of_line, line_ends}
+use Rattle.bt_positions.specs.declared.lines.Lines.TheVariants.{Editor, Bibtex}
+use Rattle.bt_positions.specs.Lines.{begins_with_feed, ends_line, place_of_line, line_ends}
 use Rattle.bt_positions.specs.inner.LineStarts.{line_starts}
 
 -- the starts of a text whose first byte ends a line or not, by those of the rest, which begins at this offset
@@ -19,6 +22,44 @@ one_more l xs o b t = go (ends_line l b t)
     go : (e : Bool) → (xs ++ cond e (suc o ∷ []) []) ++ line_starts l (suc o) t ≡ xs ++ starts_by e (suc o) (line_starts l (suc o) t)
     go true = append_assoc xs (suc o ∷ []) (line_starts l (suc o) t)
     go false = ap (λ s. s ++ line_starts l (suc o) t) (append-nil xs)
+
+editor_none : (x y z : Bool) → ((x || y) ≡ true → ⊥) → (x || (y && z)) ≡ false
+editor_none true y z n = absurd (n refl)
+editor_none false true z n = absurd (n refl)
+editor_none false false z n = refl
+
+bibtex_none : (x y : Bool) → ((x || y) ≡ true → ⊥) → x ≡ false
+bibtex_none true y n = absurd (n refl)
+bibtex_none false y n = refl
+
+no_end : (l : Lines) (b : ℕ) (t : List ℕ) → (is_byte2 10 13 b ≡ true → ⊥) → ends_line l b t ≡ false
+no_end Editor b t n = editor_none (b == 10) (b == 13) (not (begins_with_feed t)) n
+no_end Bibtex b t n = bibtex_none (b == 10) (b == 13) n
+
+-- No line ends before the first LF or CR.
+skipped : (l : Lines) (o k : ℕ) (bs : List ℕ) → ((j : ℕ) → j < k → is_byte2 10 13 (get_or bs j 0) ≡ true → ⊥) → k ≤ length bs →
+    line_starts l o bs ≡ line_starts l (o + k) (drop k bs)
+skipped l o zero bs n le = ap (λ m. line_starts l m bs) (omega arith)
+skipped l o (suc k) [] n le = absurd (omega (arith, le))
+skipped l o (suc k) (b ∷ bs) n le =
+    ap (λ e. starts_by e (suc o) (line_starts l (suc o) bs)) (no_end l b bs (n 0 (omega arith)))
+    ∙ skipped l (suc o) k bs (λ j lt. n (suc j) (omega (arith, lt))) (omega (arith, le))
+    ∙ ap (λ m. line_starts l m (drop k bs)) (omega arith)
+
+pub no_more : (l : Lines) (o : ℕ) (bs : List ℕ) → IsFirstByte (is_byte2 10 13) bs None → line_starts l o bs ≡ []
+no_more l o bs found =
+    skipped l o (length bs) bs (λ j lt. found j (omega arith) (omega (arith, lt))) (omega arith)
+    ∙ ap (line_starts l (o + length bs)) (drop_all (length bs) bs (omega arith))
+
+-- The line that the first LF or CR may end.
+pub found_one : (l : Lines) (xs : List ℕ) (o k m b : ℕ) (bs t : List ℕ) → IsFirstByte (is_byte2 10 13) bs (Some k) → b ≡ get_or bs k 0 → t ≡ drop (k + 1) bs →
+    m ≡ o + (k + 1) → (xs ++ cond (ends_line l b t) (m ∷ []) []) ++ line_starts l m t ≡ xs ++ line_starts l o bs
+found_one l xs o k m b bs t found is rest next =
+    let step = skipped l o k bs (λ j lt. found.0.before j (omega arith) (omega (arith, lt))) (omega (arith, found.0.high)) in
+    let here : drop k bs ≡ b ∷ t = drop_more bs k 0 found.0.high ∙ ap (λ x. x ∷ drop (k + 1) bs) (sym is) ∙ ap (λ s. b ∷ s) (sym rest) in
+    let suc_is : m ≡ suc (o + k) = omega (arith, next) in
+    subst (λ n. (xs ++ cond (ends_line l b t) (n ∷ []) []) ++ line_starts l n t ≡ xs ++ line_starts l o bs) (sym suc_is)
+    (one_more l xs (o + k) b t ∙ ap (λ s. xs ++ line_starts l (o + k) s) (sym here) ∙ ap (λ s. xs ++ s) (sym step))
 
 pub first_begins : (l : Lines) (n : ℕ) (t : List ℕ) → n ≡ 0 → 0 ≡ place_of_line l n t
 first_begins l zero [] e = refl

@@ -4,6 +4,7 @@ ghost use Rattle.std.specs.Prelude.{◌≡◌, ◌≤◌, [], ◌∷◌, ◌++�
 ghost use Rattle.bt_positions.specs.Lines.{begins_with_feed, ends_line, first_line};
 ghost use Rattle.bt_positions.specs.inner.LineStarts.{line_starts};
 
+use memchr::memchr2;
 use std::alloc::{AllocError, Global};
 
 /// Whose lines are counted.
@@ -51,10 +52,12 @@ pub fn line_starts(alloc: Global, lines: Lines, text: &[u8]) -> Result<Vec<usize
     let mut starts = Vec::new(alloc);
     let mut place = 0;
     let mut rest = text;
-    'bytes: while let [first, others @ ..] = rest {
-        place += 1;
-        push_if(&mut starts, ends_line(lines, *first, others), place)?;
+    'ends: while let Some(count) = memchr2(b'\n', b'\r', rest) {
+        let byte = rest[count];
+        let (_, others) = rest.split_at(count + 1);
         rest = others;
+        place += count + 1;
+        push_if(&mut starts, ends_line(lines, byte, rest), place)?;
     }
     Ok(starts)
 }
