@@ -1,8 +1,8 @@
 //! The texts that an editor holds open, and the files that follow them.
 //!
-//! The editor sends a text once, and then its changes. Each change is made to the document's own copy, and the files are
-//! given the new text. They may refuse it (a name or a size that isn't admitted); then the document has the editor's text
-//! all the same, and says that the files are behind.
+//! The editor sends a text once, and then its changes. Each change is made to the document's own copy, and the files
+//! are given the new text. They may refuse it (a name or a size that isn't admitted); then the document has the
+//! editor's text all the same, and says that the files are behind.
 #![tactic(auto)]
 
 mod changes;

@@ -107,8 +107,8 @@ pub fn close(alloc: Global, documents: &mut Sequence<Document>, name: &[u8])
     }
 }
 
-/// Makes changes to the document of a name, in order, and gives the files its new text. Says whether they took it. If no
-/// document has this name, or memory runs out, nothing changes.
+/// Makes changes to the document of a name, in order, and gives the files its new text. Says whether they took it. If
+/// no document has this name, or memory runs out, nothing changes.
 pub fn change<F: Files>(
     alloc: Global,
     files: &mut F,

@@ -34,8 +34,8 @@ fn read_byte<S: Source>(source: &mut S) -> Result<Option<u8>, StreamFailed>
     }
 }
 
-/// Reads a line into the buffer, without its line feed, and returns how it ends. After a failure the buffer has the part
-/// that was read.
+/// Reads a line into the buffer, without its line feed, and returns how it ends. After a failure the buffer has the
+/// part that was read.
 pub fn read_line<S: Source>(source: &mut S, buffer: &mut [u8]) -> Result<LineEnd, StreamFailed>
     requires { (S.seen source.old).failures < 2 ^ 64 - 1 }
     ensures line { IfOk result (ReadsLine (S.seen source.old).rest (S.seen source.new).rest buffer.new) }

@@ -46,8 +46,8 @@ abbrev pub answer_to : Data → Result Data RpcError → Data
 answer_to id (Ok d) = response id d
 answer_to id (Err error) = error_response id error
 
--- What is said to a message. `answers` and `notes` are the desk's: how it may answer a request, and what it may say to a
--- notification. Either may run out of memory, and then nothing has changed.
+-- What is said to a message. `answers` and `notes` are the desk's: how it may answer a request, and what it may say to
+-- a notification. Either may run out of memory, and then nothing has changed.
 abbrev pub CarriedOut : {D : Type 0} → (D → List ℕ → Data → Result Data RpcError → List Data → D → Type 0) →
     (D → List ℕ → Data → List Data → D → Type 0) → Kind → Data → D → List Data → D → Type 0
 CarriedOut {D} answers notes (request id method) m d said e =

@@ -10,15 +10,16 @@ use Rattle.bt_talk.specs.Handled.{Mail, IsFrame, Handled}
 abbrev pub sent : List Data → List ℕ
 sent messages = flat_map (λ m. framed (compact_text m)) messages
 
--- Each frame of an input, up to what is left of it, was handled once, in order, from one state of the desk to another. The
--- bytes are what was said, each message in its frame.
+-- Each frame of an input, up to what is left of it, was handled once, in order, from one state of the desk to another.
+-- The bytes are what was said, each message in its frame.
 pub data Talks {D : Type 0} (answers : D → List ℕ → Data → Result Data RpcError → List Data → D → Type 0)
     (notes : D → List ℕ → Data → List Data → D → Type 0) : List ℕ → List ℕ → D → List ℕ → D → Type 0 where
   -- no frame
   none : (rest : List ℕ) (d : D) → Talks answers notes rest rest d [] d
   -- one frame, and then others
-  more : (input frame mid rest bytes : List ℕ) (mail : Mail) (said : List Data) (d e f : D) → IsFrame frame mail → input ≡ frame ++ mid →
-      Handled answers notes mail d said e → Talks answers notes mid rest e bytes f → Talks answers notes input rest d (sent said ++ bytes) f
+  more : (input frame mid rest bytes : List ℕ) (mail : Mail) (said : List Data) (d e f : D) → IsFrame frame mail →
+      input ≡ frame ++ mid → Handled answers notes mail d said e → Talks answers notes mid rest e bytes f →
+      Talks answers notes input rest d (sent said ++ bytes) f
 
 -- One turn of the loop: the input has ended, or a frame was handled and what was said is written.
 abbrev pub Turn : {D : Type 0} → (D → List ℕ → Data → Result Data RpcError → List Data → D → Type 0) →
@@ -31,5 +32,6 @@ Turn {D} answers notes false input rest d said said' e =
 -- The whole loop: each frame was handled, up to the message that ended the loop or to the input's end.
 abbrev pub Talked : {D : Type 0} → (D → List ℕ → Data → Result Data RpcError → List Data → D → Type 0) →
     (D → List ℕ → Data → List Data → D → Type 0) → (D → Bool) → Bool → List ℕ → List ℕ → D → List ℕ → D → Type 0
-Talked {D} answers notes is_over true input rest d bytes e = Talks answers notes input rest d bytes e × (is_over e ≡ true)
+Talked {D} answers notes is_over true input rest d bytes e =
+    Talks answers notes input rest d bytes e × (is_over e ≡ true)
 Talked {D} answers notes is_over false input rest d bytes e = Talks answers notes input rest d bytes e × (rest ≡ [])

@@ -4,8 +4,8 @@ use bt_rpc::RpcError;
 use serde_json::Value;
 use std::alloc::{AllocError, Global};
 
-/// A desk's reply to a request: its result or an error, and the notes (notifications and the server's own requests) that
-/// are sent before the answer.
+/// A desk's reply to a request: its result or an error, and the notes (notifications and the server's own requests)
+/// that are sent before the answer.
 #[derive(Drop)]
 pub struct Reply {
     pub outcome: Result<Value, RpcError>,
@@ -22,12 +22,12 @@ pub trait Desk {
     ghost use Rattle.bt_talk.specs.Handled.{IsNote};
     ghost use Rattle.bt_talk.specs.Replies.{outcome_of, IsPlain};
 
-    /// Whether a request may be answered so: the state before, its method, the whole message, the outcome, the notes that
-    /// are sent before the answer, the state after.
+    /// Whether a request may be answered so: the state before, its method, the whole message, the outcome, the notes
+    /// that are sent before the answer, the state after.
     ghost answers: { Self → List ℕ → Data → Result Data Refusal → List Data → Self → Type 0 };
 
-    /// Whether a notification may be carried out so: the state before, its method, the whole message, the notes that are
-    /// sent, the state after.
+    /// Whether a notification may be carried out so: the state before, its method, the whole message, the notes that
+    /// are sent, the state after.
     ghost notes: { Self → List ℕ → Data → List Data → Self → Type 0 };
 
     /// Whether the loop ends.

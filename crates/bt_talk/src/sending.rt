@@ -57,7 +57,8 @@ fn send<K: Sink>(alloc: Global, sink: &mut K, message: &Value) -> Result<(), Tal
 pub fn send_all<K: Sink>(alloc: Global, sink: &mut K, messages: &[Value]) -> Result<(), TalkFault>
     requires failures { (K.seen sink.old).failures < 2 ^ 64 - 1 }
     requires plain { AllByRecursion HasNoFloat (map view messages.now) }
-    ensures sent { OnOk result (Appends (K.seen sink.old).contents (K.seen sink.new).contents (sent (map view messages.now))) }
+    ensures sent { OnOk result (Appends (K.seen sink.old).contents (K.seen sink.new).contents
+        (sent (map view messages.now))) }
     ensures failures { OnOk result ((K.seen sink.new).failures ≡ (K.seen sink.old).failures) }
 {
     'each: for message in messages {

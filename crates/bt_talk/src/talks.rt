@@ -52,8 +52,8 @@ fn turn<S: Source, K: Sink, D: Desk>(
 }
 
 /// Reads frames, handles each once and in order, and writes what is said. Returns true after the message that ends the
-/// loop, false at the end of the input, and a fault if a read or a write fails, the input ends inside a frame, or memory
-/// runs out twice.
+/// loop, false at the end of the input, and a fault if a read or a write fails, the input ends inside a frame, or
+/// memory runs out twice.
 pub fn talk<S: Source, K: Sink, D: Desk>(
     alloc: Global,
     source: &mut S,

@@ -11,4 +11,5 @@ pub record WidthsAddUp : Type 0 where
 
 -- An offset that cuts nothing has a position, which has that offset.
 pub record OffsetsComeBack : Type 0 where
-  pub back : (c : Counting) (n : ℕ) (text : List ℕ) → is_place c n text ≡ true → offset_of c (position_of c n text) text ≡ n
+  pub back : (c : Counting) (n : ℕ) (text : List ℕ) → is_place c n text ≡ true →
+      offset_of c (position_of c n text) text ≡ n

@@ -8,7 +8,8 @@ use Rattle.bt_talk.specs.laws.Once.{IsAnsweredOnce, IsNotAnswered}
 
 -- A request gets exactly one answer, which has its id or says that there was no memory to read the request. A
 -- notification gets none, unless there was no memory to read it.
-pub record RequestsAreAnsweredOnce {D : Type 0} (answers : D → List ℕ → Data → Result Data RpcError → List Data → D → Type 0)
+pub record RequestsAreAnsweredOnce {D : Type 0}
+    (answers : D → List ℕ → Data → Result Data RpcError → List Data → D → Type 0)
     (notes : D → List ℕ → Data → List Data → D → Type 0) : Type 0 where
   pub once : (body method : List ℕ) (m id : Data) (said : List Data) (d e : D) → IsJson body m →
       kind_of m ≡ request id method → Handled answers notes (text body) d said e → IsAnsweredOnce id said
