@@ -1,11 +1,11 @@
 -- From what was read and written to a turn, and from turns to the talk.
-use Rattle.std.proofs.Common.{◌≡◌, ℕ, List, [], ◌++◌, ap, sym, ◌∙◌, append_assoc, append-nil, subst, Option, Some, true, false, Result}
+use Rattle.std.proofs.Common.{◌≡◌, ℕ, List, [], ◌++◌, ap, sym, ◌∙◌, append_assoc, append-nil, subst, Option, Some, Bool, true, false, Result}
 use Rattle.std.specs.Io.KnownBytes.{Consumes, Appends}
 use Rattle.bt_streams.proofs.KnownLemmas.{consumed, appended}
 use Rattle.serde_json.specs.Data.{Data}
 use Rattle.bt_rpc.specs.declared.answers.RpcError.{RpcError}
 use Rattle.bt_talk.specs.Handled.{Mail, IsFrame, Handled}
-use Rattle.bt_talk.specs.Talks.{Talks, none, more, Turn, sent}
+use Rattle.bt_talk.specs.Talks.{Talks, ends, stops, goes_on, Turn, sent}
 
 -- a turn that read this frame, handled it, and wrote what was said
 pub turned : {D : Type 0} (answers : D → List ℕ → Data → Result Data RpcError → List Data → D → Type 0)
@@ -19,45 +19,44 @@ turned answers notes old new held held' bytes input said mail messages d e p is 
 
 -- the talk so far, whatever follows
 abbrev pub TalksOn : {D : Type 0} → (D → List ℕ → Data → Result Data RpcError → List Data → D → Type 0) →
-    (D → List ℕ → Data → List Data → D → Type 0) → List ℕ → List ℕ → D → List ℕ → D → Type 0
-TalksOn {D} answers notes input mid d told e =
-    (rest bytes : List ℕ) (f : D) → Talks answers notes mid rest e bytes f → Talks answers notes input rest d (told ++ bytes) f
+    (D → List ℕ → Data → List Data → D → Type 0) → (D → Bool) → List ℕ → List ℕ → D → List ℕ → D → Type 0
+TalksOn {D} answers notes is_over input mid d told e =
+    (over : Bool) (rest bytes : List ℕ) (f : D) → Talks answers notes is_over over mid rest e bytes f → Talks answers notes is_over over input rest d (told ++ bytes) f
 
 nothing_more : {D : Type 0} (answers : D → List ℕ → Data → Result Data RpcError → List Data → D → Type 0)
-    (notes : D → List ℕ → Data → List Data → D → Type 0) (mid rest : List ℕ) (d e : D) → mid ≡ rest → e ≡ d → Talks answers notes mid rest d [] e
-nothing_more answers notes mid rest d e p q = rw (p, q) (none rest d)
+    (notes : D → List ℕ → Data → List Data → D → Type 0) (is_over : D → Bool) (mid rest : List ℕ) (d e : D) → mid ≡ [] → rest ≡ [] → e ≡ d → Talks answers notes is_over false mid rest d [] e
+nothing_more answers notes is_over mid rest d e p q r = rw (p, q, r) (ends d)
 
 -- the input is over
 pub talk_ends : {D : Type 0} (answers : D → List ℕ → Data → Result Data RpcError → List Data → D → Type 0)
-    (notes : D → List ℕ → Data → List Data → D → Type 0) (input mid rest said told said' : List ℕ) (held' : Option (List ℕ)) (d e f : D) → TalksOn answers notes input mid d told e →
-    Turn answers notes true mid rest e (said ++ told) said' f → held' ≡ Some said' →
-    (bytes : List ℕ) × (held' ≡ Some (said ++ bytes)) × Talks answers notes input rest d bytes f × (rest ≡ [])
-talk_ends answers notes input mid rest said told said' held' d e f on t h = (
+    (notes : D → List ℕ → Data → List Data → D → Type 0) (is_over : D → Bool) (input mid rest said told said' : List ℕ) (held' : Option (List ℕ)) (d e f : D) →
+    TalksOn answers notes is_over input mid d told e → Turn answers notes true mid rest e (said ++ told) said' f → held' ≡ Some said' →
+    (bytes : List ℕ) × (held' ≡ Some (said ++ bytes)) × Talks answers notes is_over false input rest d bytes f
+talk_ends answers notes is_over input mid rest said told said' held' d e f on t h = (
   told ++ [],
   h ∙ ap Some (t.2 ∙ ap (λ x. said ++ x) (sym (append-nil told))),
-  on rest [] f (nothing_more answers notes mid rest e f (t.0 ∙ sym t.1) t.3),
-  t.1,
+  on false rest [] f (nothing_more answers notes is_over mid rest e f t.0 t.1 t.3),
 )
 
 -- one more frame was handled
 pub talk_goes_on : {D : Type 0} (answers : D → List ℕ → Data → Result Data RpcError → List Data → D → Type 0)
-    (notes : D → List ℕ → Data → List Data → D → Type 0) (input mid rest said told said' : List ℕ) (held' : Option (List ℕ)) (d e f : D) → TalksOn answers notes input mid d told e →
-    Turn answers notes false mid rest e (said ++ told) said' f → held' ≡ Some said' →
-    (told' : List ℕ) × (held' ≡ Some (said ++ told')) × TalksOn answers notes input rest d told' f
-talk_goes_on answers notes input mid rest said told said' held' d e f on t h =
+    (notes : D → List ℕ → Data → List Data → D → Type 0) (is_over : D → Bool) (input mid rest said told said' : List ℕ) (held' : Option (List ℕ)) (d e f : D) →
+    TalksOn answers notes is_over input mid d told e → Turn answers notes false mid rest e (said ++ told) said' f → held' ≡ Some said' → is_over f ≡ false →
+    (told' : List ℕ) × (held' ≡ Some (said ++ told')) × TalksOn answers notes is_over input rest d told' f
+talk_goes_on answers notes is_over input mid rest said told said' held' d e f on t h o =
     let words = sent t.2 in (
       told ++ words,
       h ∙ ap Some (t.6 ∙ append_assoc said told words),
-      λ r bytes k more_talk.
-          subst (λ x. Talks answers notes input r d x k) (sym (append_assoc told words bytes))
-          (on r (words ++ bytes) k (more mid t.0 rest r bytes t.1 t.2 e f k t.3 t.4 t.5 more_talk)),
+      λ over r bytes k more_talk.
+          subst (λ x. Talks answers notes is_over over input r d x k) (sym (append_assoc told words bytes))
+          (on over r (words ++ bytes) k (goes_on over mid t.0 rest r bytes t.1 t.2 e f k t.3 t.4 t.5 o more_talk)),
     )
 
 -- the last frame ended the talk
 pub talk_stops : {D : Type 0} (answers : D → List ℕ → Data → Result Data RpcError → List Data → D → Type 0)
-    (notes : D → List ℕ → Data → List Data → D → Type 0) (input mid rest said told said' : List ℕ) (held' : Option (List ℕ)) (d e f : D) → TalksOn answers notes input mid d told e →
-    Turn answers notes false mid rest e (said ++ told) said' f → held' ≡ Some said' →
-    (bytes : List ℕ) × (held' ≡ Some (said ++ bytes)) × Talks answers notes input rest d bytes f
-talk_stops answers notes input mid rest said told said' held' d e f on t h =
-    let k = talk_goes_on answers notes input mid rest said told said' held' d e f on t h in
-    (k.0 ++ [], k.1 ∙ ap (λ x. Some (said ++ x)) (sym (append-nil k.0)), k.2 rest [] f (none rest f))
+    (notes : D → List ℕ → Data → List Data → D → Type 0) (is_over : D → Bool) (input mid rest said told said' : List ℕ) (held' : Option (List ℕ)) (d e f : D) →
+    TalksOn answers notes is_over input mid d told e → Turn answers notes false mid rest e (said ++ told) said' f → held' ≡ Some said' → is_over f ≡ true →
+    (bytes : List ℕ) × (held' ≡ Some (said ++ bytes)) × Talks answers notes is_over true input rest d bytes f
+talk_stops answers notes is_over input mid rest said told said' held' d e f on t h o =
+    let words = sent t.2 in
+    (told ++ words, h ∙ ap Some (t.6 ∙ append_assoc said told words), on true rest words f (stops mid t.0 rest t.1 t.2 e f t.3 t.4 t.5 o))

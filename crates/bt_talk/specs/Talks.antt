@@ -11,15 +11,22 @@ abbrev pub sent : List Data → List ℕ
 sent messages = flat_map (λ m. framed (compact_text m)) messages
 
 -- Each frame of an input, up to what is left of it, was handled once, in order, from one state of the desk to another.
+-- The loop ends at the first frame after which the desk is over (the truth value is true), or where the input ends.
 -- The bytes are what was said, each message in its frame.
 pub data Talks {D : Type 0} (answers : D → List ℕ → Data → Result Data RpcError → List Data → D → Type 0)
-    (notes : D → List ℕ → Data → List Data → D → Type 0) : List ℕ → List ℕ → D → List ℕ → D → Type 0 where
-  -- no frame
-  none : (rest : List ℕ) (d : D) → Talks answers notes rest rest d [] d
-  -- one frame, and then others
-  more : (input frame mid rest bytes : List ℕ) (mail : Mail) (said : List Data) (d e f : D) → IsFrame frame mail →
-      input ≡ frame ++ mid → Handled answers notes mail d said e → Talks answers notes mid rest e bytes f →
-      Talks answers notes input rest d (sent said ++ bytes) f
+    (notes : D → List ℕ → Data → List Data → D → Type 0) (is_over : D → Bool) :
+    Bool → List ℕ → List ℕ → D → List ℕ → D → Type 0 where
+  -- the input has ended
+  ends : (d : D) → Talks answers notes is_over false [] [] d [] d
+  -- the desk is over after this frame
+  stops : (input frame rest : List ℕ) (mail : Mail) (said : List Data) (d e : D) → IsFrame frame mail →
+      input ≡ frame ++ rest → Handled answers notes mail d said e → is_over e ≡ true →
+      Talks answers notes is_over true input rest d (sent said) e
+  -- it isn't over after this frame, and the loop goes on
+  goes_on : (over : Bool) (input frame mid rest bytes : List ℕ) (mail : Mail) (said : List Data) (d e f : D) →
+      IsFrame frame mail → input ≡ frame ++ mid → Handled answers notes mail d said e → is_over e ≡ false →
+      Talks answers notes is_over over mid rest e bytes f →
+      Talks answers notes is_over over input rest d (sent said ++ bytes) f
 
 -- One turn of the loop: the input has ended, or a frame was handled and what was said is written.
 abbrev pub Turn : {D : Type 0} → (D → List ℕ → Data → Result Data RpcError → List Data → D → Type 0) →
@@ -28,10 +35,3 @@ Turn {D} answers notes true input rest d said said' e = (input ≡ []) × (rest 
 Turn {D} answers notes false input rest d said said' e =
     (frame : List ℕ) × (mail : Mail) × (messages : List Data) × IsFrame frame mail × (input ≡ frame ++ rest) ×
     Handled answers notes mail d messages e × (said' ≡ said ++ sent messages)
-
--- The whole loop: each frame was handled, up to the message that ended the loop or to the input's end.
-abbrev pub Talked : {D : Type 0} → (D → List ℕ → Data → Result Data RpcError → List Data → D → Type 0) →
-    (D → List ℕ → Data → List Data → D → Type 0) → (D → Bool) → Bool → List ℕ → List ℕ → D → List ℕ → D → Type 0
-Talked {D} answers notes is_over true input rest d bytes e =
-    Talks answers notes input rest d bytes e × (is_over e ≡ true)
-Talked {D} answers notes is_over false input rest d bytes e = Talks answers notes input rest d bytes e × (rest ≡ [])

@@ -1,7 +1,7 @@
 //! The loop.
 
 ghost use Rattle.std.specs.Prelude.{◌≡◌, ℕ, List, ◌-◌, ◌^◌, ◌<◌, ◌++◌, Some, OnOk, IfOk, true};
-ghost use Rattle.bt_talk.specs.Talks.{Turn, Talked};
+ghost use Rattle.bt_talk.specs.Talks.{Turn, Talks};
 
 use crate::desk::Desk;
 use crate::handling::{error_without_id, handle};
@@ -51,9 +51,9 @@ fn turn<S: Source, K: Sink, D: Desk>(
     }
 }
 
-/// Reads frames, handles each once and in order, and writes what is said. Returns true after the message that ends the
-/// loop, false at the end of the input, and a fault if a read or a write fails, the input ends inside a frame, or
-/// memory runs out twice.
+/// Reads frames, handles each once and in order, and writes what is said. Returns true after the first message that
+/// leaves the desk over, false at the end of the input, and a fault if a read or a write fails, the input ends inside a
+/// frame, or there is no memory to build or write what is said.
 pub fn talk<S: Source, K: Sink, D: Desk>(
     alloc: Global,
     source: &mut S,
@@ -66,7 +66,7 @@ pub fn talk<S: Source, K: Sink, D: Desk>(
         (K.seen sink.old).contents ≡ Some said →
         IfOk result (λ over. (rest bytes : List ℕ) × ((S.seen source.new).rest ≡ Some rest) ×
         ((K.seen sink.new).contents ≡ Some (said ++ bytes)) ×
-        Talked D.answers D.notes D.is_over over input rest desk.old bytes desk.new) }
+        Talks D.answers D.notes D.is_over over input rest desk.old bytes desk.new) }
 {
     'turns: loop {
         if turn(alloc, source, sink, desk)? {
