@@ -1,7 +1,8 @@
 -- What is said to the frames of an input.
-use Rattle.std.specs.Prelude.{◌≡◌, ℕ, Bool, true, false, List, [], ◌++◌, Result, flat_map}
+use Rattle.std.specs.Prelude.{◌≡◌, ℕ, Bool, true, false, List, [], ◌++◌, Some, Result, IfOk, flat_map}
 use Rattle.serde_json.specs.Data.{Data}
 use Rattle.serde_json.specs.Written.{compact_text}
+use Rattle.bt_streams.specs.Seen.{Drawn, Sunk}
 use Rattle.bt_frames.specs.Framed.{framed}
 use Rattle.bt_rpc.specs.declared.answers.RpcError.{RpcError}
 use Rattle.bt_talk.specs.Handled.{Mail, IsFrame, Handled}
@@ -35,3 +36,19 @@ Turn {D} answers notes true input rest d said said' e = (input ≡ []) × (rest 
 Turn {D} answers notes false input rest d said said' e =
     (frame : List ℕ) × (mail : Mail) × (messages : List Data) × IsFrame frame mail × (input ≡ frame ++ rest) ×
     Handled answers notes mail d messages e × (said' ≡ said ++ sent messages)
+
+-- what a call does of which, where source and sink show their bytes, such a turn is true
+abbrev pub TakesTurn : {D E : Type 0} → (Bool → List ℕ → List ℕ → D → List ℕ → List ℕ → D → Type 0) →
+    Drawn → Drawn → Sunk → Sunk → D → D → Result Bool E → Type 0
+TakesTurn turn source source' sink sink' d e result =
+    (input said : List ℕ) → source.rest ≡ Some input → sink.contents ≡ Some said →
+    IfOk result (λ over. (rest said' : List ℕ) × (source'.rest ≡ Some rest) × (sink'.contents ≡ Some said') ×
+    turn over input rest d said said' e)
+
+-- what a call does of which such a talk is true; its bytes are written after what the sink held
+abbrev pub Holds : {D E : Type 0} → (Bool → List ℕ → List ℕ → D → List ℕ → D → Type 0) →
+    Drawn → Drawn → Sunk → Sunk → D → D → Result Bool E → Type 0
+Holds talk source source' sink sink' d e result =
+    (input said : List ℕ) → source.rest ≡ Some input → sink.contents ≡ Some said →
+    IfOk result (λ over. (rest bytes : List ℕ) × (source'.rest ≡ Some rest) × (sink'.contents ≡ Some (said ++ bytes)) ×
+    talk over input rest d bytes e)

@@ -1,7 +1,7 @@
 //! The loop.
 
-ghost use Rattle.std.specs.Prelude.{◌≡◌, ℕ, List, ◌-◌, ◌^◌, ◌<◌, ◌++◌, Some, OnOk, IfOk, true};
-ghost use Rattle.bt_talk.specs.Talks.{Turn, Talks};
+ghost use Rattle.std.specs.Prelude.{◌≡◌, ◌-◌, ◌^◌, ◌<◌, OnOk};
+ghost use Rattle.bt_talk.specs.Talks.{Turn, Talks, TakesTurn, Holds};
 
 use crate::desk::Desk;
 use crate::handling::{error_without_id, handle};
@@ -20,11 +20,8 @@ fn turn<S: Source, K: Sink, D: Desk>(
 ) -> Result<bool, TalkFault>
     requires reads { (S.seen source.old).failures < 2 ^ 64 - 1 }
     requires writes { (K.seen sink.old).failures < 2 ^ 64 - 1 }
-    ensures turn { (input said : List ℕ) → (S.seen source.old).rest ≡ Some input →
-        (K.seen sink.old).contents ≡ Some said →
-        IfOk result (λ over. (rest said' : List ℕ) × ((S.seen source.new).rest ≡ Some rest) ×
-        ((K.seen sink.new).contents ≡ Some said') ×
-        Turn D.answers D.notes over input rest desk.old said said' desk.new) }
+    ensures turn { TakesTurn (Turn D.answers D.notes) (S.seen source.old) (S.seen source.new)
+        (K.seen sink.old) (K.seen sink.new) desk.old desk.new result }
     ensures reads { OnOk result ((S.seen source.new).failures ≡ (S.seen source.old).failures) }
     ensures writes { OnOk result ((K.seen sink.new).failures ≡ (K.seen sink.old).failures) }
     ensures lowers { OnOk result ((S.seen source.new).reads_left < (S.seen source.old).reads_left) }
@@ -62,11 +59,8 @@ pub fn talk<S: Source, K: Sink, D: Desk>(
 ) -> Result<bool, TalkFault>
     requires reads { (S.seen source.old).failures < 2 ^ 64 - 1 }
     requires writes { (K.seen sink.old).failures < 2 ^ 64 - 1 }
-    ensures all { (input said : List ℕ) → (S.seen source.old).rest ≡ Some input →
-        (K.seen sink.old).contents ≡ Some said →
-        IfOk result (λ over. (rest bytes : List ℕ) × ((S.seen source.new).rest ≡ Some rest) ×
-        ((K.seen sink.new).contents ≡ Some (said ++ bytes)) ×
-        Talks D.answers D.notes D.is_over over input rest desk.old bytes desk.new) }
+    ensures all { Holds (Talks D.answers D.notes D.is_over) (S.seen source.old) (S.seen source.new)
+        (K.seen sink.old) (K.seen sink.new) desk.old desk.new result }
 {
     'turns: loop {
         if turn(alloc, source, sink, desk)? {
