@@ -1,0 +1,6 @@
+mod GrowLemmas
+mod JoinLemmas
+mod LeftLemmas
+mod MoveLemmas
+mod TopLemmas
+mod VariableLemmas

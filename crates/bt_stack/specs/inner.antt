@@ -1,0 +1,4 @@
+-- What only helpers, loops and proofs need: no part of the meaning.
+pub mod BodyCode
+pub mod Kept
+pub mod Moved

@@ -1,0 +1,106 @@
+//! How two kept texts become one. A text that was made last ends the pool, and so does what a step joins to it piece by
+//! piece: then the new piece alone is copied, and a title of ten pieces isn't copied ten times.
+
+ghost use Rattle.std.specs.Prelude.{◌≡◌, ◌≤◌, ◌++◌, ◌+◌, length, option_map, IfSome, IfOk, OnOk, OnErr};
+ghost use Rattle.bt_actions.specs.Item.{Txt};
+ghost use Rattle.bt_stack.specs.Tops.{joined_two};
+ghost use Rattle.bt_stack.specs.inner.Kept.{item_in, bytes_in, Fits, Grows};
+
+use crate::reading::text_len;
+use crate::value::Value;
+use bt_text::TEXT_BYTES;
+use std::alloc::AllocError;
+
+/// Puts the bytes of a kept text at the end of the pool. Those that lie in it go through `scratch`, since a pool can't
+/// be read and written at once, and std's `extend_from_within` goes byte by byte.
+fn append(pool: &mut Vec<u8>, scratch: &mut Vec<u8>, value: Value) -> Result<(), AllocError>
+    requires { Fits (length pool.old.items) value }
+    ensures ok { OnOk result (pool.new.items ≡ pool.old.items ++ bytes_in pool.old.items value.entry) }
+    ensures err { OnErr result (pool.new.items ≡ pool.old.items) }
+{
+    match value {
+        Value::Given(text) => pool.extend_from_slice(text),
+        Value::Made(start, count) => {
+            scratch.clear();
+            scratch.extend_from_slice(&pool[start..start + count])?;
+            pool.extend_from_slice(scratch)
+        }
+        _ => Ok(()),
+    }
+}
+
+/// Joins two kept texts of so many bytes together, both copied to the end of the pool.
+fn join_anew<'a>(
+    pool: &mut Vec<u8>,
+    scratch: &mut Vec<u8>,
+    lower: Value<'a>,
+    upper: Value<'a>,
+    len: usize,
+) -> Result<Value<'a>, AllocError>
+    requires lower { Fits (length pool.old.items) lower }
+    requires upper { Fits (length pool.old.items) upper }
+    requires len { len ≡ length (bytes_in pool.old.items lower) + length (bytes_in pool.old.items upper) }
+    requires short { len ≤ 65536 }
+    ensures grows { Grows pool.old.items pool.new.items }
+    ensures item { IfOk result (λ text. item_in pool.new.items text
+        ≡ Txt (bytes_in pool.old.items lower.entry ++ bytes_in pool.old.items upper.entry)) }
+    ensures fits { IfOk result (Fits (length pool.new.items)) }
+{
+    let start = pool.len();
+    append(pool, scratch, lower)?;
+    append(pool, scratch, upper)?;
+    Ok(Value::Made(start, len))
+}
+
+/// Joins two kept texts of so many bytes together. If the first one ends the pool the second alone is copied, and if
+/// they lie side by side none is.
+fn join_texts<'a>(
+    pool: &mut Vec<u8>,
+    scratch: &mut Vec<u8>,
+    lower: Value<'a>,
+    upper: Value<'a>,
+    len: usize,
+) -> Result<Value<'a>, AllocError>
+    requires lower { Fits (length pool.old.items) lower }
+    requires upper { Fits (length pool.old.items) upper }
+    requires len { len ≡ length (bytes_in pool.old.items lower) + length (bytes_in pool.old.items upper) }
+    requires short { len ≤ 65536 }
+    ensures grows { Grows pool.old.items pool.new.items }
+    ensures item { IfOk result (λ text. item_in pool.new.items text
+        ≡ Txt (bytes_in pool.old.items lower.entry ++ bytes_in pool.old.items upper.entry)) }
+    ensures fits { IfOk result (Fits (length pool.new.items)) }
+{
+    match (lower, upper) {
+        (Value::Made(start, count), Value::Made(next, _)) if start + count == next => {
+            Ok(Value::Made(start, len))
+        }
+        (Value::Made(start, count), _) if start + count == pool.len() => {
+            append(pool, scratch, upper)?;
+            Ok(Value::Made(start, len))
+        }
+        _ => join_anew(pool, scratch, lower, upper, len),
+    }
+}
+
+/// Joins two kept values, if they are texts and not too long together.
+pub fn join<'a>(
+    pool: &mut Vec<u8>,
+    scratch: &mut Vec<u8>,
+    lower: Value<'a>,
+    upper: Value<'a>,
+) -> Result<Option<Value<'a>>, AllocError>
+    requires lower { Fits (length pool.old.items) lower }
+    requires upper { Fits (length pool.old.items) upper }
+    ensures grows { Grows pool.old.items pool.new.items }
+    ensures item { IfOk result (λ text. option_map (item_in pool.new.items) text
+        ≡ joined_two (item_in pool.old.items lower.entry) (item_in pool.old.items upper.entry)) }
+    ensures fits { IfOk result (λ text. IfSome text (Fits (length pool.new.items))) }
+{
+    match (text_len(lower), text_len(upper)) {
+        (Some(first), Some(second)) if first + second <= TEXT_BYTES => {
+            let text = join_texts(pool, scratch, lower, upper, first + second)?;
+            Ok(Some(text))
+        }
+        _ => Ok(None),
+    }
+}

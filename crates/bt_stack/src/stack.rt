@@ -1,0 +1,261 @@
+//! The literal stack of a step, the step's variables, and the pool with the texts that the step made.
+//!
+//! A made text is a range of the pool, which only grows, so it never changes under whoever names it: `duplicate$`, `:=`
+//! and `substring$` copy a range and no bytes. Nobody above sees a range. Contracts speak of the items and of the
+//! variables, as if each owned its text.
+
+ghost use Rattle.std.specs.Prelude.{◌≡◌, ◌≤◌, ◌<◌, [], ◌∷◌, length, drop, slice_get, option_copied, option_map, option_and_then, IfSome, OnOk, OnErr};
+ghost use Rattle.bt_style.specs.Tree.{ops_body};
+ghost use Rattle.bt_actions.specs.Item.{Num, Txt, Fun, Missing, Name, Block};
+ghost use Rattle.bt_actions.specs.Arguments.{as_number, as_text, as_field_text, is_wrong};
+ghost use Rattle.bt_stack.specs.Desk.{with_items};
+ghost use Rattle.bt_stack.specs.Tops.{twice, top_len, exchanged, with_top, cut, tops_equal};
+
+use crate::reading::{cut, equal, field_text_in, number_in, text_in, value_at};
+use crate::step_variables::StepVariables;
+use crate::value::Value;
+use bt_actions::Variables;
+use bt_style::{Op, Target};
+use bt_text::Shared;
+use std::alloc::{AllocError, Global};
+use std::marker::Model;
+
+mod made;
+mod variables;
+
+/// The literal stack, and the variables of a step.
+#[derive(Drop)]
+pub struct Stack<'a> {
+    /// Its top last.
+    values: Vec<Value<'a>>,
+    globals: StepVariables<'a>,
+    own: StepVariables<'a>,
+    /// The texts that were made, one after the other.
+    pool: Vec<u8>,
+    /// What is on its way from one place of the pool to another.
+    scratch: Vec<u8>,
+}
+
+impl<'a> Model for Stack<'a> {
+    ghost use Rattle.std.specs.Prelude.{length};
+    ghost use Rattle.bt_style.specs.contracts.style.Target as target;
+    ghost use Rattle.std.specs.Coded.{codes};
+    ghost use Rattle.bt_stack.specs.Desk.{Desk};
+    ghost use Rattle.bt_stack.specs.inner.BodyCode.{body_code};
+
+    ghost Value = { Desk };
+
+    ghost coded = { Prim.hlevel (codes, body_code target.the_row.coded) };
+
+    ghost use Rattle.bt_stack.specs.inner.Kept.{desk, IsSound};
+
+    ghost view = { λ stack. desk stack.pool.items stack.values.items stack.globals stack.own };
+
+    ghost invariant = { λ stack. IsSound (length stack.pool.items) stack.values.items stack.globals stack.own };
+}
+
+impl<'a> Stack<'a> {
+    /// An empty stack with the variables of the style and of an entry.
+    pub fn new(alloc: Global, globals: &'a Shared<Variables>, own: &'a Shared<Variables>) -> Self
+        ensures { result ≡ record { items = []; globals = globals.now; own = own.now } }
+    {
+        Stack {
+            values: Vec::new(alloc),
+            globals: StepVariables {
+                given: globals,
+                numbers: Vec::new(alloc),
+                texts: Vec::new(alloc),
+            },
+            own: StepVariables {
+                given: own,
+                numbers: Vec::new(alloc),
+                texts: Vec::new(alloc),
+            },
+            pool: Vec::new(alloc),
+            scratch: Vec::new(alloc),
+        }
+    }
+
+    /// How many values there are.
+    pub fn len(&self) -> usize
+        ensures len { result ≡ length self.now.items }
+        ensures few { result ≤ 1000 }
+    {
+        self.values.len()
+    }
+
+    /// Puts a number on the stack. After out of memory the stack is as before, here and in all that follows.
+    pub fn push_number(&mut self, number: i32) -> Result<(), AllocError>
+        requires { length self.old.items < 1000 }
+        ensures ok { OnOk result (self.new ≡ with_items (Num number ∷ self.old.items) self.old) }
+        ensures err { OnErr result (self.new ≡ self.old) }
+    {
+        self.values.push(Value::Number(number))?;
+        Ok(())
+    }
+
+    /// Puts a text on the stack that lives longer than it. Nothing is copied.
+    pub fn push_given(&mut self, text: &'a [u8]) -> Result<(), AllocError>
+        requires short { length text.now ≤ 65536 }
+        requires room { length self.old.items < 1000 }
+        ensures ok { OnOk result (self.new ≡ with_items (Txt text.now ∷ self.old.items) self.old) }
+        ensures err { OnErr result (self.new ≡ self.old) }
+    {
+        self.values.push(Value::Given(text))?;
+        Ok(())
+    }
+
+    /// Puts a quoted name on the stack.
+    pub fn push_name(&mut self, name: Target) -> Result<(), AllocError>
+        requires { length self.old.items < 1000 }
+        ensures ok { OnOk result (self.new ≡ with_items (Fun (Name name) ∷ self.old.items) self.old) }
+        ensures err { OnErr result (self.new ≡ self.old) }
+    {
+        self.values.push(Value::Name(name))?;
+        Ok(())
+    }
+
+    /// Puts a function in braces on the stack.
+    pub fn push_block(&mut self, ops: &'a [Op]) -> Result<(), AllocError>
+        requires { length self.old.items < 1000 }
+        ensures ok { OnOk result (self.new ≡ with_items (Fun (Block (ops_body ops.now)) ∷ self.old.items) self.old) }
+        ensures err { OnErr result (self.new ≡ self.old) }
+    {
+        self.values.push(Value::Block(ops))?;
+        Ok(())
+    }
+
+    /// Puts a field that is missing on the stack.
+    pub fn push_missing(&mut self, field: usize) -> Result<(), AllocError>
+        requires { length self.old.items < 1000 }
+        ensures ok { OnOk result (self.new ≡ with_items (Missing field ∷ self.old.items) self.old) }
+        ensures err { OnErr result (self.new ≡ self.old) }
+    {
+        self.values.push(Value::Missing(field))?;
+        Ok(())
+    }
+
+    /// The number so many places below the top, if there is one.
+    pub fn number_at(&self, depth: usize) -> Option<i32>
+        ensures { result ≡ option_and_then as_number (slice_get self.now.items depth) }
+    {
+        match value_at(&self.values, depth) {
+            Some(value) => number_in(value),
+            None => None,
+        }
+    }
+
+    /// Whether a value is so many places below the top that is no number.
+    #[cold]
+    pub fn is_no_number(&self, depth: usize) -> bool
+        ensures { result ≡ is_wrong as_number (slice_get self.now.items depth) }
+    {
+        depth < self.len() && self.number_at(depth).is_none()
+    }
+
+    /// The text so many places below the top, if there is one.
+    pub fn text_at(&self, depth: usize) -> Option<&[u8]>
+        ensures text { option_copied result ≡ option_and_then as_text (slice_get self.now.items depth) }
+        ensures short { IfSome result (λ text. length text.now ≤ 65536) }
+    {
+        match value_at(&self.values, depth) {
+            Some(value) => text_in(&self.pool, value),
+            None => None,
+        }
+    }
+
+    /// Whether a value is so many places below the top that is no text.
+    #[cold]
+    pub fn is_no_text(&self, depth: usize) -> bool
+        ensures { result ≡ is_wrong as_text (slice_get self.now.items depth) }
+    {
+        depth < self.len() && self.text_at(depth).is_none()
+    }
+
+    /// The text so many places below the top, or none for a field that is missing, if it is one of both.
+    pub fn field_text_at(&self, depth: usize) -> Option<Option<&[u8]>>
+        ensures { option_map option_copied result ≡ option_and_then as_field_text (slice_get self.now.items depth) }
+    {
+        match value_at(&self.values, depth) {
+            Some(value) => field_text_in(&self.pool, value),
+            None => None,
+        }
+    }
+
+    /// Whether a value is so many places below the top that is neither.
+    #[cold]
+    pub fn is_no_field_text(&self, depth: usize) -> bool
+        ensures { result ≡ is_wrong as_field_text (slice_get self.now.items depth) }
+    {
+        depth < self.len() && self.field_text_at(depth).is_none()
+    }
+
+    /// Whether the two topmost values are equal, if they are two numbers or two texts.
+    pub fn tops_equal(&self) -> Option<bool>
+        ensures { result ≡ tops_equal self.now.items }
+    {
+        let count = self.values.len();
+        if count < 2 {
+            return None;
+        }
+        equal(&self.pool, self.values[count - 2], self.values[count - 1])
+    }
+
+    /// Takes so many values away.
+    pub fn drop_tops(&mut self, count: usize)
+        requires { count ≤ length self.old.items }
+        ensures { self.new ≡ with_items (drop count self.old.items) self.old }
+    {
+        let left = self.values.len() - count;
+        self.values.truncate(left);
+    }
+
+    /// Takes arguments away, and puts a number in place of the lowest one.
+    pub fn answer_number(&mut self, count: usize, number: i32)
+        requires some { 0 < count }
+        requires there { count ≤ length self.old.items }
+        ensures answered { self.new ≡ with_items (Num number ∷ drop count self.old.items) self.old }
+        ensures few { length self.old.items ≤ 1000 }
+    {
+        let place = self.values.len() - count;
+        self.values[place] = Value::Number(number);
+        self.values.truncate(place + 1);
+    }
+
+    /// Puts the topmost value on the stack once more, if there is one.
+    pub fn duplicate(&mut self) -> Result<(), AllocError>
+        requires { length self.old.items < 1000 }
+        ensures ok { OnOk result (self.new ≡ with_items (twice self.old.items) self.old) }
+        ensures short { top_len self.old.items ≤ 65536 }
+        ensures err { OnErr result (self.new ≡ self.old) }
+    {
+        let count = self.values.len();
+        if count > 0 {
+            let top = self.values[count - 1];
+            self.values.push(top)?;
+        }
+        Ok(())
+    }
+
+    /// Lets the two topmost values change places, if there are two.
+    pub fn swap(&mut self)
+        ensures { self.new ≡ with_items (exchanged self.old.items) self.old }
+    {
+        let count = self.values.len();
+        if count >= 2 {
+            let top = self.values[count - 1];
+            self.values[count - 1] = self.values[count - 2];
+            self.values[count - 2] = top;
+        }
+    }
+
+    /// Puts a part of the topmost value in its place, if it is a text. Nothing is copied.
+    pub fn cut_top(&mut self, from: usize, len: usize)
+        ensures { self.new ≡ with_items (with_top (cut from len) self.old.items) self.old }
+    {
+        let count = self.values.len();
+        if count > 0 {
+            self.values[count - 1] = cut(&self.pool, self.values[count - 1], from, len);
+        }
+    }
+}

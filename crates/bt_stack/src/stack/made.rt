@@ -1,0 +1,100 @@
+//! What the stack does with texts that are made: joined, written, moved.
+
+ghost use Rattle.std.specs.Prelude.{◌≡◌, ◌≤◌, ◌<◌, [], length, IfOk, OnErr};
+ghost use Rattle.bt_stack.specs.Desk.{short, with_answer};
+ghost use Rattle.bt_stack.specs.Tops.{joined_tops};
+
+use crate::joining::join;
+use crate::moving::{copy_made, made_size, move_made};
+use crate::stack::Stack;
+use crate::value::Value;
+use bt_text::TEXT_BYTES;
+use std::alloc::{AllocError, Global};
+use std::mem;
+
+impl<'a> Stack<'a> {
+    /// Joins the two topmost values, if they are texts and not too long together. A text that ends the pool isn't
+    /// copied once more.
+    pub fn join(&mut self) -> Result<bool, AllocError>
+        ensures ok { IfOk result (λ done. (done, self.new) ≡ with_answer (joined_tops self.old.items) 2 self.old) }
+        ensures few { length self.old.items ≤ 1000 }
+        ensures err { OnErr result (self.new ≡ self.old) }
+    {
+        let count = self.values.len();
+        if count < 2 {
+            return Ok(false);
+        }
+        let lower = self.values[count - 2];
+        let upper = self.values[count - 1];
+        match join(&mut self.pool, &mut self.scratch, lower, upper)? {
+            None => Ok(false),
+            Some(text) => {
+                self.values[count - 2] = text;
+                self.values.truncate(count - 1);
+                Ok(true)
+            }
+        }
+    }
+
+    /// An empty buffer to write a text into, while the arguments are read where they lie. `answer_text` takes it back,
+    /// so the same block serves all texts of a step.
+    pub fn take_page(&mut self, alloc: Global) -> Vec<u8>
+        ensures empty { result.items ≡ [] }
+        ensures same { self.new ≡ self.old }
+    {
+        let mut page = mem::replace(&mut self.scratch, Vec::new(alloc));
+        page.clear();
+        page
+    }
+
+    /// Takes arguments away, and puts a text that was written in place of the lowest one, unless it is too long.
+    pub fn answer_text(&mut self, count: usize, page: Vec<u8>) -> Result<bool, AllocError>
+        requires some { 0 < count }
+        requires there { count ≤ length self.old.items }
+        ensures ok { IfOk result (λ done. (done, self.new) ≡ with_answer (short page.items) count self.old) }
+        ensures few { length self.old.items ≤ 1000 }
+        ensures err { OnErr result (self.new ≡ self.old) }
+    {
+        let start = self.pool.len();
+        let len = page.len();
+        if len > TEXT_BYTES {
+            self.scratch = page;
+            return Ok(false);
+        }
+        self.pool.extend_from_slice(&page)?;
+        let place = self.values.len() - count;
+        self.values[place] = Value::Made(start, len);
+        self.values.truncate(place + 1);
+        self.scratch = page;
+        Ok(true)
+    }
+
+    /// How many bytes of texts were made.
+    pub fn pool_len(&self) -> usize {
+        self.pool.len()
+    }
+
+    /// Copies the texts that are in use to another pool, if together they have less than half of this one's bytes.
+    /// Texts that share bytes are copied once for each value, so without that test the new pool might be larger.
+    #[cold]
+    pub fn compact(&mut self) -> Result<(), AllocError>
+        ensures { self.new ≡ self.old }
+    {
+        let live = made_size(&self.values)
+            .saturating_add(made_size(&self.globals.texts))
+            .saturating_add(made_size(&self.own.texts));
+        if live < self.pool.len() / 2 {
+            self.scratch.clear();
+            copy_made(&self.pool, &self.values, &mut self.scratch)?;
+            let first = self.scratch.len();
+            copy_made(&self.pool, &self.globals.texts, &mut self.scratch)?;
+            let second = self.scratch.len();
+            copy_made(&self.pool, &self.own.texts, &mut self.scratch)?;
+            move_made(&mut self.values, 0);
+            move_made(&mut self.globals.texts, first);
+            move_made(&mut self.own.texts, second);
+            mem::swap(&mut self.pool, &mut self.scratch);
+        }
+        Ok(())
+    }
+}

@@ -1,0 +1,141 @@
+//! The variables of a step: those that it was given, and the values that it gave to some of them. So a step that
+//! changes none copies none, and one that changes a few copies these at its end.
+
+ghost use Rattle.std.specs.Prelude.{◌≡◌, ℕ, ℤ, List, [], pos, length, slice_get, slice_index_or, slice_set, option_map, option_and_then, true, IfSome, OnOk, OnErr};
+ghost use Rattle.bt_stack.specs.Desk.{short};
+ghost use Rattle.bt_stack.specs.inner.Kept.{item_in, bytes_in, is_text, text_value, Fits, AllFit, texts_over, own_of, number_over, numbers_over};
+
+use crate::reading::text_value;
+use crate::value::Value;
+use bt_actions::Variables;
+use bt_text::{Bytes, Shared, TEXT_BYTES, Values};
+use std::alloc::AllocError;
+
+/// Variables, and the values that a step gave to some of them, each by the number of its variable. A variable after the
+/// end of `numbers` or `texts` has none, and neither has one whose place holds `None` or a kept value that is no text.
+#[derive(Drop)]
+pub struct StepVariables<'a> {
+    pub given: &'a Shared<Variables>,
+    pub numbers: Vec<Option<i32>>,
+    pub texts: Vec<Value<'a>>,
+}
+
+/// The number that the step gave to a variable, or else the one that it was given.
+fn number_over(own: Option<i32>, given: i32) -> i32
+    ensures { result ≡ number_over own given }
+{
+    match own {
+        Some(number) => number,
+        None => given,
+    }
+}
+
+/// The number that the step gave to a variable, if it gave it one.
+pub fn own_number(numbers: &[Option<i32>], n: usize) -> Option<i32>
+    ensures { result ≡ own_of (slice_get numbers.now n) }
+{
+    match numbers.get(n) {
+        Some(number) => *number,
+        None => None,
+    }
+}
+
+/// The number of a variable, or 0 if there is no such variable.
+#[tactic(auto, using(crate::proofs::VariableLemmas::numbers_none))]
+pub fn number_of(numbers: &[Option<i32>], given: &Values<i32>, n: usize) -> i32
+    ensures { result ≡ slice_index_or (numbers_over numbers.now given.now) n (pos 0) }
+{
+    match given.get(n) {
+        None => 0,
+        Some(number) => number_over(own_number(numbers, n), *number),
+    }
+}
+
+/// A text that lives longer than the step, unless it is too long.
+fn short<'a>(text: &'a [u8]) -> Option<Value<'a>>
+    ensures item { (pool : List ℕ) → option_map (item_in pool) result ≡ short text.now }
+    ensures fits { (size : ℕ) → IfSome result (Fits size) }
+{
+    if text.len() <= TEXT_BYTES {
+        Some(Value::Given(text))
+    } else {
+        None
+    }
+}
+
+/// The value that the step gave to a text variable, if it gave it one.
+fn own_text<'a>(texts: &[Value<'a>], n: usize) -> Option<Value<'a>>
+    ensures value { result ≡ option_and_then text_value (slice_get texts.now n) }
+    ensures fits { (size : ℕ) → AllFit size texts.now → IfSome result (Fits size) }
+{
+    if n < texts.len() {
+        text_value(texts[n])
+    } else {
+        None
+    }
+}
+
+/// The text of a variable, or the empty text if there is no such variable, unless it is too long.
+pub fn text_of<'a>(
+    texts: &[Value<'a>],
+    given: &'a Values<Shared<Bytes>>,
+    n: usize,
+) -> Option<Value<'a>>
+    ensures item { (pool : List ℕ) → AllFit (length pool) texts.now
+        → option_map (item_in pool) result ≡ short (slice_index_or (texts_over pool texts.now given.now) n []) }
+    ensures fits { (size : ℕ) → AllFit size texts.now → IfSome result (Fits size) }
+{
+    match given.get(n) {
+        None => short(b""),
+        Some(text) => match own_text(texts, n) {
+            Some(own) => Some(own),
+            None => short(text.as_slice()),
+        },
+    }
+}
+
+/// Gives a number variable, of so many, a value.
+#[tactic(auto, using(crate::proofs::VariableLemmas::numbers_padded, crate::proofs::VariableLemmas::numbers_set, crate::proofs::VariableLemmas::numbers_past))]
+pub fn set_number(
+    numbers: &mut Vec<Option<i32>>,
+    count: usize,
+    n: usize,
+    number: i32,
+) -> Result<(), AllocError>
+    ensures ok { OnOk result ((zs : List ℤ) → length zs ≡ count
+        → numbers_over numbers.new.items zs ≡ slice_set (numbers_over numbers.old.items zs) n number) }
+    ensures err { OnErr result ((zs : List ℤ) → numbers_over numbers.new.items zs ≡ numbers_over numbers.old.items zs) }
+{
+    if n < count {
+        'numbers: while numbers.len() <= n {
+            numbers.push(None)?;
+        }
+        numbers[n] = Some(number);
+    }
+    Ok(())
+}
+
+/// Gives a text variable, of so many, a value.
+#[tactic(auto, using(crate::proofs::VariableLemmas::texts_padded, crate::proofs::VariableLemmas::texts_set, crate::proofs::VariableLemmas::texts_past))]
+pub fn set_text<'a>(
+    texts: &mut Vec<Value<'a>>,
+    count: usize,
+    n: usize,
+    value: Value<'a>,
+) -> Result<(), AllocError>
+    requires { is_text value ≡ true }
+    ensures ok { OnOk result ((pool : List ℕ) (ts : List (List ℕ)) → length ts ≡ count
+        → texts_over pool texts.new.items ts
+        ≡ slice_set (texts_over pool texts.old.items ts) n (bytes_in pool value.entry)) }
+    ensures err { OnErr result ((pool : List ℕ) (ts : List (List ℕ))
+        → texts_over pool texts.new.items ts ≡ texts_over pool texts.old.items ts) }
+    ensures fit { (size : ℕ) → Fits size value.entry → AllFit size texts.old.items → AllFit size texts.new.items }
+{
+    if n < count {
+        'texts: while texts.len() <= n {
+            texts.push(Value::Missing(0))?;
+        }
+        texts[n] = value;
+    }
+    Ok(())
+}
