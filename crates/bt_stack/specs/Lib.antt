@@ -1,3 +1,5 @@
 pub mod Desk
 pub mod Tops
+pub mod Forms
+pub mod View
 pub mod inner

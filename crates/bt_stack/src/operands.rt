@@ -1,0 +1,171 @@
+//! What fields and variables, the key, the type and the preamble put on the stack, and the functions that look at the
+//! stack alone.
+
+ghost use Rattle.std.specs.Prelude.{◌≡◌, [], slice_index_or, IfOk};
+ghost use Rattle.bt_actions.specs.Item.{Txt};
+ghost use Rattle.bt_actions.specs.World.{Goes};
+ghost use Rattle.bt_actions.specs.State.{popped, pushed, pushed_in_error};
+ghost use Rattle.bt_actions.specs.Stack.{duplicated, swapped};
+ghost use Rattle.bt_actions.specs.Given.{zero_item, empty_item};
+ghost use Rattle.bt_actions.specs.Operands.{kind_shown, field_at, number_at, text_at, key_item, kind_item, of_entry, global_number, global_text};
+ghost use Rattle.bt_stack.specs.View.{world_of, Acts};
+
+use crate::state::State;
+use bt_actions::{Complaint, Entry, Flow, STACK_LIMIT};
+use std::alloc::AllocError;
+
+/// Reports an error unless the stack is full, and puts 0 on it.
+#[cold]
+fn push_zero_in_error(state: &mut State, complaint: Complaint) -> Result<Flow, AllocError>
+    ensures { IfOk result (Acts (pushed_in_error complaint zero_item) state.old state.new) }
+{
+    if state.stack.len() < STACK_LIMIT {
+        state.tell(complaint)?;
+    }
+    state.push_number(0)
+}
+
+/// The same of the empty text.
+#[cold]
+fn push_empty_in_error(state: &mut State, complaint: Complaint) -> Result<Flow, AllocError>
+    ensures { IfOk result (Acts (pushed_in_error complaint empty_item) state.old state.new) }
+{
+    if state.stack.len() < STACK_LIMIT {
+        state.tell(complaint)?;
+    }
+    state.push_given(b"")
+}
+
+/// Calls a field of the step's entry: its text or its absence goes on the stack.
+pub fn call_field(state: &mut State, n: usize) -> Result<Flow, AllocError>
+    ensures { IfOk result (Acts (of_entry (field_at n) empty_item) state.old state.new) }
+{
+    match state.entry {
+        None => push_empty_in_error(state, Complaint::NoEntry),
+        Some(entry) => match entry.fields.get(n) {
+            None => state.push_missing(n),
+            Some(text) => state.push_given(text.as_slice()),
+        },
+    }
+}
+
+/// Calls a number variable of the step's entry: its value goes on the stack.
+pub fn call_entry_number(state: &mut State, n: usize) -> Result<Flow, AllocError>
+    ensures { IfOk result (Acts (of_entry (number_at n) zero_item) state.old state.new) }
+{
+    match state.entry {
+        None => push_zero_in_error(state, Complaint::NoEntry),
+        Some(_) => {
+            let number = state.stack.own_number(n);
+            state.push_number(number)
+        }
+    }
+}
+
+/// Calls a text variable of the step's entry: its value goes on the stack.
+pub fn call_entry_text(state: &mut State, n: usize) -> Result<Flow, AllocError>
+    ensures { IfOk result (Acts (of_entry (text_at n) empty_item) state.old state.new) }
+{
+    match state.entry {
+        None => push_empty_in_error(state, Complaint::NoEntry),
+        Some(_) => {
+            if state.stack.len() < STACK_LIMIT && state.stack.push_own_text(n)? {
+                Ok(Flow::Go)
+            } else {
+                state.pass_text_limit()
+            }
+        }
+    }
+}
+
+/// Calls a number variable of the style: its value goes on the stack.
+pub fn call_global_number(state: &mut State, n: usize) -> Result<Flow, AllocError>
+    ensures { IfOk result (Acts (global_number n) state.old state.new) }
+{
+    let number = state.stack.global_number(n);
+    state.push_number(number)
+}
+
+/// Calls a text variable of the style: its value goes on the stack.
+pub fn call_global_text(state: &mut State, n: usize) -> Result<Flow, AllocError>
+    ensures { IfOk result (Acts (global_text n) state.old state.new) }
+{
+    if state.stack.len() < STACK_LIMIT && state.stack.push_global_text(n)? {
+        Ok(Flow::Go)
+    } else {
+        state.pass_text_limit()
+    }
+}
+
+/// The text of an entry's type, or nothing where the type has no function.
+fn kind_shown(entry: &Entry) -> &[u8]
+    ensures { result.now ≡ kind_shown entry.now.function entry.now.kind }
+{
+    match entry.function {
+        None => b"",
+        Some(_) => entry.kind.as_slice(),
+    }
+}
+
+/// `cite$`.
+pub fn cite(state: &mut State) -> Result<Flow, AllocError>
+    ensures { IfOk result (Acts (of_entry key_item empty_item) state.old state.new) }
+{
+    match state.entry {
+        None => push_empty_in_error(state, Complaint::NoEntry),
+        Some(entry) => state.push_given(entry.key.as_slice()),
+    }
+}
+
+/// `type$`.
+pub fn entry_type(state: &mut State) -> Result<Flow, AllocError>
+    ensures { IfOk result (Acts (of_entry kind_item empty_item) state.old state.new) }
+{
+    match state.entry {
+        None => push_empty_in_error(state, Complaint::NoEntry),
+        Some(entry) => state.push_given(kind_shown(entry)),
+    }
+}
+
+/// `preamble$`.
+pub fn preamble(state: &mut State) -> Result<Flow, AllocError>
+    ensures { IfOk result (Acts (λ world. pushed (Txt world.preamble) world) state.old state.new) }
+{
+    let preamble = state.preamble;
+    state.push_given(preamble)
+}
+
+/// `duplicate$`.
+pub fn duplicate(state: &mut State) -> Result<Flow, AllocError>
+    ensures { IfOk result (Acts (λ world. duplicated world.stack world) state.old state.new) }
+{
+    if state.stack.len() >= STACK_LIMIT {
+        return state.pass_text_limit();
+    }
+    if state.stack.len() == 0 {
+        state.tell(Complaint::EmptyStack)?;
+    } else {
+        state.stack.duplicate()?;
+    }
+    Ok(Flow::Go)
+}
+
+/// `pop$`.
+pub fn pop(state: &mut State) -> Result<Flow, AllocError>
+    ensures { IfOk result (Acts (λ world. Goes (popped world).1) state.old state.new) }
+{
+    state.drop_top()?;
+    Ok(Flow::Go)
+}
+
+/// `swap$`.
+pub fn swap(state: &mut State) -> Result<Flow, AllocError>
+    ensures { IfOk result (Acts (λ world. Goes (swapped world.stack world)) state.old state.new) }
+{
+    if state.stack.len() < 2 {
+        state.tell(Complaint::EmptyStack)?;
+    } else {
+        state.stack.swap();
+    }
+    Ok(Flow::Go)
+}

@@ -1,0 +1,228 @@
+//! The functions on texts. A text that ends the pool grows where it lies; all others are written on the stack's page.
+
+ghost use Rattle.std.specs.Prelude.{◌≡◌, ◌≤◌, None, pos, length, drop, IfOk};
+ghost use Rattle.bt_text.specs.Period.{with_period};
+ghost use Rattle.bt_text.specs.Purification.{purified};
+ghost use Rattle.bt_actions.specs.Arguments.{as_number, as_text, taken_two, taken_three};
+ghost use Rattle.bt_actions.specs.Given.{valued, empty_item, number_given};
+ghost use Rattle.bt_actions.specs.Texts.{join_of, mode_of, case_of, substring_given, prefix_of, length_of, width_given};
+ghost use Rattle.bt_actions.specs.World.{Goes, say, with_stack};
+ghost use Rattle.bt_style.specs.declared.builtin.Builtin.TheVariants as builtin;
+ghost use Rattle.bt_stack.specs.Forms.{number_or_error};
+ghost use Rattle.bt_stack.specs.Tops.{joined_tops};
+ghost use Rattle.bt_stack.specs.View.{world_of, Acts};
+
+use crate::forms::{OfTextToNumber, OfTextToText, answer_page};
+use crate::state::State;
+use bt_actions::{Complaint, Flow};
+use bt_style::Builtin;
+use bt_text::{
+    Bytes, Mode, add_period, change_case, purify, substring, text_length, text_prefix, width,
+};
+use std::alloc::{AllocError, Global};
+
+/// A count, which must fit 32 signed bits.
+pub fn count_fitting(builtin: Builtin, count: usize) -> Result<i32, Complaint>
+    ensures { number_or_error result ≡ number_given builtin (pos count) }
+{
+    match i32::try_from(count) {
+        Ok(number) => Ok(number),
+        Err(_) => Err(Complaint::OutOfRange(builtin)),
+    }
+}
+
+/// `text.length$`.
+pub struct TextLength;
+
+impl OfTextToNumber for TextLength {
+    ghost builtin = { builtin.TextLength };
+
+    ghost value = { length_of };
+
+    fn builtin() -> Builtin {
+        Builtin::TextLength
+    }
+
+    fn of(_alloc: Global, text: &[u8]) -> Result<Result<i32, Complaint>, AllocError> {
+        Ok(count_fitting(Builtin::TextLength, text_length(text)))
+    }
+}
+
+/// `width$`.
+pub struct Width;
+
+impl OfTextToNumber for Width {
+    ghost builtin = { builtin.Width };
+
+    ghost value = { width_given };
+
+    fn builtin() -> Builtin {
+        Builtin::Width
+    }
+
+    fn of(_alloc: Global, text: &[u8]) -> Result<Result<i32, Complaint>, AllocError> {
+        Ok(count_fitting(Builtin::Width, width(text) as usize))
+    }
+}
+
+/// `purify$`.
+pub struct Purify;
+
+impl OfTextToText for Purify {
+    ghost builtin = { builtin.Purify };
+
+    ghost value = { purified };
+
+    fn builtin() -> Builtin {
+        Builtin::Purify
+    }
+
+    fn write(alloc: Global, text: &[u8], page: &mut Vec<u8>) -> Result<(), AllocError> {
+        let pure = purify(alloc, text)?;
+        page.extend_from_slice(pure.as_slice())
+    }
+}
+
+/// `add.period$`.
+pub struct AddPeriod;
+
+impl OfTextToText for AddPeriod {
+    ghost builtin = { builtin.AddPeriod };
+
+    ghost value = { with_period };
+
+    fn builtin() -> Builtin {
+        Builtin::AddPeriod
+    }
+
+    fn write(alloc: Global, text: &[u8], page: &mut Vec<u8>) -> Result<(), AllocError> {
+        let ended = add_period(alloc, text)?;
+        page.extend_from_slice(ended.as_slice())
+    }
+}
+
+/// `*`.
+pub fn join(state: &mut State) -> Result<Flow, AllocError>
+    ensures { IfOk result (Acts (λ world.
+        valued join_of empty_item (taken_two builtin.Join as_text as_text world)) state.old state.new) }
+{
+    if state.stack.join()? {
+        Ok(Flow::Go)
+    } else {
+        refuse_join(state)
+    }
+}
+
+/// `*` of two values that can't be joined, or would be too long.
+#[cold]
+fn refuse_join(state: &mut State) -> Result<Flow, AllocError>
+    requires { joined_tops state.old.stack.items ≡ None }
+    ensures { IfOk result (Acts (λ world.
+        valued join_of empty_item (taken_two builtin.Join as_text as_text world)) state.old state.new) }
+{
+    if state.stack.text_at(0).is_some() && state.stack.text_at(1).is_some() {
+        state.stack.drop_tops(2);
+        state.pass_text_limit()
+    } else {
+        let wrong = state.stack.is_no_text(0) || state.stack.is_no_text(1);
+        state.refuse_two(Builtin::Join, wrong)?;
+        state.push_given(b"")
+    }
+}
+
+/// The change of case that a text names.
+fn mode_of(name: &[u8]) -> Option<Mode>
+    ensures { result ≡ mode_of name.now }
+{
+    match name {
+        [b't' | b'T'] => Some(Mode::Title),
+        [b'l' | b'L'] => Some(Mode::Lower),
+        [b'u' | b'U'] => Some(Mode::Upper),
+        _ => None,
+    }
+}
+
+/// Reports that a text names no change of case. The text below it stays.
+#[cold]
+fn refuse_mode(state: &mut State, complaint: Complaint) -> Result<Flow, AllocError>
+    requires { 2 ≤ length state.old.stack.items }
+    ensures { IfOk result (Acts (λ world. Goes (with_stack (drop 1 world.stack) (say complaint world)))
+        state.old state.new) }
+{
+    state.tell(complaint)?;
+    state.stack.drop_tops(1);
+    Ok(Flow::Go)
+}
+
+/// `change.case$`.
+pub fn convert_case(state: &mut State, alloc: Global) -> Result<Flow, AllocError>
+    ensures { IfOk result (Acts (λ world.
+        valued case_of empty_item (taken_two builtin.ChangeCase as_text as_text world)) state.old state.new) }
+{
+    let mut page = state.stack.take_page(alloc);
+    match (state.stack.text_at(1), state.stack.text_at(0)) {
+        (Some(text), Some(name)) => match mode_of(name) {
+            Some(mode) => {
+                let changed = change_case(alloc, text, mode)?;
+                page.extend_from_slice(changed.as_slice())?;
+                answer_page(state, 2, page)
+            }
+            None => {
+                let name = Bytes::copied(alloc, name)?;
+                refuse_mode(state, Complaint::BadCase(name))
+            }
+        },
+        _ => {
+            let wrong = state.stack.is_no_text(0) || state.stack.is_no_text(1);
+            state.refuse_two(Builtin::ChangeCase, wrong)?;
+            state.push_given(b"")
+        }
+    }
+}
+
+/// `text.prefix$`.
+pub fn prefix(state: &mut State, alloc: Global) -> Result<Flow, AllocError>
+    ensures { IfOk result (Acts (λ world.
+        valued prefix_of empty_item (taken_two builtin.TextPrefix as_text as_number world)) state.old state.new) }
+{
+    let mut page = state.stack.take_page(alloc);
+    match (state.stack.text_at(1), state.stack.number_at(0)) {
+        (Some(text), Some(most)) => {
+            let prefix = text_prefix(alloc, text, most)?;
+            page.extend_from_slice(prefix.as_slice())?;
+            answer_page(state, 2, page)
+        }
+        _ => {
+            let wrong = state.stack.is_no_number(0) || state.stack.is_no_text(1);
+            state.refuse_two(Builtin::TextPrefix, wrong)?;
+            state.push_given(b"")
+        }
+    }
+}
+
+/// `substring$`.
+pub fn cut(state: &mut State, alloc: Global) -> Result<Flow, AllocError>
+    ensures { IfOk result (Acts (λ world.
+        valued substring_given empty_item (taken_three builtin.Substring as_text as_number as_number world))
+        state.old state.new) }
+{
+    let mut page = state.stack.take_page(alloc);
+    match (
+        state.stack.text_at(2),
+        state.stack.number_at(1),
+        state.stack.number_at(0),
+    ) {
+        (Some(text), Some(start), Some(len)) => {
+            let part = substring(alloc, text, start, len)?;
+            page.extend_from_slice(part.as_slice())?;
+            answer_page(state, 3, page)
+        }
+        _ => {
+            let wrong = state.stack.is_no_number(0)
+                || state.stack.is_no_number(1)
+                || state.stack.is_no_text(2);
+            state.refuse_three(Builtin::Substring, wrong)?;
+            state.push_given(b"")
+        }
+    }
+}
