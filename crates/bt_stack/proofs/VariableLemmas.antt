@@ -30,9 +30,9 @@ numbers_at (k ∷ ns) (y ∷ zs) zero z d e = ap (number_over k) (same_Some z y 
 numbers_at (k ∷ ns) (y ∷ zs) (suc n) z d e = numbers_at ns zs n z d e
 
 -- the number of a variable, as it is read
-pub number_is : (ns : List (Option ℤ)) (zs : List ℤ) (n : ℕ) (o : Option ℤ) (z y r d : ℤ) → r ≡ number_over o y → y ≡ z → o ≡ own_of (slice_get ns n) → Some z ≡ slice_get zs n → r ≡ get_or (numbers_over ns zs) n d
-number_is ns zs n o z y r d is_result same is_own is_given =
-    is_result ∙ (λ i. number_over (is_own i) (same i)) ∙ numbers_at ns zs n z d is_given
+pub number_is : (ns : List (Option ℤ)) (zs : List ℤ) (n : ℕ) (o : Option ℤ) (z y r q d : ℤ) → q ≡ r → r ≡ number_over o y → y ≡ z → o ≡ own_of (slice_get ns n) → Some z ≡ slice_get zs n → q ≡ get_or (numbers_over ns zs) n d
+number_is ns zs n o z y r q d is_returned is_result same is_own is_given =
+    is_returned ∙ is_result ∙ (λ i. number_over (is_own i) (same i)) ∙ numbers_at ns zs n z d is_given
 
 -- one place more, which holds no value
 pub numbers_padded : (ns : List (Option ℤ)) (zs : List ℤ) → numbers_over (ns ++ None ∷ []) zs ≡ numbers_over ns zs

@@ -1,8 +1,9 @@
 -- What is done with the topmost items.
 use Rattle.std.specs.Prelude.{ℕ, ℤ, ◌+◌, bytes_eq, Bool, List, [], ◌∷◌, ◌++◌, length, take, drop, Option, Some, None, nat_le, if◌then◌else◌}
+use Rattle.std.specs.Option.{option_zip}
 use Rattle.std.specs.Ordering.{int_eq}
 use Rattle.bt_actions.specs.Item.{Item, Num, Txt, Fun, Missing}
-use Rattle.bt_actions.specs.Arguments.{as_text, both}
+use Rattle.bt_actions.specs.Arguments.{as_text}
 use Rattle.bt_actions.specs.State.{text_len, text_size_limit}
 
 -- the topmost item once more
@@ -40,7 +41,7 @@ joined_text (Some (t, u)) = if nat_le (length t + length u) text_size_limit then
 
 -- two items as one text: the lower one and the top
 abbrev pub joined_two : Item → Item → Option Item
-joined_two v u = joined_text (both (as_text v) (as_text u))
+joined_two v u = joined_text (option_zip (as_text v) (as_text u))
 
 -- the two topmost items as one text
 abbrev pub joined_tops : List Item → Option Item
