@@ -1,6 +1,7 @@
 mod FormLemmas
 mod GrowLemmas
 mod JoinLemmas
+mod LogLemmas
 mod LeftLemmas
 mod MoveLemmas
 mod TellLemmas

@@ -4,7 +4,7 @@ use Rattle.bt_style.specs.declared.builtin.Builtin.TheVariants.{Equals}
 use Rattle.bt_actions.specs.declared.complaint.Complaint.{Complaint}
 use Rattle.bt_actions.specs.declared.complaint.Complaint.TheVariants.{WrongKind}
 use Rattle.bt_actions.specs.Item.{Item, Num, Txt}
-use Rattle.bt_actions.specs.Given.{Given, Gives, Errs, truth, zero_item}
+use Rattle.bt_actions.specs.Given.{Given, Gives, Errs, truth, zero_item, empty_item}
 
 -- a number, or an error with 0 in its place
 abbrev pub number_or_error : Result ℤ Complaint → Given
@@ -19,3 +19,8 @@ text_given value t = Gives (Txt (value t))
 abbrev pub equality_given : Option Bool → Given
 equality_given None = Errs (WrongKind Equals) zero_item
 equality_given (Some b) = Gives (truth b)
+
+-- a text, or an error with the empty text in its place
+abbrev pub text_or_error : Option Complaint → List ℕ → Given
+text_or_error None t = Gives (Txt t)
+text_or_error (Some m) t = Errs m empty_item

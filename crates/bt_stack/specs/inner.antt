@@ -2,3 +2,5 @@
 pub mod BodyCode
 pub mod Kept
 pub mod Moved
+pub mod Logged
+pub mod Formatted

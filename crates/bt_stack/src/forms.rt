@@ -11,6 +11,7 @@ ghost use Rattle.bt_actions.specs.Given.{Given, Gives, valued, zero_item, empty_
 ghost use Rattle.bt_actions.specs.State.{pushed, pushed_in_error};
 ghost use Rattle.bt_actions.specs.World.{with_stack};
 ghost use Rattle.bt_stack.specs.Forms.{number_or_error, text_given};
+ghost use Rattle.bt_stack.specs.Forms.{text_or_error};
 ghost use Rattle.bt_stack.specs.View.{world_of, Acts};
 
 use crate::numbers::truth;
@@ -80,6 +81,22 @@ pub trait OfTextToText {
         ensures { OnOk result (page.new.items ≡ page.old.items ++ value text.now) };
 }
 
+/// A function of a number that gives a text.
+pub trait OfNumberToText {
+    ghost builtin: { Primitive };
+
+    ghost value: { ℤ → Given };
+
+    /// Which one it is.
+    fn builtin() -> Builtin
+        ensures { result ≡ builtin };
+
+    /// Writes its value on an empty page, or tells what is wrong with the number.
+    fn write(number: i32, page: &mut Vec<u8>) -> Result<Option<Complaint>, AllocError>
+        requires { page.old.items ≡ [] }
+        ensures { IfOk result (λ wrong. text_or_error wrong page.new.items ≡ value number) };
+}
+
 /// A number that must fit 32 signed bits.
 pub fn fitting(builtin: Builtin, number: i64) -> Result<i32, Complaint>
     ensures { number_or_error result ≡ number_given builtin number }
@@ -105,6 +122,23 @@ pub fn answer_in_error(
     state.tell(complaint)?;
     state.stack.answer_number(count, 0);
     Ok(Flow::Go)
+}
+
+/// Reports an error, and puts the empty text in place of arguments that were there.
+#[cold]
+pub fn answer_empty_in_error(
+    state: &mut State,
+    count: usize,
+    complaint: Complaint,
+) -> Result<Flow, AllocError>
+    requires some { 0 < count }
+    requires there { count ≤ length state.old.stack.items }
+    ensures { IfOk result (Acts (λ world. pushed_in_error complaint empty_item
+        (with_stack (drop count world.stack) world)) state.old state.new) }
+{
+    state.tell(complaint)?;
+    state.stack.drop_tops(count);
+    state.push_given(b"")
 }
 
 /// Puts a text that was written in place of arguments, unless it is too long.
@@ -202,6 +236,28 @@ pub fn call_of_text_to_text<F: OfTextToText>(
         }
         None => {
             let wrong = state.stack.is_no_text(0);
+            state.refuse_one(F::builtin(), wrong)?;
+            state.push_given(b"")
+        }
+    }
+}
+
+/// Calls a function of a number that gives a text.
+pub fn call_of_number_to_text<F: OfNumberToText>(
+    state: &mut State,
+    alloc: Global,
+) -> Result<Flow, AllocError>
+    ensures { IfOk result (Acts (λ world.
+        valued F.value empty_item (taken F.builtin as_number world)) state.old state.new) }
+{
+    let mut page = state.stack.take_page(alloc);
+    match state.stack.number_at(0) {
+        Some(number) => match F::write(number, &mut page)? {
+            None => answer_page(state, 1, page),
+            Some(complaint) => answer_empty_in_error(state, 1, complaint),
+        },
+        None => {
+            let wrong = state.stack.is_no_number(0);
             state.refuse_one(F::builtin(), wrong)?;
             state.push_given(b"")
         }

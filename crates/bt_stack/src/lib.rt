@@ -2,32 +2,30 @@
 //! functions over them.
 #![tactic(auto)]
 
+mod assignment;
 mod comparison;
 mod forms;
 mod joining;
 mod leaving;
+mod log_lines;
 mod moving;
+mod names;
 mod numbers;
 mod operands;
 mod output_buffer;
 mod reading;
+mod shown;
+mod spelling;
 mod stack;
 mod state;
 mod step_variables;
+mod table;
 mod texts;
 mod value;
 
-pub use comparison::{Empty, Missing, equals};
-pub use forms::{
-    OfFieldText, OfTextToNumber, OfTextToText, OfTwoNumbers, call_of_field_text,
-    call_of_text_to_number, call_of_text_to_text, call_of_two_numbers,
-};
-pub use numbers::{ChrToInt, Greater, Less, Minus, Plus};
 pub use operands::{
-    call_entry_number, call_entry_text, call_field, call_global_number, call_global_text, cite,
-    duplicate, entry_type, pop, preamble, swap,
+    call_entry_number, call_entry_text, call_field, call_global_number, call_global_text,
 };
-pub use output_buffer::{newline, write};
 pub use stack::Stack;
 pub use state::State;
-pub use texts::{AddPeriod, Purify, TextLength, Width, convert_case, cut, join, prefix};
+pub use table::call_basic;

@@ -21,6 +21,8 @@ use std::alloc::{AllocError, Global};
 use std::marker::Model;
 
 mod made;
+mod names;
+mod shown;
 mod variables;
 
 /// The literal stack, and the variables of a step.

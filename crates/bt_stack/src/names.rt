@@ -1,0 +1,137 @@
+//! The functions on lists of names.
+
+ghost use Rattle.std.specs.Prelude.{◌≡◌, ◌≤◌, length, drop, IfOk};
+ghost use Rattle.bt_actions.specs.Arguments.{as_number, as_text, taken_three};
+ghost use Rattle.bt_actions.specs.Given.{Errs, valued, answered, empty_item};
+ghost use Rattle.bt_actions.specs.Names.{names_counted, name_formatted};
+ghost use Rattle.bt_actions.specs.World.{World, with_stack};
+ghost use Rattle.bt_actions.specs.inner.Names.{pushed_within};
+ghost use Rattle.bt_names.specs.FormattedName.{formatted_name, IsFormatFault};
+ghost use Rattle.bt_style.specs.declared.builtin.Builtin.TheVariants as builtin;
+ghost use Rattle.bt_stack.specs.View.{world_of, Acts};
+ghost use Rattle.bt_stack.specs.inner.Formatted.{formatted_answer};
+
+use crate::forms::{OfTextToNumber, answer_empty_in_error, answer_page};
+use crate::state::State;
+use crate::texts::count_fitting;
+use bt_actions::{Complaint, Flow};
+use bt_names::{FormatFault, Formatted, count, format_within};
+use bt_style::Builtin;
+use bt_text::{Bytes, TEXT_BYTES};
+use std::alloc::{AllocError, Global};
+
+/// `num.names$`.
+pub struct NumNames;
+
+impl OfTextToNumber for NumNames {
+    ghost builtin = { builtin.NumNames };
+
+    ghost value = { names_counted };
+
+    fn builtin() -> Builtin {
+        Builtin::NumNames
+    }
+
+    fn of(_alloc: Global, text: &[u8]) -> Result<Result<i32, Complaint>, AllocError> {
+        Ok(count_fitting(Builtin::NumNames, count(text)))
+    }
+}
+
+fn fault_complaint(
+    alloc: Global,
+    names: &[u8],
+    number: i32,
+    pattern: &[u8],
+    fault: FormatFault,
+) -> Result<Complaint, AllocError>
+    requires { IsFormatFault (formatted_name names.now number pattern.now) fault }
+    ensures { IfOk result (λ complaint.
+        name_formatted (names.now, number, pattern.now) ≡ Errs complaint empty_item) }
+{
+    match fault {
+        FormatFault::NoSuchName => {
+            let names = Bytes::copied(alloc, names)?;
+            Ok(Complaint::NoSuchName(number, names))
+        }
+        FormatFault::TooManyCommas => {
+            let names = Bytes::copied(alloc, names)?;
+            Ok(Complaint::TooManyCommas(number, names))
+        }
+        FormatFault::PatternFault(place) => {
+            let pattern = Bytes::copied(alloc, pattern)?;
+            Ok(Complaint::PatternFault(pattern, place))
+        }
+        FormatFault::OutOfMemory => Err(AllocError),
+    }
+}
+
+/// Writes a name in the form of a pattern, or tells what is wrong with them. A name that is too long for the stack is
+/// cut off, since it isn't put there.
+fn formatted(
+    alloc: Global,
+    names: &[u8],
+    number: i32,
+    pattern: &[u8],
+) -> Result<Result<Formatted, Complaint>, AllocError>
+    ensures { IfOk result (λ told. (w : World) → formatted_answer told w
+        ≡ answered (name_formatted (names.now, number, pattern.now)) w) }
+{
+    match format_within(alloc, names, number, pattern, TEXT_BYTES) {
+        Ok(formatted) => Ok(Ok(formatted)),
+        Err(fault) => {
+            let complaint = fault_complaint(alloc, names, number, pattern, fault)?;
+            Ok(Err(complaint))
+        }
+    }
+}
+
+/// Puts a formatted name in place of three arguments, if it isn't too long.
+fn answer_within(
+    state: &mut State,
+    mut page: Vec<u8>,
+    formatted: Formatted,
+) -> Result<Flow, AllocError>
+    requires empty { page.items ≡ [] }
+    requires there { 3 ≤ length state.old.stack.items }
+    ensures { IfOk result (Acts (λ world. pushed_within formatted (with_stack (drop 3 world.stack) world))
+        state.old state.new) }
+{
+    match formatted {
+        Formatted::Text(text) => {
+            page.extend_from_slice(text.as_slice())?;
+            answer_page(state, 3, page)
+        }
+        Formatted::Longer => {
+            state.stack.drop_tops(3);
+            state.pass_text_limit()
+        }
+    }
+}
+
+/// `format.name$`.
+pub fn format_name(state: &mut State, alloc: Global) -> Result<Flow, AllocError>
+    ensures { IfOk result (Acts (λ world.
+        valued name_formatted empty_item (taken_three builtin.FormatName as_text as_number as_text world))
+        state.old state.new) }
+{
+    let page = state.stack.take_page(alloc);
+    match (
+        state.stack.text_at(2),
+        state.stack.number_at(1),
+        state.stack.text_at(0),
+    ) {
+        (Some(names), Some(number), Some(pattern)) => {
+            match formatted(alloc, names, number, pattern)? {
+                Ok(formatted) => answer_within(state, page, formatted),
+                Err(complaint) => answer_empty_in_error(state, 3, complaint),
+            }
+        }
+        _ => {
+            let wrong = state.stack.is_no_text(0)
+                || state.stack.is_no_number(1)
+                || state.stack.is_no_text(2);
+            state.refuse_three(Builtin::FormatName, wrong)?;
+            state.push_given(b"")
+        }
+    }
+}
