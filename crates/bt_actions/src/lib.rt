@@ -22,7 +22,7 @@ mod value;
 
 pub use actions::call_basic;
 pub use arguments::{take_choice, take_number, take_two_codes};
-pub use complaint::Complaint;
+pub use complaint::{Complaint, messages};
 pub use entry::{Entry, Variables, share_texts};
 pub use operands::{
     call_entry_number, call_entry_text, call_field, call_global_number, call_global_text,

@@ -1,12 +1,13 @@
 -- What a step's state is as a world.
-use Rattle.std.specs.Prelude.{◌≡◌, ℕ, List, Option, map, option_map}
+use Rattle.std.specs.Prelude.{◌≡◌, ℕ, List, [], Option, map, option_map}
 use Rattle.std.specs.Borrow.{Bor}
 use Rattle.bt_actions.specs.declared.entry.Entry.{Entry}
 use Rattle.bt_actions.specs.declared.entry.Variables.{Variables}
 use Rattle.bt_actions.specs.declared.state.Flow.{Flow}
 use Rattle.bt_actions.specs.Words.{message_of}
-use Rattle.bt_actions.specs.World.{World, Act}
+use Rattle.bt_actions.specs.World.{World, Act, entry_of}
 use Rattle.bt_actions.specs.View.{entries_in, act_of}
+use Rattle.bt_stack.specs.declared.leaving.Left.{Left}
 use Rattle.bt_stack.specs.declared.state.State.{State}
 
 -- the entries of the step's world: its own, with the variables as they are now, or none
@@ -38,3 +39,32 @@ world_of s =
 -- the action takes the one state to the other
 abbrev pub Acts : (World → Act) → State → State → Flow → Type 0
 Acts action old new flow = act_of flow (world_of new) ≡ action (world_of old)
+
+-- the world before a step for an entry or for none
+abbrev pub world_begun : Option Entry → Variables → List ℕ → List ℕ → World
+world_begun entry globals preamble held =
+    record {
+      entries = entries_in entry;
+      current = option_map (λ e. 0) entry;
+      globals = globals;
+      preamble = preamble;
+      held = held;
+      lines = [];
+      messages = [];
+      stack = [];
+    }
+
+-- the variables of the step's entry, if it has one
+abbrev pub own_variables : World → Option Variables
+own_variables w = option_map (λ e. e.variables) (entry_of w)
+
+-- what a step leaves of its world
+abbrev pub left_of : World → Left
+left_of w =
+    record {
+      globals = w.globals;
+      variables = own_variables w;
+      held = w.held;
+      lines = w.lines;
+      messages = w.messages;
+    }

@@ -1,15 +1,19 @@
-//! What a step leaves of its variables: those that it was given, shared, if it changed none; else a copy with its
-//! values put over them. This is the one place where made texts leave the pool.
+//! What a step leaves: its variables, what it wrote, and its messages.
+//!
+//! Variables that the step didn't change are those that it was given, shared. Others are copied, with the step's values
+//! put over them. This is the one place where made texts leave the pool.
 
 ghost use Rattle.std.specs.Prelude.{◌≡◌, length, IfOk, OnOk};
 ghost use Rattle.bt_actions.specs.Arguments.{as_text};
 ghost use Rattle.bt_stack.specs.inner.Kept.{item_in, Fits, AllFit, texts_over, numbers_over, variables_in, put};
 
 use crate::reading::text_in;
+use crate::state::State;
 use crate::step_variables::{StepVariables, own_number};
 use crate::value::Value;
-use bt_actions::Variables;
-use bt_text::{Bytes, Shared, Values};
+use bt_actions::{Variables, messages};
+use bt_log::Message;
+use bt_text::{Bytes, Held, Sequence, Shared, Values};
 use std::alloc::{AllocError, Global};
 
 /// Puts a number in its place, if the step gave one.
@@ -96,4 +100,83 @@ pub fn variables_left(
     let numbers = numbers_left(alloc, &variables.numbers, &variables.given.numbers)?;
     let texts = texts_left(alloc, pool, &variables.texts, &variables.given.texts)?;
     Shared::new(alloc, Variables { numbers, texts })
+}
+
+/// The lines of a step, each for many owners.
+fn shared_lines(
+    alloc: Global,
+    lines: Sequence<Bytes>,
+) -> Result<Sequence<Shared<Bytes>>, AllocError>
+    ensures { IfOk result (λ shared. shared ≡ lines) }
+{
+    let mut shared = Sequence::new(alloc);
+    'lines: for line in lines.into_vec() {
+        shared.push(Shared::new(alloc, line)?)?;
+    }
+    Ok(shared)
+}
+
+/// What of a step's state outlives it.
+#[derive(Drop)]
+pub struct Left {
+    pub globals: Shared<Variables>,
+    /// Those of the step's entry, if it has one.
+    pub variables: Option<Shared<Variables>>,
+    pub held: Held,
+    pub lines: Sequence<Shared<Bytes>>,
+    pub messages: Sequence<Message>,
+}
+
+impl<'a> State<'a> {
+    ghost use Rattle.std.specs.Prelude.{◌≡◌, IfOk};
+    ghost use Rattle.bt_stack.specs.View.{world_of, own_variables, left_of};
+
+    /// The messages of all complaints, in their order.
+    pub fn messages(&self, alloc: Global) -> Result<Sequence<Message>, AllocError>
+        ensures { IfOk result (λ messages. messages ≡ (world_of self.now).messages) }
+    {
+        let key = match self.entry {
+            None => None,
+            Some(entry) => Some(&entry.key),
+        };
+        messages(alloc, self.complaints.as_slice(), key)
+    }
+
+    /// The variables of the step's entry as they are now, if it has one.
+    fn own_left(&self, alloc: Global) -> Result<Option<Shared<Variables>>, AllocError>
+        ensures { IfOk result (λ left. left ≡ own_variables (world_of self.now)) }
+    {
+        match self.entry {
+            None => Ok(None),
+            Some(_) => Ok(Some(self.stack.own_left(alloc)?)),
+        }
+    }
+
+    /// What was written. It is taken in a function without `?`, each of which would prove the drop of all parts anew.
+    fn into_output(self) -> (Held, Sequence<Bytes>)
+        ensures held { result.0 ≡ self.entry.held }
+        ensures lines { result.1 ≡ self.entry.lines }
+    {
+        let State { held, lines, .. } = self;
+        (held, lines)
+    }
+
+    /// What the step leaves. Nothing is copied but the values of variables that the step changed, and the words of its
+    /// messages.
+    pub fn leave(self, alloc: Global) -> Result<Left, AllocError>
+        ensures { IfOk result (λ left. left ≡ left_of (world_of self.entry)) }
+    {
+        let messages = self.messages(alloc)?;
+        let globals = self.stack.globals_left(alloc)?;
+        let variables = self.own_left(alloc)?;
+        let (held, lines) = self.into_output();
+        let lines = shared_lines(alloc, lines)?;
+        Ok(Left {
+            globals,
+            variables,
+            held,
+            lines,
+            messages,
+        })
+    }
 }

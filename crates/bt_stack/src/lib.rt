@@ -2,7 +2,9 @@
 //! functions over them.
 #![tactic(auto)]
 
+mod arguments;
 mod assignment;
+mod beginning;
 mod comparison;
 mod forms;
 mod joining;
@@ -23,6 +25,8 @@ mod table;
 mod texts;
 mod value;
 
+pub use arguments::{take_choice, take_loop, take_number};
+pub use leaving::Left;
 pub use operands::{
     call_entry_number, call_entry_text, call_field, call_global_number, call_global_text,
 };

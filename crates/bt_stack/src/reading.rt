@@ -1,11 +1,13 @@
 //! What kept values are: numbers, texts, parts of texts. Each function holds for any pool in which the value lies.
 
 ghost use Rattle.std.specs.Prelude.{◌≡◌, ◌≤◌, ℕ, List, true, length, slice_get, option_copied, option_map, option_and_then, IfSome};
-ghost use Rattle.bt_actions.specs.Arguments.{as_number, as_text, as_field_text};
+ghost use Rattle.bt_actions.specs.Arguments.{as_number, as_text, as_field_text, as_code};
+ghost use Rattle.bt_actions.specs.View.{code_seen};
 ghost use Rattle.bt_stack.specs.Tops.{cut, equal_two};
 ghost use Rattle.bt_stack.specs.inner.Kept.{item_in, bytes_in, items, is_text, text_value, Fits, AllFit};
 
 use crate::value::Value;
+use bt_actions::Code;
 
 /// The kept value so many places below the top.
 pub fn value_at<'a>(values: &[Value<'a>], depth: usize) -> Option<Value<'a>>
@@ -52,6 +54,17 @@ pub fn number_in(value: Value) -> Option<i32>
 {
     match value {
         Value::Number(number) => Some(number),
+        _ => None,
+    }
+}
+
+/// A kept value, if it is a function.
+pub fn code_in(value: Value<'_>) -> Option<Code<'_>>
+    ensures { (pool : List ℕ) → option_map code_seen result ≡ as_code (item_in pool value.entry) }
+{
+    match value {
+        Value::Name(name) => Some(Code::Name(name)),
+        Value::Block(ops) => Some(Code::Block(ops)),
         _ => None,
     }
 }

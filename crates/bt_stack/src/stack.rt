@@ -7,14 +7,15 @@
 ghost use Rattle.std.specs.Prelude.{◌≡◌, ◌≤◌, ◌<◌, [], ◌∷◌, length, drop, slice_get, option_copied, option_map, option_and_then, IfSome, OnOk, OnErr};
 ghost use Rattle.bt_style.specs.Tree.{ops_body};
 ghost use Rattle.bt_actions.specs.Item.{Num, Txt, Fun, Missing, Name, Block};
-ghost use Rattle.bt_actions.specs.Arguments.{as_number, as_text, as_field_text, is_wrong};
+ghost use Rattle.bt_actions.specs.Arguments.{as_number, as_text, as_field_text, as_code, is_wrong};
+ghost use Rattle.bt_actions.specs.View.{code_seen};
 ghost use Rattle.bt_stack.specs.Desk.{with_items};
 ghost use Rattle.bt_stack.specs.Tops.{twice, top_len, exchanged, with_top, cut, tops_equal};
 
-use crate::reading::{cut, equal, field_text_in, number_in, text_in, value_at};
+use crate::reading::{code_in, cut, equal, field_text_in, number_in, text_in, value_at};
 use crate::step_variables::StepVariables;
 use crate::value::Value;
-use bt_actions::Variables;
+use bt_actions::{Code, Variables};
 use bt_style::{Op, Target};
 use bt_text::Shared;
 use std::alloc::{AllocError, Global};
@@ -190,6 +191,24 @@ impl<'a> Stack<'a> {
         ensures { result ≡ is_wrong as_field_text (slice_get self.now.items depth) }
     {
         depth < self.len() && self.field_text_at(depth).is_none()
+    }
+
+    /// The function so many places below the top, if there is one.
+    pub fn code_at(&self, depth: usize) -> Option<Code<'a>>
+        ensures { option_map code_seen result ≡ option_and_then as_code (slice_get self.now.items depth) }
+    {
+        match value_at(&self.values, depth) {
+            Some(value) => code_in(value),
+            None => None,
+        }
+    }
+
+    /// Whether a value is so many places below the top that is no function.
+    #[cold]
+    pub fn is_no_code(&self, depth: usize) -> bool
+        ensures { result ≡ is_wrong as_code (slice_get self.now.items depth) }
+    {
+        depth < self.len() && self.code_at(depth).is_none()
     }
 
     /// Whether the two topmost values are equal, if they are two numbers or two texts.

@@ -1,0 +1,197 @@
+-- What is left to do in the loop leads to what the definition says.
+use Rattle.std.proofs.Common.{◌≡◌, ℕ, zero, suc, ◌+◌, ◌≤◌, ◌<◌, List, [], ◌∷◌, ◌++◌, length, Bool, true, false, Option, Some, None, refl, sym, ap, ◌∙◌, arith}
+use Rattle.std.specs.Prelude.{ℤ, pos, negsuc, map, reverse}
+use Rattle.std.proofs.lemmas.List.{get_or_past, length-map, map-append, reverse-append}
+use Rattle.std.proofs.lemmas.Bool.{false≢true}
+use Rattle.bt_style.specs.declared.builtin.Builtin.TheVariants.{While}
+use Rattle.bt_style.specs.declared.style.Function.{Function}
+use Rattle.bt_style.specs.declared.style.Op.{Op}
+use Rattle.bt_style.specs.declared.style.Target.{Target}
+use Rattle.bt_style.specs.Tree.{Element, Called, Body, End, Then, element_of, ops_body}
+use Rattle.bt_style.specs.Program.{Definition, Program, definitions_of, definition_of}
+use Rattle.bt_actions.specs.declared.state.Flow.{Flow}
+use Rattle.bt_actions.specs.declared.state.Flow.TheVariants.{Go, Stop}
+use Rattle.bt_actions.specs.declared.complaint.Complaint.TheVariants.{TicksPassed}
+use Rattle.bt_actions.specs.Item.{Code, Name, Block}
+use Rattle.bt_actions.specs.World.{World, Act, Goes, Stops, say}
+use Rattle.bt_actions.specs.Arguments.{as_number, taken}
+use Rattle.bt_actions.specs.View.{act_of, code_seen}
+use Rattle.bt_machine.specs.declared.control.Frame.{Frame as HeldFrame}
+use Rattle.bt_machine.specs.declared.run.Element.{Element as HeldElement}
+use Rattle.bt_machine.specs.declared.run.Next.{Next}
+use Rattle.bt_machine.specs.Eval.{Counts, Ending, Done, Stopped, then_go, acted, code_body, function_body, no_definition, turn, looped, act, calls_after, eval}
+use Rattle.bt_machine.specs.Step.{counts_begun}
+use Rattle.bt_machine.specs.inner.Control.{Frame, Run, Test, frame_seen, meant, left, run_ended}
+use Rattle.bt_machine.specs.inner.Loop.{element_seen, followed, is_above, kept, whole, SameLeft}
+use Rattle.bt_machine.proofs.Bounds.{taken_len, taken_some_len}
+use Rattle.bt_machine.proofs.Equations.{eval-end, eval-no_tick, eval-then, looped-turn}
+
+-- an action that runs no function
+pub flow_ends : (flow : Flow) (w' : World) (k : Counts) (a : Act) → act_of flow w' ≡ a → run_ended flow w' k ≡ acted a k
+flow_ends Go w' k a e = ap (λ a. acted a k) e
+flow_ends Stop w' k a e = ap (λ a. acted a k) e
+
+-- two runs after one
+then_go-then_go : (o : Ending) (f g : World → Counts → Ending) → then_go (then_go o f) g ≡ then_go o (λ w k. then_go (f w k) g)
+then_go-then_go (Done w k) f g = refl
+then_go-then_go (Stopped w k) f g = refl
+
+-- a run of nothing between two
+then_go-eval_end : (p : Program) (o : Ending) (g : World → Counts → Ending) → then_go (then_go o (eval p End)) g ≡ then_go o g
+then_go-eval_end p (Done w k) g = ap (λ o. then_go o g) (eval-end p w k)
+then_go-eval_end p (Stopped w k) g = refl
+
+-- nothing left to do
+then_go-done : (p : Program) (o : Ending) → then_go o (left p []) ≡ o
+then_go-done p (Done w k) = refl
+then_go-done p (Stopped w k) = refl
+
+-- What comes to the same.
+
+pub same_join : (fs gs hs : List Frame) → SameLeft fs gs → SameLeft gs hs → SameLeft fs hs
+same_join fs gs hs h h' p w k = h p w k ∙ h' p w k
+
+pub same_under : (f : Frame) (fs gs : List Frame) → SameLeft fs gs → SameLeft (f ∷ fs) (f ∷ gs)
+same_under f fs gs h p w k i = then_go (meant p f w k) (λ w k. h p w k i)
+
+-- a body without elements is nothing to do
+pub same_end : (fs : List Frame) → SameLeft (Run (Block End) ∷ fs) fs
+same_end fs p w k = ap (λ o. then_go o (left p fs)) (eval-end p w k)
+
+pub end_same : (fs : List Frame) → SameLeft fs (Run (Block End) ∷ fs)
+end_same fs p w k = sym (same_end fs p w k)
+
+-- an element alone
+one_element : (p : Program) (e : Element) (fs : List Frame) (w : World) (k : ℕ) (calls : List ℕ) → left p (Run (Block (Then e End)) ∷ fs) w (suc k, calls) ≡ then_go (act p (eval p) e w (k, calls_after e calls)) (left p fs)
+one_element p e fs w k calls = ap (λ o. then_go o (left p fs)) (eval-then p e End w k calls) ∙ then_go-eval_end p _ (left p fs)
+
+-- the first element of a body, apart from the rest
+same_then : (e : Element) (rest : Body) (fs : List Frame) → SameLeft (Run (Block (Then e rest)) ∷ fs) (Run (Block (Then e End)) ∷ Run (Block rest) ∷ fs)
+same_then e rest fs p w (zero, calls) =
+    ap (λ o. then_go o (left p fs)) (eval-no_tick p e rest w calls)
+    ∙ sym (ap (λ o. then_go o (left p (Run (Block rest) ∷ fs))) (eval-no_tick p e End w calls))
+same_then e rest fs p w (suc k, calls) =
+    ap (λ o. then_go o (left p fs)) (eval-then p e rest w k calls)
+    ∙ then_go-then_go _ (eval p rest) (left p fs)
+    ∙ sym (one_element p e (Run (Block rest) ∷ fs) w k calls)
+
+-- What is due.
+
+pub due_element : (e : HeldElement) (op : Op) (ops ops' : List Op) (fs : List HeldFrame) → ops ≡ op ∷ ops' → element_seen e ≡ element_of op → SameLeft (whole ops fs) (Run (Block (Then (element_seen e) End)) ∷ whole ops' fs)
+due_element e op ops ops' fs is_ops is_op p w k =
+    ap (λ ops. left p (whole ops fs) w k) is_ops
+    ∙ same_then (element_of op) (ops_body ops') (kept fs) p w k
+    ∙ ap (λ e. left p (Run (Block (Then e End)) ∷ whole ops' fs) w k) (sym is_op)
+
+pub kept_some : (fs fs' : List HeldFrame) (f : HeldFrame) → fs ≡ fs' ++ f ∷ [] → kept fs ≡ frame_seen f ∷ kept fs'
+kept_some fs fs' f is_fs =
+    ap kept is_fs ∙ ap reverse (map-append frame_seen fs' (f ∷ [])) ∙ reverse-append (map frame_seen fs') (frame_seen f ∷ [])
+
+pub due_nothing : (ops : List Op) (fs : List HeldFrame) → ops ≡ [] → fs ≡ [] → (p : Program) (w : World) (k : Counts) → left p (whole ops fs) w k ≡ Done w k
+due_nothing ops fs none empty p w k = (λ i. left p (whole (none i) (empty i)) w k) ∙ same_end [] p w k
+
+-- something that waited, after a body's end
+pub due_kept : (ops : List Op) (fs fs' : List HeldFrame) (f : HeldFrame) → ops ≡ [] → fs ≡ fs' ++ f ∷ [] → SameLeft (whole ops fs) (frame_seen f ∷ kept fs')
+due_kept ops fs fs' f none is_fs p w k =
+    (λ i. left p (Run (Block (ops_body (none i))) ∷ kept_some fs fs' f is_fs i) w k) ∙ same_end (frame_seen f ∷ kept fs') p w k
+
+pub due_frame : (ops : List Op) (fs fs' : List HeldFrame) (f : HeldFrame) → ops ≡ [] → fs ≡ fs' ++ f ∷ [] → SameLeft (whole ops fs) (frame_seen f ∷ whole ops fs')
+due_frame ops fs fs' f none is_fs p w k =
+    due_kept ops fs fs' f none is_fs p w k
+    ∙ same_under (frame_seen f) (kept fs') (Run (Block End) ∷ kept fs') (end_same (kept fs')) p w k
+    ∙ (λ i. left p (frame_seen f ∷ Run (Block (ops_body (sym none i))) ∷ kept fs') w k)
+
+-- What an element leads to.
+
+pub element_leads : (p : Program) (e : HeldElement) (next : Next) (fs gs : List Frame) (w w' : World) (k k1 : Counts) (o : Ending) → left p fs w k ≡ o → SameLeft fs (Run (Block (Then (element_seen e) End)) ∷ gs) → k1.0 + 1 ≡ k.0 → k1.1 ≡ calls_after (element_seen e) k.1 → followed p next w' k1 ≡ act p (eval p) (element_seen e) w k1 → then_go (followed p next w' k1) (left p gs) ≡ o
+element_leads p e next fs gs w w' k k1 o leads same ticks calls did =
+    let r : k.0 ≡ suc k1.0 = omega (arith, ticks) in
+    ap (λ o. then_go o (left p gs)) did
+    ∙ ap (λ calls. then_go (act p (eval p) (element_seen e) w (k1.0, calls)) (left p gs)) calls
+    ∙ sym (one_element p (element_seen e) gs w k1.0 k.1)
+    ∙ ap (λ n. left p (Run (Block (Then (element_seen e) End)) ∷ gs) w (n, k.1)) (sym r)
+    ∙ sym (same p w k)
+    ∙ leads
+
+pub no_tick_leads : (p : Program) (e : HeldElement) (fs gs : List Frame) (w w' : World) (k : Counts) (o : Ending) → left p fs w k ≡ o → SameLeft fs (Run (Block (Then (element_seen e) End)) ∷ gs) → k.0 ≡ 0 → w' ≡ say TicksPassed w → Stopped w' k ≡ o
+no_tick_leads p e fs gs w w' k o leads same none told =
+    (λ i. Stopped (told i) (none i, k.1))
+    ∙ sym (ap (λ o. then_go o (left p gs)) (eval-no_tick p (element_seen e) End w k.1))
+    ∙ (λ i. left p (Run (Block (Then (element_seen e) End)) ∷ gs) w (sym none i, k.1))
+    ∙ sym (same p w k)
+    ∙ leads
+
+-- a loop: its test, and then the look at the number
+loop_same : (p : Program) (test body : Code) (fs : List Frame) (w : World) (k : Counts) → left p (Run test ∷ Test test body ∷ fs) w k ≡ then_go (looped (eval p) test body w k) (left p fs)
+loop_same p test body fs w k =
+    sym (ap (λ o. then_go o (left p fs)) (looped-turn p test body w k) ∙ then_go-then_go (eval p (code_body test) w k) _ (left p fs))
+
+-- a loop was put before what is left
+pub loop_leads : (p : Program) (test body : Code) (fs gs : List Frame) (w : World) (k : Counts) (o : Ending) → then_go (looped (eval p) test body w k) (left p fs) ≡ o → SameLeft gs (Run test ∷ Test test body ∷ fs) → left p gs w k ≡ o
+loop_leads p test body fs gs w k o leads same = same p w k ∙ loop_same p test body fs w k ∙ leads
+
+-- a turn of a loop
+
+turn_ends : (n : Option ℤ) (w : World) (k : Counts) (body again : World → Counts → Ending) → is_above n ≡ false → turn (n, w) k body again ≡ Done w k
+turn_ends None w k body again h = refl
+turn_ends (Some (pos zero)) w k body again h = refl
+turn_ends (Some (pos (suc n))) w k body again h = absurd (false≢true (sym h))
+turn_ends (Some (negsuc n)) w k body again h = refl
+
+turn_goes : (n : Option ℤ) (w : World) (k : Counts) (body again : World → Counts → Ending) → is_above n ≡ true → turn (n, w) k body again ≡ then_go (body w k) again
+turn_goes None w k body again h = absurd (false≢true h)
+turn_goes (Some (pos zero)) w k body again h = absurd (false≢true h)
+turn_goes (Some (pos (suc n))) w k body again h = refl
+turn_goes (Some (negsuc n)) w k body again h = absurd (false≢true h)
+
+pub ends_leads : (p : Program) (test body : Code) (fs gs : List Frame) (w w' : World) (k : Counts) (o : Ending) → left p fs w k ≡ o → SameLeft fs (Test test body ∷ gs) → is_above (taken While as_number w).0 ≡ false → w' ≡ (taken While as_number w).1 → left p gs w' k ≡ o
+ends_leads p test body fs gs w w' k o leads same h ew =
+    let q = taken While as_number w in
+    ap (λ w. left p gs w k) ew
+    ∙ sym (ap (λ o. then_go o (left p gs)) (turn_ends q.0 q.1 k (eval p (code_body body)) (looped (eval p) test body) h))
+    ∙ sym (same p w k)
+    ∙ leads
+
+pub turn_leads : (p : Program) (test body : Code) (fs gs hs ks : List Frame) (w w' : World) (k : Counts) (o : Ending) → left p fs w k ≡ o → SameLeft fs (Test test body ∷ gs) → is_above (taken While as_number w).0 ≡ true → w' ≡ (taken While as_number w).1 → SameLeft hs (Run test ∷ Test test body ∷ gs) → SameLeft ks (Run body ∷ hs) → left p ks w' k ≡ o
+turn_leads p test body fs gs hs ks w w' k o leads same h ew looping begun =
+    let q = taken While as_number w in
+    begun p w' k
+    ∙ same_under (Run body) hs (Run test ∷ Test test body ∷ gs) looping p w' k
+    ∙ (λ i. then_go (eval p (code_body body) w' k) (λ w k. loop_same p test body gs w k i))
+    ∙ sym (then_go-then_go (eval p (code_body body) w' k) (looped (eval p) test body) (left p gs))
+    ∙ ap (λ w. then_go (then_go (eval p (code_body body) w k) (looped (eval p) test body)) (left p gs)) ew
+    ∙ sym (ap (λ o. then_go o (left p gs)) (turn_goes q.0 q.1 k (eval p (code_body body)) (looped (eval p) test body) h))
+    ∙ sym (same p w k)
+    ∙ leads
+
+-- the beginning
+pub starts : (p : Program) (t : Target) (ops : List Op) (control : List HeldFrame) (w : World) (k : Counts) → ops ≡ [] → kept control ≡ Run (Name t) ∷ [] → k ≡ counts_begun → left p (whole ops control) w k ≡ eval p (Then (Called t) End) w counts_begun
+starts p t ops control w k none is_control is_k =
+    (λ i. left p (Run (Block (ops_body (none i))) ∷ is_control i) w (is_k i))
+    ∙ same_end (Run (Name t) ∷ []) p w counts_begun
+    ∙ then_go-done p (eval p (Then (Called t) End) w counts_begun)
+
+-- How long the stack is.
+
+pub number_len : (w w' : World) → w' ≡ (taken While as_number w).1 → length w'.stack ≤ length w.stack
+number_len w w' ew =
+    let l = taken_len While as_number w in
+    let m : length w'.stack ≡ length (taken While as_number w).1.stack = ap (λ (u : World). length u.stack) ew in
+    omega (arith, l, m)
+
+above_some : (n : Option ℤ) (w w' : World) → is_above n ≡ true → n ≡ (taken While as_number w).0 → w' ≡ (taken While as_number w).1 → length w'.stack < length w.stack
+above_some None w w' h en ew = absurd (false≢true h)
+above_some (Some n) w w' h en ew =
+    let l = taken_some_len While as_number w n (sym en) in
+    let m : length w'.stack ≡ length (taken While as_number w).1.stack = ap (λ (u : World). length u.stack) ew in
+    omega (arith, l, m)
+
+pub above_len : (w w' : World) → is_above (taken While as_number w).0 ≡ true → w' ≡ (taken While as_number w).1 → length w'.stack < length w.stack
+above_len w w' h ew = above_some (taken While as_number w).0 w w' h refl ew
+
+-- no function of this number: nothing is run
+pub entered_past : (p : Program) (functions : List Function) (n : ℕ) (w : World) (k : Counts) → p.functions ≡ definitions_of functions → length functions ≤ n → Done w k ≡ eval p (function_body p.functions n) w k
+entered_past p functions n w k e h =
+    let l = length-map functions definition_of in
+    let m = ap length e in
+    sym (eval-end p w k) ∙ ap (λ (d : Definition). eval p d.body w k) (sym (get_or_past p.functions n no_definition (omega arith)))

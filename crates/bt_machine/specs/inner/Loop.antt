@@ -1,0 +1,68 @@
+-- What is left to do in the loop, and what an element leads to.
+use Rattle.std.specs.Prelude.{◌≡◌, ℤ, pos, negsuc, zero, suc, ◌≤◌, ◌<◌, Bool, true, false, List, ◌∷◌, Option, Some, None, length, map, reverse}
+use Rattle.bt_style.specs.declared.style.Op.{Op}
+use Rattle.bt_style.specs.Program.{Program}
+use Rattle.bt_style.specs.Tree.{Element, Amount, Words, Quoted, Braced, Called, End, Then, ops_body}
+use Rattle.bt_actions.specs.Item.{Block}
+use Rattle.bt_actions.specs.World.{World}
+use Rattle.bt_actions.specs.View.{code_seen}
+use Rattle.bt_stack.specs.declared.state.State.{State}
+use Rattle.bt_stack.specs.View.{world_of}
+use Rattle.bt_machine.specs.declared.control.Frame.{Frame as HeldFrame}
+use Rattle.bt_machine.specs.declared.run.Element.{Element as HeldElement}
+use Rattle.bt_machine.specs.declared.run.Element.TheVariants as element
+use Rattle.bt_machine.specs.declared.run.Next.{Next}
+use Rattle.bt_machine.specs.declared.run.Next.TheVariants as next
+use Rattle.bt_machine.specs.declared.run.Due.{Due}
+use Rattle.bt_machine.specs.declared.run.Due.TheVariants as due
+use Rattle.bt_machine.specs.Eval.{Counts, Ending, Done, code_body, eval, looped}
+use Rattle.bt_machine.specs.inner.Control.{Frame, Run, Test, frame_seen, left, run_ended}
+
+abbrev pub element_seen : HeldElement → Element
+element_seen (element.Number n) = Amount n
+element_seen (element.Text t) = Words t.now
+element_seen (element.Quote t) = Quoted t
+element_seen (element.Block ops) = Braced (ops_body ops.now)
+element_seen (element.Call t) = Called t
+
+-- what comes after an element, before the rest of its body
+abbrev pub followed : Program → Next → World → Counts → Ending
+followed p (next.Flow flow) w k = run_ended flow w k
+followed p (next.Run c) w k = eval p (code_body (code_seen c)) w k
+followed p (next.Loop test body) w k = looped (eval p) (code_seen test) (code_seen body) w k
+
+-- what follows in the new state comes to the same as this run in the old one
+abbrev pub LeadsTo : Program → State → State → (World → Counts → Ending) → Next → Type 0
+LeadsTo p old new run next = (k : Counts) → followed p next (world_of new) k ≡ run (world_of old) k
+
+-- what follows is this run
+abbrev pub Means : Program → Next → (World → Counts → Ending) → Type 0
+Means p next run = (w : World) (k : Counts) → followed p next w k ≡ run w k
+
+-- whether a number is there and above 0
+abbrev pub is_above : Option ℤ → Bool
+is_above None = false
+is_above (Some (pos zero)) = false
+is_above (Some (pos (suc n))) = true
+is_above (Some (negsuc n)) = false
+
+-- what waits, the next first
+abbrev pub kept : List HeldFrame → List Frame
+kept control = reverse (map frame_seen control)
+
+-- what is left of the body, and then what waits
+abbrev pub whole : List Op → List HeldFrame → List Frame
+whole ops control = Run (Block (ops_body ops)) ∷ kept control
+
+-- two lists of what is left to do come to the same
+abbrev pub SameLeft : List Frame → List Frame → Type 0
+SameLeft fs fs' = (p : Program) (w : World) (k : Counts) → left p fs w k ≡ left p fs' w k
+
+-- what was left to do is this, and then what is left now
+abbrev pub IsDue : Due → List Op → List HeldFrame → List Op → List HeldFrame → Type 0
+IsDue due.Nothing ops fs ops' fs' = (p : Program) (w : World) (k : Counts) → left p (whole ops fs) w k ≡ Done w k
+IsDue due.Body ops fs ops' fs' = SameLeft (whole ops fs) (whole ops' fs') × (length fs' < length fs)
+IsDue (due.Element e) ops fs ops' fs' =
+    SameLeft (whole ops fs) (Run (Block (Then (element_seen e) End)) ∷ whole ops' fs') × (length fs' ≤ length fs)
+IsDue (due.Test test body) ops fs ops' fs' =
+    SameLeft (whole ops fs) (Test (code_seen test) (code_seen body) ∷ whole ops' fs') × (length fs' < length fs)

@@ -1,0 +1,326 @@
+//! The loop that runs a step.
+//!
+//! A function that is called takes no Rust stack: what is left of the body that called it waits on a `Vec`. The body
+//! that is being run, and the ticks, are locals, so that an element costs no push and no pop. A body that is at its end
+//! isn't kept, so calls in last place don't make the `Vec` grow.
+//!
+//! The definition (`eval`) is a recursion that knows nothing of this. Each function here says what its part of the
+//! definition comes to, and `work` that the whole does.
+
+ghost use Rattle.std.specs.Prelude.{◌≡◌, ◌+◌, ◌≤◌, ◌∷◌, length, bytes_eq, codes, position, IfOk, OnOk};
+ghost use Rattle.std.specs.Option.{option_or};
+ghost use Rattle.bt_style.specs.Program.{Program, program_of};
+ghost use Rattle.bt_style.specs.Tree.{End, Then, Called, element_of};
+ghost use Rattle.bt_style.specs.declared.builtin.Builtin.TheVariants as builtin;
+ghost use Rattle.bt_actions.specs.World.{say};
+ghost use Rattle.bt_actions.specs.Arguments.{as_number, taken};
+ghost use Rattle.bt_actions.specs.View.{code_seen};
+ghost use Rattle.bt_stack.specs.View.{world_of};
+ghost use Rattle.bt_machine.specs.Eval.{eval, act, called, built_in, function_body, builtin_called, default_type};
+ghost use Rattle.bt_machine.specs.Step.{counts_begun};
+ghost use Rattle.bt_machine.specs.inner.Control.{Run, Test, counts, run_ended};
+ghost use Rattle.bt_machine.specs.inner.Loop.{element_seen, LeadsTo, Means, SameLeft, is_above, kept, whole, IsDue};
+
+use crate::control::Frame;
+use bt_actions::{Code, Complaint, Entry, Flow, Tally};
+use bt_stack::{
+    State, call_basic, call_entry_number, call_entry_text, call_field, call_global_number,
+    call_global_text, take_choice, take_loop, take_number,
+};
+use bt_style::{Builtin, Function, Op, Style, Target};
+use std::alloc::{AllocError, Global};
+
+/// What takes a tick: an element of a body, or the call of a quoted name.
+#[derive(Clone, Copy)]
+pub enum Element<'a> {
+    Number(i32),
+    Text(&'a [u8]),
+    Quote(Target),
+    Block(&'a [Op]),
+    Call(Target),
+}
+
+impl<'a> Element<'a> {
+    fn of(op: &'a Op) -> Element<'a>
+        ensures { element_seen result ≡ element_of op.now }
+    {
+        match op {
+            Op::Number(n) => Element::Number(*n),
+            Op::Text(text) => Element::Text(text.as_slice()),
+            Op::Quote(target) => Element::Quote(*target),
+            Op::Block(ops) => Element::Block(ops),
+            Op::Call(target) => Element::Call(*target),
+        }
+    }
+
+    /// The built-in function that it calls.
+    fn builtin(self) -> Option<Builtin>
+        ensures { result ≡ builtin_called (element_seen self.entry) }
+    {
+        match self {
+            Element::Call(Target::Builtin(builtin)) => Some(builtin),
+            _ => None,
+        }
+    }
+}
+
+/// What comes after an element, before the rest of its body.
+#[derive(Clone, Copy)]
+pub enum Next<'a> {
+    /// Nothing, or the end of the run.
+    Flow(Flow),
+    /// A function is run.
+    Run(Code<'a>),
+    /// A loop is run, of its test and its body.
+    Loop(Code<'a>, Code<'a>),
+}
+
+/// What is to be done.
+#[derive(Clone, Copy)]
+pub enum Due<'a> {
+    /// Nothing more.
+    Nothing,
+    /// The body that is left.
+    Body,
+    Element(Element<'a>),
+    /// The test of a loop was run: the number that it left decides on a turn.
+    Test(Code<'a>, Code<'a>),
+}
+
+/// The next thing to do, and what is left of the body after it.
+fn next_due<'a>(rest: &'a [Op], control: &mut Vec<Frame<'a>>) -> (Due<'a>, &'a [Op])
+    ensures { IsDue result.0 rest.now control.old.items result.1.now control.new.items }
+{
+    match rest.split_first() {
+        Some((op, after)) => (Due::Element(Element::of(op)), after),
+        None => match control.pop() {
+            None => (Due::Nothing, rest),
+            Some(Frame::Run(Code::Block(ops))) => (Due::Body, ops),
+            Some(Frame::Run(Code::Name(target))) => (Due::Element(Element::Call(target)), rest),
+            Some(Frame::Test(test, body)) => (Due::Test(test, body), rest),
+        },
+    }
+}
+
+/// Keeps what is left of a body, if anything is.
+fn keep<'a>(control: &mut Vec<Frame<'a>>, rest: &'a [Op]) -> Result<(), AllocError>
+    ensures same { OnOk result (SameLeft (kept control.new.items) (whole rest.now control.old.items)) }
+    ensures more { OnOk result (length control.new.items ≤ length control.old.items + 1) }
+{
+    if !rest.is_empty() {
+        control.push(Frame::Run(Code::Block(rest)))?;
+    }
+    Ok(())
+}
+
+/// Puts a function before what is left, and returns the body that is run next.
+fn begin<'a>(
+    control: &mut Vec<Frame<'a>>,
+    rest: &'a [Op],
+    code: Code<'a>,
+) -> Result<&'a [Op], AllocError>
+    ensures same { IfOk result (λ body. SameLeft (whole body.now control.new.items)
+        (Run (code_seen code.entry) ∷ whole rest.now control.old.items)) }
+    ensures more { OnOk result (length control.new.items ≤ length control.old.items + 2) }
+{
+    keep(control, rest)?;
+    match code {
+        Code::Block(ops) => Ok(ops),
+        Code::Name(_) => {
+            control.push(Frame::Run(code))?;
+            Ok(&[])
+        }
+    }
+}
+
+/// Puts a loop before what is left, and returns the body that is run next.
+fn begin_loop<'a>(
+    control: &mut Vec<Frame<'a>>,
+    rest: &'a [Op],
+    test: Code<'a>,
+    body: Code<'a>,
+) -> Result<&'a [Op], AllocError>
+    ensures same { IfOk result (λ ops. SameLeft (whole ops.now control.new.items)
+        (Run (code_seen test.entry) ∷ Test (code_seen test.entry) (code_seen body.entry)
+        ∷ whole rest.now control.old.items)) }
+    ensures more { OnOk result (length control.new.items ≤ length control.old.items + 4) }
+{
+    keep(control, rest)?;
+    control.push(Frame::Test(test, body))?;
+    begin(control, &[], test)
+}
+
+/// Takes the number that a loop's test left, and returns whether there is another turn. Without a number, after an
+/// error, there is none.
+fn goes_on(state: &mut State) -> Result<bool, AllocError>
+    ensures turn { IfOk result (λ more. more ≡ is_above (taken builtin.While as_number (world_of state.old)).0) }
+    ensures world { OnOk result (world_of state.new ≡ (taken builtin.While as_number (world_of state.old)).1) }
+{
+    match take_number(state)? {
+        Some(number) => Ok(number > 0),
+        None => Ok(false),
+    }
+}
+
+#[cold]
+fn find_default_type(functions: &[Function]) -> Option<usize>
+    ensures { result ≡ position (λ f. bytes_eq f.name (codes "default.type")) functions.now }
+{
+    functions.iter().position(|function| function.name.as_slice() == b"default.type".as_slice())
+}
+
+/// The number of the function that is run for an entry, if there is one.
+fn type_function(entry: &Entry, style: &Style) -> Option<usize>
+    ensures { result ≡ option_or entry.now.function (default_type (program_of style.now).functions) }
+{
+    match entry.function {
+        Some(n) => Some(n),
+        None => find_default_type(&style.functions),
+    }
+}
+
+/// A number out of range stands for a function without elements.
+fn enter<'a>(style: &'a Style, n: usize) -> Next<'a>
+    ensures { let p = program_of style.now in Means p result (eval p (function_body p.functions n)) }
+{
+    if n < style.functions.len() {
+        Next::Run(Code::Block(&style.functions[n].body))
+    } else {
+        Next::Flow(Flow::Go)
+    }
+}
+
+/// `call.type$`.
+fn call_type<'a>(state: &mut State<'a>, style: &'a Style) -> Result<Next<'a>, AllocError>
+    ensures { let p = program_of style.now in IfOk result (LeadsTo p state.old state.new (built_in p (eval p) builtin.CallType)) }
+{
+    match state.entry {
+        None => {
+            state.tell(Complaint::NoEntry)?;
+            Ok(Next::Flow(Flow::Go))
+        }
+        Some(entry) => match type_function(entry, style) {
+            None => Ok(Next::Flow(Flow::Go)),
+            Some(n) => Ok(enter(style, n)),
+        },
+    }
+}
+
+/// `if$`.
+fn choose<'a>(state: &mut State<'a>) -> Result<Next<'a>, AllocError>
+    ensures { (p : Program) → IfOk result (LeadsTo p state.old state.new (built_in p (eval p) builtin.If)) }
+{
+    match take_choice(state)? {
+        None => Ok(Next::Flow(Flow::Go)),
+        Some((number, above, other)) => Ok(Next::Run(if number > 0 { above } else { other })),
+    }
+}
+
+/// `while$`.
+fn repeat<'a>(state: &mut State<'a>) -> Result<Next<'a>, AllocError>
+    ensures { (p : Program) → IfOk result (LeadsTo p state.old state.new (built_in p (eval p) builtin.While)) }
+{
+    match take_loop(state)? {
+        None => Ok(Next::Flow(Flow::Go)),
+        Some((test, body)) => Ok(Next::Loop(test, body)),
+    }
+}
+
+fn call_builtin<'a>(
+    state: &mut State<'a>,
+    alloc: Global,
+    style: &'a Style,
+    builtin: Builtin,
+) -> Result<Next<'a>, AllocError>
+    ensures { let p = program_of style.now in IfOk result (LeadsTo p state.old state.new (built_in p (eval p) builtin)) }
+{
+    match builtin {
+        Builtin::CallType => call_type(state, style),
+        Builtin::If => choose(state),
+        Builtin::While => repeat(state),
+        _ => Ok(Next::Flow(call_basic(state, alloc, style, builtin)?)),
+    }
+}
+
+fn call<'a>(
+    state: &mut State<'a>,
+    alloc: Global,
+    style: &'a Style,
+    target: Target,
+) -> Result<Next<'a>, AllocError>
+    ensures { let p = program_of style.now in IfOk result (LeadsTo p state.old state.new (called p (eval p) target)) }
+{
+    match target {
+        Target::Builtin(builtin) => call_builtin(state, alloc, style, builtin),
+        Target::Field(n) => Ok(Next::Flow(call_field(state, n)?)),
+        Target::EntryNumber(n) => Ok(Next::Flow(call_entry_number(state, n)?)),
+        Target::EntryText(n) => Ok(Next::Flow(call_entry_text(state, n)?)),
+        Target::GlobalNumber(n) => Ok(Next::Flow(call_global_number(state, n)?)),
+        Target::GlobalText(n) => Ok(Next::Flow(call_global_text(state, n)?)),
+        Target::Function(n) => Ok(enter(style, n)),
+    }
+}
+
+/// Does what an element does itself, after its tick.
+fn carry_out<'a>(
+    state: &mut State<'a>,
+    alloc: Global,
+    style: &'a Style,
+    element: Element<'a>,
+) -> Result<Next<'a>, AllocError>
+    ensures { let p = program_of style.now in IfOk result (LeadsTo p state.old state.new (act p (eval p) (element_seen element.entry))) }
+{
+    match element {
+        Element::Number(n) => Ok(Next::Flow(state.push_number(n)?)),
+        Element::Text(text) => Ok(Next::Flow(state.push_given(text)?)),
+        Element::Quote(target) => Ok(Next::Flow(state.push_name(target)?)),
+        Element::Block(ops) => Ok(Next::Flow(state.push_block(ops)?)),
+        Element::Call(target) => call(state, alloc, style, target),
+    }
+}
+
+/// Runs a call of a name and all that it leads to. `control` serves as memory.
+pub fn work<'a>(
+    state: &mut State<'a>,
+    control: &mut Vec<Frame<'a>>,
+    alloc: Global,
+    style: &'a Style,
+    first: Target,
+) -> Result<(Flow, Tally), AllocError>
+    ensures { IfOk result (λ end. run_ended end.0 (world_of state.new) (counts end.1)
+        ≡ eval (program_of style.now) (Then (Called first) End) (world_of state.old) counts_begun) }
+{
+    control.clear();
+    control.push(Frame::Run(Code::Name(first)))?;
+    let mut rest: &'a [Op] = &[];
+    let mut tally = Tally::new();
+    'work: loop {
+        let (due, after) = next_due(rest, control);
+        rest = after;
+        match due {
+            Due::Nothing => return Ok((Flow::Go, tally)),
+            Due::Body => {}
+            Due::Test(test, body) => {
+                if goes_on(state)? {
+                    rest = begin_loop(control, rest, test, body)?;
+                    rest = begin(control, rest, body)?;
+                }
+            }
+            Due::Element(element) => {
+                if tally.ticks == 0 {
+                    state.tell(Complaint::TicksPassed)?;
+                    return Ok((Flow::Stop, tally));
+                }
+                tally.take(element.builtin());
+                let next = carry_out(state, alloc, style, element)?;
+                let _depth = state.stack.len();
+                match next {
+                    Next::Flow(Flow::Go) => {}
+                    Next::Flow(Flow::Stop) => return Ok((Flow::Stop, tally)),
+                    Next::Run(code) => rest = begin(control, rest, code)?,
+                    Next::Loop(test, body) => rest = begin_loop(control, rest, test, body)?,
+                }
+            }
+        }
+    }
+}

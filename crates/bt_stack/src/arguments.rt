@@ -1,0 +1,78 @@
+//! What the functions take that run others.
+
+ghost use Rattle.std.specs.Prelude.{◌≡◌, IfOk, option_map};
+ghost use Rattle.bt_actions.specs.Arguments.{as_number, as_code, taken, taken_two, taken_three};
+ghost use Rattle.bt_actions.specs.View.{code_seen};
+ghost use Rattle.bt_style.specs.declared.builtin.Builtin.TheVariants as builtin;
+ghost use Rattle.bt_stack.specs.View.{world_of};
+
+use crate::state::State;
+use bt_actions::Code;
+use bt_style::Builtin;
+use std::alloc::AllocError;
+
+/// Takes the number that the test of a loop left, or reports that there is none.
+pub fn take_number(state: &mut State) -> Result<Option<i32>, AllocError>
+    ensures { IfOk result (λ number.
+        (number, world_of state.new) ≡ taken builtin.While as_number (world_of state.old)) }
+{
+    match state.stack.number_at(0) {
+        Some(number) => {
+            state.stack.drop_tops(1);
+            Ok(Some(number))
+        }
+        None => {
+            let wrong = state.stack.is_no_number(0);
+            state.refuse_one(Builtin::While, wrong)?;
+            Ok(None)
+        }
+    }
+}
+
+/// Takes the test and the body of a loop, or reports what is wrong with them.
+pub fn take_loop<'a>(
+    state: &mut State<'a>,
+) -> Result<Option<(Code<'a>, Code<'a>)>, AllocError>
+    ensures { IfOk result (λ pair.
+        (option_map (λ codes. (code_seen codes.0, code_seen codes.1)) pair, world_of state.new)
+        ≡ taken_two builtin.While as_code as_code (world_of state.old)) }
+{
+    match (state.stack.code_at(1), state.stack.code_at(0)) {
+        (Some(test), Some(body)) => {
+            state.stack.drop_tops(2);
+            Ok(Some((test, body)))
+        }
+        _ => {
+            let wrong = state.stack.is_no_code(0) || state.stack.is_no_code(1);
+            state.refuse_two(Builtin::While, wrong)?;
+            Ok(None)
+        }
+    }
+}
+
+/// Takes the number and the two functions of `if$`, or reports what is wrong with them.
+pub fn take_choice<'a>(
+    state: &mut State<'a>,
+) -> Result<Option<(i32, Code<'a>, Code<'a>)>, AllocError>
+    ensures { IfOk result (λ all.
+        (option_map (λ all. (all.0, code_seen all.1, code_seen all.2)) all, world_of state.new)
+        ≡ taken_three builtin.If as_number as_code as_code (world_of state.old)) }
+{
+    match (
+        state.stack.number_at(2),
+        state.stack.code_at(1),
+        state.stack.code_at(0),
+    ) {
+        (Some(number), Some(above), Some(other)) => {
+            state.stack.drop_tops(3);
+            Ok(Some((number, above, other)))
+        }
+        _ => {
+            let wrong = state.stack.is_no_code(0)
+                || state.stack.is_no_code(1)
+                || state.stack.is_no_number(2);
+            state.refuse_three(Builtin::If, wrong)?;
+            Ok(None)
+        }
+    }
+}
