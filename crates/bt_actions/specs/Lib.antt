@@ -1,5 +1,3 @@
-pub mod ShortText
-pub mod StepVariables
 pub mod Item
 pub mod Words
 pub mod Tally

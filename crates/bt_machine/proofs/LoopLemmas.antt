@@ -1,28 +1,37 @@
 -- What is left to do in the loop leads to what the definition says.
-use Rattle.std.proofs.Common.{◌≡◌, ℕ, zero, suc, ◌+◌, ◌≤◌, ◌<◌, List, [], ◌∷◌, ◌++◌, length, Bool, true, false, Option, Some, None, refl, sym, ap, ◌∙◌, arith}
-use Rattle.std.specs.Prelude.{ℤ, pos, negsuc, map, reverse}
+use Rattle.std.proofs.Common.{◌≡◌, ◌≢◌, ℕ, zero, suc, ◌+◌, ◌≤◌, ◌<◌, List, [], ◌∷◌, ◌++◌, length, Bool, true, false, Option, Some, None, refl, sym, ap, ◌∙◌, arith}
+use Rattle.std.specs.Prelude.{ℤ, pos, negsuc, ◌<ℤ◌, ◌≤ℤ◌, map, reverse}
 use Rattle.std.proofs.lemmas.List.{get_or_past, length-map, map-append, reverse-append}
 use Rattle.std.proofs.lemmas.Bool.{false≢true}
-use Rattle.bt_style.specs.declared.builtin.Builtin.TheVariants.{While}
+use Rattle.bt_style.specs.declared.builtin.Builtin.TheVariants.{CallType, If, While}
+use Rattle.bt_style.specs.declared.builtin.Builtin.{Builtin as Primitive}
 use Rattle.bt_style.specs.declared.style.Function.{Function}
 use Rattle.bt_style.specs.declared.style.Op.{Op}
 use Rattle.bt_style.specs.declared.style.Target.{Target}
 use Rattle.bt_style.specs.Tree.{Element, Called, Body, End, Then, element_of, ops_body}
 use Rattle.bt_style.specs.Program.{Definition, Program, definitions_of, definition_of}
-use Rattle.bt_actions.specs.declared.state.Flow.{Flow}
-use Rattle.bt_actions.specs.declared.state.Flow.TheVariants.{Go, Stop}
+use Rattle.bt_actions.specs.declared.flow.Flow.{Flow}
+use Rattle.bt_actions.specs.declared.flow.Flow.TheVariants.{Go, Stop}
 use Rattle.bt_actions.specs.declared.complaint.Complaint.TheVariants.{TicksPassed}
 use Rattle.bt_actions.specs.Item.{Code, Name, Block}
 use Rattle.bt_actions.specs.World.{World, Act, Goes, Stops, say}
-use Rattle.bt_actions.specs.Arguments.{as_number, taken}
+use Rattle.bt_actions.specs.Arguments.{as_number, as_code, taken, taken_two, taken_three}
+use Rattle.bt_actions.specs.Actions.{basic}
 use Rattle.bt_actions.specs.View.{act_of, code_seen}
-use Rattle.bt_machine.specs.declared.control.Frame.{Frame as HeldFrame}
+use Rattle.bt_machine.specs.declared.run.Frame.{Frame as HeldFrame}
 use Rattle.bt_machine.specs.declared.run.Element.{Element as HeldElement}
 use Rattle.bt_machine.specs.declared.run.Next.{Next}
-use Rattle.bt_machine.specs.Eval.{Counts, Ending, Done, Stopped, then_go, acted, code_body, function_body, no_definition, turn, looped, act, calls_after, eval}
-use Rattle.bt_machine.specs.Step.{counts_begun}
-use Rattle.bt_machine.specs.inner.Control.{Frame, Run, Test, frame_seen, meant, left, run_ended}
-use Rattle.bt_machine.specs.inner.Loop.{element_seen, followed, is_above, kept, whole, SameLeft}
+use Rattle.bt_machine.specs.Eval.{Counts, Ending, Done, Stopped, Runner, then_go, acted, run_with, by_sign, built_in, code_body, function_body, no_definition, turn, looped, act, calls_after, eval}
+use Rattle.bt_actions.specs.declared.entry.Entry.{Entry}
+use Rattle.bt_actions.specs.declared.entry.Variables.{Variables}
+use Rattle.bt_actions.specs.World.{entry_in}
+use Rattle.bt_stack.specs.declared.state.State.{State}
+use Rattle.bt_stack.specs.View.{world_of, entries_seen, place_seen, own_variables}
+use Rattle.std.specs.Borrow.{Bor}
+use Rattle.std.specs.Prelude.{option_map}
+use Rattle.bt_machine.specs.Step.{counts_begun, step_begun, first_variables, finished_at, step}
+use Rattle.bt_machine.specs.inner.Cases.{finish_of}
+use Rattle.bt_machine.specs.inner.Loop.{Frame, Run, Test, frame_seen, meant, left, run_ended, is_stop, checked_at, element_seen, followed, is_above, kept, whole, SameLeft}
 use Rattle.bt_machine.proofs.Bounds.{taken_len, taken_some_len}
 use Rattle.bt_machine.proofs.Equations.{eval-end, eval-no_tick, eval-then, looped-turn}
 
@@ -30,6 +39,30 @@ use Rattle.bt_machine.proofs.Equations.{eval-end, eval-no_tick, eval-then, loope
 pub flow_ends : (flow : Flow) (w' : World) (k : Counts) (a : Act) → act_of flow w' ≡ a → run_ended flow w' k ≡ acted a k
 flow_ends Go w' k a e = ap (λ a. acted a k) e
 flow_ends Stop w' k a e = ap (λ a. acted a k) e
+
+-- a built-in function that runs no other
+pub built_in_basic : (p : Program) (run : Runner) (b : Primitive) (w : World) (k : Counts) → b ≢ CallType → b ≢ If → b ≢ While → built_in p run b w k ≡ acted (basic p b w) k
+built_in_basic p run CallType w k t i l = absurd (t refl)
+built_in_basic p run If w k t i l = absurd (i refl)
+built_in_basic p run While w k t i l = absurd (l refl)
+built_in_basic p run _ w k t i l = refl
+
+-- the arguments of `if$` and `while$` were taken
+pub choice_taken : (p : Program) (o : Option (ℤ × Code × Code)) (w w' : World) (k : Counts) → (let q : Option (ℤ × Code × Code) × World = (o, w') in q ≡ taken_three If as_number as_code as_code w) → run_with (λ (q : ℤ × Code × Code). eval p (code_body (by_sign q.0 q.1 q.2))) (o, w') k ≡ built_in p (eval p) If w k
+choice_taken p o w w' k e = ap (λ q. run_with (λ (q : ℤ × Code × Code). eval p (code_body (by_sign q.0 q.1 q.2))) q k) e
+
+pub loop_taken : (p : Program) (o : Option (Code × Code)) (w w' : World) (k : Counts) → (let q : Option (Code × Code) × World = (o, w') in q ≡ taken_two While as_code as_code w) → run_with (λ (q : Code × Code). looped (eval p) q.0 q.1) (o, w') k ≡ built_in p (eval p) While w k
+loop_taken p o w w' k e = ap (λ q. run_with (λ (q : Code × Code). looped (eval p) q.0 q.1) q k) e
+
+pub above_chosen : {A : Type 0} (n : ℤ) (a b : A) → pos 0 <ℤ n → by_sign n a b ≡ a
+above_chosen (pos zero) a b h = absurd (omega (arith, h))
+above_chosen (pos (suc n)) a b h = refl
+above_chosen (negsuc n) a b h = absurd (omega (arith, h))
+
+pub other_chosen : {A : Type 0} (n : ℤ) (a b : A) → n ≤ℤ pos 0 → by_sign n a b ≡ b
+other_chosen (pos zero) a b h = refl
+other_chosen (pos (suc n)) a b h = absurd (omega (arith, h))
+other_chosen (negsuc n) a b h = refl
 
 -- two runs after one
 then_go-then_go : (o : Ending) (f g : World → Counts → Ending) → then_go (then_go o f) g ≡ then_go o (λ w k. then_go (f w k) g)
@@ -52,7 +85,7 @@ pub same_join : (fs gs hs : List Frame) → SameLeft fs gs → SameLeft gs hs �
 same_join fs gs hs h h' p w k = h p w k ∙ h' p w k
 
 pub same_under : (f : Frame) (fs gs : List Frame) → SameLeft fs gs → SameLeft (f ∷ fs) (f ∷ gs)
-same_under f fs gs h p w k i = then_go (meant p f w k) (λ w k. h p w k i)
+same_under f fs gs h p w k = λ i. then_go (meant p f w k) (λ w k. h p w k i)
 
 -- a body without elements is nothing to do
 pub same_end : (fs : List Frame) → SameLeft (Run (Block End) ∷ fs) fs
@@ -100,6 +133,23 @@ due_frame ops fs fs' f none is_fs p w k =
     due_kept ops fs fs' f none is_fs p w k
     ∙ same_under (frame_seen f) (kept fs') (Run (Block End) ∷ kept fs') (end_same (kept fs')) p w k
     ∙ (λ i. left p (frame_seen f ∷ Run (Block (ops_body (sym none i))) ∷ kept fs') w k)
+
+-- What is put before what is left.
+
+pub kept_same : (fs fs' : List HeldFrame) (f : HeldFrame) (gs : List Frame) → fs' ≡ fs ++ f ∷ [] → SameLeft (kept fs) gs → SameLeft (kept fs') (frame_seen f ∷ gs)
+kept_same fs fs' f gs is_fs h p w k =
+    ap (λ fs. left p fs w k) (kept_some fs' fs f is_fs) ∙ same_under (frame_seen f) (kept fs) gs h p w k
+
+pub none_same : (ops : List Op) (fs : List HeldFrame) (gs : List Frame) → length ops ≡ 0 → SameLeft (kept fs) gs → SameLeft (whole ops fs) gs
+none_same [] fs gs e h p w k = same_end (kept fs) p w k ∙ h p w k
+none_same (op ∷ ops) fs gs e h p w k = absurd (omega (arith, e))
+
+pub nothing_kept : (ops : List Op) (fs : List HeldFrame) → length ops ≡ 0 → SameLeft (kept fs) (whole ops fs)
+nothing_kept ops fs e p w k = sym (none_same ops fs (kept fs) e (λ p w k. refl) p w k)
+
+pub rest_kept : (ops : List Op) (fs fs' : List HeldFrame) (f : HeldFrame) → fs' ≡ fs ++ f ∷ [] → frame_seen f ≡ Run (Block (ops_body ops)) → SameLeft (kept fs') (whole ops fs)
+rest_kept ops fs fs' f is_fs is_f p w k =
+    ap (λ fs. left p fs w k) (kept_some fs' fs f is_fs) ∙ ap (λ f. left p (f ∷ kept fs) w k) is_f
 
 -- What an element leads to.
 
@@ -195,3 +245,25 @@ entered_past p functions n w k e h =
     let l = length-map functions definition_of in
     let m = ap length e in
     sym (eval-end p w k) ∙ ap (λ (d : Definition). eval p d.body w k) (sym (get_or_past p.functions n no_definition (omega arith)))
+
+-- a step's end
+
+-- how the code looks at a run's end
+finished-ended : (flow : Flow) (w : World) (k : Counts) → finished_at (checked_at flow w) (is_stop flow) k ≡ finish_of (run_ended flow w k)
+finished-ended Go w k = refl
+finished-ended Stop w k = refl
+
+-- what a run from a step's beginning leaves, with w1 and k at its end and w2 once the stack was looked at
+pub step_finished : (p : Program) (x : Option ℕ) (t : Target) (w w0 w1 w2 : World) (flow : Flow) (k : Counts) → w0 ≡ step_begun x w → run_ended flow w1 k ≡ eval p (Then (Called t) End) w0 counts_begun → w2 ≡ checked_at flow w1 → finished_at w2 (is_stop flow) k ≡ step p x t w
+step_finished p x t w w0 w1 w2 flow k begun ended is_checked =
+    ap (λ w. finished_at w (is_stop flow) k) is_checked
+    ∙ finished-ended flow w1 k
+    ∙ ap finish_of (ended ∙ ap (λ w. eval p (Then (Called t) End) w counts_begun) begun)
+
+-- the variables of a step's own entry are those of the first entry of its world
+own_first_of : (e : Option (Bor Entry)) (v : Variables) → option_map (λ (e : Entry). e.variables) (entry_in (entries_seen e v) (place_seen e)) ≡ first_variables (entries_seen e v)
+own_first_of None v = refl
+own_first_of (Some e) v = refl
+
+pub own_first : (s : State) → own_variables (world_of s) ≡ first_variables (world_of s).entries
+own_first s = own_first_of s.entry s.stack.own

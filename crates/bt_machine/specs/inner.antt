@@ -1,5 +1,4 @@
 -- What only helpers, loops and proofs need: no part of the meaning.
-pub mod Control
 pub mod Loop
 pub mod Footprint
 pub mod Substitution

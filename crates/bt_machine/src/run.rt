@@ -18,10 +18,8 @@ ghost use Rattle.bt_actions.specs.View.{code_seen};
 ghost use Rattle.bt_stack.specs.View.{world_of};
 ghost use Rattle.bt_machine.specs.Eval.{eval, act, called, built_in, function_body, builtin_called, default_type};
 ghost use Rattle.bt_machine.specs.Step.{counts_begun};
-ghost use Rattle.bt_machine.specs.inner.Control.{Run, Test, counts, run_ended};
-ghost use Rattle.bt_machine.specs.inner.Loop.{element_seen, LeadsTo, Means, SameLeft, is_above, kept, whole, IsDue};
+ghost use Rattle.bt_machine.specs.inner.Loop.{Run, Test, counts, run_ended, element_seen, LeadsTo, Means, SameLeft, is_above, kept, whole, IsDue};
 
-use crate::control::Frame;
 use bt_actions::{Code, Complaint, Entry, Flow, Tally};
 use bt_stack::{
     State, call_basic, call_entry_number, call_entry_text, call_field, call_global_number,
@@ -29,6 +27,15 @@ use bt_stack::{
 };
 use bt_style::{Builtin, Function, Op, Style, Target};
 use std::alloc::{AllocError, Global};
+
+/// What waits until a body was run.
+#[derive(Clone, Copy)]
+pub enum Frame<'a> {
+    /// This is run.
+    Run(Code<'a>),
+    /// The first, a loop's test, was run: the number that it left decides on a turn of the second, the loop's body.
+    Test(Code<'a>, Code<'a>),
+}
 
 /// What takes a tick: an element of a body, or the call of a quoted name.
 #[derive(Clone, Copy)]

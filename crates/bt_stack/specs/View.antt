@@ -3,7 +3,7 @@ use Rattle.std.specs.Prelude.{◌≡◌, ℕ, List, [], Option, map, option_map}
 use Rattle.std.specs.Borrow.{Bor}
 use Rattle.bt_actions.specs.declared.entry.Entry.{Entry}
 use Rattle.bt_actions.specs.declared.entry.Variables.{Variables}
-use Rattle.bt_actions.specs.declared.state.Flow.{Flow}
+use Rattle.bt_actions.specs.declared.flow.Flow.{Flow}
 use Rattle.bt_actions.specs.Words.{message_of}
 use Rattle.bt_actions.specs.World.{World, Act, entry_of}
 use Rattle.bt_actions.specs.View.{entries_in, act_of}

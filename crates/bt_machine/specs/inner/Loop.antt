@@ -1,22 +1,68 @@
--- What is left to do in the loop, and what an element leads to.
-use Rattle.std.specs.Prelude.{◌≡◌, ℤ, pos, negsuc, zero, suc, ◌≤◌, ◌<◌, Bool, true, false, List, ◌∷◌, Option, Some, None, length, map, reverse}
+-- What is left to do in the loop, what it means, and what an element leads to.
+use Rattle.std.specs.Prelude.{◌≡◌, ℤ, pos, negsuc, zero, suc, ◌≤◌, ◌<◌, Bool, true, false, List, [], ◌∷◌, Option, Some, None, length, map, reverse}
 use Rattle.bt_style.specs.declared.style.Op.{Op}
 use Rattle.bt_style.specs.Program.{Program}
 use Rattle.bt_style.specs.Tree.{Element, Amount, Words, Quoted, Braced, Called, End, Then, ops_body}
-use Rattle.bt_actions.specs.Item.{Block}
+use Rattle.bt_style.specs.declared.builtin.Builtin.TheVariants.{While}
+use Rattle.bt_actions.specs.declared.flow.Flow.{Flow}
+use Rattle.bt_actions.specs.declared.flow.Flow.TheVariants.{Go, Stop}
+use Rattle.bt_actions.specs.declared.tally.Tally.{Tally}
+use Rattle.bt_actions.specs.Arguments.{as_number, taken}
+use Rattle.bt_actions.specs.Item.{Code, Block}
 use Rattle.bt_actions.specs.World.{World}
 use Rattle.bt_actions.specs.View.{code_seen}
 use Rattle.bt_stack.specs.declared.state.State.{State}
 use Rattle.bt_stack.specs.View.{world_of}
-use Rattle.bt_machine.specs.declared.control.Frame.{Frame as HeldFrame}
+use Rattle.bt_machine.specs.declared.run.Frame.{Frame as HeldFrame}
 use Rattle.bt_machine.specs.declared.run.Element.{Element as HeldElement}
 use Rattle.bt_machine.specs.declared.run.Element.TheVariants as element
 use Rattle.bt_machine.specs.declared.run.Next.{Next}
 use Rattle.bt_machine.specs.declared.run.Next.TheVariants as next
 use Rattle.bt_machine.specs.declared.run.Due.{Due}
 use Rattle.bt_machine.specs.declared.run.Due.TheVariants as due
-use Rattle.bt_machine.specs.Eval.{Counts, Ending, Done, code_body, eval, looped}
-use Rattle.bt_machine.specs.inner.Control.{Frame, Run, Test, frame_seen, left, run_ended}
+use Rattle.bt_machine.specs.declared.run.Frame.TheVariants as held
+use Rattle.bt_machine.specs.Eval.{Counts, Ending, Done, Stopped, then_go, code_body, turn, eval, looped}
+use Rattle.bt_machine.specs.Step.{checked}
+
+-- one thing that is left to do
+pub data Frame : Type 0 where
+  -- this is to be run
+  Run : (code : Code) → Frame
+  -- a loop's test was run: the number that it left decides on a turn of the body
+  Test : (test body : Code) → Frame
+
+-- what it does
+abbrev pub meant : Program → Frame → World → Counts → Ending
+meant p (Run c) w k = eval p (code_body c) w k
+meant p (Test test body) w k = turn (taken While as_number w) k (eval p (code_body body)) (looped (eval p) test body)
+
+-- what is left to do, the next first
+abbrev pub left : Program → List Frame → World → Counts → Ending
+left p [] w k = Done w k
+left p (f ∷ fs) w k = then_go (meant p f w k) (left p fs)
+
+abbrev pub frame_seen : HeldFrame → Frame
+frame_seen (held.Run c) = Run (code_seen c)
+frame_seen (held.Test test body) = Test (code_seen test) (code_seen body)
+
+-- what is left of ticks, and the calls
+abbrev pub counts : Tally → Counts
+counts t = (t.ticks, t.calls)
+
+-- how a run ended
+abbrev pub run_ended : Flow → World → Counts → Ending
+run_ended Go w k = Done w k
+run_ended Stop w k = Stopped w k
+
+-- whether the run was stopped
+abbrev pub is_stop : Flow → Bool
+is_stop Go = false
+is_stop Stop = true
+
+-- the world at a run's end, with an error where the stack isn't empty
+abbrev pub checked_at : Flow → World → World
+checked_at Go w = checked w.stack w
+checked_at Stop w = w
 
 abbrev pub element_seen : HeldElement → Element
 element_seen (element.Number n) = Amount n
