@@ -1,10 +1,9 @@
 -- What is left to do in the loop leads to what the definition says.
-use Rattle.std.proofs.Common.{◌≡◌, ◌≢◌, ℕ, zero, suc, ◌+◌, ◌≤◌, ◌<◌, List, [], ◌∷◌, ◌++◌, length, Bool, true, false, Option, Some, None, refl, sym, ap, ◌∙◌, arith}
-use Rattle.std.specs.Prelude.{ℤ, pos, negsuc, ◌<ℤ◌, ◌≤ℤ◌, map, reverse}
+use Rattle.std.proofs.Common.{◌≡◌, ℕ, zero, suc, ◌+◌, ◌≤◌, ◌<◌, List, [], ◌∷◌, ◌++◌, length, Bool, true, false, Option, Some, None, refl, sym, ap, ◌∙◌, arith, length-append}
+use Rattle.std.specs.Prelude.{ℤ, pos, negsuc, map, reverse}
 use Rattle.std.proofs.lemmas.List.{get_or_past, length-map, map-append, reverse-append}
 use Rattle.std.proofs.lemmas.Bool.{false≢true}
-use Rattle.bt_style.specs.declared.builtin.Builtin.TheVariants.{CallType, If, While}
-use Rattle.bt_style.specs.declared.builtin.Builtin.{Builtin as Primitive}
+use Rattle.bt_style.specs.declared.builtin.Builtin.TheVariants.{While}
 use Rattle.bt_style.specs.declared.style.Function.{Function}
 use Rattle.bt_style.specs.declared.style.Op.{Op}
 use Rattle.bt_style.specs.declared.style.Target.{Target}
@@ -14,14 +13,13 @@ use Rattle.bt_actions.specs.declared.flow.Flow.{Flow}
 use Rattle.bt_actions.specs.declared.flow.Flow.TheVariants.{Go, Stop}
 use Rattle.bt_actions.specs.declared.complaint.Complaint.TheVariants.{TicksPassed}
 use Rattle.bt_actions.specs.Item.{Code, Name, Block}
-use Rattle.bt_actions.specs.World.{World, Act, Goes, Stops, say}
-use Rattle.bt_actions.specs.Arguments.{as_number, as_code, taken, taken_two, taken_three}
-use Rattle.bt_actions.specs.Actions.{basic}
-use Rattle.bt_actions.specs.View.{act_of, code_seen}
+use Rattle.bt_actions.specs.World.{World, say}
+use Rattle.bt_actions.specs.Arguments.{as_number, taken}
+use Rattle.bt_actions.specs.View.{code_seen}
 use Rattle.bt_machine.specs.declared.run.Frame.{Frame as HeldFrame}
 use Rattle.bt_machine.specs.declared.run.Element.{Element as HeldElement}
 use Rattle.bt_machine.specs.declared.run.Next.{Next}
-use Rattle.bt_machine.specs.Eval.{Counts, Ending, Done, Stopped, Runner, then_go, acted, run_with, by_sign, built_in, code_body, function_body, no_definition, turn, looped, act, calls_after, eval}
+use Rattle.bt_machine.specs.Eval.{Counts, Ending, Done, Stopped, then_go, code_body, function_body, no_definition, turn, looped, act, calls_after, eval}
 use Rattle.bt_actions.specs.declared.entry.Entry.{Entry}
 use Rattle.bt_actions.specs.declared.entry.Variables.{Variables}
 use Rattle.bt_actions.specs.World.{entry_in}
@@ -29,40 +27,11 @@ use Rattle.bt_stack.specs.declared.state.State.{State}
 use Rattle.bt_stack.specs.View.{world_of, entries_seen, place_seen, own_variables}
 use Rattle.std.specs.Borrow.{Bor}
 use Rattle.std.specs.Prelude.{option_map}
-use Rattle.bt_machine.specs.Step.{counts_begun, step_begun, first_variables, finished_at, step}
 use Rattle.bt_machine.specs.inner.Cases.{finish_of}
-use Rattle.bt_machine.specs.inner.Loop.{Frame, Run, Test, frame_seen, meant, left, run_ended, is_stop, checked_at, element_seen, followed, is_above, kept, whole, SameLeft}
+use Rattle.bt_machine.specs.Step.{counts_begun, step_begun, first_variables, finished_at, step}
+use Rattle.bt_machine.specs.inner.Loop.{Frame, Run, Test, frame_seen, meant, left, run_ended, element_seen, followed, is_above, kept, whole, SameLeft, is_stop, checked_at}
 use Rattle.bt_machine.proofs.Bounds.{taken_len, taken_some_len}
 use Rattle.bt_machine.proofs.Equations.{eval-end, eval-no_tick, eval-then, looped-turn}
-
--- an action that runs no function
-pub flow_ends : (flow : Flow) (w' : World) (k : Counts) (a : Act) → act_of flow w' ≡ a → run_ended flow w' k ≡ acted a k
-flow_ends Go w' k a e = ap (λ a. acted a k) e
-flow_ends Stop w' k a e = ap (λ a. acted a k) e
-
--- a built-in function that runs no other
-pub built_in_basic : (p : Program) (run : Runner) (b : Primitive) (w : World) (k : Counts) → b ≢ CallType → b ≢ If → b ≢ While → built_in p run b w k ≡ acted (basic p b w) k
-built_in_basic p run CallType w k t i l = absurd (t refl)
-built_in_basic p run If w k t i l = absurd (i refl)
-built_in_basic p run While w k t i l = absurd (l refl)
-built_in_basic p run _ w k t i l = refl
-
--- the arguments of `if$` and `while$` were taken
-pub choice_taken : (p : Program) (o : Option (ℤ × Code × Code)) (w w' : World) (k : Counts) → (let q : Option (ℤ × Code × Code) × World = (o, w') in q ≡ taken_three If as_number as_code as_code w) → run_with (λ (q : ℤ × Code × Code). eval p (code_body (by_sign q.0 q.1 q.2))) (o, w') k ≡ built_in p (eval p) If w k
-choice_taken p o w w' k e = ap (λ q. run_with (λ (q : ℤ × Code × Code). eval p (code_body (by_sign q.0 q.1 q.2))) q k) e
-
-pub loop_taken : (p : Program) (o : Option (Code × Code)) (w w' : World) (k : Counts) → (let q : Option (Code × Code) × World = (o, w') in q ≡ taken_two While as_code as_code w) → run_with (λ (q : Code × Code). looped (eval p) q.0 q.1) (o, w') k ≡ built_in p (eval p) While w k
-loop_taken p o w w' k e = ap (λ q. run_with (λ (q : Code × Code). looped (eval p) q.0 q.1) q k) e
-
-pub above_chosen : {A : Type 0} (n : ℤ) (a b : A) → pos 0 <ℤ n → by_sign n a b ≡ a
-above_chosen (pos zero) a b h = absurd (omega (arith, h))
-above_chosen (pos (suc n)) a b h = refl
-above_chosen (negsuc n) a b h = absurd (omega (arith, h))
-
-pub other_chosen : {A : Type 0} (n : ℤ) (a b : A) → n ≤ℤ pos 0 → by_sign n a b ≡ b
-other_chosen (pos zero) a b h = refl
-other_chosen (pos (suc n)) a b h = absurd (omega (arith, h))
-other_chosen (negsuc n) a b h = refl
 
 -- two runs after one
 then_go-then_go : (o : Ending) (f g : World → Counts → Ending) → then_go (then_go o f) g ≡ then_go o (λ w k. then_go (f w k) g)
@@ -133,6 +102,21 @@ due_frame ops fs fs' f none is_fs p w k =
     due_kept ops fs fs' f none is_fs p w k
     ∙ same_under (frame_seen f) (kept fs') (Run (Block End) ∷ kept fs') (end_same (kept fs')) p w k
     ∙ (λ i. left p (frame_seen f ∷ Run (Block (ops_body (sym none i))) ∷ kept fs') w k)
+
+-- how many wait
+
+pub as_many : (fs : List HeldFrame) → length fs ≤ length fs
+as_many fs = omega arith
+
+pub one_less : (fs fs' : List HeldFrame) (f : HeldFrame) → fs ≡ fs' ++ f ∷ [] → length fs' < length fs
+one_less fs fs' f is_fs =
+    let l = ap length is_fs ∙ length-append fs' (f ∷ []) in
+    omega (arith, l)
+
+pub no_more : (fs fs' : List HeldFrame) (f : HeldFrame) → fs ≡ fs' ++ f ∷ [] → length fs' ≤ length fs
+no_more fs fs' f is_fs =
+    let l = one_less fs fs' f is_fs in
+    omega (arith, l)
 
 -- What is put before what is left.
 

@@ -1,0 +1,11 @@
+use Rattle.std.proofs.Common.{ap, sym, ◌∙◌}
+use Rattle.std.proofs.lemmas.Result.{IfOk-weaker}
+use Rattle.bt_style.specs.Program.{program_of}
+use Rattle.bt_stack.specs.View.{world_of}
+use Rattle.bt_machine.specs.Eval.{called, eval}
+use Rattle.bt_machine.proofs.run.call.Goals as goal
+
+pub returns-in-Builtin : goal.returns-in-Builtin
+returns-in-Builtin c =
+    let p = program_of c.args.style.now in
+    IfOk-weaker c.call_builtin.result _ _ (λ next h k. h k ∙ ap (λ t. called p (eval p) t (world_of c.args.state.now) k) (sym c.in-Builtin.is)) c.call_builtin.ensures

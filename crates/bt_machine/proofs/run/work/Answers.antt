@@ -1,0 +1,112 @@
+use Rattle.std.proofs.Common.{[], ◌∷◌, ◌∙◌, ap, sym, refl, subst}
+use Rattle.bt_style.specs.Program.{program_of}
+use Rattle.bt_style.specs.Tree.{End, Then, Called}
+use Rattle.bt_actions.specs.declared.flow.Flow.TheVariants.{Go, Stop}
+use Rattle.bt_actions.specs.Item.{Name}
+use Rattle.bt_actions.specs.Tally.{with_call}
+use Rattle.bt_actions.specs.View.{code_seen}
+use Rattle.bt_stack.specs.View.{world_of}
+use Rattle.bt_machine.specs.declared.run.Frame.TheVariants as held
+use Rattle.bt_actions.specs.declared.code.Code.TheVariants as code
+use Rattle.bt_machine.specs.declared.run.Next.TheVariants as next
+use Rattle.bt_machine.specs.declared.run.Due.TheVariants as due
+use Rattle.bt_machine.specs.Eval.{eval}
+use Rattle.bt_machine.specs.Step.{counts_begun}
+use Rattle.bt_machine.specs.inner.Loop.{Run, counts, IsDue, followed, kept, whole}
+use Rattle.bt_machine.proofs.LoopLemmas.{element_leads, ends_leads, kept_some, loop_leads, no_tick_leads, starts, turn_leads}
+use Rattle.bt_machine.proofs.run.work.Goals as goal
+
+pub work-init : goal.work-init
+work-init c =
+    let f = held.Run (code.Name c.args.first) in
+    let waits = kept_some c.push.new.self.items c.clear.new.self.items f c.in_ok-push.ensures.items ∙ ap (λ fs. Run (Name c.args.first) ∷ kept fs) c.clear.ensures.items in
+    starts (program_of c.args.style.now) c.args.first [] c.push.new.self.items (world_of c.args.state.now) (counts c.new-tally.result) refl waits (λ j. (c.new-tally.ensures.ticks j, c.new-tally.ensures.calls j))
+
+pub returns-in-Nothing : goal.returns-in-Nothing
+returns-in-Nothing c =
+    let p = program_of c.args.style.now in
+    let is_due = subst (λ d. IsDue d c.work.rest.now c.work.control.items c.next_due.result.1.now c.next_due.new.control.items) c.in-Nothing.is c.next_due.ensures in
+    sym (is_due p (world_of c.work.state) (counts c.work.tally)) ∙ c.work.invariant
+
+pub work-preserved-in-Body : goal.work-preserved-in-Body
+work-preserved-in-Body c =
+    let p = program_of c.args.style.now in
+    let is_due = subst (λ d. IsDue d c.work.rest.now c.work.control.items c.next_due.result.1.now c.next_due.new.control.items) c.in-Body.is c.next_due.ensures in
+    sym (is_due.0 p (world_of c.work.state) (counts c.work.tally)) ∙ c.work.invariant
+
+pub work-preserved-then-branch : goal.work-preserved-then-branch
+work-preserved-then-branch c =
+    let p = program_of c.args.style.now in
+    let end = eval p (Then (Called c.args.first) End) (world_of c.args.state.now) counts_begun in
+    let left_before = whole c.work.rest.now c.work.control.items in
+    let left_now = whole c.next_due.result.1.now c.next_due.new.control.items in
+    let is_due = subst (λ d. IsDue d c.work.rest.now c.work.control.items c.next_due.result.1.now c.next_due.new.control.items) c.in-Test.is c.next_due.ensures in
+    let goes = c.in_ok-goes_on-in-Test.ensures in
+    turn_leads p (code_seen c.in-Test.test) (code_seen c.in-Test.body) left_before left_now (whole c.in_ok-rest-in-Test.rest.now c.begin_loop.new.control.items) (whole c.in_ok-rest-in-Test-2.rest.now c.begin.new.control.items) (world_of c.work.state) (world_of c.goes_on.new.state) (counts c.work.tally) end c.work.invariant is_due.0 (sym goes.turn ∙ c.if-branch.true) goes.world c.in_ok-rest-in-Test.ensures.same c.in_ok-rest-in-Test-2.ensures.same
+
+pub work-preserved-else-branch : goal.work-preserved-else-branch
+work-preserved-else-branch c =
+    let p = program_of c.args.style.now in
+    let end = eval p (Then (Called c.args.first) End) (world_of c.args.state.now) counts_begun in
+    let left_before = whole c.work.rest.now c.work.control.items in
+    let left_now = whole c.next_due.result.1.now c.next_due.new.control.items in
+    let is_due = subst (λ d. IsDue d c.work.rest.now c.work.control.items c.next_due.result.1.now c.next_due.new.control.items) c.in-Test.is c.next_due.ensures in
+    let goes = c.in_ok-goes_on-in-Test.ensures in
+    ends_leads p (code_seen c.in-Test.test) (code_seen c.in-Test.body) left_before left_now (world_of c.work.state) (world_of c.goes_on.new.state) (counts c.work.tally) end c.work.invariant is_due.0 (sym goes.turn ∙ c.if-branch.false) goes.world
+
+pub returns-then-tally-eq0 : goal.returns-then-tally-eq0
+returns-then-tally-eq0 c =
+    let p = program_of c.args.style.now in
+    let end = eval p (Then (Called c.args.first) End) (world_of c.args.state.now) counts_begun in
+    let left_before = whole c.work.rest.now c.work.control.items in
+    let left_now = whole c.next_due.result.1.now c.next_due.new.control.items in
+    let is_due = subst (λ d. IsDue d c.work.rest.now c.work.control.items c.next_due.result.1.now c.next_due.new.control.items) c.in-Element.is c.next_due.ensures in
+    no_tick_leads p c.in-Element.element left_before left_now (world_of c.work.state) (world_of c.tell.new.self) (counts c.work.tally) end c.work.invariant is_due.0 c.if-tally-eq0.true c.in_ok-tell-in-Element.ensures
+
+pub work-preserved-in-Flow-Go : goal.work-preserved-in-Flow-Go
+work-preserved-in-Flow-Go c =
+    let p = program_of c.args.style.now in
+    let end = eval p (Then (Called c.args.first) End) (world_of c.args.state.now) counts_begun in
+    let left_before = whole c.work.rest.now c.work.control.items in
+    let left_now = whole c.next_due.result.1.now c.next_due.new.control.items in
+    let is_due = subst (λ d. IsDue d c.work.rest.now c.work.control.items c.next_due.result.1.now c.next_due.new.control.items) c.in-Element.is c.next_due.ensures in
+    let calls = c.take.ensures.calls ∙ ap (λ b. with_call b c.work.tally.calls) c.builtin.ensures in
+    let did = ap (λ n. followed p n (world_of c.carry_out.new.state) (counts c.take.new.self)) (sym (c.in-Flow-Go.is ∙ ap next.Flow c.in-Flow-Go.field-0-is)) ∙ c.in_ok-next-in-Element.ensures (counts c.take.new.self) in
+    let led = element_leads p c.in-Element.element (next.Flow Go) left_before left_now (world_of c.work.state) (world_of c.carry_out.new.state) (counts c.work.tally) (counts c.take.new.self) end c.work.invariant is_due.0 c.take.ensures.ticks calls did in
+    led
+
+pub returns-in-Flow-Stop : goal.returns-in-Flow-Stop
+returns-in-Flow-Stop c =
+    let p = program_of c.args.style.now in
+    let end = eval p (Then (Called c.args.first) End) (world_of c.args.state.now) counts_begun in
+    let left_before = whole c.work.rest.now c.work.control.items in
+    let left_now = whole c.next_due.result.1.now c.next_due.new.control.items in
+    let is_due = subst (λ d. IsDue d c.work.rest.now c.work.control.items c.next_due.result.1.now c.next_due.new.control.items) c.in-Element.is c.next_due.ensures in
+    let calls = c.take.ensures.calls ∙ ap (λ b. with_call b c.work.tally.calls) c.builtin.ensures in
+    let did = ap (λ n. followed p n (world_of c.carry_out.new.state) (counts c.take.new.self)) (sym (c.in-Flow-Stop.is ∙ ap next.Flow c.in-Flow-Stop.field-0-is)) ∙ c.in_ok-next-in-Element.ensures (counts c.take.new.self) in
+    let led = element_leads p c.in-Element.element (next.Flow Stop) left_before left_now (world_of c.work.state) (world_of c.carry_out.new.state) (counts c.work.tally) (counts c.take.new.self) end c.work.invariant is_due.0 c.take.ensures.ticks calls did in
+    led
+
+pub work-preserved-in-Run : goal.work-preserved-in-Run
+work-preserved-in-Run c =
+    let p = program_of c.args.style.now in
+    let end = eval p (Then (Called c.args.first) End) (world_of c.args.state.now) counts_begun in
+    let left_before = whole c.work.rest.now c.work.control.items in
+    let left_now = whole c.next_due.result.1.now c.next_due.new.control.items in
+    let is_due = subst (λ d. IsDue d c.work.rest.now c.work.control.items c.next_due.result.1.now c.next_due.new.control.items) c.in-Element.is c.next_due.ensures in
+    let calls = c.take.ensures.calls ∙ ap (λ b. with_call b c.work.tally.calls) c.builtin.ensures in
+    let did = ap (λ n. followed p n (world_of c.carry_out.new.state) (counts c.take.new.self)) (sym (c.in-Run.is)) ∙ c.in_ok-next-in-Element.ensures (counts c.take.new.self) in
+    let led = element_leads p c.in-Element.element (next.Run c.in-Run.code) left_before left_now (world_of c.work.state) (world_of c.carry_out.new.state) (counts c.work.tally) (counts c.take.new.self) end c.work.invariant is_due.0 c.take.ensures.ticks calls did in
+    c.in_ok-rest-in-Run.ensures.same p (world_of c.carry_out.new.state) (counts c.take.new.self) ∙ led
+
+pub work-preserved : goal.work-preserved
+work-preserved c =
+    let p = program_of c.args.style.now in
+    let end = eval p (Then (Called c.args.first) End) (world_of c.args.state.now) counts_begun in
+    let left_before = whole c.work.rest.now c.work.control.items in
+    let left_now = whole c.next_due.result.1.now c.next_due.new.control.items in
+    let is_due = subst (λ d. IsDue d c.work.rest.now c.work.control.items c.next_due.result.1.now c.next_due.new.control.items) c.in-Element.is c.next_due.ensures in
+    let calls = c.take.ensures.calls ∙ ap (λ b. with_call b c.work.tally.calls) c.builtin.ensures in
+    let did = ap (λ n. followed p n (world_of c.carry_out.new.state) (counts c.take.new.self)) (sym (c.in-Loop.is)) ∙ c.in_ok-next-in-Element.ensures (counts c.take.new.self) in
+    let led = element_leads p c.in-Element.element (next.Loop c.in-Loop.test c.in-Loop.body) left_before left_now (world_of c.work.state) (world_of c.carry_out.new.state) (counts c.work.tally) (counts c.take.new.self) end c.work.invariant is_due.0 c.take.ensures.ticks calls did in
+    loop_leads p (code_seen c.in-Loop.test) (code_seen c.in-Loop.body) left_now (whole c.in_ok-rest-in-Loop.rest.now c.begin_loop-in-Loop.new.control.items) (world_of c.carry_out.new.state) (counts c.take.new.self) end led c.in_ok-rest-in-Loop.ensures.same
