@@ -15,6 +15,7 @@ ghost use Rattle.bt_stack.specs.Forms.{text_or_error};
 ghost use Rattle.bt_stack.specs.View.{world_of, Acts};
 
 use crate::numbers::truth;
+use crate::operands::push_empty_in_error;
 use crate::state::State;
 use bt_actions::{Complaint, Flow};
 use bt_style::Builtin;
@@ -131,14 +132,12 @@ pub fn answer_empty_in_error(
     count: usize,
     complaint: Complaint,
 ) -> Result<Flow, AllocError>
-    requires some { 0 < count }
-    requires there { count ≤ length state.old.stack.items }
+    requires { count ≤ length state.old.stack.items }
     ensures { IfOk result (Acts (λ world. pushed_in_error complaint empty_item
         (with_stack (drop count world.stack) world)) state.old state.new) }
 {
-    state.tell(complaint)?;
     state.stack.drop_tops(count);
-    state.push_given(b"")
+    push_empty_in_error(state, complaint)
 }
 
 /// Puts a text that was written in place of arguments, unless it is too long.

@@ -108,6 +108,23 @@ fn answer_within(
     }
 }
 
+/// The same, or reports what is wrong with the arguments.
+fn answer_formatted(
+    state: &mut State,
+    page: Vec<u8>,
+    told: Result<Formatted, Complaint>,
+) -> Result<Flow, AllocError>
+    requires empty { page.items ≡ [] }
+    requires there { 3 ≤ length state.old.stack.items }
+    ensures { IfOk result (Acts (λ world. formatted_answer told (with_stack (drop 3 world.stack) world))
+        state.old state.new) }
+{
+    match told {
+        Ok(formatted) => answer_within(state, page, formatted),
+        Err(complaint) => answer_empty_in_error(state, 3, complaint),
+    }
+}
+
 /// `format.name$`.
 pub fn format_name(state: &mut State, alloc: Global) -> Result<Flow, AllocError>
     ensures { IfOk result (Acts (λ world.
@@ -121,10 +138,8 @@ pub fn format_name(state: &mut State, alloc: Global) -> Result<Flow, AllocError>
         state.stack.text_at(0),
     ) {
         (Some(names), Some(number), Some(pattern)) => {
-            match formatted(alloc, names, number, pattern)? {
-                Ok(formatted) => answer_within(state, page, formatted),
-                Err(complaint) => answer_empty_in_error(state, 3, complaint),
-            }
+            let told = formatted(alloc, names, number, pattern)?;
+            answer_formatted(state, page, told)
         }
         _ => {
             let wrong = state.stack.is_no_text(0)

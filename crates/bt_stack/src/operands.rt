@@ -27,7 +27,7 @@ fn push_zero_in_error(state: &mut State, complaint: Complaint) -> Result<Flow, A
 
 /// The same of the empty text.
 #[cold]
-fn push_empty_in_error(state: &mut State, complaint: Complaint) -> Result<Flow, AllocError>
+pub fn push_empty_in_error(state: &mut State, complaint: Complaint) -> Result<Flow, AllocError>
     ensures { IfOk result (Acts (pushed_in_error complaint empty_item) state.old state.new) }
 {
     if state.stack.len() < STACK_LIMIT {
