@@ -3,7 +3,7 @@
 //! is said and proved once for each form. What happens to wrong arguments stands in cold functions, so the fast way is
 //! short enough to be inlined into the loop.
 
-ghost use Rattle.std.specs.Prelude.{◌≡◌, ◌≤◌, ◌<◌, ℤ, ℕ, List, Option, IfOk, OnOk, length, drop, option_copied, ◌++◌};
+ghost use Rattle.std.specs.Prelude.{◌≡◌, ◌≤◌, ◌<◌, [], ℤ, ℕ, List, Option, IfOk, OnOk, length, drop, option_copied, ◌++◌};
 ghost use Rattle.bt_style.specs.declared.builtin.Builtin.{Builtin as Primitive};
 ghost use Rattle.bt_actions.specs.Item.{Txt};
 ghost use Rattle.bt_actions.specs.Arguments.{as_number, as_text, as_field_text, taken, taken_two};

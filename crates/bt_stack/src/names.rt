@@ -1,6 +1,6 @@
 //! The functions on lists of names.
 
-ghost use Rattle.std.specs.Prelude.{◌≡◌, ◌≤◌, length, drop, IfOk};
+ghost use Rattle.std.specs.Prelude.{◌≡◌, ◌≤◌, [], length, drop, IfOk};
 ghost use Rattle.bt_actions.specs.Arguments.{as_number, as_text, taken_three};
 ghost use Rattle.bt_actions.specs.Given.{Errs, valued, answered, empty_item};
 ghost use Rattle.bt_actions.specs.Names.{names_counted, name_formatted};
