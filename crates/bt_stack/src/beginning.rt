@@ -7,8 +7,30 @@ use bt_text::{Held, Sequence, Shared};
 use std::alloc::Global;
 
 impl<'a> State<'a> {
-    ghost use Rattle.std.specs.Prelude.{◌≡◌};
+    ghost use Rattle.std.specs.Prelude.{◌≡◌, []};
     ghost use Rattle.bt_stack.specs.View.{world_of, world_begun};
+
+    /// A state in which nothing was written or reported.
+    fn with(
+        alloc: Global,
+        stack: Stack<'a>,
+        entry: Option<&'a Entry>,
+        preamble: &'a [u8],
+        held: Held,
+    ) -> State<'a>
+        ensures { result ≡ record {
+            stack = stack.entry; entry = entry.entry; preamble = preamble.entry; held = held; lines = [];
+            complaints = [] } }
+    {
+        State {
+            stack,
+            entry,
+            preamble,
+            held,
+            lines: Sequence::new(alloc),
+            complaints: Sequence::new(alloc),
+        }
+    }
 
     /// The state before a step for an entry or for none, with the variables of the style and the line that is held.
     /// It takes no memory.
@@ -21,17 +43,15 @@ impl<'a> State<'a> {
     ) -> State<'a>
         ensures { world_of result ≡ world_begun entry.now globals.now preamble.now held }
     {
-        let own = match entry {
-            None => globals,
-            Some(entry) => &entry.variables,
-        };
-        State {
-            stack: Stack::new(alloc, globals, own),
-            entry: entry.as_ref(),
-            preamble,
-            held,
-            lines: Sequence::new(alloc),
-            complaints: Sequence::new(alloc),
+        match entry {
+            None => {
+                let stack = Stack::new(alloc, globals, globals);
+                State::with(alloc, stack, None, preamble, held)
+            }
+            Some(entry) => {
+                let stack = Stack::new(alloc, globals, &entry.variables);
+                State::with(alloc, stack, Some(entry), preamble, held)
+            }
         }
     }
 }

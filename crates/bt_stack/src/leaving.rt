@@ -109,11 +109,11 @@ fn shared_lines(
 ) -> Result<Sequence<Shared<Bytes>>, AllocError>
     ensures { IfOk result (λ shared. shared ≡ lines) }
 {
-    let mut shared = Sequence::new(alloc);
+    let mut shared = Vec::with_capacity(alloc, lines.len())?;
     'lines: for line in lines.into_vec() {
         shared.push(Shared::new(alloc, line)?)?;
     }
-    Ok(shared)
+    Ok(Sequence::from_vec(shared))
 }
 
 /// What of a step's state outlives it.

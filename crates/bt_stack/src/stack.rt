@@ -26,6 +26,9 @@ mod names;
 mod shown;
 mod variables;
 
+/// No pool is swept before it has so many bytes: few steps make more.
+const SWEEP_BYTES: usize = 65_536;
+
 /// The literal stack, and the variables of a step.
 #[derive(Drop)]
 pub struct Stack<'a> {
@@ -37,6 +40,8 @@ pub struct Stack<'a> {
     pool: Vec<u8>,
     /// What is on its way from one place of the pool to another.
     scratch: Vec<u8>,
+    /// How long the pool may be before texts that nobody names any more are swept out of it.
+    sweep_at: usize,
 }
 
 impl<'a> Model for Stack<'a> {
@@ -76,6 +81,7 @@ impl<'a> Stack<'a> {
             },
             pool: Vec::new(alloc),
             scratch: Vec::new(alloc),
+            sweep_at: SWEEP_BYTES,
         }
     }
 

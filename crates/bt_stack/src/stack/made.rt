@@ -6,7 +6,7 @@ ghost use Rattle.bt_stack.specs.Tops.{joined_tops};
 
 use crate::joining::join;
 use crate::moving::{copy_made, made_size, move_made};
-use crate::stack::Stack;
+use crate::stack::{SWEEP_BYTES, Stack};
 use crate::value::Value;
 use bt_text::TEXT_BYTES;
 use std::alloc::{AllocError, Global};
@@ -16,6 +16,17 @@ impl<'a> Stack<'a> {
     /// Joins the two topmost values, if they are texts and not too long together. A text that ends the pool isn't
     /// copied once more.
     pub fn join(&mut self) -> Result<bool, AllocError>
+        ensures ok { IfOk result (λ done. (done, self.new) ≡ with_answer (joined_tops self.old.items) 2 self.old) }
+        ensures few { length self.old.items ≤ 1000 }
+        ensures err { OnErr result (self.new ≡ self.old) }
+    {
+        if self.pool.len() >= self.sweep_at {
+            self.sweep()?;
+        }
+        self.join_tops()
+    }
+
+    fn join_tops(&mut self) -> Result<bool, AllocError>
         ensures ok { IfOk result (λ done. (done, self.new) ≡ with_answer (joined_tops self.old.items) 2 self.old) }
         ensures few { length self.old.items ≤ 1000 }
         ensures err { OnErr result (self.new ≡ self.old) }
@@ -55,6 +66,19 @@ impl<'a> Stack<'a> {
         ensures few { length self.old.items ≤ 1000 }
         ensures err { OnErr result (self.new ≡ self.old) }
     {
+        if self.pool.len() >= self.sweep_at {
+            self.sweep()?;
+        }
+        self.put_text(count, page)
+    }
+
+    fn put_text(&mut self, count: usize, page: Vec<u8>) -> Result<bool, AllocError>
+        requires some { 0 < count }
+        requires there { count ≤ length self.old.items }
+        ensures ok { IfOk result (λ done. (done, self.new) ≡ with_answer (short page.items) count self.old) }
+        ensures few { length self.old.items ≤ 1000 }
+        ensures err { OnErr result (self.new ≡ self.old) }
+    {
         let start = self.pool.len();
         let len = page.len();
         if len > TEXT_BYTES {
@@ -69,15 +93,9 @@ impl<'a> Stack<'a> {
         Ok(true)
     }
 
-    /// How many bytes of texts were made.
-    pub fn pool_len(&self) -> usize {
-        self.pool.len()
-    }
-
     /// Copies the texts that are in use to another pool, if together they have less than half of this one's bytes.
     /// Texts that share bytes are copied once for each value, so without that test the new pool might be larger.
-    #[cold]
-    pub fn compact(&mut self) -> Result<(), AllocError>
+    fn compact(&mut self) -> Result<(), AllocError>
         ensures { self.new ≡ self.old }
     {
         let live = made_size(&self.values)
@@ -95,6 +113,17 @@ impl<'a> Stack<'a> {
             move_made(&mut self.own.texts, second);
             mem::swap(&mut self.pool, &mut self.scratch);
         }
+        Ok(())
+    }
+
+    /// Compacts the pool. The next time is when it has twice the bytes that it has then, so this costs no more than
+    /// the making of the texts did.
+    #[cold]
+    fn sweep(&mut self) -> Result<(), AllocError>
+        ensures { self.new ≡ self.old }
+    {
+        self.compact()?;
+        self.sweep_at = self.pool.len().saturating_mul(2).max(SWEEP_BYTES);
         Ok(())
     }
 }

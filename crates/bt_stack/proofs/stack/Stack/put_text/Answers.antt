@@ -1,6 +1,6 @@
 use Rattle.std.proofs.Common.{arith, ap, ◌∙◌, ◌++◌}
 use Rattle.bt_stack.proofs.JoinLemmas.{text_done}
-use Rattle.bt_stack.proofs.stack.Stack.answer_text.Goals as goal
+use Rattle.bt_stack.proofs.stack.Stack.put_text.Goals as goal
 
 pub returns-clause-ok : goal.returns-clause-ok
 returns-clause-ok c = let s = c.self.inside in

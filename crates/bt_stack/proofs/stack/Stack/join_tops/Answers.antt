@@ -3,7 +3,7 @@ use Rattle.std.proofs.lemmas.Grind.{common_steps}
 use Rattle.bt_stack.proofs.GrowLemmas.{desk_kept, all_fit_more}
 use Rattle.bt_stack.proofs.TopLemmas.{at_err}
 use Rattle.bt_stack.proofs.JoinLemmas.{join_refused, join_done, fit_joined}
-use Rattle.bt_stack.proofs.stack.Stack.join.Goals as goal
+use Rattle.bt_stack.proofs.stack.Stack.join_tops.Goals as goal
 
 pub returns-in_err-join-clause-err : goal.returns-in_err-join-clause-err
 returns-in_err-join-clause-err c = let s = c.self.inside in
