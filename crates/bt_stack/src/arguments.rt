@@ -1,4 +1,4 @@
-//! What the functions take that run others.
+//! The arguments of `if$` and `while$`, which run functions, and the number that the test of a loop leaves.
 
 ghost use Rattle.std.specs.Prelude.{◌≡◌, IfOk, option_map};
 ghost use Rattle.bt_actions.specs.Arguments.{as_number, as_code, taken, taken_two, taken_three};
@@ -30,9 +30,7 @@ pub fn take_number(state: &mut State) -> Result<Option<i32>, AllocError>
 }
 
 /// Takes the test and the body of a loop, or reports what is wrong with them.
-pub fn take_loop<'a>(
-    state: &mut State<'a>,
-) -> Result<Option<(Code<'a>, Code<'a>)>, AllocError>
+pub fn take_loop<'a>(state: &mut State<'a>) -> Result<Option<(Code<'a>, Code<'a>)>, AllocError>
     ensures { IfOk result (λ pair.
         (option_map (λ codes. (code_seen codes.0, code_seen codes.1)) pair, world_of state.new)
         ≡ taken_two builtin.While as_code as_code (world_of state.old)) }

@@ -19,8 +19,13 @@ impl<'a> State<'a> {
         held: Held,
     ) -> State<'a>
         ensures { result ≡ record {
-            stack = stack.entry; entry = entry.entry; preamble = preamble.entry; held = held; lines = [];
-            complaints = [] } }
+          stack = stack.entry;
+          entry = entry.entry;
+          preamble = preamble.entry;
+          held = held;
+          lines = [];
+          complaints = [];
+        } }
     {
         State {
             stack,
