@@ -322,8 +322,10 @@ pub fn work<'a>(
                 let next = carry_out(state, alloc, style, element)?;
                 let _depth = state.stack.len();
                 match next {
-                    Next::Flow(Flow::Go) => {}
-                    Next::Flow(Flow::Stop) => return Ok((Flow::Stop, tally)),
+                    Next::Flow(flow) => match flow {
+                        Flow::Go => {}
+                        Flow::Stop => return Ok((Flow::Stop, tally)),
+                    },
                     Next::Run(code) => rest = begin(control, rest, code)?,
                     Next::Loop(test, body) => rest = begin_loop(control, rest, test, body)?,
                 }

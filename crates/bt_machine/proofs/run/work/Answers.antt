@@ -63,27 +63,27 @@ returns-then-tally-eq0 c =
     let is_due = subst (λ d. IsDue d c.work.rest.now c.work.control.items c.next_due.result.1.now c.next_due.new.control.items) c.in-Element.is c.next_due.ensures in
     no_tick_leads p c.in-Element.element left_before left_now (world_of c.work.state) (world_of c.tell.new.self) (counts c.work.tally) end c.work.invariant is_due.0 c.if-tally-eq0.true c.in_ok-tell-in-Element.ensures
 
-pub work-preserved-in-Flow-Go : goal.work-preserved-in-Flow-Go
-work-preserved-in-Flow-Go c =
+pub work-preserved-in-Go : goal.work-preserved-in-Go
+work-preserved-in-Go c =
     let p = program_of c.args.style.now in
     let end = eval p (Then (Called c.args.first) End) (world_of c.args.state.now) counts_begun in
     let left_before = whole c.work.rest.now c.work.control.items in
     let left_now = whole c.next_due.result.1.now c.next_due.new.control.items in
     let is_due = subst (λ d. IsDue d c.work.rest.now c.work.control.items c.next_due.result.1.now c.next_due.new.control.items) c.in-Element.is c.next_due.ensures in
     let calls = c.take.ensures.calls ∙ ap (λ b. with_call b c.work.tally.calls) c.builtin.ensures in
-    let did = ap (λ n. followed p n (world_of c.carry_out.new.state) (counts c.take.new.self)) (sym (c.in-Flow-Go.is ∙ ap next.Flow c.in-Flow-Go.field-0-is)) ∙ c.in_ok-next-in-Element.ensures (counts c.take.new.self) in
+    let did = ap (λ n. followed p n (world_of c.carry_out.new.state) (counts c.take.new.self)) (sym (c.in-Flow.is ∙ ap next.Flow c.in-Go.is)) ∙ c.in_ok-next-in-Element.ensures (counts c.take.new.self) in
     let led = element_leads p c.in-Element.element (next.Flow Go) left_before left_now (world_of c.work.state) (world_of c.carry_out.new.state) (counts c.work.tally) (counts c.take.new.self) end c.work.invariant is_due.0 c.take.ensures.ticks calls did in
     led
 
-pub returns-in-Flow-Stop : goal.returns-in-Flow-Stop
-returns-in-Flow-Stop c =
+pub returns-in-Stop : goal.returns-in-Stop
+returns-in-Stop c =
     let p = program_of c.args.style.now in
     let end = eval p (Then (Called c.args.first) End) (world_of c.args.state.now) counts_begun in
     let left_before = whole c.work.rest.now c.work.control.items in
     let left_now = whole c.next_due.result.1.now c.next_due.new.control.items in
     let is_due = subst (λ d. IsDue d c.work.rest.now c.work.control.items c.next_due.result.1.now c.next_due.new.control.items) c.in-Element.is c.next_due.ensures in
     let calls = c.take.ensures.calls ∙ ap (λ b. with_call b c.work.tally.calls) c.builtin.ensures in
-    let did = ap (λ n. followed p n (world_of c.carry_out.new.state) (counts c.take.new.self)) (sym (c.in-Flow-Stop.is ∙ ap next.Flow c.in-Flow-Stop.field-0-is)) ∙ c.in_ok-next-in-Element.ensures (counts c.take.new.self) in
+    let did = ap (λ n. followed p n (world_of c.carry_out.new.state) (counts c.take.new.self)) (sym (c.in-Flow.is ∙ ap next.Flow c.in-Stop.is)) ∙ c.in_ok-next-in-Element.ensures (counts c.take.new.self) in
     let led = element_leads p c.in-Element.element (next.Flow Stop) left_before left_now (world_of c.work.state) (world_of c.carry_out.new.state) (counts c.work.tally) (counts c.take.new.self) end c.work.invariant is_due.0 c.take.ensures.ticks calls did in
     led
 
