@@ -43,6 +43,7 @@ pub fn top(state: &mut State, alloc: Global, style: &Style) -> Result<Flow, Allo
 }
 
 /// `stack$`.
+#[tactic(auto, using(crate::proofs::LogLemmas::all_more, crate::proofs::LogLemmas::fewer_left, crate::proofs::LogLemmas::none_left))]
 pub fn all(state: &mut State, alloc: Global, style: &Style) -> Result<Flow, AllocError>
     ensures { IfOk result (Acts (λ world. Goes (log_stack (program_of style.now) world)) state.old state.new) }
 {
