@@ -132,11 +132,8 @@ pub fn format_name(state: &mut State, alloc: Global) -> Result<Flow, AllocError>
         state.old state.new) }
 {
     let page = state.stack.take_page(alloc);
-    match (
-        state.stack.text_at(2),
-        state.stack.number_at(1),
-        state.stack.text_at(0),
-    ) {
+    let stack = &state.stack;
+    match (stack.text_at(2), stack.number_at(1), stack.text_at(0)) {
         (Some(names), Some(number), Some(pattern)) => {
             let told = formatted(alloc, names, number, pattern)?;
             answer_formatted(state, page, told)
