@@ -1,5 +1,5 @@
 -- What is left to do in the loop leads to what the definition says.
-use Rattle.std.proofs.Common.{◌≡◌, ℕ, zero, suc, ◌+◌, ◌≤◌, ◌<◌, List, [], ◌∷◌, ◌++◌, length, Bool, true, false, Option, Some, None, refl, sym, ap, ◌∙◌, arith, length-append}
+use Rattle.std.proofs.Common.{◌≡◌, ℕ, zero, suc, ◌+◌, ◌≤◌, ◌<◌, List, [], ◌∷◌, ◌++◌, length, true, false, Option, Some, None, refl, sym, ap, ◌∙◌, arith, length-append}
 use Rattle.std.specs.Prelude.{ℤ, pos, negsuc, map, reverse}
 use Rattle.std.proofs.lemmas.List.{get_or_past, length-map, map-append, reverse-append}
 use Rattle.std.proofs.lemmas.Bool.{false≢true}
@@ -15,7 +15,6 @@ use Rattle.bt_actions.specs.declared.complaint.Complaint.TheVariants.{TicksPasse
 use Rattle.bt_actions.specs.Item.{Code, Name, Block}
 use Rattle.bt_actions.specs.World.{World, say}
 use Rattle.bt_actions.specs.Arguments.{as_number, taken}
-use Rattle.bt_actions.specs.View.{code_seen}
 use Rattle.bt_machine.specs.declared.run.Frame.{Frame as HeldFrame}
 use Rattle.bt_machine.specs.declared.run.Element.{Element as HeldElement}
 use Rattle.bt_machine.specs.declared.run.Next.{Next}

@@ -12,7 +12,6 @@ ghost use Rattle.std.specs.Option.{option_or};
 ghost use Rattle.bt_style.specs.Program.{Program, program_of};
 ghost use Rattle.bt_style.specs.Tree.{End, Then, Called, element_of};
 ghost use Rattle.bt_style.specs.declared.builtin.Builtin.TheVariants as builtin;
-ghost use Rattle.bt_actions.specs.World.{say};
 ghost use Rattle.bt_actions.specs.Arguments.{as_number, taken};
 ghost use Rattle.bt_actions.specs.View.{code_seen};
 ghost use Rattle.bt_stack.specs.View.{world_of};

@@ -9,7 +9,6 @@ use Rattle.bt_stack.specs.View.{world_of}
 use Rattle.bt_machine.specs.declared.run.Frame.TheVariants as held
 use Rattle.bt_actions.specs.declared.code.Code.TheVariants as code
 use Rattle.bt_machine.specs.declared.run.Next.TheVariants as next
-use Rattle.bt_machine.specs.declared.run.Due.TheVariants as due
 use Rattle.bt_machine.specs.Eval.{eval}
 use Rattle.bt_machine.specs.Step.{counts_begun}
 use Rattle.bt_machine.specs.inner.Loop.{Run, counts, IsDue, followed, kept, whole}
