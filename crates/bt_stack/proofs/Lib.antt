@@ -4,6 +4,7 @@ mod JoinLemmas
 mod LogLemmas
 mod LeftLemmas
 mod MoveLemmas
+mod NameLemmas
 mod TellLemmas
 mod TopLemmas
 mod VariableLemmas

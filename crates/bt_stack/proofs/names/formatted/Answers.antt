@@ -1,5 +1,5 @@
 use Rattle.std.proofs.Math.Facts.{to_z-of_z}
-use Rattle.bt_actions.proofs.NameLemmas.{answered_within}
+use Rattle.bt_stack.proofs.NameLemmas.{answered_within}
 use Rattle.bt_stack.proofs.names.formatted.Goals as goal
 
 pub returns-in-Ok : goal.returns-in-Ok
