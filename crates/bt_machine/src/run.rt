@@ -319,6 +319,7 @@ pub fn work<'a>(
                 }
                 tally.take(element.builtin());
                 let next = carry_out(state, alloc, style, element)?;
+                // It ensures that the stack is small, which the loop's measure needs.
                 let _depth = state.stack.len();
                 match next {
                     Next::Flow(flow) => match flow {
