@@ -1,6 +1,6 @@
 //! The functions on lists of names.
 
-ghost use Rattle.std.specs.Prelude.{◌≡◌, ◌≤◌, [], length, drop, IfOk};
+ghost use Rattle.std.specs.Prelude.{◌≡◌, ◌≤◌, None, length, drop, option_map, IfOk};
 ghost use Rattle.bt_actions.specs.Arguments.{as_number, as_text, taken_three};
 ghost use Rattle.bt_actions.specs.Given.{Errs, valued, answered, empty_item};
 ghost use Rattle.bt_actions.specs.Names.{names_counted, name_formatted};
@@ -9,9 +9,10 @@ ghost use Rattle.bt_actions.specs.inner.Names.{pushed_within};
 ghost use Rattle.bt_names.specs.FormattedName.{formatted_name, IsFormatFault};
 ghost use Rattle.bt_style.specs.declared.builtin.Builtin.TheVariants as builtin;
 ghost use Rattle.bt_stack.specs.View.{world_of, Acts};
-ghost use Rattle.bt_stack.specs.inner.Formatted.{formatted_answer};
+ghost use Rattle.bt_stack.specs.inner.Formatted.{formatted_answer, name_asked};
 
 use crate::forms::{OfTextToNumber, answer_empty_in_error, answer_page};
+use crate::stack::Stack;
 use crate::state::State;
 use crate::texts::count_fitting;
 use bt_actions::{Complaint, Flow};
@@ -86,18 +87,14 @@ fn formatted(
 }
 
 /// Puts a formatted name in place of three arguments, if it isn't too long.
-fn answer_within(
-    state: &mut State,
-    mut page: Vec<u8>,
-    formatted: Formatted,
-) -> Result<Flow, AllocError>
-    requires empty { page.items ≡ [] }
-    requires there { 3 ≤ length state.old.stack.items }
+fn answer_within(state: &mut State, alloc: Global, formatted: Formatted) -> Result<Flow, AllocError>
+    requires { 3 ≤ length state.old.stack.items }
     ensures { IfOk result (Acts (λ world. pushed_within formatted (with_stack (drop 3 world.stack) world))
         state.old state.new) }
 {
     match formatted {
         Formatted::Text(text) => {
+            let mut page = state.stack.take_page(alloc);
             page.extend_from_slice(text.as_slice())?;
             answer_page(state, 3, page)
         }
@@ -111,18 +108,51 @@ fn answer_within(
 /// The same, or reports what is wrong with the arguments.
 fn answer_formatted(
     state: &mut State,
-    page: Vec<u8>,
+    alloc: Global,
     told: Result<Formatted, Complaint>,
 ) -> Result<Flow, AllocError>
-    requires empty { page.items ≡ [] }
-    requires there { 3 ≤ length state.old.stack.items }
+    requires { 3 ≤ length state.old.stack.items }
     ensures { IfOk result (Acts (λ world. formatted_answer told (with_stack (drop 3 world.stack) world))
         state.old state.new) }
 {
     match told {
-        Ok(formatted) => answer_within(state, page, formatted),
+        Ok(formatted) => answer_within(state, alloc, formatted),
         Err(complaint) => answer_empty_in_error(state, 3, complaint),
     }
+}
+
+/// The name that the three topmost values ask for, or what is wrong with it, if they are two texts about a number. The
+/// texts are borrowed only here, so the caller can change the stack.
+fn formatted_tops(
+    alloc: Global,
+    stack: &Stack,
+) -> Result<Option<Result<Formatted, Complaint>>, AllocError>
+    ensures { IfOk result (λ told. (w : World) → option_map (λ name. formatted_answer name w) told
+        ≡ option_map (λ asked. answered (name_formatted asked) w) (name_asked stack.now.items)) }
+{
+    match (stack.text_at(2), stack.number_at(1), stack.text_at(0)) {
+        (Some(names), Some(number), Some(pattern)) => {
+            let told = formatted(alloc, names, number, pattern)?;
+            Ok(Some(told))
+        }
+        _ => Ok(None),
+    }
+}
+
+/// `format.name$` of other values.
+#[cold]
+#[tactic(auto, using(crate::proofs::NameLemmas::name_refused))]
+fn refuse_name(state: &mut State) -> Result<Flow, AllocError>
+    requires { name_asked state.old.stack.items ≡ None }
+    ensures { IfOk result (Acts (λ world.
+        valued name_formatted empty_item (taken_three builtin.FormatName as_text as_number as_text world))
+        state.old state.new) }
+{
+    let wrong = state.stack.is_no_text(0)
+        || state.stack.is_no_number(1)
+        || state.stack.is_no_text(2);
+    state.refuse_three(Builtin::FormatName, wrong)?;
+    state.push_given(b"")
 }
 
 /// `format.name$`.
@@ -131,19 +161,8 @@ pub fn format_name(state: &mut State, alloc: Global) -> Result<Flow, AllocError>
         valued name_formatted empty_item (taken_three builtin.FormatName as_text as_number as_text world))
         state.old state.new) }
 {
-    let page = state.stack.take_page(alloc);
-    let stack = &state.stack;
-    match (stack.text_at(2), stack.number_at(1), stack.text_at(0)) {
-        (Some(names), Some(number), Some(pattern)) => {
-            let told = formatted(alloc, names, number, pattern)?;
-            answer_formatted(state, page, told)
-        }
-        _ => {
-            let wrong = state.stack.is_no_text(0)
-                || state.stack.is_no_number(1)
-                || state.stack.is_no_text(2);
-            state.refuse_three(Builtin::FormatName, wrong)?;
-            state.push_given(b"")
-        }
+    match formatted_tops(alloc, &state.stack)? {
+        Some(told) => answer_formatted(state, alloc, told),
+        None => refuse_name(state),
     }
 }

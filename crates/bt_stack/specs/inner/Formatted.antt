@@ -1,8 +1,10 @@
 -- What `format.name$` puts on the stack, if of a name that is too long no more is known than that.
-use Rattle.std.specs.Prelude.{Result, Ok, Err}
+use Rattle.std.specs.Prelude.{ℕ, ℤ, List, Option, option_and_then, slice_get, Result, Ok, Err}
 use Rattle.bt_names.specs.declared.formatted_name.Formatted.{Formatted}
 use Rattle.bt_actions.specs.declared.complaint.Complaint.{Complaint}
+use Rattle.bt_actions.specs.Arguments.{as_number, as_text, all_three}
 use Rattle.bt_actions.specs.Given.{empty_item}
+use Rattle.bt_actions.specs.Item.{Item}
 use Rattle.bt_actions.specs.State.{pushed_in_error}
 use Rattle.bt_actions.specs.World.{World, Act}
 use Rattle.bt_actions.specs.inner.Names.{pushed_within}
@@ -11,3 +13,9 @@ use Rattle.bt_actions.specs.inner.Names.{pushed_within}
 abbrev pub formatted_answer : Result Formatted Complaint → World → Act
 formatted_answer (Ok formatted) w = pushed_within formatted w
 formatted_answer (Err m) w = pushed_in_error m empty_item w
+
+-- the names, the number and the pattern on the stack, if it has a text, a number and a text on top
+abbrev pub name_asked : List Item → Option (List ℕ × ℤ × List ℕ)
+name_asked items =
+    all_three (option_and_then as_text (slice_get items 2)) (option_and_then as_number (slice_get items 1))
+    (option_and_then as_text (slice_get items 0))
