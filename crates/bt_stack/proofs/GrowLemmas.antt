@@ -1,5 +1,5 @@
 -- A pool that grows keeps each text that lies in it, and so all that is seen of a stack.
-use Rattle.std.proofs.Common.{◌≡◌, ℕ, zero, suc, ◌+◌, ◌≤◌, List, [], ◌∷◌, ◌++◌, length, get_or, take, drop, map, reverse, refl, ap, sym, subst, ◌∙◌, arith, length-append, length-drop}
+use Rattle.std.proofs.Common.{◌≡◌, ℕ, zero, suc, ◌+◌, ◌≤◌, List, [], ◌∷◌, ◌++◌, length, get_or, take, drop, map, reverse, refl, ap, sym, ◌∙◌, arith, length-append, length-drop}
 use Rattle.std.specs.List.{All}
 use Rattle.std.proofs.lemmas.List.{take-append-le, drop-append-le, drop_at}
 use Rattle.bt_actions.specs.Item.{Item}

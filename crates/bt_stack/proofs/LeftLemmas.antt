@@ -1,6 +1,6 @@
 -- What is copied out at a step's end: the variables that it was given, with its values put over them one by one.
 use Rattle.std.proofs.Common.{◌≡◌, ℕ, zero, suc, ℤ, ◌<◌, List, [], ◌∷◌, length, get_or, take, refl, ap, sym, ◌∙◌, arith}
-use Rattle.std.specs.Prelude.{Option, Some, None, set, slice_get}
+use Rattle.std.specs.Prelude.{Option, Some, None, slice_get}
 use Rattle.bt_actions.specs.Arguments.{as_text}
 use Rattle.bt_stack.specs.declared.value.Value.{Value}
 use Rattle.bt_stack.specs.declared.value.Value.TheVariants as value

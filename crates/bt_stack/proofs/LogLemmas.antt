@@ -1,16 +1,16 @@
 -- The values that are logged one after another.
-use Rattle.std.proofs.Common.{◌≡◌, ◌<◌, ◌+◌, Bool, true, false, List, [], ◌∷◌, ◌++◌, length, refl, ap, sym, ◌∙◌, arith}
+use Rattle.std.proofs.Common.{◌≡◌, ◌<◌, Bool, true, false, List, [], ◌∷◌, ◌++◌, length, refl, ap, sym, ◌∙◌, arith}
 use Rattle.std.proofs.lemmas.Bool.{false≢true}
 use Rattle.std.proofs.lemmas.List.{append-nil}
-use Rattle.std.specs.Prelude.{ℕ, Option, Some, None, map, option_map, slice_get}
+use Rattle.std.specs.Prelude.{ℕ, None, map, option_map, slice_get}
 use Rattle.bt_style.specs.Program.{Program}
 use Rattle.bt_actions.specs.Item.{Item}
 use Rattle.bt_actions.specs.declared.complaint.Complaint.TheVariants.{Shown}
 use Rattle.bt_actions.specs.World.{World, told_message, with_stack}
-use Rattle.bt_actions.specs.LogLines.{shown_value, log_value, log_stack}
+use Rattle.bt_actions.specs.LogLines.{shown_value, log_stack}
 use Rattle.bt_actions.proofs.LoggingLemmas.{log_stack_next}
 use Rattle.bt_stack.specs.declared.value.Value.{Value}
-use Rattle.bt_stack.specs.inner.Kept.{item_in, items}
+use Rattle.bt_stack.specs.inner.Kept.{items}
 use Rattle.bt_stack.specs.inner.Logged.{logged_from}
 
 -- after a value that was logged, all that are left give what all gave before
@@ -31,10 +31,6 @@ none_left p [] b first before after top known e none =
     ∙ known
 none_left p (v ∷ vs) b first before after top known e none = absurd (false≢true (sym none ∙ ap (λ r. r.0) e))
 
--- the words for a value that was read below the top
-pub words_at : {A : Type 0} (f : Item → A) (pool : List ℕ) (vs vs' : List Value) (old : List Item) (v : Value) (k : ℕ) (r : A) → r ≡ f (item_in pool v) → Some (item_in pool v) ≡ slice_get (items pool vs') k → vs' ≡ vs → items pool vs ≡ old → Some r ≡ option_map f (slice_get old k)
-words_at f pool vs vs' old v k r is_result is_there are_values are_old =
-    ap Some is_result ∙ ap (option_map f) (is_there ∙ ap (λ s. slice_get s k) (ap (items pool) are_values ∙ are_old))
-
+-- there are no words without a value
 pub words_none : {A : Type 0} (f : Item → A) (pool : List ℕ) (vs vs' : List Value) (old : List Item) (k : ℕ) → None ≡ slice_get (items pool vs') k → vs' ≡ vs → items pool vs ≡ old → None ≡ option_map f (slice_get old k)
 words_none f pool vs vs' old k is_none are_values are_old = ap (option_map f) (is_none ∙ ap (λ s. slice_get s k) (ap (items pool) are_values ∙ are_old))

@@ -1,5 +1,5 @@
 -- What is done to the topmost values, as it is done to the first items.
-use Rattle.std.proofs.Common.{◌≡◌, ℕ, zero, suc, ◌+◌, ◌-◌, ◌<◌, ◌≤◌, List, [], ◌∷◌, ◌++◌, length, get_or, take, drop, map, reverse, refl, ap, sym, subst, ◌∙◌, arith, rules, min, length-append, length-drop}
+use Rattle.std.proofs.Common.{◌≡◌, ℕ, ◌+◌, ◌-◌, ◌<◌, ◌≤◌, List, [], ◌∷◌, ◌++◌, length, get_or, take, drop, map, reverse, refl, ap, sym, subst, ◌∙◌, arith, rules, min, length-append, length-drop}
 use Rattle.std.proofs.lemmas.List.{map-append, reverse-append, drop_at, take-append-drop, take_more, take_more_set, take-set, take-set-le, get_or-set_same, get_or-set_other, length-set, get_or_default, same_lists, places, take_all, length-take, length-map, length-reverse}
 use Rattle.std.specs.Prelude.{Option, Some, None, Result, Ok, Err, OnErr, option_and_then, slice_get, set}
 use Rattle.bt_actions.specs.Item.{Item}

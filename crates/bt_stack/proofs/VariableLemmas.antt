@@ -1,8 +1,7 @@
 -- The values that a step gave to variables, over those that it was given.
-use Rattle.std.proofs.Common.{◌≡◌, ℕ, zero, suc, ℤ, ◌<◌, ◌≤◌, List, [], ◌∷◌, ◌++◌, length, get_or, drop, refl, ap, sym, ◌∙◌, arith, Bool, true, false}
+use Rattle.std.proofs.Common.{◌≡◌, ℕ, zero, suc, ℤ, ◌<◌, ◌≤◌, List, [], ◌∷◌, ◌++◌, length, get_or, drop, refl, ap, sym, ◌∙◌, arith, true, false}
 use Rattle.std.proofs.lemmas.List.{length-take}
-use Rattle.std.specs.List.{All}
-use Rattle.std.specs.Prelude.{Option, Some, None, set, slice_get, option_and_then, option_map}
+use Rattle.std.specs.Prelude.{Option, Some, None, set, slice_get, option_and_then}
 use Rattle.std.proofs.lemmas.Option.{none-some, same_Some, get_or_from_slice_get}
 use Rattle.std.proofs.lemmas.Bool.{false≢true}
 use Rattle.bt_actions.specs.declared.entry.Variables.{Variables}
@@ -12,7 +11,7 @@ use Rattle.bt_actions.specs.Assignment.{with_text}
 use Rattle.bt_stack.specs.declared.value.Value.{Value}
 use Rattle.bt_stack.specs.declared.value.Value.TheVariants as value
 use Rattle.bt_stack.specs.Desk.{short}
-use Rattle.bt_stack.specs.inner.Kept.{part, item_in, text_over, bytes_in, is_text, text_value, texts_over, own_of, number_over, numbers_over, Fits, AllFit}
+use Rattle.bt_stack.specs.inner.Kept.{part, item_in, text_over, bytes_in, is_text, text_value, texts_over, own_of, number_over, numbers_over, Fits}
 
 -- a variable that there isn't
 pub numbers_none : (ns : List (Option ℤ)) (zs : List ℤ) (n : ℕ) (d : ℤ) → None ≡ slice_get zs n → d ≡ get_or (numbers_over ns zs) n d

@@ -1,5 +1,5 @@
 -- What is seen of a stack that owns its texts: its items, and the variables of the step.
-use Rattle.std.specs.Prelude.{ℕ, Bool, true, false, List, [], ◌∷◌, length, drop, Option, Some, None, nat_le, if◌then◌else◌}
+use Rattle.std.specs.Prelude.{ℕ, Bool, true, false, List, ◌∷◌, length, drop, Option, Some, None, nat_le, if◌then◌else◌}
 use Rattle.bt_actions.specs.declared.entry.Variables.{Variables}
 use Rattle.bt_actions.specs.Item.{Item, Txt}
 use Rattle.bt_actions.specs.State.{text_size_limit}

@@ -3,7 +3,7 @@ use Rattle.std.specs.Prelude.{ℤ, Option, Some, None, Bool, Result, Ok, Err, Li
 use Rattle.bt_style.specs.declared.builtin.Builtin.TheVariants.{Equals}
 use Rattle.bt_actions.specs.declared.complaint.Complaint.{Complaint}
 use Rattle.bt_actions.specs.declared.complaint.Complaint.TheVariants.{WrongKind}
-use Rattle.bt_actions.specs.Item.{Item, Num, Txt}
+use Rattle.bt_actions.specs.Item.{Num, Txt}
 use Rattle.bt_actions.specs.Given.{Given, Gives, Errs, truth, zero_item, empty_item}
 
 -- a number, or an error with 0 in its place

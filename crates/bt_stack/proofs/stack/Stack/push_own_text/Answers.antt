@@ -1,4 +1,4 @@
-use Rattle.std.proofs.Common.{arith, sym, subst, List, ap, length}
+use Rattle.std.proofs.Common.{sym, subst, List, length}
 use Rattle.bt_stack.specs.declared.value.Value.{Value}
 use Rattle.bt_stack.specs.inner.Kept.{AllFit}
 use Rattle.bt_stack.proofs.GrowLemmas.{items_are}

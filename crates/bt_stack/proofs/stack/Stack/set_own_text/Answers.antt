@@ -1,4 +1,4 @@
-use Rattle.std.proofs.Common.{List, ap, sym, subst, length, ◌∙◌}
+use Rattle.std.proofs.Common.{List, ap, sym, subst, length}
 use Rattle.bt_stack.specs.declared.value.Value.{Value}
 use Rattle.bt_stack.specs.Desk.{with_own}
 use Rattle.bt_stack.specs.inner.Kept.{AllFit, items}
