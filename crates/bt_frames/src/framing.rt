@@ -20,7 +20,7 @@ pub enum Frame {
     Body(Vec<u8>),
     /// A header that doesn't say how long the body is.
     NoLength,
-    /// A body of more than `BODY_BYTES` bytes, or for which memory ran out. It was read and dropped.
+    /// A body of more than `BODY_BYTES` bytes, or one for which memory ran out. It was read and dropped.
     TooLarge,
     /// The input ended between two frames.
     End,

@@ -1,4 +1,4 @@
--- The lines of a text, as an editor counts them or as BibTeX does.
+-- The lines of a text, as an editor counts them or as a session's messages do.
 use Rattle.std.specs.Prelude.{ℕ, suc, ◌+◌, ◌-◌, ◌==◌, Bool, false, not, ◌&&◌, ◌||◌, if◌then◌else◌, List, [], ◌∷◌}
 use Rattle.bt_positions.specs.declared.lines.Lines.{Lines}
 use Rattle.bt_positions.specs.declared.lines.Lines.TheVariants.{Editor, Bibtex}
@@ -9,7 +9,7 @@ begins_with_feed [] = false
 begins_with_feed (b ∷ t) = b == 10
 
 -- Whether a line ends between a byte and what follows it. An editor's ends after LF, CR LF, or a CR that no LF follows;
--- BibTeX's ends after LF.
+-- a message's ends after LF.
 abbrev pub ends_line : Lines → ℕ → List ℕ → Bool
 ends_line Editor b t = b == 10 || (b == 13 && not (begins_with_feed t))
 ends_line Bibtex b t = b == 10

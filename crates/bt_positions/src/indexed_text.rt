@@ -99,8 +99,9 @@ impl IndexedText {
         line_begin(self.bytes.as_slice(), lines, starts, line)
     }
 
-    /// The offset of a position. A character after the end of its line is the line's end, a place inside a character is
-    /// that character's begin, and a line after the last one is the end of the text.
+    /// The offset of a position. A character after its line's end gives the line's end, and a line after the last one
+    /// gives the text's end. The second unit of a character in UTF-16 gives that character's begin; in UTF-8 a position
+    /// inside a character gives an offset inside it.
     pub fn offset_of(&self, counting: Counting, position: Position) -> usize
         ensures value { result ≡ offset_of counting position self.now }
         ensures within { result ≤ length self.now }

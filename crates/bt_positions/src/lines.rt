@@ -12,7 +12,7 @@ use std::alloc::{AllocError, Global};
 pub enum Lines {
     /// A line ends after LF, CR LF, or a CR that no LF follows.
     Editor,
-    /// A line ends after LF.
+    /// A line ends after LF, as a session's messages count them.
     Bibtex,
 }
 

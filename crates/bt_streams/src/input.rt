@@ -34,8 +34,7 @@ fn read_byte<S: Source>(source: &mut S) -> Result<Option<u8>, StreamFailed>
     }
 }
 
-/// Reads a line into the buffer, without its line feed, and returns how it ends. After a failure the buffer has the
-/// part that was read.
+/// Reads a line into the buffer, without its line feed, and returns how it ends.
 pub fn read_line<S: Source>(source: &mut S, buffer: &mut [u8]) -> Result<LineEnd, StreamFailed>
     requires { (S.seen source.old).failures < 2 ^ 64 - 1 }
     ensures line { IfOk result (ReadsLine (S.seen source.old).rest (S.seen source.new).rest buffer.new) }
@@ -72,8 +71,7 @@ pub fn skip_line<S: Source>(source: &mut S) -> Result<bool, StreamFailed>
     Ok(false)
 }
 
-/// Fills the buffer, and returns whether the input was long enough. After a failure the buffer has the part that was
-/// read.
+/// Fills the buffer, and returns whether the input was long enough.
 pub fn read_bytes<S: Source>(source: &mut S, buffer: &mut [u8]) -> Result<bool, StreamFailed>
     requires { (S.seen source.old).failures < 2 ^ 64 - 1 }
     ensures all { IfOk result (ReadsAll (S.seen source.old).rest (S.seen source.new).rest buffer.new) }

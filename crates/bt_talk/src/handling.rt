@@ -109,7 +109,8 @@ fn carry_out<D: Desk>(
     }
 }
 
-/// Handles the body of a frame, and returns what is said. It fails only if there is no memory for the error either.
+/// Handles the body of a frame, and returns what is said. It fails if there is no memory for an error, or for the
+/// answer to a request that the desk has carried out.
 pub fn handle<D: Desk>(alloc: Global, desk: &mut D, body: &[u8]) -> Result<Vec<Value>, AllocError>
     ensures said { IfOk result (λ said. Handled D.answers D.notes (text body.now) desk.old
         (map view said.items) desk.new) }

@@ -21,7 +21,7 @@ pub enum TalkFault {
     WriteFailed,
     /// The input ended inside a frame.
     Truncated,
-    /// There was no memory to say so to the client.
+    /// There was no memory to build or write what is said.
     OutOfMemory,
 }
 
