@@ -1,5 +1,5 @@
 -- The open documents, and the files that follow them.
-use Rattle.std.specs.Prelude.{◌≡◌, ℕ, Bool, true, false, if◌then◌else◌, List, [], ◌∷◌, Option, Some}
+use Rattle.std.specs.Prelude.{◌≡◌, ℕ, ℤ, Bool, true, false, if◌then◌else◌, List, [], ◌∷◌, Option, Some}
 use Rattle.std.specs.List.{AllByRecursion}
 use Rattle.std.specs.Str.{bytes_eq}
 use Rattle.bt_documents.specs.declared.changes.Change.{Change}
@@ -12,7 +12,7 @@ with_document name f [] = []
 with_document name f (d ∷ ds) = if bytes_eq d.name name then f d ∷ ds else d ∷ with_document name f ds
 
 -- the document after changes; the truth value says whether the files took its new text
-abbrev pub after_changes : List ℕ → ℕ → List Change → Bool → Document → Document
+abbrev pub after_changes : List ℕ → ℤ → List Change → Bool → Document → Document
 after_changes name version changes accepted d =
     record {
       name = name;

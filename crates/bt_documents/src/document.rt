@@ -13,8 +13,8 @@ pub struct Document {
     pub name: Bytes,
     /// The units of the editor's positions in it.
     pub counting: Counting,
-    /// The number that the editor gave the text.
-    pub version: u64,
+    /// The number that the editor gave the text. The protocol has integers here, so it may be negative.
+    pub version: i64,
     pub text: IndexedText,
     /// Whether the files took its text.
     pub in_step: bool,

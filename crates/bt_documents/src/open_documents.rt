@@ -16,7 +16,7 @@ fn new_document(
     alloc: Global,
     name: &[u8],
     counting: Counting,
-    version: u64,
+    version: i64,
     text: &[u8],
 ) -> Result<Document, AllocError>
     ensures { IfOk result (λ d. d ≡ record {
@@ -41,7 +41,7 @@ fn changed(
     alloc: Global,
     document: &Document,
     name: &[u8],
-    version: u64,
+    version: i64,
     changes: &[Change<'_>],
 ) -> Result<Document, AllocError>
     ensures { IfOk result (λ d. d ≡ after_changes name.now version changes.now false document.now) }
@@ -64,7 +64,7 @@ pub fn open<F: Files>(
     documents: &mut Sequence<Document>,
     name: &[u8],
     counting: Counting,
-    version: u64,
+    version: i64,
     text: &[u8],
 ) -> Result<bool, AllocError>
     requires { Follows (F.text files.old) documents.old }
@@ -114,7 +114,7 @@ pub fn change<F: Files>(
     files: &mut F,
     documents: &mut Sequence<Document>,
     name: &[u8],
-    version: u64,
+    version: i64,
     changes: &[Change<'_>],
 ) -> Result<bool, AllocError>
     requires { Follows (F.text files.old) documents.old }
