@@ -61,7 +61,7 @@ words_of ParseError = codes "the message isn't JSON"
 words_of InvalidRequest = codes "the message isn't one of JSON-RPC 2.0"
 words_of MethodNotFound = codes "the method is unknown"
 words_of InvalidParams = codes "the method's parameters are wrong"
-words_of InternalError = codes "out of memory"
+words_of InternalError = codes "out of memory, or the message is too large"
 
 -- the answer to a request that has a result
 abbrev pub response : Data → Data → Data

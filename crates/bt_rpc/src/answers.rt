@@ -16,7 +16,7 @@ pub enum RpcError {
     InvalidRequest,
     MethodNotFound,
     InvalidParams,
-    /// Out of memory.
+    /// Out of memory, or a message that is too large.
     InternalError,
 }
 
@@ -40,7 +40,7 @@ fn words_of(error: RpcError) -> &'static str
         RpcError::InvalidRequest => "the message isn't one of JSON-RPC 2.0",
         RpcError::MethodNotFound => "the method is unknown",
         RpcError::InvalidParams => "the method's parameters are wrong",
-        RpcError::InternalError => "out of memory",
+        RpcError::InternalError => "out of memory, or the message is too large",
     }
 }
 
