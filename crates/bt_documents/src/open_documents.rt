@@ -1,6 +1,7 @@
 //! The open documents, and the files that follow them.
 
 ghost use Rattle.std.specs.Prelude.{◌≡◌, IfOk, OnErr, false, ℕ, List, Option};
+ghost use Rattle.std.specs.Str.{bytes_eq};
 ghost use Rattle.bt_documents.specs.Documents.{with_document, after_changes, opened, closed, Follows};
 
 use crate::changes::{Change, all_edited};
@@ -76,6 +77,9 @@ pub fn open<F: Files>(
       in_step = accepted;
     }) documents.old) }
     ensures follows { Follows (F.text files.new) documents.new }
+    ensures refused { IfOk result (λ accepted. accepted ≡ false → files.new ≡ files.old) }
+    ensures others { (other : List ℕ) → bytes_eq other name.now ≡ false →
+        F.text files.new other ≡ F.text files.old other }
     ensures err { OnErr result (documents.new ≡ documents.old) }
 {
     let mut document = new_document(alloc, name, counting, version, text)?;
@@ -121,7 +125,11 @@ pub fn change<F: Files>(
     ensures documents { IfOk result (λ accepted.
         documents.new ≡ with_document name.now (after_changes name.now version changes.now accepted) documents.old) }
     ensures follows { Follows (F.text files.new) documents.new }
+    ensures refused { IfOk result (λ accepted. accepted ≡ false → files.new ≡ files.old) }
+    ensures others { (other : List ℕ) → bytes_eq other name.now ≡ false →
+        F.text files.new other ≡ F.text files.old other }
     ensures err { OnErr result (documents.new ≡ documents.old) }
+    ensures err_files { OnErr result (files.new ≡ files.old) }
 {
     let Some(place) = index_of(documents.as_slice(), name) else {
         return Ok(false);
