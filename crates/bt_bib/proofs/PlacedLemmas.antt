@@ -74,6 +74,13 @@ fits text a b (p ∷ ps) lt h =
 pub last_ones_fit : (text : List ℕ) (front back : List PlacedPiece) (a b : Spot) → length text + 1 < 2 ^ 64 → pieces_of text ≡ front ++ map (rebased_piece a b) back → All (FitsPiece a b) back
 last_ones_fit text front back a b lt is = All-from_recursion (FitsPiece a b) back (fits text a b back lt (all_last (LiesIn text) front (map (rebased_piece a b) back) (subst (AllByRecursion (LiesIn text)) is (pieces_lie text))))
 
+all_first : {A : Type 0} (P : A → Type 0) (xs ys : List A) → AllByRecursion P (xs ++ ys) → AllByRecursion P xs
+all_first P [] ys h = tt
+all_first P (x ∷ xs) ys h = (h.0, all_first P xs ys h.1)
+
+pub first_ones_fit : (text : List ℕ) (front back : List PlacedPiece) (a b : Spot) → length text + 1 < 2 ^ 64 → map (rebased_piece a b) front ≡ front → pieces_of text ≡ front ++ back → All (FitsPiece a b) front
+first_ones_fit text front back a b lt still is = All-from_recursion (FitsPiece a b) front (fits text a b front lt (subst (AllByRecursion (LiesIn text)) (sym still) (all_first (LiesIn text) front back (subst (AllByRecursion (LiesIn text)) is (pieces_lie text)))))
+
 -- a piece that is read from its `@` on
 pub record ReadApart (text : List ℕ) (s e : Spot) (p : Piece) : Type 0 where
   pub shown : placed s (piece (drop s.place text)) ≡ (record { start = s; end = spot_from s e; piece = p }, here text (spot_from s e))

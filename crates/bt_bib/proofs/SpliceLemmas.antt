@@ -1,7 +1,8 @@
 -- What is kept of a text, what is read again, and what is moved.
 use Rattle.std.specs.Prelude.{nat_lt, nat_le, ◌==◌, ◌&&◌}
-use Rattle.std.proofs.Common.{◌≡◌, ℕ, ◌+◌, ◌-◌, ◌<◌, ◌≤◌, Bool, true, false, cond, List, [], ◌∷◌, ◌++◌, length, take, drop, map, Some, None, refl, sym, ap, subst, ◌∙◌, append_assoc, length-append, arith, inl, inr}
-use Rattle.std.proofs.lemmas.List.{drop-drop, append-nil, take_at, drop_at, length-take-le, take-append-drop}
+use Rattle.std.specs.List.{filter}
+use Rattle.std.proofs.Common.{◌≡◌, ℕ, zero, suc, ◌+◌, ◌-◌, ◌<◌, ◌≤◌, Bool, true, false, cond, List, [], ◌∷◌, ◌++◌, length, take, drop, map, Some, None, refl, sym, ap, subst, ◌∙◌, append_assoc, length-append, arith, inl, inr}
+use Rattle.std.proofs.lemmas.List.{drop-drop, append-nil, drop_all, take_at, drop_at, length-take-le, take-append-drop}
 use Rattle.std.proofs.lemmas.Bool.{cases_lt, lt-leb, le-leb, leb-true, ltb-true}
 use Rattle.bt_bib.specs.declared.spot.Spot.{Spot}
 use Rattle.bt_bib.specs.declared.placed_pieces.PlacedPiece.{PlacedPiece}
@@ -10,9 +11,10 @@ use Rattle.bt_bib.specs.inner.Spot.{IsIn}
 use Rattle.bt_bib.specs.Pieces.{next_piece}
 use Rattle.bt_bib.specs.BibText.{pieces_of}
 use Rattle.bt_bib.specs.inner.Cases.{pieces_from}
-use Rattle.bt_bib.specs.Boundaries.{last_end, Rises, moved_piece}
+use Rattle.bt_bib.specs.declared.splice.ItemsEdit.{ItemsEdit}
+use Rattle.bt_bib.specs.Boundaries.{boundaries, last_end, Rises, moved_piece}
 use Rattle.bt_bib.specs.inner.Boundaries.{below, InOrder}
-use Rattle.bt_bib.specs.Splice.{IsSplice, is_common, is_boundary, reread_from, reread_upto}
+use Rattle.bt_bib.specs.Splice.{IsSplice, IsItemsEdit, is_common, is_boundary, least, reread_from, reread_upto}
 use Rattle.bt_bib.specs.inner.CommonBoundary.{until, IsJoint}
 use Rattle.bt_bib.specs.inner.PlacedPieces.{rebased, rebased_piece}
 use Rattle.bt_bib.proofs.RunLemmas.{same_spot}
@@ -25,15 +27,13 @@ use Rattle.bt_bib.proofs.RiseLemmas.{spans_rise, below_zero, from_is_greatest, f
 spot_rebased : (a b s : Spot) → rebased a b (spot_from a s) ≡ spot_from b s
 spot_rebased a b s = same_spot _ _ _ _ (omega arith) (omega arith)
 
-all_rebased : (a b : Spot) (ps : List PlacedPiece) → map (rebased_piece a b) (map (moved_piece a) ps) ≡ map (moved_piece b) ps
+pub all_rebased : (a b : Spot) (ps : List PlacedPiece) → map (rebased_piece a b) (map (moved_piece a) ps) ≡ map (moved_piece b) ps
 all_rebased a b [] = refl
 all_rebased a b (p ∷ ps) = rw (spot_rebased a b p.start, spot_rebased a b p.end, all_rebased a b ps) refl
 
-pub rebased_law : (a b : Spot) (r : List ℕ) → pieces_from (at b r) ≡ map (rebased_piece a b) (pieces_from (at a r))
-rebased_law a b r =
-    let own = pieces_from (at item_start r) in
-    let from : (s : Spot) → pieces_from (at s r) ≡ map (moved_piece s) own = λ s. ap (λ u. pieces_from (at u r)) (same_spot _ _ _ _ (omega arith) (omega arith)) ∙ moved_law s item_start r in
-    from b ∙ sym (all_rebased a b own) ∙ ap (map (rebased_piece a b)) (sym (from a))
+-- the rest of a text, wherever it stands
+rest_moved : (s : Spot) (r : List ℕ) → pieces_from (at s r) ≡ map (moved_piece s) (pieces_from (at item_start r))
+rest_moved s r = ap (λ u. pieces_from (at u r)) (same_spot _ _ _ _ (omega arith) (omega arith)) ∙ moved_law s item_start r
 
 -- a copy that moves nowhere
 still_spot : (s : Spot) → rebased item_start item_start s ≡ s
@@ -87,8 +87,13 @@ respliced_law old new begin end inserted is test =
     kept_law old new start begin front
     ∙ ap (λ (l : List PlacedPiece). kept ++ l) (until_splits test from ps ∙ ap (λ (l : List PlacedPiece). until test from ps ++ l) (rest_law new from (until test from ps) (behind_until test from ps) (until_splits test from ps)))
 
--- after a boundary that both texts have, the old pieces are moved
-pub joined_law : (old new : List ℕ) (begin end inserted : ℕ) → IsSplice old new begin end inserted → (front back : List PlacedPiece) (b : Spot) → pieces_of old ≡ front ++ back → begin + inserted ≤ b.place → (last_end start front).place + (begin + inserted) ≡ b.place + end → pieces_from (here new b) ≡ map (rebased_piece (last_end start front) b) back
+-- pieces behind a boundary that two texts have, where they stand in each of them
+pub record Behind (a b : Spot) (these those : List PlacedPiece) : Type 0 where
+  pub behind : List PlacedPiece
+  pub these_are : these ≡ map (moved_piece a) behind
+  pub those_are : those ≡ map (moved_piece b) behind
+
+joined_law : (old new : List ℕ) (begin end inserted : ℕ) → IsSplice old new begin end inserted → (front back : List PlacedPiece) (b : Spot) → pieces_of old ≡ front ++ back → begin + inserted ≤ b.place → (last_end start front).place + (begin + inserted) ≡ b.place + end → Behind (last_end start front) b back (pieces_from (here new b))
 unfolding pieces_of
 joined_law old new begin end inserted is front back b parts le place =
     let a = last_end start front in
@@ -96,7 +101,11 @@ joined_law old new begin end inserted is front back b parts le place =
     let new_rest : drop b.place new ≡ drop n (drop (begin + inserted) new) = ap (λ k. drop k new) (omega arith) ∙ sym (drop-drop n (begin + inserted) new) in
     let old_rest : drop n (drop end old) ≡ drop a.place old = drop-drop n end old ∙ ap (λ k. drop k old) (omega arith) in
     let same : drop b.place new ≡ drop a.place old = new_rest ∙ ap (drop n) (same_back old new begin end inserted is) ∙ old_rest in
-    ap (λ r. pieces_from (at b r)) same ∙ rebased_law a b (drop a.place old) ∙ ap (map (rebased_piece a b)) (sym (rest_law old start front back parts))
+    record {
+      behind = pieces_from (at item_start (drop b.place new));
+      these_are = rest_law old start front back parts ∙ ap (λ r. pieces_from (at a r)) (sym same) ∙ rest_moved a (drop b.place new);
+      those_are = rest_moved b (drop b.place new);
+    }
 
 -- a loop that reads on up to such a boundary
 pub until_done : (test : ℕ → Bool) (s : Spot) (ps : List PlacedPiece) → test s.place ≡ true → until test s ps ≡ []
@@ -219,17 +228,97 @@ law_at old new begin end inserted is from stop e f =
 pub law_of : (old new : List ℕ) (begin end inserted : ℕ) (ps : List PlacedPiece) → IsSplice old new begin end inserted → ps ≡ pieces_of old → Law old new begin end inserted ps
 law_of old new begin end inserted ps is e = subst (Law old new begin end inserted) (sym e) (law_at old new begin end inserted is)
 
--- where nothing more comes
-pub final_end : (new : List ℕ) (kept again : List PlacedPiece) (stop : Spot) → pieces_of new ≡ kept ++ (again ++ pieces_from (here new stop)) → pieces_from (here new stop) ≡ [] → kept ++ again ≡ pieces_of new
-final_end new kept again stop law none = sym (law ∙ ap (λ l. kept ++ (again ++ l)) none ∙ ap (λ l. kept ++ l) (append-nil again))
-
 -- after a common boundary
-pub joined_back : (old new : List ℕ) (begin end inserted count : ℕ) (ps : List PlacedPiece) (stop back : Spot) → IsSplice old new begin end inserted → ps ≡ pieces_of old → IsJoint ps begin end inserted stop.place (Some count) → back ≡ last_end start (take count ps) → pieces_from (here new stop) ≡ map (rebased_piece back stop) (drop count ps)
+joined_back : (old new : List ℕ) (begin end inserted count : ℕ) (ps : List PlacedPiece) (stop back : Spot) → IsSplice old new begin end inserted → ps ≡ pieces_of old → IsJoint ps begin end inserted stop.place (Some count) → back ≡ last_end start (take count ps) → Behind back stop (drop count ps) (pieces_from (here new stop))
 joined_back old new begin end inserted count ps stop back is e joint last =
     let le = common_le begin end inserted ps stop.place joint.0 in
     let parts : pieces_of old ≡ take count ps ++ drop count ps = sym e ∙ sym (take-append-drop count ps) in
-    joined_law old new begin end inserted is (take count ps) (drop count ps) stop parts le (omega (arith, joint.2, le))
-    ∙ ap (λ s. map (rebased_piece s stop) (drop count ps)) (sym last)
+    subst (λ s. Behind s stop (drop count ps) (pieces_from (here new stop))) (sym last) (joined_law old new begin end inserted is (take count ps) (drop count ps) stop parts le (omega (arith, joint.2, le)))
 
-pub final_common : (new : List ℕ) (kept again back moved_back : List PlacedPiece) (stop : Spot) → pieces_of new ≡ kept ++ (again ++ pieces_from (here new stop)) → pieces_from (here new stop) ≡ moved_back → (kept ++ again) ++ moved_back ≡ pieces_of new
-final_common new kept again back moved_back stop law is = append_assoc kept again moved_back ∙ ap (λ l. kept ++ (again ++ l)) (sym is) ∙ sym law
+-- boundaries among the pieces that end below a place lie below it
+ends_step : (b : Bool) (limit k : ℕ) (p : PlacedPiece) (ps : List PlacedPiece) → nat_lt p.end.place limit ≡ b → suc k < length (cond b (p ∷ below limit ps) []) → (p.end.place < limit → k < length (below limit ps) → (last_end p.end (take k ps)).place < limit) → (last_end p.end (take k ps)).place < limit
+ends_step true limit k p ps is lt next = next (ltb-true p.end.place limit is) (omega (arith, lt))
+ends_step false limit k p ps is lt next = absurd (omega (arith, lt))
+
+ends_below : (limit k : ℕ) (s : Spot) (ps : List PlacedPiece) → s.place < limit → k < length (below limit ps) → (last_end s (take k ps)).place < limit
+ends_below limit zero s ps first lt = first
+ends_below limit (suc k) s [] first lt = absurd (omega (arith, lt))
+ends_below limit (suc k) s (p ∷ ps) first lt = ends_step (nat_lt p.end.place limit) limit k p ps refl lt (λ e less. ends_below limit k p.end ps e less)
+
+none_below : (ps : List PlacedPiece) (k : ℕ) → k < length (below 0 ps) → ⊥
+none_below ps k lt = let none = ap length (below_zero ps) in omega (arith, lt, none)
+
+-- a boundary at or after the splice isn't one of those below it
+kept_first : (old new : List ℕ) (begin end inserted kept count : ℕ) (ps : List PlacedPiece) (stop : Spot) → IsSplice old new begin end inserted → IsJoint ps begin end inserted stop.place (Some count) → length (below begin ps) ≡ kept → kept ≤ count
+kept_first old new begin end inserted kept count ps stop is joint is_kept =
+    elim (cases_lt count kept) [
+      | inr le ↦ le
+      | inl lt ↦
+          elim (cases_lt 0 begin) [
+            | inl some ↦ (let below_it = ends_below begin count start ps some (omega (arith, lt, is_kept)) in absurd (omega (arith, below_it, joint.2, is.order)))
+            | inr none ↦
+                (let zero_begin : begin ≡ 0 = omega (arith, none) in
+                let some : count < length (below begin ps) = omega (arith, lt, is_kept) in
+                absurd (none_below ps count (subst (λ b. count < length (below b ps)) zero_begin some)))
+          ]
+    ]
+
+-- what stays, what is read again, and what is moved
+pub edit_joint : (old new : List ℕ) (begin end inserted kept count read : ℕ) (self ps none again : List PlacedPiece) (from stop back : Spot) → IsSplice old new begin end inserted → ps ≡ self → self ≡ pieces_of old →
+    kept ≤ length ps → below begin ps ≡ take kept ps → from ≡ last_end start (take kept ps) → none ≡ [] → again ≡ none ++ until (is_common ps begin end inserted) from (pieces_from (here new from)) → stop ≡ last_end from (until (is_common ps begin end inserted) from (pieces_from (here new from))) →
+    IsJoint ps begin end inserted stop.place (Some count) → back ≡ last_end start (take count ps) →
+    IsItemsEdit self (pieces_of new) (record { before = kept; upto = count; new = again; stood = back; stand = stop; read = read })
+edit_joint old new begin end inserted kept count read self ps none again from stop back is same e within kept_is from_is none_is again_is stop_is joint back_is =
+    let moved = joined_back old new begin end inserted count ps stop back is (same ∙ e) joint back_is in
+    let law = law_of old new begin end inserted ps is (same ∙ e) from stop (from_is ∙ ap (last_end start) (sym kept_is)) stop_is in
+    let edit : ItemsEdit = record { before = kept; upto = count; new = again; stood = back; stand = stop; read = read } in
+    let read_again = again_is ∙ ap (λ (l : List PlacedPiece). l ++ until (is_common ps begin end inserted) from (pieces_from (here new from))) none_is in
+    subst (λ (qs : List PlacedPiece). IsItemsEdit qs (pieces_of new) edit) same (record {
+      order = kept_first old new begin end inserted kept count ps stop is joint (ap length kept_is ∙ length-take-le kept ps within);
+      inside = joint.1;
+      behind = moved.behind;
+      stood = moved.these_are;
+      pieces =
+          law.0
+          ∙ (λ j. kept_is j ++ (sym read_again j ++ moved.those_are j))
+          ∙ sym (append_assoc (take kept ps) again (map (moved_piece stop) moved.behind));
+    })
+
+pub edit_end : (old new : List ℕ) (begin end inserted kept read : ℕ) (self ps none again : List PlacedPiece) (from stop : Spot) → IsSplice old new begin end inserted → ps ≡ self → self ≡ pieces_of old →
+    kept ≤ length ps → below begin ps ≡ take kept ps → from ≡ last_end start (take kept ps) → none ≡ [] → again ≡ none ++ until (is_common ps begin end inserted) from (pieces_from (here new from)) → stop ≡ last_end from (until (is_common ps begin end inserted) from (pieces_from (here new from))) →
+    pieces_from (here new stop) ≡ [] →
+    IsItemsEdit self (pieces_of new) (record { before = kept; upto = length ps; new = again; stood = stop; stand = stop; read = read })
+edit_end old new begin end inserted kept read self ps none again from stop is same e within kept_is from_is none_is again_is stop_is nothing =
+    let law = law_of old new begin end inserted ps is (same ∙ e) from stop (from_is ∙ ap (last_end start) (sym kept_is)) stop_is in
+    let edit : ItemsEdit = record { before = kept; upto = length ps; new = again; stood = stop; stand = stop; read = read } in
+    let read_again = again_is ∙ ap (λ (l : List PlacedPiece). l ++ until (is_common ps begin end inserted) from (pieces_from (here new from))) none_is in
+    subst (λ (qs : List PlacedPiece). IsItemsEdit qs (pieces_of new) edit) same (record {
+      order = within;
+      inside = omega arith;
+      behind = [];
+      stood = drop_all (length ps) ps (omega arith);
+      pieces =
+          law.0
+          ∙ (λ j. kept_is j ++ (sym read_again j ++ nothing j))
+          ∙ sym (append_assoc (take kept ps) again []);
+    })
+
+-- the pieces after an edit, as the code makes them
+pub edited_is : (ps qs front all : List PlacedPiece) (e : ItemsEdit) → IsItemsEdit ps qs e → front ≡ take e.before ps ++ e.new → all ≡ front ++ map (rebased_piece e.stood e.stand) (drop e.upto ps) → all ≡ qs
+edited_is ps qs front all e is front_is all_is =
+    all_is
+    ∙ (λ j. front_is j ++ map (rebased_piece e.stood e.stand) (is.stood j))
+    ∙ ap (λ l. (take e.before ps ++ e.new) ++ l) (all_rebased e.stood e.stand is.behind)
+    ∙ sym is.pieces
+
+pub edited_back : (ps qs : List PlacedPiece) (e : ItemsEdit) → IsItemsEdit ps qs e → qs ≡ (take e.before ps ++ e.new) ++ map (rebased_piece e.stood e.stand) (drop e.upto ps)
+edited_back ps qs e is =
+    is.pieces
+    ∙ ap (λ l. (take e.before ps ++ e.new) ++ l) (sym (all_rebased e.stood e.stand is.behind) ∙ (λ j. map (rebased_piece e.stood e.stand) (sym is.stood j)))
+
+least_most : (most : ℕ) (xs : List ℕ) → least most xs ≤ most
+least_most most [] = omega arith
+least_most most (x ∷ xs) = omega (arith, least_most most xs)
+
+pub read_within : (old new : List ℕ) (begin end inserted read : ℕ) → read ≡ reread_upto old new begin end inserted - reread_from old begin → read ≤ length new
+read_within old new begin end inserted read is = omega (arith, is, least_most (length new) (filter (is_common (pieces_of old) begin end inserted) (boundaries (pieces_of new))))

@@ -1,8 +1,9 @@
 -- Splices of a text, and what is read again after one.
-use Rattle.std.specs.Prelude.{◌≡◌, ℕ, ◌+◌, ◌-◌, ◌≤◌, nat_lt, nat_le, ◌==◌, Bool, ◌&&◌, max, min, List, [], ◌∷◌, ◌++◌, length, take, drop}
+use Rattle.std.specs.Prelude.{◌≡◌, ℕ, ◌+◌, ◌-◌, ◌≤◌, nat_lt, nat_le, ◌==◌, Bool, ◌&&◌, max, min, List, [], ◌∷◌, ◌++◌, length, take, drop, map}
 use Rattle.std.specs.List.{filter, list_any}
 use Rattle.bt_bib.specs.declared.placed_pieces.PlacedPiece.{PlacedPiece}
-use Rattle.bt_bib.specs.Boundaries.{boundaries}
+use Rattle.bt_bib.specs.declared.splice.ItemsEdit.{ItemsEdit}
+use Rattle.bt_bib.specs.Boundaries.{boundaries, moved_piece}
 use Rattle.bt_bib.specs.BibText.{pieces_of}
 
 -- new is old with the bytes from begin up to end replaced by `inserted` others
@@ -39,3 +40,13 @@ reread_from old begin = greatest (filter (λ place. nat_lt place begin) (boundar
 abbrev pub reread_upto : List ℕ → List ℕ → ℕ → ℕ → ℕ → ℕ
 reread_upto old new begin end inserted =
     least (length new) (filter (is_common (pieces_of old) begin end inserted) (boundaries (pieces_of new)))
+
+-- How the pieces of a text differ from those that it had before a splice: the first ones stay, the next ones are replaced,
+-- and those behind stand elsewhere.
+pub record IsItemsEdit (old new : List PlacedPiece) (e : ItemsEdit) : Type 0 where
+  pub order : e.before ≤ e.upto
+  pub inside : e.upto ≤ length old
+  -- those behind, with their places counted from the spot at which the text behind the splice stood, and stands
+  pub behind : List PlacedPiece
+  pub stood : drop e.upto old ≡ map (moved_piece e.stood) behind
+  pub pieces : new ≡ take e.before old ++ e.new ++ map (moved_piece e.stand) behind

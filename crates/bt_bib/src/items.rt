@@ -51,6 +51,15 @@ impl Items {
         self.pieces.push(piece)
     }
 
+    /// These and then `others`.
+    pub(crate) fn with_all(self, others: Items) -> Result<Items, AllocError>
+        ensures { IfOk result (λ all. all ≡ self ++ others) }
+    {
+        let mut items = self;
+        items.pieces.append(others.pieces)?;
+        Ok(items)
+    }
+
     /// These and then `others`, which are shared, where the text from `a` on stands from `b` on.
     pub(crate) fn with_rebased(
         self,

@@ -32,6 +32,6 @@ pub use item::{Closing, Content, Definition, Entry, Field, Item, Part, Piece};
 pub use items::Items;
 pub use meter::ReadMeter;
 pub use placed_pieces::PlacedPiece;
-pub use splice::Splice;
+pub use splice::{ItemsEdit, Splice};
 pub use split::{is_closed, split_places};
 pub use spot::Spot;

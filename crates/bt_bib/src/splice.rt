@@ -22,13 +22,110 @@ pub struct Splice {
     pub inserted: usize,
 }
 
-impl Items {
-    ghost use Rattle.bt_bib.specs.Splice.{reread_from, reread_upto, IsSplice};
+/// How the items of a text differ from those that it had before a splice. Items and comment words count alike.
+#[derive(Debug, Drop)]
+pub struct ItemsEdit {
+    /// How many of the old ones stay, at their places.
+    pub before: usize,
+    /// The old ones from `before` up to this one are replaced; those from here on are moved.
+    pub upto: usize,
+    /// What came in the place of those that are replaced.
+    pub new: Items,
+    /// Where the text after them stood.
+    pub stood: Spot,
+    /// Where it stands now.
+    pub stand: Spot,
+    /// How many bytes were read for this.
+    pub read: usize,
+}
 
-    /// The items of `new_text`, from these, which are those of `old_text`. The new text is the old one with `inserted`
-    /// bytes in place of its bytes from `start` up to `end`. Only a part of it is read: from the last boundary below the
-    /// splice up to the first one after it that both texts have. The meter rises by the number of bytes in that part. All
-    /// other items are shared, with new places. The only error is out of memory; the meter is then as before.
+impl Items {
+    ghost use Rattle.bt_bib.specs.Splice.{reread_from, reread_upto, IsSplice, IsItemsEdit};
+
+    /// How the items of `new_text` differ from these, which are those of `old_text`. The new text is the old one with
+    /// `inserted` bytes in place of its bytes from `start` up to `end`. Only a part of it is read: from the last boundary
+    /// below the splice up to the first one after it that both texts have. The only error is out of memory.
+    pub fn edit(
+        &self,
+        alloc: Global,
+        old_text: &[u8],
+        new_text: &[u8],
+        start: usize,
+        end: usize,
+        inserted: usize,
+    ) -> Result<ItemsEdit, AllocError>
+        requires old { self.now ≡ pieces_of old_text.now }
+        requires splice { IsSplice old_text.now new_text.now start end inserted }
+        ensures edit { IfOk result (λ edit. IsItemsEdit self.now (pieces_of new_text.now) edit) }
+        ensures read { IfOk result (λ edit. edit.read
+            ≡ reread_upto old_text.now new_text.now start end inserted - reread_from old_text.now start) }
+    {
+        let old = self.pieces();
+        let kept = count_below(old, start);
+        let from = last_boundary(old, kept);
+        let reader = Reader {
+            alloc,
+            text: new_text,
+            known: &[],
+        };
+        let splice = Splice {
+            begin: start,
+            end,
+            inserted,
+        };
+        let none = Items::new(alloc);
+        let (new, at, joint) = reader.reread(none, from, old, splice)?;
+        match joint {
+            Some(passed) => {
+                let back = last_boundary(old, passed);
+                Ok(ItemsEdit {
+                    before: kept,
+                    upto: passed,
+                    new,
+                    stood: back,
+                    stand: at,
+                    read: at.place - from.place,
+                })
+            }
+            None => Ok(ItemsEdit {
+                before: kept,
+                upto: old.len(),
+                new,
+                stood: at,
+                stand: at,
+                read: new_text.len() - from.place,
+            }),
+        }
+    }
+
+    /// The items after an edit of these. Those that stay and those that move are shared. The only error is out of memory.
+    pub fn edited(
+        &self,
+        alloc: Global,
+        new_text: &[u8],
+        edit: ItemsEdit,
+    ) -> Result<Items, AllocError>
+        requires { IsItemsEdit self.now (pieces_of new_text.now) edit }
+        ensures { IfOk result (λ items. items ≡ pieces_of new_text.now) }
+    {
+        let old = self.pieces();
+        let ItemsEdit {
+            before,
+            upto,
+            new,
+            stood,
+            stand,
+            read: _,
+        } = edit;
+        let front = Items::new(alloc);
+        let items = front.with_rebased(&old[..before], Spot::ITEM_START, Spot::ITEM_START)?;
+        let items = items.with_all(new)?;
+        let items = items.with_rebased(&old[upto..], stood, stand)?;
+        Ok(items)
+    }
+
+    /// The items of `new_text`, from these, which are those of `old_text`: these after their `edit`. The meter rises by the
+    /// number of bytes that are read. The only error is out of memory; the meter is then as before.
     pub fn respliced(
         &self,
         alloc: Global,
@@ -47,33 +144,10 @@ impl Items {
             ≡ meter.old + (reread_upto old_text.now new_text.now start end inserted - reread_from old_text.now start)) }
         ensures err { OnErr result (meter.new ≡ meter.old) }
     {
-        let old = self.pieces();
-        let kept = count_below(old, start);
-        let from = last_boundary(old, kept);
-        let reader = Reader {
-            alloc,
-            text: new_text,
-            known: &[],
-        };
-        let front = Items::new(alloc);
-        let items = front.with_rebased(&old[..kept], Spot::ITEM_START, Spot::ITEM_START)?;
-        let splice = Splice {
-            begin: start,
-            end,
-            inserted,
-        };
-        let (items, at, joint) = reader.reread(items, from, old, splice)?;
-        match joint {
-            Some(passed) => {
-                let back = last_boundary(old, passed);
-                let items = items.with_rebased(&old[passed..], back, at)?;
-                meter.raise(at.place - from.place);
-                Ok(items)
-            }
-            None => {
-                meter.raise(new_text.len() - from.place);
-                Ok(items)
-            }
-        }
+        let edit = self.edit(alloc, old_text, new_text, start, end, inserted)?;
+        let read = edit.read;
+        let items = self.edited(alloc, new_text, edit)?;
+        meter.raise(read);
+        Ok(items)
     }
 }
