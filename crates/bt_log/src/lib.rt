@@ -7,3 +7,4 @@ mod wording;
 
 pub use log::{lines_bytes, log_bytes, status, terse_bytes};
 pub use message::{FileKind, FileNote, Message, Place, Rank, Said};
+pub use wording::add_said;

@@ -74,7 +74,8 @@ fn add_note(text: &mut Bytes, note: FileNote, file: &[u8]) -> Result<(), AllocEr
     }
 }
 
-fn add_said(text: &mut Bytes, said: &Said) -> Result<(), AllocError>
+/// Adds what a message says, without its place. After an error a part of it may be there.
+pub fn add_said(text: &mut Bytes, said: &Said) -> Result<(), AllocError>
     ensures { OnOk result (text.new ≡ text.old ++ said_words said.now) }
 {
     match said {

@@ -1,0 +1,7 @@
+//! The diagnostics of a document: the messages of a run, each at its place in the text that the editor has.
+#![tactic(auto)]
+
+mod diagnostic;
+mod spans;
+
+pub use diagnostic::{Diagnostic, diagnostics};
