@@ -1,4 +1,4 @@
--- Two readings that go alike: of two texts that agree below a place.
+-- Two texts with the same bytes below a place are read alike.
 use Rattle.std.proofs.Common.{◌≡◌, ℕ, suc, ◌+◌, ◌-◌, ◌<◌, ◌≤◌, Bool, true, false, cond, List, [], ◌∷◌, take, Some, refl, sym, ap, subst, ◌∙◌, arith}
 use Rattle.std.proofs.lemmas.List.{take-take}
 use Rattle.bt_bib.specs.declared.spot.Spot.{Spot}

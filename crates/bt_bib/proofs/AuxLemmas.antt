@@ -32,15 +32,15 @@ pub line_is_first : (text : List ℕ) (r : Option ℕ) → IsFirstByte (is_byte 
 line_is_first text None found = sym (first_at (length text) text (λ j lt. found j (omega arith) lt) (inl refl) (omega arith))
 line_is_first text (Some k) found = sym (first_at k text (λ j lt. found.0.before j (omega arith) (omega arith)) (inr found.1) (omega (arith, found.0.high)))
 
--- what stands after a byte
+-- the text after a byte
 abbrev pub rest_after : List ℕ → ℕ → List ℕ
 rest_after rest k = take (length rest - (k + 1)) (drop (k + 1) rest)
 
--- what stands after a byte is shorter
+-- the text after a byte is shorter
 pub behind_shorter : (rest : List ℕ) (k : ℕ) → k < length rest → length (rest_after rest k) < length rest
 behind_shorter rest k lt = omega (arith, ap length (take_rest rest (k + 1)), length-drop (k + 1) rest)
 
--- later lines stand after a counted one
+-- later lines follow a counted one
 pub counted_onto : (n : ℕ) (line : List ℕ) (c : Option Command) (later : List AuxItem) → if_counted n line [] c ++ later ≡ if_counted n line later c
 counted_onto n line None later = refl
 counted_onto n line (Some c) later = refl

@@ -16,7 +16,7 @@ use Rattle.bt_bib.proofs.ReachLemmas.{Reaches}
 use Rattle.bt_bib.proofs.ManyLemmas.{IsLess, all_is}
 use Rattle.bt_bib.proofs.PieceLemmas.{next_piece_less, next_piece_reaches}
 
--- a piece says where it ends
+-- a piece records where it ends
 abbrev pub EndsAt : Option PlacedPiece × Here → Type 0
 EndsAt (None, e) = Unit {0}
 EndsAt (Some p, e) = p.end ≡ e.spot
@@ -41,7 +41,7 @@ pieces_by_is (Some p, e) = refl
 pub pieces_step : (h : Here) → pieces_from h ≡ pieces_by (next_piece h)
 pieces_step h = ap (λ (x : List PlacedPiece × Result Here Stop). x.0) (all_is next_one next_piece_less h) ∙ pieces_by_is (next_piece h)
 
--- what a text is read to stands in it
+-- the place to which a text is read lies in the text
 pub here_reached : (text : List ℕ) (s : Spot) (e : Here) → Reaches (here text s) e → e ≡ here text e.spot
 here_reached text s e r =
     let place : e.spot.place ≡ s.place + length r.front = ap (λ (u : Spot). u.place) r.spot in

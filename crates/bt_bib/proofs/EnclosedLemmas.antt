@@ -1,4 +1,4 @@
--- What braces and quotes enclose, one byte after the other with a count of the braces that are open.
+-- What braces and quotes enclose, byte by byte, with a count of the open braces.
 use Rattle.std.specs.Prelude.{◌==◌, ◌&&◌, ◌||◌, not, count_by}
 use Rattle.std.proofs.Common.{◌≡◌, ℕ, zero, suc, ◌+◌, ◌-◌, ◌<◌, ◌≤◌, Bool, true, false, cond, List, [], ◌∷◌, ◌++◌, length, drop, take, get_or, Result, Ok, Err, refl, ap, sym, ◌∙◌, arith, append_assoc, inl, inr}
 use Rattle.std.proofs.lemmas.List.{drop_more, drop_all, drop_at, take_at}
@@ -46,8 +46,8 @@ balanced_is x y d e = elim (cases_eq d 0) [
   | inr n ↦ ne_eqb x y (λ q. n (omega arith)) ∙ sym (ne_eqb d 0 n)
 ]
 
--- The byte ends what is enclosed where no brace is open, and else counts: c that it is the closing sign, z that none
--- is open, l and r that it is a brace, of which x left and y right ones stand before it.
+-- A byte ends the enclosed text if no brace is open, and is counted otherwise. c: it is the closing sign; z: no brace
+-- is open; l and r: it is a left brace, a right brace; x and y: the number of left and right braces before it.
 turn_by : {X : Type 0} (now later shut broken : X) (goes : ℕ → X) (c z l r : Bool) (d x y : ℕ) → now ≡ cond c shut broken → x ≡ y + d → (z ≡ false → 1 ≤ d) → (l ≡ true → r ≡ true → ⊥) → ((e : ℕ) → x + cond l 1 0 ≡ y + cond r 1 0 + e → later ≡ goes e)
     → cond ((c || r) && z) now later ≡ elim (cond (c && z) turns.Closes (cond l (turns.Goes (d + 1)) (cond r (cond z turns.Breaks (turns.Goes (d - 1))) (turns.Goes d)))) [
       | turns.Closes ↦ shut
@@ -82,7 +82,7 @@ turn_then h e goes turns.Closes = refl
 turn_then h e goes turns.Breaks = refl
 turn_then h e goes (turns.Goes d) = refl
 
--- what the definition answers where what is enclosed is text
+-- what the definition returns if `text` is enclosed
 abbrev answer : ℕ → Here → List ℕ → Result (List ℕ × Here) Stop
 answer close h text = enclosed_by close text (after_bytes text h) (first (after_bytes text h).rest)
 

@@ -1,4 +1,4 @@
--- A boundary below a place up to which two texts agree is one of both.
+-- If two texts have the same bytes up to a place, a boundary of one below that place is a boundary of both.
 use Rattle.std.proofs.Common.{◌≡◌, ℕ, zero, suc, ◌-◌, ◌<◌, cond, List, [], ◌∷◌, ◌++◌, length, take, drop, Option, Some, None, Ok, refl, sym, ap, subst, ◌∙◌, arith, inl, inr}
 use Rattle.std.proofs.lemmas.Bool.{cases_lt, lt-ltb, le-ltb}
 use Rattle.bt_bib.specs.declared.spot.Spot.{Spot}
@@ -60,8 +60,8 @@ keeps_below limit (suc n) h k lt a =
 pub keeps : (limit : ℕ) (h k : Here) → Alike limit h k → Keeps limit h k (pieces_from h)
 keeps limit h k a = keeps_below limit (suc (length h.rest)) h k (omega arith) a
 
--- two texts that agree below a place have the same boundaries below it: the new text's pieces are the
--- old ones that end below that place, and those that are read from the last of these boundaries on
+-- two texts with the same bytes below a place have the same boundaries below it: the new text's pieces are the old ones
+-- that end below that place, and those that are read from the last of these boundaries on
 pub kept_law : (old new : List ℕ) (s : Spot) (limit : ℕ) → take (limit - s.place) (drop s.place old) ≡ take (limit - s.place) (drop s.place new)
     → pieces_from (here new s) ≡ below limit (pieces_from (here old s)) ++ pieces_from (here new (last_end s (below limit (pieces_from (here old s)))))
 kept_law old new s limit rest =

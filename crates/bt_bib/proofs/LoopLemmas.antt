@@ -1,4 +1,4 @@
--- What a loop that reads one after another returns.
+-- What a loop of readings returns.
 use Rattle.std.proofs.Common.{◌≡◌, ℕ, ◌-◌, ◌<◌, List, [], length, Option, Some, None, Result, Ok, sym, ap, subst, ◌∙◌, length-drop, arith}
 use Rattle.bt_bib.specs.declared.spot.Spot.{Spot}
 use Rattle.bt_bib.specs.declared.stop.ReadStop.{ReadStop}
@@ -34,7 +34,7 @@ ends_err next less before front text from s (Stopped fault k) same inside is = (
 pub all_none : {A : Type 0} (next : Here → Result (Option A × Here) Stop) → ((h : Here) → IsLess h (next h)) → (front : List A) (text : List ℕ) (from s e : Spot) → gathered front (all next (here text s)) ≡ gathered [] (all next (here text from)) → next (here text s) ≡ Ok (None, here text e) → all next (here text from) ≡ (front, Ok (here text e))
 all_none next less front text from s e same is = sym same ∙ gathers_none next less front (here text s) (here text e) is
 
--- the same of a loop that fills a list that was there
+-- the same for a loop that appends to an existing list
 pub fills_none : {A : Type 0} (next : Here → Result (Option A × Here) Stop) → ((h : Here) → IsLess h (next h)) → (before front : List A) (text : List ℕ) (from s e : Spot) → gathered front (all next (here text s)) ≡ gathered before (all next (here text from)) → next (here text s) ≡ Ok (None, here text e) → gathered before (all next (here text from)) ≡ (front, Ok (here text e))
 fills_none next less before front text from s e same is = sym same ∙ gathers_none next less front (here text s) (here text e) is
 

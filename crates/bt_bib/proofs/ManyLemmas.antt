@@ -1,4 +1,4 @@
--- One after another: how many readings are allowed doesn't matter, and each step of a loop.
+-- Repeated readings: the bound on their number doesn't matter, and each one is a step of a loop.
 use Rattle.std.proofs.Common.{◌≡◌, ℕ, zero, suc, ◌<◌, Bool, true, false, cond, List, [], ◌∷◌, ◌++◌, length, Option, Some, None, Result, Ok, Err, refl, sym, ap, ◌∙◌, append_assoc, arith}
 use Rattle.std.proofs.lemmas.List.{append-nil}
 use Rattle.bt_bib.specs.Spot.{Here}
@@ -34,7 +34,7 @@ many_same next less zero n h a b = absurd (omega arith)
 many_same next less (suc m) zero h a b = absurd (omega arith)
 many_same next less (suc m) (suc n) h a b = by_same (many next m) (many next n) h (next h) (less h) (λ e lt. many_same next less m n e (omega arith) (omega arith))
 
--- all that come are the next one and all that come after it
+-- all readings are the next one and all that come after it
 pub all_is : {A : Type 0} (next : Here → Result (Option A × Here) Stop) → ((h : Here) → IsLess h (next h)) → (h : Here) → all next h ≡ many_by (all next) (next h)
 unfolding many
 all_is next less h = by_same (many next (length h.rest)) (all next) h (next h) (less h) (λ e lt. many_same next less (length h.rest) (suc (length e.rest)) e lt (omega arith))

@@ -1,4 +1,4 @@
--- A piece goes forward over bytes of the text, and says where it ends.
+-- Reading a piece moves forward over bytes of the text, and the piece records where it ends.
 use Rattle.std.specs.Prelude.{codes, ◌==◌}
 use Rattle.std.proofs.Common.{ℕ, suc, ◌<◌, ◌≤◌, ◌≡◌, ◌∙◌, ap, subst, List, [], ◌∷◌, length, Option, Some, None, Result, Ok, Err, arith}
 use Rattle.bt_text.specs.ByteTests.{left_brace}
@@ -110,7 +110,7 @@ pub piece_reaches : (text : List ℕ) → Reaches (after_byte (item_here text)) 
 unfolding piece
 piece_reaches text = (let w = after_white (after_byte (item_here text)) in reaches_then (after_byte (item_here text)) w _ (white_reaches (after_byte (item_here text))) (type_read_reaches w (word EntryType w) (word_advances EntryType w)))
 
--- where the text stands, what is reached from its beginning
+-- what is reached from the beginning of the text, at its real place
 pub reaches_from : (s : Spot) (h e : Here) → Reaches h e → Reaches (here_from s h) (here_from s e)
 reaches_from s h e r = record {
   front = r.front;
@@ -135,7 +135,7 @@ pub next_piece_reaches : (h : Here) → Reaches h (next_piece h).1
 unfolding next_piece
 next_piece_reaches h = reaches_then h (after_run is_text h) _ (past_reaches is_text h) (next_piece_reaches_from (after_run is_text h) (first (after_run is_text h).rest))
 
--- a piece has a byte at least
+-- a piece has at least one byte
 pub piece_less : (b : ℕ) (bs : List ℕ) → length (piece (b ∷ bs)).1.rest ≤ length bs
 piece_less b bs = reaches_rest (at (spot_after_byte b item_start) bs) (piece (b ∷ bs)).1 (piece_reaches (b ∷ bs))
 

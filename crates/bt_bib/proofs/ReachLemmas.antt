@@ -1,4 +1,4 @@
--- Each reader goes forward over bytes of the text, and ends where they end.
+-- Each reader moves forward over bytes of the text, and ends where they end.
 use Rattle.std.specs.Prelude.{◌==◌}
 use Rattle.std.specs.List.{take_while}
 use Rattle.std.proofs.Common.{◌≡◌, ℕ, zero, suc, ◌+◌, ◌≤◌, Bool, true, false, cond, List, [], ◌∷◌, ◌++◌, length, drop, Option, Some, None, Result, Ok, Err, refl, sym, ap, subst, ◌∙◌, append_assoc, length-append, arith}

@@ -20,7 +20,7 @@ use Rattle.bt_bib.proofs.ManyLemmas.{IsLess}
 use Rattle.bt_bib.proofs.PieceLemmas.{piece_further, next_piece_less, next_piece_reaches}
 use Rattle.bt_bib.proofs.BoundaryLemmas.{EndsAt, next_ends, pieces_by, pieces_step}
 
--- the next piece lies after the place from which it was sought
+-- the next piece lies after the place where its search began
 abbrev SpanAhead : Here → Option PlacedPiece × Here → Type 0
 SpanAhead h (None, e) = Unit {0}
 SpanAhead h (Some p, e) = (h.spot.place ≤ p.start.place) × (p.start.place < e.spot.place)
@@ -115,7 +115,7 @@ abbrev pub first_boundary : (ℕ → Bool) → ℕ → Spot → List PlacedPiece
 first_boundary test limit s [] = cond (test s.place) s.place limit
 first_boundary test limit s (p ∷ ps) = cond (test s.place) s.place (first_boundary test limit p.end ps)
 
--- it is the least that does
+-- it is the least one that passes
 least_ge : (test : ℕ → Bool) (limit place : ℕ) (ps : List PlacedPiece) → Rises limit place ps → place ≤ least limit (filter test (ends ps))
 least_ge test limit place [] r = r
 least_ge test limit place (p ∷ ps) r =
@@ -136,7 +136,7 @@ least_is_first test limit s (p ∷ ps) r =
     let le : s.place ≤ least limit rest = least_ge test limit s.place (p ∷ ps) r in
     least_if test limit s rest (first_boundary test limit p.end ps) (test s.place) le (least_is_first test limit p.end ps r.2)
 
--- a place is a boundary where the last boundary up to it is there
+-- a place is a boundary if the last boundary up to it is that place
 abbrev pub one_of : ℕ → List ℕ → Bool
 one_of k xs = list_any (λ b. b == k) xs
 
@@ -167,7 +167,7 @@ boundary_at k limit s (p ∷ ps) r = boundary_if k limit s p ps (nat_lt (end_pla
 pub boundary_is_last : (k limit : ℕ) (ps : List PlacedPiece) → Rises limit 0 ps → is_boundary ps k ≡ ((last_end start (below (k + 1) ps)).place == k)
 boundary_is_last k limit ps r = boundary_at k limit start ps r
 
--- the pieces that end below a place, by their number
+-- the pieces that end below a place are the first i
 pub below_is_take : (limit i : ℕ) (ps : List PlacedPiece) → i ≤ length ps → ((k : ℕ) (d : PlacedPiece) → k < i → end_place (get_or ps k d) < limit) → ((d : PlacedPiece) → i < length ps → limit ≤ end_place (get_or ps i d)) → below limit ps ≡ take i ps
 below_is_take limit zero [] le front back = refl
 below_is_take limit (suc i) [] le front back = absurd (omega arith)
@@ -180,7 +180,7 @@ one_less q ps n p =
     let inner : n ≡ suc n - 1 = omega arith in
     ap (λ k. get_or (q ∷ ps) k p) outer ∙ ap (λ k. get_or ps k p) inner
 
--- the last boundary of so many pieces
+-- the last boundary of the first `count` pieces
 pub last_taken : (s : Spot) (ps : List PlacedPiece) (count : ℕ) (p : PlacedPiece) → 0 < count → count ≤ length ps → p ≡ get_or ps (count - 1) p → p.end ≡ last_end s (take count ps)
 last_taken s [] count p pos le is = absurd (omega arith)
 last_taken s (q ∷ ps) zero p pos le is = absurd (omega arith)

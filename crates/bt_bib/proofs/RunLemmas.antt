@@ -1,4 +1,4 @@
--- Runs of bytes, one byte after the other.
+-- Runs of bytes, byte by byte.
 use Rattle.std.specs.Prelude.{count_by}
 use Rattle.std.specs.List.{take_while}
 use Rattle.std.proofs.Common.{◌≡◌, ℕ, ◌+◌, ◌-◌, ◌<◌, ◌≤◌, Bool, true, false, cond, List, [], ◌∷◌, length, drop, take, get_or, refl, ap, sym, subst, ◌∙◌, arith}
@@ -71,7 +71,7 @@ past_end test text s le =
     let e = drop_all s.place text le in
     sym (past_is_run test s (drop s.place text) ∙ ap (past_run test s) e ∙ run_end test s ∙ ap (at s) (sym e))
 
--- the run is what stands up to its end
+-- the run is the text up to its end
 front_by : (v : Bool) (b : ℕ) (front rest : List ℕ) → front ≡ take (length front) rest → cond v (b ∷ front) [] ≡ take (length (cond v (b ∷ front) [])) (b ∷ rest)
 front_by true b front rest e = ap (λ (l : List ℕ). b ∷ l) e
 front_by false b front rest e = refl

@@ -1,4 +1,4 @@
--- Values and fields go alike too.
+-- Values and fields are read alike, too.
 use Rattle.std.specs.Prelude.{◌==◌}
 use Rattle.std.proofs.Common.{◌≡◌, ℕ, zero, suc, ◌<◌, List, [], ◌∷◌, ◌++◌, length, Option, Some, None, Result, Ok, Err, refl, sym, ap, subst, arith}
 use Rattle.bt_bib.specs.declared.spot.Spot.{Spot}
@@ -21,7 +21,7 @@ use Rattle.bt_bib.proofs.FieldLemmas.{joined_less}
 use Rattle.bt_bib.proofs.AlikeLemmas.{Alike, alike_behind, alike_first, alike_past}
 use Rattle.bt_bib.proofs.SameLemmas.{Same, same_ok, same_err, same_when, same_if, same_bind, find_bind, name_same, sign_same, part_same}
 
--- what was read up to an end goes alike
+-- what was read up to an end is read alike
 abbrev pub ReadsAlike : {X : Type 0} → ℕ → X × Result Here Stop → X × Result Here Stop → Type 0
 ReadsAlike limit (x, Ok e) y = e.spot.place < limit → (k : Here) × (y ≡ (x, Ok k)) × Alike limit e k
 ReadsAlike limit (x, Err s) y = s.1.spot.place < limit → (k : Here) × (y ≡ (x, Err (s.0, k))) × Alike limit s.1 k

@@ -1,4 +1,4 @@
--- Each reader goes alike where its end is below the limit: signs, names and parts.
+-- Each reader reads alike if its end is below the limit: signs, names and parts.
 use Rattle.std.specs.Prelude.{◌==◌}
 use Rattle.std.proofs.Common.{◌≡◌, ℕ, ◌<◌, Bool, true, false, cond, List, [], ◌∷◌, Option, Some, None, Result, Ok, Err, refl, sym, ap, subst, arith}
 use Rattle.bt_text.specs.ByteTests.{is_white, is_digit, left_brace, right_brace}
@@ -158,7 +158,7 @@ unfolding sign
 sign_same limit c fault h k a = find_when limit h (sign_from c fault h (first h.rest)) (sign_from c fault k (first k.rest)) (sign_moves_from c fault h (first h.rest)) (λ lt.
     subst (λ o. SameFind limit (sign_from c fault h (first h.rest)) (sign_from c fault k o)) (sym (alike_first limit h k lt a)) (sign_same_from limit c fault h k (first h.rest) lt a))
 
--- what stands in braces or quotes, after the byte that opens it
+-- the text in braces or quotes, after the byte that opens it
 shut_same : (limit close : ℕ) (h k : Here) → Alike limit h k → Same limit (enclosed close h >>= λ x. Ok (Text x.0, after_byte x.1)) (enclosed close k >>= λ x. Ok (Text x.0, after_byte x.1))
 shut_same limit close h k a =
     same_bind limit (enclosed close h) (enclosed close k) (λ x. Ok (Text x.0, after_byte x.1)) (λ x. Ok (Text x.0, after_byte x.1)) (enclosed_same limit close h k a) (λ x. advances_ok x.1 (after_byte x.1) (Text x.0) (behind_reaches x.1)) (λ t e f b is.

@@ -1,4 +1,4 @@
--- Items and pieces go alike too.
+-- Items and pieces are read alike, too.
 use Rattle.std.specs.Prelude.{codes, ◌==◌}
 use Rattle.std.proofs.Common.{◌≡◌, ℕ, suc, ◌+◌, ◌-◌, ◌<◌, Bool, List, length, take, Option, Some, None, Result, Ok, Err, refl, sym, ap, subst, ◌∙◌, arith}
 use Rattle.bt_text.specs.ByteTests.{is_white, left_brace}
@@ -63,7 +63,7 @@ item_alike {X = X} limit content line also close (a, Err stop) y lines s = recor
       piece_is limit (made line content close (a, Err stop)) (made also content close y) t.0 (ap (made also content close) t.1 ∙ ap (λ n. ended_item n (content a) close (Err (stop.0, t.0))) (lines a)) t.2);
 }
 
--- something that doesn't hang on where a reading ends
+-- something that doesn't depend on where a reading ends
 pair_alike : {X : Type 0} (limit : ℕ) (a : X) (r q : Result Here Stop) → SameFind limit r q → SameRead limit (a, r) (a, q)
 pair_alike limit a (Ok e) q s = record { alike = λ lt. (let t = s.alike lt in (t.0, ap (λ z. (a, z)) t.1, t.2)) }
 pair_alike limit a (Err stop) q s = record { alike = λ lt. (let t = s.alike lt in (t.0, ap (λ z. (a, z)) t.1, t.2)) }
@@ -154,7 +154,7 @@ unfolding opening
 opening_same limit h k a = same_when limit h (opening_from h (first h.rest)) (opening_from k (first k.rest)) (opening_advances_from h (first h.rest)) (λ lt.
     subst (λ o. Same limit (opening_from h (first h.rest)) (opening_from k o)) (sym (alike_first limit h k lt a)) (opening_same_from limit h k (first h.rest) lt a))
 
--- what stands after the opening sign
+-- what follows the opening sign
 opened_alike : (limit : ℕ) (unread : Content) (read : Closing → Here → Piece × Here) (r q : Result (Closing × Here) Stop) → Same limit r q → ((close : Closing) (e : Here) → Reaches e (read close e).1) → ((close : Closing) (e g : Here) → Alike limit e g → SamePiece limit (read close e) (read close g)) → SamePiece limit (item_opened unread read r) (item_opened unread read q)
 opened_alike limit unread read (Err stop) q s ahead step = record {
   alike = λ lt. (let t = s.alike lt in piece_is limit (unopened unread stop) (item_opened unread read q) t.0 (ap (item_opened unread read) t.1) t.2);
@@ -172,7 +172,7 @@ opening_alike limit unread read h k a ahead step =
     piece_when limit w (item_opened unread read (opening w)) (item_opened unread read (opening (after_white k))) (opened_reaches w unread read (opening w) (opening_advances w) ahead) (λ lt.
     opened_alike limit unread read (opening w) (opening (after_white k)) (opening_same limit w (after_white k) (alike_past limit is_white h k a lt)) ahead step)
 
--- what stands after the type
+-- what follows the type
 typed_alike : (limit : ℕ) (keyword : Keyword) (kind : List ℕ) (h k : Here) → Alike limit h k → SamePiece limit (item_of_type keyword kind h) (item_of_type keyword kind k)
 typed_alike limit keywords.Comment kind h k a = record { alike = λ _. (refl, a) }
 typed_alike limit keywords.String kind h k a = opening_alike limit unread_string string_item h k a string_reaches (string_item_alike limit)

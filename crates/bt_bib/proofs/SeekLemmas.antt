@@ -15,7 +15,7 @@ missed : (v : Bool) → (v ≡ true → ⊥) → not v ≡ true
 missed true n = absurd (n refl)
 missed false n = refl
 
--- what stands before the first hit
+-- the bytes before the first hit
 run_to : (hit : ℕ → Bool) (k : ℕ) (bs : List ℕ) → ((j : ℕ) → j < k → hit (get_or bs j 0) ≡ true → ⊥) → k ≤ length bs → (length bs ≡ k) ⊎ (hit (get_or bs k 0) ≡ true) → take_while (λ b. not (hit b)) bs ≡ take k bs
 run_to hit zero [] n le ends = refl
 run_to hit (suc k) [] n le ends = absurd (omega arith)
@@ -27,12 +27,12 @@ run_to hit (suc k) (b ∷ bs) n le ends =
     ∙ ap (λ v. cond v (b ∷ take_while (λ b. not (hit b)) bs) []) (missed (hit b) (n 0 (omega arith)))
     ∙ ap (λ (front : List ℕ). b ∷ front) (run_to hit k bs (λ j lt. n (suc j) (omega arith)) (omega arith) rest)
 
--- what memchr says
+-- what memchr promises
 run_found : (hit : ℕ → Bool) (bs : List ℕ) (r : Option ℕ) (n : ℕ) → IsFirstByte hit bs r → n ≡ unwrap_or r (length bs) → take_while (λ b. not (hit b)) bs ≡ take n bs
 run_found hit bs None n found is = run_to hit n bs (λ j lt. found j (omega arith) (omega arith)) (omega arith) (inl (sym is))
 run_found hit bs (Some k) n found is = run_to hit n bs (λ j lt. found.0.before j (omega arith) (omega arith)) (omega (arith, found.0.high)) (inr (ap (λ i. hit (get_or bs i 0)) is ∙ found.1))
 
--- a jump over so many bytes of a text, which a search in the slice `hay` has found
+-- a jump over this many bytes of a text, found by a search in the slice `hay`
 pub jumps : (hit : ℕ → Bool) (text hay : List ℕ) (s end : Spot) (r : Option ℕ) (n : ℕ) → hay ≡ drop s.place text → IsFirstByte hit hay r → n ≡ unwrap_or r (length hay) → end ≡ spot_after (take n (drop s.place text)) s → here text end ≡ after_run (λ b. not (hit b)) (here text s)
 jumps hit text hay s end r n same found is ends =
     let rest = drop s.place text in
@@ -40,7 +40,7 @@ jumps hit text hay s end r n same found is ends =
     let run : front ≡ take n rest = run_found hit rest r n (subst (λ (x : List ℕ). IsFirstByte hit x r) same found) (is ∙ ap (λ (x : List ℕ). unwrap_or r (length x)) same) in
     ap (here text) (ends ∙ ap (λ t. spot_after t s) (sym run)) ∙ ap (at (spot_after front s)) (sym (drop-drop (length front) s.place text))
 
--- as many hits as after a place before which there is none
+-- if there is no hit before a place, the hits are those after it
 count_behind : (hit : ℕ → Bool) (k : ℕ) (bs : List ℕ) → ((j : ℕ) → j < k → hit (get_or bs j 0) ≡ true → ⊥) → k ≤ length bs → count_by hit bs ≡ count_by hit (drop k bs)
 count_behind hit zero bs n le = refl
 count_behind hit (suc k) [] n le = absurd (omega arith)

@@ -1,4 +1,4 @@
--- What is kept of a text, what is read again, and what is moved.
+-- What is kept of a text, what is re-read, and what is moved.
 use Rattle.std.specs.Prelude.{nat_lt, nat_le, ◌==◌, ◌&&◌}
 use Rattle.std.specs.List.{filter}
 use Rattle.std.proofs.Common.{◌≡◌, ℕ, zero, suc, ◌+◌, ◌-◌, ◌<◌, ◌≤◌, Bool, true, false, cond, List, [], ◌∷◌, ◌++◌, length, take, drop, map, Some, None, refl, sym, ap, subst, ◌∙◌, append_assoc, length-append, arith, inl, inr}
@@ -31,7 +31,7 @@ pub all_rebased : (a b : Spot) (ps : List PlacedPiece) → map (rebased_piece a 
 all_rebased a b [] = refl
 all_rebased a b (p ∷ ps) = rw (spot_rebased a b p.start, spot_rebased a b p.end, all_rebased a b ps) refl
 
--- the rest of a text, wherever it stands
+-- the rest of a text, wherever it is
 rest_moved : (s : Spot) (r : List ℕ) → pieces_from (at s r) ≡ map (moved_piece s) (pieces_from (at item_start r))
 rest_moved s r = ap (λ u. pieces_from (at u r)) (same_spot _ _ _ _ (omega arith) (omega arith)) ∙ moved_law s item_start r
 
@@ -53,7 +53,7 @@ same_front old new begin end inserted is = ap (take begin) (is.text ∙ append_a
 pub same_back : (old new : List ℕ) (begin end inserted : ℕ) → IsSplice old new begin end inserted → drop (begin + inserted) new ≡ drop end old
 same_back old new begin end inserted is = ap (drop (begin + inserted)) is.text ∙ drop_at (take begin old ++ is.bytes) (drop end old) (begin + inserted) (omega (arith, length-append (take begin old) is.bytes, begin_taken old new begin end inserted is, is.count))
 
--- those up to a boundary are a front of all
+-- the pieces up to a boundary are the first ones of all
 abbrev pub behind_until : (ℕ → Bool) → Spot → List PlacedPiece → List PlacedPiece
 behind_until test s [] = []
 behind_until test s (p ∷ ps) = cond (test s.place) (p ∷ ps) (behind_until test p.end ps)
@@ -87,7 +87,7 @@ respliced_law old new begin end inserted is test =
     kept_law old new start begin front
     ∙ ap (λ (l : List PlacedPiece). kept ++ l) (until_splits test from ps ∙ ap (λ (l : List PlacedPiece). until test from ps ++ l) (rest_law new from (until test from ps) (behind_until test from ps) (until_splits test from ps)))
 
--- pieces behind a boundary that two texts have, where they stand in each of them
+-- the pieces after a boundary that two texts have, at their places in each of them
 pub record Behind (a b : Spot) (these those : List PlacedPiece) : Type 0 where
   pub behind : List PlacedPiece
   pub these_are : these ≡ map (moved_piece a) behind
@@ -128,7 +128,7 @@ nothing_more items u t none so_far = sym (append-nil items) ∙ ap (λ l. items 
 pub none_until : (test : ℕ → Bool) (text : List ℕ) (s e : Spot) → next_piece (here text s) ≡ (None, here text e) → until test s (pieces_from (here text s)) ≡ []
 none_until test text s e is = ap (until test s) (ends_here text s e is)
 
--- one more piece was read again
+-- one more piece was re-read
 pub one_until : (test : ℕ → Bool) (text : List ℕ) (s e : Spot) (p : PlacedPiece) → test s.place ≡ false → next_piece (here text s) ≡ (Some p, here text e) → until test s (pieces_from (here text s)) ≡ p ∷ until test e (pieces_from (here text e))
 one_until test text s e p h is =
     let on = goes_on text s e p is in
@@ -137,7 +137,7 @@ one_until test text s e p h is =
 pub one_more : (items u v t : List PlacedPiece) (p : PlacedPiece) → u ≡ p ∷ v → items ++ u ≡ t → (items ++ p ∷ []) ++ v ≡ t
 one_more items u v t p is so_far = append_assoc items (p ∷ []) v ∙ ap (λ l. items ++ l) (sym is) ∙ so_far
 
--- The boundary that lies below the splice stands in the new text.
+-- The last boundary below the splice lies in the new text.
 pub from_in : (old new : List ℕ) (begin end inserted : ℕ) → IsSplice old new begin end inserted → IsIn new (last_end start (below begin (pieces_of old)))
 unfolding pieces_of
 from_in old new begin end inserted is =
@@ -158,7 +158,7 @@ skip_below : (test : ℕ → Bool) (begin len : ℕ) (ys : List PlacedPiece) →
 skip_below test begin len ys none s [] lt = refl
 skip_below test begin len ys none s (p ∷ ps) lt = skip_if test begin len ys s p ps (nat_lt p.end.place begin) (none s.place lt) (λ h. skip_below test begin len ys none p.end ps (ltb-true p.end.place begin h))
 
--- the first boundary that passes is where reading up to it stops
+-- reading up to a boundary that passes a test stops at the first one that does
 found_if : (test : ℕ → Bool) (len : ℕ) (s : Spot) (p : PlacedPiece) (ps : List PlacedPiece) (b : Bool) → test s.place ≡ b → (b ≡ false → first_boundary test len p.end ps ≡ cond (test (last_end p.end (until test p.end ps)).place) (last_end p.end (until test p.end ps)).place len)
     → cond b s.place (first_boundary test len p.end ps) ≡ cond (test (last_end s (cond b [] (p ∷ until test p.end ps))).place) (last_end s (cond b [] (p ∷ until test p.end ps))).place len
 found_if test len s p ps true is k = rw is refl
@@ -168,7 +168,7 @@ first_is : (test : ℕ → Bool) (len : ℕ) (s : Spot) (ps : List PlacedPiece) 
 first_is test len s [] = refl
 first_is test len s (p ∷ ps) = found_if test len s p ps (test s.place) refl (λ _. first_is test len p.end ps)
 
--- Reading goes on up to where the rereading stops, or to the new text's end.
+-- Reading continues to where the definition's re-reading stops, or to the new text's end.
 pub upto_law : (old new : List ℕ) (begin end inserted : ℕ) → IsSplice old new begin end inserted →
     (let test = is_common (pieces_of old) begin end inserted in let from = last_end start (below begin (pieces_of old)) in let stop = last_end from (until test from (pieces_from (here new from))) in
     reread_upto old new begin end inserted ≡ cond (test stop.place) stop.place (length new))
@@ -190,7 +190,7 @@ from_law old begin = from_is_greatest (length old) begin (pieces_of old) (spans_
 pub in_order : (text : List ℕ) (ps : List PlacedPiece) → ps ≡ pieces_of text → InOrder ps
 in_order text ps is = (length text, subst (Rises (length text) 0) (sym is) (spans_rise text))
 
--- where a place of the new text is a boundary of both
+-- whether a place of the new text is a boundary of both
 
 pub common_is_last : (old : List PlacedPiece) (begin end inserted place count : ℕ) (s : Spot) → InOrder old → begin + inserted ≤ place → below (place - (begin + inserted) + end + 1) old ≡ take count old → s ≡ last_end start (take count old) → is_common old begin end inserted place ≡ (s.place == (place - (begin + inserted) + end))
 common_is_last old begin end inserted place count s order le is last =
@@ -207,7 +207,7 @@ and_left false b h = h
 common_le : (begin end inserted : ℕ) (old : List PlacedPiece) (place : ℕ) → is_common old begin end inserted place ≡ true → begin + inserted ≤ place
 common_le begin end inserted old place h = leb-true (begin + inserted) place (and_left (nat_le (begin + inserted) place) _ h)
 
--- what respliced answers, at what the code has at hand
+-- what respliced returns, in terms of what the code has at hand
 abbrev pub Law : List ℕ → List ℕ → ℕ → ℕ → ℕ → List PlacedPiece → Type 0
 Law old new begin end inserted ps = (from stop : Spot) → from ≡ last_end start (below begin ps) → stop ≡ last_end from (until (is_common ps begin end inserted) from (pieces_from (here new from)))
     → (pieces_of new ≡ below begin ps ++ (until (is_common ps begin end inserted) from (pieces_from (here new from)) ++ pieces_from (here new stop))) × (reread_upto old new begin end inserted ≡ cond (is_common ps begin end inserted stop.place) stop.place (length new)) × (reread_from old begin ≡ from.place) × IsIn new from
@@ -248,7 +248,7 @@ ends_below limit (suc k) s (p ∷ ps) first lt = ends_step (nat_lt p.end.place l
 none_below : (ps : List PlacedPiece) (k : ℕ) → k < length (below 0 ps) → ⊥
 none_below ps k lt = let none = ap length (below_zero ps) in omega (arith, lt, none)
 
--- a boundary at or after the splice isn't one of those below it
+-- a boundary at or after the beginning of the splice isn't one of those below it
 kept_first : (old new : List ℕ) (begin end inserted kept count : ℕ) (ps : List PlacedPiece) (stop : Spot) → IsSplice old new begin end inserted → IsJoint ps begin end inserted stop.place (Some count) → length (below begin ps) ≡ kept → kept ≤ count
 kept_first old new begin end inserted kept count ps stop is joint is_kept =
     elim (cases_lt count kept) [
@@ -263,7 +263,7 @@ kept_first old new begin end inserted kept count ps stop is joint is_kept =
           ]
     ]
 
--- what stays, what is read again, and what is moved
+-- what stays, what is re-read, and what is moved
 pub edit_joint : (old new : List ℕ) (begin end inserted kept count read : ℕ) (self ps none again : List PlacedPiece) (from stop back : Spot) → IsSplice old new begin end inserted → ps ≡ self → self ≡ pieces_of old →
     kept ≤ length ps → below begin ps ≡ take kept ps → from ≡ last_end start (take kept ps) → none ≡ [] → again ≡ none ++ until (is_common ps begin end inserted) from (pieces_from (here new from)) → stop ≡ last_end from (until (is_common ps begin end inserted) from (pieces_from (here new from))) →
     IsJoint ps begin end inserted stop.place (Some count) → back ≡ last_end start (take count ps) →

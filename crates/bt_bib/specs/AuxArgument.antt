@@ -11,11 +11,11 @@ use Rattle.bt_bib.specs.declared.aux_argument.Parting.TheVariants.{Commas, Whole
 abbrev pub ends_argument : ℕ → Bool
 ends_argument b = b == 125 || is_white b
 
--- the argument: what stands before the first such byte
+-- the argument: the bytes before the first such byte
 abbrev pub inside : List ℕ → List ℕ
 inside rest = before_first ends_argument rest
 
--- that byte and what stands after it
+-- that byte and what follows it
 abbrev pub after_argument : List ℕ → List ℕ
 after_argument rest = drop (length (inside rest)) rest
 
@@ -24,17 +24,17 @@ abbrev pub parts_in : Parting → List ℕ → List (List ℕ)
 parts_in Commas argument = slice_split (λ b. b == 44) argument
 parts_in Whole argument = argument ∷ []
 
--- What is wrong, by what ends the argument and stands after it: a brace must be the last byte of its line.
+-- What is wrong, judged by what ends the argument and what follows that: a brace must be the last byte of its line.
 abbrev pub fault_at : List ℕ → Option AuxFault
 fault_at [] = Some NoBrace
 fault_at (b ∷ bs) = if is_white b then Some WhiteSpace else elim bs [ [] ↦ None | c ∷ cs ↦ Some StuffAfter ]
 
--- a fault drops the part at which it stands, the last one
+-- a fault drops the last part
 abbrev pub parts_kept : Option AuxFault → List (List ℕ) → List (List ℕ)
 parts_kept None parts = parts
 parts_kept (Some fault) parts = take (length parts - 1) parts
 
--- the parts before a fault, and the fault, of what stands after a command's opening brace
+-- of the text after a command's opening brace: the parts before a fault, and the fault
 abbrev pub fault_of : List ℕ → Option AuxFault
 fault_of rest = fault_at (after_argument rest)
 

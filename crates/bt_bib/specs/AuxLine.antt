@@ -31,7 +31,7 @@ command_of line =
     else if begins Nested line then Some Nested
     else None
 
--- how a command's argument is parted
+-- how a command's argument is split
 abbrev pub parting : Command → Parting
 parting Citation = Commas
 parting Database = Commas
@@ -44,7 +44,7 @@ item n line c =
     let rest = drop (length (opening_of c)) line in
     record { line = n; command = c; parts = argument_parts (parting c) rest; fault = fault_of rest }
 
--- the counted ones among lines that are numbered from n on
+-- the lines that count, of lines numbered from n on
 abbrev pub items_from : ℕ → List (List ℕ) → List AuxItem
 items_from n [] = []
 items_from n (l ∷ ls) =

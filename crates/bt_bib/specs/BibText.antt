@@ -5,7 +5,7 @@ use Rattle.bt_bib.specs.Spot.{at, start}
 use Rattle.bt_bib.specs.Many.{all}
 use Rattle.bt_bib.specs.Pieces.{next_piece}
 
--- The comment words and items of a whole text: text up to an `@`, what begins there, and then the rest. A faulty item's
--- rest begins where its fault stands. Each piece has its places in the text.
+-- The comment words and items of a whole text: the text up to an `@`, the piece that begins there, and then the rest.
+-- After a faulty item, the rest begins at the fault. Each piece comes with its places in the text.
 unfoldable pub pieces_of : List ℕ → List PlacedPiece
 pieces_of text = (all (λ h. Ok (next_piece h)) (at start text)).0

@@ -10,17 +10,17 @@ use Rattle.bt_bib.specs.Stop.{Stop}
 abbrev pub has_as_many_right_braces : List ℕ → Bool
 has_as_many_right_braces t = count_by (λ b. b == left_brace) t == count_by (λ b. b == right_brace) t
 
--- A byte ends what is enclosed where the bytes before it are balanced, and it is the closing sign or a right brace.
+-- A byte ends the enclosed text if the bytes before it are balanced and it is the closing sign or a right brace.
 abbrev pub ends_enclosed : ℕ → List ℕ → ℕ → Bool
 ends_enclosed close front b = (b == close || b == right_brace) && has_as_many_right_braces front
 
--- front, and what stands after it before the first byte that ends what is enclosed
+-- front, and the bytes after it up to the first one that ends the enclosed text
 abbrev pub enclosed_text : ℕ → List ℕ → List ℕ → List ℕ
 enclosed_text close front [] = front
 enclosed_text close front (b ∷ rest) =
     if ends_enclosed close front b then front else enclosed_text close (front ++ b ∷ []) rest
 
--- what stands before the byte that closes it, and that byte; a right brace that has no left one is a fault
+-- the text before the byte that closes it, and that byte; a right brace without a left one is a fault
 unfoldable pub enclosed : ℕ → Here → Result (List ℕ × Here) Stop
 enclosed close h =
     (let text = enclosed_text close [] h.rest in

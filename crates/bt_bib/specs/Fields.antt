@@ -10,7 +10,7 @@ use Rattle.bt_bib.specs.Stop.{Stop, ◌>>=◌}
 use Rattle.bt_bib.specs.Names.{name}
 use Rattle.bt_bib.specs.Values.{value}
 
--- After the name of a field or string stands a `=`.
+-- The name of a field or string is followed by `=`.
 abbrev pub name_ends : List ℕ
 name_ends = 61 ∷ []
 

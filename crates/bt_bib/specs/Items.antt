@@ -5,7 +5,7 @@ use Rattle.bt_bib.specs.declared.item.Item.{Item}
 use Rattle.bt_bib.specs.declared.item.Piece.TheVariants as pieces
 use Rattle.bt_bib.specs.declared.placed_pieces.PlacedPiece.{PlacedPiece}
 
--- an item with the spots of its `@` and of what stands after it; for a faulty item that is where its fault stands
+-- an item with the spot of its `@` and the spot after it, which for a faulty item is the spot of the fault
 pub record PlacedItem : Type 0 where
   pub start : Spot
   pub end : Spot

@@ -1,4 +1,4 @@
--- Names, and what may stand after them.
+-- Names, and what may follow them.
 use Rattle.std.specs.Prelude.{ℕ, ◌&&◌, ◌||◌, not, ◌==◌, List, Some, None, Result, Ok, Err, if◌then◌else◌}
 use Rattle.std.specs.List.{list_any}
 use Rattle.bt_text.specs.ByteTests.{is_white, is_digit}
@@ -9,7 +9,7 @@ use Rattle.bt_bib.specs.Spot.{Here}
 use Rattle.bt_bib.specs.Scan.{first, run, after_run}
 use Rattle.bt_bib.specs.Stop.{Stop, ◌>>=◌}
 
--- the longest run of name bytes, which doesn't begin with a digit
+-- the longest run of name bytes, which must not begin with a digit
 unfoldable pub word : NameRole → Here → Result (List ℕ × Here) Stop
 word what h = elim (first h.rest) [
   | None ↦ Err (EndOfFile, h)
@@ -18,7 +18,7 @@ word what h = elim (first h.rest) [
       else Err (MissingName what, h)
 ]
 
--- After a name stands white space, the text's end or one of some signs.
+-- A name is followed by white space, the text's end or one of some signs.
 unfoldable pub name_ended : NameRole → List ℕ → Here → Result Here Stop
 name_ended what signs h = elim (first h.rest) [
   | None ↦ Ok h

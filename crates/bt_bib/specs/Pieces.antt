@@ -1,4 +1,4 @@
--- What begins with an `@`. White space may stand between all signs, and `( )` for the outer `{ }`.
+-- What begins with an `@`. White space may separate all signs, and `( )` may replace the outer `{ }`.
 --
 -- | Piece    | Form                                |
 -- |----------|-------------------------------------|
@@ -7,8 +7,8 @@
 -- | preamble | `@preamble{ value }`                |
 -- | entry    | `@type{ key , field = value , .. }` |
 --
--- Of a faulty item stays what was read whole, and it ends where its fault stands. The lines in a piece count from that of
--- its `@`.
+-- A faulty item keeps what was read completely, and ends at its fault. The lines in a piece are relative to that of its
+-- `@`.
 use Rattle.std.specs.Prelude.{ℕ, ◌==◌, not, List, [], codes, Option, Some, None, Result, Ok, Err, if◌then◌else◌}
 use Rattle.bt_text.specs.ByteTests.{left_brace}
 use Rattle.bt_bib.specs.declared.spot.Spot.{Spot}
@@ -34,18 +34,18 @@ use Rattle.bt_bib.specs.Values.{value}
 use Rattle.bt_bib.specs.Fields.{next_field, name_ends}
 use Rattle.bt_bib.specs.Keywords.{keyword_of}
 
--- an item that ends well, or at a fault
+-- a complete item, or one that ends at a fault
 abbrev pub ended_item : ℕ → Content → Option Closing → Result Here Stop → Piece × Here
 ended_item line content close (Ok end) =
     (pieces.Item (record { line = line; content = content; close = close; fault = None }), end)
 ended_item line content close (Err stop) =
     (pieces.Item (record { line = line; content = content; close = close; fault = Some stop.0 }), stop.1)
 
--- an item whose fault stands before its opening sign
+-- an item whose fault comes before its opening sign
 abbrev pub unopened : Content → Stop → Piece × Here
 unopened content stop = ended_item 0 content None (Err stop)
 
--- how an item is closed that is opened here
+-- how the item that opens here is closed
 unfoldable pub opening : Here → Result (Closing × Here) Stop
 opening h = elim (first h.rest) [
   | None ↦ Err (EndOfFile, h)
@@ -83,26 +83,26 @@ preamble_item close h =
     ended_item 0 (contents.Preamble (value_read valued)) (Some close)
     (valued >>= λ v. after_closing close v.1)
 
--- an entry of which at most the type was read
+-- an entry of which only the type was read, or nothing
 abbrev pub unread_entry : Option (List ℕ) → Content
 unread_entry kind = contents.Entry (record { kind = kind; key = None; fields = [] })
 
 abbrev pub unread_string : Content
 unread_string = contents.Define (record { name = None; value = None })
 
--- an item that is read on after its opening sign and white space
+-- an item whose rest is read after its opening sign and white space
 abbrev pub item_opened : Content → (Closing → Here → Piece × Here) → Result (Closing × Here) Stop → Piece × Here
 item_opened unread read (Err stop) = unopened unread stop
 item_opened unread read (Ok o) = read o.0 (after_white o.1)
 
--- what a type begins, from the place after it on
+-- the piece that a type begins, from the place after the type on
 abbrev pub item_of_type : Keyword → List ℕ → Here → Piece × Here
 item_of_type keywords.Comment kind h = (pieces.Comment, h)
 item_of_type keywords.String kind h = item_opened unread_string string_item (opening (after_white h))
 item_of_type keywords.Preamble kind h = item_opened (contents.Preamble None) preamble_item (opening (after_white h))
 item_of_type keywords.Entry kind h = item_opened (unread_entry (Some kind)) (entry_item kind) (opening (after_white h))
 
--- a comment word or an item, from the `@` on with which a text begins
+-- the comment word or item that begins with a text's first byte, an `@`
 unfoldable pub piece : List ℕ → Piece × Here
 piece text = elim (word EntryType (after_white (after_byte (at item_start text)))) [
   | Err stop ↦ unopened (unread_entry None) stop
@@ -112,11 +112,11 @@ piece text = elim (word EntryType (after_white (after_byte (at item_start text))
   ]
 ]
 
--- a piece whose `@` stands at a spot, and what stands after it
+-- a piece whose `@` is at a spot, and the text after it
 abbrev pub placed : Spot → Piece × Here → PlacedPiece × Here
 placed start p = (record { start = start; end = spot_from start p.1.spot; piece = p.0 }, here_from start p.1)
 
--- the next `@` with what it begins, or none
+-- the next `@` with the piece that it begins, or none
 unfoldable pub next_piece : Here → Option PlacedPiece × Here
 next_piece h =
     (let at_sign = after_run (λ b. not (b == 64)) h in

@@ -1,4 +1,4 @@
--- Splices of a text, and what is read again after one.
+-- Splices of a text, and what is re-read after one.
 use Rattle.std.specs.Prelude.{◌≡◌, ℕ, ◌+◌, ◌-◌, ◌≤◌, nat_lt, nat_le, ◌==◌, Bool, ◌&&◌, max, min, List, [], ◌∷◌, ◌++◌, length, take, drop, map}
 use Rattle.std.specs.List.{filter, list_any}
 use Rattle.bt_bib.specs.declared.placed_pieces.PlacedPiece.{PlacedPiece}
@@ -19,7 +19,7 @@ abbrev pub greatest : List ℕ → ℕ
 greatest [] = 0
 greatest (x ∷ xs) = max x (greatest xs)
 
--- the least of some places and one that is no less than they are
+-- the least of some places and of `most`
 abbrev pub least : ℕ → List ℕ → ℕ
 least most [] = most
 least most (x ∷ xs) = min x (least most xs)
@@ -32,21 +32,20 @@ abbrev pub is_common : List PlacedPiece → ℕ → ℕ → ℕ → ℕ → Bool
 is_common old begin end inserted place =
     nat_le (begin + inserted) place && is_boundary old (place - (begin + inserted) + end)
 
--- Reading begins again at the greatest boundary of the old text below the splice, else at 0.
+-- Reading restarts at the greatest boundary of the old text below the splice, else at 0.
 abbrev pub reread_from : List ℕ → ℕ → ℕ
 reread_from old begin = greatest (filter (λ place. nat_lt place begin) (boundaries (pieces_of old)))
 
--- It goes on up to the least boundary of the new text that both have, else to the new text's end.
+-- It continues up to the new text's least boundary that both texts have, else to the new text's end.
 abbrev pub reread_upto : List ℕ → List ℕ → ℕ → ℕ → ℕ → ℕ
 reread_upto old new begin end inserted =
     least (length new) (filter (is_common (pieces_of old) begin end inserted) (boundaries (pieces_of new)))
 
--- How the pieces of a text differ from those that it had before a splice: the first ones stay, the next ones are replaced,
--- and those behind stand elsewhere.
+-- How a splice changes the pieces of a text: the first ones stay, the next ones are replaced, and the rest are moved.
 pub record IsItemsEdit (old new : List PlacedPiece) (e : ItemsEdit) : Type 0 where
   pub order : e.before ≤ e.upto
   pub inside : e.upto ≤ length old
-  -- those behind, with their places counted from the spot at which the text behind the splice stood, and stands
+  -- the rest, with places relative to the spot that the text after the splice had, and now has
   pub behind : List PlacedPiece
   pub stood : drop e.upto old ≡ map (moved_piece e.stood) behind
   pub pieces : new ≡ take e.before old ++ e.new ++ map (moved_piece e.stand) behind

@@ -33,12 +33,12 @@ is_full most from last place = nat_lt most (place - from) && nat_lt from last
 abbrev pub cut_before : ℕ → ℕ → ℕ → ℕ → List ℕ
 cut_before most from last place = if is_full most from last place then last ∷ [] else []
 
--- where the present part begins after that
+-- where the current part begins after that
 abbrev pub begin_after : ℕ → ℕ → ℕ → ℕ → ℕ
 begin_after most from last place = if is_full most from last place then last else from
 
--- The cuts of parts that are as long as possible. The present part began at `from`; `last` is the last place where it can
--- be cut, or `from` itself if there is none yet.
+-- The cuts of parts that are as long as possible. The current part began at `from`; `last` is the last place where it
+-- can be cut, or `from` itself if there is none yet.
 unfoldable pub chosen : ℕ → ℕ → ℕ → List ℕ → ℕ → List ℕ
 chosen most from last [] limit = cut_before most from last limit
 chosen most from last (c ∷ cs) limit =

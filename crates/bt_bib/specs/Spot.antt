@@ -1,4 +1,4 @@
--- Places of a text, with what stands from there on.
+-- Places in a text, with the bytes from there on.
 use Rattle.std.specs.Prelude.{ℕ, ◌+◌, List, [], ◌∷◌, length, drop, count_by, if◌then◌else◌}
 use Rattle.bt_text.specs.ByteTests.{is_line_feed}
 use Rattle.bt_bib.specs.declared.spot.Spot.{Spot}
@@ -6,7 +6,7 @@ use Rattle.bt_bib.specs.declared.spot.Spot.{Spot}
 abbrev pub start : Spot
 start = record { place = 0; line = 1 }
 
--- where the `@` of an item stands, from which its own places and lines count
+-- the place of an item's `@`, to which the item's own places and lines are relative
 abbrev pub item_start : Spot
 item_start = record { place = 0; line = 0 }
 
@@ -18,7 +18,7 @@ spot_after_byte b s = record { place = s.place + 1; line = if is_line_feed b the
 abbrev pub spot_after : List ℕ → Spot → Spot
 spot_after front s = record { place = s.place + length front; line = s.line + count_by is_line_feed front }
 
--- a spot that counts from another one, as a spot of the text
+-- a spot relative to another one, as a spot of the text
 abbrev pub spot_from : Spot → Spot → Spot
 spot_from first s = record { place = s.place + first.place; line = s.line + first.line }
 
@@ -36,7 +36,7 @@ here_from first h = at (spot_from first h.spot) h.rest
 abbrev pub here : List ℕ → Spot → Here
 here text s = at s (drop s.place text)
 
--- after some bytes that stand here
+-- after some bytes that are here
 abbrev pub after_bytes : List ℕ → Here → Here
 after_bytes front h = at (spot_after front h.spot) (drop (length front) h.rest)
 

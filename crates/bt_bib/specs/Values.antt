@@ -1,5 +1,4 @@
--- Values: one part, and any number joined to it by `#`. A part is `{balanced}`, `"balanced"`, a run of digits, or a
--- macro's name.
+-- Values: one part, or several joined by `#`. A part is `{balanced}`, `"balanced"`, a run of digits, or a macro's name.
 use Rattle.std.specs.Prelude.{ℕ, ◌==◌, List, [], ◌∷◌, Option, Some, None, Result, Ok, Err, if◌then◌else◌}
 use Rattle.bt_text.specs.ByteTests.{is_digit, left_brace, right_brace}
 use Rattle.bt_text.specs.NameBytes.{is_name_byte}
@@ -15,7 +14,7 @@ use Rattle.bt_bib.specs.Stop.{Stop, ◌>>=◌}
 use Rattle.bt_bib.specs.Names.{name}
 use Rattle.bt_bib.specs.Many.{all, collected}
 
--- After a macro's name stands a comma, a `#` or the closing sign of the item.
+-- A macro's name is followed by a comma, a `#` or the closing sign of the item.
 abbrev pub part_ends : Closing → List ℕ
 part_ends close = 44 ∷ 35 ∷ closing_sign close ∷ []
 

@@ -1,8 +1,8 @@
 //! The argument of a command in an `.aux` text: its parts, and what is wrong with it.
 //!
-//! An argument ends at its first `}`, which must be the last byte of the line, or at white space, which is a fault. BibTeX
-//! takes a part only once it has seen what ends it. So after a fault the parts before it count, and the one at which it
-//! stands doesn't.
+//! An argument ends at its first `}`, which must be the last byte of the line, or at white space, which is a fault.
+//! BibTeX accepts a part only once it has seen what ends it. So if there is a fault, the last part doesn't count, and
+//! the parts before it do.
 
 ghost use Rattle.std.specs.Prelude.{◌≡◌, ◌≤◌, length, map, IfOk};
 ghost use Rattle.bt_bib.specs.AuxArgument.{ends_argument, inside, parts_in, fault_at, parts_kept, fault_of, argument_parts};
@@ -15,9 +15,9 @@ use std::alloc::{AllocError, Global};
 pub enum AuxFault {
     /// No brace ends it.
     NoBrace,
-    /// White space stands in it.
+    /// It contains white space.
     WhiteSpace,
-    /// Something stands after its brace.
+    /// Something follows its brace.
     StuffAfter,
 }
 
@@ -91,7 +91,7 @@ fn fault_at(rest_after: &[u8]) -> Option<AuxFault>
     }
 }
 
-/// The parts before a fault, and the fault, of what stands after a command's opening brace.
+/// Of the text after a command's opening brace: the parts before a fault, and the fault.
 pub fn read_argument(
     alloc: Global,
     rest: &[u8],

@@ -1,7 +1,7 @@
 //! The lines of an `.aux` text that matter.
 //!
-//! LaTeX writes many commands into it. BibTeX looks at lines that begin with one of four, at their first byte, and skips
-//! all others without a word. Which files the commands open is the business of `bt_job`.
+//! LaTeX writes many commands into it. BibTeX looks only at lines that begin, at their first byte, with one of four
+//! commands, and silently skips all others. `bt_job` decides which files the commands open.
 
 ghost use Rattle.std.specs.Prelude.{◌≡◌, ◌≤◌, ◌<◌, ◌+◌, ◌^◌, [], ◌++◌, length, IfOk, OnOk, IfSome};
 ghost use Rattle.std.specs.List.{position_or_len};
@@ -28,7 +28,7 @@ pub enum Command {
 }
 
 impl Command {
-    /// What a line of the command begins with, up to its opening brace.
+    /// The first bytes of a line with this command, up to and including the opening brace.
     pub fn word(self) -> &'static [u8]
         ensures { result.now ≡ opening_of self }
     {

@@ -1,7 +1,7 @@
 //! Reads whole databases.
 //!
-//! Each piece is read as if its `@` were at place 0 of line 0, and stored beside its real place. So the pieces
-//! after an edit need only new places: nothing in them is read or copied again (`splice.rt`).
+//! Each piece is read as if its `@` were at place 0 of line 0, and stored beside its real place. So the pieces after an
+//! edit need only new places: they are neither re-read nor copied (`splice.rt`).
 
 ghost use Rattle.std.specs.Prelude.{◌≡◌, drop, IfOk};
 ghost use Rattle.bt_bib.specs.Spot.{here};
@@ -32,7 +32,7 @@ impl Reader<'_> {
         self.ahead(from, count)
     }
 
-    /// The piece that begins with the `@` at `start`, stored as read from there, and the place after it.
+    /// The piece that begins with the `@` at `start`, stored relative to that `@`, and the place after the piece.
     pub fn placed_piece(&self, start: Spot) -> Result<(PlacedPiece, Spot), AllocError>
         requires { IsIn self.now.text.now start }
         ensures { Makes self.now.text.now start result (placed start (piece (drop start.place self.now.text.now))) }
@@ -82,8 +82,8 @@ impl Reader<'_> {
     }
 }
 
-/// The items of a database, in the order of its text. Any bytes are a database: where no rule goes on, the item ends with
-/// a fault, and reading resumes at the next `@` from the fault's place on. The only error is out of memory.
+/// The items of a database, in the order of its text. Any bytes are a database: where no rule applies, the item ends
+/// with a fault, and reading resumes at the next `@` at or after the fault's place. The only error is out of memory.
 #[tactic(auto, unfolding(crate::specs::BibText::pieces_of))]
 pub fn read_bib(alloc: Global, text: &[u8]) -> Result<Items, AllocError>
     ensures { IfOk result (λ items. items ≡ pieces_of text.now) }

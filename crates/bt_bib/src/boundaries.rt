@@ -1,7 +1,7 @@
 //! Boundaries: the start of a text and the ends of its pieces.
 //!
-//! What is read from a boundary on depends only on the bytes from there on, so reading can begin again there. The ends
-//! rise, so both questions below are answered by binary search or at once.
+//! What is read from a boundary on depends only on the bytes from there on, so reading can restart there. The ends of
+//! pieces rise, so the first function below is a binary search, and the second is a look at one piece.
 
 ghost use Rattle.std.specs.Prelude.{◌≡◌, ◌≤◌, length, take};
 ghost use Rattle.bt_bib.specs.Spot.{start};
@@ -11,7 +11,7 @@ ghost use Rattle.bt_bib.specs.inner.Boundaries.{below, InOrder};
 use crate::placed_pieces::PlacedPiece;
 use crate::spot::Spot;
 
-/// How many pieces end below a place. Their ends rise, so these are the first ones.
+/// How many pieces end below a place. Their ends rise, so these are the first pieces.
 pub fn count_below(pieces: &[PlacedPiece], limit: usize) -> usize
     requires { InOrder pieces.now }
     ensures within { result ≤ length pieces.now }

@@ -1,8 +1,8 @@
 //! Re-reading after a splice, up to a boundary that the old text has too.
 //!
-//! After the splice both texts have the same bytes. So as soon as the cursor reaches a place there that is a boundary of
-//! both, all that follows reads the same, and the old pieces serve. Without a fault, that is mostly the end of the first
-//! item after the splice. An opened brace can carry the cursor to the text's end.
+//! After the splice both texts have the same bytes. So once the cursor reaches a place there that is a boundary of
+//! both, everything after it reads the same, and the old pieces can be reused. Without a fault, that place is mostly
+//! the end of the first item after the splice. An unclosed brace can carry the cursor to the text's end.
 
 ghost use Rattle.std.specs.Prelude.{◌≡◌, ◌+◌, ◌-◌, ◌<◌, ◌^◌, ◌++◌, [], None, length, IfOk};
 ghost use Rattle.bt_bib.specs.Spot.{here};
@@ -21,7 +21,7 @@ use crate::splice::Splice;
 use crate::spot::Spot;
 use std::alloc::AllocError;
 
-/// How many pieces of the old text end at or before this place of the new one, where it is a boundary of both.
+/// How many pieces of the old text end at or before this place of the new one; none if it isn't a boundary of both.
 fn joint(old: &[PlacedPiece], splice: Splice, place: usize) -> Option<usize>
     requires order { InOrder old.now }
     requires first { splice.begin + splice.inserted < 2 ^ 64 }
@@ -42,7 +42,7 @@ fn joint(old: &[PlacedPiece], splice: Splice, place: usize) -> Option<usize>
 }
 
 impl Reader<'_> {
-    /// Reads on from a place, after the pieces that are there, up to a boundary of both texts, or to the text's end.
+    /// Reads on from a place, appending to `items`, up to a boundary of both texts or to the text's end.
     pub fn reread(
         &self,
         items: Items,

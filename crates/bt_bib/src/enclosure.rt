@@ -1,7 +1,8 @@
 //! What braces and quotes enclose.
 //!
-//! The specification ends the text at the first closing sign that as many left braces as right ones precede. The code counts
-//! open braces instead, and `memchr3` finds the next byte that can matter. Depth costs neither recursion nor memory.
+//! The specification ends the text at the first closing sign before which there are as many left braces as right ones.
+//! The code counts open braces instead, and `memchr3` finds the next byte that can matter. Deep nesting costs neither
+//! recursion nor memory.
 
 ghost use Rattle.std.specs.Prelude.{◌≡◌, ◌<◌, ◌+◌, ◌^◌};
 ghost use Rattle.bt_bib.specs.Spot.{here};
@@ -21,16 +22,16 @@ use memchr::memchr3;
 /// What a byte does inside braces or quotes.
 #[derive(Clone, Copy, PartialEq, Eq)]
 pub enum Turn {
-    /// It ends what they enclose.
+    /// It ends the enclosed text.
     Closes,
-    /// It is a right brace without its left one.
+    /// It is a right brace without a left one.
     Breaks,
-    /// It leaves this number of further braces open.
+    /// It leaves this many inner braces open.
     Goes(usize),
 }
 
 impl Turn {
-    /// What a byte does where `depth` further braces are open.
+    /// What a byte does while `depth` inner braces are open.
     fn of(close: u8, depth: usize, byte: u8) -> Turn
         requires { depth + 1 < 2 ^ 64 }
         ensures value { result ≡ turn close depth byte }
@@ -52,7 +53,7 @@ impl Turn {
     }
 }
 
-/// Whether a byte is no brace and doesn't close.
+/// Whether a byte is neither a brace nor the closing sign.
 fn is_plain(close: u8, byte: u8) -> bool
     ensures { result ≡ is_plain close byte }
 {
@@ -92,7 +93,7 @@ impl Reader<'_> {
         Err(ReadStop::Stopped(ItemFault::EndOfFile, at))
     }
 
-    /// What stands from here up to the byte that closes it, and that byte's place.
+    /// The text from here up to the byte that closes it, and that byte's place.
     #[tactic(auto, using(crate::proofs::EnclosedLemmas::enclosed_found, crate::proofs::EnclosedLemmas::enclosed_stopped))]
     pub fn enclosed(&self, from: Spot, close: u8) -> Result<(Shared<Bytes>, Spot), ReadStop>
         requires { IsIn self.now.text.now from }

@@ -1,6 +1,6 @@
 //! What is wrong with an item.
 
-/// What a name stands for.
+/// What a name is the name of.
 #[derive(Clone, Copy, Debug, PartialEq, Eq)]
 pub enum NameRole {
     /// The word after `@`.
@@ -13,23 +13,23 @@ pub enum NameRole {
     FieldPart,
 }
 
-/// What is wrong at the first place where no rule goes on: that place is the end of the item.
+/// What is wrong at the first place where no rule applies. The item ends at that place.
 #[derive(Clone, Copy, Debug, PartialEq, Eq)]
 pub enum ItemFault {
     /// The text ends inside the item.
     EndOfFile,
-    /// No name stands where one must. A field part that is missing is `MissingPart`.
+    /// A name is missing. A missing part of a value is `MissingPart` instead.
     MissingName(NameRole),
-    /// This byte stands right after a name, and may not.
+    /// This byte directly follows a name, and may not.
     BadNameEnd(NameRole, u8),
-    /// Neither `{` nor `(` stands after the type.
+    /// The type isn't followed by `{` or `(`.
     ExpectedOpen,
-    /// Neither a comma nor the closing sign stands after a key or a value (in a string or preamble: no closing sign).
+    /// A key or value isn't followed by a comma or the closing sign (in a string or preamble: by the closing sign).
     ExpectedCommaOrClose,
-    /// No `=` stands after the name of a field or string.
+    /// The name of a field or string isn't followed by `=`.
     ExpectedEquals,
-    /// A `}` stands between quotes without its `{`.
+    /// A `}` between quotes has no `{`.
     UnbalancedBraces,
-    /// No part of a value stands where one must.
+    /// A part of a value is missing.
     MissingPart,
 }

@@ -54,8 +54,8 @@ impl Reader<'_> {
         }
     }
 
-    /// Puts the fields of an entry after `fields` as they are read, up to the entry's end or its fault. After out of
-    /// memory those that were read before stay there.
+    /// Appends each field of an entry to `fields` as it is read, up to the entry's end or its fault. If memory runs
+    /// out, `fields` keeps those that were read before.
     pub fn fields(
         &self,
         from: Spot,

@@ -9,9 +9,9 @@ use bt_text::Sequence;
 use std::alloc::{AllocError, AllocFailed, Global};
 use std::marker::Model;
 
-/// The items of a database in the order of its text, with the comment words among them. Each is stored as read from its
-/// own `@`, beside its place in the text, so that an edit before it changes its place alone. Contracts see the list of the
-/// pieces with their places in the text.
+/// The items and comment words of a database, in the order of its text. Each is stored relative to its own `@`, beside
+/// its place in the text, so an edit before it changes only that place. Contracts see the list of the pieces with their
+/// places in the text.
 #[derive(Debug, Drop)]
 pub struct Items {
     pieces: Sequence<PlacedPiece>,
@@ -27,7 +27,7 @@ impl Model for Items {
 }
 
 impl Items {
-    /// No items. They take no memory.
+    /// No items. Allocates nothing.
     pub(crate) fn new(alloc: Global) -> Self
         ensures { result ≡ [] }
     {
@@ -43,7 +43,7 @@ impl Items {
         self.pieces.as_slice()
     }
 
-    /// Puts a piece after the others. After out of memory they are as before.
+    /// Appends a piece. If memory runs out, the items are unchanged.
     pub(crate) fn push(&mut self, piece: PlacedPiece) -> Result<(), AllocFailed<PlacedPiece>>
         ensures ok { OnOk result (self.new ≡ self.old ++ piece ∷ []) }
         ensures err { OnErr result (self.new ≡ self.old) }
@@ -51,7 +51,7 @@ impl Items {
         self.pieces.push(piece)
     }
 
-    /// These and then `others`.
+    /// These items, followed by `others`.
     pub(crate) fn with_all(self, others: Items) -> Result<Items, AllocError>
         ensures { IfOk result (λ all. all ≡ self ++ others) }
     {
@@ -60,7 +60,8 @@ impl Items {
         Ok(items)
     }
 
-    /// These and then `others`, which are shared, where the text from `a` on stands from `b` on.
+    /// These items, followed by `others`, which are shared and take their places after the text from `a` on has moved
+    /// to `b`.
     pub(crate) fn with_rebased(
         self,
         others: &[PlacedPiece],

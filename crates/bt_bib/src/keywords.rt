@@ -1,11 +1,11 @@
-//! Types that are words of the format itself.
+//! Types that are keywords of the format.
 
 ghost use Rattle.std.specs.Prelude.{◌≡◌};
 ghost use Rattle.bt_bib.specs.Keywords.{keyword_of};
 
 use bt_text::eq_ignore_ascii_case;
 
-/// What a type begins.
+/// The kind of piece that a type begins.
 #[derive(Clone, Copy, PartialEq, Eq)]
 pub enum Keyword {
     Comment,
@@ -15,7 +15,7 @@ pub enum Keyword {
 }
 
 impl Keyword {
-    /// What this type begins. The case of its letters doesn't matter.
+    /// The kind of piece that this type begins, whatever the case of its letters.
     pub fn of(kind: &[u8]) -> Keyword
         ensures { result ≡ keyword_of kind.now }
     {

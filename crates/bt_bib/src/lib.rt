@@ -1,4 +1,4 @@
-//! The readers of `.aux` texts and of databases, and the rereading of a database that was changed.
+//! Reads `.aux` texts and databases, and re-reads the changed part of a database after an edit.
 #![tactic(auto)]
 
 mod aux_argument;

@@ -1,7 +1,7 @@
 //! A count of the bytes that were re-read.
 //!
-//! A contract can't say how long a call takes, but it can say how far this count rises. So `respliced` promises that an
-//! edit reads only a part of its database.
+//! A contract can't say how long a call takes, but it can say how far this count rises. With it `respliced` promises
+//! that an edit re-reads only a part of its database.
 
 ghost use Rattle.std.specs.Prelude.{◌≡◌, ◌<◌, ◌+◌, ◌^◌};
 
@@ -22,7 +22,7 @@ impl Model for ReadMeter {
 }
 
 impl ReadMeter {
-    /// A meter that stands at 0.
+    /// A meter at 0.
     pub fn new() -> Self
         ensures { result ≡ 0 }
     {
@@ -36,7 +36,7 @@ impl ReadMeter {
         self.count
     }
 
-    /// Counts bytes that the cursor passed.
+    /// Adds the number of bytes that the cursor passed.
     pub(crate) fn raise(&mut self, bytes: usize)
         requires { self.old + bytes < 2 ^ 128 }
         ensures { self.new ≡ self.old + bytes }

@@ -1,4 +1,4 @@
-//! Names, and what may stand after them.
+//! Names, and what may follow them.
 
 ghost use Rattle.std.specs.Prelude.{◌≡◌, ◌==◌};
 ghost use Rattle.std.specs.List.{list_any};
@@ -21,7 +21,7 @@ fn is_one_of(signs: &[u8], byte: u8) -> bool
 }
 
 impl Reader<'_> {
-    /// The longest run of name bytes, which doesn't begin with a digit.
+    /// The longest run of name bytes, which must not begin with a digit.
     #[tactic(auto, unfolding(crate::specs::Names::word))]
     pub fn word(&self, from: Spot, what: NameRole) -> Result<(Shared<Bytes>, Spot), ReadStop>
         requires { IsIn self.now.text.now from }
@@ -39,7 +39,7 @@ impl Reader<'_> {
         }
     }
 
-    /// This place, where white space, the text's end or one of some signs stands.
+    /// This place, which must be followed by white space, the text's end or one of `signs`.
     #[tactic(auto, unfolding(crate::specs::Names::name_ended))]
     pub fn ended(&self, from: Spot, what: NameRole, signs: &[u8]) -> Result<Spot, ReadStop>
         requires { IsIn self.now.text.now from }
@@ -55,7 +55,7 @@ impl Reader<'_> {
         }
     }
 
-    /// A name after which white space, the text's end or one of some signs stands.
+    /// A name, which must be followed by white space, the text's end or one of `signs`.
     #[tactic(auto, unfolding(crate::specs::Names::name))]
     pub fn name(
         &self,

@@ -1,8 +1,9 @@
 //! What begins with an `@`: comment words, strings, preambles and entries.
 //!
-//! A fault doesn't lose what was read before it: a faulty entry keeps its type, key and whole fields, since BibTeX goes on
-//! with it. So a reader of items fails only when memory runs out; it turns any other stop into the item's end and fault.
-//! `read_string` and `read_preamble` fill a value of their caller, so that a `?` loses nothing.
+//! A fault doesn't lose what was read before it: a faulty entry keeps its type, its key and its complete fields, since
+//! BibTeX still uses them. So a reader of items fails only when memory runs out; it turns any other stop into the
+//! item's end and fault. `read_string` and `read_preamble` fill a value that their caller owns, so that a `?` loses
+//! nothing.
 
 ghost use Rattle.std.specs.Prelude.{◌≡◌, [], None, IfOk};
 ghost use Rattle.bt_bib.specs.Spot.{here, item_start};
@@ -23,7 +24,7 @@ use crate::stop::ReadStop;
 use bt_text::{Bytes, Sequence, Shared};
 use std::alloc::{AllocError, Global};
 
-/// An item that ends well or at its fault.
+/// A complete item, or one that ends at its fault.
 fn item(
     line: usize,
     content: Content,
@@ -48,14 +49,14 @@ fn item(
     Ok((Piece::Item(item), end))
 }
 
-/// An item whose fault stands before its opening sign.
+/// An item whose fault comes before its opening sign.
 fn unopened(content: Content, halt: ReadStop) -> Result<(Piece, Spot), AllocError>
     ensures { IfOk result (IsItem 0 content None (Err halt)) }
 {
     item(0, content, None, Err(halt))
 }
 
-/// An entry of which at most the type was read.
+/// An entry of which only the type was read, or nothing.
 fn unread_entry(alloc: Global, kind: Option<Shared<Bytes>>) -> Content
     ensures { result ≡ unread_entry kind }
 {
@@ -111,7 +112,7 @@ impl Reader<'_> {
         item(from.line, Content::Entry(entry), Some(close), end)
     }
 
-    /// Reads a string from its name on into `found`, up to its end or its fault.
+    /// Reads a string into `found`, from its name up to its end or its fault.
     fn read_string(
         &self,
         from: Spot,
@@ -146,7 +147,7 @@ impl Reader<'_> {
         item(line, Content::Define(found), Some(close), end)
     }
 
-    /// Reads a preamble from its value on into `found`, up to its end or its fault.
+    /// Reads a preamble into `found`, from its value up to its end or its fault.
     fn read_preamble(
         &self,
         from: Spot,
@@ -223,7 +224,7 @@ impl Reader<'_> {
         }
     }
 
-    /// A comment word or an item, from the `@` on with which the text begins.
+    /// The comment word or item that begins with the text's first byte, which must be an `@`.
     #[tactic(auto, unfolding(crate::specs::Pieces::piece))]
     pub fn piece(&self) -> Result<(Piece, Spot), AllocError>
         ensures { Makes self.now.text.now item_start result (piece self.now.text.now) }

@@ -20,13 +20,13 @@ use bt_text::{Bytes, Shared, is_digit, is_name_byte, is_white};
 use memchr::memchr;
 use std::alloc::AllocError;
 
-/// Bytes that stand in one run.
+/// A class of bytes, which form runs.
 #[derive(Clone, Copy, PartialEq, Eq)]
 pub enum Class {
     White,
     Digit,
     Name,
-    /// The bytes of a key in an item that is closed so.
+    /// The bytes of a key in an item with this closing sign.
     Key(Closing),
 }
 
@@ -148,7 +148,7 @@ impl Reader<'_> {
         ))
     }
 
-    /// The place after a byte that must stand here. Another byte is this fault.
+    /// The place after the byte here, which must be `expected`; otherwise the reader stops with `fault`.
     #[tactic(auto, unfolding(crate::specs::Scan::sign))]
     pub fn sign(&self, from: Spot, expected: u8, fault: ItemFault) -> Result<Spot, ReadStop>
         requires { IsIn self.now.text.now from }

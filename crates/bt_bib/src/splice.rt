@@ -1,8 +1,9 @@
-//! The items of a database after a splice, from those that it had.
+//! The items of a database after a splice, from its items before.
 //!
-//! Three parts: the pieces that end below the splice stay; then the new text is read from the last boundary below it up to
-//! a boundary that both texts have; the old pieces after that stay, moved. A piece that ends exactly where the splice
-//! begins is re-read, since the byte after it can have decided where it ends.
+//! There are three parts. The pieces that end below the splice are kept. Then the new text is read from the last
+//! boundary below the splice up to a boundary that both texts have. The old pieces after that boundary are kept too, at
+//! moved places. A piece that ends exactly where the splice begins is re-read, since its end can depend on the byte
+//! after it.
 
 ghost use Rattle.std.specs.Prelude.{◌≡◌, ◌<◌, ◌+◌, ◌-◌, ◌^◌, length, IfOk, OnErr, OnOk};
 ghost use Rattle.bt_bib.specs.BibText.{pieces_of};
@@ -14,7 +15,7 @@ use crate::reader::Reader;
 use crate::spot::Spot;
 use std::alloc::{AllocError, Global};
 
-/// A splice of a text: `inserted` bytes came in the place of those from `begin` up to `end`.
+/// A splice of a text: `inserted` bytes replaced those from `begin` up to `end`.
 #[derive(Clone, Copy)]
 pub struct Splice {
     pub begin: usize,
@@ -22,29 +23,30 @@ pub struct Splice {
     pub inserted: usize,
 }
 
-/// How the items of a text differ from those that it had before a splice. Items and comment words count alike.
+/// How a splice changes the items of a text. Comment words count as items here.
 #[derive(Debug, Drop)]
 pub struct ItemsEdit {
-    /// How many of the old ones stay, at their places.
+    /// How many of the first old items keep their places.
     pub before: usize,
-    /// The old ones from `before` up to this one are replaced; those from here on are moved.
+    /// The old items from index `before` up to this index are replaced; those from this index on are moved.
     pub upto: usize,
-    /// What came in the place of those that are replaced.
+    /// The items that replace them.
     pub new: Items,
-    /// Where the text after them stood.
+    /// Where the text after them begins in the old text.
     pub stood: Spot,
-    /// Where it stands now.
+    /// Where it begins in the new text.
     pub stand: Spot,
-    /// How many bytes were read for this.
+    /// How many bytes were read to find the difference.
     pub read: usize,
 }
 
 impl Items {
     ghost use Rattle.bt_bib.specs.Splice.{reread_from, reread_upto, IsSplice, IsItemsEdit};
 
-    /// How the items of `new_text` differ from these, which are those of `old_text`. The new text is the old one with
-    /// `inserted` bytes in place of its bytes from `start` up to `end`. Only a part of it is read: from the last boundary
-    /// below the splice up to the first one after it that both texts have. The only error is out of memory.
+    /// How the items of `new_text` differ from these, which must be the items of `old_text`. The new text is the old
+    /// one with `inserted` bytes in place of its bytes from `start` up to `end`. Only a part of the new text is read:
+    /// from the last boundary below the splice up to the first boundary after it that both texts have. The only error
+    /// is out of memory.
     pub fn edit(
         &self,
         alloc: Global,
@@ -98,7 +100,7 @@ impl Items {
         }
     }
 
-    /// The items after an edit of these. Those that stay and those that move are shared. The only error is out of memory.
+    /// These items after an edit. Those that stay or move are shared. The only error is out of memory.
     pub fn edited(
         &self,
         alloc: Global,
@@ -124,8 +126,8 @@ impl Items {
         Ok(items)
     }
 
-    /// The items of `new_text`, from these, which are those of `old_text`: these after their `edit`. The meter rises by the
-    /// number of bytes that are read. The only error is out of memory; the meter is then as before.
+    /// The items of `new_text`, from these, which must be the items of `old_text`: `edit`, and then `edited`. The meter
+    /// rises by the number of bytes read. The only error is out of memory, which leaves the meter unchanged.
     pub fn respliced(
         &self,
         alloc: Global,

@@ -1,8 +1,8 @@
 //! Cutting a database into parts.
 //!
-//! A session admits files of limited length, so a longer database has to be read in parts. It can be cut wherever no item
-//! lies across the cut: then the items of the parts are those of the whole. Looking for an `@` at the beginning of a line
-//! isn't enough, since one can stand inside a value. So the cuts come from the items as they were read.
+//! A session accepts only files of limited length, so a longer database has to be read in parts. It can be cut wherever
+//! no item lies across the cut: then the parts have the same items as the whole. Looking for an `@` at the beginning of
+//! a line isn't enough, since a value can contain one. So the cuts are computed from the items that were read.
 //!
 //! The byte after an item matters only to a faulty item and to the word `@comment`, which end where the reader meets a
 //! byte that doesn't fit. That byte has to stay in their part. An item without a fault ends with its own closing sign, and
@@ -72,8 +72,8 @@ fn cut_places(alloc: Global, pieces: &[PlacedPiece], limit: usize) -> Result<Vec
     Ok(places)
 }
 
-/// Ends the part that began at `from` at the last place where it can be cut, if it would be too long up to `place`. Returns
-/// where the present part begins then.
+/// If the part that began at `from` would be too long once it reached `place`, ends it at `last`, where it can be cut.
+/// Returns where the current part begins after that.
 fn cut_before(
     cuts: &mut Vec<usize>,
     from: usize,
@@ -92,7 +92,7 @@ fn cut_before(
     }
 }
 
-/// The places among these at which parts end, so that each part has at most `most` bytes if it can.
+/// The places, of these, at which parts end. They are chosen so that each part has at most `most` bytes if possible.
 fn chosen(
     alloc: Global,
     places: &[usize],
@@ -112,9 +112,9 @@ fn chosen(
     Ok(cuts)
 }
 
-/// The places where a database is cut into parts, in rising order. No item lies across a cut. A part has at most `most`
-/// bytes, unless it is a single item or a stretch of text between items that is longer. The items are those of the text.
-/// The only error is out of memory.
+/// The places at which to cut a database into parts, in rising order. No item lies across a cut. A part has at most
+/// `most` bytes, unless it is a single item or a stretch of text between items that is longer. `items` are those of
+/// `text`. The only error is out of memory.
 pub fn split_places(
     alloc: Global,
     text: &[u8],
@@ -137,8 +137,8 @@ fn lies_before(limit: usize, piece: &PlacedPiece) -> bool
     end < limit || (is_whole(piece) && end == limit)
 }
 
-/// Whether a text is closed: whatever is appended to it, its items stay as they are. The items are those of the text. Only
-/// the last one is looked at.
+/// Whether a text is closed, that is, whether its items stay as they are whatever is appended to it. `items` are those
+/// of `text`. Only the last one is examined.
 pub fn is_closed(text: &[u8], items: &Items) -> bool
     requires { items.now ≡ pieces_of text.now }
     ensures { result ≡ is_closed text.now }

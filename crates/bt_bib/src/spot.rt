@@ -1,14 +1,14 @@
-//! A place of a text, with its line.
+//! A place in a text, with its line.
 
 ghost use Rattle.std.specs.Prelude.{◌≡◌, ◌+◌, ◌<◌, ◌^◌};
 ghost use Rattle.bt_bib.specs.Spot.{spot_after_byte};
 ghost use Rattle.bt_bib.specs.inner.PlacedPieces.{rebased, FitsSpot};
 
-/// A place of a text: how many bytes stand before it, and its line, which is 1 plus the number of line feeds among
-/// them. The text's end is a place too.
+/// A place in a text: the number of bytes before it, and its line, which is 1 plus the number of line feeds among those
+/// bytes. The text's end is a place too.
 #[derive(Clone, Copy, Debug, PartialEq, Eq)]
 pub struct Spot {
-    /// How many bytes stand before it.
+    /// The number of bytes before it.
     pub place: usize,
     /// Its line, from 1.
     pub line: usize,
@@ -18,10 +18,10 @@ impl Spot {
     /// The first place of a text.
     pub const START: Spot = Spot { place: 0, line: 1 };
 
-    /// Place 0 of line 0: the places and lines of a piece count from its `@`.
+    /// Place 0 of line 0: the places and lines of a piece are relative to its `@`.
     pub(crate) const ITEM_START: Spot = Spot { place: 0, line: 0 };
 
-    /// The place after a byte that stands here.
+    /// The place after this byte, which must be the one here.
     pub(crate) fn after(self, byte: u8) -> Spot
         requires place { self.place + 1 < 2 ^ 64 }
         requires line { self.line + 1 < 2 ^ 64 }
@@ -38,7 +38,7 @@ impl Spot {
         }
     }
 
-    /// The spot that this one becomes where the text from `a` on stands from `b` on.
+    /// The spot that this one becomes when the text from `a` on moves to `b`.
     pub(crate) fn rebased(self, a: Spot, b: Spot) -> Spot
         requires { FitsSpot a b self }
         ensures { result ≡ rebased a b self }

@@ -1,4 +1,4 @@
-//! Why a reader gives no value.
+//! Why a reader returns no value.
 
 ghost use Rattle.std.specs.Prelude.{◌≡◌};
 ghost use Rattle.bt_bib.specs.declared.stop.ReadStop.TheVariants.{OutOfMemory};
@@ -7,7 +7,7 @@ use crate::fault::ItemFault;
 use crate::spot::Spot;
 use std::alloc::{AllocError, AllocFailed};
 
-/// Why a reader gives no value.
+/// Why a reader returns no value.
 #[derive(Drop)]
 pub enum ReadStop {
     OutOfMemory,

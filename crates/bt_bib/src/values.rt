@@ -1,4 +1,4 @@
-//! Values: one part, and any number joined to it by `#`.
+//! Values: one part, or several joined by `#`.
 
 ghost use Rattle.bt_bib.specs.Spot.{here};
 ghost use Rattle.bt_bib.specs.inner.Spot.{IsIn};

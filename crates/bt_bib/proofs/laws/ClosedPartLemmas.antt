@@ -39,7 +39,7 @@ use Rattle.bt_bib.proofs.laws.PartLemmas.{run_nil, run_cons, none_from, same_fro
 abbrev with_rest : Here → List ℕ → Here
 with_rest h rest = at h.spot (h.rest ++ rest)
 
--- what is read of a text that goes on is what is read of it, then of what follows
+-- reading a text with more after it is reading the text, and then what follows
 abbrev IsJoined : List ℕ → Here → Type 0
 IsJoined rest h = pieces_from (with_rest h rest) ≡ pieces_from h ++ pieces_from (at (spot_after h.rest h.spot) rest)
 
@@ -93,7 +93,7 @@ run_on_by : (v : Bool) (rest : List ℕ) (s : Spot) (b : ℕ) (bs : List ℕ) �
 run_on_by false rest s b bs is lt step = run_cons s b (bs ++ rest) ∙ ap (λ v. cond v (past_run is_text (spot_after_byte b s) (bs ++ rest)) (at s (b ∷ (bs ++ rest)))) is
 run_on_by true rest s b bs is lt step = run_cons s b (bs ++ rest) ∙ ap (λ v. cond v (past_run is_text (spot_after_byte b s) (bs ++ rest)) (at s (b ∷ (bs ++ rest)))) is ∙ step lt
 
--- a run that ends in a text ends there where the text goes on
+-- a run that ends inside a text ends at the same place if the text goes on
 run_on : (rest : List ℕ) (s : Spot) (r : List ℕ) → 0 < length (past_run is_text s r).rest → past_run is_text s (r ++ rest) ≡ with_rest (past_run is_text s r) rest
 unfolding past_run
 run_on rest s [] lt = absurd (omega arith)
@@ -152,7 +152,7 @@ joined_fuel (suc fuel) rest h lt all =
     let a = after_run is_text h in
     joined_by rest h a.spot a.rest refl (past_stops is_text h) all (λ e less there. joined_fuel fuel rest e (omega arith) there)
 
--- a closed text, where it stands
+-- a closed text at its place
 closed_moved : (limit : ℕ) (m : Spot) (ps : List PlacedPiece) → list_all (lies_before limit) ps ≡ true → list_all (lies_before (limit + m.place)) (map (moved_piece m) ps) ≡ true
 closed_moved limit m [] all = refl
 closed_moved limit m (p ∷ ps) all =

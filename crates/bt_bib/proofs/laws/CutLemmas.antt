@@ -1,4 +1,4 @@
--- A text that is cut at a place and goes on with other bytes: what is read of it up to there.
+-- A text that is cut at a place and continued with other bytes: what is read of it up to there.
 use Rattle.std.proofs.Common.{◌≡◌, ℕ, suc, ◌+◌, ◌-◌, ◌<◌, ◌≤◌, Bool, true, false, cond, List, [], ◌∷◌, ◌++◌, length, take, refl, sym, ap, subst, ◌∙◌, arith, inl, inr}
 use Rattle.std.proofs.lemmas.List.{take-append-le, length-take-le, take-take}
 use Rattle.std.proofs.lemmas.Bool.{cases_lt}
@@ -9,7 +9,7 @@ use Rattle.bt_bib.proofs.RunLemmas.{past_run, past_is_run, run_is_between, run_m
 use Rattle.bt_bib.proofs.EnclosedLemmas.{between}
 use Rattle.bt_bib.proofs.ReachLemmas.{Reaches, reaches_place, reaches_sum, past_reaches}
 
--- what stands from h on up to e, and then other bytes
+-- the bytes from h up to e, and then other bytes
 abbrev pub cut : Here → Here → List ℕ → Here
 cut h e more = at h.spot (between h e ++ more)
 
@@ -36,7 +36,7 @@ first_cut h e more lt way = first_cut_run h.spot h.rest e more lt way
 pub behind_cut : (s : Spot) (b : ℕ) (bs : List ℕ) (e : Here) (more : List ℕ) → s.place < e.spot.place → after_byte (cut (at s (b ∷ bs)) e more) ≡ cut (at (spot_after_byte b s) bs) e more
 behind_cut s b bs e more lt = ap after_byte (cut_cons s b bs e more lt)
 
--- the first of some bytes is such a one
+-- some bytes begin with one that satisfies P
 pub record Begins (P : ℕ → Type 0) (more : List ℕ) : Type 0 where
   pub byte : ℕ
   pub rest : List ℕ
@@ -46,7 +46,7 @@ pub record Begins (P : ℕ → Type 0) (more : List ℕ) : Type 0 where
 pub begins_as : {P Q : ℕ → Type 0} {more : List ℕ} → ((b : ℕ) → P b → Q b) → Begins P more → Begins Q more
 begins_as k b = record { byte = b.byte; rest = b.rest; is = b.is; fits = k b.byte b.fits }
 
--- the bytes that come next, where the text is cut no later
+-- if the text is cut at k or before it, the bytes after the cut begin with P
 abbrev pub Next : (ℕ → Type 0) → Here → Here → List ℕ → Type 0
 Next P k e more = e.spot.place ≤ k.spot.place → Begins P more
 
@@ -106,7 +106,7 @@ past_longer test h more =
     let walked = past_is_run test h.spot h.rest in
     past_is_run test h.spot (cut h (after_run test h) more).rest ∙ ap (λ k. past_run test h.spot (cut h k more).rest) walked ∙ past_longer_run test h.spot h.rest more ∙ ap (λ (k : Here). past_run test k.spot more) (sym walked)
 
--- what stands up to a place before the cut
+-- the bytes up to a place before the cut
 pub between_cut : (h k e : Here) (more : List ℕ) → Reaches h k → Reaches k e → between (cut h e more) (cut k e more) ≡ between h k
 between_cut h k e more first last =
     let le : k.spot.place - h.spot.place ≤ e.spot.place - h.spot.place = omega (arith, reaches_place h k first, reaches_place k e last) in

@@ -1,4 +1,4 @@
--- A text in which no fault is found spells what is read of it.
+-- A text that is read without a fault spells what is read.
 use Rattle.std.specs.Prelude.{◌==◌, not, All}
 use Rattle.std.proofs.Common.{◌≡◌, ℕ, zero, suc, ◌+◌, ◌<◌, ◌≤◌, Bool, true, false, List, [], ◌∷◌, ◌++◌, length, take, ◌-◌, Some, None, refl, sym, ap, subst, ◌∙◌, arith}
 use Rattle.std.proofs.lemmas.List.{append-nil}
@@ -28,7 +28,7 @@ use Rattle.bt_bib.proofs.laws.SpellingLemmas.{Stands, Stops}
 use Rattle.bt_bib.proofs.laws.FaultlessTextLemmas.{between_is, stands_both, stands_run, run_all}
 use Rattle.bt_bib.proofs.laws.FaultlessItemLemmas.{Own, PieceStands, past_stops, read_piece}
 
--- An item of a text stands where it begins.
+-- An item of a text is at the place where it begins.
 pub item_stands : (t : List ℕ) (x : Piece × Here) (i : Item) → x.0 ≡ pieces.Item i → i.fault ≡ None → PieceStands t x → Stands (Own (ItemOf i)) (item_here t) x.1
 item_stands t (pieces.Comment, k) i is faultless stands = absurd (cc is)
 item_stands t (pieces.Item j, k) i is faultless stands =
@@ -63,7 +63,7 @@ faultless_items_are_spelled text front back i is faultless =
     let a = after_run is_text g in
     item_at text a.spot a.rest i back (here_reached text s a (past_reaches is_text g)) (past_stops is_text g) (sym (pieces_step g) ∙ sym (rest_law text start front (as_piece i ∷ back) is)) faultless
 
--- From here to the text's end stand these pieces.
+-- From here to the text's end there are these pieces.
 record Spells (ps : List PlacedPiece) (h : Here) : Type 0 where
   end : Here
   last : end.rest ≡ []
@@ -75,7 +75,7 @@ AreFaultless ps = All (λ (p : PlacedPiece). IsFaultless p.piece) ps
 stands_skipped : (h : Here) → Stands Skipped h (after_run is_text h)
 stands_skipped h = stands_run is_text Skipped h (run_all is_text h.rest)
 
--- a piece where it stands
+-- a piece at its place
 stands_placed : (s : Spot) (t : List ℕ) (x : Piece × Here) (P : List ℕ → Type 0) → ((text : List ℕ) → P text → PieceOf x.0 text) → Stands (Own P) (item_here t) x.1 → Stands (PlacedOf (placed s x).0) (at s t) (placed s x).1
 stands_placed s t x P k y =
     let end : spot_from s x.1.spot ≡ spot_after y.text s = ap (spot_from s) y.spot ∙ same_spot _ _ _ _ (omega arith) (omega arith) in
@@ -89,7 +89,7 @@ follows : (t : List ℕ) (x : Piece × Here) → PieceStands t x → MayFollow x
 follows t (pieces.Comment, k) stands = stands.0
 follows t (pieces.Item i, k) stands = tt
 
--- what stands after a piece
+-- what follows a piece
 behind_text : (s : Spot) (t : List ℕ) (x : Piece × Here) (ps : List PlacedPiece) → PieceStands t x → IsFaultless x.0 → Spells ps (placed s x).1 → (h : Here) → Stands Skipped h (at s t) → Spells ((placed s x).0 ∷ ps) h
 behind_text s t x ps stands faultless rest h skipped =
     let p = placed s x in

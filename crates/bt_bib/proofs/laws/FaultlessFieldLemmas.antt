@@ -1,4 +1,4 @@
--- What is read without a fault is spelled by what stands there: parts, values and fields.
+-- What is read without a fault is spelled by the bytes it was read from: parts, values and fields.
 use Rattle.std.specs.Prelude.{◌==◌}
 use Rattle.std.specs.List.{list_all, take_while}
 use Rattle.std.proofs.Common.{◌≡◌, ℕ, zero, suc, ◌<◌, Bool, true, false, cond, List, [], ◌∷◌, ◌++◌, length, Some, None, Result, Ok, Err, refl, sym, ap, subst, ◌∙◌, append_assoc, arith}
@@ -165,7 +165,7 @@ read_value close h ps k is =
 
 -- Fields
 
--- `name =`, and what stands after it
+-- `name =`, and what follows it
 pub equals_stand : (n : List ℕ) (V : Spelling) (h a q k : Here) → Stands (NameOf n) h a → sign 61 ExpectedEquals (after_white a) ≡ Ok q → Stands V (after_white q) k → Stands (NameOf n ⋯ Sign 61 ⋯ V) h k
 equals_stand n V h a q k named is stands =
     stands_spaced (NameOf n) (Sign 61 ⋯ V) h a (after_white a) k named (stands_white a) (stands_spaced (Sign 61) V (after_white a) q (after_white q) k (read_sign 61 ExpectedEquals (after_white a) q is) (stands_white q) stands)

@@ -1,4 +1,4 @@
--- What is read without a fault is spelled by what stands there: the fields of entries, and items.
+-- What is read without a fault is spelled by the bytes it was read from: the fields of entries, and items.
 use Rattle.std.specs.Prelude.{◌==◌}
 use Rattle.std.specs.List.{list_all}
 use Rattle.std.proofs.Common.{◌≡◌, ℕ, zero, suc, ◌<◌, Bool, true, false, cond, List, [], ◌∷◌, ◌++◌, length, Option, Some, None, Result, Ok, Err, refl, sym, ap, subst, ◌∙◌, arith}
@@ -108,7 +108,7 @@ unfolding past_run
 run_stops test s [] = tt
 run_stops test s (b ∷ bs) = stops_by (test b) test s b bs refl (run_stops test (spot_after_byte b s) bs)
 
--- A run ends where the next byte is none of it.
+-- A run ends where the next byte isn't of its class.
 pub past_stops : (test : ℕ → Bool) (h : Here) → Stops test (after_run test h).rest
 past_stops test h = subst (λ (k : Here). Stops test k.rest) (sym (past_is_run test h.spot h.rest)) (run_stops test h.spot h.rest)
 
@@ -173,11 +173,11 @@ head_stands keyword n close A h e o k w opens a =
 
 -- Items
 
--- where an item stands, whose spelling counts from its own `@`
+-- the place of an item, whose spelling is relative to its own `@`
 abbrev pub Own : (List ℕ → Type 0) → Spelling
 Own P s text = P text
 
--- A faultless piece is spelled by the bytes of which it is read.
+-- A faultless piece is spelled by the bytes it was read from.
 abbrev pub PieceStands : List ℕ → Piece × Here → Type 0
 PieceStands t (pieces.Comment, k) = MayEndName type_signs k.rest × Stands (Own CommentWord) (item_here t) k
 PieceStands t (pieces.Item i, k) = i.fault ≡ None → Stands (Own (ItemOf i)) (item_here t) k

@@ -1,4 +1,5 @@
--- What is read without a fault is spelled by what stands there: runs of bytes, signs, names and enclosed texts.
+-- What is read without a fault is spelled by the bytes it was read from: runs of bytes, signs, names and enclosed
+-- texts.
 use Rattle.std.specs.Prelude.{◌==◌, ◌&&◌, ◌||◌, not}
 use Rattle.std.specs.List.{list_all, list_any, take_while}
 use Rattle.std.proofs.Common.{◌≡◌, ℕ, zero, suc, ◌+◌, ◌-◌, Bool, true, false, cond, List, [], ◌∷◌, ◌++◌, length, take, drop, Some, Result, Ok, Err, refl, sym, ap, subst, ◌∙◌, append_assoc, arith}
@@ -28,7 +29,7 @@ use Rattle.bt_bib.proofs.laws.FitNameLemmas.{and_first}
 use Rattle.bt_bib.proofs.laws.SpellingLemmas.{Stands, and_second, sign_passed}
 use Rattle.bt_bib.proofs.laws.SpelledTextLemmas.{and_none, not_none}
 
--- What an answer without a fault was made of
+-- The steps of a reading without a fault
 
 pub bind_ok : {A B : Type 0} (r : Result A Stop) (f : A → Result B Stop) (y : B) → (r >>= f) ≡ Ok y → (x : A) × (r ≡ Ok x) × (f x ≡ Ok y)
 bind_ok (Ok x) f y h = (x, refl, h)
@@ -41,7 +42,7 @@ if_ok false x y stop h = absurd (cc h)
 pub ok_same : {A : Type 0} (x y : A) → ◌≡◌ {A = Result A Stop} (Ok x) (Ok y) → x ≡ y
 ok_same x y h = cc
 
--- What stands one after the other
+-- Sequences
 
 pub stands_both : (A B : Spelling) (h m k : Here) → Stands A h m → Stands B m k → Stands (A ▸ B) h k
 stands_both A B h m k a b = record {
@@ -143,8 +144,8 @@ read_name what signs h n k is =
 
 -- Enclosed texts
 
--- What is left of a text between so many open braces and its end: what each of them encloses, with the brace that
--- closes it.
+-- The rest of a text inside some open braces: for each of them, the rest of what it encloses and the brace that closes
+-- it.
 abbrev Unwinds : ℕ → ℕ → List ℕ → Type 0
 Unwinds close zero text = IsEnclosed close text
 Unwinds close (suc depth) text = (inner : List ℕ) × (rest : List ℕ) × (text ≡ inner ++ right_brace ∷ rest) × IsEnclosed right_brace inner × Unwinds close depth rest
@@ -152,7 +153,7 @@ Unwinds close (suc depth) text = (inner : List ℕ) × (rest : List ℕ) × (tex
 goes_same : (a b : ℕ) → turns.Goes a ≡ turns.Goes b → a ≡ b
 goes_same a b h = cc
 
--- a byte where no brace is open, by what it is
+-- a byte while no brace is open, case by case
 flat_by : (close b n : ℕ) (text : List ℕ) (c l r : Bool) → (b == close) ≡ c → (b == left_brace) ≡ l → (b == right_brace) ≡ r → turns.Goes n ≡ cond (c && true) turns.Closes (cond l (turns.Goes 1) (cond r turns.Breaks (turns.Goes 0))) → Unwinds close n text → IsEnclosed close (b ∷ text)
 flat_by close b n text true l r ce le re is u = absurd (cc is)
 flat_by close b n text false true r ce le re is u =
@@ -174,7 +175,7 @@ deep_by close d b n text false false le re is u =
     let one : Unwinds close (suc d) text = subst (λ n. Unwinds close n text) (goes_same n (suc d) is) u in
     (b ∷ one.0, one.1, ap (λ t. b ∷ t) one.2, Byte (ap (λ v. v || (b == right_brace)) le ∙ re) re one.3, one.4)
 
--- what a byte does where a brace is open
+-- what a byte does while a brace is open
 deep_turn : (close d b : ℕ) → turn close (suc d) b ≡ cond (b == left_brace) (turns.Goes (suc (suc d))) (cond (b == right_brace) (turns.Goes d) (turns.Goes (suc d)))
 deep_turn close d b =
     let more : suc d + 1 ≡ suc (suc d) = omega arith in

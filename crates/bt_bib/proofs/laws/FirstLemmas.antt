@@ -41,7 +41,7 @@ use Rattle.bt_bib.proofs.laws.FitLemmas.{AreBytes, Is, Never, Fits}
 use Rattle.bt_bib.proofs.laws.FitNameLemmas.{Bare, EndsName, word_fits, ended_cut, ended_here, past_behind, past_one, past_none, and_first}
 use Rattle.bt_bib.proofs.laws.FitItemLemmas.{NotWhite, IsWhole, Mends, Mended, mended_as, mended_on, mended_past, typed_mended, entry_ends, unwhite}
 
--- a type that is longer than the words of the format
+-- a type that is longer than the format's keywords
 unlike : (kind expected : List ℕ) → length expected < length kind → is_same_folded kind expected ≡ false
 unlike kind expected lt = false_from_ne_true (is_same_folded kind expected) (λ is.
     let same : map to_ascii_lowercase kind ≡ map to_ascii_lowercase expected = (bytes_eq-Decides (folded kind) (folded expected)).0 is in
@@ -78,7 +78,7 @@ type_missing h =
       whole = subst (λ k. IsWhole (type_read (word EntryType k))) (sym (cut_here h h more (omega arith))) (subst (λ k. IsWhole (type_read (Ok (kind, k)))) (sym (past_one is_name_byte h.spot 97 empty_braces refl (record { byte = 123; rest = 125 ∷ []; is = refl; fits = refl }))) (type_closed kind (spot_after_byte 97 h.spot) refl));
     }
 
--- Nine letters more, and `{}`: so long a type is none of the words of the format, and `@comment` begins an entry too.
+-- Nine more letters, and `{}`: a type this long is no keyword of the format, so even `@comment` then begins an entry.
 abbrev letters : List ℕ
 letters = 97 ∷ 97 ∷ 97 ∷ 97 ∷ 97 ∷ 97 ∷ 97 ∷ 97 ∷ 97 ∷ empty_braces
 
@@ -103,7 +103,7 @@ type_longer u b bs is =
     let long : 9 ≤ length kind = omega (arith, ap (λ (e : Here). e.spot.place) end) in
     subst (λ r. IsWhole (type_read r)) (sym found) (type_closed kind (nine k.spot) (long_type kind long))
 
--- what a type that was read begins
+-- the piece that a type begins, once it was read
 fits_at : {A : Type 0} (S P : ℕ → Type 0) (h : Here) (x : Result (A × Here) Stop) (y : Here → List ℕ → Result (A × Here) Stop) (a : A) (k : Here) → x ≡ Ok (a, k) → Fits S P h x y → (e : Here) (more : List ℕ) → Reaches k e → Next P k e more → y e more ≡ Ok (a, cut k e more)
 fits_at S P h x y a k is f = (subst (λ x. Fits S P h x y) is f).by
 
@@ -155,7 +155,7 @@ piece_mended b bs =
     let way = type_read_reaches w (word EntryType w) (word_advances EntryType w) in
     mended_as Never NotWhite h g g (piece (b ∷ bs)) (λ e more. piece (cut h e more).rest) (λ e more. read (after_white (cut g e more))) (omega arith) (reaches_then g w (read w).1 (white_reaches g) way) (λ e more way. ap (λ k. read (after_white k)) (behind_cut item_start b bs e more (omega (arith, reaches_place g e way)))) (mended_past NotWhite is_white g (read w) read (λ b is. is) way (type_mended w.spot w.rest))
 
--- From a boundary on a faulty item is read; after a cut at its fault's place some bytes make it whole.
+-- If a faulty item is read from a boundary on, some bytes complete it after a cut at its fault's place.
 record Mending (g : Here) (i : PlacedItem) : Type 0 where
   end : Here
   way : Reaches g end

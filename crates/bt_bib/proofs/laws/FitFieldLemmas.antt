@@ -105,7 +105,7 @@ step_if : (close : Closing) (h : Here) (v : Bool) (x y : Result (Option Field ×
 step_if close h true x y a b = a refl
 step_if close h false x y a b = b refl
 
--- the first byte at a place, of a text that is cut there or later
+-- the first byte at a place in a text that is cut there or later
 first_by : (w e : Here) (more : List ℕ) (test : ℕ → Bool) (c : ℕ) → first w.rest ≡ Some c → test c ≡ false → Reaches w e → (e.spot.place ≤ w.spot.place → Begins (Fails test) more) → (b : ℕ) × (first (cut w e more).rest ≡ Some b) × (test b ≡ false)
 first_by w e more test c is fails way next = elim (cases_lt w.spot.place e.spot.place) [
   | inl lt ↦ (c, first_cut w e more lt way ∙ is, fails)

@@ -1,4 +1,4 @@
--- Items on a text that is cut: one that is faulty is whole once some bytes complete it.
+-- Items on a text that is cut: some bytes complete a faulty one.
 use Rattle.std.specs.Prelude.{◌==◌}
 use Rattle.std.proofs.Common.{◌≡◌, ℕ, ◌<◌, ◌≤◌, Bool, true, false, cond, List, [], ◌∷◌, ◌++◌, Option, Some, None, Result, Ok, Err, refl, sym, ap, subst, ◌∙◌, arith}
 use Rattle.bt_text.specs.ByteTests.{is_white, left_brace}
@@ -41,7 +41,7 @@ abbrev pub IsWhole : Piece × Here → Type 0
 IsWhole (pieces.Comment, e) = ⊥
 IsWhole (pieces.Item i, e) = (i.fault ≡ None) × (e.rest ≡ [])
 
--- After a cut at e some bytes complete an item that is read from h on; where nothing was read of it they begin with S.
+-- After a cut at e some bytes complete an item that is read from h on. If nothing of it was read, they begin with S.
 pub record Mends (S : ℕ → Type 0) (h e : Here) (y : List ℕ → Piece × Here) : Type 0 where
   pub more : List ℕ
   pub bytes : AreBytes more
@@ -52,7 +52,7 @@ abbrev pub MendsBy : (ℕ → Type 0) → Here → Piece × Here → (Here → L
 MendsBy S h (pieces.Comment, e) y = Unit {0}
 MendsBy S h (pieces.Item i, e) y = (f : ItemFault) → i.fault ≡ Some f → Mends S h e (y e)
 
--- a piece that is read from h on, and y where the text is cut
+-- a piece that is read from h on, and y if the text is cut
 pub record Mended (S : ℕ → Type 0) (h : Here) (x : Piece × Here) (y : Here → List ℕ → Piece × Here) : Type 0 where
   pub by : MendsBy S h x y
 
@@ -64,7 +64,7 @@ mended_as S T h g k (pieces.Item i, e) y z lt way same m = record {
       record { more = c.more; bytes = c.bytes; begins = λ le. absurd (omega (arith, reaches_place g e way)); whole = subst IsWhole (sym (same e c.more way)) c.whole };
 }
 
--- the same where the text may be cut at k
+-- the same if the text may be cut at k
 pub mended_on : (S T : ℕ → Type 0) (h k : Here) (x : Piece × Here) (y z : Here → List ℕ → Piece × Here) → h.spot.place < k.spot.place → Reaches k x.1 → ((e : Here) (more : List ℕ) → Reaches k e → Next T k e more → y e more ≡ z e more) → Mended T k x z → Mended S h x y
 mended_on S T h k (pieces.Comment, e) y z lt way same m = record { by = tt }
 mended_on S T h k (pieces.Item i, e) y z lt way same m = record {
@@ -251,7 +251,7 @@ unfolding opening
 opened_mended unread read s [] ahead m rest = record { by = λ f is. unopened_mends unread read (at s []) rest }
 opened_mended unread read s (b ∷ bs) ahead m rest = opening_by unread read s b bs (b == left_brace) (b == 40) refl refl ahead m rest
 
--- what a type begins
+-- the piece that a type begins
 opened_reach : (unread : Content) (read : Closing → Here → Piece × Here) (w : Here) → ((close : Closing) (e : Here) → Reaches e (read close e).1) → Reaches w (item_opened unread read (opening w)).1
 opened_reach unread read w ahead = opened_reaches w unread read (opening w) (opening_advances w) ahead
 

@@ -1,5 +1,5 @@
--- Readers on a text that is cut: where they end before the cut they read what they did, and where they stop at a fault
--- there, some bytes complete what they read.
+-- Readers on a text that is cut: if they end before the cut, they read the same as without it, and if they stop at a
+-- fault there, some bytes complete what they read.
 use Rattle.std.specs.Prelude.{◌&&◌}
 use Rattle.std.specs.List.{list_all}
 use Rattle.std.proofs.Common.{◌≡◌, ℕ, ◌<◌, ◌≤◌, Bool, true, false, cond, List, [], ◌∷◌, ◌++◌, Result, Ok, Err, refl, sym, ap, subst, ◌∙◌, append_assoc, arith}
@@ -39,8 +39,8 @@ pub record Reads {A : Type 0} (tail : List ℕ) (r : Result (A × Here) Stop) : 
   pub spot : Spot
   pub is : r ≡ Ok (value, at spot tail)
 
--- After a cut at e some bytes complete what is read from h on, where others follow that begin with P; where nothing was
--- read of it they begin with S.
+-- After a cut at e some bytes complete what is read from h on, if bytes that begin with P follow them. If nothing of it
+-- was read, they begin with S.
 pub record Completes {A : Type 0} (S P : ℕ → Type 0) (h e : Here) (y : List ℕ → Result (A × Here) Stop) : Type 0 where
   pub more : List ℕ
   pub bytes : AreBytes more
@@ -51,7 +51,7 @@ abbrev pub FitsBy : {A : Type 0} → (ℕ → Type 0) → (ℕ → Type 0) → H
 FitsBy S P h (Ok x) y = (e : Here) (more : List ℕ) → Reaches x.1 e → Next P x.1 e more → y e more ≡ Ok (x.0, cut x.1 e more)
 FitsBy S P h (Err x) y = Completes S P h x.1 (y x.1)
 
--- x is read from h on, and y where the text is cut
+-- x is read from h on, and y if the text is cut
 pub record Fits {A : Type 0} (S P : ℕ → Type 0) (h : Here) (x : Result (A × Here) Stop) (y : Here → List ℕ → Result (A × Here) Stop) : Type 0 where
   pub by : FitsBy S P h x y
 
@@ -62,7 +62,7 @@ pub fits_if : {A : Type 0} (S P : ℕ → Type 0) (h : Here) (v : Bool) (x z : R
 fits_if S P h true x z y a b = a refl
 fits_if S P h false x z y a b = b refl
 
--- what ends after g, and is read on from a place that the cut leaves
+-- what ends after g and is continued from a place before the cut
 pub fits_as : {A : Type 0} (S T P : ℕ → Type 0) (h g k : Here) (x : Result (A × Here) Stop) (y z : Here → List ℕ → Result (A × Here) Stop) → h.spot.place < g.spot.place → Advances g x → ((e : Here) (more : List ℕ) → Reaches g e → y e more ≡ z e more) → Fits T P k x z → Fits S P h x y
 fits_as S T P h g k (Ok x) y z lt a same f = record { by = λ e more way next. same e more (reaches_then g x.1 e a.ahead way) ∙ f.by e more way next }
 fits_as S T P h g k (Err x) y z lt a same f =
@@ -97,7 +97,7 @@ fits_past S P test h (Err x) f s p a fits =
       };
     }
 
--- what is read on from k, where the first reading went on there
+-- what is read from k on, if the first reading continued there
 pub fits_step : {A : Type 0} (P : ℕ → Type 0) (h k : Here) (x : Result (A × Here) Stop) (y z : Here → List ℕ → Result (A × Here) Stop) → Reaches h k → Advances k x → ((e : Here) (more : List ℕ) → Reaches k e → Next P k e more → y e more ≡ z e more) → Fits Never P k x z → Fits Never P h x y
 fits_step P h k (Ok x) y z way a same f = record { by = λ e more go next. same e more (reaches_then k x.1 e a.ahead go) (λ le. next (omega (arith, reaches_place k x.1 a.ahead))) ∙ f.by e more go next }
 fits_step P h k (Err x) y z way a same f =
@@ -113,7 +113,7 @@ fits_step P h k (Err x) y z way a same f =
       };
     }
 
--- some bytes that are read from any place on, where others follow that begin with Q
+-- some bytes that can be read from any place on, if bytes that begin with Q follow them
 pub record Starts {A B : Type 0} (P Q : ℕ → Type 0) (f : A × Here → Result (B × Here) Stop) : Type 0 where
   pub word : List ℕ
   pub bytes : AreBytes word

@@ -73,7 +73,7 @@ word_fits_run what s (b ∷ bs) =
 pub word_fits : (what : NameRole) (h : Here) → Fits (Is 97) Bare h (word what h) (λ e more. word what (cut h e more))
 word_fits what h = word_fits_run what h.spot h.rest
 
--- what was read takes a byte
+-- what was read has at least one byte
 abbrev pub Later : {A : Type 0} → Here → Result (A × Here) Stop → Type 0
 Later h (Ok x) = h.spot.place < x.1.spot.place
 Later h (Err x) = Unit {0}
@@ -94,7 +94,7 @@ unfolding word
 word_later what s [] = tt
 word_later what s (b ∷ bs) = word_later_by what s b bs (is_name_byte b && not (is_digit b)) refl
 
--- a byte that may stand after a name
+-- a byte that may follow a name
 pub record EndsName (signs : List ℕ) (b : ℕ) : Type 0 where
   pub bare : is_name_byte b ≡ false
   pub ends : (is_white b || list_any (λ sign. sign == b) signs) ≡ true

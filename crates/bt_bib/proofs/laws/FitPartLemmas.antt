@@ -1,4 +1,4 @@
--- What braces and quotes enclose, parts and values on a text that is cut.
+-- Enclosed text, parts and values on a text that is cut.
 use Rattle.std.specs.Prelude.{◌==◌}
 use Rattle.std.proofs.Common.{◌≡◌, ℕ, zero, suc, ◌+◌, ◌-◌, ◌<◌, false, cond, List, [], ◌∷◌, ◌++◌, Some, Result, Ok, Err, refl, sym, ap, subst, ◌∙◌, append_assoc, arith}
 use Rattle.bt_text.specs.ByteTests.{is_white, is_digit, left_brace}
@@ -42,7 +42,7 @@ braces_shut = record { byte = refl; shuts = refl; rises = λ d. ap (λ v. cond v
 pub quotes_shut : IsShut 34
 quotes_shut = record { byte = refl; shuts = refl; rises = λ d. ap (λ v. cond v turns.Breaks (turns.Goes (suc d - 1))) (not_none d) ∙ one_up d }
 
--- so many right braces
+-- this many right braces
 rights : ℕ → List ℕ
 rights zero = []
 rights (suc d) = 125 ∷ rights d
@@ -63,7 +63,7 @@ abbrev EnclosesBy : ℕ → Result Here Stop → (Here → List ℕ → Result H
 EnclosesBy c (Ok k) y = (e : Here) (more : List ℕ) → Reaches (after_byte k) e → (y e more ≡ Ok (cut k e more)) × (after_byte (cut k e more) ≡ cut (after_byte k) e more)
 EnclosesBy c (Err x) y = (more : List ℕ) × AreBytes (more ++ c ∷ []) × ((tail : List ℕ) → (t : Spot) × (y x.1 (more ++ c ∷ tail) ≡ Ok (at t (c ∷ tail))))
 
--- The closing sign is found where it was, or some bytes before it complete what is enclosed.
+-- The closing sign is found where it was, or some bytes before it complete the enclosed text.
 pub record Encloses (c : ℕ) (x : Result Here Stop) (y : Here → List ℕ → Result Here Stop) : Type 0 where
   pub by : EnclosesBy c x y
 

@@ -1,4 +1,4 @@
--- Values, and what has one after its name, on a text that is cut.
+-- Values, and names with a value after them, on a text that is cut.
 use Rattle.std.specs.Prelude.{◌==◌}
 use Rattle.std.proofs.Common.{◌≡◌, ℕ, zero, suc, ◌<◌, ◌≤◌, Bool, true, false, cond, List, [], ◌∷◌, ◌++◌, length, Option, Some, None, Result, Ok, Err, refl, sym, ap, subst, ◌∙◌, arith, inl, inr}
 use Rattle.std.proofs.lemmas.Bool.{cases_lt}
@@ -69,7 +69,7 @@ joined_fits_run close s (b ∷ bs) =
       | inr le ↦ joined_here close h e more le (next le)
     ]))
 
--- some parts, and those that are joined to them
+-- some parts, and the parts joined to them
 abbrev parts : Closing → List Part → Here → Result (List Part × Here) Stop
 parts close front h = collected front (all (next_part close) h)
 
@@ -149,7 +149,7 @@ white_one close s tail b =
     let r = value_one close s tail b in
     record { value = r.value; spot = r.spot; is = ap (value close) (past_none is_white s (49 ∷ tail) (record { byte = 49; rest = tail; is = refl; fits = refl })) ∙ r.is }
 
--- What stands after a `=`: it goes forward, reads a `1`, and fits.
+-- What follows a `=`: it goes forward, reads a `1`, and fits.
 pub record IsRight {A : Type 0} (close : Closing) (f : Here → Result (A × Here) Stop) : Type 0 where
   pub ahead : (q : Here) → Advances q (f q)
   pub one : (s : Spot) (tail : List ℕ) → Begins (Quiet close) tail → Reads tail (f (at s (49 ∷ tail)))

@@ -74,7 +74,7 @@ boundary_stays old new begin end inserted place is lt h =
     let new_ends : map end_place (pieces_of new) ≡ map end_place kept ++ map end_place rest = ap (map end_place) (kept_pieces old new begin end inserted is) ∙ map-append end_place kept rest in
     or_first (0 == place) (one_of place (map end_place ps)) (one_of place (map end_place (pieces_of new))) h (λ there. ap (one_of place) new_ends ∙ any_append place (map end_place kept) (map end_place rest) (stays_below place begin (length old) 0 ps lt (spans_rise old) there))
 
--- the pieces up to one are below the place after its end
+-- the pieces up to and including one end below the place after its end
 front_rises : (limit place : ℕ) (front : List PlacedPiece) (p : PlacedPiece) (back : List PlacedPiece) → Rises limit place (front ++ p ∷ back) → place < end_place p
 front_rises limit place [] p back r = omega (arith, r.0, r.1)
 front_rises limit place (q ∷ front) p back r = omega (arith, r.0, r.1, front_rises limit (end_place q) front p back r.2)

@@ -1,4 +1,4 @@
--- The laws of the crate, which no code needs. `specs/laws` has what they say.
+-- The crate's laws. No code needs them; `specs/laws` states them.
 use Rattle.bt_bib.specs.laws.Laws.{RestIsMoved, BoundaryStays, FaultIsFinal, FaultIsFirst, SpansRise, LinesLieInside, AnyBoundServes}
 use Rattle.bt_bib.proofs.laws.LawLemmas
 use Rattle.bt_bib.proofs.laws.FirstLemmas
@@ -24,7 +24,7 @@ boundary_stays = LawLemmas.boundary_stays
 pub fault_is_final : FaultIsFinal
 fault_is_final = LawLemmas.fault_is_final
 
--- The bytes of a faulty item up to its fault's place begin an item without a fault: no byte before that place is
+-- The bytes of a faulty item before its fault's place begin an item without a fault: no byte before that place is
 -- wrong.
 pub fault_is_first : FaultIsFirst
 fault_is_first = FirstLemmas.fault_is_first
@@ -32,7 +32,7 @@ fault_is_first = FirstLemmas.fault_is_first
 pub spans_rise : SpansRise
 spans_rise = RiseLemmas.spans_rise
 
--- The lines of an item's key or name, fields and macros lie from that of its beginning to that of its end.
+-- The lines of an item's key or name, fields and macros lie between its first line and its last.
 pub lines_lie_inside : LinesLieInside
 lines_lie_inside = LineLemmas.lines_lie_inside
 
@@ -60,7 +60,7 @@ spelled_databases_are_read = SpelledDatabaseLemmas.spelled_databases_are_read
 pub faultless_items_are_spelled : FaultlessItemsAreSpelled
 faultless_items_are_spelled = FaultlessDatabaseLemmas.faultless_items_are_spelled
 
--- A text in which no fault is found spells the items and comments that are read of it.
+-- A text that is read without a fault spells the items and comments that are read.
 pub faultless_databases_are_spelled : FaultlessDatabasesAreSpelled
 faultless_databases_are_spelled = FaultlessDatabaseLemmas.faultless_databases_are_spelled
 

@@ -1,4 +1,4 @@
--- The lines in what was read lie between that of its beginning and that of its end.
+-- All lines in what was read lie between its first line and its last.
 use Rattle.std.specs.Prelude.{◌==◌, codes, All}
 use Rattle.std.specs.List.{AllByRecursion}
 use Rattle.std.proofs.Common.{◌≡◌, ℕ, zero, suc, ◌+◌, ◌-◌, ◌≤◌, Bool, true, false, cond, List, [], ◌∷◌, length, Option, Some, None, Result, Ok, Err, refl, sym, ap, subst, arith}
@@ -56,7 +56,7 @@ FieldIn low high f = (low ≤ f.line) × (f.line ≤ high) × AllByRecursion (Pa
 wider_field : (a b c d : ℕ) → a ≤ b → c ≤ d → (f : Field) → FieldIn b c f → FieldIn a d f
 wider_field a b c d p q f h = (omega (arith, h.0), omega (arith, h.1), all_weaker (PartLiesIn f.line c) (PartLiesIn f.line d) (wider_part f.line f.line c d (omega arith) q) f.value h.2)
 
--- what was read from h on lies between its line and that of its end
+-- what was read from h on lies between the line of h and that of its end
 abbrev Lies : {A : Type 0} → (ℕ → ℕ → A → Type 0) → Here → Result (A × Here) Stop → Type 0
 Lies P h (Ok x) = P h.spot.line x.1.spot.line x.0
 Lies P h (Err stop) = Unit {0}
@@ -288,7 +288,7 @@ piece_lies : (text : List ℕ) → ReadLies (piece text)
 unfolding piece
 piece_lies text = type_read_lies (word EntryType (after_white (after_byte (item_here text))))
 
--- pieces where they stand
+-- pieces at their places
 abbrev LiesAt : Spot → Spot → Piece → Type 0
 LiesAt from end pieces.Comment = Unit {0}
 LiesAt from end (pieces.Item i) = LinesLieIn (record { start = from; end = end; item = i })

@@ -90,7 +90,7 @@ pub same_from : (h k : Here) → after_run is_text h ≡ after_run is_text k →
 unfolding next_piece
 same_from h k is = pieces_step h ∙ ap (λ (q : Here). pieces_by (next_piece_from q (first q.rest))) is ∙ sym (pieces_step k)
 
--- what is read of a text that is cut after n bytes
+-- what is read from a text that is cut after n bytes
 abbrev IsParted : ℕ → Here → Type 0
 IsParted n h = pieces_from h ≡ pieces_from (front_of n h.spot h.rest) ++ pieces_from (rest_of n h.spot h.rest)
 
@@ -165,7 +165,7 @@ run_front_by true n s b bs is up step le =
 past_up : (s : Spot) (r : List ℕ) → s.place ≤ (past_run is_text s r).spot.place
 past_up s r = subst (λ (k : Here). s.place ≤ k.spot.place) (past_is_run is_text s r) (reaches_place (at s r) (after_run is_text (at s r)) (past_reaches is_text (at s r)))
 
--- the run of text in a front that goes as far at least
+-- the run of text in a front, if it extends at least as far
 run_front : (n : ℕ) (s : Spot) (r : List ℕ) → (let a = past_run is_text s r in a.spot.place - s.place ≤ n → past_run is_text s (take n r) ≡ at a.spot (take (n - (a.spot.place - s.place)) a.rest))
 unfolding past_run
 run_front n s [] le = ap (λ (x : List ℕ). past_run is_text s x) (take-nil n) ∙ run_nil s ∙ ap (at s) (sym (take-nil (n - (s.place - s.place))))
@@ -187,7 +187,7 @@ pub step_from : (h a : Here) (b : ℕ) (bs : List ℕ) → after_run is_text h �
 unfolding next_piece
 step_from h a b bs is starts = ap (λ (q : Here). next_piece_from q (first q.rest)) is ∙ ap (λ (r : List ℕ). next_piece_from a (first r)) starts
 
--- a faultless item is read of its own bytes
+-- a faultless item is read from its own bytes alone
 alone : (i : Item) (t : List ℕ) → ItemOf i t → piece t ≡ (pieces.Item i, at (spot_after t item_start) [])
 alone i t spelled = ap piece (sym (append-nil t)) ∙ spelled_items_are_read i t [] spelled
 
@@ -276,7 +276,7 @@ parted_below_fuel (suc fuel) n h lt within cut =
       | inr le ↦ parted_in_text n h le
     ]
 
--- what is read of a text that is cut is what is read of the front, then of the rest
+-- reading a cut text is reading its front, and then the rest
 pub parted : (n : ℕ) (h : Here) → n ≤ length h.rest → is_cut (pieces_from h) (h.spot.place + n) ≡ true → IsParted n h
 parted n h within cut = parted_below_fuel (suc (length h.rest)) n h (omega arith) within cut
 

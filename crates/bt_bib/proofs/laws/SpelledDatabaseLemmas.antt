@@ -67,7 +67,7 @@ piece_to : (p : Piece) (text rest : List ℕ) → PieceOf p text → MayFollow p
 piece_to pieces.Comment text rest x ends = comment_to text rest x ends
 piece_to (pieces.Item i) text rest x ends = spelled_items_are_read i text rest x
 
--- a piece where it stands
+-- a piece at its place
 placed_to : (p : PlacedPiece) (h k : Here) (x : Stands (PlacedOf p) h k) → MayFollow p.piece k.rest → next_at h.spot (piece h.rest) ≡ (Some p, k)
 placed_to p h k x follows =
     let s = h.spot in

@@ -31,7 +31,7 @@ use Rattle.bt_bib.proofs.laws.CutLemmas.{Begins, begins_as, Fails}
 use Rattle.bt_bib.proofs.laws.SpellingLemmas.{Stands, stands_at, split, either, on_line, sign_stands, sign_to, white_to, white_front, ends_from, one_begins, Starts, starts_both, starts_or, starts_bytes, begins_here, IsOne, MayEnd, may_white, may_one, FailsAll, one_fails, other, name_to}
 use Rattle.bt_bib.proofs.laws.SpelledValueLemmas.{name_unwhite, name_starts, value_starts, value_to}
 
--- `name =`, and what stands after it
+-- `name =`, and what follows it
 pub record Equated (what : NameRole) (n : List ℕ) (V : Spelling) (h k : Here) : Type 0 where
   pub end : Here
   pub equals : Here

@@ -48,14 +48,14 @@ ends_key : (close : Closing) (text : List ℕ) → EndsKey close text → Begins
 ends_key close [] h = absurd h
 ends_key close (b ∷ rest) h = record { byte = b; rest = rest; is = refl; fits = h }
 
--- what is provided of a text that stands here
+-- a condition on the text that is here
 provided : (IsRight : List ℕ → Type 0) (A : Spelling) (h k : Here) → Stands (Provided IsRight A) h k → Stands A h k
 provided IsRight A h k x = record { text = x.text; spelled = x.spelled.1; rest = x.rest; spot = x.spot }
 
 key_ends : (close : Closing) (A : Spelling) (h k : Here) → Stands (Provided (EndsKey close) A) h k → Begins (Fails (is_key_byte close)) h.rest
 key_ends close A h k x = subst (Begins (Fails (is_key_byte close))) (sym x.rest) (begins_on x.text k.rest (ends_key close x.text x.spelled.0))
 
--- a key, and after it and the white space what follows
+-- a key, and what follows it and the white space
 record KeyRead (close : Closing) (key : List ℕ) (A : Spelling) (h k : Here) : Type 0 where
   inside : Here
   run : run (is_key_byte close) h ≡ key
@@ -125,14 +125,14 @@ right_at text IsRight s t (Written is) = is
 is_word : (keyword : Keyword) (text : List ℕ) (h k : Here) → Stands (Bytes text (IsWord keyword text)) h k → IsWord keyword text
 is_word keyword text h k x = right_at text (IsWord keyword text) h.spot x.text x.spelled
 
--- from `@` on, by what stands after its word
+-- from `@` on, given what follows its word
 pub typed_by : (keyword : Keyword) (text : List ℕ) (b k : Here) → Stands (Bytes text (IsWord keyword text)) b k → MayEndName type_signs k.rest → type_read (word EntryType b) ≡ item_of_type keyword text k
 typed_by keyword text b k x ends =
     ap type_read (standing (Bytes text (IsWord keyword text)) (λ h k. MayEndName type_signs k.rest → word EntryType h ≡ Ok (text, k)) (word_at keyword text) b k x ends)
     ∙ ap (type_ended text) (ended_to EntryType type_signs k.spot k.rest ends)
     ∙ ap (λ w. item_of_type w text k) (is_word keyword text b k x).1
 
--- `@`, and after white space what stands there
+-- `@`, and what follows the white space after it
 pub at_sign_to : (A : Spelling) (h k : Here) → Starts (Fails is_white) A → Stands (Sign 64 ⋯ A) h k → (mid : Here) × (after_white (after_byte h) ≡ mid) × Stands A mid k
 at_sign_to A h k starts x =
     let one = split (Sign 64) (White ▸ A) h k x in
@@ -144,7 +144,7 @@ pub word_starts : (keyword : Keyword) (text : List ℕ) → Starts (Fails is_whi
 word_starts keyword [] s t (Written is) = absurd (false≢true is.0)
 word_starts keyword (b ∷ bs) s t x = starts_bytes (Fails is_white) b bs (IsWord keyword (b ∷ bs)) (λ is. name_unwhite b (starts_name b bs is.0).1) s t x
 
--- an item up to what stands after its opening sign
+-- an item, given what follows its opening sign
 record Headed (keyword : Keyword) (text : List ℕ) (close : Closing) (A : Spelling) (r : List ℕ) (k : Here) : Type 0 where
   end : Here
   open_end : Here
@@ -221,7 +221,7 @@ closed_value close ps h k x =
 closed_starts : (close : Closing) (ps : List Part) → Starts (Fails is_white) (ValueOf ps ⋯ Sign (closing_sign close))
 closed_starts close ps = starts_both (Fails is_white) (ValueOf ps) (White ▸ Sign (closing_sign close)) (value_starts ps)
 
--- what is read of a string, by its name and its value
+-- what is read of a string, given its name and its value
 abbrev string_by : Closing → Result (List ℕ × Here) Stop → Result (List Part × Here) Stop → Definition × Result Here Stop
 string_by close named valued = (record { name = value_read named; value = value_read valued }, valued >>= λ v. after_closing close v.1)
 

@@ -1,4 +1,4 @@
--- What stands between braces or quotes is read as it is.
+-- The text between braces or quotes is read as it is spelled.
 use Rattle.std.specs.Prelude.{◌==◌, ◌&&◌}
 use Rattle.std.proofs.Common.{◌≡◌, ℕ, suc, ◌+◌, ◌-◌, Bool, true, false, cond, List, ◌∷◌, ◌++◌, length, take, Ok, refl, sym, ap, ◌∙◌, append_assoc, arith}
 use Rattle.std.proofs.lemmas.List.{take_at}
@@ -21,7 +21,7 @@ and_none false = refl
 pub not_none : (d : ℕ) → (suc d == 0) ≡ false
 not_none d = ne_eqb (suc d) 0 (λ e. omega arith)
 
--- what a byte that is no brace does, and what braces do, between braces and at the top
+-- what a byte other than a brace does, and what braces do, inside braces and outside
 same_deep : (close d b : ℕ) → is_brace b ≡ false → turn close (suc d) b ≡ turns.Goes (suc d)
 same_deep close d b bare = (let n = or_parts (b == left_brace) (b == right_brace) bare in rw (not_none d, n.0, n.1) (ap (λ v. cond v turns.Closes (turns.Goes (suc d))) (and_none (b == close))))
 
@@ -50,7 +50,7 @@ behind_group : (inner rest : List ℕ) (s : Spot) → spot_after rest (spot_afte
 behind_group inner rest s =
     sym (passed-cons left_brace (inner ++ right_brace ∷ rest) s ∙ passed-append inner (right_brace ∷ rest) (spot_after_byte left_brace s) ∙ passed-cons right_brace rest (spot_after inner (spot_after_byte left_brace s)))
 
--- Between braces each text is passed that braces may enclose.
+-- Inside braces, the reader passes each text that braces may enclose.
 deep : (close d c : ℕ) (s : Spot) (text rest : List ℕ) → IsEnclosed c text → enclosed_run close (suc d) s (text ++ rest) ≡ enclosed_run close (suc d) (spot_after text s) rest
 deep close d c s text rest Nothing = ap (λ s. enclosed_run close (suc d) s rest) (sym (passed-nil s))
 deep close d c s text rest (Byte {b = b} {rest = bs} bare apart more) =

@@ -30,7 +30,7 @@ use Rattle.bt_bib.proofs.laws.FitNameLemmas.{and_first}
 use Rattle.bt_bib.proofs.laws.SpellingLemmas.{Stands, stands_at, standing, split, either, on_line, sign_stands, white_to, white_front, ends_from, one_begins, and_second, Starts, starts_both, starts_or, starts_bytes, begins_here, IsOne, MayEnd, may_white, may_one, FailsAll, one_fails, white_fails, passes_one, other, or_cases, Stops, past_to, run_is, name_at}
 use Rattle.bt_bib.proofs.laws.SpelledTextLemmas.{enclosed_texts_are_read}
 
--- What may stand after a part is no byte of white space, of a name or of a number.
+-- What may follow a part isn't white space, a byte of a name or a digit.
 ends_unwhite : (close : Closing) → FailsAll is_white (part_ends close)
 ends_unwhite Brace = refl
 ends_unwhite Parenthesis = refl

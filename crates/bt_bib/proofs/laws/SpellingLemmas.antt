@@ -1,4 +1,4 @@
--- What stands where a text is spelled, and how runs of bytes, signs and names are read there.
+-- Spelled texts at their places, and how runs of bytes, signs and names are read there.
 use Rattle.std.specs.Prelude.{◌==◌, ◌&&◌, ◌||◌, not}
 use Rattle.std.specs.List.{list_all, list_any, take_while}
 use Rattle.std.proofs.Common.{◌≡◌, ℕ, Bool, true, false, cond, List, [], ◌∷◌, ◌++◌, Some, Result, Ok, Err, refl, sym, ap, subst, ◌∙◌, append_assoc}
@@ -20,7 +20,7 @@ use Rattle.bt_bib.proofs.ReachLemmas.{passed-append}
 use Rattle.bt_bib.proofs.laws.CutLemmas.{Begins, Fails}
 use Rattle.bt_bib.proofs.laws.FitNameLemmas.{and_first}
 
--- From h up to k stands a text that is spelled so.
+-- The text from h up to k is spelled this way.
 pub record Stands (A : Spelling) (h k : Here) : Type 0 where
   pub text : List ℕ
   pub spelled : A h.spot text
@@ -30,14 +30,14 @@ pub record Stands (A : Spelling) (h k : Here) : Type 0 where
 pub stands_at : (A : Spelling) (s : Spot) (text rest : List ℕ) → A s text → Stands A (at s (text ++ rest)) (at (spot_after text s) rest)
 stands_at A s text rest a = record { text = text; spelled = a; rest = refl; spot = refl }
 
--- what holds of each such text before any others
+-- what holds of each such text, whatever follows it
 pub standing : (A : Spelling) (P : Here → Here → Type 0) → ((s : Spot) (text rest : List ℕ) → A s text → P (at s (text ++ rest)) (at (spot_after text s) rest)) → (h k : Here) → Stands A h k → P h k
 standing A P f h k x =
     let on_text : List ℕ → Type 0 = λ r. P (at h.spot r) k in
     let on_spot : Spot → Type 0 = λ s. P (at h.spot (x.text ++ k.rest)) (at s k.rest) in
     subst on_text (sym x.rest) (subst on_spot (sym x.spot) (f h.spot x.text k.rest x.spelled))
 
--- the place between two that stand one after the other
+-- the place between two that follow one another
 pub record Split (A B : Spelling) (h k : Here) : Type 0 where
   pub mid : Here
   pub front : Stands A h mid
@@ -59,7 +59,7 @@ pub and_second : (a b : Bool) → (a && b) ≡ true → b ≡ true
 and_second true b h = h
 and_second false b h = absurd (false≢true h)
 
--- Each such text begins with such a byte.
+-- Each text that is spelled this way begins with a byte that satisfies the condition.
 abbrev pub Starts : (ℕ → Type 0) → Spelling → Type 0
 Starts P A = (s : Spot) (text : List ℕ) → A s text → Begins P text
 
@@ -90,11 +90,11 @@ front_by : (P : ℕ → Type 0) → ((b : ℕ) → is_white b ≡ true → P b) 
 front_by P of_white s [] rest w b = b
 front_by P of_white s (c ∷ cs) rest w b = record { byte = c; rest = cs ++ rest; is = refl; fits = of_white c (and_first (is_white c) (list_all is_white cs) w) }
 
--- before white space, by what stands after it
+-- before white space, given what follows it
 pub white_front : (P : ℕ → Type 0) → ((b : ℕ) → is_white b ≡ true → P b) → (h k : Here) → Stands White h k → Begins P k.rest → Begins P h.rest
 white_front P of_white h k x b = standing White (λ h k. Begins P k.rest → Begins P h.rest) (front_by P of_white) h k x b
 
--- what stands on a line, without it
+-- a spelling on a line: the line, and the spelling alone
 pub on_line : (line : ℕ) (A : Spelling) (h k : Here) → Stands (OnLine line A) h k → (line ≡ h.spot.line) × Stands A h k
 on_line line A h k x = (x.spelled.0, record { text = x.text; spelled = x.spelled.1; rest = x.rest; spot = x.spot })
 
@@ -102,11 +102,11 @@ either_at : {X : Type 0} (A B : Spelling) (s : Spot) (rest : List ℕ) (k : Here
 either_at A B s rest k text (This a) r e f g = f (record { text = text; spelled = a; rest = r; spot = e })
 either_at A B s rest k text (That b) r e f g = g (record { text = text; spelled = b; rest = r; spot = e })
 
--- one or the other stands here
+-- one or the other is here
 pub either : {X : Type 0} (A B : Spelling) (h k : Here) → Stands (A or B) h k → (Stands A h k → X) → (Stands B h k → X) → X
 either A B h k x f g = either_at A B h.spot h.rest k x.text x.spelled x.rest x.spot f g
 
--- a byte of some signs, and one that may stand after a name
+-- a byte of some signs, and one that may follow a name
 abbrev pub IsOne : List ℕ → ℕ → Type 0
 IsOne signs b = list_any (λ sign. sign == b) signs ≡ true
 
@@ -195,7 +195,7 @@ white_to h k x stop = standing White (λ h k. Begins (Fails is_white) k.rest →
 pub sign_passed : (b : ℕ) (s : Spot) → spot_after_byte b s ≡ spot_after (b ∷ []) s
 sign_passed b s = sym (passed-cons b [] s ∙ passed-nil (spot_after_byte b s))
 
--- the sign stands here, and after it what follows
+-- the sign is here, and something follows it
 pub record OneStands (b : ℕ) (h k : Here) : Type 0 where
   pub is : h.rest ≡ b ∷ k.rest
   pub first : first h.rest ≡ Some b
@@ -237,7 +237,7 @@ unfolding name_ended
 ended_to what signs s [] h = refl
 ended_to what signs s (b ∷ rest) h = ap (λ v. cond v (Ok (at s (b ∷ rest))) (Err (BadNameEnd what b, at s (b ∷ rest)))) h
 
--- No sign that may stand after a name is a byte of it.
+-- No sign that may follow a name is a byte of a name.
 abbrev pub AreBare : List ℕ → Type 0
 AreBare signs = FailsAll is_name_byte signs
 

@@ -23,7 +23,8 @@ faulty_white : read (aux_lines (codes "\\citation{a b}")) ≡ ([], Some WhiteSpa
 unfolding aux_lines
 faulty_white = refl
 
--- Trailing white space goes first; other lines are ignored; a comma is a byte of a style's name; a part may be empty.
+-- Trailing white space is removed first; other lines are ignored; a comma is a byte of a style's name; a part may be
+-- empty.
 four_lines : aux_lines (codes "\\relax\n\\citation{,a,} \t\r\n \\citation{b}\n\\bibstyle{x,y}\n\\@input{}")
     ≡ (record { line = 2; command = Citation; parts = [] ∷ codes "a" ∷ [] ∷ []; fault = None })
     ∷ (record { line = 4; command = Style; parts = codes "x,y" ∷ []; fault = None })

@@ -29,11 +29,11 @@ abbrev fault_in : List PlacedItem → Option (ItemFault × Spot)
 fault_in [] = None
 fault_in (i ∷ is) = elim i.item.fault [ None ↦ fault_in is | Some fault ↦ Some (fault, i.end) ]
 
--- the first fault of a text, and where it stands
+-- the first fault of a text, and its place
 abbrev first_fault : List ℕ → Option (ItemFault × Spot)
 first_fault text = fault_in (bib_items text)
 
--- an item from one spot to another, whose lines count from that of its `@`
+-- an item from one spot to another, whose lines are relative to that of its `@`
 abbrev item : Spot → Spot → Item → PlacedPiece
 item start end i = record { start = start; end = end; piece = pieces.Item i }
 

@@ -12,7 +12,7 @@ use Rattle.bt_bib.specs.Items.{PlacedItem}
 use Rattle.bt_bib.specs.BibText.{pieces_of}
 use Rattle.bt_bib.specs.laws.BibText.{bib_items}
 
--- the faults of the items of a text's beginning with others after it
+-- the faults of the items in the beginning of a text with other bytes after it
 abbrev completed : List ℕ → ℕ → List ℕ → List (Option ItemFault)
 completed text place others = map (λ (i : PlacedItem). i.item.fault) (bib_items (take place text ++ others))
 

@@ -75,7 +75,7 @@ entry kind key fields = contents.Entry (record { kind = Some kind; key = Some ke
 an_entry : ItemOf (whole 1 (entry (codes "misc") (codes "a") (year 1 ∷ [])) Brace) (codes "@misc{\na,year = 1}")
 an_entry = AnEntry (Both (Written tt) (Both {front = []} refl (Both (Written (refl, refl)) (Both {front = []} refl (Both (Written tt) (Both {front = codes "\n"} refl (refl, Both (Written refl) (refl, Both {front = []} refl (Both (Written tt) (Both {front = []} refl (Both (refl, Both (Written refl) (Both {front = codes " "} refl (Both (Written tt) (Both {front = codes " "} refl (digits refl))))) (Both {front = []} refl (This (Written tt))))))))))))))
 
--- An empty key stands after the white space, and one in parentheses may hold a right one.
+-- An empty key comes after the white space, and a key in parentheses may contain a right parenthesis.
 an_empty_key : ItemOf (whole 0 (entry (codes "Misc") [] []) Brace) (codes "@Misc{ }")
 an_empty_key = AnEntry (Both (Written tt) (Both {front = []} refl (Both (Written (refl, refl)) (Both {front = []} refl (Both (Written tt) (Both {front = codes " "} refl (refl, (refl, This (Written tt)))))))))
 

@@ -1,4 +1,4 @@
--- What is read again, of two entries of 44 bytes in all.
+-- What is re-read of two entries with 44 bytes in all.
 use Rattle.std.specs.Prelude.{◌≡◌, ℕ, ◌-◌, List, [], ◌++◌, length, take, drop, codes, refl}
 use Rattle.bt_bib.specs.Scan.{sign}
 use Rattle.bt_bib.specs.Enclosure.{enclosed}
@@ -13,8 +13,8 @@ use Rattle.bt_bib.specs.Splice.{reread_from, reread_upto}
 abbrev two : List ℕ
 two = codes "@misc{a, title = {A}}\n@misc{b, title = {B}}\n"
 
--- where reading begins again, up to where it goes on, and how many bytes that is, where others take the place of the
--- bytes from begin up to end
+-- where re-reading begins, where it ends, and how many bytes that is, when other bytes replace those from begin up to
+-- end
 abbrev reread : ℕ → ℕ → List ℕ → ℕ × ℕ × ℕ
 reread begin end others =
     let new = take begin two ++ others ++ drop end two in

@@ -3,7 +3,7 @@ use Rattle.std.specs.Prelude.{ℕ, nat_lt, List, [], ◌∷◌, if◌then◌else
 use Rattle.bt_bib.specs.declared.placed_pieces.PlacedPiece.{PlacedPiece}
 use Rattle.bt_bib.specs.Boundaries.{Rises}
 
--- of pieces whose ends rise, those that end below a place
+-- those that end below a place, of pieces whose ends rise
 abbrev pub below : ℕ → List PlacedPiece → List PlacedPiece
 below limit [] = []
 below limit (p ∷ ps) = if nat_lt p.end.place limit then p ∷ below limit ps else []
@@ -11,6 +11,6 @@ below limit (p ∷ ps) = if nat_lt p.end.place limit then p ∷ below limit ps e
 abbrev pub end_place : PlacedPiece → ℕ
 end_place p = p.end.place
 
--- The spans of pieces that are those of a text rise.
+-- If some pieces are those of a text, their spans rise.
 abbrev pub InOrder : List PlacedPiece → Type 0
 InOrder ps = (limit : ℕ) × Rises limit 0 ps

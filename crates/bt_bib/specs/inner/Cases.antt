@@ -1,4 +1,4 @@
--- Parts of rules, for the functions and lemmas that speak of them.
+-- Parts of rules, for the functions and lemmas that are about them.
 use Rattle.bt_bib.specs.AuxLine.{item}
 use Rattle.bt_bib.specs.Enclosure.{enclosed}
 use Rattle.bt_bib.specs.Fields.{field, name_ends, next_field}
@@ -53,7 +53,7 @@ abbrev pub type_read : Result (List ℕ × Here) Stop → Piece × Here
 type_read (Err stop) = unopened (unread_entry None) stop
 type_read (Ok w) = type_ended w.0 (name_ended EntryType (codes "{(") w.1)
 
--- a piece whose `@` stands at a spot, as the next one
+-- a piece whose `@` is at a spot, as the next one
 abbrev pub next_at : Spot → Piece × Here → Option PlacedPiece × Here
 next_at start x = (let p = placed start x in (Some p.0, p.1))
 

@@ -11,7 +11,7 @@ use Rattle.bt_bib.specs.Enclosure.{enclosed}
 abbrev pub enclosed_end : ℕ → Here → Result Here Stop
 enclosed_end close h = enclosed close h >>= λ x. Ok x.1
 
--- what a byte does where `depth` braces are open
+-- what a byte does while `depth` braces are open
 abbrev pub turn : ℕ → ℕ → ℕ → Turn
 turn close depth b =
     if b == close && depth == 0 then turns.Closes
@@ -19,7 +19,7 @@ turn close depth b =
     else if b == right_brace then (if depth == 0 then turns.Breaks else turns.Goes (depth - 1))
     else turns.Goes depth
 
--- a byte that is no brace and doesn't close
+-- a byte that is neither a brace nor the closing sign
 abbrev pub is_plain : ℕ → ℕ → Bool
 is_plain close b = not (b == close || b == left_brace || b == right_brace)
 

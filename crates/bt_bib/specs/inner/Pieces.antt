@@ -8,7 +8,7 @@ use Rattle.bt_bib.specs.declared.item.Piece.TheVariants as pieces
 use Rattle.bt_bib.specs.declared.stop.ReadStop.{ReadStop}
 use Rattle.bt_bib.specs.declared.stop.ReadStop.TheVariants.{OutOfMemory, Stopped}
 
--- A piece of the code, with the place after it, is an item with such an end; where memory ran out, none is.
+-- A piece of the code, with the place after it, is an item with such an end. If memory ran out, there is none.
 abbrev pub IsFaulty : ℕ → Content → Option Closing → ReadStop → Piece × Spot → Type 0
 IsFaulty line content close OutOfMemory made = ⊥
 IsFaulty line content close (Stopped fault s) made =

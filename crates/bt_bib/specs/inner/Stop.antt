@@ -1,4 +1,4 @@
--- Readers of the code beside those of the definitions: both stop in the same places, unless memory ran out.
+-- The code's readers compared with those of the definitions: both stop at the same places, unless memory runs out.
 use Rattle.std.specs.Prelude.{◌≡◌, List, Result, Ok, Err, IfOk}
 use Rattle.std.specs.declared.alloc.AllocError.{AllocError}
 use Rattle.bt_bib.specs.declared.spot.Spot.{Spot}
@@ -14,12 +14,12 @@ abbrev pub Stops : {Y : Type 0} → List ℕ → Spot → ReadStop → Result Y 
 Stops text from OutOfMemory read = Unit {0}
 Stops text from (Stopped fault s) read = (read ≡ Err (fault, here text s)) × IsAhead text from s
 
--- It gives what the definition reads, and the spot after it.
+-- It returns what the definition reads, and the spot after it.
 abbrev pub Gives : {X : Type 0} → List ℕ → Spot → Result (X × Spot) ReadStop → Result (X × Here) Stop → Type 0
 Gives text from (Ok x) read = (read ≡ Ok (x.0, here text x.1)) × IsAhead text from x.1
 Gives text from (Err halt) read = Stops text from halt read
 
--- It gives the spot after what the definition reads.
+-- It returns the spot after what the definition reads.
 abbrev pub Finds : List ℕ → Spot → Result Spot ReadStop → Result Here Stop → Type 0
 Finds text from (Ok s) read = (read ≡ Ok (here text s)) × IsAhead text from s
 Finds text from (Err halt) read = Stops text from halt read

@@ -40,8 +40,8 @@ BoundaryStays = (old new : List ℕ) (begin end inserted place : ℕ) → IsSpli
 abbrev pub as_piece : PlacedItem → PlacedPiece
 as_piece i = record { start = i.start; end = i.end; piece = pieces.Item i.item }
 
--- With the byte at the fault's place, or the text's end there, no well-formed item begins: each text that agrees up to
--- that byte has the same items up to this one, and this one with the same fault.
+-- The byte at a fault's place, or the text's end there, makes the fault final: each text that has the same bytes up to
+-- and including that one has the same items before this one, and this one with the same fault.
 abbrev pub FaultIsFinal : Type 0
 FaultIsFinal = (text other : List ℕ) (front back : List PlacedPiece) (i : PlacedItem) (f : ItemFault) →
     pieces_of text ≡ front ++ as_piece i ∷ back → i.item.fault ≡ Some f →
@@ -52,8 +52,8 @@ FaultIsFinal = (text other : List ℕ) (front back : List PlacedPiece) (i : Plac
 abbrev pub is_byte : ℕ → Bool
 is_byte b = nat_lt b 256
 
--- The bytes of a faulty item up to its fault's place begin a well-formed one: put some others after them, and an item
--- without a fault begins where the faulty one does. What stands before it is read as before.
+-- The bytes of a faulty item before its fault's place begin a well-formed one: some other bytes after them make an item
+-- without a fault that begins where the faulty one does. The pieces before it are unchanged.
 pub record Completion (text : List ℕ) (front : List PlacedPiece) (i : PlacedItem) : Type 0 where
   pub rest : List ℕ
   pub bytes : list_all is_byte rest ≡ true
@@ -66,7 +66,7 @@ abbrev pub FaultIsFirst : Type 0
 FaultIsFirst = (text : List ℕ) (front back : List PlacedPiece) (i : PlacedItem) (f : ItemFault) →
     pieces_of text ≡ front ++ as_piece i ∷ back → i.item.fault ≡ Some f → Completion text front i
 
--- Each line of a value lies from one line to another.
+-- Each line in a value is at least one line and at most another.
 abbrev pub PartLiesIn : ℕ → ℕ → Part → Type 0
 PartLiesIn low high (Text text) = Unit {0}
 PartLiesIn low high (Macro name line) = (low ≤ line) × (line ≤ high)
@@ -84,20 +84,20 @@ ContentLiesIn low high (contents.Entry e) = All (FieldLiesIn low high) e.fields
 ContentLiesIn low high (contents.Define d) = ValueLiesIn low high d.value
 ContentLiesIn low high (contents.Preamble value) = ValueLiesIn low high value
 
--- The lines of an item, which count from that of its beginning, lie from there to that of its end.
+-- The lines in an item, which are relative to its first line, lie between its first line and its last.
 pub record LinesLieIn (i : PlacedItem) : Type 0 where
   pub line : i.start.line + i.item.line ≤ i.end.line
   pub content : ContentLiesIn i.item.line (i.end.line - i.start.line) i.item.content
 
--- Of each text, the spans of the pieces rise, up to its end, and the lines of each item lie inside it.
+-- In each text the spans of the pieces rise, up to the text's end, and the lines in each item lie inside the item.
 abbrev pub SpansRise : Type 0
 SpansRise = (text : List ℕ) → Rises (length text) 0 (pieces_of text)
 
 abbrev pub LinesLieInside : Type 0
 LinesLieInside = (text : List ℕ) → All LinesLieIn (bib_items text)
 
--- Any number of readings above that of the bytes serves as well as the one that the definitions take: it is never
--- reached.
+-- The definitions bound the number of readings by the number of bytes. Any larger bound gives the same result, since
+-- the bound is never reached.
 abbrev pub AnyBoundServes : Type 0
 AnyBoundServes = (close : Closing) (reserve : ℕ) (h : Here) → length h.rest < reserve →
     (many (next_part close) reserve h ≡ all (next_part close) h) ×

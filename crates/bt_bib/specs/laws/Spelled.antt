@@ -6,13 +6,13 @@
 -- | value    | a part, or several with `#` between them                                                      |
 -- | field    | `name = value`                                                                                |
 -- | fields   | `, field` any number of times, then the closing sign, with a comma before it or none          |
--- | entry    | `@type{key fields`, where the type is no word of the format itself                            |
+-- | entry    | `@type{key fields`, where the type is no keyword of the format                                |
 -- | string   | `@string{name = value}`                                                                       |
 -- | preamble | `@preamble{value}`                                                                            |
--- | comment  | `@comment` alone: what stands after it is spelled as if it weren't there                     |
+-- | comment  | `@comment`: what follows is spelled as if the word weren't there                              |
 -- | database | text without `@`, and then any number of items and comments, each with such text after it    |
 --
--- White space may stand between all of these (`⋯`), and `( )` for the outer `{ }`.
+-- White space may separate all of these (`⋯`), and `( )` may replace the outer `{ }`.
 use Rattle.std.specs.Prelude.{◌≡◌, ℕ, Bool, true, false, ◌&&◌, not, ◌==◌, List, [], ◌∷◌, codes, Some, None}
 use Rattle.std.specs.List.{list_all}
 use Rattle.bt_text.specs.ByteTests.{is_digit, left_brace, right_brace}
@@ -79,11 +79,11 @@ abbrev pub PartsOf : Part → List Part → Spelling
 PartsOf p [] = PartOf p
 PartsOf p (q ∷ ps) = PartOf p ⋯ Sign number_sign ⋯ PartsOf q ps
 
--- no text does
+-- the spelling that no text has
 abbrev pub Never : Spelling
 Never s text = ⊥
 
--- a value has a part at least
+-- a value has at least one part
 abbrev pub ValueOf : List Part → Spelling
 ValueOf [] = Never
 ValueOf (p ∷ ps) = PartsOf p ps
@@ -92,17 +92,18 @@ ValueOf (p ∷ ps) = PartsOf p ps
 abbrev pub FieldOf : Field → Spelling
 FieldOf f = OnLine f.line (NameOf f.name ⋯ Sign equals_sign ⋯ ValueOf f.value)
 
--- what stands after a key, up to the sign that closes the entry
+-- the rest of an entry after its key, up to the closing sign
 abbrev pub FieldsOf : Closing → List Field → Spelling
 FieldsOf close [] = Sign (closing_sign close) or Sign comma ⋯ Sign (closing_sign close)
 FieldsOf close (f ∷ fs) = Sign comma ⋯ FieldOf f ⋯ FieldsOf close fs
 
--- A key ends before a byte that none may hold.
+-- A key ends before a byte that no key may contain.
 abbrev pub EndsKey : Closing → List ℕ → Type 0
 EndsKey close [] = ⊥
 EndsKey close (b ∷ rest) = is_key_byte close b ≡ false
 
--- A key and what stands after it. An empty key has no white space after it: what there is stands before it.
+-- A key and the rest of its entry. An empty key has no white space after it: any that is there counts as before the
+-- key.
 abbrev pub Keyed : Closing → List ℕ → Spelling → Spelling
 Keyed close [] A = Provided (EndsKey close) A
 Keyed close (b ∷ key) A =
@@ -115,7 +116,7 @@ IsWord keyword word = (is_name word ≡ true) × (keyword_of word ≡ keyword)
 abbrev pub WordOf : Keyword → Spelling
 WordOf keyword s word = IsWord keyword word
 
--- `@word{`, and what stands after it
+-- `@word{`, and what follows it
 abbrev pub Head : Keyword → List ℕ → Closing → Spelling → Spelling
 Head keyword word close A = Sign at_sign ⋯ Bytes word (IsWord keyword word) ⋯ Sign (opening_sign close) ⋯ A
 
@@ -123,7 +124,7 @@ Head keyword word close A = Sign at_sign ⋯ Bytes word (IsWord keyword word) �
 abbrev pub whole : ℕ → Content → Closing → Item
 whole line content close = record { line = line; content = content; close = Some close; fault = None }
 
--- an item, from its `@` on: its line is that of the key, of the name that a string defines, or of the `@` of a preamble
+-- an item, from its `@` on: its line is that of an entry's key, of a string's name, or of a preamble's `@`
 pub data ItemOf : Item → List ℕ → Type 0 where
   AnEntry : {text : List ℕ} {line : ℕ} {kind key : List ℕ} {fields : List Field} {close : Closing} →
       Head keywords.Entry kind close (OnLine line (Keyed close key (FieldsOf close fields))) item_start text →
@@ -149,11 +150,11 @@ abbrev pub PieceOf : Piece → List ℕ → Type 0
 PieceOf pieces.Comment text = CommentWord text
 PieceOf (pieces.Item item) text = ItemOf item text
 
--- a piece where it stands, from one spot to another
+-- a piece in a text, from one spot to another
 abbrev pub PlacedOf : PlacedPiece → Spelling
 PlacedOf p s text = (p.start ≡ s) × (p.end ≡ spot_after text s) × PieceOf p.piece text
 
--- what may stand after a piece: after a comment word what may end a name
+-- what may follow a piece; after a comment word, only what may end a name
 abbrev pub MayFollow : Piece → List ℕ → Type 0
 MayFollow pieces.Comment text = MayEndName (codes "{(") text
 MayFollow (pieces.Item item) text = Unit {0}

@@ -1,4 +1,4 @@
--- What is read of a text that spells something is what it spells, and no fault is found in it.
+-- A text that spells something is read as what it spells, without a fault.
 use Rattle.std.specs.Prelude.{◌≡◌, ℕ, ◌-◌, false, ◌==◌, List, [], ◌∷◌, ◌++◌, take, drop, Ok, None, All}
 use Rattle.bt_text.specs.ByteTests.{left_brace}
 use Rattle.bt_bib.specs.declared.spot.Spot.{Spot}
@@ -21,7 +21,7 @@ use Rattle.bt_bib.specs.laws.Laws.{as_piece}
 use Rattle.bt_bib.specs.laws.Spelling.{◌▸◌, White, IsEnclosed, BeginsBy}
 use Rattle.bt_bib.specs.laws.Spelled.{PartOf, ValueOf, FieldOf, ItemOf, DatabaseOf}
 
--- What may stand before a closing sign is read up to it.
+-- Text that may come before a closing sign is read up to that sign.
 abbrev pub EnclosedTextsAreRead : Type 0
 EnclosedTextsAreRead = (close : ℕ) (s : Spot) (text rest : List ℕ) →
     (close == left_brace) ≡ false → IsEnclosed close text →
@@ -47,7 +47,7 @@ SpelledFieldsAreRead = (close : Closing) (f : Field) (s : Spot) (text rest : Lis
     (FieldOf f ▸ White) s text → BeginsBy (value_ends close) rest →
     field close (at s (text ++ rest)) ≡ Ok (f, at (spot_after text s) rest)
 
--- An item is read as it is spelled, whatever stands after it.
+-- An item is read as it is spelled, whatever follows it.
 abbrev pub SpelledItemsAreRead : Type 0
 SpelledItemsAreRead = (i : Item) (text rest : List ℕ) → ItemOf i text →
     piece (text ++ rest) ≡ (pieces.Item i, at (spot_after text item_start) rest)
@@ -65,7 +65,7 @@ FaultlessItemsAreSpelled = (text : List ℕ) (front back : List PlacedPiece) (i 
     pieces_of text ≡ front ++ as_piece i ∷ back → i.item.fault ≡ None →
     ItemOf i.item (bytes_between i.start i.end text)
 
--- A text in which no fault is found spells what is read of it.
+-- A text that is read without a fault spells what is read.
 abbrev pub IsFaultless : Piece → Type 0
 IsFaultless pieces.Comment = Unit {0}
 IsFaultless (pieces.Item item) = item.fault ≡ None

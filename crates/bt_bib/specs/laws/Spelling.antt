@@ -1,11 +1,11 @@
--- Ways to spell: which texts stand for something, one rule made of others.
+-- Spellings: which texts spell something. Rules are built from other rules.
 use Rattle.std.specs.Prelude.{◌≡◌, ℕ, true, false, ◌||◌, ◌==◌, List, [], ◌∷◌, ◌++◌}
 use Rattle.std.specs.List.{list_all, list_any}
 use Rattle.bt_text.specs.ByteTests.{is_white, is_brace, left_brace, right_brace}
 use Rattle.bt_bib.specs.declared.spot.Spot.{Spot}
 use Rattle.bt_bib.specs.Spot.{spot_after}
 
--- the texts that spell something where they stand at a spot
+-- the texts that spell something when they begin at a spot
 abbrev pub Spelling : Type 1
 Spelling = Spot → List ℕ → Type 0
 
@@ -20,16 +20,16 @@ pub data ◌or◌ (A B : Spelling) : Spot → List ℕ → Type 0 where
   This : {s : Spot} {text : List ℕ} → A s text → (A or B) s text
   That : {s : Spot} {text : List ℕ} → B s text → (A or B) s text
 
--- these bytes, where they are what the rule wants
+-- these bytes, if they satisfy the rule
 pub data Bytes (bytes : List ℕ) (IsRight : Type 0) : Spot → List ℕ → Type 0 where
   Written : {s : Spot} → IsRight → Bytes bytes IsRight s bytes
 
--- white space, or none
+-- optional white space
 abbrev pub White : Spelling
 White s text = list_all is_white text ≡ true
 
 infixr 60 ◌⋯◌
--- one after the other, with white space between them or none
+-- one after the other, with optional white space between them
 abbrev pub ◌⋯◌ : Spelling → Spelling → Spelling
 A ⋯ B = A ▸ White ▸ B
 
@@ -41,11 +41,11 @@ Sign b = Bytes (b ∷ []) (Unit {0})
 abbrev pub OnLine : ℕ → Spelling → Spelling
 OnLine line A s text = (line ≡ s.line) × A s text
 
--- where the text itself is so
+-- if the text itself satisfies a condition
 abbrev pub Provided : (List ℕ → Type 0) → Spelling → Spelling
 Provided IsRight A s text = IsRight text × A s text
 
--- What may stand before a closing sign: no brace but in pairs, and no closing sign but between two of a pair.
+-- What may come before a closing sign: braces only in pairs, and a closing sign only inside a pair of braces.
 pub data IsEnclosed : ℕ → List ℕ → Type 0 where
   Nothing : {close : ℕ} → IsEnclosed close []
   Byte : {close b : ℕ} {rest : List ℕ} → is_brace b ≡ false → (b == close) ≡ false →
@@ -58,7 +58,7 @@ abbrev pub BeginsBy : List ℕ → List ℕ → Type 0
 BeginsBy signs [] = ⊥
 BeginsBy signs (b ∷ rest) = list_any (λ sign. sign == b) signs ≡ true
 
--- What may stand after a name: white space, one of some signs, or nothing.
+-- What may follow a name: white space, one of some signs, or nothing.
 abbrev pub MayEndName : List ℕ → List ℕ → Type 0
 MayEndName signs [] = Unit {0}
 MayEndName signs (b ∷ rest) = (is_white b || list_any (λ sign. sign == b) signs) ≡ true
