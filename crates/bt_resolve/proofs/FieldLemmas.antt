@@ -1,4 +1,4 @@
--- One field more, in its slot.
+-- One more field, in its slot.
 use Rattle.std.proofs.Common.{◌≡◌, ◌∙◌, ap, sym, refl, ℕ, suc, ◌+◌, ◌<◌, Bool, true, false, IsTrue, List, [], ◌∷◌, ◌++◌, length, map, take, drop, get_or, Option, Some, None, append_assoc, inl, inr}
 use Rattle.std.specs.Prelude.{cond, find, not, ◌&&◌, ◌||◌, is_some, option_map, slice_get, slice_set, if◌then◌else◌}
 use Rattle.std.specs.Cmp.Lexicographic.{nat_list_eq_equiv}
@@ -20,7 +20,7 @@ use Rattle.bt_resolve.specs.Fields.{given_value, field_messages, fields_messages
 use Rattle.bt_resolve.specs.inner.Cases.{own_value, is_declared, has_field, declared_messages}
 use Rattle.bt_resolve.specs.inner.Slots.{slot_of, given_by, is_filled, is_filled_at, fill, with_field, extra_messages, slot_messages}
 
--- names that match are found alike
+-- names that match have the same result
 pub same_at : (n m other : List ℕ) → is_same_folded n m ≡ true → is_same_folded n other ≡ is_same_folded m other
 same_at n m other same = nat_list_eq_equiv.congr (folded n) (folded m) (folded other) same
 
@@ -36,7 +36,7 @@ given_alike macros fields n m same =
     let tests : (λ (f : Field). is_same_folded f.name n) ≡ (λ (f : Field). is_same_folded f.name m) = fun_ext (λ (f : Field). same_in n m f.name same) in
     ap (λ (test : Field → Bool). option_map (λ (f : Field). field_value macros f.value) (find test fields)) tests
 
--- a field of the name is there where it gives a value
+-- if there is a value for a name, there is a field of that name
 found_is : (b : Bool) (macros : MacroTexts) (f : Field) (o : Option Field) (c : Bool) → is_some (option_map (λ (g : Field). field_value macros g.value) o) ≡ c → is_some (option_map (λ (g : Field). field_value macros g.value) (cond b (Some f) o)) ≡ (b || c)
 found_is true macros f o c h = refl
 found_is false macros f o c h = h
@@ -85,7 +85,7 @@ or_missing : (o u : Option (List ℕ)) → is_some o ≡ false → or_then o u �
 or_missing None u h = refl
 or_missing (Some t) u h = let wrong : true ≡ false = h in cc
 
--- nor does a second field of the name
+-- a second field of the name changes nothing, either
 given_again : (macros : MacroTexts) (before : List Field) (f : Field) (name : List ℕ) → is_some (given_value macros before name) ≡ true → given_value macros (before ++ f ∷ []) name ≡ given_value macros before name
 given_again macros before f name there = given_more macros before f name ∙ or_there (given_value macros before name) (only_at (is_same_folded f.name name) (field_value macros f.value)) there
 
@@ -137,7 +137,7 @@ pub before_suc : (o : Option ℕ) (p : ℕ) → option_map (λ i. suc i) o ≡ S
 before_suc None p h = let wrong : let none : Option ℕ = None in none ≡ Some p = h in cc
 before_suc (Some q) p h = (q, (sym (ap (λ (o : Option ℕ). value_or o 0) h), refl))
 
--- at the place of a name another value, and elsewhere those as before
+-- another value at the place of a name, and the same values elsewhere
 map_at : (f g : List ℕ → Option (List ℕ)) (name : List ℕ) (w : Option (List ℕ)) → ((n : List ℕ) → is_same_folded n name ≡ false → g n ≡ f n) → ((n : List ℕ) → is_same_folded n name ≡ true → g n ≡ w) →
     (ns : List (List ℕ)) → IsTrue (are_apart ns) → (p : ℕ) → place_of_name ns name ≡ Some p → map g ns ≡ slice_set (map f ns) p w
 map_at f g name w off on [] apart p at = let wrong : let none : Option ℕ = None in none ≡ Some p = at in cc
@@ -154,7 +154,7 @@ map_at f g name w off on (n ∷ ns) apart p at =
           ∙ ap (λ (i : ℕ). slice_set (f n ∷ map f ns) i w) (sym q.1.0)
     ]
 
--- what stands at the place of a name, where names that match have the same
+-- the value at the place of a name, if names that match have the same value
 map_get : (f : List ℕ → Option (List ℕ)) (name : List ℕ) → ((n : List ℕ) → is_same_folded n name ≡ true → f n ≡ f name) → (ns : List (List ℕ)) (p : ℕ) → place_of_name ns name ≡ Some p → slice_get (map f ns) p ≡ Some (f name)
 map_get f name alike [] p at = let wrong : let none : Option ℕ = None in none ≡ Some p = at in cc
 map_get f name alike (n ∷ ns) p at =
@@ -191,7 +191,7 @@ unless : (b : Bool) (v w : Option (List ℕ)) → (b ≡ false → v ≡ w) → 
 unless true v w h = refl
 unless false v w h = h refl
 
--- what a name has stays, where the field has another name or isn't the first of it
+-- the value of a name stays the same if the field has another name or isn't the first with this name
 own_stays : (macros : MacroTexts) (before : List Field) (f : Field) (n : List ℕ) → (is_same_folded n crossref ≡ false → given_value macros (before ++ f ∷ []) n ≡ given_value macros before n) → own_value macros (before ++ f ∷ []) n ≡ own_value macros before n
 own_stays macros before f n h = unless (is_same_folded n crossref) (given_value macros (before ++ f ∷ []) n) (given_value macros before n) h
 
@@ -236,7 +236,7 @@ step_none ns macros before f apart none =
     (map_off own own' f.name (λ n other. own_stays macros before f n (λ _. given_other macros before f n (same_back f.name n ∙ other))) ns (no_place ns f.name none))
     (given_other macros before f crossref apart)
 
--- the slot of a name is filled where a field of the name stands before
+-- the slot of a name is filled if there is an earlier field of the name
 filled_is : (ns : List (List ℕ)) (macros : MacroTexts) (before : List Field) (name : List ℕ) (p : ℕ) → is_same_folded name crossref ≡ false → place_of_name ns name ≡ Some p →
     is_filled_at (slice_get (map (own_value macros before) ns) p) ≡ is_some (given_value macros before name)
 filled_is ns macros before name p apart at =
@@ -280,7 +280,7 @@ field_step ns macros before f all_apart = step_by ns macros before f (is_same_fo
 abbrev Tells : List (List ℕ) → MacroTexts → Origin → List ℕ → List Field → Field → Option Slot → Type 0
 Tells ns macros origin key before f slot = slot_messages slot (given_by ns macros before) macros origin key f ≡ declared_messages ns macros origin key before f
 
--- of a declared field, whose slot is filled where a field of its name stands before
+-- of a declared field, whose slot is filled if there is an earlier field of its name
 tells_slot : (ns : List (List ℕ)) (macros : MacroTexts) (origin : Origin) (key : List ℕ) (before : List Field) (f : Field) (slot : Slot) → is_declared ns f.name ≡ true → is_filled slot (given_by ns macros before) ≡ has_field before f.name → Tells ns macros origin key before f (Some slot)
 tells_slot ns macros origin key before f slot declared filled =
     ap (λ (b : Bool). value_warnings None macros origin f.line f.name f.value ++ extra_messages b origin key f) filled

@@ -7,7 +7,7 @@ use Rattle.std.proofs.lemmas.List.{take_more}
 use Rattle.std.proofs.lemmas.List.Folds.{list_any-append}
 use Rattle.bt_resolve.specs.Listed.{firsts, is_among}
 
--- the places among those that may be missing
+-- the places that are present, of optional ones
 pub filter_map-map : {X : Type 0} (f : X → Option ℕ) (xs : List X) → filter_map (λ (o : Option ℕ). o) (map f xs) ≡ filter_map f xs
 filter_map-map f [] = refl
 filter_map-map f (x ∷ xs) = ap (λ (ps : List ℕ). cons_option (f x) ps) (filter_map-map f xs)
@@ -18,7 +18,7 @@ or_last true false = refl
 or_last false true = refl
 or_last false false = refl
 
--- one place more is among those
+-- one more place is among them
 among_last : (these : List ℕ) (x p : ℕ) → cond (x == p) true (is_among these p) ≡ is_among (these ++ x ∷ []) p
 among_last these x p = or_last (x == p) (is_among these p) ∙ sym (list_any-append (λ q. q == p) these (x ∷ []))
 
@@ -34,7 +34,7 @@ among_again true these x p same there =
     sym there ∙ ap (λ (q : ℕ). is_among these q) is
 among_again false these x p other there = refl
 
--- a place is put after those found, unless it is among them
+-- a place is added after those found so far, unless it is among them
 pub among_first : (b : Bool) (found : List ℕ) (x p : ℕ) → is_among found x ≡ b → cond (x == p) true (is_among found p) ≡ is_among (found ++ (if b then [] else x ∷ [])) p
 among_first true found x p there = among_again (x == p) found x p refl there ∙ ap (λ (ps : List ℕ). is_among ps p) (sym (append-nil found))
 among_first false found x p other = among_last found x p

@@ -22,7 +22,7 @@ place_step true i o = let n : i ≡ i + 0 = omega arith in ap (λ (k : ℕ). Som
 place_step false i None = refl
 place_step false i (Some k) = let n : (i + 1) + k ≡ i + suc k = omega arith in ap (λ (j : ℕ). Some j) n
 
--- one name more, before those whose places are known
+-- one more name, before those whose places are known
 pub place_more : (t : List ℕ → Place) (names : List (List ℕ)) (place next now : ℕ) (x : List ℕ) → next ≡ place + 1 → now ≡ place → place < length names → x ≡ get_or names place x →
     t ≡ places_from names next → with_value x place t ≡ places_from names now
 place_more t names place next now x next_is now_is less is known = fun_ext (λ name.
@@ -50,7 +50,7 @@ found_step ns n true o found h = refl
 found_step ns n false None found h = h
 found_step ns n false (Some i) found h = h
 
--- the name that matches a name stands at its place
+-- the name at the place found for a name matches it
 same_at_place : (names : List (List ℕ)) (name : List ℕ) → same_name name names ≡ option_and_then (slice_get names) (place_of_name names name)
 same_at_place [] name = refl
 same_at_place (n ∷ ns) name = found_step ns n (is_same_folded n name) (place_of_name ns name) (same_name name ns) (same_at_place ns name)

@@ -1,4 +1,4 @@
--- Reading items one after another gives what the definitions say of each by its place.
+-- Reading items one after another yields what the definitions say about each of them at its place.
 use Rattle.std.proofs.Common.{◌≡◌, ◌∙◌, ap, sym, refl, subst, ℕ, ◌+◌, List, [], ◌∷◌, ◌++◌, reverse, append_assoc, append-nil, Option, Result, Ok, Err, OnOk}
 use Rattle.std.proofs.lemmas.List.{reverse-append}
 use Rattle.std.proofs.lemmas.Grind.{reverse_onto}
@@ -28,7 +28,7 @@ use Rattle.bt_resolve.specs.Messages.{for_each, stored_messages, item_messages, 
 use Rattle.bt_resolve.specs.inner.Databases.{State, resolved_of, after_placed, after_items, after_databases, nothing_read}
 use Rattle.bt_resolve.specs.Resolved.{all_items, stored_entries, preamble, messages, resolved}
 
--- the state stands after these items, the last of them first
+-- the state is the one after these items, given from the last one back
 pub record StandsBehind (a : Asked) (ms : List Macro) (before : List PlacedItem) (s : State) : Type 0 where
   pub macros : s.macros ≡ macro_before ms before
   pub stored : s.stored ≡ stored_among a ms before
@@ -52,7 +52,7 @@ messages_next a ms database before s item at =
     ap (λ (macros : MacroTexts). s.messages ++ item_messages a macros s.stored (origin_of database item) item.end item.item) at.macros
     ∙ ap (λ (stored : List Stored). s.messages ++ item_messages a (macro_before ms before) stored (origin_of database item) item.end item.item) at.stored
 
--- after one more item first
+-- the same with one more item first
 pub behind_next : (item : PlacedItem) (rest before : List PlacedItem) → reverse (item ∷ rest) ++ before ≡ reverse rest ++ item ∷ before
 behind_next item rest before = ap (λ (is : List PlacedItem). is ++ before) (reverse_onto rest item []) ∙ append_assoc (reverse rest) (item ∷ []) before
 
@@ -134,7 +134,7 @@ resolved_is d c min databases a before s all is_asked nothing read is =
     is ∙ ap (λ (b : Asked). resolved_of b min s.stored s.preamble s.messages) is_asked
     ∙ resolved_by (asked d c) d.macros min databases s (read ∙ ap (λ (b : Asked). after_databases b 1 before databases) is_asked ∙ ap (λ (t : State). after_databases (asked d c) 1 t databases) nothing)
 
--- one piece after others: an item is read, and a comment word passed over
+-- one piece after others: an item is read, and a comment word is skipped
 more_by : (a : Asked) (number : ℕ) (s : State) (from end : Spot) (x : Piece) (rest : List PlacedItem) →
     after_items a number (after_items a number s (elim x [ pieces.Comment ↦ [] | pieces.Item item ↦ record { start = from; end = end; item = item } ∷ [] ])) rest
     ≡ after_items a number s (elim x [ pieces.Comment ↦ rest | pieces.Item item ↦ record { start = from; end = end; item = item } ∷ rest ])

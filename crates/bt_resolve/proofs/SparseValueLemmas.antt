@@ -1,4 +1,4 @@
--- Values of which many may be missing.
+-- Lists of values, many of which may be missing.
 use Rattle.std.specs.Prelude.{is_none, option_copied}
 use Rattle.std.specs.List.{list_all}
 use Rattle.std.proofs.Common.{◌≡◌, refl, sym, ap, ℕ, zero, suc, true, arith, List, [], ◌∷◌, map, length, set, drop, replicate, get_or, Option, Some, None, Bor}
@@ -32,7 +32,7 @@ all_theirs (m ∷ mine) [] none long = absurd (omega (arith, long))
 all_theirs (None ∷ mine) (v ∷ theirs) none long = ap (λ (vs : List Value). v ∷ vs) (all_theirs mine theirs none (omega (arith, long)))
 all_theirs (Some text ∷ mine) (v ∷ theirs) none long = absurd (false≢true none)
 
--- what a look-up says of them
+-- what a look-up in them returns
 pub missing_by : (values : List Value) (p : ℕ) (found : Option (Bor (List ℕ))) → option_copied found ≡ get_or values p None → is_none found ≡ true →
     set values p None ≡ values
 missing_by values p None is none = missing_stays values p (sym is)

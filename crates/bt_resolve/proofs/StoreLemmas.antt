@@ -1,4 +1,4 @@
--- One entry more in a store.
+-- One more entry in a store.
 use Rattle.std.proofs.Common.{◌≡◌, ◌∙◌, ap, sym, refl, ℕ, Bool, true, false, List, [], ◌∷◌, ◌++◌, map, Option, Some, None}
 use Rattle.std.specs.Prelude.{◌||◌, bytes_eq, is_some, option_map, if◌then◌else◌}
 use Rattle.std.specs.Map.{lookup}
@@ -15,7 +15,7 @@ use Rattle.bt_resolve.specs.inner.Store.{IsIndexed, stored_in, with_reference}
 abbrev key_of : Stored → List ℕ
 key_of s = s.key
 
--- the entries by their keys, with one entry more
+-- the entries by their keys, with one more entry
 pub stored_next : (entries : List Stored) (s : Stored) (key : List ℕ) (old new : List (List ℕ × Stored)) → old ≡ by_small key_of entries → is_stored entries s.key ≡ false → key ≡ s.key →
     new ≡ with_entry (folded key) s old → new ≡ by_small key_of (entries ++ s ∷ [])
 stored_next entries s key old new is absent same more =
@@ -54,7 +54,7 @@ references_next entries s t u known more key =
 
 -- ---- the tables of a store
 
--- tables with one entry more, whose key is new
+-- tables with one more entry, whose key is new
 pub record IsNext (entries now : ByName Stored) (referred room noted_now : ByName (Unit {0})) (s : Stored) : Type 0 where
   pub absent : is_stored (stored_in entries) s.key ≡ false
   pub entry : listed now ≡ with_entry (folded s.key) s (listed entries)

@@ -1,4 +1,4 @@
--- Worked rows, proved by `refl`. Nothing needs them.
+-- Worked examples, proved by `refl`. Nothing depends on them.
 mod RowWords
 mod MacroRows
 mod CrossrefRows

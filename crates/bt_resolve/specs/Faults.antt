@@ -1,4 +1,4 @@
--- The words of the errors of items.
+-- The wording of errors in items.
 use Rattle.std.specs.Prelude.{ℕ, List, [], ◌∷◌, ◌++◌, codes, Option, Some, None}
 use Rattle.bt_bib.specs.declared.fault.ItemFault.{ItemFault}
 use Rattle.bt_bib.specs.declared.fault.ItemFault.TheVariants.{EndOfFile, MissingName, BadNameEnd, ExpectedOpen, ExpectedCommaOrClose, ExpectedEquals, UnbalancedBraces, MissingPart}
@@ -15,7 +15,7 @@ use Rattle.bt_log.specs.declared.message.Message.{Message}
 use Rattle.bt_log.specs.Message.{skipping}
 use Rattle.bt_resolve.specs.declared.place.BibLine.{BibLine}
 
--- what is dropped after a fault
+-- what is skipped after a fault
 abbrev pub dropped_name : Content → List ℕ
 dropped_name (contents.Entry e) = codes "entry"
 dropped_name (contents.Define d) = codes "command"
@@ -32,7 +32,7 @@ sign_of None = 125
 sign_of (Some Brace) = 125
 sign_of (Some Parenthesis) = 41
 
--- an entry that isn't closed, and a command of this name
+-- an unclosed entry, and an unclosed command of this name
 unfoldable pub unclosed_entry : List ℕ → List ℕ
 unclosed_entry sign = codes "I was expecting a `,' or a `" ++ sign ++ codes "'"
 

@@ -13,8 +13,8 @@ abbrev pub inherited : List (Option (List ℕ)) → List (Option (List ℕ)) →
 inherited [] theirs = []
 inherited (mine ∷ others) theirs = option_or mine (slice_index_or theirs 0 None) ∷ inherited others (drop 1 theirs)
 
--- The values of an entry once some entries of the list have inherited, each from its parent as that then was. They are
--- given from the last one back.
+-- The values of an entry once some entries of the list have inherited, each from its parent as it was then. These
+-- entries are given from the last one back.
 unfoldable pub values_after : List Stored → List ℕ → ℕ → List (Option (List ℕ))
 values_after stored [] p = elim (slice_get stored p) [ None ↦ [] | Some s ↦ s.values ]
 values_after stored (q ∷ before) p =
@@ -35,7 +35,7 @@ children stored p = count_by (λ s. elim (parent_of stored s) [ None ↦ false |
 unfoldable pub is_left_out : Asked → ℕ → List Stored → ℕ → Bool
 is_left_out a min stored p = is_none a.star && not (is_cited_at a.keys stored p) && nat_lt (children stored p) min
 
--- the field `crossref` in the end: missing where no entry has that key, or it was left out
+-- the final field `crossref`: missing if no entry has that key, or if that entry was left out
 unfoldable pub final_crossref : Asked → ℕ → List Stored → Stored → Option (List ℕ)
 final_crossref a min stored s = elim (parent_of stored s) [
   | None ↦ None

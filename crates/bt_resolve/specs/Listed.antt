@@ -21,7 +21,7 @@ is_cited_at keys stored p = elim (slice_get stored p) [ None ↦ false | Some s 
 abbrev pub is_among : List ℕ → ℕ → Bool
 is_among places p = list_any (λ q. q == p) places
 
--- each of the places once, where it comes first, without those seen before
+-- each of the places once, at its first occurrence, without those seen before
 abbrev pub firsts : List ℕ → List ℕ → List ℕ
 firsts seen [] = []
 firsts seen (p ∷ ps) = if is_among seen p then firsts seen ps else p ∷ firsts (seen ++ p ∷ []) ps
@@ -30,7 +30,7 @@ firsts seen (p ∷ ps) = if is_among seen p then firsts seen ps else p ∷ first
 abbrev pub cited_places : List (List ℕ) → List Stored → List ℕ
 cited_places keys stored = filter_map (place_of_key stored) keys
 
--- the uncited entries that stored ones refer to, each where it is first referred to
+-- the uncited entries that stored ones refer to, in the order of the first references to them
 abbrev pub uncited_parents : List (List ℕ) → List Stored → List ℕ
 uncited_parents keys stored =
     firsts [] (filter (λ p. not (is_cited_at keys stored p)) (filter_map (parent_of stored) stored))

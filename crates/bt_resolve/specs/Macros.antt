@@ -12,7 +12,7 @@ abbrev pub style_macro : List Macro → MacroTexts
 style_macro [] = no_value
 style_macro (m ∷ macros) = with_value m.name m.value (style_macro macros)
 
--- what counts of an item's value: nothing where the item has a fault
+-- what counts of an item's value: nothing if the item has a fault
 abbrev pub faultless : {A : Type 0} → Option ItemFault → Option A → Option A
 faultless None value = value
 faultless (Some fault) value = None

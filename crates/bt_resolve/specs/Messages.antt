@@ -34,8 +34,8 @@ abbrev pub preamble_messages : MacroTexts → Origin → ℕ → Option (List Pa
 preamble_messages macros origin line None = []
 preamble_messages macros origin line (Some parts) = value_warnings None macros origin line (codes "preamble") parts
 
--- what an item gives, from where it stands up to a place, with the macros before it and the entries that are stored
--- before it; its fault comes last
+-- the messages of an item that extends from its place up to another, given the macros before it and the entries that
+-- are stored before it; the message about its fault comes last
 unfoldable pub item_messages : Asked → MacroTexts → List Stored → Origin → Spot → Item → List Message
 item_messages a macros stored origin end item =
     (elim item.content [
@@ -54,7 +54,7 @@ item_messages a macros stored origin end item =
       | Some fault ↦ fault_error origin.database end item.content item.close fault ∷ []
     ]
 
--- for each item what f makes of it and of the items before it
+-- for each item, the result of f for it and the items before it
 abbrev pub for_each : {A : Type 0} → (List PlacedItem → PlacedItem → List A) → List PlacedItem → List PlacedItem → List A
 for_each f before [] = []
 for_each f before (item ∷ rest) = f before item ++ for_each f (item ∷ before) rest

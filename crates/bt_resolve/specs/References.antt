@@ -47,7 +47,7 @@ reference_messages keys stored p = elim (slice_get stored p) [
 unfoldable pub missing_messages : List Stored → List ℕ → List Message
 missing_messages stored key = if is_stored stored key then [] else no_entry key ∷ []
 
--- of the whole list, in its order, then of the cited keys in theirs
+-- of the whole list, in its order, then of the cited keys, in their order
 unfoldable pub list_messages : Asked → List Stored → List Message
 list_messages a stored =
     flat_map (reference_messages a.keys stored) (listed a stored) ++ flat_map (missing_messages stored) a.keys

@@ -1,4 +1,4 @@
--- The words of the warnings that items give.
+-- The wording of warnings about items.
 use Rattle.std.specs.Prelude.{ℕ, ◌+◌, List, ◌++◌, codes, Option, Some, None}
 use Rattle.bt_text.specs.CaseFolding.{folded}
 use Rattle.bt_log.specs.declared.message.Rank.TheVariants.{Warning}
@@ -9,11 +9,11 @@ use Rattle.bt_bib.specs.Items.{PlacedItem}
 use Rattle.bt_resolve.specs.declared.place.BibLine.{BibLine}
 use Rattle.bt_resolve.specs.declared.place.Origin.{Origin}
 
--- where an item of a database stands, by the database's number
+-- the place of an item of a database, given the database's number
 abbrev pub origin_of : ℕ → PlacedItem → Origin
 origin_of database placed = record { database = database; line = placed.start.line }
 
--- a line of an item, which counts from that of its `@`, as a line of the database
+-- a line of an item, relative to that of its `@`, as a line of the database
 abbrev pub line_at : Origin → ℕ → BibLine
 line_at origin line = record { database = origin.database; line = origin.line + line }
 

@@ -1,4 +1,4 @@
-//! What items are looked up in: the declared fields and types, and the cited keys.
+//! What the items' names and keys are looked up in: the declared fields and types, and the cited keys.
 
 ghost use Rattle.std.specs.Prelude.{◌≡◌, IfOk};
 ghost use Rattle.bt_resolve.specs.inner.Cases.{asked};
@@ -8,16 +8,14 @@ use crate::index::Index;
 use bt_text::{NameList, Shared};
 use std::alloc::{AllocError, Global};
 
-/// What the style and the citations ask for, with hashed look-ups.
+/// What the style and the citations ask for, hashed for look-ups.
 #[derive(Drop)]
 pub struct Asked<'a> {
-    /// The declared fields.
     pub fields: Index<'a>,
     /// The types that have a function.
     pub types: Index<'a>,
-    /// The cited keys.
     pub keys: Shared<NameList>,
-    /// How many of the keys stood before `*`; none where `*` isn't cited.
+    /// How many of the keys were cited before `*`; none if `*` isn't cited.
     pub star: Option<usize>,
 }
 

@@ -1,9 +1,9 @@
 //! The databases are read in one pass, item by item.
 //!
 //! The definitions look everything up among the items before an item: the last string that defines a macro, the entries
-//! that are stored already. Done so, reading would take quadratic time. The code keeps a `Reading` instead, of what the
-//! items so far gave, in hashed tables. `specs/inner/Databases.antt` says what one more item makes of it, and
-//! `proofs/PlacingLemmas.antt` proves that this is what the definitions say of the item by its place.
+//! that are stored already. Code that did so would take quadratic time. Instead, the code keeps a `Reading`: hashed
+//! tables of what the items so far have yielded. `specs/inner/Databases.antt` says how one more item changes it, and
+//! `proofs/PlacingLemmas.antt` proves that this is what the definitions say about an item at its place.
 
 ghost use Rattle.std.specs.Prelude.{◌≡◌, ◌∷◌, [], IfOk, IsTrue, OnOk, map};
 ghost use Rattle.bt_bib.specs.Items.{items_of};
@@ -114,7 +114,6 @@ pub fn nothing_read(alloc: Global, macros: &[Macro]) -> Result<Reading, AllocErr
     })
 }
 
-/// Reads the databases in their order.
 pub fn read_databases(
     alloc: Global,
     asked: &Asked<'_>,

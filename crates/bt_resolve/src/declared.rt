@@ -2,7 +2,7 @@
 
 use bt_text::{Bytes, NameList, Sequence, Shared};
 
-/// A macro, and what it stands for.
+/// A macro, and its text.
 #[derive(Drop)]
 pub struct Macro {
     /// Its name.
@@ -11,7 +11,7 @@ pub struct Macro {
     pub value: Bytes,
 }
 
-/// What the style declares before its databases are read. No two names of one list match.
+/// What the style declares before the databases are read. No two names of one list match.
 #[derive(Drop)]
 pub struct Declared {
     /// Its fields.
@@ -27,6 +27,6 @@ pub struct Declared {
 pub struct Cites {
     /// The keys, in the order of their citations. No two match.
     pub keys: Shared<NameList>,
-    /// How many of the keys stood before `*`; none where `*` isn't cited.
+    /// How many of the keys were cited before `*`; none if `*` isn't cited.
     pub star: Option<usize>,
 }

@@ -1,4 +1,4 @@
-//! Entries as they are read: which are stored, and as what.
+//! Reading entries: which are stored, and as what.
 
 ghost use Rattle.std.specs.Prelude.{◌≡◌, ◌++◌, IfOk, IsTrue, OnOk};
 ghost use Rattle.bt_text.specs.ByName.{known};
@@ -66,7 +66,7 @@ fn with_given(
     })
 }
 
-/// How an entry stands to those that are stored.
+/// Whether an entry is stored, given those that already are.
 #[derive(Drop)]
 enum Standing {
     Unwanted,

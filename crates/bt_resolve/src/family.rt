@@ -1,7 +1,7 @@
-//! The stored entries, with what each refers to.
+//! The stored entries, each with the entry that it refers to.
 //!
-//! Listing, inheriting and leaving out all ask which entry is whose parent, and how many children it has. Each `crossref`
-//! is looked up once, before any of them.
+//! Making the list, inheritance and leaving entries out all ask for an entry's parent, and for the number of its
+//! children. So each `crossref` is looked up once, before all of them.
 
 ghost use Rattle.std.specs.Prelude.{◌≡◌, ◌+◌, ◌-◌, ◌^◌, ◌<◌, ℕ, count_by, if◌then◌else◌, map, IfOk, OnOk};
 ghost use Rattle.bt_resolve.specs.inner.Family.{count_at};
@@ -85,7 +85,6 @@ fn count_parents(
 }
 
 impl<'a> Family<'a> {
-    /// These entries.
     pub fn new(alloc: Global, store: &'a Store) -> Result<Self, AllocError>
         ensures { IfOk result (λ family. family ≡ store.now) }
     {
@@ -98,7 +97,6 @@ impl<'a> Family<'a> {
         })
     }
 
-    /// The entries.
     pub fn entries(&self) -> &[Stored]
         ensures { result.now ≡ self.now }
     {
@@ -126,7 +124,7 @@ impl<'a> Family<'a> {
         self.parents.as_slice()
     }
 
-    /// The entry that the entry of a place refers to.
+    /// The place of the entry that the entry at `place` refers to.
     pub fn parent_at(&self, place: usize) -> Option<usize>
         ensures { result ≡ parent_at self.now place }
     {
@@ -136,14 +134,14 @@ impl<'a> Family<'a> {
         }
     }
 
-    /// The entry that an entry refers to.
+    /// The place of the entry that an entry refers to.
     pub fn parent_of(&self, alloc: Global, entry: &Stored) -> Result<Option<usize>, AllocError>
         ensures { IfOk result (λ parent. parent ≡ parent_of self.now entry.now) }
     {
         parent_of(alloc, self.store, entry)
     }
 
-    /// How many entries refer to the entry of a place.
+    /// How many entries refer to the entry at `place`.
     pub fn children(&self, place: usize) -> usize
         ensures { result ≡ children self.now place }
     {

@@ -1,4 +1,4 @@
-//! The words of the errors of items.
+//! The wording of errors in items.
 
 ghost use Rattle.std.specs.Prelude.{◌≡◌, ◌++◌, IfOk, OnOk, codes};
 ghost use Rattle.bt_resolve.specs.Faults.{dropped_name, fault_error, fault_words, repeated, sign_of, unclosed_command, unclosed_entry, what_name};
@@ -132,7 +132,7 @@ fn fault_error(
     Ok(message)
 }
 
-/// Reports the fault of an item of a database, if it has one. The item ends where its fault stands.
+/// Reports the fault of an item of a database, if it has one. `end` is the item's end, where its fault is.
 pub fn tell_fault(
     alloc: Global,
     database: usize,
@@ -152,7 +152,7 @@ pub fn tell_fault(
     }
 }
 
-/// An entry whose key is stored already.
+/// The error that an entry's key is stored already.
 pub fn repeated(
     alloc: Global,
     place: crate::place::BibLine,

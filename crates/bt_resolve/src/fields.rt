@@ -1,8 +1,8 @@
-//! What the fields of an entry give.
+//! What the fields of an entry yield.
 //!
-//! A value is made once, when its entry is read, though the definitions ask for the value of each declared name: each
-//! field goes into the slot of its name, unless the slot is filled. Its messages then come in the order of the fields,
-//! also those about a value that doesn't count.
+//! The definitions look up a value for each declared name. The code makes each value once, when its entry is read: a
+//! field's value goes into the slot of its name, unless the slot is already filled. So the messages come in the order
+//! of the fields, including those about values that don't count.
 
 ghost use Rattle.std.specs.Prelude.{◌≡◌, ◌++◌, Some, IfOk, IsTrue, OnOk, slice_get};
 ghost use Rattle.bt_text.specs.ByName.{known};
@@ -26,12 +26,11 @@ use std::alloc::{AllocError, Global};
 /// The field that refers to another entry.
 pub const CROSSREF: &[u8] = b"crossref";
 
-/// What the fields of an entry give.
+/// What the fields of an entry yield.
 #[derive(Drop)]
 pub struct Given {
-    /// The values in the order of the style's fields, without that of `crossref`.
+    /// The values in the order of the style's fields, without the value of `crossref`.
     pub values: FieldValues,
-    /// The value of `crossref`.
     pub crossref: Option<Shared<Bytes>>,
 }
 
@@ -39,7 +38,7 @@ pub struct Given {
 #[derive(Clone, Copy, PartialEq, Eq)]
 enum Slot {
     Crossref,
-    /// Among the values, by the place of the field's name.
+    /// Among the values, at the index of the field's name.
     Value(usize),
 }
 
@@ -51,13 +50,11 @@ pub struct FieldReader<'a> {
     pub declared: &'a Index<'a>,
     /// The macros before the entry.
     pub macros: &'a ByName<MacroText>,
-    /// Where the entry stands.
     pub origin: Origin,
-    /// The entry's key.
     pub key: &'a [u8],
 }
 
-/// Whether a place has a value already, or there is no such place.
+/// Whether an index has a value already, or is out of range.
 fn is_filled_at(values: &FieldValues, place: usize) -> bool
     ensures { result ≡ is_filled_at (slice_get values.now place) }
 {
@@ -122,7 +119,7 @@ impl FieldReader<'_> {
         trimmed(self.alloc, value)
     }
 
-    /// Puts a value in its slot, or reports that a field of its name stands before it.
+    /// Puts a value in its slot, or reports that the slot was filled by an earlier field.
     fn put(
         &self,
         field: &Field,

@@ -1,4 +1,4 @@
-//! Names with their places, which are found by hashing.
+//! Names with their places, found by hashing.
 
 ghost use Rattle.std.specs.Prelude.{◌≡◌, IfOk};
 ghost use Rattle.bt_text.specs.ByName.{known};
@@ -8,7 +8,7 @@ use bt_text::{ByName, Bytes};
 use std::alloc::{AllocError, Global};
 use std::marker::Model;
 
-/// Names of which no two match, with the place of each. Contracts see the names in their order.
+/// Names, no two of which match, with their places. Contracts see the names in order.
 #[derive(Drop)]
 pub struct Index<'a> {
     names: &'a [Bytes],
@@ -27,7 +27,7 @@ impl<'a> Model for Index<'a> {
     ghost invariant = { λ index. known index.places ≡ place_of_name index.names.now };
 }
 
-/// It is filled from the last name back, so that of names that match the first keeps its place.
+/// It is filled from the last name to the first, so if names match, the first one's place is kept.
 fn place_table(alloc: Global, names: &[Bytes]) -> Result<ByName<usize>, AllocError>
     ensures { IfOk result (λ places. known places ≡ place_of_name names.now) }
 {
@@ -56,7 +56,6 @@ impl<'a> Index<'a> {
         Ok(self.places.get(alloc, name)?.copied())
     }
 
-    /// The names in their order.
     pub fn names(&self) -> &'a [Bytes]
         ensures { result.now ≡ self.now }
     {

@@ -1,8 +1,8 @@
 //! What entries inherit from those that they refer to.
 //!
-//! Entries inherit in the order of the list, each from its parent as that is by then. A parent that comes later in the
-//! list has not inherited itself yet, so its child doesn't get its grandparent's values. The values of all entries
-//! therefore stand in one list, in which an entry's are replaced when its turn comes.
+//! Entries inherit in the order of the list, each from its parent as it is at that time. A parent that comes later in
+//! the list hasn't inherited yet, so its child doesn't get the grandparent's values. Therefore the values of all
+//! entries are kept in one list, and an entry's values are replaced when its turn comes.
 
 ghost use Rattle.std.specs.Prelude.{◌≡◌, IfOk, OnOk};
 ghost use Rattle.bt_resolve.specs.Inherited.{inherited};
@@ -14,7 +14,7 @@ use crate::stored::{FieldValues, Stored};
 use bt_text::{Bytes, Shared};
 use std::alloc::{AllocError, Global};
 
-/// A value that may be missing, for one more owner.
+/// A value that may be missing, shared.
 pub fn shared(value: &Option<Shared<Bytes>>) -> Result<Option<Shared<Bytes>>, AllocError>
     ensures { IfOk result (λ same. same ≡ value.now) }
 {
@@ -24,7 +24,8 @@ pub fn shared(value: &Option<Shared<Bytes>>) -> Result<Option<Shared<Bytes>>, Al
     }
 }
 
-/// Each missing value taken from the parent. An entry without a value of its own has the parent's list itself.
+/// An entry's values, each missing one taken from the parent. An entry without values of its own shares the parent's
+/// list.
 fn inherited(
     alloc: Global,
     mine: &Shared<FieldValues>,
@@ -50,7 +51,7 @@ pub fn values_read(alloc: Global, stored: &[Stored]) -> Result<Vec<Shared<FieldV
     Ok(values)
 }
 
-/// The entry of a place inherits from its parent, as that is now.
+/// Lets the entry at a place inherit from its parent, as the parent is now.
 fn inherit_at(
     alloc: Global,
     family: &Family<'_>,
@@ -71,7 +72,7 @@ fn inherit_at(
     Ok(())
 }
 
-/// The entries of some places inherit, one after another.
+/// Lets the entries at some places inherit, one after another.
 pub fn all_inherit(
     alloc: Global,
     family: &Family<'_>,

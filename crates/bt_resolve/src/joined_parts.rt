@@ -13,15 +13,15 @@ use std::marker::Model;
 
 #[derive(Drop)]
 enum Holder {
-    /// A part that is a text has them too.
+    /// The text of one part, shared with it.
     Text(Shared<Bytes>),
-    /// A macro has them too.
+    /// The text of one macro, shared with it.
     Macro(MacroText),
-    /// They are joined of several parts.
+    /// Bytes joined from several parts.
     Own(Bytes),
 }
 
-/// The texts of parts, joined. Where all but one are empty, that one is shared. Contracts see the bytes.
+/// The texts of parts, joined. If all but one are empty, that one is shared. Contracts see the bytes.
 #[derive(Drop)]
 pub struct JoinedParts {
     holder: Holder,
@@ -46,7 +46,7 @@ fn both(alloc: Global, front: &[u8], back: &[u8]) -> Result<Bytes, AllocError>
     Ok(Bytes::from_vec(bytes))
 }
 
-/// A text with each run of white space made one space. It is shared where each is one already.
+/// A text with each run of white space replaced by one space. It is shared if each is one space already.
 fn white_joined(alloc: Global, text: Shared<Bytes>) -> Result<Shared<Bytes>, AllocError>
     ensures { IfOk result (λ joined. joined ≡ white_joined text) }
 {
@@ -58,7 +58,7 @@ fn white_joined(alloc: Global, text: Shared<Bytes>) -> Result<Shared<Bytes>, All
 }
 
 impl JoinedParts {
-    /// Nothing. It takes no memory.
+    /// Nothing. Allocates nothing.
     pub fn new(alloc: Global) -> Self
         ensures { result ≡ [] }
     {
@@ -76,7 +76,7 @@ impl JoinedParts {
         })
     }
 
-    /// What a macro stands for. It is not copied.
+    /// The text of a macro. It is not copied.
     pub fn of_macro(text: &MacroText) -> Result<Self, AllocError>
         ensures { IfOk result (λ part. part ≡ text.now) }
     {
@@ -85,7 +85,6 @@ impl JoinedParts {
         })
     }
 
-    /// The bytes.
     pub fn as_slice(&self) -> &[u8]
         ensures { result.now ≡ self.now }
     {
@@ -96,7 +95,7 @@ impl JoinedParts {
         }
     }
 
-    /// Puts bytes after those that are there. They are copied, those that are there only if they are shared.
+    /// Appends bytes, which are copied. Those already there are copied only if they are shared.
     fn append_bytes(&mut self, alloc: Global, more: &[u8]) -> Result<(), AllocError>
         ensures { OnOk result (self.new ≡ self.old ++ more.now) }
     {
@@ -108,7 +107,7 @@ impl JoinedParts {
         Ok(())
     }
 
-    /// Puts the texts of more parts after those that are there. Nothing is copied where one of them is empty.
+    /// Appends the texts of more parts. Nothing is copied if one of the two sides is empty.
     pub fn append(&mut self, alloc: Global, more: JoinedParts) -> Result<(), AllocError>
         ensures { OnOk result (self.new ≡ self.old ++ more) }
     {
@@ -122,7 +121,8 @@ impl JoinedParts {
         }
     }
 
-    /// The text with each run of white space made one space. A text of one part that has no longer run is not copied.
+    /// The text with each run of white space replaced by one space. The text of a single part is not copied if no run
+    /// has to be replaced.
     pub fn into_value(self, alloc: Global) -> Result<Shared<Bytes>, AllocError>
         ensures { IfOk result (λ value. value ≡ white_joined self) }
     {

@@ -1,4 +1,4 @@
-//! From the items of the databases and the citations to the entries that a style sees, with every message on the way.
+//! Turns the databases' items and the citations into the entries that a style sees, with every message on the way.
 #![tactic(auto)]
 
 mod asked;

@@ -1,7 +1,7 @@
 //! The list of entries, by their places among the stored ones.
 //!
-//! For each entry it is asked whether the list has it already. A set of the listed places answers that; a search in the
-//! list would take quadratic time.
+//! Each entry is listed only if the list doesn't have it already. A set of the listed places answers that, since
+//! searching the list would take quadratic time.
 
 ghost use Rattle.std.specs.Prelude.{◌≡◌, ◌≤◌, ◌==◌, ◌++◌, ◌∷◌, [], ℕ, true, cond, filter, if◌then◌else◌, length, nat_eq, not, IfOk, IfSome, OnOk};
 ghost use Rattle.std.specs.HashSet.{contains};
@@ -15,7 +15,7 @@ use bt_text::{Bytes, NameList};
 use std::alloc::{AllocError, Global};
 use std::collections::HashSet;
 
-/// Whether the entry of a place is cited.
+/// Whether the entry at a place is cited.
 pub fn is_cited_at(
     alloc: Global,
     keys: &NameList,
@@ -76,7 +76,7 @@ fn uncited(
     Ok(found)
 }
 
-/// Puts a place into a set, and says whether it is new there.
+/// Puts a place into a set, and returns whether it is new there.
 fn insert_place(set: &mut HashSet<usize>, place: usize) -> Result<bool, AllocError>
     ensures new { IfOk result (λ new. new ≡ not (contains nat_eq set.old place)) }
     ensures set { OnOk result ((p : ℕ) → contains nat_eq set.new p
@@ -149,7 +149,7 @@ fn others_than(
         .collect(alloc)
 }
 
-/// The list: what is cited, then what entries refer to, or what else there is.
+/// The list: the cited entries, then those that entries refer to or, with `*`, all others.
 #[tactic(auto, unfolding(crate::specs::Listed::listed))]
 pub fn listed(
     alloc: Global,

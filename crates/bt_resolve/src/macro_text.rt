@@ -1,7 +1,7 @@
 //! What a macro stands for.
 //!
-//! Fields such as `month = jan` are a macro alone, in many entries. Its white space is joined once, where it is defined,
-//! and each such field shares the result.
+//! In many entries, the value of a field is only a macro, as in `month = jan`. The macro's white space is joined once,
+//! at its definition, and all such fields share the result.
 
 ghost use Rattle.std.specs.Prelude.{◌≡◌, IfOk};
 ghost use Rattle.bt_text.specs.White.{white_joined};
@@ -10,7 +10,7 @@ use bt_text::{Bytes, Shared, is_white_joined, join_white};
 use std::alloc::{AllocError, Global};
 use std::marker::Model;
 
-/// The text of a macro, for many owners, with the value that this macro alone gives. Contracts see the text.
+/// The text of a macro, shared, with the value of a field that is only this macro. Contracts see the text.
 #[derive(Drop)]
 pub struct MacroText {
     text: Shared<Bytes>,
@@ -30,7 +30,7 @@ impl Model for MacroText {
 }
 
 impl MacroText {
-    /// A text as a style gives it.
+    /// The text of a macro that a style defines.
     pub fn new(alloc: Global, text: &[u8]) -> Result<Self, AllocError>
         ensures { IfOk result (λ copy. copy ≡ text.now) }
     {
@@ -54,7 +54,7 @@ impl MacroText {
         })
     }
 
-    /// The same text for one more owner.
+    /// The same text, shared.
     pub fn share(&self) -> Result<Self, AllocError>
         ensures { IfOk result (λ same. same ≡ self.now) }
     {
@@ -64,7 +64,6 @@ impl MacroText {
         })
     }
 
-    /// The bytes of the text.
     pub fn as_slice(&self) -> &[u8]
         ensures { result.now ≡ self.now }
     {

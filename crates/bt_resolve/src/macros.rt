@@ -15,7 +15,6 @@ use bt_log::Message;
 use bt_text::{ByName, Bytes, Sequence};
 use std::alloc::{AllocError, Global};
 
-/// The macros of the style.
 pub fn style_macros(alloc: Global, macros: &[Macro]) -> Result<ByName<MacroText>, AllocError>
     ensures { IfOk result (λ table. known table ≡ style_macro macros.now) }
 {
@@ -29,7 +28,7 @@ pub fn style_macros(alloc: Global, macros: &[Macro]) -> Result<ByName<MacroText>
     Ok(table)
 }
 
-/// The parts of a value that count: none where the item has a fault.
+/// The parts of a value that count: none if the item has a fault.
 fn faultless<'a>(item: &Item, parts: &'a Option<Sequence<Part>>) -> Option<&'a Sequence<Part>>
     ensures { option_copied result ≡ faultless item.now.fault parts.now }
 {
@@ -70,7 +69,7 @@ impl Reader<'_> {
         macros.insert(self.alloc, name, MacroText::of_value(value)?)
     }
 
-    /// Reads a preamble: its value is put after those before it, unless the item has a fault.
+    /// Reads a preamble: its value is appended to `preamble`, unless the item has a fault.
     pub fn preamble(
         &self,
         item: &Item,

@@ -6,7 +6,6 @@ use bt_log::Message;
 use bt_text::Sequence;
 use std::alloc::AllocError;
 
-/// Puts a message after the others.
 pub fn add_message(messages: &mut Sequence<Message>, message: Message) -> Result<(), AllocError>
     ensures { OnOk result (messages.new ≡ messages.old ++ message ∷ []) }
 {

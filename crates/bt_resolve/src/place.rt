@@ -1,7 +1,7 @@
 //! Where a message about an item belongs.
 //!
-//! An item's lines count from its own `@`, so that an edit above it leaves the item as it was read. Only a message needs
-//! the line of the database, which is the sum of the two.
+//! An item's lines are relative to its own `@`, so an edit above it leaves the item as it was read. Only a message
+//! needs the line in the database: the sum of the item's own line and the line in the item.
 
 ghost use Rattle.std.specs.Prelude.{◌≡◌, None};
 ghost use Rattle.bt_log.specs.declared.message.Place.TheVariants.{DatabaseLine};
@@ -29,7 +29,7 @@ impl BibLine {
     }
 }
 
-/// Where an item stands, from which its lines count.
+/// The place of an item, to which its lines are relative.
 #[derive(Clone, Copy, PartialEq, Eq)]
 pub struct Origin {
     /// The number of its database, from 1.

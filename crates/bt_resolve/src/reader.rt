@@ -1,4 +1,4 @@
-//! What reads an item of a database.
+//! The reader of an item of a database.
 
 ghost use Rattle.std.specs.Prelude.{◌≡◌};
 ghost use Rattle.bt_resolve.specs.Warnings.{line_at};
@@ -7,13 +7,12 @@ use crate::asked::Asked;
 use crate::place::{BibLine, Origin};
 use std::alloc::Global;
 
-/// What an item of a database is read with.
+/// What the reader of an item needs.
 #[derive(Clone, Copy, Drop)]
 pub struct Reader<'a> {
     pub alloc: Global,
     /// What it is looked up in.
     pub asked: &'a Asked<'a>,
-    /// Where it stands.
     pub origin: Origin,
 }
 

@@ -43,7 +43,7 @@ fn bad_reference(alloc: Global, key: &[u8], parent: &[u8]) -> Result<Message, Al
     about(alloc, Rank::Error, key, words, Some(second))
 }
 
-/// An entry refers to one that refers to something itself.
+/// The message about an entry that refers to one that itself refers to another.
 fn nested(alloc: Global, key: &[u8], parent: &[u8]) -> Result<Message, AllocError>
     ensures { IfOk result (λ message. message ≡ nested key.now parent.now) }
 {
@@ -80,7 +80,7 @@ fn no_entry(alloc: Global, key: &[u8]) -> Result<Message, AllocError>
     about(alloc, Rank::Warning, key, words, None)
 }
 
-/// A key as it is cited; one that isn't cited, as it stands in the database.
+/// A key, spelled as it is cited, or as in the database if it isn't cited.
 pub fn spelled(
     alloc: Global,
     keys: &NameList,
@@ -192,8 +192,7 @@ impl<'a> View<'a> {
         Ok(())
     }
 
-    /// Adds the messages of the list, whose entries stand at these places. After out of memory a part of them may be
-    /// added.
+    /// Adds the messages of the list of entries at these places. If memory runs out, some of them may have been added.
     #[tactic(auto, unfolding(crate::specs::References::list_messages))]
     pub fn tell_list(
         &self,

@@ -1,7 +1,7 @@
 //! The whole resolution.
 //!
-//! Each function makes one or two values and lends them to the next. A `?` drops all values that live, and the prover
-//! follows each of these drops, so one function of all these steps would take it many minutes.
+//! Each function makes one or two values and lends them to the next. A `?` drops all live values, and the prover
+//! follows each drop, so a single function with all these steps would take many minutes to prove.
 
 ghost use Rattle.std.specs.Prelude.{◌≡◌, ◌≤◌, ◌++◌, length, map, IfOk, IfSome, IsTrue, OnOk};
 ghost use Rattle.bt_bib.specs.Items.{items_of};
@@ -49,7 +49,7 @@ fn resolve_list(
     view.entries_of_list(places.as_slice())
 }
 
-/// The preamble and the messages are taken out of what was read.
+/// Moves the preamble and the messages out of `read`.
 fn resolve_read(
     alloc: Global,
     asked: &Asked<'_>,

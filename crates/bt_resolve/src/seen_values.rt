@@ -1,7 +1,7 @@
-//! The values of an entry as the style sees them: shared with those that it has, with `crossref` in its place.
+//! The values of an entry as the style sees them: shared with the entry's own, with `crossref` in its place.
 //!
-//! Steps of the style share a list of values, and so do a parent and its children that have none of their own. A list is
-//! copied only if `crossref` changes it.
+//! Steps of the style share a list of values, and so do a parent and its children without values of their own. A list
+//! is copied only if `crossref` changes it.
 
 ghost use Rattle.std.specs.Prelude.{◌≡◌, [], true, slice_set, None, IfOk};
 ghost use Rattle.std.specs.List.{slice_index_or};
@@ -10,7 +10,7 @@ use crate::stored::FieldValues;
 use bt_text::{Bytes, Shared, SparseTexts};
 use std::alloc::{AllocError, Global};
 
-/// The values of the entry of a place, for one more owner.
+/// The values of the entry at a place, shared.
 pub fn shared_at(
     alloc: Global,
     values: &[Shared<FieldValues>],
@@ -25,7 +25,7 @@ pub fn shared_at(
     }
 }
 
-/// Whether the value of a place is missing already, or there is no such place.
+/// Whether the value at an index is missing already, or the index is out of range.
 fn is_missing(values: &FieldValues, place: usize) -> bool
     ensures { result ≡ true → slice_set values.now place None ≡ values.now }
 {
@@ -45,7 +45,7 @@ fn with_value(
     Shared::new(alloc, all)
 }
 
-/// The values with that of `crossref` in its place. They are shared where nothing changes.
+/// The values, with the value of `crossref` in its place. They are shared if nothing changes.
 pub fn put_crossref(
     alloc: Global,
     place: usize,

@@ -1,8 +1,8 @@
-//! The entries that are stored, with what is looked up in them.
+//! The stored entries, with tables to look them up.
 //!
 //! Whether an entry is stored depends on those before it: one of them may have its key, or refer to it by `crossref`.
-//! Both are asked for each entry of a database, so both are found by hashing. The keys that are referred to have a table
-//! of their own, since a parent mostly stands below its children: its key is known before its entry is.
+//! Both questions come up for each entry of a database, so both are answered by hashing. Keys that entries refer to
+//! have a table of their own, since a parent mostly follows its children: its key is known before its entry.
 
 ghost use Rattle.std.specs.Prelude.{◌≡◌, ◌++◌, ◌∷◌, [], ℕ, List, false, option_map, IfOk, OnOk, OnErr};
 ghost use Rattle.bt_text.specs.ByName.{HasRoom, known};
@@ -17,8 +17,8 @@ use bt_text::{ByName, to_ascii_lowercase};
 use std::alloc::{AllocError, Global};
 use std::marker::Model;
 
-/// The stored entries in the order of the databases. Contracts see their list. An entry is found by its key, and so is
-/// whether an entry refers to a key, by hashing.
+/// The stored entries in the order of the databases. Contracts see their list. Hashing finds the entry of a key, and
+/// whether any entry refers to a key.
 #[derive(Drop)]
 pub struct Store {
     entries: ByName<Stored>,
@@ -40,7 +40,7 @@ impl Model for Store {
 }
 
 impl Store {
-    /// No entries. They take no memory.
+    /// No entries. Allocates nothing.
     pub fn new(alloc: Global) -> Self
         ensures { result ≡ [] }
     {
@@ -50,7 +50,6 @@ impl Store {
         }
     }
 
-    /// The entries.
     pub fn entries(&self) -> &[Stored]
         ensures { result.now ≡ self.now }
     {
@@ -78,7 +77,7 @@ impl Store {
         self.referred.has(alloc, key)
     }
 
-    /// Puts an entry after the others, whose key has none yet. After out of memory they are as before.
+    /// Appends an entry, whose key must not have an entry yet. If memory runs out, the entries are unchanged.
     pub fn push(&mut self, alloc: Global, entry: Stored) -> Result<(), AllocError>
         requires { is_stored self.old entry.key ≡ false }
         ensures ok { OnOk result (self.new ≡ self.old ++ entry ∷ []) }
@@ -102,7 +101,7 @@ fn small_reference(alloc: Global, entry: &Stored) -> Result<Option<Vec<u8>>, All
     }
 }
 
-/// Notes a key in small letters, to which an entry refers, where there is one and room for it.
+/// Records the lower-case key that an entry refers to, if there is one. There must be room for it.
 fn refer_to(referred: &mut ByName<()>, small: Option<Vec<u8>>)
     requires { HasRoom referred.old }
     ensures { (key : List ℕ) → known referred.new key

@@ -1,21 +1,21 @@
-//! Entries that are stored.
+//! Stored entries.
 
 use bt_text::{Bytes, Shared, SparseTexts};
 
-/// Values in the order of the style's fields; none where a field is missing.
+/// Values in the order of the style's fields; none for a missing field.
 pub type FieldValues = SparseTexts;
 
-/// An entry as it is stored, before it inherits. What the entries of the list have of it is shared, and not copied.
+/// An entry as it is stored, before it inherits. The entries of the list share its texts instead of copying them.
 #[derive(Drop)]
 pub struct Stored {
     /// Its key, as in the database.
     pub key: Shared<Bytes>,
-    /// Its type, in small letters.
+    /// Its type, in lower case.
     pub kind: Shared<Bytes>,
-    /// Which of the types that have a function it has.
+    /// The index of its type among the types that have a function; none if it isn't one of them.
     pub function: Option<usize>,
-    /// The key that its field `crossref` has.
+    /// The key in its field `crossref`.
     pub crossref: Option<Shared<Bytes>>,
-    /// Its values, in the order of the style's fields. That of `crossref` isn't among them.
+    /// Its values, in the order of the style's fields, without the value of `crossref`.
     pub values: Shared<FieldValues>,
 }

@@ -1,7 +1,7 @@
-//! The value of parts joined by `#`, and the warnings that it gives.
+//! The value of parts joined by `#`, and its warnings.
 //!
-//! A value may name a macro twice, whose value names another twice, and so on: forty lines of a database would fill any
-//! memory. So what is joined is dropped as soon as it exceeds the limit, and the later parts only give their warnings.
+//! A value may name a macro twice whose value names another twice, and so on: forty lines of a database would fill any
+//! memory. So the joined text is dropped as soon as it exceeds the limit, and later parts only yield their warnings.
 
 ghost use Rattle.std.specs.Prelude.{◌≡◌, ◌++◌, [], ◌∷◌, None, not, option_copied, option_and_then, unwrap_or, IfOk, OnOk};
 ghost use Rattle.bt_resolve.specs.Values.{is_named, joined_parts, value, value_warnings, within_limit, without_first_space, without_last_space};
@@ -20,15 +20,14 @@ use bt_log::Message;
 use bt_text::{ByName, Bytes, Sequence, Shared, TEXT_BYTES, eq_ignore_ascii_case};
 use std::alloc::{AllocError, Global};
 
-/// What a value is read with.
+/// What the reader of a value needs.
 #[derive(Clone, Copy, Drop)]
 pub struct ValueReader<'a> {
     pub alloc: Global,
     /// The macros before the value.
     pub macros: &'a ByName<MacroText>,
-    /// The string whose value it is; none of a field or a preamble.
+    /// The string whose value it is; none for a field or a preamble.
     pub own: Option<&'a [u8]>,
-    /// Where its item stands.
     pub origin: Origin,
 }
 
@@ -41,14 +40,14 @@ fn is_named(text: Option<&[u8]>, name: &[u8]) -> bool
     }
 }
 
-/// Both lengths are compared by themselves, since their sum may overflow.
+/// Compares the lengths separately, since their sum may overflow.
 fn fits_after(front: &[u8], text: &[u8]) -> bool
     ensures { result ≡ not (is_too_long (front.now ++ text.now)) }
 {
     text.len() <= TEXT_BYTES && front.len() <= TEXT_BYTES - text.len()
 }
 
-/// Puts a text after what was joined so far, or drops everything where both together are over the limit.
+/// Appends a text to what was joined so far, or drops everything if the two together exceed the limit.
 fn join_part(
     alloc: Global,
     joined: &mut Option<JoinedParts>,
@@ -144,7 +143,7 @@ impl<'a> ValueReader<'a> {
         Ok(joined)
     }
 
-    /// A value from what its parts joined to, with the warning that it is over the limit, at the line of its name.
+    /// A value from its joined parts. If they exceed the limit, a warning is reported at the line of its name.
     fn finished(
         &self,
         joined: Option<JoinedParts>,
@@ -168,7 +167,7 @@ impl<'a> ValueReader<'a> {
         }
     }
 
-    /// The value of the parts, with its warnings. That it is over the limit is reported with this name, at this line.
+    /// The value of the parts, with its warnings. A value over the limit is reported with this name, at this line.
     #[tactic(auto, unfolding(crate::specs::Values::value, crate::specs::Values::value_warnings))]
     pub fn value(
         &self,
@@ -207,7 +206,7 @@ fn without_last_space(text: &[u8]) -> &[u8]
     }
 }
 
-/// A text without a space at its ends. It is not copied where it has none.
+/// A text without the spaces at its ends. It is not copied if it has none.
 pub fn trimmed(alloc: Global, text: Shared<Bytes>) -> Result<Shared<Bytes>, AllocError>
     ensures { IfOk result (λ trimmed. trimmed ≡ without_last_space (without_first_space text)) }
 {

@@ -30,7 +30,7 @@ pub struct View<'a> {
 }
 
 impl View<'_> {
-    /// Whether the entry of a place is left out of the list: it isn't cited, and too few entries refer to it.
+    /// Whether the entry at a place is left out of the list, because it isn't cited and too few entries refer to it.
     #[tactic(auto, unfolding(crate::specs::Inherited::is_left_out))]
     fn is_left_out(&self, place: usize) -> Result<bool, AllocError>
         ensures { IfOk result (λ left_out. left_out
@@ -43,7 +43,7 @@ impl View<'_> {
         )
     }
 
-    /// The field `crossref` of an entry in the end: missing where no entry has that key, or it is left out.
+    /// The final field `crossref` of an entry: missing if no entry has that key, or if that entry is left out.
     #[tactic(auto, unfolding(crate::specs::Inherited::final_crossref))]
     fn final_crossref(&self, entry: &Stored) -> Result<Option<Shared<Bytes>>, AllocError>
         ensures { IfOk result (λ name. name
@@ -144,7 +144,7 @@ impl View<'_> {
         Ok(entries)
     }
 
-    /// The entries that the style sees of the list, whose entries stand at these places.
+    /// The entries that the style sees, of the list of entries at these places.
     pub fn entries_of_list(&self, places: &[usize]) -> Result<Sequence<Entry>, AllocError>
         requires { places.now ≡ listed self.now.asked.now self.now.family.now }
         ensures { IfOk result (λ entries. entries

@@ -1,4 +1,4 @@
-//! The words of the warnings that items give.
+//! The wording of warnings about items.
 
 ghost use Rattle.std.specs.Prelude.{◌≡◌, ◌++◌, Some, None, IfOk};
 ghost use Rattle.bt_text.specs.CaseFolding.{folded};
@@ -21,7 +21,7 @@ fn warning_at(place: BibLine, words: Shared<Bytes>, entry: Option<Shared<Bytes>>
     }
 }
 
-/// A warning that says these words around a name in small letters.
+/// A warning with these words around a name in lower case.
 fn naming(
     alloc: Global,
     place: BibLine,
@@ -37,7 +37,7 @@ fn naming(
     Ok(warning_at(place, words, None))
 }
 
-/// A macro that isn't defined.
+/// The warning that a macro isn't defined.
 pub fn undefined_macro(alloc: Global, place: BibLine, name: &[u8]) -> Result<Message, AllocError>
     ensures { IfOk result (λ message. message ≡ undefined_macro place name.now) }
 {
@@ -50,7 +50,7 @@ pub fn undefined_macro(alloc: Global, place: BibLine, name: &[u8]) -> Result<Mes
     )
 }
 
-/// A macro that is used where it is defined.
+/// The warning that a macro is used in its own definition.
 pub fn own_macro(alloc: Global, place: BibLine, name: &[u8]) -> Result<Message, AllocError>
     ensures { IfOk result (λ message. message ≡ own_macro place name.now) }
 {
@@ -58,7 +58,7 @@ pub fn own_macro(alloc: Global, place: BibLine, name: &[u8]) -> Result<Message, 
     naming(alloc, place, b"Warning--string name \"", name, after)
 }
 
-/// A value that is over the limit.
+/// The warning that a value exceeds the limit.
 pub fn too_long(alloc: Global, place: BibLine, name: &[u8]) -> Result<Message, AllocError>
     ensures { IfOk result (λ message. message ≡ too_long place name.now) }
 {
@@ -78,7 +78,7 @@ fn about(
     Ok(warning_at(place, words, Some(entry)))
 }
 
-/// A second field of one name in the entry of a key.
+/// The warning that the entry of a key has a second field of this name.
 pub fn extra_field(
     alloc: Global,
     place: BibLine,
@@ -102,7 +102,7 @@ pub fn extra_field(
     about(alloc, place, key, words)
 }
 
-/// The entry of a key has a type without a function.
+/// The warning that the entry of a key has a type without a function.
 pub fn no_function(alloc: Global, place: BibLine, key: &[u8]) -> Result<Message, AllocError>
     ensures { IfOk result (λ message. message ≡ no_function place key.now) }
 {

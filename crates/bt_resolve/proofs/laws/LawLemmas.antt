@@ -95,7 +95,7 @@ pub listed_stored : ListedAreStored
 unfolding listed
 listed_stored a stored = listed_below a.keys a.star stored
 
--- ---- no two stored keys are alike
+-- ---- no two stored keys match
 
 apart_last : (s t : Stored) (ss : List Stored) → is_same_folded s.key t.key ≡ false → AllByRecursion (λ (u : Stored). is_same_folded s.key u.key ≡ false) ss → AllByRecursion (λ (u : Stored). is_same_folded s.key u.key ≡ false) (ss ++ t ∷ [])
 apart_last s t [] h hs = (h, tt)

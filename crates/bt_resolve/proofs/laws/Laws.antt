@@ -1,4 +1,4 @@
--- The laws of the crate, which no code needs. `specs/laws` has what they say.
+-- The crate's laws. No code needs them; `specs/laws` states them.
 use Rattle.bt_resolve.specs.laws.Laws.{MessagesForEachMin, ListedAreStored, StoredAreWanted, StoredKeysApart, NothingInherited, EntriesApart}
 use Rattle.bt_resolve.proofs.laws.LawLemmas
 use Rattle.bt_resolve.proofs.laws.ApartLemmas

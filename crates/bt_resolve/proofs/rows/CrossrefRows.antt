@@ -42,14 +42,14 @@ one_child_is_enough :
 unfolding sign enclosed word name_ended name many parts.part parts.next_part parts.value field next_field opening piece next_piece pieces_of value field_value value_warnings macro_before given_value stored_of stored_among stored_messages item_messages fault_words unclosed_entry listed values_after is_left_out final_crossref entries_seen reference_messages missing_messages list_messages stored_entries preamble messages resolved
 one_child_is_enough = refl
 
--- an uncited parent that stands before its child is not stored
+-- an uncited parent that comes before its child is not stored
 parent_in_front :
     found (cited (codes "a" ∷ [])) (codes "@misc{p, title = {T}}\n@misc{a, title = {U}, crossref = {p}}" ∷ []) 2
     ≡ said (entry (codes "a") None (Some (codes "U")) ∷ []) (told (codes "a") Error (codes "A bad cross reference---entry \"a\"") (Some (codes "refers to entry \"p\", which doesn't exist")) ∷ [])
 unfolding sign enclosed word name_ended name many parts.part parts.next_part parts.value field next_field opening piece next_piece pieces_of value field_value value_warnings macro_before given_value stored_of stored_among stored_messages item_messages fault_words unclosed_entry listed values_after is_left_out final_crossref entries_seen reference_messages missing_messages list_messages stored_entries preamble messages resolved
 parent_in_front = refl
 
--- a cited parent may stand before its child
+-- a cited parent may come before its child
 cited_parent_in_front :
     found (cited (codes "a" ∷ codes "p" ∷ [])) (codes "@misc{p, title = {T}}\n@misc{a, crossref = {p}}" ∷ []) 2
     ≡ said (entry (codes "a") (Some (codes "p")) (Some (codes "T")) ∷ entry (codes "p") None (Some (codes "T")) ∷ []) ([])
@@ -63,14 +63,14 @@ own_value_stays :
 unfolding sign enclosed word name_ended name many parts.part parts.next_part parts.value field next_field opening piece next_piece pieces_of value field_value value_warnings macro_before given_value stored_of stored_among stored_messages item_messages fault_words unclosed_entry listed values_after is_left_out final_crossref entries_seen reference_messages missing_messages list_messages stored_entries preamble messages resolved
 own_value_stays = refl
 
--- nested references: each inherits from its parent as that is when its turn comes
+-- nested references: each entry inherits from its parent as the parent is at that time
 nested :
     found (cited (codes "a" ∷ [])) (codes "@misc{a, crossref = {b}}\n@misc{b, crossref = {c}}\n@misc{c, title = {T}}" ∷ []) 1
     ≡ said (entry (codes "a") (Some (codes "b")) None ∷ entry (codes "b") (Some (codes "c")) (Some (codes "T")) ∷ entry (codes "c") None (Some (codes "T")) ∷ []) (told (codes "a") Warning (codes "Warning--you've nested cross references--entry \"a\"") (Some (codes "refers to entry \"b\", which also refers to something")) ∷ [])
 unfolding sign enclosed word name_ended name many parts.part parts.next_part parts.value field next_field opening piece next_piece pieces_of value field_value value_warnings macro_before given_value stored_of stored_among stored_messages item_messages fault_words unclosed_entry listed values_after is_left_out final_crossref entries_seen reference_messages missing_messages list_messages stored_entries preamble messages resolved
 nested = refl
 
--- the same warning where the parents are left out
+-- the same warning if the parents are left out
 nested_left_out :
     found (cited (codes "a" ∷ [])) (codes "@misc{a, crossref = {b}}\n@misc{b, crossref = {c}}\n@misc{c, title = {T}}" ∷ []) 2
     ≡ said (entry (codes "a") None None ∷ []) (told (codes "a") Warning (codes "Warning--you've nested cross references--entry \"a\"") (Some (codes "refers to entry \"b\", which also refers to something")) ∷ [])
@@ -84,7 +84,7 @@ refers_to_itself :
 unfolding sign enclosed word name_ended name many parts.part parts.next_part parts.value field next_field opening piece next_piece pieces_of value field_value value_warnings macro_before given_value stored_of stored_among stored_messages item_messages fault_words unclosed_entry listed values_after is_left_out final_crossref entries_seen reference_messages missing_messages list_messages stored_entries preamble messages resolved
 refers_to_itself = refl
 
--- uncited parents stand in the order in which entries refer to them
+-- uncited parents come in the order in which entries refer to them
 parents_by_their_children :
     found (cited (codes "a" ∷ codes "b" ∷ [])) (codes "@misc{b, crossref = {q}}@misc{a, crossref = {p}}@misc{p}@misc{q}" ∷ []) 1
     ≡ said (entry (codes "a") (Some (codes "p")) None ∷ entry (codes "b") (Some (codes "q")) None ∷ entry (codes "q") None None ∷ entry (codes "p") None None ∷ []) ([])

@@ -28,7 +28,7 @@ repeated_entry :
 unfolding sign enclosed word name_ended name many parts.part parts.next_part parts.value field next_field opening piece next_piece pieces_of value field_value value_warnings macro_before given_value stored_of stored_among stored_messages item_messages fault_words unclosed_entry listed values_after is_left_out final_crossref entries_seen reference_messages missing_messages list_messages stored_entries preamble messages resolved
 repeated_entry = refl
 
--- an error has the number of its database
+-- an error carries the number of its database
 repeated_in_the_second_database :
     found (cited (codes "a" ∷ [])) (codes "@misc{a, title = {A}}" ∷ codes "\n@misc{a, title = {B}}" ∷ []) 2
     ≡ said (entry (codes "a") None (Some (codes "A")) ∷ []) (about (codes "a") (error 2 2 None (codes "Repeated entry") (codes "entry")) ∷ [])

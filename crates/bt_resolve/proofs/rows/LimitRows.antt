@@ -4,7 +4,7 @@ use Rattle.bt_bib.specs.declared.item.Part.TheVariants.{Macro}
 use Rattle.bt_resolve.specs.Values.{value, value_warnings}
 use Rattle.bt_resolve.proofs.rows.RowWords.{warning}
 
--- each macro stands for so many letters
+-- each macro stands for this many letters
 abbrev letters : ℕ → List ℕ → Option (List ℕ)
 letters count name = Some (replicate count 120)
 
@@ -18,7 +18,7 @@ over_the_limit : value (letters 32769) (Macro (codes "m") 1 ∷ Macro (codes "m"
 unfolding value
 over_the_limit = refl
 
--- and it is reported at the line of its name, in small letters
+-- and it is reported at the line of its name, in lower case
 told_over_the_limit :
     value_warnings None (letters 32769) (record { database = 1; line = 1 }) 2 (codes "Title") (Macro (codes "m") 3 ∷ Macro (codes "m") 3 ∷ [])
     ≡ warning 1 3 (codes "Warning--the value of \"title\" is over 65536 bytes") ∷ []

@@ -27,7 +27,7 @@ undefined_macro :
 unfolding sign enclosed word name_ended name many parts.part parts.next_part parts.value field next_field opening piece next_piece pieces_of value field_value value_warnings macro_before given_value stored_of stored_among stored_messages item_messages fault_words unclosed_entry unclosed_command listed values_after is_left_out final_crossref entries_seen reference_messages missing_messages list_messages stored_entries preamble messages resolved
 undefined_macro = refl
 
--- a macro means the last string before the entry
+-- a macro has the value of the last string before the entry
 redefined_macro :
     found (cited (codes "a" ∷ codes "b" ∷ [])) (codes "@string{m = \"1\"}\n@misc{a, title = m}\n@string{M = \"2\"}\n@misc{b, title = m # { x}}" ∷ []) 2
     ≡ said (entry (codes "a") None (Some (codes "1")) ∷ entry (codes "b") None (Some (codes "2 x")) ∷ []) ([])
@@ -48,7 +48,7 @@ macro_of_the_style :
 unfolding sign enclosed word name_ended name many parts.part parts.next_part parts.value field next_field opening piece next_piece pieces_of value field_value value_warnings macro_before given_value stored_of stored_among stored_messages item_messages fault_words unclosed_entry unclosed_command listed values_after is_left_out final_crossref entries_seen reference_messages missing_messages list_messages stored_entries preamble messages resolved
 macro_of_the_style = refl
 
--- a string of the first database means something in the second one
+-- a string of the first database is defined in the second one
 macro_of_a_database :
     found (cited (codes "a" ∷ [])) (codes "@string{s = {T}}" ∷ codes "@misc{a, title = s}" ∷ []) 2
     ≡ said (entry (codes "a") None (Some (codes "T")) ∷ []) ([])
@@ -69,7 +69,7 @@ preambles_joined :
 unfolding sign enclosed word name_ended name many parts.part parts.next_part parts.value field next_field opening piece next_piece pieces_of value field_value value_warnings macro_before given_value stored_of stored_among stored_messages item_messages fault_words unclosed_entry unclosed_command listed values_after is_left_out final_crossref entries_seen reference_messages missing_messages list_messages stored_entries preamble messages resolved
 preambles_joined = refl
 
--- what nothing asks for gives no message
+-- entries that aren't wanted yield no messages
 macros_of_unused_entries :
     found (cited (codes "a" ∷ [])) (codes "@misc{b, title = nix}@misc{a, note = nix}" ∷ []) 2
     ≡ said (entry (codes "a") None None ∷ []) ([])

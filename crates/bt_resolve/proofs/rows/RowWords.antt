@@ -24,11 +24,11 @@ style = record {
 abbrev pub cited : List (List ℕ) → Cites
 cited keys = record { keys = keys; star = None }
 
--- these keys, with `*` after so many of them
+-- these keys, with `*` after this many of them
 abbrev pub cited_with_star : ℕ → List (List ℕ) → Cites
 cited_with_star before keys = record { keys = keys; star = Some before }
 
--- what the texts of databases give, with this least number of references
+-- what the texts of databases resolve to, with this least number of references
 abbrev pub found : Cites → List (List ℕ) → ℕ → Resolved
 found cites databases min = resolved style cites (map bib_items databases) min
 
@@ -44,7 +44,7 @@ entry key crossref title = record { key = key; kind = codes "misc"; function = S
 abbrev pub warning : ℕ → ℕ → List ℕ → Message
 warning database line words = at (DatabaseLine database line None) (plain Warning words)
 
--- an error at a line of a database, and at a byte where that is known
+-- an error at a line of a database, and at a byte if that is known
 abbrev pub error : ℕ → ℕ → Option ℕ → List ℕ → List ℕ → Message
 error database line byte words second = skipping (Words words) (DatabaseLine database line byte) second
 

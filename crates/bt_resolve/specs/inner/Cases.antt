@@ -1,4 +1,4 @@
--- Parts of rules, for the functions and lemmas that speak of them.
+-- Parts of rules, for the functions and lemmas that are about them.
 use Rattle.std.specs.Prelude.{ℕ, Bool, true, false, ◌||◌, not, ◌&&◌, ◌==◌, nat_lt, List, [], ◌∷◌, ◌++◌, length, map, filter, filter_map, slice_get, slice_set, codes, Option, Some, None, is_some, option_map, option_and_then, unwrap_or, if◌then◌else◌, take}
 use Rattle.std.specs.List.{list_any, range_with_len}
 use Rattle.bt_text.specs.ByName.{with_value}
@@ -49,7 +49,7 @@ abbrev pub joined_or_empty : Option (List ℕ) → List ℕ
 joined_or_empty None = []
 joined_or_empty (Some text) = white_joined text
 
--- of a macro that stands for this
+-- of a macro with this value
 abbrev pub macro_warnings : Bool → Option (List ℕ) → BibLine → List ℕ → List Message
 macro_warnings own text place name = elim text [
   | Some defined ↦ []
@@ -95,7 +95,7 @@ with_content fault content macros = elim content [
 
 -- Fields
 
--- what fields give for a declared name other than `crossref`
+-- what fields yield for a declared name other than `crossref`
 abbrev pub own_value : MacroTexts → List Field → List ℕ → Option (List ℕ)
 own_value macros fields name = if is_same_folded name crossref then None else given_value macros fields name
 
@@ -149,7 +149,7 @@ content_messages a macros stored origin line fault content = elim content [
   | contents.Preamble parts ↦ preamble_messages macros origin line (faultless fault parts)
 ]
 
--- what an item of a database gives, from the items before it
+-- what an item of a database yields, from the items before it
 abbrev pub messages_at : Asked → List StyleMacro → ℕ → List PlacedItem → PlacedItem → List Message
 messages_at a macros database before placed =
     item_messages a (macro_before macros before) (stored_among a macros before) (origin_of database placed) placed.end
@@ -203,7 +203,7 @@ values_of (Some s) = s.values
 abbrev pub parent_at : List Stored → ℕ → Option ℕ
 parent_at stored p = option_and_then (parent_of stored) (slice_get stored p)
 
--- the values of an entry after another one has inherited, or this one itself
+-- the values of an entry after another one, or this one itself, has inherited
 abbrev pub inherits : Bool → Option ℕ → (ℕ → List (Option (List ℕ))) → ℕ → List (Option (List ℕ))
 inherits itself parent now p = elim itself [
   | false ↦ now p
@@ -221,7 +221,7 @@ with_crossref place name values = elim place [ None ↦ values | Some p ↦ slic
 abbrev pub entry_at : Asked → ℕ → List Stored → (ℕ → List (Option (List ℕ))) → ℕ → Option SeenEntry
 entry_at a min stored values p = option_map (entry_seen a min stored (values p)) (slice_get stored p)
 
--- the entries of these places with these values, without those that are left out
+-- the entries at these places with these values, without those that are left out
 abbrev pub entries_by : Asked → ℕ → List Stored → (ℕ → List (Option (List ℕ))) → List ℕ → List SeenEntry
 entries_by a min stored values places =
     filter_map (entry_at a min stored values) (filter (λ p. not (is_left_out a min stored p)) places)
@@ -242,6 +242,6 @@ entry_messages keys stored (Some s) = elim s.crossref [
 
 -- All
 
--- what items are looked up in
+-- what the items' names and keys are looked up in
 abbrev pub asked : Declared → Cites → Asked
 asked d c = record { fields = d.fields; types = d.types; keys = c.keys; star = c.star }

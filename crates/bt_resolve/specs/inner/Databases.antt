@@ -1,4 +1,4 @@
--- What reading one more item makes of what was read so far.
+-- How reading one more item changes what was read so far.
 use Rattle.std.specs.Prelude.{ℕ, ◌+◌, List, [], ◌∷◌, ◌++◌}
 use Rattle.bt_bib.specs.declared.item.Item.{Item}
 use Rattle.bt_bib.specs.declared.spot.Spot.{Spot}
@@ -59,7 +59,7 @@ after_databases a number s (these ∷ databases) = after_databases a (number + 1
 abbrev pub nothing_read : List Macro → State
 nothing_read macros = record { macros = style_macro macros; stored = []; preamble = []; messages = [] }
 
--- what is seen after these entries were stored, and this preamble and these messages read
+-- what is seen, once these entries are stored, and this preamble and these messages are read
 abbrev pub resolved_of : Asked → ℕ → List Stored → List ℕ → List Message → Resolved
 resolved_of a min stored text told =
     record { entries = entries_seen a min stored; preamble = text; messages = told ++ list_messages a stored }

@@ -1,4 +1,4 @@
--- How an entry stands to those that are stored before it.
+-- Whether an entry is stored, given those that are stored before it.
 use Rattle.std.specs.Prelude.{ℕ, List, if◌then◌else◌}
 use Rattle.bt_resolve.specs.declared.asked.Asked.{Asked}
 use Rattle.bt_resolve.specs.declared.stored.Stored.{Stored}

@@ -1,4 +1,4 @@
--- One entry after another inherits, in the list of all values as they are.
+-- Entries inherit one after another, in the list of all current values.
 use Rattle.std.specs.Prelude.{ℕ, List, [], ◌∷◌, Option, Some, None, slice_set, map}
 use Rattle.std.specs.List.{slice_index_or}
 use Rattle.bt_resolve.specs.declared.entry.Entry.{Entry}
@@ -15,7 +15,7 @@ inherits_from (Some parent) p values =
 abbrev pub inherits_at : List Stored → List (List (Option (List ℕ))) → ℕ → List (List (Option (List ℕ)))
 inherits_at stored values p = inherits_from (parent_at stored p) p values
 
--- the entries of these places, one after another
+-- the entries at these places, one after another
 abbrev pub all_inherit : List Stored → List (List (Option (List ℕ))) → List ℕ → List (List (Option (List ℕ)))
 all_inherit stored values [] = values
 all_inherit stored values (p ∷ ps) = all_inherit stored (inherits_at stored values p) ps
@@ -23,6 +23,6 @@ all_inherit stored values (p ∷ ps) = all_inherit stored (inherits_at stored va
 abbrev pub values_read : List Stored → List (List (Option (List ℕ)))
 values_read stored = map (λ (s : Stored). s.values) stored
 
--- the entries of these places as they are seen with values in a list, without those that are left out
+-- the entries at these places as they are seen with the values in a list, without those that are left out
 abbrev pub entries_with : View → List (List (Option (List ℕ))) → List ℕ → List Entry
 entries_with v values places = entries_by v.asked.now v.min v.family.now (λ q. slice_index_or values q []) places

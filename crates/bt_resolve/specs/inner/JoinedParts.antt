@@ -1,4 +1,4 @@
--- The bytes of joined parts, whoever has them.
+-- The bytes of joined parts, whoever owns them.
 use Rattle.std.specs.Prelude.{ℕ, List}
 use Rattle.bt_resolve.specs.declared.joined_parts.Holder.{Holder}
 use Rattle.bt_resolve.specs.declared.joined_parts.Holder.TheVariants as holder

@@ -1,4 +1,4 @@
--- Places of names, counted from a place of the list on.
+-- Places of names, counted from a place in the list.
 use Rattle.std.specs.Prelude.{ℕ, ◌+◌, List, drop, Option, option_map}
 use Rattle.bt_resolve.specs.Names.{place_of_name}
 

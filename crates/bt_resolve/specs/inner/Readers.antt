@@ -1,4 +1,4 @@
--- What readers give for the parts of an item.
+-- What readers return for the parts of an item.
 use Rattle.std.specs.Prelude.{ℕ, List, [], Option, None, option_copied}
 use Rattle.std.specs.List.{flat_map}
 use Rattle.bt_bib.specs.declared.item.Definition.{Definition}

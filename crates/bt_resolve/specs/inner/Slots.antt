@@ -18,7 +18,7 @@ abbrev pub slot_of : List (List ℕ) → List ℕ → Option Slot
 slot_of declared name =
     if is_same_folded name crossref then Some Crossref else option_map (λ p. Value p) (place_of_name declared name)
 
--- what fields give, in their slots
+-- what fields yield, in their slots
 abbrev pub given_by : List (List ℕ) → MacroTexts → List Field → Given
 given_by declared macros fields =
     record { values = own_values declared macros fields; crossref = given_value macros fields crossref }
@@ -36,7 +36,7 @@ abbrev pub fill : Slot → List ℕ → Given → Given
 fill Crossref text g = record g { crossref = Some text }
 fill (Value p) text g = record g { values = slice_set g.values p (Some text) }
 
--- what one more field gives
+-- what one more field yields
 abbrev pub with_field : Option Slot → List ℕ → Given → Given
 with_field None text g = g
 with_field (Some slot) text g = if is_filled slot g then g else fill slot text g

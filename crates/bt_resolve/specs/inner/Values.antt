@@ -1,4 +1,4 @@
--- A text with one part more, within the limit.
+-- A text with one more part, within the limit.
 use Rattle.std.specs.Prelude.{ℕ, List, ◌++◌, Option}
 use Rattle.bt_resolve.specs.Values.{within_limit}
 

@@ -17,16 +17,16 @@ use Rattle.bt_resolve.specs.Inherited.{values_after}
 use Rattle.bt_resolve.specs.inner.Cases.{values_of}
 use Rattle.bt_resolve.specs.Resolved.{resolved, stored_entries}
 
--- the messages are the same for each least number of references
+-- the messages don't depend on the least number of references
 abbrev pub MessagesForEachMin : Type 0
 MessagesForEachMin = (d : Declared) (c : Cites) (databases : List (List PlacedItem)) (m n : ℕ) →
     (resolved d c databases m).messages ≡ (resolved d c databases n).messages
 
--- each place of the list is that of a stored entry
+-- each place in the list is the place of a stored entry
 abbrev pub ListedAreStored : Type 0
 ListedAreStored = (a : Asked) (stored : List Stored) → AllByRecursion (λ p. p < length stored) (listed a stored)
 
--- each of these is wanted after those that are stored before it
+-- each of these is wanted, given those that are stored before it
 abbrev pub WantedInTurn : Asked → List Stored → List Stored → Type 0
 WantedInTurn a before [] = Unit {0}
 WantedInTurn a before (s ∷ ss) = (is_wanted a before s.key ≡ true) × WantedInTurn a (before ++ s ∷ []) ss
@@ -45,12 +45,12 @@ abbrev pub StoredKeysApart : Type 0
 StoredKeysApart = (a : Asked) (macros : List Macro) (databases : List (List PlacedItem)) →
     KeysApart (stored_entries a macros databases)
 
--- where no entry refers to another, each has the values that were read
+-- if no entry refers to another, each has the values that were read
 abbrev pub NothingInherited : Type 0
 NothingInherited = (stored : List Stored) → AllByRecursion (λ (s : Stored). s.crossref ≡ None) stored →
     (before : List ℕ) (p : ℕ) → values_after stored before p ≡ values_of (slice_get stored p)
 
--- where no two cited keys match, no two entries of the list have keys that match
+-- if no two cited keys match, no two entries of the list have keys that match
 abbrev pub EntriesApart : Type 0
 EntriesApart = (d : Declared) (c : Cites) (databases : List (List PlacedItem)) (min : ℕ) → IsTrue (are_apart c.keys) →
     are_apart (map (λ (e : Entry). e.key) (resolved d c databases min).entries) ≡ true
