@@ -1,4 +1,4 @@
--- The log: its bytes, and the status that it comes to.
+-- The log: its bytes, and its status.
 use Rattle.std.specs.Prelude.{ℕ, Bool, true, false, ◌==◌, List, [], ◌∷◌, ◌++◌, map, filter, count_by, codes, decimal, if◌then◌else◌}
 use Rattle.std.specs.List.{list_any}
 use Rattle.bt_log.specs.declared.message.Rank.{Rank}
@@ -8,7 +8,7 @@ use Rattle.bt_log.specs.Wording.{spelled}
 
 -- The status
 
--- the status of a log that has a message of this rank alone
+-- the status of a log in which all messages have this rank
 abbrev pub rank_status : Rank → ℕ
 rank_status FileLine = 0
 rank_status Note = 0
@@ -17,7 +17,7 @@ rank_status Warning = 1
 rank_status Error = 2
 rank_status Fatal = 3
 
--- whether a message brings the log to this status
+-- whether a message has the rank of this status
 abbrev pub has_status : ℕ → Message → Bool
 has_status status m = rank_status m.rank == status
 
@@ -45,13 +45,13 @@ abbrev pub lines_bytes : List (List ℕ) → List ℕ
 lines_bytes [] = []
 lines_bytes (line ∷ lines) = line ++ 10 ∷ lines_bytes lines
 
--- how many there were of a thing that has this name
+-- how many things of this name there were
 abbrev pub count_line : ℕ → List ℕ → List ℕ
 count_line n name =
     if n == 1 then codes "(There was 1 " ++ name ++ codes ")\n"
     else codes "(There were " ++ decimal n ++ codes " " ++ name ++ codes "s)\n"
 
--- the last line: what the status stands for, and nothing if it is 0
+-- the last line, which says what the status means, or nothing if it is 0
 abbrev pub last_line : List Message → List ℕ
 last_line log =
     let status = status_of log in

@@ -12,7 +12,7 @@ use Rattle.bt_log.specs.declared.message.Message.{Message}
 abbrev pub plain : Rank → List ℕ → Message
 plain rank words = record { rank = rank; said = Words words; entry = None; place = None; second = None }
 
--- a message that says this of a file, about no entry and without a place
+-- a message that says this about a file; it is about no entry and has no place
 abbrev pub of_file : Rank → FileNote → List ℕ → Message
 of_file rank note file = record { rank = rank; said = OfFile note file; entry = None; place = None; second = None }
 

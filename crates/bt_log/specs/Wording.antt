@@ -18,7 +18,7 @@ kind_words Aux = codes "auxiliary"
 kind_words Bib = codes "database"
 kind_words Bst = codes "style"
 
--- what a message says of a file
+-- what a message says about a file
 abbrev pub note_words : FileNote → List ℕ → List ℕ
 note_words RootAux file = codes "The top-level auxiliary file: " ++ file
 note_words (NestedAux level) file = codes "A level-" ++ decimal level ++ codes " auxiliary file: " ++ file
@@ -35,7 +35,7 @@ abbrev pub said_words : Said → List ℕ
 said_words (Words words) = words
 said_words (OfFile note file) = note_words note file
 
--- The line of a warning is a line of its own, that of any other message goes on after its words.
+-- The place of a warning is on a line of its own; that of any other message follows its words.
 abbrev pub before_line : Rank → List ℕ
 before_line FileLine = codes "---line "
 before_line Note = codes "---line "
@@ -49,8 +49,8 @@ abbrev pub for_entry : Option (List ℕ) → List ℕ
 for_entry None = []
 for_entry (Some key) = codes " for entry " ++ key
 
--- Where a message belongs, of a rank and about an entry or none. An error of a step names the entry and the style's
--- command; what the style logs itself stays as it is.
+-- Where a message belongs, given its rank and the entry that it is about, if any. An error of a step names the entry
+-- and the style's command; what the style itself logs has no place added.
 abbrev pub place_words : Rank → Option (List ℕ) → Option Place → List ℕ
 place_words rank entry None = []
 place_words rank entry (Some (Line file line byte)) = before_line rank ++ decimal line ++ codes " of file " ++ file

@@ -1,2 +1,2 @@
--- What only helpers, loops and proofs need: no part of the meaning.
+-- Only helpers, loops and proofs need these. They are no part of the meaning.
 pub mod Cases

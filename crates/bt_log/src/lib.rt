@@ -1,4 +1,4 @@
-//! Messages: what each counts as, what it says and where it belongs; and the log, which puts them into words.
+//! Messages, each with its rank, its content and its place; and the log, which puts them into words.
 #![tactic(auto)]
 
 mod log;

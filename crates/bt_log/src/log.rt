@@ -1,7 +1,7 @@
 //! The log: its bytes, and the status that it gives a run.
 //!
-//! Messages stay in their parts until here. So a caller can still replace the name of a file in them, and count them by
-//! rank instead of by their words.
+//! Messages stay in their parts up to this point. So a caller can still replace the name of a file in them, and count
+//! them by rank rather than by their words.
 
 ghost use Rattle.std.specs.Prelude.{◌≡◌, [], ◌∷◌, ◌++◌, count_by, IfOk, OnOk};
 ghost use Rattle.std.specs.List.{list_any};
@@ -15,7 +15,7 @@ use itoa::Buffer;
 use std::alloc::{AllocError, Global};
 
 impl Rank {
-    /// The status of a log whose messages all have this rank.
+    /// The status of a log in which all messages have this rank.
     fn status(self) -> u8
         ensures { result ≡ rank_status self }
     {
@@ -66,7 +66,7 @@ pub fn status(log: &[Message]) -> u8
     }
 }
 
-/// For any count but 1. `name` is the singular, and gets an `s`.
+/// For any count except 1. `name` is the singular, to which an `s` is added.
 fn several(alloc: Global, count: usize, name: &[u8]) -> Result<Bytes, AllocError>
     ensures { IfOk result (λ line. line ≡ several count name.now) }
 {

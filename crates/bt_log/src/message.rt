@@ -10,11 +10,11 @@ use std::alloc::{AllocError, Global};
 /// What a message counts as.
 #[derive(Clone, Copy, Debug, PartialEq, Eq)]
 pub enum Rank {
-    /// The line that names a file which is read. It counts as nothing.
+    /// The line that names a file that is read. It doesn't affect the status.
     FileLine,
-    /// A value that the style logs. It counts as nothing.
+    /// A value that the style logs. It doesn't affect the status.
     Note,
-    /// How often a built-in function was called. It counts as nothing.
+    /// How often a built-in function was called. It doesn't affect the status.
     CallCount,
     Warning,
     Error,
@@ -30,12 +30,12 @@ pub enum FileKind {
     Bst,
 }
 
-/// What a message says of a file.
+/// What a message says about a file.
 #[derive(Clone, Copy, Debug, PartialEq, Eq)]
 pub enum FileNote {
     /// The job begins with this `.aux` file.
     RootAux,
-    /// This `.aux` file is read, so many levels below the first.
+    /// This `.aux` file is read, this many levels below the first.
     NestedAux(usize),
     /// This is the style.
     StyleFile,
@@ -53,8 +53,8 @@ pub enum FileNote {
     BadFileName,
 }
 
-/// What a message says, without its place. A file's name stays apart from the words, so that a caller who knows the
-/// file by another name can put that name in its place.
+/// What a message says, without its place. A file's name is kept apart from the words, so that a caller who knows the
+/// file by another name can replace it.
 #[derive(Debug, Drop)]
 pub enum Said {
     Words(Shared<Bytes>),
@@ -62,7 +62,7 @@ pub enum Said {
 }
 
 impl Said {
-    /// The same, whose text has one more owner.
+    /// The same, with shared text.
     pub fn share(&self) -> Result<Said, AllocError>
         ensures { IfOk result (λ said. said ≡ self.now) }
     {
@@ -76,8 +76,8 @@ impl Said {
     }
 }
 
-/// Where a message belongs. Lines and databases are numbered from 1, and a byte is the number of bytes before it in its
-/// file, if the reader knows it.
+/// Where a message belongs. Lines and databases are numbered from 1. A byte is given, if the reader knows it, by the
+/// number of bytes before it in its file.
 #[derive(Debug, Drop)]
 pub enum Place {
     /// A line of a file.
@@ -86,7 +86,7 @@ pub enum Place {
         line: u128,
         byte: Option<usize>,
     },
-    /// A line of a database, by the number of the database, as long as its file's name isn't known.
+    /// A line of a database, by the number of the database, until the name of its file is known.
     DatabaseLine {
         database: usize,
         line: u128,
@@ -139,16 +139,16 @@ pub struct Message {
     pub rank: Rank,
     /// What it says, without its place.
     pub said: Said,
-    /// The key of the entry that it is about, if it is about one.
+    /// The key of the entry that it is about, if any.
     pub entry: Option<Shared<Bytes>>,
-    /// Where it belongs; none if it belongs to the run, or as long as that isn't known.
+    /// Where it belongs; none if it belongs to the whole run, or until the place is known.
     pub place: Option<Place>,
     /// What it says on a second line, after its place.
     pub second: Option<Shared<Bytes>>,
 }
 
 impl Message {
-    /// A message that says these pieces, about no entry and without a place.
+    /// A message with these pieces as its words, about no entry and without a place.
     pub fn of(alloc: Global, rank: Rank, pieces: &[&[u8]]) -> Result<Message, AllocError>
         ensures { IfOk result (λ message. message ≡ plain rank (joined (map (λ piece. piece.now) pieces.now))) }
     {
@@ -161,7 +161,7 @@ impl Message {
         })
     }
 
-    /// A message that says this of a file, about no entry and without a place.
+    /// A message that says this about a file. It is about no entry and has no place.
     pub fn of_file(rank: Rank, note: FileNote, file: Shared<Bytes>) -> Message
         ensures { result ≡ of_file rank note file }
     {
@@ -197,7 +197,7 @@ impl Message {
         })
     }
 
-    /// The same message, whose texts have one more owner.
+    /// The same message, with shared texts.
     pub fn share(&self) -> Result<Message, AllocError>
         ensures { IfOk result (λ message. message ≡ self.now) }
     {

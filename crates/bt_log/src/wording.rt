@@ -1,7 +1,7 @@
 //! A message in words: what it says, then where it belongs, then its second line.
 //!
-//! Each function appends all its pieces in one call. The definition spells the same pieces in a row, so the two texts are
-//! equal by computation, without a lemma. And the pieces go straight into the log: no message is made as a text first.
+//! Each function appends all its pieces in one call. The definition concatenates the same pieces, so the two texts are
+//! equal by computation, without a lemma. And the pieces go straight into the log: no message is built as a text first.
 
 ghost use Rattle.std.specs.Prelude.{◌≡◌, ◌++◌, Some, codes, decimal, OnOk};
 ghost use Rattle.bt_log.specs.Wording.{kind_words, note_words, said_words, before_line, for_entry, place_words, spelled};
@@ -74,7 +74,7 @@ fn add_note(text: &mut Bytes, note: FileNote, file: &[u8]) -> Result<(), AllocEr
     }
 }
 
-/// Adds what a message says, without its place. After an error a part of it may be there.
+/// Adds what a message says, without its place. After an error, a part of it may have been added.
 pub fn add_said(text: &mut Bytes, said: &Said) -> Result<(), AllocError>
     ensures { OnOk result (text.new ≡ text.old ++ said_words said.now) }
 {
@@ -191,7 +191,7 @@ fn add_second(text: &mut Bytes, second: &Option<Shared<Bytes>>) -> Result<(), Al
     Ok(())
 }
 
-/// Adds a message in words. After an error a part of them may be there.
+/// Adds a message in words. After an error, a part of them may have been added.
 pub fn spell(text: &mut Bytes, message: &Message) -> Result<(), AllocError>
     ensures { OnOk result (text.new ≡ text.old ++ spelled message.now) }
 {

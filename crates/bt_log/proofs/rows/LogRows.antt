@@ -19,7 +19,7 @@ error_at_line : spelled (record (plain Error (codes "No \"}\"")) { place = Some 
 unfolding digits
 error_at_line = refl
 
--- The line of a warning is a line of its own, and the byte isn't told.
+-- The place of a warning is on a line of its own, and its byte isn't reported.
 warning_at_line : spelled (at (Line (codes "x.bib") 3 (Some 40)) (plain Warning (codes "Warning--string name \"nix\" is undefined")))
     ≡ codes "Warning--string name \"nix\" is undefined\n--line 3 of file x.bib"
 unfolding digits
@@ -52,7 +52,7 @@ step_warning = refl
 step_note : spelled (at (Step (codes "s.bst") 7) (plain Note (codes "3"))) ≡ codes "3"
 step_note = refl
 
--- An entry without a place isn't told: the words name it.
+-- The entry of a message without a place isn't reported: the words name it.
 about_entry : spelled (record (plain Error (codes "A bad cross reference---entry \"a\"")) { entry = Some (codes "a"); second = Some (codes "refers to entry \"p\", which doesn't exist") })
     ≡ codes "A bad cross reference---entry \"a\"\nrefers to entry \"p\", which doesn't exist"
 about_entry = refl
@@ -123,7 +123,7 @@ two_warnings : last_line (warning ∷ quiet ++ warning ∷ []) ≡ codes "(There
 unfolding digits
 two_warnings = refl
 
--- Errors alone are counted.
+-- Only errors are counted.
 one_error : last_line (warning ∷ error ∷ warning ∷ []) ≡ codes "(There was 1 error message)\n"
 one_error = refl
 
@@ -144,7 +144,7 @@ whole_log = refl
 terse_log : terse_bytes (quiet ++ warning ∷ []) ≡ codes "note\nw\n(There was 1 warning)\n"
 terse_log = refl
 
--- The count of a function's calls is left out too, and counts for no status.
+-- The count of a function's calls is left out too, and doesn't affect the status.
 terse_counts : terse_bytes (quiet ++ plain CallCount (codes "skip$ -- 3") ∷ []) ≡ codes "note\n"
 terse_counts = refl
 

@@ -1,4 +1,4 @@
--- Parts of rules, for the functions and lemmas that speak of them.
+-- Parts of rules, for the functions and lemmas that are about them.
 use Rattle.std.specs.Prelude.{ℕ, List, [], ◌∷◌, ◌++◌, map, filter, codes, decimal, Option, Some, None}
 use Rattle.bt_log.specs.declared.message.Rank.{Rank}
 use Rattle.bt_log.specs.declared.message.Rank.TheVariants.{FileLine, Note, CallCount, Warning, Error, Fatal}
@@ -6,7 +6,7 @@ use Rattle.bt_log.specs.declared.message.Message.{Message}
 use Rattle.bt_log.specs.Log.{is_in_terse_log, lines_bytes}
 use Rattle.bt_log.specs.Wording.{for_entry, spelled}
 
--- several of a thing that has this name
+-- several things of this name
 abbrev pub several : ℕ → List ℕ → List ℕ
 several n name = codes "(There were " ++ decimal n ++ codes " " ++ name ++ codes "s)\n"
 
