@@ -1,4 +1,4 @@
--- No file is opened twice, so the bound of the lines doesn't matter.
+-- No file is opened twice, so the bound on the lines doesn't matter.
 use Rattle.std.specs.Prelude.{not, eqb, codes, flat_map}
 use Rattle.std.specs.List.{ends_with}
 use Rattle.std.specs.Option.{is_some, option_or, option_map}
@@ -89,7 +89,7 @@ pub unopened_is : (files : List File) (names : List (List ℕ)) → unopened fil
 unopened_is [] names = refl
 unopened_is (f ∷ fs) names = ap (λ n. cond (is_among names f.name) 0 (count f.text) + n) (unopened_is fs names)
 
--- the names of all lines with one more
+-- the names of all lines, with one more line
 within_line : (root : List ℕ) (lines : List JobLine) (line : JobLine) → Within (root ∷ input_names lines) (root ∷ input_names (lines ++ line ∷ []))
 within_line root lines line n h = go (has_command Nested line) refl
   where

@@ -1,4 +1,4 @@
--- What the code's steps come to is what is said of the list of all lines.
+-- The result of the code's steps is what is defined on the list of all lines.
 use Rattle.std.specs.Prelude.{◌&&◌, ◌||◌, not, codes, filter, fold, slice_get}
 use Rattle.std.specs.List.{before_first}
 use Rattle.std.specs.Option.{is_some, is_none}
@@ -81,7 +81,7 @@ lack_is None names command nothing = refl
 lack_is (Some line) [] command nothing = refl
 lack_is (Some line) (n ∷ ns) command nothing = ap (λ b. cond b (nothing ∷ []) []) (not_empty n ns)
 
--- a lack, by what it is reported from
+-- something missing, given what it is reported from
 lack_by : (root command nothing : List ℕ) (met none : Bool) (o : Option JobLine) (names : List (List ℕ)) (r : Progress) → met ≡ is_some o → none ≡ is_empty names
     → missing_one met none command nothing root r ≡ logged r (map (told_missing root) (missing_of o names command nothing))
 lack_by root command nothing met none o names r is_met is_none =
@@ -154,7 +154,7 @@ asked_root : (files : List File) (root : List ℕ) (o : Option (List ℕ)) → i
 asked_root files root None ends is = refl
 asked_root files root (Some text) ends is = asked_as files root (job_lines files root) _ (read_holds files root text ends is)
 
--- What the code's steps come to is what is said of all lines.
+-- The result of the code's steps is what is defined on all lines.
 pub citations_are : (files : List File) (root : List ℕ) → (let file = root ++ codes ".aux" in asked_for (rooted files file (text_of files file)) ≡ citations files root)
 unfolding citations
 citations_are files root = asked_root files (root ++ codes ".aux") (text_of files (root ++ codes ".aux")) (aux_ends root) refl

@@ -1,4 +1,4 @@
--- \citation: the code's steps over its parts, and what was cited.
+-- \citation: the code's steps through its parts, and what was cited.
 use Rattle.std.specs.Prelude.{◌||◌, ◌&&◌, not, codes, filter, fold}
 use Rattle.std.specs.List.{before_first}
 use Rattle.std.specs.Option.{is_some, option_or, option_map}
@@ -138,7 +138,7 @@ keys_key parts part is = keys_by false parts part is
 pub keys_star : (parts : List (List ℕ)) (part : List ℕ) → is_star part ≡ true → keys_of (parts ++ part ∷ []) ≡ keys_of parts
 keys_star parts part is = keys_by true parts part is
 
--- what stands before the first `*`
+-- what comes before the first `*`
 before_cons : (part : List ℕ) (parts : List (List ℕ)) → before_first is_star (part ∷ parts) ≡ cond (is_star part) [] (part ∷ before_first is_star parts)
 before_cons part parts = take_while-cons (λ p. not (is_star p)) part parts ∙ go (is_star part)
   where
@@ -182,7 +182,7 @@ star_star parts part is e =
 abbrev pub cited_to : Progress → List (List ℕ) → Option LineFault → Progress × Outcome
 cited_to r parts o = (record r { keys = keys_of parts; star = star_of parts }, outcome_of o)
 
--- the same, by what is wrong with the part
+-- the same, given what is wrong with the part
 abbrev IsCited : Progress → List (List ℕ) → List ℕ → Option LineFault → Type 0
 IsCited r parts part None = cited_part part r ≡ cited_to r (parts ++ part ∷ []) None
 IsCited r parts part (Some f) = cited_part part r ≡ cited_to r parts (Some f)
@@ -206,7 +206,7 @@ star_cited parts part r false keys star is among =
     ∙ ap (λ s. cited_all s r) (star ∙ ap (λ a. cond a (Some (length (keys_of (before_first is_star parts)))) None) among)
     ∙ ap₂ (λ k s. (record r { keys = k; star = s }, Taken)) (keys ∙ sym (keys_star parts part is)) (ap (λ k. Some (length k)) keys ∙ sym (star_star parts part is among))
 
--- a name is not among those where none is the same
+-- a name is not among names that all differ from it
 not_found : (name : List ℕ) (names : List (List ℕ)) → same_name name names ≡ None → is_among names name ≡ false
 not_found name names none = go (is_among names name) refl
   where
@@ -285,7 +285,7 @@ more_cited files parts part later end r (Some f) fault here after =
     (sym (ap (λ ps. parts ++ ps) (right_wrong key_fault parts part later f fault) ∙ append-nil parts))
     (sym (ap (λ o. option_or o (option_map IllEnded end)) (first_wrong key_fault parts part later f fault)))
 
--- the code's steps over the parts of a \citation, after what was cited before
+-- the code's steps through the parts of a \citation, after what was cited before
 pub all_cited : (files : List File) (end : Option AuxFault) (later parts : List (List ℕ)) (r : Progress) → r.keys ≡ keys_of parts → r.star ≡ star_of parts
     → parts_taken files Citation end later r ≡ cited_to r (parts ++ right_parts key_fault parts later) (argument_fault key_fault parts later end)
 all_cited files end [] parts r keys star =

@@ -7,7 +7,7 @@ use Rattle.bt_job.specs.FileNames.{with_ending}
 use Rattle.bt_job.proofs.NameLemmas.{same_bytes}
 use Rattle.bt_job.proofs.FileLemmas.{is_base, is_aux}
 
--- what stands at the end
+-- the last four bytes
 end_of : (name : List ℕ) (a b c d : ℕ) → drop (length (name ++ a ∷ b ∷ c ∷ d ∷ []) - 4) (name ++ a ∷ b ∷ c ∷ d ∷ []) ≡ a ∷ b ∷ c ∷ d ∷ []
 end_of name a b c d =
     let count : length (name ++ a ∷ b ∷ c ∷ d ∷ []) - 4 ≡ length name = omega (arith, length-append name (a ∷ b ∷ c ∷ d ∷ [])) in

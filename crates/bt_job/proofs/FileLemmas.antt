@@ -1,4 +1,4 @@
--- \bibdata, \bibstyle and \@input: the code's steps over the names of files.
+-- \bibdata, \bibstyle and \@input: the code's steps through the names of files.
 use Rattle.std.specs.Prelude.{◌||◌, ◌&&◌, not, eqb, codes, fold}
 use Rattle.std.specs.List.{ends_with}
 use Rattle.std.specs.Option.{is_some, option_or, option_map}
@@ -33,7 +33,7 @@ is_base name = ends_with eqb name (codes ".bib")
 abbrev pub is_aux : List ℕ → Bool
 is_aux name = ends_with eqb name (codes ".aux")
 
--- A name, by the tests that it passes
+-- A name, given the tests that it passes
 
 abbrev fault_by : Command → Bool → Bool → Bool → Option FileNote
 fault_by c e f a = cond (not e) (Some WrongExtension) (cond (not f) (Some BadFileName) (cond a (met_before c) None))
@@ -54,7 +54,7 @@ well_is files c name r t is = ap (λ x. looked_up c name x (meeting c name r)) i
 
 -- \bibdata
 
--- what a \bibdata leaves that takes these names: more databases, a name that was looked for, names that were met
+-- the state after a \bibdata with these names: more databases, a name that was looked up, names that were met
 abbrev pub based_to : Progress → List (List ℕ) → Option LineFault → List (List ℕ) → Progress × Outcome
 based_to r names o met = (record r { databases = r.databases ++ names; wanted = fold with_name r.wanted (missed o); met = met }, outcome_of o)
 
@@ -63,7 +63,7 @@ pub record Based (r : Progress) (names : List (List ℕ)) (o : Option LineFault)
   pub is : x ≡ based_to r names o met
   pub keeps : (n : List ℕ) → is_base n ≡ false → is_among met n ≡ is_among r.met n
 
--- a name more, of a database
+-- one more name, of a database
 base_keeps : (met : List (List ℕ)) (name n : List ℕ) → is_base name ≡ true → is_base n ≡ false → is_among (met ++ name ∷ []) n ≡ is_among met n
 base_keeps met name n h k = is_among-append met name n ∙ ap (λ b. is_among met n || b) (bytes_differ is_base name n h k) ∙ or_false (is_among met n)
 
@@ -137,7 +137,7 @@ end_based : (r : Progress) (end : Option AuxFault) → (r, outcome_of (option_ma
 end_based r None = ap (λ d. (record r { databases = d }, Taken)) (sym (append-nil r.databases))
 end_based r (Some f) = ap (λ d. (record r { databases = d }, Wrong (said (IllEnded f)))) (sym (append-nil r.databases))
 
--- the code's steps over the parts of a \bibdata
+-- the code's steps through the parts of a \bibdata
 pub all_based : (files : List File) (end : Option AuxFault) (later before : List (List ℕ)) (r : Progress) → ((part : List ℕ) → is_base (with_ending (codes ".bib") part) ≡ true) → MetAs r.met before
     → Based r (right_parts (database_fault files) before (database_names later)) (argument_fault (database_fault files) before (database_names later) end) (parts_taken files Database end later r)
 all_based files end [] before r ends same = record {
@@ -153,7 +153,7 @@ all_based files end (part ∷ later) before r ends same =
 
 -- \bibstyle
 
--- what a \bibstyle leaves by its fault
+-- the state after a \bibstyle, given its fault
 abbrev pub IsStyled : List File → Progress → List ℕ → Option LineFault → Type 0
 IsStyled files r name None = named files Style name r ≡ (told (of_file FileLine StyleFile name) (record r { style = Some name }), Taken)
 IsStyled files r name (Some f) = named files Style name r ≡ (record r { wanted = fold with_name r.wanted (missed (Some f)) }, outcome_of (Some f))
@@ -197,7 +197,7 @@ abbrev pub IsInput : List File → Progress → List (List ℕ) → List ℕ →
 IsInput files r before name None = Opened files r before name (named files Nested name r)
 IsInput files r before name (Some f) = Missed r before name f (named files Nested name r)
 
--- one name more on both sides
+-- one more name on both sides
 both_more : (met before : List (List ℕ)) (name : List ℕ) → MetInputs met before → MetInputs (met ++ name ∷ []) (before ++ name ∷ [])
 both_more met before name same n h = is_among-append met name n ∙ ap (λ b. b || bytes_eq name n) (same n h) ∙ sym (is_among-append before name n)
 
@@ -216,7 +216,7 @@ before_again met before name same again n h = same n h ∙ sym (is_among-append 
     absorbed false true e k = let wrong : is_among before n ≡ true = ap (is_among before) (sym (same_bytes name n k)) ∙ again in cc
     absorbed false false e k = refl
 
--- a name more, of an `.aux` file
+-- one more name, of an `.aux` file
 aux_keeps : (met : List (List ℕ)) (name n : List ℕ) → is_aux name ≡ true → is_aux n ≡ false → is_among (met ++ name ∷ []) n ≡ is_among met n
 aux_keeps met name n h k = is_among-append met name n ∙ ap (λ b. is_among met n || b) (bytes_differ is_aux name n h k) ∙ or_false (is_among met n)
 

@@ -76,7 +76,7 @@ styled_holds files root lines r level file n parts end o style names log h e is 
 no_style : (files : List File) (root : List ℕ) (lines : List JobLine) (r : Progress) → Holds files root lines r → first_with Style lines ≡ None → r.style ≡ None
 no_style files root lines r h e = h.is_style ∙ ap (λ o. slice_get (styles_of files o) 0) e
 
--- a name of a style by its fault
+-- a name of a style, given its fault
 styled_by : (files : List File) (root : List ℕ) (lines : List JobLine) (r : Progress) (level : ℕ) (file : List ℕ) (n : ℕ) (part : List ℕ) (o : Option LineFault) → Holds files root lines r → first_with Style lines ≡ None
     → (let line = line_at level file n Style (part ∷ []) None in let name = with_ending (codes ".bst") part in style_fault files [] name ≡ o → IsStyled files (record r { style_met = true }) name o
     → Steps files root lines line (going_on (λ q. (q, Taken)) (named files Style name (record r { style_met = true }))))
@@ -144,7 +144,7 @@ input_holds files root lines r level file n parts end o met names log h same kee
       bibstyle = h.bibstyle ∙ ap is_some (sym (same_first Style lines line refl));
     }
 
--- a name of an `.aux` file by its fault
+-- a name of an `.aux` file, given its fault
 input_by : (files : List File) (root : List ℕ) (lines : List JobLine) (r : Progress) (level : ℕ) (file : List ℕ) (n : ℕ) (part : List ℕ) (o : Option LineFault) → Holds files root lines r
     → (let line = line_at level file n Nested (part ∷ []) None in input_fault files (root ∷ input_names lines) part ≡ o → IsInput files r (root ∷ input_names lines) part o
     → Steps files root lines line (going_on (λ q. (q, Taken)) (named files Nested part r)))
@@ -195,7 +195,7 @@ steps_by files root lines r level file n Database parts end h parted = database_
 steps_by files root lines r level file n Style parts end h parted = style_steps files root lines r level file n parts end (first_with Style lines) h parted refl
 steps_by files root lines r level file n Nested parts end h parted = input_steps files root lines r level file n parts end h parted
 
--- what holds of the lines so far holds with one more
+-- what holds of the lines so far holds with one more line
 pub line_steps : (files : List File) (root : List ℕ) (lines : List JobLine) (r : Progress) (line : JobLine) → Holds files root lines r → IsPartedAs line.item.command line.item.parts line.item.fault
     → Steps files root lines line (item_taken files line.item r)
 line_steps files root lines r line h parted = steps_by files root lines r line.level line.file line.item.line line.item.command line.item.parts line.item.fault h parted

@@ -1,4 +1,4 @@
--- What is asked for is always fit for those who read it.
+-- What is asked for is always fit for use.
 use Rattle.std.specs.Prelude.{codes, not, fold, filter, slice_get}
 use Rattle.std.specs.List.{before_first, position_or_len}
 use Rattle.std.specs.Option.{is_some}
@@ -63,7 +63,7 @@ distinct_with : (a : Bool) (key : List ℕ) (ks : List (List ℕ)) → AreDistin
 distinct_with true key ks d h = d
 distinct_with false key ks d h = distinct-append key ks d (h refl)
 
--- a key that isn't wrong is new or was spelled so
+-- a key that isn't wrong is new or was spelled the same way
 spelled_so : (o : Option (List ℕ)) (key : List ℕ) (ks : List (List ℕ)) → same_name key ks ≡ o → spelling_fault key o ≡ None → is_among ks key ≡ false → same_name key ks ≡ None
 spelled_so None key ks is right new = is
 spelled_so (Some old) key ks is right new = go (bytes_eq old key) refl right
@@ -112,7 +112,7 @@ names_longer : (seen names : List (List ℕ)) → length seen ≤ length (fold w
 names_longer seen [] = omega arith
 names_longer seen (n ∷ ns) = omega (arith, with_longer (is_among seen n) seen n, names_longer (with_name seen n) ns)
 
--- no more keys stand before a place than at all
+-- there are no more keys before a place than in all
 keys_before : (k : ℕ) (parts : List (List ℕ)) → length (keys_of (take k parts)) ≤ length (keys_of parts)
 keys_before k parts =
     let is_key : List ℕ → Bool = λ part. not (is_star part) in

@@ -1,4 +1,4 @@
--- A counted line: the code's steps, and what is said of all lines with this one at the end.
+-- A line that counts: the code's steps, and what is defined on all lines with this one at the end.
 use Rattle.std.specs.Prelude.{fold, filter, flat_map, slice_get}
 use Rattle.std.specs.Option.{is_some, option_or, option_map}
 use Rattle.std.specs.Str.{bytes_eq}
@@ -28,7 +28,7 @@ use Rattle.bt_job.proofs.FileLemmas.{is_base, is_input}
 abbrev pub line_at : ℕ → List ℕ → ℕ → Command → List (List ℕ) → Option AuxFault → JobLine
 line_at level file n c parts end = record { level = level; file = file; item = record { line = n; command = c; parts = parts; fault = end } }
 
--- What the code's steps keep is what is said of the lines so far.
+-- What the code's steps keep is what is defined on the lines so far.
 pub record Holds (files : List File) (root : List ℕ) (lines : List JobLine) (r : Progress) : Type 0 where
   pub are_keys : r.keys ≡ keys_of (cited lines)
   pub is_star : r.star ≡ star_of (cited lines)
@@ -42,7 +42,7 @@ pub record Holds (files : List File) (root : List ℕ) (lines : List JobLine) (r
   pub database : r.database_met ≡ is_some (first_with Database lines)
   pub bibstyle : r.style_met ≡ is_some (first_with Style lines)
 
--- One line more
+-- One more line
 
 or_nothing : (o : Option JobLine) → option_or o None ≡ o
 or_nothing None = refl
@@ -119,7 +119,7 @@ pub record Nests (files : List File) (root : List ℕ) (lines : List JobLine) (l
   pub more : input_names (lines ++ line ∷ []) ≡ input_names lines ++ name ∷ []
   pub holds : Holds files root (lines ++ line ∷ []) r
 
--- What a line leaves: the same holds with it at the end, when its message is reported; and what it opens.
+-- After a line: the same holds with it at the end, once its message is reported; and what it opens.
 abbrev pub Steps : List File → List ℕ → List JobLine → JobLine → Progress × Outcome → Type 0
 Steps files root lines line (r, Taken) = Holds files root (lines ++ line ∷ []) r × (opened_by files root lines line ≡ [])
 Steps files root lines line (r, Wrong said) = Holds files root (lines ++ line ∷ []) (logged_at line.file line.item.line said r) × (opened_by files root lines line ≡ [])
@@ -136,7 +136,7 @@ opens_wrong files root lines line f is = ap (lines_opened files line) is
 
 -- \citation
 
--- nothing is looked for
+-- nothing is looked up
 key_missed : (s a : Bool) (part : List ℕ) (o : Option (List ℕ)) → missed (cond s (cond a (Some SecondStar) None) (spelling_fault part o)) ≡ []
 key_missed true true part o = refl
 key_missed true false part o = refl

@@ -5,7 +5,7 @@ use Rattle.std.proofs.lemmas.Slice.Eq.{bytes_eq-Decides}
 use Rattle.std.proofs.Common.{◌≡◌, ℕ, Bool, true, false, List, [], ◌∷◌, ◌++◌, refl, sym, ap, ◌∙◌}
 use Rattle.bt_text.specs.NameList.{is_among}
 
--- one test more in front
+-- one more test in front
 pub or_step : (a b c d : Bool) → b ≡ (c || d) → (a || b) ≡ ((a || c) || d)
 or_step true b c d h = refl
 or_step false b c d h = h
@@ -28,7 +28,7 @@ same_bytes a b h = (bytes_eq-Decides a b).0 h
 pub name_itself : (a : List ℕ) → bytes_eq a a ≡ true
 name_itself a = (bytes_eq-Decides a a).1 refl
 
--- names that one test parts differ
+-- names that a test tells apart differ
 pub bytes_differ : (test : List ℕ → Bool) (a b : List ℕ) → test a ≡ true → test b ≡ false → bytes_eq a b ≡ false
 bytes_differ test a b h k = go (bytes_eq a b) refl
   where

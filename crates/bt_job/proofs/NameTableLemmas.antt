@@ -20,19 +20,19 @@ or_absorbs true b h = refl
 or_absorbs false false h = refl
 or_absorbs false true h = h refl
 
--- a key more
+-- one more key
 among-append : (name : List ℕ) (keys : Keys) (key : Vec ℕ Global) → key_among name (keys ++ key ∷ []) ≡ (key_among name keys || bytes_eq name key.items)
 among-append name [] key = or_false (bytes_eq name key.items)
 among-append name (k ∷ ks) key = or_step (bytes_eq name k.items) _ (key_among name ks) (bytes_eq name key.items) (among-append name ks key)
 
--- after a key was put, where this tells whether it was there
+-- after a key was added, given whether it was there
 among-put : (b : Bool) (name : List ℕ) (keys : Keys) (key : Vec ℕ Global) → key_among key.items keys ≡ b
     → key_among name (cond b keys (keys ++ key ∷ [])) ≡ (key_among name keys || bytes_eq name key.items)
 among-put true name keys key h =
     or_absorbs (key_among name keys) (bytes_eq name key.items) (λ same. ap (λ (n : List ℕ). key_among n keys) ((bytes_decides name key.items).0 same) ∙ h)
 among-put false name keys key h = among-append name keys key
 
--- A list with a name at its end is mirrored after its key was put.
+-- A list with a name appended is mirrored by the table once the name's key is added.
 pub noted : (names : List (List ℕ)) (keys after : Keys) (key : Vec ℕ Global) (name : List ℕ) → ((n : List ℕ) → key_among n keys ≡ is_among names n)
     → after ≡ insert_key (λ k m. bytes_eq k.items m.items) keys key → key.items ≡ name → (n : List ℕ) → key_among n after ≡ is_among (names ++ name ∷ []) n
 noted names keys after key name mirrors put is n =

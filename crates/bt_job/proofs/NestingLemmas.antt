@@ -9,7 +9,7 @@ use Rattle.bt_job.specs.FileNames.{text_of}
 use Rattle.bt_job.specs.inner.LineEffects.{item_taken}
 use Rattle.bt_job.specs.inner.NestedFiles.{in_place, lines_taken, opened, file_taken}
 
--- an item of a list, with what stands after it
+-- an item of a list, with the items after it
 pub drop_at : {A : Type 0} → (xs : List A) (i : ℕ) (x : A) → i < length xs → x ≡ get_or xs i x → drop i xs ≡ x ∷ drop (i + 1) xs
 drop_at xs i x lt is = drop_more xs i x lt ∙ ap (λ y. y ∷ drop (i + 1) xs) (sym is)
 
@@ -27,7 +27,7 @@ lines_nil nested files file r = refl
 pub lines_end : (nested : List ℕ → Progress → Progress) (files : List File) (file : List ℕ) (items : List AuxItem) (i : ℕ) (r x : Progress) → length items ≤ i → lines_taken nested files file (drop i items) r ≡ x → r ≡ x
 lines_end nested files file items i r x le same = sym (ap (λ is. lines_taken nested files file is r) (drop_all i items le) ∙ lines_nil nested files file r) ∙ same
 
--- one line more
+-- one more line
 pub line_more : (nested : List ℕ → Progress → Progress) (files : List File) (file : List ℕ) (items : List AuxItem) (i : ℕ) (item : AuxItem) (r r1 r2 x : Progress) (o : Outcome)
     → i < length items → item ≡ get_or items i item → (r1, o) ≡ item_taken files item r → r2 ≡ in_place nested file item.line (r1, o)
     → lines_taken nested files file (drop i items) r ≡ x → lines_taken nested files file (drop (i + 1) items) r2 ≡ x

@@ -1,4 +1,4 @@
--- Parts of a command, up to the first that is wrong.
+-- Parts of a command, up to the first wrong one.
 use Rattle.std.proofs.Common.{◌≡◌, List, [], ◌∷◌, ◌++◌, ℕ, Option, Some, None, refl}
 use Rattle.std.specs.Option.{option_map}
 use Rattle.bt_bib.specs.declared.aux_argument.AuxFault.{AuxFault}
@@ -8,7 +8,7 @@ use Rattle.bt_job.specs.declared.progress.Outcome.TheVariants.{Taken, Wrong}
 use Rattle.bt_job.specs.Faults.{LineFault, IllEnded, said, PartFault, right_parts, first_fault}
 use Rattle.bt_job.specs.inner.LineEffects.{fault_outcome}
 
--- what the code's step comes to, where this is wrong
+-- the result of the code's step, given what is wrong
 abbrev pub outcome_of : Option LineFault → Outcome
 outcome_of None = Taken
 outcome_of (Some fault) = Wrong (said fault)

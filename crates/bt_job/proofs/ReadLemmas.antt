@@ -1,4 +1,4 @@
--- The code's steps over the files in their places, and the list of all lines.
+-- The code's steps through the files in their places, and the list of all lines.
 use Rattle.std.proofs.Common.{◌≡◌, ℕ, zero, suc, ◌+◌, ◌<◌, ◌≤◌, List, [], ◌∷◌, ◌++◌, length, map, Some, refl, sym, ap, subst, ◌∙◌, arith}
 use Rattle.bt_bib.specs.declared.aux_line.AuxItem.{AuxItem}
 use Rattle.bt_bib.specs.AuxLine.{aux_lines}
@@ -26,7 +26,7 @@ closed files root lines = weight (λ t. 1) files (root ∷ input_names lines)
 abbrev pub to_come : List File → List ℕ → List JobLine → List JobLine → ℕ
 to_come files root before next = length next + unopened files (root ∷ input_names before)
 
--- Reading some lines comes to the later ones after others, of which the same holds as of what the code has then.
+-- Reading some lines reaches the later ones after others, and what the code has then holds of these others.
 pub record Reaches (files : List File) (root : List ℕ) (bound : ℕ) (before next later : List JobLine) (r : Progress) : Type 0 where
   pub lines : List JobLine
   pub left : ℕ
@@ -42,7 +42,7 @@ ReadsFile files root files_left level nested =
     → closed files root before < files_left → to_come files root before (lines_in level name (Some text) ++ later) ≤ bound
     → Reaches files root bound before (lines_in level name (Some text) ++ later) later (nested name r)
 
--- the lines of a file as counted lines of the job
+-- the lines of a file as lines of the job that count
 abbrev of_file : ℕ → List ℕ → List AuxItem → List JobLine
 of_file level file items = map (λ item. record { level = level; file = file; item = item }) items
 
@@ -70,13 +70,13 @@ reaches_then files root bound before next between later q r h k = record {
   fewer = omega (arith, h.fewer, k.fewer);
 }
 
--- what the lines after a line come to
+-- the result of the lines after a line
 abbrev Later : List File → List ℕ → ℕ → (List ℕ → Progress → Progress) → ℕ → List ℕ → List AuxItem → List JobLine → Type 0
 Later files root files_left nested level file items later =
     (before : List JobLine) (r : Progress) (bound : ℕ) → Holds files root before r → closed files root before ≤ files_left → to_come files root before (of_file level file items ++ later) ≤ bound
     → Reaches files root bound before (of_file level file items ++ later) later (lines_taken nested files file items r)
 
--- a line by what it comes to, and those after it
+-- a line, given its outcome, and those after it
 line_reaches : (files : List File) (root : List ℕ) (files_left : ℕ) (nested : List ℕ → Progress → Progress) (level : ℕ) (file : List ℕ) (item : AuxItem) (items : List AuxItem) (before later : List JobLine) (bound : ℕ) (x : Progress × Outcome)
     → ReadsFile files root files_left (level + 1) nested → Later files root files_left nested level file items later → closed files root before ≤ files_left
     → (let line : JobLine = record { level = level; file = file; item = item } in Steps files root before line x

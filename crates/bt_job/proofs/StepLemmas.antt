@@ -1,4 +1,4 @@
--- What holds of the lines so far holds with one line more, command by command.
+-- What holds of the lines so far holds with one more line, command by command.
 use Rattle.std.specs.Prelude.{◌&&◌, codes, fold, slice_get}
 use Rattle.std.specs.Option.{is_some, option_or}
 use Rattle.std.proofs.Common.{◌≡◌, ℕ, Bool, true, false, cond, List, [], ◌∷◌, ◌++◌, append-nil, Option, Some, None, refl, sym, ap, subst, ◌∙◌}
@@ -23,7 +23,7 @@ use Rattle.bt_job.proofs.EndingLemmas.{base_ends, aux_not_base}
 use Rattle.bt_job.proofs.FileLemmas.{is_base, is_aux, is_input, based_to, all_based}
 use Rattle.bt_job.proofs.LineLemmas.{line_at, Holds, Steps, same_first, new_first, some_more, same_cited, more_cited, same_inputs, more_messages, more_wanted, fault_of_line, opens_nothing, opens_wrong, cited_missed}
 
--- a counted line, which is a second of its command or not
+-- a line that counts, whether or not it is the second of its command
 pub item_is : (files : List File) (item : AuxItem) (r : Progress) (b : Bool) → is_second item.command r ≡ b
     → item_taken files item r ≡ cond b (r, Wrong (Words (second_words item.command))) (parts_taken files item.command item.fault item.parts (command_met item.command r))
 unfolding item_taken
@@ -36,7 +36,7 @@ bases_of files o = right_parts (database_fault files) [] (database_names (line_p
 abbrev pub styles_of : List File → Option JobLine → List (List ℕ)
 styles_of files o = right_parts (style_fault files) [] (style_names (line_parts o))
 
--- a command that stood before
+-- a command that occurred before
 pub again_first : (command : Command) (lines : List JobLine) (line first : JobLine) → has_command command line ≡ true → first_with command lines ≡ Some first → first_with command (lines ++ line ∷ []) ≡ first_with command lines
 again_first command lines line first is e = new_first command lines line is ∙ ap (λ o. option_or o (Some line)) e ∙ sym e
 
@@ -60,7 +60,7 @@ pub sought : (files : List File) (root : List ℕ) (lines : List JobLine) (line 
     → fold with_name names (missed o) ≡ wanted files root (lines ++ line ∷ [])
 sought files root lines line names o is e = ap (λ ns. fold with_name ns (missed o)) is ∙ sym (more_wanted files root lines line o e)
 
--- the same where none was looked for
+-- the same if none was looked up
 pub unsought : (files : List File) (root : List ℕ) (lines : List JobLine) (line : JobLine) (names : List (List ℕ)) (o : Option LineFault) → names ≡ wanted files root lines → line_fault files root lines line ≡ o → missed o ≡ []
     → names ≡ wanted files root (lines ++ line ∷ [])
 unsought files root lines line names o is e none = sym (ap (fold with_name names) none) ∙ sought files root lines line names o is e

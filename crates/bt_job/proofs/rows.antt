@@ -1,2 +1,2 @@
--- Worked rows, proved by `refl`. Nothing needs them.
+-- Worked examples, proved by `refl`. Nothing depends on them.
 mod CitationsRows

@@ -1,4 +1,4 @@
--- What the .aux files of a job ask for, said of the list of all their lines.
+-- What the .aux files of a job ask for, defined on the list of all their lines.
 use Rattle.std.specs.Prelude.{ℕ, ◌+◌, ◌==◌, Bool, not, List, [], ◌∷◌, ◌++◌, length, map, filter, codes, Option, Some, None, slice_get, if◌then◌else◌}
 use Rattle.std.specs.List.{before_first}
 use Rattle.std.specs.Str.{bytes_eq}
@@ -22,42 +22,42 @@ use Rattle.bt_job.specs.Lines.{JobLine, first_with, cited, database_names, style
 abbrev pub is_star : List ℕ → Bool
 is_star part = bytes_eq part (codes "*")
 
--- the keys among what was cited, as each was spelled first
+-- the keys among what was cited, each in its first spelling
 abbrev pub keys_of : List (List ℕ) → List (List ℕ)
 keys_of parts = each_once (filter (λ part. not (is_star part)) parts)
 
--- how many keys stand before the `*`, if it was cited
+-- how many keys come before the `*`, if it was cited
 abbrev pub star_of : List (List ℕ) → Option ℕ
 star_of parts =
     if is_among parts (codes "*") then Some (length (keys_of (before_first is_star parts))) else None
 
 -- Files
 
--- the databases: the names of the first \bibdata before the first that is wrong
+-- the databases: the names in the first \bibdata, before the first wrong one
 abbrev pub databases : List File → List JobLine → List (List ℕ)
 databases files lines =
     let parts : List (List ℕ) = elim (first_with Database lines) [ None ↦ [] | Some line ↦ line.item.parts ] in
     right_parts (database_fault files) [] (database_names parts)
 
--- the style: the name of the first \bibstyle, unless it is wrong
+-- the style: the name in the first \bibstyle, unless it is wrong
 abbrev pub styles : List File → List JobLine → List (List ℕ)
 styles files lines =
     let parts : List (List ℕ) = elim (first_with Style lines) [ None ↦ [] | Some line ↦ line.item.parts ] in
     right_parts (style_fault files) [] (style_names parts)
 
--- a name that was looked for and isn't there
+-- a name that was looked up and isn't there
 abbrev pub missed : Option LineFault → List (List ℕ)
 missed (Some (WrongFile (NotOpened kind) name)) = name ∷ []
 missed _ = []
 
 -- Lines one by one
 
--- what each line gives after those that stand before it, in order
+-- what each line yields after the lines before it, in order
 abbrev pub along : {A : Type 0} → (List JobLine → JobLine → List A) → List JobLine → List JobLine → List A
 along f before [] = []
 along f before (line ∷ lines) = f before line ++ along f (before ++ line ∷ []) lines
 
--- all names that were looked for and aren't there, each once
+-- all names that were looked up and aren't there, each once
 abbrev pub wanted : List File → List ℕ → List JobLine → List (List ℕ)
 wanted files root lines =
     each_once (along (λ before line. missed (line_fault files root before line)) [] lines)
@@ -68,7 +68,7 @@ wanted files root lines =
 abbrev pub file_line : ℕ → List ℕ → Message
 file_line level file = of_file FileLine (if level == 0 then RootAux else NestedAux level) file
 
--- what the log says of a command without a fault, in a file of this level
+-- what the log says about a command without a fault, in a file of this level
 abbrev pub file_lines_of : ℕ → Command → List (List ℕ) → List Message
 file_lines_of level Citation parts = []
 file_lines_of level Database parts = []
@@ -86,7 +86,7 @@ abbrev pub messages : List File → List ℕ → List JobLine → List Message
 messages files root lines =
     file_line 0 root ∷ along (λ before line. line_messages line (line_fault files root before line)) [] lines
 
--- what is missing of a command, where this is its first line and it named these
+-- what is missing about a command, given its first line and what it named
 abbrev pub missing_of : Option JobLine → List (List ℕ) → List ℕ → List ℕ → List (List ℕ)
 missing_of None names command nothing = command ∷ []
 missing_of (Some line) [] command nothing = nothing ∷ []

@@ -1,4 +1,4 @@
--- What can be wrong with a line of an .aux file that counts, and what the log says of it.
+-- What can be wrong with a line of an .aux file that counts, and what the log says about it.
 use Rattle.std.specs.Prelude.{ℕ, Bool, not, eqb, List, [], ◌∷◌, ◌++◌, codes, Option, Some, None, if◌then◌else◌}
 use Rattle.std.specs.List.{ends_with}
 use Rattle.std.specs.Option.{is_some}
@@ -26,7 +26,7 @@ pub data LineFault : Type 0 where
   -- the end of the argument
   IllEnded : AuxFault → LineFault
 
--- what the log says of it
+-- what the log says about it
 abbrev pub said : LineFault → Said
 said (SecondCommand command) = Words (codes "Illegal, another " ++ command ++ codes " command")
 said SecondStar = Words (codes "Multiple inclusions of entire database")
@@ -38,11 +38,11 @@ said (IllEnded StuffAfter) = Words (codes "Stuff after \"}\"")
 
 -- Parts
 
--- what is wrong with a part, if something is, where these stand before it
+-- what is wrong with a part, if anything, given the parts before it
 abbrev pub PartFault : Type 0
 PartFault = List (List ℕ) → List ℕ → Option LineFault
 
--- a part of \citation: a key is spelled as it was first
+-- a part of \citation: a key must be spelled as it was first
 abbrev pub key_fault : PartFault
 key_fault before part =
     if bytes_eq part (codes "*") then (if is_among before part then Some SecondStar else None)
@@ -81,7 +81,7 @@ input_fault files before name =
 
 -- The first fault ends a command.
 
--- the parts before the first that is wrong
+-- the parts before the first wrong one
 abbrev pub right_parts : PartFault → List (List ℕ) → List (List ℕ) → List (List ℕ)
 right_parts fault before [] = []
 right_parts fault before (part ∷ parts) =

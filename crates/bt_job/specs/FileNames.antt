@@ -22,26 +22,26 @@ abbrev pub is_file_name : List ℕ → Bool
 is_file_name name =
     nat_le 1 (length name) && nat_le (length name) file_name_size_limit && list_all is_file_name_byte name
 
--- the text of a name, if there is one
+-- the text of the file with this name, if there is such a file
 abbrev pub text_of : List File → List ℕ → Option (List ℕ)
 text_of [] name = None
 text_of (f ∷ fs) name = if bytes_eq f.name name then Some f.text else text_of fs name
 
--- a name with an ending, which is put after it unless it is there
+-- a name with an extension, which is appended unless it is there
 abbrev pub with_ending : List ℕ → List ℕ → List ℕ
 with_ending ending name = if ends_with eqb name ending then name else name ++ ending
 
--- the file's name for which a part of a command stands
+-- the name of the file that a part of a command means
 abbrev pub file_name_of : Command → List ℕ → List ℕ
 file_name_of Citation key = key
 file_name_of Database part = with_ending (codes ".bib") part
 file_name_of Style part = with_ending (codes ".bst") part
 file_name_of Nested part = part
 
--- names with one more at the end, unless it is among them
+-- names with one more appended, unless it is among them
 abbrev pub with_name : List (List ℕ) → List ℕ → List (List ℕ)
 with_name names name = if is_among names name then names else names ++ name ∷ []
 
--- names in the order in which they first come, each once
+-- names in the order of their first occurrences, each once
 abbrev pub each_once : List (List ℕ) → List (List ℕ)
 each_once names = fold with_name [] names

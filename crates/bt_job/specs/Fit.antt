@@ -1,4 +1,4 @@
--- What always holds of what is asked for, for those who read it.
+-- What always holds of what is asked for, for the code that uses it.
 use Rattle.std.specs.Prelude.{◌≡◌, ◌≤◌, ℕ, List, [], ◌∷◌, length, Option, Some, None, true}
 use Rattle.std.specs.Option.{is_some}
 use Rattle.bt_job.specs.declared.files.File.{File}
@@ -7,7 +7,7 @@ use Rattle.bt_job.specs.FileNames.{text_of}
 use Rattle.bt_text.specs.NameList.{same_name}
 use Rattle.bt_job.specs.Citations.{citations}
 
--- no two keys are one without regard to case
+-- no two keys are the same without regard to case
 abbrev pub AreDistinct : List (List ℕ) → Type 0
 AreDistinct [] = Unit {0}
 AreDistinct (k ∷ ks) = (same_name k ks ≡ None) × AreDistinct ks
@@ -34,6 +34,6 @@ pub record IsFit (files : List File) (r : Citations) : Type 0 where
   pub databases : AreThere files r.databases
   pub style : IsThere files r.style
 
--- What is asked for is fit for those who read it.
+-- What is asked for is fit for use.
 abbrev pub AlwaysFit : Type 0
 AlwaysFit = (files : List File) (root : List ℕ) → IsFit files (citations files root)

@@ -40,7 +40,7 @@ has_command command line = is_same_command command line.item.command
 abbrev pub first_with : Command → List JobLine → Option JobLine
 first_with command lines = find (has_command command) lines
 
--- what was cited, in order: of each \citation the parts before the first that is wrong
+-- what was cited, in order: the parts of each \citation before its first wrong one
 unfoldable pub cited : List JobLine → List (List ℕ)
 cited lines =
     fold (λ (before : List (List ℕ)) (line : JobLine). before ++ right_parts key_fault before line.item.parts) []
@@ -60,16 +60,16 @@ input_names lines = flat_map (λ line. line.item.parts) (filter (has_command Nes
 
 -- What is wrong with a line
 
--- the first fault of its names after others, else that of the argument's end
+-- the first fault of some names that follow others, else the fault of the argument's end
 abbrev pub argument_fault : PartFault → List (List ℕ) → List (List ℕ) → Option AuxFault → Option LineFault
 argument_fault fault before names end = option_or (first_fault fault before names) (option_map IllEnded end)
 
--- a command of this name that may stand once, and where it stood before
+-- a command of this name that may occur only once, given its earlier line, if there is one
 abbrev pub unless_second : List ℕ → Option JobLine → Option LineFault → Option LineFault
 unless_second command None fault = fault
 unless_second command (Some line) fault = Some (SecondCommand command)
 
--- What is wrong with a line of a command, if something is, where these lines stand before it.
+-- What is wrong with a line of a command, if anything, given the lines before it.
 abbrev pub command_fault :
     List File → List ℕ → List JobLine → Command → List (List ℕ) → Option AuxFault → Option LineFault
 command_fault files root before Citation parts end = argument_fault key_fault (cited before) parts end
@@ -82,7 +82,7 @@ command_fault files root before Style parts end =
 command_fault files root before Nested parts end =
     argument_fault (input_fault files) (root ∷ input_names before) parts end
 
--- the same of a line
+-- the same for a line
 unfoldable pub line_fault : List File → List ℕ → List JobLine → JobLine → Option LineFault
 line_fault files root before line = command_fault files root before line.item.command line.item.parts line.item.fault
 
@@ -95,8 +95,8 @@ opened_by files root before line = elim (line_fault files root before line) [
   | None ↦ if has_command Nested line then flat_map (lines_of files (line.level + 1)) line.item.parts else []
 ]
 
--- Some lines, and after them the next ones, each with the lines of the file that it opens after it; at most so many
--- more. Which bound it is doesn't matter where it is large enough (AnyBoundServes).
+-- Some lines, followed by the next ones, each with the lines of the file that it opens after it, and at most `bound`
+-- lines more. The exact bound doesn't matter if it is large enough (AnyBoundServes).
 unfoldable pub read_on : ℕ → List File → List ℕ → List JobLine → List JobLine → List JobLine
 read_on zero files root before next = before
 read_on (suc bound) files root before [] = before

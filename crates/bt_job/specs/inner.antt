@@ -1,4 +1,4 @@
--- What only helpers, loops and proofs need: no part of the meaning.
+-- Only helpers, loops and proofs need these. They are no part of the meaning.
 pub mod Cases
 pub mod NameTable
 pub mod FileNames

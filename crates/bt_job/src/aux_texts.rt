@@ -1,7 +1,7 @@
-//! `.aux` texts as they were read, which outlast the run that read them.
+//! `.aux` texts as they were read. They outlive the run that read them.
 //!
 //! An edit changes few files, so the next run finds most texts here and doesn't read them again. A text is found by its
-//! bytes: no contract has to say which version of which file it was. A job has few `.aux` files, so a list serves.
+//! bytes: no contract has to say which version of which file it was. A job has few `.aux` files, so a list is enough.
 
 ghost use Rattle.std.specs.Prelude.{◌≡◌, IfOk, IfSome};
 ghost use Rattle.bt_bib.specs.AuxLine.{aux_lines};
@@ -11,7 +11,7 @@ use bt_bib::{AuxItem, read_aux};
 use bt_text::{Bytes, Sequence, Shared};
 use std::alloc::{AllocError, Global};
 
-/// An `.aux` text and those of its lines that matter.
+/// An `.aux` text, with its lines that matter.
 #[derive(Drop)]
 pub struct AuxText {
     text: Shared<Bytes>,
@@ -44,14 +44,14 @@ pub struct AuxTexts {
 }
 
 impl AuxTexts {
-    /// No texts. It takes no memory.
+    /// No texts. Allocates nothing.
     pub fn new(alloc: Global) -> AuxTexts {
         AuxTexts {
             known: Sequence::new(alloc),
         }
     }
 
-    /// The texts for one more owner; none of them is copied. The only error is out of memory.
+    /// The same texts, shared, not copied. The only error is out of memory.
     pub fn share(&self, alloc: Global) -> Result<AuxTexts, AllocError> {
         let mut known = Sequence::new(alloc);
         'texts: for text in self.known.as_slice() {
@@ -69,7 +69,8 @@ impl AuxTexts {
             .find(|known| known.text.as_slice() == text)
     }
 
-    /// The lines of a text that matter. It is read only if it wasn't before. The only error is out of memory.
+    /// The lines of a text that matter. The text is read only if it wasn't read before. The only error is out of
+    /// memory.
     pub fn lines(
         &mut self,
         alloc: Global,
@@ -86,8 +87,8 @@ impl AuxTexts {
         Ok(lines)
     }
 
-    /// Those that are still the text of one of these files; the others are forgotten, so that memory doesn't grow with each
-    /// edit. The only error is out of memory.
+    /// The texts that one of these files still has. The others are dropped, so that memory doesn't grow with each edit.
+    /// The only error is out of memory.
     pub fn present(&self, alloc: Global, files: &[File]) -> Result<AuxTexts, AllocError> {
         let mut known = Sequence::new(alloc);
         'files: for file in files {

@@ -6,9 +6,9 @@ use bt_text::{Bytes, NameList, Sequence};
 /// What the .aux files ask for.
 #[derive(Drop)]
 pub struct Citations {
-    /// The cited keys, as they were spelled first.
+    /// The cited keys, in their first spelling.
     pub keys: NameList,
-    /// How many keys stood before the `*`, if it was cited.
+    /// How many keys were cited before the `*`, if it was cited.
     pub star: Option<usize>,
     /// The names of the databases, in order.
     pub databases: Sequence<Bytes>,
@@ -16,6 +16,6 @@ pub struct Citations {
     pub style: Option<Bytes>,
     /// The messages.
     pub log: Sequence<Message>,
-    /// The names that were looked for and not found, each once.
+    /// The names that were looked up and not found, each once.
     pub wanted: Sequence<Bytes>,
 }

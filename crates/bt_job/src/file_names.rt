@@ -1,8 +1,8 @@
 //! Names of files: which are allowed, which text each has, and what is wrong with one.
 //!
-//! A session never opens a path, so a name is only bytes to compare. LaTeX writes the names of databases and styles as the
-//! author does, mostly without an ending, but nested files with theirs. So `.bib` and `.bst` are added where they lack, and
-//! a nested file without `.aux` is a fault.
+//! A session never opens a path, so a name is only bytes to compare. LaTeX writes the names of databases and styles as
+//! the author does, mostly without an extension, but names of nested files with one. So `.bib` and `.bst` are added
+//! where they are missing, and a nested file without `.aux` is a fault.
 
 ghost use Rattle.std.specs.Prelude.{◌≡◌, IfOk};
 ghost use Rattle.std.specs.List.{list_all};
@@ -17,7 +17,7 @@ use bt_log::FileNote;
 use bt_text::{Bytes, Shared};
 use std::alloc::{AllocError, Global};
 
-/// How many bytes a file's name may have, with its folder and ending.
+/// How many bytes a file's name may have, including its folder and extension.
 pub const FILE_NAME_BYTES: usize = 64;
 
 fn is_name_byte(byte: u8) -> bool
@@ -39,7 +39,7 @@ pub fn is_file_name(name: &[u8]) -> bool
     name.len() >= 1 && name.len() <= FILE_NAME_BYTES && has_name_bytes(name)
 }
 
-/// The text of a name, as its file owns it, if there is one.
+/// The text of the file with this name, as the file owns it, if there is such a file.
 pub fn owned_text_of<'a>(files: &'a [File], name: &[u8]) -> Option<&'a Shared<Bytes>>
     ensures { option_map (λ t. t.now) result ≡ text_of files.now name.now }
 {
@@ -51,7 +51,7 @@ pub fn owned_text_of<'a>(files: &'a [File], name: &[u8]) -> Option<&'a Shared<By
     None
 }
 
-/// The text of a name, if there is one.
+/// The text of the file with this name, if there is such a file.
 pub fn text_of<'a>(files: &'a [File], name: &[u8]) -> Option<&'a [u8]>
     ensures { option_map (λ t. t.now) result ≡ text_of files.now name.now }
 {
@@ -69,7 +69,7 @@ fn with_ending(alloc: Global, ending: &[u8], name: &[u8]) -> Result<Bytes, Alloc
     }
 }
 
-/// The file's name for which a part of a command stands; a key stands for itself. The only error is out of memory.
+/// The name of the file that a part of a command means; a key is returned unchanged. The only error is out of memory.
 pub fn file_name_of(alloc: Global, command: Command, part: &[u8]) -> Result<Bytes, AllocError>
     ensures { IfOk result (λ name. name ≡ file_name_of command part.now) }
 {
@@ -100,7 +100,7 @@ fn met_before(command: Command) -> Option<FileNote>
 }
 
 impl Reader {
-    /// What is wrong with a name, where the files were met that were met so far.
+    /// What is wrong with a name, given the files that were met so far.
     #[tactic(auto, unfolding(crate::specs::inner::FileNames::name_fault))]
     pub fn name_fault(&self, command: Command, name: &[u8]) -> Option<FileNote>
         ensures { result ≡ name_fault command self.now.progress.met name.now }

@@ -1,7 +1,7 @@
 //! What a line that matters changes.
 //!
-//! A part either is taken, or is an error with which the rest of its line is skipped, or opens a nested file (`Outcome`).
-//! After out of memory `progress` may be half changed; the caller then drops the whole reading.
+//! A part is taken, or is an error, after which the rest of its line is skipped, or opens a nested file (`Outcome`). If
+//! memory runs out, `progress` may be only partly updated; the caller then drops the whole reading.
 
 ghost use Rattle.std.specs.Prelude.{◌≡◌, ◌++◌, codes, IfOk};
 ghost use Rattle.bt_log.specs.declared.message.Said.TheVariants.{Words, OfFile};
@@ -32,7 +32,7 @@ fn wrong_file(alloc: Global, note: FileNote, name: &[u8]) -> Result<Outcome, All
     Ok(Outcome::Wrong(Said::OfFile { note, file }))
 }
 
-/// An error for a key that was cited in another spelling.
+/// The error for a key that was cited before in a different spelling.
 fn mismatch(alloc: Global, key: &[u8], old: &[u8]) -> Result<Outcome, AllocError>
     ensures { IfOk result (λ outcome. outcome
         ≡ Wrong (Words (codes "Case mismatch error between cite keys " ++ key.now ++ codes " and " ++ old.now))) }
@@ -90,7 +90,7 @@ fn second_words(command: Command) -> &'static [u8]
 }
 
 impl Reader {
-    /// A part `*`, which stands for all entries of the databases.
+    /// A part `*`, which means all entries of the databases.
     fn cite_all(&mut self) -> Result<Outcome, AllocError>
         ensures { IfOk result (λ outcome. (self.new.progress, outcome)
             ≡ cited_all self.old.progress.star self.old.progress) }
@@ -187,7 +187,7 @@ impl Reader {
         }
     }
 
-    /// Whether the command may come only once, and came before.
+    /// Whether the command may occur only once, and occurred before.
     fn is_second(&self, command: Command) -> bool
         ensures { result ≡ is_second command self.now.progress }
     {
@@ -209,7 +209,7 @@ impl Reader {
         }
     }
 
-    /// Takes a line that matters. The only error is out of memory; some parts of the line may then be taken.
+    /// Takes a line that matters. The only error is out of memory; some parts of the line may have been taken by then.
     #[tactic(auto, unfolding(crate::specs::inner::LineEffects::item_taken))]
     pub fn take_item(&mut self, files: &[File], item: &AuxItem) -> Result<Outcome, AllocError>
         ensures { IfOk result (λ outcome. (self.new.progress, outcome)

@@ -1,7 +1,7 @@
-//! Tables of the names in a list, so that a look-up hashes instead of walking the list.
+//! Tables of the names in a list, so that a look-up hashes a name instead of walking the list.
 //!
-//! The list keeps the order and is what contracts speak of; the table is an index of it (`Mirrors`). So each name is in
-//! both, which costs a copy: a job has few names of files.
+//! The list keeps the order, and contracts are about the list; the table is an index of it (`Mirrors`). Each name is in
+//! both, which costs a copy, but a job has few file names.
 
 ghost use Rattle.std.specs.Prelude.{◌≡◌, [], ◌∷◌, ◌++◌, OnOk, OnErr};
 ghost use Rattle.bt_job.specs.inner.NameTable.{Mirrors, has_name};
@@ -16,7 +16,7 @@ pub struct NameTable {
 }
 
 impl NameTable {
-    /// The table of no names. It takes no memory.
+    /// The table of no names. Allocates nothing.
     pub fn new(alloc: Global) -> Self
         ensures { Mirrors result [] }
     {
@@ -25,15 +25,13 @@ impl NameTable {
         }
     }
 
-    /// Whether a name is among the names.
     pub fn has(&self, name: &[u8]) -> bool
         ensures { result ≡ has_name self.now name.now }
     {
         self.names.contains(name)
     }
 
-    /// Puts a name at the end of a list, and into the table of that list. After out of memory both have the names that
-    /// they had.
+    /// Appends a name to a list and adds it to the list's table. If memory runs out, both are unchanged.
     pub fn note(
         &mut self,
         alloc: Global,

@@ -1,7 +1,7 @@
 //! The `.aux` files of a session, with the lines of each nested file in its place.
 //!
-//! No file is opened twice (`FileNote::AuxTwice`), so files nest no deeper than there are files. The recursion takes one
-//! more than their number as a bound, so it always ends; no reading reaches the bound.
+//! No file is opened twice (`FileNote::AuxTwice`), so files nest no deeper than there are files. The recursion is
+//! bounded by one more than their number, so it always ends; no reading reaches the bound.
 
 ghost use Rattle.std.specs.Prelude.{◌≡◌, ◌<◌, ◌+◌, ◌^◌, IfOk, OnOk};
 ghost use Rattle.bt_job.specs.Fit.{IsFit};
@@ -31,7 +31,8 @@ fn file_line(level: usize, file: Shared<Bytes>) -> Message
 }
 
 impl Reader {
-    /// Takes the lines of a file, and in their places those of the files that it nests, `bound` levels at most.
+    /// Takes the lines of a file, with the lines of each file that it nests in the place of the nesting line, at most
+    /// `bound` levels deep.
     fn take_file(
         &mut self,
         files: &[File],
@@ -73,7 +74,7 @@ impl Reader {
         self.tell(message.at(place)?)
     }
 
-    /// An error for a command that wasn't met, or that named nothing.
+    /// Reports a command that wasn't met, or that named nothing.
     fn miss_one(
         &mut self,
         met: bool,

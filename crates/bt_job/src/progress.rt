@@ -1,4 +1,4 @@
-//! How far a reading of the `.aux` files has come.
+//! How far the reading of the `.aux` files has progressed.
 
 use bt_log::{Message, Said};
 use bt_text::{Bytes, NameList, Sequence, Shared};
@@ -7,12 +7,12 @@ use bt_text::{Bytes, NameList, Sequence, Shared};
 #[derive(Drop)]
 pub struct Progress {
     pub keys: NameList,
-    /// How many keys stood before the `*`, if it was cited.
+    /// How many keys were cited before the `*`, if it was cited.
     pub star: Option<usize>,
     pub databases: Sequence<Bytes>,
     pub style: Option<Bytes>,
     pub log: Sequence<Message>,
-    /// The names that were looked for and not found, each once.
+    /// The names that were looked up and not found, each once.
     pub wanted: Sequence<Bytes>,
     /// The names of the databases and `.aux` files that were met.
     pub met: Sequence<Bytes>,
@@ -21,10 +21,10 @@ pub struct Progress {
     pub style_met: bool,
 }
 
-/// What a part of a command comes to.
+/// The outcome of a part of a command.
 #[derive(Drop)]
 pub enum Outcome {
-    /// It is taken, or it is nothing new.
+    /// It is taken, or it is already known.
     Taken,
     Wrong(Said),
     /// It opens the file of this name.

@@ -1,7 +1,7 @@
 //! The state of a reading of the `.aux` files.
 //!
-//! `progress` is all that contracts speak of. The tables only make look-ups in its two lists of file names fast, and only
-//! `meet` and `want` change them, each together with its list.
+//! Contracts are only about `progress`. The tables merely speed up look-ups in its two lists of file names; only `meet`
+//! and `want` change them, each together with its list.
 
 ghost use Rattle.std.specs.Prelude.{◌≡◌, OnOk, OnErr};
 ghost use Rattle.bt_text.specs.NameList.{is_among};
@@ -28,7 +28,7 @@ pub struct Reader {
 }
 
 impl Reader {
-    /// Before a file was read. It takes no memory.
+    /// The state before any file is read. Allocates nothing.
     pub fn new(alloc: Global) -> Self
         ensures { result.progress ≡ nothing_met }
     {
@@ -51,7 +51,6 @@ impl Reader {
         }
     }
 
-    /// What the files asked for.
     pub fn into_citations(self) -> Citations
         ensures { result ≡ asked_for self.progress }
     {
@@ -74,7 +73,7 @@ impl Reader {
         }
     }
 
-    /// Puts a message after the others. The only error is out of memory; nothing is logged then.
+    /// Appends a message. The only error is out of memory; nothing is logged then.
     pub fn tell(&mut self, message: Message) -> Result<(), AllocError>
         ensures ok { OnOk result (self.new.progress ≡ told message self.old.progress) }
         ensures err { OnErr result (self.new.progress ≡ self.old.progress) }
@@ -83,8 +82,7 @@ impl Reader {
         Ok(())
     }
 
-    /// Puts an error at a line of a file after the other messages. The only error is out of memory; nothing is logged
-    /// then.
+    /// Appends an error at a line of a file. The only error is out of memory; nothing is logged then.
     pub fn tell_at(
         &mut self,
         file: &Shared<Bytes>,
@@ -111,7 +109,7 @@ impl Reader {
         self.met.has(name)
     }
 
-    /// Notes that a database or an `.aux` file was met. The only error is out of memory; nothing is noted then.
+    /// Records that a database or an `.aux` file was met. The only error is out of memory; nothing is recorded then.
     pub fn meet(&mut self, command: Command, name: &[u8]) -> Result<(), AllocError>
         ensures ok { OnOk result (self.new.progress ≡ meeting command name.now self.old.progress) }
         ensures err { OnErr result (self.new.progress ≡ self.old.progress) }
@@ -124,7 +122,7 @@ impl Reader {
         }
     }
 
-    /// Notes that a name was looked for and not found. The only error is out of memory; nothing is noted then.
+    /// Records that a name was looked up and not found. The only error is out of memory; nothing is recorded then.
     pub fn want(&mut self, name: &[u8]) -> Result<(), AllocError>
         ensures ok { OnOk result (self.new.progress ≡ wanting name.now self.old.progress) }
         ensures err { OnErr result (self.new.progress ≡ self.old.progress) }

@@ -1,4 +1,4 @@
--- The laws of the crate, which no code needs. `specs/laws` has what they say.
+-- The crate's laws. No code needs them; `specs/laws` states them.
 use Rattle.bt_job.specs.laws.Lines.{NestedInPlace, AnyBoundServes}
 use Rattle.bt_job.proofs.laws.BoundLemmas
 use Rattle.bt_job.specs.Fit.{AlwaysFit}

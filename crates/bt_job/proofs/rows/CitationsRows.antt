@@ -82,7 +82,7 @@ two_spellings_bytes = refl
 abbrev asked : Citations → List (List ℕ) × Option ℕ × List (List ℕ) × Option (List ℕ) × List (List ℕ)
 asked r = (r.keys, r.star, r.databases, r.style, r.wanted)
 
--- The lines of a nested file stand in its place, between a and d; it nests a third one.
+-- The lines of a nested file come in its place, between a and d; it nests a third one.
 abbrev nested : Citations
 nested = citations
     (file (codes "job.aux") (codes "\\citation{a}\n\\@input{n.aux}\n\\citation{d,A}\n\\bibstyle{s}\n")

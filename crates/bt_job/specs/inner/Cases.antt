@@ -1,4 +1,4 @@
--- Parts of rules, for the functions and lemmas that speak of them.
+-- Parts of rules, for the functions and lemmas that are about them.
 use Rattle.std.specs.Prelude.{ℕ, ◌+◌, List, [], map, flat_map, Option, Some, None, if◌then◌else◌}
 use Rattle.std.specs.Str.{bytes_eq}
 use Rattle.bt_bib.specs.AuxLine.{aux_lines}
@@ -9,7 +9,7 @@ use Rattle.bt_job.specs.Faults.{LineFault, OtherSpelling}
 use Rattle.bt_job.specs.Lines.{JobLine, has_command, job_lines, lines_of}
 use Rattle.bt_job.specs.Citations.{asked_by, without_root}
 
--- a key that was first spelled so
+-- a key that was first spelled this way
 abbrev pub spelling_fault : List ℕ → Option (List ℕ) → Option LineFault
 spelling_fault key None = None
 spelling_fault key (Some first) = if bytes_eq first key then None else Some (OtherSpelling key first)

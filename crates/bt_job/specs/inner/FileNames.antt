@@ -1,4 +1,4 @@
--- The names that commands give, and what is wrong with one, as the code's steps tell it.
+-- The names in commands, and what is wrong with a name, step by step as in the code.
 use Rattle.std.specs.Prelude.{ℕ, Bool, true, not, eqb, List, codes, Option, Some, None, if◌then◌else◌}
 use Rattle.std.specs.List.{ends_with}
 use Rattle.bt_bib.specs.declared.aux_line.Command.{Command}
@@ -8,7 +8,7 @@ use Rattle.bt_log.specs.declared.message.FileNote.TheVariants.{DatabaseTwice, Au
 use Rattle.bt_text.specs.NameList.{is_among}
 use Rattle.bt_job.specs.FileNames.{is_file_name}
 
--- whether a name has the ending that a command asks for
+-- whether a name has the extension that a command asks for
 abbrev pub has_ending : Command → List ℕ → Bool
 has_ending Nested name = ends_with eqb name (codes ".aux")
 has_ending Database name = true
@@ -22,7 +22,7 @@ met_before Nested = Some AuxTwice
 met_before Style = None
 met_before Citation = None
 
--- what is wrong with a name, where these files were met
+-- what is wrong with a name, given the files that were met
 unfoldable pub name_fault : Command → List (List ℕ) → List ℕ → Option FileNote
 name_fault c met name =
     if not (has_ending c name) then Some WrongExtension

@@ -1,5 +1,5 @@
--- What a line that counts comes to at the code's steps: what it adds to what is asked for, and its error or the file
--- that it opens.
+-- The effect of a line that counts, step by step as in the code: what it adds to what is asked for, and its error or
+-- the file that it opens.
 use Rattle.std.specs.Prelude.{ℕ, Bool, true, false, List, [], ◌∷◌, ◌++◌, length, codes, Option, Some, None, if◌then◌else◌}
 use Rattle.std.specs.Str.{bytes_eq}
 use Rattle.bt_text.specs.NameList.{same_name}
@@ -36,12 +36,12 @@ logged_at file line said r = told (skipping said (Line file line None) (codes "c
 
 -- Citations
 
--- the part `*`, which may come once
+-- the part `*`, which may occur once
 abbrev pub cited_all : Option ℕ → Progress → Progress × Outcome
 cited_all None r = (record r { star = Some (length r.keys) }, Taken)
 cited_all (Some n) r = (r, Wrong (Words (codes "Multiple inclusions of entire database")))
 
--- a key, where this is how it was spelled before
+-- a key, given how it was spelled before, if it was
 abbrev pub cited_key : List ℕ → Option (List ℕ) → Progress → Progress × Outcome
 cited_key key None r = (record r { keys = r.keys ++ key ∷ [] }, Taken)
 cited_key key (Some old) r =
@@ -68,7 +68,7 @@ meeting Nested name r = record r { met = r.met ++ name ∷ [] }
 meeting Style name r = r
 meeting Citation name r = r
 
--- with a name that was looked for and not found
+-- with a name that was looked up and not found
 abbrev pub wanting : List ℕ → Progress → Progress
 wanting name r = record r { wanted = with_name r.wanted name }
 
@@ -84,7 +84,7 @@ abbrev pub looked_up : Command → List ℕ → Option (List ℕ) → Progress �
 looked_up c name (Some text) r = file_found c name r
 looked_up c name None r = (wanting name r, Wrong (OfFile (NotOpened (file_kind c)) name))
 
--- a name with which this is wrong
+-- a name with this fault
 abbrev pub unless_misnamed : List File → Command → List ℕ → Option FileNote → Progress → Progress × Outcome
 unless_misnamed files c name (Some note) r = (r, Wrong (OfFile note name))
 unless_misnamed files c name None r = looked_up c name (text_of files name) (meeting c name r)
@@ -102,18 +102,18 @@ part_taken files Database part r = named files Database (file_name_of Database p
 part_taken files Style part r = named files Style (file_name_of Style part) r
 part_taken files Nested part r = named files Nested (file_name_of Nested part) r
 
--- what a message says of a fault
+-- what a message says about a fault
 abbrev pub argument_words : AuxFault → List ℕ
 argument_words NoBrace = codes "No \"}\""
 argument_words WhiteSpace = codes "White space in argument"
 argument_words StuffAfter = codes "Stuff after \"}\""
 
--- what the end of an argument comes to
+-- the effect of the end of an argument
 abbrev pub fault_outcome : Option AuxFault → Outcome
 fault_outcome None = Taken
 fault_outcome (Some fault) = Wrong (Words (argument_words fault))
 
--- what comes later, unless an error or an opened file ends the command
+-- what follows, unless an error or an opened file ends the command
 abbrev pub going_on : (Progress → Progress × Outcome) → Progress × Outcome → Progress × Outcome
 going_on later (r, Taken) = later r
 going_on later (r, Wrong said) = (r, Wrong said)
@@ -124,14 +124,14 @@ abbrev pub parts_taken : List File → Command → Option AuxFault → List (Lis
 parts_taken files c fault [] r = (r, fault_outcome fault)
 parts_taken files c fault (part ∷ parts) r = going_on (parts_taken files c fault parts) (part_taken files c part r)
 
--- whether a command that may stand once was met
+-- whether a command that may occur only once was met
 abbrev pub is_second : Command → Progress → Bool
 is_second Database r = r.database_met
 is_second Style r = r.style_met
 is_second Citation r = false
 is_second Nested r = false
 
--- what a message says of such a command
+-- what a message says about such a command
 abbrev pub second_words : Command → List ℕ
 second_words Database = codes "Illegal, another \\bibdata command"
 second_words Style = codes "Illegal, another \\bibstyle command"

@@ -8,6 +8,6 @@ use Rattle.bt_text.specs.NameList.{is_among}
 abbrev pub has_name : NameTable → List ℕ → Bool
 has_name table name = list_any (λ key. bytes_eq name key.items) table.names.keys
 
--- a table has just the names of a list
+-- a table has exactly the names of a list
 abbrev pub Mirrors : NameTable → List (List ℕ) → Type 0
 Mirrors table names = (name : List ℕ) → has_name table name ≡ is_among names name

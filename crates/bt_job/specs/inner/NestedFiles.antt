@@ -1,4 +1,4 @@
--- What the root file leaves, with the lines of each nested file in its place, as the code's steps go over them.
+-- The state after the root file, with the lines of each nested file in its place, step by step as in the code.
 use Rattle.std.specs.Prelude.{ℕ, zero, suc, ◌+◌, Bool, false, not, ◌==◌, ◌&&◌, List, [], ◌∷◌, ◌++◌, length, codes, Option, Some, None, if◌then◌else◌}
 use Rattle.std.specs.Option.{is_none}
 use Rattle.bt_bib.specs.declared.aux_line.Command.TheVariants.{Nested}
@@ -20,7 +20,7 @@ use Rattle.bt_job.specs.inner.LineEffects.{told, logged_at, meeting, wanting, it
 
 -- Files in their places
 
--- What a line leaves after it: its error is reported, and the lines of a file that it opens stand in its place.
+-- The state after a line: its error is reported, and if it opens a file, that file's lines are taken in its place.
 abbrev pub in_place : (List ℕ → Progress → Progress) → List ℕ → ℕ → Progress × Outcome → Progress
 in_place nested file line (r, Taken) = r
 in_place nested file line (r, Wrong said) = logged_at file line said r
@@ -38,8 +38,8 @@ opened nested files level file None r = r
 opened nested files level file (Some text) r =
     lines_taken nested files file (aux_lines text) (told (file_line level file) r)
 
--- A file so many levels below the root, and below it as many levels as the bound allows. Which bound it is doesn't
--- matter, where it is above the number of files that weren't met: a file is opened at most once.
+-- A file at this level below the root, with as many levels below it as the bound allows. The exact bound doesn't matter
+-- if it exceeds the number of files that weren't met, since a file is opened at most once.
 unfoldable pub file_taken : ℕ → List File → ℕ → List ℕ → Progress → Progress
 file_taken zero files level file r = r
 file_taken (suc bound) files level file r =
@@ -62,7 +62,7 @@ nothing_met = record {
   style_met = false;
 }
 
--- with an error for what the root's files lack
+-- with an error for something missing in the root's files
 abbrev pub missing : List ℕ → List ℕ → Progress → Progress
 missing what file r = told (at (WholeFile file) (plain Error (codes "I found no " ++ what))) r
 

@@ -5,7 +5,7 @@ use Rattle.bt_job.specs.Lines.{JobLine, input_names, opened_by, read_all, read_o
 
 -- Laws
 
--- Any two bounds come to the same that are no smaller than the number of lines that can still come.
+-- All bounds that are at least the number of lines that can still come give the same result.
 abbrev pub AnyBoundServes : Type 0
 AnyBoundServes =
     (m n : ℕ) (files : List File) (root : List ℕ) (before next : List JobLine)
