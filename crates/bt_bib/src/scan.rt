@@ -51,7 +51,6 @@ fn is_key_byte(close: Closing, byte: u8) -> bool
 }
 
 impl Class {
-    /// Whether a byte is of this class.
     pub fn has(self, byte: u8) -> bool
         ensures { result ≡ has self byte }
     {

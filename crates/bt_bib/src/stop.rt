@@ -7,7 +7,6 @@ use crate::fault::ItemFault;
 use crate::spot::Spot;
 use std::alloc::{AllocError, AllocFailed};
 
-/// Why a reader returns no value.
 #[derive(Drop)]
 pub enum ReadStop {
     OutOfMemory,
