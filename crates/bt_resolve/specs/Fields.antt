@@ -15,7 +15,7 @@ unfoldable pub given_value : MacroTexts → List Field → List ℕ → Option (
 given_value macros fields name =
     option_map (λ (f : Field). field_value macros f.value) (find (λ (f : Field). is_same_folded f.name name) fields)
 
--- of a declared field: its value's warnings, and the one that an earlier field has its name
+-- the warnings of a declared field: those of its value, and the one that an earlier field has its name
 abbrev pub field_messages : MacroTexts → Origin → List ℕ → List Field → Field → List Message
 field_messages macros origin key before f =
     value_warnings None macros origin f.line f.name f.value
@@ -23,7 +23,7 @@ field_messages macros origin key before f =
     then extra_field (line_at origin f.line) key f.name ∷ []
     else [])
 
--- of the fields after others; `crossref` is always declared
+-- the warnings of fields after others; `crossref` is always declared
 abbrev pub fields_messages : List (List ℕ) → MacroTexts → Origin → List ℕ → List Field → List Field → List Message
 fields_messages declared macros origin key before [] = []
 fields_messages declared macros origin key before (f ∷ fs) =

@@ -1,4 +1,4 @@
--- The list of entries. An entry is named by its place among the stored ones.
+-- The list of entries. An entry is identified by its place among the stored ones.
 use Rattle.std.specs.Prelude.{ℕ, Bool, false, not, ◌==◌, List, [], ◌∷◌, ◌++◌, length, take, filter, filter_map, slice_get, Option, Some, None, option_and_then, if◌then◌else◌}
 use Rattle.std.specs.List.{list_any, range_with_len}
 use Rattle.bt_text.specs.CaseFolding.{is_same_folded}
@@ -11,7 +11,7 @@ use Rattle.bt_text.specs.NameList.{has_name}
 abbrev pub place_of_key : List Stored → List ℕ → Option ℕ
 place_of_key stored key = first_place (λ (s : Stored). is_same_folded s.key key) stored
 
--- the stored entry that an entry refers to, by its `crossref` as read
+-- the stored entry that an entry refers to, given its `crossref` as read
 abbrev pub parent_of : List Stored → Stored → Option ℕ
 parent_of stored s = option_and_then (place_of_key stored) s.crossref
 

@@ -19,7 +19,7 @@ use Rattle.bt_resolve.specs.Faults.{repeated, fault_error}
 use Rattle.bt_resolve.specs.Fields.{fields_messages}
 use Rattle.bt_resolve.specs.Stored.{kind_of, is_wanted, is_stored, stored_among}
 
--- of an entry that is stored: that its type has no function, then those of its fields
+-- the messages of an entry that is stored: the one that its type has no function, then those of its fields
 unfoldable pub stored_messages : Asked → MacroTexts → Origin → ℕ → Entry → List ℕ → List Message
 stored_messages a macros origin line e key =
     (elim (place_of_name a.types (kind_of e)) [ None ↦ no_function (line_at origin line) key ∷ [] | Some function ↦ [] ])

@@ -28,7 +28,7 @@ nested key parent =
 abbrev pub no_entry : List ℕ → Message
 no_entry key = about Warning key (codes "Warning--I didn't find a database entry for \"" ++ key ++ codes "\"") None
 
--- of an entry of the list, by its `crossref` as read
+-- the messages of an entry of the list, given its `crossref` as read
 unfoldable pub reference_messages : List (List ℕ) → List Stored → ℕ → List Message
 reference_messages keys stored p = elim (slice_get stored p) [
   | None ↦ []
@@ -43,11 +43,11 @@ reference_messages keys stored p = elim (slice_get stored p) [
   ]
 ]
 
--- of a cited key
+-- the messages of a cited key
 unfoldable pub missing_messages : List Stored → List ℕ → List Message
 missing_messages stored key = if is_stored stored key then [] else no_entry key ∷ []
 
--- of the whole list, in its order, then of the cited keys, in their order
+-- the messages of the whole list, in its order, then those of the cited keys, in their order
 unfoldable pub list_messages : Asked → List Stored → List Message
 list_messages a stored =
     flat_map (reference_messages a.keys stored) (listed a stored) ++ flat_map (missing_messages stored) a.keys

@@ -36,7 +36,7 @@ preamble macros databases =
       | contents.Define d ↦ []
     ]) [] (all_items databases)
 
--- those of the databases in turn, then those of the list
+-- the messages of the databases in turn, then those of the list
 unfoldable pub messages : Asked → List Macro → List (List PlacedItem) → List Message
 messages a macros databases =
     database_messages a macros 1 [] databases ++ list_messages a (stored_entries a macros databases)

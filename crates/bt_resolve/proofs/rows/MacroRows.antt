@@ -69,7 +69,7 @@ preambles_joined :
 unfolding sign enclosed word name_ended name many parts.part parts.next_part parts.value field next_field opening piece next_piece pieces_of value field_value value_warnings macro_before given_value stored_of stored_among stored_messages item_messages fault_words unclosed_entry unclosed_command listed values_after is_left_out final_crossref entries_seen reference_messages missing_messages list_messages stored_entries preamble messages resolved
 preambles_joined = refl
 
--- entries that aren't wanted yield no messages
+-- unwanted entries and undeclared fields yield no messages
 macros_of_unused_entries :
     found (cited (codes "a" ∷ [])) (codes "@misc{b, title = nix}@misc{a, note = nix}" ∷ []) 2
     ≡ said (entry (codes "a") None None ∷ []) ([])

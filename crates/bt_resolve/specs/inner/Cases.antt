@@ -49,7 +49,7 @@ abbrev pub joined_or_empty : Option (List ℕ) → List ℕ
 joined_or_empty None = []
 joined_or_empty (Some text) = white_joined text
 
--- of a macro with this value
+-- the warnings of a macro with this value, if it has one
 abbrev pub macro_warnings : Bool → Option (List ℕ) → BibLine → List ℕ → List Message
 macro_warnings own text place name = elim text [
   | Some defined ↦ []

@@ -8,7 +8,7 @@ use Rattle.bt_resolve.specs.Inherited.{children}
 abbrev pub count_at : {S : Type 0} → HashMap ℕ ℕ S → ℕ → ℕ
 count_at counts p = unwrap_or (get nat_eq counts p) 0
 
--- the parents are those that the entries refer to, and the counts those of the children
+-- each entry's parent is the entry that it refers to, and the counts are the numbers of children
 pub record IsFamily {S : Type 0} (stored : List Stored) (parents : List (Option ℕ)) (counts : HashMap ℕ ℕ S) :
     Type 0 where
   pub parents_known : parents ≡ map (parent_of stored) stored
