@@ -16,7 +16,7 @@ pub record Alike (limit : ℕ) (h k : Here) : Type 0 where
 below : (limit : ℕ) (s : Spot) → s.place < limit → limit - s.place ≡ suc (limit - (s.place + 1))
 below limit s lt = omega arith
 
--- one byte more of both
+-- one more byte of both
 pub alike_cons : (limit : ℕ) (s t : Spot) (b c : ℕ) (bs cs : List ℕ) → s.place < limit → Alike limit (at s (b ∷ bs)) (at t (c ∷ cs)) → (b ≡ c) × Alike limit (at (spot_after_byte b s) bs) (at (spot_after_byte c t) cs)
 alike_cons limit s t b c bs cs lt a =
     let e : take (suc (limit - (s.place + 1))) (b ∷ bs) ≡ take (suc (limit - (s.place + 1))) (c ∷ cs) = subst (λ n. take n (b ∷ bs) ≡ take n (c ∷ cs)) (below limit s lt) a.rest in

@@ -16,7 +16,7 @@ use Rattle.bt_bib.proofs.SameLemmas.{Same}
 use Rattle.bt_bib.proofs.SamePieceLemmas.{next_piece_same}
 use Rattle.bt_bib.proofs.BoundaryLemmas.{EndsAt, next_ends, pieces_by, pieces_step, here_reached}
 
--- what was read below the limit is read again, and from there on the other text
+-- the pieces that end below the limit are the same in both texts, and the rest is read from the other text
 pub record Keeps (limit : ℕ) (h k : Here) (ps : List PlacedPiece) : Type 0 where
   pub on : Here
   pub way : Reaches k on

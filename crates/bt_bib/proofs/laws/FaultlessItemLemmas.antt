@@ -159,7 +159,7 @@ unfolding opening
 read_opening_at s [] x read = absurd (cc read)
 read_opening_at s (b ∷ bs) x read = opening_by s b bs x (b == left_brace) (b == 40) refl refl read
 
--- `@`, and after white space a word of such a kind, up to a place
+-- `@`, white space, and a word that begins this kind of piece, up to a place
 record Worded (keyword : Keyword) (n : List ℕ) (h e : Here) : Type 0 where
   sign : first h.rest ≡ Some 64
   word : Stands (Bytes n (IsWord keyword n)) (after_white (after_byte h)) e

@@ -24,7 +24,7 @@ abbrev pub Finds : List ℕ → Spot → Result Spot ReadStop → Result Here St
 Finds text from (Ok s) read = (read ≡ Ok (here text s)) × IsAhead text from s
 Finds text from (Err halt) read = Stops text from halt read
 
--- It leaves in x what the definition reads, up to where that ends.
+-- It stores in x what the definition reads, and ends where the definition does.
 abbrev pub FillsTo : {X : Type 0} → List ℕ → Spot → ReadStop → X → X × Result Here Stop → Type 0
 FillsTo text from OutOfMemory x read = Unit {0}
 FillsTo text from (Stopped fault s) x read = (read ≡ (x, Err (fault, here text s))) × IsAhead text from s

@@ -109,7 +109,7 @@ Keyed close [] A = Provided (EndsKey close) A
 Keyed close (b ∷ key) A =
     Bytes (b ∷ key) (list_all (is_key_byte close) (b ∷ key) ≡ true) ▸ Provided (EndsKey close) (White ▸ A)
 
--- a word after `@` that begins such a piece
+-- a word after `@` that begins this kind of piece
 abbrev pub IsWord : Keyword → List ℕ → Type 0
 IsWord keyword word = (is_name word ≡ true) × (keyword_of word ≡ keyword)
 
