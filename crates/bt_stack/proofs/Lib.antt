@@ -1,3 +1,4 @@
+mod CaseLemmas
 mod FormLemmas
 mod GrowLemmas
 mod JoinLemmas
@@ -5,6 +6,7 @@ mod LogLemmas
 mod LeftLemmas
 mod MoveLemmas
 mod NameLemmas
+mod PartLemmas
 mod TellLemmas
 mod TopLemmas
 mod VariableLemmas

@@ -4,3 +4,5 @@ pub mod Kept
 pub mod Moved
 pub mod Logged
 pub mod Formatted
+pub mod Converted
+pub mod Part

@@ -155,6 +155,23 @@ pub fn answer_page(state: &mut State, count: usize, page: Vec<u8>) -> Result<Flo
     }
 }
 
+/// Puts a copy of a text in place of arguments, unless it is too long.
+pub fn answer_copy(
+    state: &mut State,
+    alloc: Global,
+    count: usize,
+    text: &[u8],
+) -> Result<Flow, AllocError>
+    requires some { 0 < count }
+    requires there { count ≤ length state.old.stack.items }
+    ensures { IfOk result (Acts (λ world. pushed (Txt text.now) (with_stack (drop count world.stack) world))
+        state.old state.new) }
+{
+    let mut page = state.stack.take_page(alloc);
+    page.extend_from_slice(text)?;
+    answer_page(state, count, page)
+}
+
 /// Calls a function of two numbers.
 pub fn call_of_two_numbers<F: OfTwoNumbers>(state: &mut State) -> Result<Flow, AllocError>
     ensures { IfOk result (Acts (λ world.

@@ -11,7 +11,7 @@ ghost use Rattle.bt_style.specs.declared.builtin.Builtin.TheVariants as builtin;
 ghost use Rattle.bt_stack.specs.View.{world_of, Acts};
 ghost use Rattle.bt_stack.specs.inner.Formatted.{formatted_answer, name_asked};
 
-use crate::forms::{OfTextToNumber, answer_empty_in_error, answer_page};
+use crate::forms::{OfTextToNumber, answer_copy, answer_empty_in_error};
 use crate::stack::Stack;
 use crate::state::State;
 use crate::texts::count_fitting;
@@ -93,11 +93,7 @@ fn answer_within(state: &mut State, alloc: Global, formatted: Formatted) -> Resu
         state.old state.new) }
 {
     match formatted {
-        Formatted::Text(text) => {
-            let mut page = state.stack.take_page(alloc);
-            page.extend_from_slice(text.as_slice())?;
-            answer_page(state, 3, page)
-        }
+        Formatted::Text(text) => answer_copy(state, alloc, 3, text.as_slice()),
         Formatted::Longer => {
             state.stack.drop_tops(3);
             state.pass_text_limit()

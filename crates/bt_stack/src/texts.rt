@@ -1,6 +1,6 @@
 //! The functions on texts. A text that ends the pool grows where it lies; all others are written on the stack's page.
 
-ghost use Rattle.std.specs.Prelude.{◌≡◌, ◌≤◌, None, pos, length, drop, IfOk};
+ghost use Rattle.std.specs.Prelude.{◌≡◌, ◌≤◌, None, pos, length, drop, option_map, IfOk, IfSome};
 ghost use Rattle.bt_text.specs.Period.{with_period};
 ghost use Rattle.bt_text.specs.Purification.{purified};
 ghost use Rattle.bt_actions.specs.Arguments.{as_number, as_text, taken_two, taken_three};
@@ -9,10 +9,13 @@ ghost use Rattle.bt_actions.specs.Texts.{join_of, mode_of, case_of, substring_gi
 ghost use Rattle.bt_actions.specs.World.{Goes, say, with_stack};
 ghost use Rattle.bt_style.specs.declared.builtin.Builtin.TheVariants as builtin;
 ghost use Rattle.bt_stack.specs.Forms.{number_or_error};
-ghost use Rattle.bt_stack.specs.Tops.{joined_tops};
+ghost use Rattle.bt_stack.specs.Tops.{joined_tops, top_len};
 ghost use Rattle.bt_stack.specs.View.{world_of, Acts};
+ghost use Rattle.bt_stack.specs.inner.Converted.{case_told, case_asked, case_answer};
+ghost use Rattle.bt_stack.specs.inner.Part.{part_of, part_asked, text_of_prefix, prefix_asked};
 
-use crate::forms::{OfTextToNumber, OfTextToText, answer_page};
+use crate::forms::{OfTextToNumber, OfTextToText, answer_copy};
+use crate::stack::Stack;
 use crate::state::State;
 use bt_actions::{Complaint, Flow};
 use bt_style::Builtin;
@@ -154,30 +157,113 @@ fn refuse_mode(state: &mut State, complaint: Complaint) -> Result<Flow, AllocErr
     Ok(Flow::Go)
 }
 
+/// A text in the case that another one names, or that it names none.
+fn converted(
+    alloc: Global,
+    text: &[u8],
+    name: &[u8],
+) -> Result<Result<Bytes, Complaint>, AllocError>
+    ensures { IfOk result (λ told. told ≡ case_told (text.now, name.now)) }
+{
+    match mode_of(name) {
+        Some(mode) => {
+            let changed = change_case(alloc, text, mode)?;
+            Ok(Ok(changed))
+        }
+        None => {
+            let name = Bytes::copied(alloc, name)?;
+            Ok(Err(Complaint::BadCase(name)))
+        }
+    }
+}
+
+/// What the two topmost values ask for, if they are texts. They are borrowed only here, so the caller can change the
+/// stack.
+#[tactic(auto, using(crate::proofs::CaseLemmas::second_short))]
+fn converted_tops(
+    alloc: Global,
+    stack: &Stack,
+) -> Result<Option<Result<Bytes, Complaint>>, AllocError>
+    ensures told { IfOk result (λ told. told ≡ option_map case_told (case_asked stack.now.items)) }
+    ensures few { length stack.now.items ≤ 1000 }
+    ensures short { IfOk result (λ told. IfSome told (λ _. top_len (drop 1 stack.now.items) ≤ 65536)) }
+{
+    if stack.len() < 2 {
+        return Ok(None);
+    }
+    match (stack.text_at(1), stack.text_at(0)) {
+        (Some(text), Some(name)) => {
+            let told = converted(alloc, text, name)?;
+            Ok(Some(told))
+        }
+        _ => Ok(None),
+    }
+}
+
+/// Puts a text in another case in place of two arguments, or reports that none was named.
+fn answer_converted(
+    state: &mut State,
+    alloc: Global,
+    told: Result<Bytes, Complaint>,
+) -> Result<Flow, AllocError>
+    requires { 2 ≤ length state.old.stack.items }
+    ensures { IfOk result (Acts (case_answer told) state.old state.new) }
+{
+    match told {
+        Ok(text) => answer_copy(state, alloc, 2, text.as_slice()),
+        Err(complaint) => refuse_mode(state, complaint),
+    }
+}
+
+/// `change.case$` of other values.
+#[cold]
+#[tactic(auto, using(crate::proofs::CaseLemmas::case_refused))]
+fn refuse_case(state: &mut State) -> Result<Flow, AllocError>
+    requires { case_asked state.old.stack.items ≡ None }
+    ensures { IfOk result (Acts (λ world.
+        valued case_of empty_item (taken_two builtin.ChangeCase as_text as_text world)) state.old state.new) }
+{
+    let wrong = state.stack.is_no_text(0) || state.stack.is_no_text(1);
+    state.refuse_two(Builtin::ChangeCase, wrong)?;
+    state.push_given(b"")
+}
+
 /// `change.case$`.
 pub fn convert_case(state: &mut State, alloc: Global) -> Result<Flow, AllocError>
     ensures { IfOk result (Acts (λ world.
         valued case_of empty_item (taken_two builtin.ChangeCase as_text as_text world)) state.old state.new) }
 {
-    let mut page = state.stack.take_page(alloc);
-    match (state.stack.text_at(1), state.stack.text_at(0)) {
-        (Some(text), Some(name)) => match mode_of(name) {
-            Some(mode) => {
-                let changed = change_case(alloc, text, mode)?;
-                page.extend_from_slice(changed.as_slice())?;
-                answer_page(state, 2, page)
-            }
-            None => {
-                let name = Bytes::copied(alloc, name)?;
-                refuse_mode(state, Complaint::BadCase(name))
-            }
-        },
-        _ => {
-            let wrong = state.stack.is_no_text(0) || state.stack.is_no_text(1);
-            state.refuse_two(Builtin::ChangeCase, wrong)?;
-            state.push_given(b"")
-        }
+    match converted_tops(alloc, &state.stack)? {
+        Some(told) => answer_converted(state, alloc, told),
+        None => refuse_case(state),
     }
+}
+
+/// The prefix that the two topmost values ask for, if they are a text and a number. The text is borrowed only here, so
+/// the caller can change the stack.
+fn prefix_tops(alloc: Global, stack: &Stack) -> Result<Option<Bytes>, AllocError>
+    ensures { IfOk result (λ prefix. prefix ≡ option_map text_of_prefix (prefix_asked stack.now.items)) }
+{
+    match (stack.text_at(1), stack.number_at(0)) {
+        (Some(text), Some(most)) => {
+            let prefix = text_prefix(alloc, text, most)?;
+            Ok(Some(prefix))
+        }
+        _ => Ok(None),
+    }
+}
+
+/// `text.prefix$` of other values.
+#[cold]
+#[tactic(auto, using(crate::proofs::PartLemmas::prefix_refused))]
+fn refuse_prefix(state: &mut State) -> Result<Flow, AllocError>
+    requires { prefix_asked state.old.stack.items ≡ None }
+    ensures { IfOk result (Acts (λ world.
+        valued prefix_of empty_item (taken_two builtin.TextPrefix as_text as_number world)) state.old state.new) }
+{
+    let wrong = state.stack.is_no_number(0) || state.stack.is_no_text(1);
+    state.refuse_two(Builtin::TextPrefix, wrong)?;
+    state.push_given(b"")
 }
 
 /// `text.prefix$`.
@@ -185,19 +271,40 @@ pub fn prefix(state: &mut State, alloc: Global) -> Result<Flow, AllocError>
     ensures { IfOk result (Acts (λ world.
         valued prefix_of empty_item (taken_two builtin.TextPrefix as_text as_number world)) state.old state.new) }
 {
-    let mut page = state.stack.take_page(alloc);
-    match (state.stack.text_at(1), state.stack.number_at(0)) {
-        (Some(text), Some(most)) => {
-            let prefix = text_prefix(alloc, text, most)?;
-            page.extend_from_slice(prefix.as_slice())?;
-            answer_page(state, 2, page)
-        }
-        _ => {
-            let wrong = state.stack.is_no_number(0) || state.stack.is_no_text(1);
-            state.refuse_two(Builtin::TextPrefix, wrong)?;
-            state.push_given(b"")
-        }
+    match prefix_tops(alloc, &state.stack)? {
+        Some(prefix) => answer_copy(state, alloc, 2, prefix.as_slice()),
+        None => refuse_prefix(state),
     }
+}
+
+/// The part of a text that the three topmost values ask for, if they are a text and two numbers. The text is borrowed
+/// only here, so the caller can change the stack.
+fn part_tops(alloc: Global, stack: &Stack) -> Result<Option<Bytes>, AllocError>
+    ensures { IfOk result (λ part. part ≡ option_map part_of (part_asked stack.now.items)) }
+{
+    match (stack.text_at(2), stack.number_at(1), stack.number_at(0)) {
+        (Some(text), Some(start), Some(len)) => {
+            let part = substring(alloc, text, start, len)?;
+            Ok(Some(part))
+        }
+        _ => Ok(None),
+    }
+}
+
+/// `substring$` of other values.
+#[cold]
+#[tactic(auto, using(crate::proofs::PartLemmas::part_refused))]
+fn refuse_part(state: &mut State) -> Result<Flow, AllocError>
+    requires { part_asked state.old.stack.items ≡ None }
+    ensures { IfOk result (Acts (λ world.
+        valued substring_given empty_item (taken_three builtin.Substring as_text as_number as_number world))
+        state.old state.new) }
+{
+    let wrong = state.stack.is_no_number(0)
+        || state.stack.is_no_number(1)
+        || state.stack.is_no_text(2);
+    state.refuse_three(Builtin::Substring, wrong)?;
+    state.push_given(b"")
 }
 
 /// `substring$`.
@@ -206,23 +313,8 @@ pub fn cut(state: &mut State, alloc: Global) -> Result<Flow, AllocError>
         valued substring_given empty_item (taken_three builtin.Substring as_text as_number as_number world))
         state.old state.new) }
 {
-    let mut page = state.stack.take_page(alloc);
-    match (
-        state.stack.text_at(2),
-        state.stack.number_at(1),
-        state.stack.number_at(0),
-    ) {
-        (Some(text), Some(start), Some(len)) => {
-            let part = substring(alloc, text, start, len)?;
-            page.extend_from_slice(part.as_slice())?;
-            answer_page(state, 3, page)
-        }
-        _ => {
-            let wrong = state.stack.is_no_number(0)
-                || state.stack.is_no_number(1)
-                || state.stack.is_no_text(2);
-            state.refuse_three(Builtin::Substring, wrong)?;
-            state.push_given(b"")
-        }
+    match part_tops(alloc, &state.stack)? {
+        Some(part) => answer_copy(state, alloc, 3, part.as_slice()),
+        None => refuse_part(state),
     }
 }
