@@ -16,8 +16,7 @@ use Rattle.bt_actions.specs.World.{World, Act, Goes, with_stack}
 use Rattle.bt_actions.specs.State.{pushed, popped}
 use Rattle.bt_actions.specs.Given.{answered, valued, empty_item}
 use Rattle.bt_actions.specs.Names.{format_given, name_formatted}
-use Rattle.bt_actions.specs.inner.Names.{pushed_within}
-use Rattle.bt_stack.specs.inner.Formatted.{formatted_answer, name_asked}
+use Rattle.bt_stack.specs.inner.Formatted.{formatted_answer, name_asked, pushed_within}
 
 abbrev is_there : Result Formatted FormatFault → Bool
 is_there (Ok formatted) = true

@@ -1,10 +1,8 @@
 -- What functions of values give, as the code has it.
-use Rattle.std.specs.Prelude.{ℤ, Option, Some, None, Bool, Result, Ok, Err, List, ℕ}
-use Rattle.bt_style.specs.declared.builtin.Builtin.TheVariants.{Equals}
+use Rattle.std.specs.Prelude.{ℤ, Option, Some, None, Result, Ok, Err, List, ℕ}
 use Rattle.bt_actions.specs.declared.complaint.Complaint.{Complaint}
-use Rattle.bt_actions.specs.declared.complaint.Complaint.TheVariants.{WrongKind}
 use Rattle.bt_actions.specs.Item.{Num, Txt}
-use Rattle.bt_actions.specs.Given.{Given, Gives, Errs, truth, zero_item, empty_item}
+use Rattle.bt_actions.specs.Given.{Given, Gives, Errs, zero_item, empty_item}
 
 -- a number, or an error with 0 in its place
 abbrev pub number_or_error : Result ℤ Complaint → Given
@@ -14,11 +12,6 @@ number_or_error (Err m) = Errs m zero_item
 -- a text that is always there
 abbrev pub text_given : (List ℕ → List ℕ) → List ℕ → Given
 text_given value t = Gives (Txt (value t))
-
--- whether two values are equal, or that they can't be compared
-abbrev pub equality_given : Option Bool → Given
-equality_given None = Errs (WrongKind Equals) zero_item
-equality_given (Some b) = Gives (truth b)
 
 -- a text, or an error with the empty text in its place
 abbrev pub text_or_error : Option Complaint → List ℕ → Given

@@ -7,7 +7,7 @@ ghost use Rattle.bt_actions.specs.Assignment.{assigned};
 ghost use Rattle.bt_actions.specs.World.{Goes, say, with_stack};
 ghost use Rattle.bt_style.specs.declared.builtin.Builtin.TheVariants as builtin;
 ghost use Rattle.bt_style.specs.declared.style.Target.TheVariants as target;
-ghost use Rattle.bt_stack.specs.View.{world_of, Acts};
+ghost use Rattle.bt_stack.specs.View.{Acts};
 
 use crate::state::State;
 use bt_actions::{Complaint, Flow};

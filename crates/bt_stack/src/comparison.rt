@@ -8,7 +8,7 @@ ghost use Rattle.bt_actions.specs.Comparison.{equality_of, emptiness_of, missing
 ghost use Rattle.bt_actions.specs.Given.{valued, zero_item};
 ghost use Rattle.bt_style.specs.declared.builtin.Builtin.TheVariants as builtin;
 ghost use Rattle.bt_stack.specs.Tops.{tops_equal};
-ghost use Rattle.bt_stack.specs.View.{world_of, Acts};
+ghost use Rattle.bt_stack.specs.View.{Acts};
 
 use crate::forms::{OfFieldText, answer_in_error};
 use crate::numbers::truth;

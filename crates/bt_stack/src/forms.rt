@@ -12,7 +12,7 @@ ghost use Rattle.bt_actions.specs.State.{pushed, pushed_in_error};
 ghost use Rattle.bt_actions.specs.World.{with_stack};
 ghost use Rattle.bt_stack.specs.Forms.{number_or_error, text_given};
 ghost use Rattle.bt_stack.specs.Forms.{text_or_error};
-ghost use Rattle.bt_stack.specs.View.{world_of, Acts};
+ghost use Rattle.bt_stack.specs.View.{Acts};
 
 use crate::numbers::truth;
 use crate::operands::push_empty_in_error;

@@ -1,5 +1,5 @@
-//! How two kept texts become one. A text that was made last ends the pool, and so does what a step joins to it piece by
-//! piece: then the new piece alone is copied, and a title of ten pieces isn't copied ten times.
+//! How two kept texts become one. The text that was made last ends the pool, so joining a piece to it copies only the
+//! piece: a title of ten pieces isn't copied ten times.
 
 ghost use Rattle.std.specs.Prelude.{◌≡◌, ◌≤◌, ◌++◌, ◌+◌, length, option_map, IfSome, IfOk, OnOk, OnErr};
 ghost use Rattle.bt_actions.specs.Item.{Txt};
@@ -29,7 +29,7 @@ fn append(pool: &mut Vec<u8>, scratch: &mut Vec<u8>, value: Value) -> Result<(),
     }
 }
 
-/// Joins two kept texts of so many bytes together, both copied to the end of the pool.
+/// Joins two kept texts of `len` bytes together by copying both to the end of the pool.
 fn join_anew<'a>(
     pool: &mut Vec<u8>,
     scratch: &mut Vec<u8>,
@@ -52,8 +52,8 @@ fn join_anew<'a>(
     Ok(Value::Made(start, len))
 }
 
-/// Joins two kept texts of so many bytes together. If the first one ends the pool the second alone is copied, and if
-/// they lie side by side none is.
+/// Joins two kept texts of `len` bytes together. If the first one ends the pool, only the second is copied; if they lie
+/// side by side, neither is.
 fn join_texts<'a>(
     pool: &mut Vec<u8>,
     scratch: &mut Vec<u8>,

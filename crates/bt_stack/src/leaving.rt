@@ -1,7 +1,7 @@
 //! What a step leaves: its variables, what it wrote, and its messages.
 //!
-//! Variables that the step didn't change are those that it was given, shared. Others are copied, with the step's values
-//! put over them. This is the one place where made texts leave the pool.
+//! Variables that the step didn't change are shared. Others are copied, with the step's values put over them. This is
+//! the one place where texts that the step made leave the pool.
 
 ghost use Rattle.std.specs.Prelude.{◌≡◌, length, IfOk, OnOk};
 ghost use Rattle.bt_actions.specs.Arguments.{as_text};
@@ -116,11 +116,11 @@ fn shared_lines(
     Ok(Sequence::from_vec(shared))
 }
 
-/// What of a step's state outlives it.
+/// The part of a step's state that outlives the step.
 #[derive(Drop)]
 pub struct Left {
     pub globals: Shared<Variables>,
-    /// Those of the step's entry, if it has one.
+    /// The entry's variables, if the step has an entry.
     pub variables: Option<Shared<Variables>>,
     pub held: Held,
     pub lines: Sequence<Shared<Bytes>>,
@@ -132,7 +132,7 @@ impl<'a> State<'a> {
     ghost use Rattle.bt_stack.specs.View.{world_of, own_variables, left_of};
 
     /// The messages of all complaints, in their order.
-    pub fn messages(&self, alloc: Global) -> Result<Sequence<Message>, AllocError>
+    fn messages(&self, alloc: Global) -> Result<Sequence<Message>, AllocError>
         ensures { IfOk result (λ messages. messages ≡ (world_of self.now).messages) }
     {
         let key = match self.entry {
@@ -152,7 +152,7 @@ impl<'a> State<'a> {
         }
     }
 
-    /// What was written. It is taken in a function without `?`, each of which would prove the drop of all parts anew.
+    /// What was written. This function has no `?`: each would have to prove again that all parts are dropped.
     fn into_output(self) -> (Held, Sequence<Bytes>)
         ensures held { result.0 ≡ self.entry.held }
         ensures lines { result.1 ≡ self.entry.lines }

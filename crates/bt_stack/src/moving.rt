@@ -1,5 +1,5 @@
-//! How texts move to another pool when most of the first one's bytes belong to nobody any more. First all are copied,
-//! which may fail and changes nothing else; then the values learn their new places, which can't.
+//! How texts move to another pool, once most bytes of the first one aren't in use. First all texts are copied, which may
+//! fail but changes nothing else. Then the values get their new places, which can't fail.
 
 ghost use Rattle.std.specs.Prelude.{◌≡◌, ◌<◌, ◌^◌, ◌++◌, ◌+◌, length, OnOk};
 ghost use Rattle.bt_stack.specs.inner.Kept.{AllFit};
@@ -18,7 +18,7 @@ fn made_len(value: Value) -> usize
     }
 }
 
-/// How many bytes kept values name together, or the largest number if that is less.
+/// How many bytes kept values name together, or the largest number if that overflows.
 pub fn made_size(values: &[Value]) -> usize {
     let mut len = 0usize;
     for value in values {

@@ -5,11 +5,10 @@ ghost use Rattle.bt_actions.specs.Arguments.{as_number, as_text, taken_three};
 ghost use Rattle.bt_actions.specs.Given.{Errs, valued, answered, empty_item};
 ghost use Rattle.bt_actions.specs.Names.{names_counted, name_formatted};
 ghost use Rattle.bt_actions.specs.World.{World, with_stack};
-ghost use Rattle.bt_actions.specs.inner.Names.{pushed_within};
 ghost use Rattle.bt_names.specs.FormattedName.{formatted_name, IsFormatFault};
 ghost use Rattle.bt_style.specs.declared.builtin.Builtin.TheVariants as builtin;
 ghost use Rattle.bt_stack.specs.View.{world_of, Acts};
-ghost use Rattle.bt_stack.specs.inner.Formatted.{formatted_answer, name_asked};
+ghost use Rattle.bt_stack.specs.inner.Formatted.{formatted_answer, name_asked, pushed_within};
 
 use crate::forms::{OfTextToNumber, answer_copy, answer_empty_in_error};
 use crate::stack::Stack;

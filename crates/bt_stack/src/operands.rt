@@ -1,14 +1,14 @@
 //! What fields and variables, the key, the type and the preamble put on the stack, and the functions that look at the
 //! stack alone.
 
-ghost use Rattle.std.specs.Prelude.{◌≡◌, [], slice_index_or, IfOk};
+ghost use Rattle.std.specs.Prelude.{◌≡◌, IfOk};
 ghost use Rattle.bt_actions.specs.Item.{Txt};
 ghost use Rattle.bt_actions.specs.World.{Goes};
 ghost use Rattle.bt_actions.specs.State.{popped, pushed, pushed_in_error};
 ghost use Rattle.bt_actions.specs.Stack.{duplicated, swapped};
 ghost use Rattle.bt_actions.specs.Given.{zero_item, empty_item};
 ghost use Rattle.bt_actions.specs.Operands.{kind_shown, field_at, number_at, text_at, key_item, kind_item, of_entry, global_number, global_text};
-ghost use Rattle.bt_stack.specs.View.{world_of, Acts};
+ghost use Rattle.bt_stack.specs.View.{Acts};
 
 use crate::state::State;
 use bt_actions::{Complaint, Entry, Flow, STACK_LIMIT};

@@ -1,12 +1,12 @@
 //! The functions that write lines.
 
-ghost use Rattle.std.specs.Prelude.{◌≡◌, IfOk};
+ghost use Rattle.std.specs.Prelude.{IfOk};
 ghost use Rattle.bt_actions.specs.Actions.{act_with};
 ghost use Rattle.bt_actions.specs.Arguments.{as_text, taken};
 ghost use Rattle.bt_actions.specs.State.{appended, held_line_ended};
 ghost use Rattle.bt_actions.specs.World.{Goes};
 ghost use Rattle.bt_style.specs.declared.builtin.Builtin.TheVariants as builtin;
-ghost use Rattle.bt_stack.specs.View.{world_of, Acts};
+ghost use Rattle.bt_stack.specs.View.{Acts};
 
 use crate::state::State;
 use bt_actions::{Complaint, Flow};

@@ -1,15 +1,16 @@
 //! What kept values are: numbers, texts, parts of texts. Each function holds for any pool in which the value lies.
 
 ghost use Rattle.std.specs.Prelude.{◌≡◌, ◌≤◌, ℕ, List, true, length, slice_get, option_copied, option_map, option_and_then, IfSome};
-ghost use Rattle.bt_actions.specs.Arguments.{as_number, as_text, as_field_text, as_code};
+ghost use Rattle.bt_actions.specs.Arguments.{as_number, as_text, as_field_text, as_code, as_target};
 ghost use Rattle.bt_actions.specs.View.{code_seen};
 ghost use Rattle.bt_stack.specs.Tops.{cut, equal_two};
 ghost use Rattle.bt_stack.specs.inner.Kept.{item_in, bytes_in, items, is_text, text_value, Fits, AllFit};
 
 use crate::value::Value;
 use bt_actions::Code;
+use bt_style::Target;
 
-/// The kept value so many places below the top.
+/// The kept value `depth` places below the top, if there is one.
 pub fn value_at<'a>(values: &[Value<'a>], depth: usize) -> Option<Value<'a>>
     ensures fits { (size : ℕ) → AllFit size values.now → IfSome result (Fits size) }
     ensures item { (pool : List ℕ) → option_map (item_in pool) result ≡ slice_get (items pool values.now) depth }
@@ -35,7 +36,7 @@ pub fn text_value(value: Value<'_>) -> Option<Value<'_>>
     }
 }
 
-/// The kept value so many places below the top, if it is a text.
+/// The kept value `depth` places below the top, if it is a text.
 pub fn text_value_at<'a>(values: &[Value<'a>], depth: usize) -> Option<Value<'a>>
     ensures fits { (size : ℕ) → AllFit size values.now → IfSome result (Fits size) }
     ensures text { IfSome result (λ value. is_text value ≡ true) }
@@ -69,6 +70,16 @@ pub fn code_in(value: Value<'_>) -> Option<Code<'_>>
     }
 }
 
+/// A kept value, if it is a quoted name.
+pub fn name_in(value: Value) -> Option<Target>
+    ensures { (pool : List ℕ) → result ≡ as_target (item_in pool value.entry) }
+{
+    match value {
+        Value::Name(name) => Some(name),
+        _ => None,
+    }
+}
+
 /// The bytes of a kept value, if it is a text.
 pub fn text_in<'b>(pool: &'b [u8], value: Value<'b>) -> Option<&'b [u8]>
     requires { Fits (length pool.now) value }
@@ -82,7 +93,7 @@ pub fn text_in<'b>(pool: &'b [u8], value: Value<'b>) -> Option<&'b [u8]>
     }
 }
 
-/// The bytes of a kept value, or none for a field that is missing, if it is one of both.
+/// The bytes of a kept value, or an inner `None` for a missing field, if it is either.
 pub fn field_text_in<'b>(pool: &'b [u8], value: Value<'b>) -> Option<Option<&'b [u8]>>
     requires { Fits (length pool.now) value }
     ensures { option_map option_copied result ≡ as_field_text (item_in pool.now value.entry) }
@@ -125,7 +136,7 @@ pub fn equal(pool: &[u8], lower: Value, upper: Value) -> Option<bool>
     }
 }
 
-/// A part of a kept value, if it is a text. The pool is there for the proof alone: it bounds the new place.
+/// A part of a kept value, if it is a text. Only the proof needs the pool: it bounds the new place.
 pub fn cut<'a>(pool: &[u8], value: Value<'a>, from: usize, len: usize) -> Value<'a>
     requires { Fits (length pool.now) value }
     ensures item { item_in pool.now result ≡ cut from len (item_in pool.now value.entry) }

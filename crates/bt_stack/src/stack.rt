@@ -1,32 +1,33 @@
 //! The literal stack of a step, the step's variables, and the pool with the texts that the step made.
 //!
-//! A made text is a range of the pool, which only grows, so it never changes under whoever names it: `duplicate$`, `:=`
-//! and `substring$` copy a range and no bytes. Nobody above sees a range. Contracts speak of the items and of the
-//! variables, as if each owned its text.
+//! A text that the step made is a range of the pool. Bytes are only added to the pool, so a range stays valid:
+//! `duplicate$` and `:=` copy a range and no bytes. Only a sweep moves texts, with all ranges at once. No caller sees a
+//! range; contracts speak of the items and the variables as if each owned its text.
 
-ghost use Rattle.std.specs.Prelude.{◌≡◌, ◌≤◌, ◌<◌, [], ◌∷◌, length, drop, slice_get, option_copied, option_map, option_and_then, IfSome, OnOk, OnErr};
+ghost use Rattle.std.specs.Prelude.{◌≡◌, ◌≤◌, ◌<◌, [], ◌∷◌, length, drop, slice_get, option_copied, option_map, option_and_then, IfSome, IfOk, OnOk, OnErr};
+ghost use Rattle.bt_style.specs.Program.{program_of};
 ghost use Rattle.bt_style.specs.Tree.{ops_body};
 ghost use Rattle.bt_actions.specs.Item.{Num, Txt, Fun, Missing, Name, Block};
-ghost use Rattle.bt_actions.specs.Arguments.{as_number, as_text, as_field_text, as_code, is_wrong};
+ghost use Rattle.bt_actions.specs.Arguments.{as_number, as_text, as_field_text, as_code, as_target, is_wrong};
+ghost use Rattle.bt_actions.specs.LogLines.{shown_value};
 ghost use Rattle.bt_actions.specs.View.{code_seen};
 ghost use Rattle.bt_stack.specs.Desk.{with_items};
 ghost use Rattle.bt_stack.specs.Tops.{twice, top_len, exchanged, with_top, cut, tops_equal};
 
-use crate::reading::{code_in, cut, equal, field_text_in, number_in, text_in, value_at};
+use crate::reading::{code_in, cut, equal, field_text_in, name_in, number_in, text_in, value_at};
+use crate::shown::shown;
 use crate::step_variables::StepVariables;
 use crate::value::Value;
 use bt_actions::{Code, Variables};
-use bt_style::{Op, Target};
-use bt_text::Shared;
+use bt_style::{Op, Style, Target};
+use bt_text::{Bytes, Shared};
 use std::alloc::{AllocError, Global};
 use std::marker::Model;
 
 mod made;
-mod names;
-mod shown;
 mod variables;
 
-/// No pool is swept before it has so many bytes: few steps make more.
+/// No pool is swept before it has this many bytes. Few steps make more.
 const SWEEP_BYTES: usize = 65_536;
 
 /// The literal stack, and the variables of a step.
@@ -36,11 +37,11 @@ pub struct Stack<'a> {
     values: Vec<Value<'a>>,
     globals: StepVariables<'a>,
     own: StepVariables<'a>,
-    /// The texts that were made, one after the other.
+    /// The texts that the step made, one after another.
     pool: Vec<u8>,
-    /// What is on its way from one place of the pool to another.
+    /// A buffer for bytes on their way into the pool.
     scratch: Vec<u8>,
-    /// How long the pool may be before texts that nobody names any more are swept out of it.
+    /// The pool is swept once it has this many bytes.
     sweep_at: usize,
 }
 
@@ -93,7 +94,7 @@ impl<'a> Stack<'a> {
         self.values.len()
     }
 
-    /// Puts a number on the stack. After out of memory the stack is as before, here and in all that follows.
+    /// Pushes a number. After out of memory, the stack is unchanged, as it is for each method below.
     pub fn push_number(&mut self, number: i32) -> Result<(), AllocError>
         requires { length self.old.items < 1000 }
         ensures ok { OnOk result (self.new ≡ with_items (Num number ∷ self.old.items) self.old) }
@@ -103,7 +104,7 @@ impl<'a> Stack<'a> {
         Ok(())
     }
 
-    /// Puts a text on the stack that lives longer than it. Nothing is copied.
+    /// Pushes a text that outlives the stack. Nothing is copied.
     pub fn push_given(&mut self, text: &'a [u8]) -> Result<(), AllocError>
         requires short { length text.now ≤ 65536 }
         requires room { length self.old.items < 1000 }
@@ -114,7 +115,7 @@ impl<'a> Stack<'a> {
         Ok(())
     }
 
-    /// Puts a quoted name on the stack.
+    /// Pushes a quoted name.
     pub fn push_name(&mut self, name: Target) -> Result<(), AllocError>
         requires { length self.old.items < 1000 }
         ensures ok { OnOk result (self.new ≡ with_items (Fun (Name name) ∷ self.old.items) self.old) }
@@ -124,7 +125,7 @@ impl<'a> Stack<'a> {
         Ok(())
     }
 
-    /// Puts a function in braces on the stack.
+    /// Pushes a function in braces.
     pub fn push_block(&mut self, ops: &'a [Op]) -> Result<(), AllocError>
         requires { length self.old.items < 1000 }
         ensures ok { OnOk result (self.new ≡ with_items (Fun (Block (ops_body ops.now)) ∷ self.old.items) self.old) }
@@ -134,7 +135,7 @@ impl<'a> Stack<'a> {
         Ok(())
     }
 
-    /// Puts a field that is missing on the stack.
+    /// Pushes a missing field.
     pub fn push_missing(&mut self, field: usize) -> Result<(), AllocError>
         requires { length self.old.items < 1000 }
         ensures ok { OnOk result (self.new ≡ with_items (Missing field ∷ self.old.items) self.old) }
@@ -144,7 +145,7 @@ impl<'a> Stack<'a> {
         Ok(())
     }
 
-    /// The number so many places below the top, if there is one.
+    /// The number `depth` places below the top, if there is one.
     pub fn number_at(&self, depth: usize) -> Option<i32>
         ensures { result ≡ option_and_then as_number (slice_get self.now.items depth) }
     {
@@ -154,7 +155,7 @@ impl<'a> Stack<'a> {
         }
     }
 
-    /// Whether a value is so many places below the top that is no number.
+    /// Whether there is a value `depth` places below the top that isn't a number.
     #[cold]
     pub fn is_no_number(&self, depth: usize) -> bool
         ensures { result ≡ is_wrong as_number (slice_get self.now.items depth) }
@@ -162,7 +163,7 @@ impl<'a> Stack<'a> {
         depth < self.len() && self.number_at(depth).is_none()
     }
 
-    /// The text so many places below the top, if there is one.
+    /// The text `depth` places below the top, if there is one.
     pub fn text_at(&self, depth: usize) -> Option<&[u8]>
         ensures text { option_copied result ≡ option_and_then as_text (slice_get self.now.items depth) }
         ensures short { IfSome result (λ text. length text.now ≤ 65536) }
@@ -173,7 +174,7 @@ impl<'a> Stack<'a> {
         }
     }
 
-    /// Whether a value is so many places below the top that is no text.
+    /// Whether there is a value `depth` places below the top that isn't a text.
     #[cold]
     pub fn is_no_text(&self, depth: usize) -> bool
         ensures { result ≡ is_wrong as_text (slice_get self.now.items depth) }
@@ -181,7 +182,7 @@ impl<'a> Stack<'a> {
         depth < self.len() && self.text_at(depth).is_none()
     }
 
-    /// The text so many places below the top, or none for a field that is missing, if it is one of both.
+    /// The text `depth` places below the top, or an inner `None` for a missing field, if there is either.
     pub fn field_text_at(&self, depth: usize) -> Option<Option<&[u8]>>
         ensures { option_map option_copied result ≡ option_and_then as_field_text (slice_get self.now.items depth) }
     {
@@ -191,7 +192,7 @@ impl<'a> Stack<'a> {
         }
     }
 
-    /// Whether a value is so many places below the top that is neither.
+    /// Whether there is a value `depth` places below the top that is neither.
     #[cold]
     pub fn is_no_field_text(&self, depth: usize) -> bool
         ensures { result ≡ is_wrong as_field_text (slice_get self.now.items depth) }
@@ -199,7 +200,7 @@ impl<'a> Stack<'a> {
         depth < self.len() && self.field_text_at(depth).is_none()
     }
 
-    /// The function so many places below the top, if there is one.
+    /// The function `depth` places below the top, if there is one.
     pub fn code_at(&self, depth: usize) -> Option<Code<'a>>
         ensures { option_map code_seen result ≡ option_and_then as_code (slice_get self.now.items depth) }
     {
@@ -209,12 +210,44 @@ impl<'a> Stack<'a> {
         }
     }
 
-    /// Whether a value is so many places below the top that is no function.
+    /// Whether there is a value `depth` places below the top that isn't a function.
     #[cold]
     pub fn is_no_code(&self, depth: usize) -> bool
         ensures { result ≡ is_wrong as_code (slice_get self.now.items depth) }
     {
         depth < self.len() && self.code_at(depth).is_none()
+    }
+
+    /// The quoted name `depth` places below the top, if there is one.
+    pub fn name_at(&self, depth: usize) -> Option<Target>
+        ensures { result ≡ option_and_then as_target (slice_get self.now.items depth) }
+    {
+        match value_at(&self.values, depth) {
+            Some(value) => name_in(value),
+            None => None,
+        }
+    }
+
+    /// Whether there is a value `depth` places below the top that isn't a quoted name.
+    #[cold]
+    pub fn is_no_name(&self, depth: usize) -> bool
+        ensures { result ≡ is_wrong as_target (slice_get self.now.items depth) }
+    {
+        depth < self.len() && self.name_at(depth).is_none()
+    }
+
+    /// The words in which the log shows the topmost value, if there is one.
+    pub fn shown_top(&self, alloc: Global, style: &Style) -> Result<Option<Bytes>, AllocError>
+        ensures { IfOk result (λ words. words
+            ≡ option_map (shown_value (program_of style.now)) (slice_get self.now.items 0)) }
+    {
+        match value_at(&self.values, 0) {
+            None => Ok(None),
+            Some(value) => {
+                let words = shown(alloc, style, &self.pool, value)?;
+                Ok(Some(words))
+            }
+        }
     }
 
     /// Whether the two topmost values are equal, if they are two numbers or two texts.
@@ -228,7 +261,7 @@ impl<'a> Stack<'a> {
         equal(&self.pool, self.values[count - 2], self.values[count - 1])
     }
 
-    /// Takes so many values away.
+    /// Removes the topmost `count` values.
     pub fn drop_tops(&mut self, count: usize)
         requires { count ≤ length self.old.items }
         ensures { self.new ≡ with_items (drop count self.old.items) self.old }
@@ -237,7 +270,7 @@ impl<'a> Stack<'a> {
         self.values.truncate(left);
     }
 
-    /// Takes arguments away, and puts a number in place of the lowest one.
+    /// Replaces the topmost `count` values by a number.
     pub fn answer_number(&mut self, count: usize, number: i32)
         requires some { 0 < count }
         requires there { count ≤ length self.old.items }
@@ -249,7 +282,7 @@ impl<'a> Stack<'a> {
         self.values.truncate(place + 1);
     }
 
-    /// Puts the topmost value on the stack once more, if there is one.
+    /// Pushes the topmost value again, if there is one.
     pub fn duplicate(&mut self) -> Result<(), AllocError>
         requires { length self.old.items < 1000 }
         ensures ok { OnOk result (self.new ≡ with_items (twice self.old.items) self.old) }
@@ -264,7 +297,7 @@ impl<'a> Stack<'a> {
         Ok(())
     }
 
-    /// Lets the two topmost values change places, if there are two.
+    /// Swaps the two topmost values, if there are two.
     pub fn swap(&mut self)
         ensures { self.new ≡ with_items (exchanged self.old.items) self.old }
     {
@@ -276,7 +309,7 @@ impl<'a> Stack<'a> {
         }
     }
 
-    /// Puts a part of the topmost value in its place, if it is a text. Nothing is copied.
+    /// Replaces the topmost value by a part of it, if it is a text. Nothing is copied.
     pub fn cut_top(&mut self, from: usize, len: usize)
         ensures { self.new ≡ with_items (with_top (cut from len) self.old.items) self.old }
     {

@@ -22,7 +22,7 @@ impl<'a> State<'a> {
     ghost use Rattle.std.specs.Prelude.{◌≡◌, IfOk, OnOk};
     ghost use Rattle.bt_style.specs.Tree.{ops_body};
     ghost use Rattle.bt_actions.specs.Item.{Num, Txt, Fun, Missing, Name, Block};
-    ghost use Rattle.bt_actions.specs.World.{Goes, Stops, say};
+    ghost use Rattle.bt_actions.specs.World.{Stops, say};
     ghost use Rattle.bt_actions.specs.State.{popped, pushed, limit_passed};
     ghost use Rattle.bt_actions.specs.Arguments.{judged};
     ghost use Rattle.bt_stack.specs.View.{world_of, Acts};

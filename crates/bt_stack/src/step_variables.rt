@@ -94,7 +94,7 @@ pub fn text_of<'a>(
     }
 }
 
-/// Gives a number variable, of so many, a value.
+/// Gives a value to number variable `n` of `count`, if there is one.
 #[tactic(auto, using(crate::proofs::VariableLemmas::numbers_padded, crate::proofs::VariableLemmas::numbers_set, crate::proofs::VariableLemmas::numbers_past))]
 pub fn set_number(
     numbers: &mut Vec<Option<i32>>,
@@ -115,7 +115,7 @@ pub fn set_number(
     Ok(())
 }
 
-/// Gives a text variable, of so many, a value.
+/// Gives a value to text variable `n` of `count`, if there is one.
 #[tactic(auto, using(crate::proofs::VariableLemmas::texts_padded, crate::proofs::VariableLemmas::texts_set, crate::proofs::VariableLemmas::texts_past))]
 pub fn set_text<'a>(
     texts: &mut Vec<Value<'a>>,

@@ -3,15 +3,15 @@
 use bt_style::{Op, Target};
 use std::mem;
 
-/// A value as it is kept: 24 bytes that own nothing, so that it is copied and never shared or dropped. Only the modules
-/// below the stack see it.
+/// A value as it is kept: 24 bytes that own nothing, so it is copied, and never shared or dropped. Only the modules that
+/// the stack uses see it.
 #[derive(Clone, Copy)]
 pub enum Value<'a> {
     Number(i32),
     /// A text that the style or the step's input has.
     Given(&'a [u8]),
-    /// A text that this step made: where it starts in the pool, and its length. Two words cost nothing beside a slice,
-    /// and need no limit on the pool.
+    /// A text that this step made: where it starts in the pool, and its length. A slice has two words, too, and two
+    /// words need no limit on the pool.
     Made(usize, usize),
     /// A quoted name.
     Name(Target),

@@ -1,13 +1,18 @@
--- What `format.name$` puts on the stack, if of a name that is too long no more is known than that.
+-- What `format.name$` puts on the stack. Of a name that is too long, only that is known.
 use Rattle.std.specs.Prelude.{ℕ, ℤ, List, Option, option_and_then, slice_get, Result, Ok, Err}
 use Rattle.bt_names.specs.declared.formatted_name.Formatted.{Formatted}
+use Rattle.bt_names.specs.declared.formatted_name.Formatted.TheVariants.{Text, Longer}
 use Rattle.bt_actions.specs.declared.complaint.Complaint.{Complaint}
 use Rattle.bt_actions.specs.Arguments.{as_number, as_text, all_three}
 use Rattle.bt_actions.specs.Given.{empty_item}
-use Rattle.bt_actions.specs.Item.{Item}
-use Rattle.bt_actions.specs.State.{pushed_in_error}
+use Rattle.bt_actions.specs.Item.{Item, Txt}
+use Rattle.bt_actions.specs.State.{pushed, pushed_in_error, limit_passed}
 use Rattle.bt_actions.specs.World.{World, Act}
-use Rattle.bt_actions.specs.inner.Names.{pushed_within}
+
+-- a formatted name, which may be too long
+abbrev pub pushed_within : Formatted → World → Act
+pushed_within (Text t) w = pushed (Txt t) w
+pushed_within Longer w = limit_passed w
 
 -- a formatted name, or what is wrong with the names or the pattern
 abbrev pub formatted_answer : Result Formatted Complaint → World → Act

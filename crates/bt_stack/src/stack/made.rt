@@ -13,8 +13,8 @@ use std::alloc::{AllocError, Global};
 use std::mem;
 
 impl<'a> Stack<'a> {
-    /// Joins the two topmost values, if they are texts and not too long together. A text that ends the pool isn't
-    /// copied once more.
+    /// Joins the two topmost values, if they are texts and not too long together. If the lower one ends the pool, it
+    /// isn't copied again.
     pub fn join(&mut self) -> Result<bool, AllocError>
         ensures ok { IfOk result (λ done. (done, self.new) ≡ with_answer (joined_tops self.old.items) 2 self.old) }
         ensures few { length self.old.items ≤ 1000 }
@@ -58,7 +58,7 @@ impl<'a> Stack<'a> {
         page
     }
 
-    /// Takes arguments away, and puts a text that was written in place of the lowest one, unless it is too long.
+    /// Replaces the topmost `count` values by the text on a page, unless it is too long.
     pub fn answer_text(&mut self, count: usize, page: Vec<u8>) -> Result<bool, AllocError>
         requires some { 0 < count }
         requires there { count ≤ length self.old.items }
@@ -93,8 +93,8 @@ impl<'a> Stack<'a> {
         Ok(true)
     }
 
-    /// Copies the texts that are in use to another pool, if together they have less than half of this one's bytes.
-    /// Texts that share bytes are copied once for each value, so without that test the new pool might be larger.
+    /// Copies the texts in use to another pool, if together they have less than half of this one's bytes. Each value
+    /// gets its own copy, even of bytes that it shares, so without this test the new pool might be larger.
     fn compact(&mut self) -> Result<(), AllocError>
         ensures { self.new ≡ self.old }
     {
@@ -116,8 +116,8 @@ impl<'a> Stack<'a> {
         Ok(())
     }
 
-    /// Compacts the pool. The next time is when it has twice the bytes that it has then, so this costs no more than
-    /// the making of the texts did.
+    /// Compacts the pool, and puts off the next sweep until the pool has twice the bytes that it has then. So all sweeps
+    /// together copy fewer bytes than the step wrote.
     #[cold]
     fn sweep(&mut self) -> Result<(), AllocError>
         ensures { self.new ≡ self.old }

@@ -61,7 +61,7 @@ impl<'a> Stack<'a> {
         }
     }
 
-    /// Gives a number variable of the style the value so many places below the top, if that is a number.
+    /// Gives a number variable of the style the value `depth` places below the top, if that is a number.
     pub fn set_global_number(&mut self, n: usize, depth: usize) -> Result<bool, AllocError>
         ensures ok { IfOk result (λ done. (done, self.new) ≡ with_globals (option_and_then
             (λ v. with_number n v self.old.globals) (slice_get self.old.items depth)) self.old) }
@@ -93,7 +93,7 @@ impl<'a> Stack<'a> {
         }
     }
 
-    /// Gives a text variable of the style the value so many places below the top, if that is a text. Nothing is copied.
+    /// Gives a text variable of the style the value `depth` places below the top, if that is a text. Nothing is copied.
     pub fn set_global_text(&mut self, n: usize, depth: usize) -> Result<bool, AllocError>
         ensures ok { IfOk result (λ done. (done, self.new) ≡ with_globals (option_and_then
             (λ v. with_text n v self.old.globals) (slice_get self.old.items depth)) self.old) }
