@@ -15,4 +15,3 @@ pub mod LogLines
 pub mod Stack
 pub mod Actions
 pub mod View
-pub mod inner

@@ -4,7 +4,6 @@
 //! the command, which only the end of the step and the run add.
 
 ghost use Rattle.std.specs.Prelude.{◌≡◌, ◌++◌, codes, option_map, IfOk, map};
-ghost use Rattle.std.specs.Fmt.{signed_decimal};
 ghost use Rattle.bt_actions.specs.Words.{complaint_words, message_of};
 
 use bt_log::{Message, Rank, Said};
@@ -48,13 +47,6 @@ pub enum Complaint {
     TicksPassed,
     StackPassed,
     TextPassed,
-}
-
-/// A number in decimal.
-pub fn decimal(alloc: Global, number: i32) -> Result<Bytes, AllocError>
-    ensures { IfOk result (λ words. words ≡ signed_decimal number) }
-{
-    Bytes::copied(alloc, Buffer::new().format(number).as_bytes())
 }
 
 fn wrong_kind(alloc: Global, name: &[u8]) -> Result<Bytes, AllocError>

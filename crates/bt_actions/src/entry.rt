@@ -26,21 +26,6 @@ pub fn share_texts(
     Ok(Sequence::from_vec(same))
 }
 
-impl Variables {
-    ghost use Rattle.std.specs.Prelude.{◌≡◌, IfOk};
-
-    /// The same variables, which can be changed. Texts are shared, and where there are many variables all but a few of
-    /// them.
-    pub fn copy(&self, alloc: Global) -> Result<Variables, AllocError>
-        ensures { IfOk result (λ copy. copy ≡ self.now) }
-    {
-        Ok(Variables {
-            numbers: self.numbers.copied(alloc)?,
-            texts: self.texts.copied(alloc)?,
-        })
-    }
-}
-
 /// An entry of the list.
 #[derive(Debug, Drop)]
 pub struct Entry {

@@ -1,7 +1,7 @@
 //! The ticks that a step has left, and its calls of built-in functions.
 //!
-//! It isn't a part of `State`: no action changes it, so no contract of an action has to mention it. Each call is
-//! counted where it takes its tick, so the counts add up to at most 1,000,000 and their sums never overflow.
+//! It isn't a part of a step's state: no action changes it, so no contract of an action has to mention it. A call is
+//! counted when it takes its tick, so the counts add up to at most 1,000,000 and their sums never overflow.
 
 ghost use Rattle.std.specs.Prelude.{◌≡◌, ◌+◌, ◌<◌, ◌≤◌, sum, replicate};
 
