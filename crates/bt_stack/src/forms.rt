@@ -19,6 +19,7 @@ use crate::operands::push_empty_in_error;
 use crate::state::State;
 use bt_actions::{Complaint, Flow};
 use bt_style::Builtin;
+use bt_text::Bytes;
 use std::alloc::{AllocError, Global};
 
 /// A function of two numbers that gives a number.
@@ -160,7 +161,7 @@ pub fn answer_copy(
     state: &mut State,
     alloc: Global,
     count: usize,
-    text: &[u8],
+    text: &Bytes,
 ) -> Result<Flow, AllocError>
     requires some { 0 < count }
     requires there { count ≤ length state.old.stack.items }
@@ -168,7 +169,7 @@ pub fn answer_copy(
         state.old state.new) }
 {
     let mut page = state.stack.take_page(alloc);
-    page.extend_from_slice(text)?;
+    page.extend_from_slice(text.as_slice())?;
     answer_page(state, count, page)
 }
 

@@ -92,7 +92,7 @@ fn answer_within(state: &mut State, alloc: Global, formatted: Formatted) -> Resu
         state.old state.new) }
 {
     match formatted {
-        Formatted::Text(text) => answer_copy(state, alloc, 3, text.as_slice()),
+        Formatted::Text(text) => answer_copy(state, alloc, 3, &text),
         Formatted::Longer => {
             state.stack.drop_tops(3);
             state.pass_text_limit()

@@ -210,7 +210,7 @@ fn answer_converted(
     ensures { IfOk result (Acts (case_answer told) state.old state.new) }
 {
     match told {
-        Ok(text) => answer_copy(state, alloc, 2, text.as_slice()),
+        Ok(text) => answer_copy(state, alloc, 2, &text),
         Err(complaint) => refuse_mode(state, complaint),
     }
 }
@@ -272,7 +272,7 @@ pub fn prefix(state: &mut State, alloc: Global) -> Result<Flow, AllocError>
         valued prefix_of empty_item (taken_two builtin.TextPrefix as_text as_number world)) state.old state.new) }
 {
     match prefix_tops(alloc, &state.stack)? {
-        Some(prefix) => answer_copy(state, alloc, 2, prefix.as_slice()),
+        Some(prefix) => answer_copy(state, alloc, 2, &prefix),
         None => refuse_prefix(state),
     }
 }
@@ -314,7 +314,7 @@ pub fn cut(state: &mut State, alloc: Global) -> Result<Flow, AllocError>
         state.old state.new) }
 {
     match part_tops(alloc, &state.stack)? {
-        Some(part) => answer_copy(state, alloc, 3, part.as_slice()),
+        Some(part) => answer_copy(state, alloc, 3, &part),
         None => refuse_part(state),
     }
 }
