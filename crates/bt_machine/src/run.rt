@@ -1,11 +1,11 @@
 //! The loop that runs a step.
 //!
-//! A function that is called takes no Rust stack: what is left of the body that called it waits on a `Vec`. The body
-//! that is being run, and the ticks, are locals, so that an element costs no push and no pop. A body that is at its end
-//! isn't kept, so calls in last place don't make the `Vec` grow.
+//! A call uses no Rust stack: the rest of the caller's body waits on a `Vec`. The present body and the ticks are locals,
+//! so an element costs no push and no pop. An empty rest isn't kept, so a call at the end of a body doesn't make the
+//! `Vec` grow.
 //!
-//! The definition (`eval`) is a recursion that knows nothing of this. Each function here says what its part of the
-//! definition comes to, and `work` that the whole does.
+//! The definition (`eval`) is a recursion that knows nothing of this. Each function here has a contract on its part of
+//! the definition; `work` joins them.
 
 ghost use Rattle.std.specs.Prelude.{◌≡◌, ◌+◌, ◌≤◌, ◌∷◌, length, bytes_eq, codes, position, IfOk, OnOk};
 ghost use Rattle.std.specs.Option.{option_or};
@@ -27,12 +27,12 @@ use bt_stack::{
 use bt_style::{Builtin, Function, Op, Style, Target};
 use std::alloc::{AllocError, Global};
 
-/// What waits until a body was run.
+/// What waits until a body has run.
 #[derive(Clone, Copy)]
 pub enum Frame<'a> {
-    /// This is run.
+    /// This runs next.
     Run(Code<'a>),
-    /// The first, a loop's test, was run: the number that it left decides on a turn of the second, the loop's body.
+    /// A loop's test, which has run, and its body: the number that the test left decides on a turn of the body.
     Test(Code<'a>, Code<'a>),
 }
 
@@ -75,13 +75,13 @@ impl<'a> Element<'a> {
 pub enum Next<'a> {
     /// Nothing, or the end of the run.
     Flow(Flow),
-    /// A function is run.
+    /// A function.
     Run(Code<'a>),
-    /// A loop is run, of its test and its body.
+    /// A loop, of its test and its body.
     Loop(Code<'a>, Code<'a>),
 }
 
-/// What is to be done.
+/// What the loop does next.
 #[derive(Clone, Copy)]
 pub enum Due<'a> {
     /// Nothing more.
@@ -89,7 +89,7 @@ pub enum Due<'a> {
     /// The body that is left.
     Body,
     Element(Element<'a>),
-    /// The test of a loop was run: the number that it left decides on a turn.
+    /// A loop's test has run: the number that it left decides on a turn.
     Test(Code<'a>, Code<'a>),
 }
 
@@ -119,7 +119,7 @@ fn keep<'a>(control: &mut Vec<Frame<'a>>, rest: &'a [Op]) -> Result<(), AllocErr
     Ok(())
 }
 
-/// Puts a function before what is left, and returns the body that is run next.
+/// Puts a function before what is left, and returns the body that runs next.
 fn begin<'a>(
     control: &mut Vec<Frame<'a>>,
     rest: &'a [Op],
@@ -139,7 +139,7 @@ fn begin<'a>(
     }
 }
 
-/// Puts a loop before what is left, and returns the body that is run next.
+/// Puts a loop before what is left, and returns the body that runs next.
 fn begin_loop<'a>(
     control: &mut Vec<Frame<'a>>,
     rest: &'a [Op],
@@ -175,7 +175,7 @@ fn find_default_type(functions: &[Function]) -> Option<usize>
     functions.iter().position(|function| function.name.as_slice() == b"default.type".as_slice())
 }
 
-/// The number of the function that is run for an entry, if there is one.
+/// The number of the function that an entry's type calls, if there is one.
 fn type_function(entry: &Entry, style: &Style) -> Option<usize>
     ensures { result ≡ option_or entry.now.function (default_type (program_of style.now).functions) }
 {
@@ -267,7 +267,7 @@ fn call<'a>(
     }
 }
 
-/// Does what an element does itself, after its tick.
+/// Carries out an element, after its tick, and returns what comes next.
 fn carry_out<'a>(
     state: &mut State<'a>,
     alloc: Global,
@@ -285,7 +285,7 @@ fn carry_out<'a>(
     }
 }
 
-/// Runs a call of a name and all that it leads to. `control` serves as memory.
+/// Runs a call of a name and all that it leads to. `control` is its buffer.
 pub fn work<'a>(
     state: &mut State<'a>,
     control: &mut Vec<Frame<'a>>,
@@ -319,7 +319,7 @@ pub fn work<'a>(
                 }
                 tally.take(element.builtin());
                 let next = carry_out(state, alloc, style, element)?;
-                // It ensures that the stack is small, which the loop's measure needs.
+                // The loop's measure needs this call's clause that the stack is small.
                 let _depth = state.stack.len();
                 match next {
                     Next::Flow(flow) => match flow {
