@@ -14,7 +14,7 @@ use bt_actions::{Complaint, Flow};
 use bt_style::{Builtin, Target};
 use std::alloc::AllocError;
 
-/// Reports why a name gets no value, and takes both away.
+/// Reports why a name gets no value, and removes both.
 #[cold]
 fn refuse_value(state: &mut State, complaint: Complaint) -> Result<Flow, AllocError>
     requires { 2 ≤ length state.old.stack.items }

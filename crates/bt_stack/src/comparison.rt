@@ -47,7 +47,7 @@ fn refuse_equals(state: &mut State) -> Result<Flow, AllocError>
     }
 }
 
-/// Whether a text is white space alone.
+/// Whether a text is all white space.
 fn is_all_white(text: &[u8]) -> bool
     ensures { result ≡ list_all is_white text.now }
 {

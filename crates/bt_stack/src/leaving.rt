@@ -161,8 +161,7 @@ impl<'a> State<'a> {
         (held, lines)
     }
 
-    /// What the step leaves. Nothing is copied but the values of variables that the step changed, and the words of its
-    /// messages.
+    /// What the step leaves. Only the values of variables that the step changed and the words of its messages are copied.
     pub fn leave(self, alloc: Global) -> Result<Left, AllocError>
         ensures { IfOk result (λ left. left ≡ left_of (world_of self.entry)) }
     {

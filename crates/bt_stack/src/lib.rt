@@ -1,5 +1,4 @@
-//! The literal stack and the variables of a step, as values that own nothing beside one pool of texts, and the built-in
-//! functions over them.
+//! A step's literal stack and variables, as values that own nothing beside one pool of texts, and the built-in functions.
 #![tactic(auto)]
 
 mod arguments;

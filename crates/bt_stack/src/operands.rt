@@ -1,5 +1,4 @@
-//! What fields and variables, the key, the type and the preamble put on the stack, and the functions that look at the
-//! stack alone.
+//! What fields and variables, the key, the type and the preamble push, and the functions that use only the stack.
 
 ghost use Rattle.std.specs.Prelude.{◌≡◌, IfOk};
 ghost use Rattle.bt_actions.specs.Item.{Txt};
@@ -14,7 +13,7 @@ use crate::state::State;
 use bt_actions::{Complaint, Entry, Flow, STACK_LIMIT};
 use std::alloc::AllocError;
 
-/// Reports an error unless the stack is full, and puts 0 on it.
+/// Reports an error and pushes 0, unless the stack is full.
 #[cold]
 fn push_zero_in_error(state: &mut State, complaint: Complaint) -> Result<Flow, AllocError>
     ensures { IfOk result (Acts (pushed_in_error complaint zero_item) state.old state.new) }
@@ -25,7 +24,7 @@ fn push_zero_in_error(state: &mut State, complaint: Complaint) -> Result<Flow, A
     state.push_number(0)
 }
 
-/// The same of the empty text.
+/// Reports an error and pushes the empty text, unless the stack is full.
 #[cold]
 pub fn push_empty_in_error(state: &mut State, complaint: Complaint) -> Result<Flow, AllocError>
     ensures { IfOk result (Acts (pushed_in_error complaint empty_item) state.old state.new) }
@@ -36,7 +35,7 @@ pub fn push_empty_in_error(state: &mut State, complaint: Complaint) -> Result<Fl
     state.push_given(b"")
 }
 
-/// Calls a field of the step's entry: its text or its absence goes on the stack.
+/// Pushes a field of the step's entry, which may be missing.
 pub fn call_field(state: &mut State, n: usize) -> Result<Flow, AllocError>
     ensures { IfOk result (Acts (of_entry (field_at n) empty_item) state.old state.new) }
 {
@@ -49,7 +48,7 @@ pub fn call_field(state: &mut State, n: usize) -> Result<Flow, AllocError>
     }
 }
 
-/// Calls a number variable of the step's entry: its value goes on the stack.
+/// Pushes the value of a number variable of the step's entry.
 pub fn call_entry_number(state: &mut State, n: usize) -> Result<Flow, AllocError>
     ensures { IfOk result (Acts (of_entry (number_at n) zero_item) state.old state.new) }
 {
@@ -62,7 +61,7 @@ pub fn call_entry_number(state: &mut State, n: usize) -> Result<Flow, AllocError
     }
 }
 
-/// Calls a text variable of the step's entry: its value goes on the stack.
+/// Pushes the value of a text variable of the step's entry.
 pub fn call_entry_text(state: &mut State, n: usize) -> Result<Flow, AllocError>
     ensures { IfOk result (Acts (of_entry (text_at n) empty_item) state.old state.new) }
 {
@@ -78,7 +77,7 @@ pub fn call_entry_text(state: &mut State, n: usize) -> Result<Flow, AllocError>
     }
 }
 
-/// Calls a number variable of the style: its value goes on the stack.
+/// Pushes the value of a number variable of the style.
 pub fn call_global_number(state: &mut State, n: usize) -> Result<Flow, AllocError>
     ensures { IfOk result (Acts (global_number n) state.old state.new) }
 {
@@ -86,7 +85,7 @@ pub fn call_global_number(state: &mut State, n: usize) -> Result<Flow, AllocErro
     state.push_number(number)
 }
 
-/// Calls a text variable of the style: its value goes on the stack.
+/// Pushes the value of a text variable of the style.
 pub fn call_global_text(state: &mut State, n: usize) -> Result<Flow, AllocError>
     ensures { IfOk result (Acts (global_text n) state.old state.new) }
 {
@@ -97,7 +96,7 @@ pub fn call_global_text(state: &mut State, n: usize) -> Result<Flow, AllocError>
     }
 }
 
-/// The text of an entry's type, or nothing where the type has no function.
+/// The text of an entry's type, or nothing if the type has no function.
 fn kind_shown(entry: &Entry) -> &[u8]
     ensures { result.now ≡ kind_shown entry.now.function entry.now.kind }
 {

@@ -37,7 +37,7 @@ impl<'a> State<'a> {
         Ok(())
     }
 
-    /// Reports a limit that was passed, at which the run stops.
+    /// Reports a limit that was passed, and stops the run.
     #[cold]
     pub fn stop(&mut self, limit: Complaint) -> Result<Flow, AllocError>
         ensures { IfOk result (Acts (λ world. Stops (say limit world)) self.old self.new) }
@@ -46,7 +46,7 @@ impl<'a> State<'a> {
         Ok(Flow::Stop)
     }
 
-    /// Takes the topmost value away, or reports that there is none.
+    /// Removes the topmost value, or reports that there is none.
     pub fn drop_top(&mut self) -> Result<(), AllocError>
         ensures { OnOk result (world_of self.new ≡ (popped (world_of self.old)).1) }
     {
@@ -58,7 +58,7 @@ impl<'a> State<'a> {
         }
     }
 
-    /// Reports that a text has more bytes than the stack takes, unless the stack is full.
+    /// Reports that a text is too long for the stack, or that the stack is full, and stops the run.
     #[cold]
     pub fn pass_text_limit(&mut self) -> Result<Flow, AllocError>
         ensures { IfOk result (Acts limit_passed self.old self.new) }
@@ -70,7 +70,7 @@ impl<'a> State<'a> {
         }
     }
 
-    /// Puts a number on the stack, unless it is full.
+    /// Pushes a number, unless the stack is full.
     pub fn push_number(&mut self, number: i32) -> Result<Flow, AllocError>
         ensures { IfOk result (Acts (pushed (Num number)) self.old self.new) }
     {
@@ -82,7 +82,7 @@ impl<'a> State<'a> {
         }
     }
 
-    /// Puts a text on the stack that lives longer than it, unless that would pass a limit.
+    /// Pushes a text that outlives the stack, unless that would pass a limit.
     pub fn push_given(&mut self, text: &'a [u8]) -> Result<Flow, AllocError>
         ensures { IfOk result (Acts (pushed (Txt text.now)) self.old self.new) }
     {
@@ -93,7 +93,7 @@ impl<'a> State<'a> {
         Ok(Flow::Go)
     }
 
-    /// Puts a quoted name on the stack, unless it is full.
+    /// Pushes a quoted name, unless the stack is full.
     pub fn push_name(&mut self, name: Target) -> Result<Flow, AllocError>
         ensures { IfOk result (Acts (pushed (Fun (Name name))) self.old self.new) }
     {
@@ -105,7 +105,7 @@ impl<'a> State<'a> {
         }
     }
 
-    /// Puts a function in braces on the stack, unless it is full.
+    /// Pushes a function in braces, unless the stack is full.
     pub fn push_block(&mut self, ops: &'a [Op]) -> Result<Flow, AllocError>
         ensures { IfOk result (Acts (pushed (Fun (Block (ops_body ops.now)))) self.old self.new) }
     {
@@ -117,7 +117,7 @@ impl<'a> State<'a> {
         }
     }
 
-    /// Puts a field that is missing on the stack, unless it is full.
+    /// Pushes a missing field, unless the stack is full.
     pub fn push_missing(&mut self, field: usize) -> Result<Flow, AllocError>
         ensures { IfOk result (Acts (pushed (Missing field)) self.old self.new) }
     {
@@ -129,7 +129,7 @@ impl<'a> State<'a> {
         }
     }
 
-    /// Takes two arguments away that can't be used, and reports why.
+    /// Removes two arguments that can't be used, and reports why.
     #[cold]
     pub fn refuse_two(&mut self, builtin: Builtin, wrong: bool) -> Result<(), AllocError>
         ensures { OnOk result (world_of self.new ≡ judged builtin wrong (popped (popped (world_of self.old)).1).1) }
@@ -139,7 +139,7 @@ impl<'a> State<'a> {
         self.judge(builtin, wrong)
     }
 
-    /// Takes three arguments away that can't be used, and reports why.
+    /// Removes three arguments that can't be used, and reports why.
     #[cold]
     pub fn refuse_three(&mut self, builtin: Builtin, wrong: bool) -> Result<(), AllocError>
         ensures { OnOk result (world_of self.new
@@ -151,7 +151,7 @@ impl<'a> State<'a> {
         self.judge(builtin, wrong)
     }
 
-    /// Takes an argument away that can't be used, and reports why.
+    /// Removes an argument that can't be used, and reports why.
     #[cold]
     pub fn refuse_one(&mut self, builtin: Builtin, wrong: bool) -> Result<(), AllocError>
         ensures { OnOk result (world_of self.new ≡ judged builtin wrong (popped (world_of self.old)).1) }

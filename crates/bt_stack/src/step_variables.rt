@@ -1,5 +1,5 @@
-//! The variables of a step: those that it was given, and the values that it gave to some of them. So a step that
-//! changes none copies none, and one that changes a few copies these at its end.
+//! The variables of a step: those that it was given, and beside them the values that it gave to some. So a step that
+//! changes none copies none.
 
 ghost use Rattle.std.specs.Prelude.{◌≡◌, ℕ, ℤ, List, [], pos, length, slice_get, slice_index_or, slice_set, option_map, option_and_then, true, IfSome, OnOk, OnErr};
 ghost use Rattle.bt_stack.specs.Desk.{short};

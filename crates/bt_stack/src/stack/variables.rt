@@ -27,7 +27,7 @@ impl<'a> Stack<'a> {
         number_of(&self.own.numbers, &self.own.given.numbers, n)
     }
 
-    /// Puts the value of a text variable of the style on the stack, unless it is too long. Nothing is copied.
+    /// Pushes the value of a text variable of the style, unless it is too long. Nothing is copied.
     pub fn push_global_text(&mut self, n: usize) -> Result<bool, AllocError>
         requires { length self.old.items < 1000 }
         ensures ok { IfOk result (λ done. (done, self.new)
@@ -44,7 +44,7 @@ impl<'a> Stack<'a> {
         }
     }
 
-    /// Puts the value of a text variable of the entry on the stack, unless it is too long.
+    /// Pushes the value of a text variable of the entry, unless it is too long.
     pub fn push_own_text(&mut self, n: usize) -> Result<bool, AllocError>
         requires { length self.old.items < 1000 }
         ensures ok { IfOk result (λ done. (done, self.new)
