@@ -19,17 +19,9 @@ use Rattle.bt_machine.specs.declared.run.Frame.{Frame as HeldFrame}
 use Rattle.bt_machine.specs.declared.run.Element.{Element as HeldElement}
 use Rattle.bt_machine.specs.declared.run.Next.{Next}
 use Rattle.bt_machine.specs.Eval.{Counts, Ending, Done, Stopped, then_go, code_body, function_body, no_definition, turn, looped, act, calls_after, eval}
-use Rattle.bt_actions.specs.declared.entry.Entry.{Entry}
-use Rattle.bt_actions.specs.declared.entry.Variables.{Variables}
-use Rattle.bt_actions.specs.World.{entry_in}
-use Rattle.bt_stack.specs.declared.state.State.{State}
-use Rattle.bt_stack.specs.View.{world_of, entries_seen, place_seen, own_variables}
-use Rattle.std.specs.Borrow.{Bor}
-use Rattle.std.specs.Prelude.{option_map}
 use Rattle.bt_machine.specs.inner.Cases.{finish_of}
-use Rattle.bt_machine.specs.Step.{counts_begun, step_begun, first_variables, finished_at, step}
+use Rattle.bt_machine.specs.Step.{counts_begun, step_begun, finished_at, step}
 use Rattle.bt_machine.specs.inner.Loop.{Frame, Run, Test, frame_seen, meant, left, run_ended, element_seen, followed, is_above, kept, whole, SameLeft, is_stop, checked_at}
-use Rattle.bt_machine.proofs.Bounds.{taken_len, taken_some_len}
 use Rattle.bt_machine.proofs.Equations.{eval-end, eval-no_tick, eval-then, looped-turn}
 
 -- two runs after one
@@ -130,10 +122,6 @@ none_same (op ∷ ops) fs gs e h p w k = absurd (omega (arith, e))
 pub nothing_kept : (ops : List Op) (fs : List HeldFrame) → length ops ≡ 0 → SameLeft (kept fs) (whole ops fs)
 nothing_kept ops fs e p w k = sym (none_same ops fs (kept fs) e (λ p w k. refl) p w k)
 
-pub rest_kept : (ops : List Op) (fs fs' : List HeldFrame) (f : HeldFrame) → fs' ≡ fs ++ f ∷ [] → frame_seen f ≡ Run (Block (ops_body ops)) → SameLeft (kept fs') (whole ops fs)
-rest_kept ops fs fs' f is_fs is_f p w k =
-    ap (λ fs. left p fs w k) (kept_some fs' fs f is_fs) ∙ ap (λ f. left p (f ∷ kept fs) w k) is_f
-
 -- What an element leads to.
 
 pub element_leads : (p : Program) (e : HeldElement) (next : Next) (fs gs : List Frame) (w w' : World) (k k1 : Counts) (o : Ending) → left p fs w k ≡ o → SameLeft fs (Run (Block (Then (element_seen e) End)) ∷ gs) → k1.0 + 1 ≡ k.0 → k1.1 ≡ calls_after (element_seen e) k.1 → followed p next w' k1 ≡ act p (eval p) (element_seen e) w k1 → then_go (followed p next w' k1) (left p gs) ≡ o
@@ -204,24 +192,6 @@ starts p t ops control w k none is_control is_k =
     ∙ same_end (Run (Name t) ∷ []) p w counts_begun
     ∙ then_go-done p (eval p (Then (Called t) End) w counts_begun)
 
--- How long the stack is.
-
-pub number_len : (w w' : World) → w' ≡ (taken While as_number w).1 → length w'.stack ≤ length w.stack
-number_len w w' ew =
-    let l = taken_len While as_number w in
-    let m : length w'.stack ≡ length (taken While as_number w).1.stack = ap (λ (u : World). length u.stack) ew in
-    omega (arith, l, m)
-
-above_some : (n : Option ℤ) (w w' : World) → is_above n ≡ true → n ≡ (taken While as_number w).0 → w' ≡ (taken While as_number w).1 → length w'.stack < length w.stack
-above_some None w w' h en ew = absurd (false≢true h)
-above_some (Some n) w w' h en ew =
-    let l = taken_some_len While as_number w n (sym en) in
-    let m : length w'.stack ≡ length (taken While as_number w).1.stack = ap (λ (u : World). length u.stack) ew in
-    omega (arith, l, m)
-
-pub above_len : (w w' : World) → is_above (taken While as_number w).0 ≡ true → w' ≡ (taken While as_number w).1 → length w'.stack < length w.stack
-above_len w w' h ew = above_some (taken While as_number w).0 w w' h refl ew
-
 -- no function of this number: nothing is run
 pub entered_past : (p : Program) (functions : List Function) (n : ℕ) (w : World) (k : Counts) → p.functions ≡ definitions_of functions → length functions ≤ n → Done w k ≡ eval p (function_body p.functions n) w k
 entered_past p functions n w k e h =
@@ -242,11 +212,3 @@ step_finished p x t w w0 w1 w2 flow k begun ended is_checked =
     ap (λ w. finished_at w (is_stop flow) k) is_checked
     ∙ finished-ended flow w1 k
     ∙ ap finish_of (ended ∙ ap (λ w. eval p (Then (Called t) End) w counts_begun) begun)
-
--- the variables of a step's own entry are those of the first entry of its world
-own_first_of : (e : Option (Bor Entry)) (v : Variables) → option_map (λ (e : Entry). e.variables) (entry_in (entries_seen e v) (place_seen e)) ≡ first_variables (entries_seen e v)
-own_first_of None v = refl
-own_first_of (Some e) v = refl
-
-pub own_first : (s : State) → own_variables (world_of s) ≡ first_variables (world_of s).entries
-own_first s = own_first_of s.entry s.stack.own
