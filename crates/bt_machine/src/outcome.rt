@@ -18,7 +18,7 @@ pub struct Outcome {
     pub lines: Sequence<Shared<Bytes>>,
     /// The messages that the step logged, in their order.
     pub messages: Sequence<Message>,
-    /// Whether the step ended the run, since it passed a limit.
+    /// Whether the step ended the run, because it passed a limit.
     pub stop: bool,
     /// How often each built-in function was called, by its place in the table.
     pub calls: [u32; BUILTIN_COUNT],

@@ -1,4 +1,4 @@
-//! What a step leaves that need not be run, since an earlier one agrees with it.
+//! What a step leaves if it needn't run, because an earlier step agrees with it.
 //!
 //! The outcome has the earlier step's values where the step can reach them, and the present ones elsewhere. Nearly
 //! always one of the two is equal to it as a whole. So the whole is compared first, and shared; a copy with single
@@ -36,7 +36,7 @@ fn has_left(left: &Variables, base: &Variables, places: Places<'_>) -> bool
     same_counts(left, base) && same_variables(left, base, places.numbers, places.texts)
 }
 
-/// Shared if they are already equal at these places.
+/// Shares `base` if it has the values of `left` at these places already.
 fn left_at(
     alloc: Global,
     left: &Variables,
@@ -51,7 +51,7 @@ fn left_at(
     Shared::new(alloc, variables_over(alloc, left, base, places)?)
 }
 
-/// The earlier step's are shared if it had the present ones before it: the common case, without any copy.
+/// Shares what the earlier step left if it began with the present variables: the common case, without any copy.
 fn variables_after(
     alloc: Global,
     old: &Variables,
@@ -149,10 +149,10 @@ fn over(
     })
 }
 
-/// What a step leaves, from what an earlier step left (`left`) on an input that agrees with its own in all that it may
-/// come to: the reached values of the earlier outcome, and all else as its own input has it. Lines are shared. So are
-/// the globals, and the entry's variables, where the earlier step had the same ones before it or left no others than
-/// the present ones; else they are a copy of the present ones, with the reached ones put in.
+/// What a step leaves, made from what an earlier step left (`left`), whose input agrees with this step's in all that it
+/// can reach. Reached values come from the earlier outcome, all others from this step's input. Lines are shared. So are
+/// the globals and the entry's variables, if the earlier step began with the same ones or left what is there now;
+/// otherwise they are a copy of the present ones, with the reached ones put in.
 pub fn left_over(
     alloc: Global,
     old: &Input,

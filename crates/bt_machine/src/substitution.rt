@@ -1,7 +1,7 @@
-//! Variables of which those at reached places are replaced by others'.
+//! Variables whose values at reached places are replaced.
 //!
-//! `left` is what the earlier step left and `base` what stands now. The result always has as many values as `left`:
-//! nearly always `base` has as many, and then its chunks are shared.
+//! `left` is what the earlier step left, and `base` the present variables. The result always has as many values as
+//! `left`. Nearly always `base` has as many, and then its chunks are shared.
 
 ghost use Rattle.std.specs.Prelude.{◌≡◌, length, pos, [], false, OnOk, IfOk, drop, take};
 ghost use Rattle.bt_style.specs.Reach.{is_among};
@@ -23,7 +23,7 @@ pub struct Places<'a> {
     pub texts: &'a [usize],
 }
 
-/// The places of the style's variables that a step may come to.
+/// The places of the style's variables that a step can reach.
 pub fn reached_globals(reach: &Reach) -> Places<'_>
     ensures { (v b : Variables) → blend_at result v b ≡ blend_globals (is_among reach.now.targets) v b }
 {
@@ -33,7 +33,7 @@ pub fn reached_globals(reach: &Reach) -> Places<'_>
     }
 }
 
-/// The places of an entry's variables that a step may come to.
+/// The places of an entry's variables that a step can reach.
 pub fn reached_owns(reach: &Reach) -> Places<'_>
     ensures { (v b : Variables) → blend_at result v b ≡ blend_own (is_among reach.now.targets) v b }
 {
@@ -164,7 +164,7 @@ fn texts_over(
     Ok(texts)
 }
 
-/// Others' variables, with those at some places that were left; as many as were left.
+/// The variables of `base`, with those of `left` at some places, and as many as `left` has.
 pub fn variables_over(
     alloc: Global,
     left: &Variables,
