@@ -8,12 +8,12 @@ use bt_text::Bytes;
 use std::alloc::{AllocError, Global};
 
 /// A change of a text, with its new bytes.
-#[derive(Clone, Copy, Debug)]
-pub enum Change<'a> {
+#[derive(Debug, Drop)]
+pub enum Change {
     /// The whole text is replaced.
-    Whole(&'a [u8]),
+    Whole(Bytes),
     /// The part between two positions is replaced.
-    Range(Position, Position, &'a [u8]),
+    Range(Position, Position, Bytes),
 }
 
 /// The text whose bytes `start..end` are replaced.
@@ -39,16 +39,16 @@ fn edited(
     alloc: Global,
     counting: Counting,
     text: &IndexedText,
-    change: Change<'_>,
+    change: &Change,
 ) -> Result<IndexedText, AllocError>
-    ensures { IfOk result (λ changed. changed ≡ edited counting change.entry text.now) }
+    ensures { IfOk result (λ changed. changed ≡ edited counting change.now text.now) }
 {
     match change {
-        Change::Whole(new) => IndexedText::copied(alloc, new),
+        Change::Whole(new) => IndexedText::copied(alloc, new.as_slice()),
         Change::Range(from, to, new) => {
-            let start = text.offset_of(counting, from);
-            let end = text.offset_of(counting, to).max(start);
-            replaced(alloc, text.as_slice(), start, end, new)
+            let start = text.offset_of(counting, *from);
+            let end = text.offset_of(counting, *to).max(start);
+            replaced(alloc, text.as_slice(), start, end, new.as_slice())
         }
     }
 }
@@ -58,16 +58,16 @@ pub fn all_edited(
     alloc: Global,
     counting: Counting,
     text: &IndexedText,
-    changes: &[Change<'_>],
+    changes: &[Change],
 ) -> Result<IndexedText, AllocError>
     ensures { IfOk result (λ changed. changed ≡ all_edited counting changes.now text.now) }
 {
     match changes {
         [] => IndexedText::copied(alloc, text.as_slice()),
         [first, rest @ ..] => {
-            let mut now = edited(alloc, counting, text, *first)?;
+            let mut now = edited(alloc, counting, text, first)?;
             'changes: for change in rest {
-                now = edited(alloc, counting, &now, *change)?;
+                now = edited(alloc, counting, &now, change)?;
             }
             Ok(now)
         }

@@ -1,7 +1,9 @@
 //! The open documents, and the files that follow them.
 
-ghost use Rattle.std.specs.Prelude.{◌≡◌, IfOk, OnErr, false, ℕ, List, Option};
+ghost use Rattle.std.specs.Prelude.{◌≡◌, ◌<◌, IfOk, OnErr, false, ℕ, List, Option, Some, length, slice_get, slice_set};
 ghost use Rattle.std.specs.Str.{bytes_eq};
+ghost use Rattle.bt_documents.specs.declared.document.Document.{Document};
+ghost use Rattle.bt_documents.specs.inner.Put.{IsPutAt};
 ghost use Rattle.bt_documents.specs.Documents.{with_document, after_changes, opened, closed, Follows};
 
 use crate::changes::{Change, all_edited};
@@ -43,7 +45,7 @@ fn changed(
     document: &Document,
     name: &[u8],
     version: i64,
-    changes: &[Change<'_>],
+    changes: &[Change],
 ) -> Result<Document, AllocError>
     ensures { IfOk result (λ d. d ≡ after_changes name.now version changes.now false document.now) }
 {
@@ -57,8 +59,37 @@ fn changed(
     })
 }
 
+/// Puts a document in the place of the open one of its name, or last, and returns its place.
+fn put(documents: &mut Sequence<Document>, document: Document) -> Result<usize, AllocError>
+    ensures place { IfOk result (λ place. IsPutAt place document documents.old documents.new) }
+    ensures err { OnErr result (documents.new ≡ documents.old) }
+{
+    match index_of(documents.as_slice(), document.name.as_slice()) {
+        Some(place) => {
+            documents.set(place, document);
+            Ok(place)
+        }
+        None => {
+            let place = documents.len();
+            documents.push(document)?;
+            Ok(place)
+        }
+    }
+}
+
+/// Notes whether the files took the text of the document at a place.
+fn mark(alloc: Global, documents: &mut Sequence<Document>, place: usize, accepted: bool)
+    requires { place < length documents.old }
+    ensures { (d : Document) → slice_get documents.old place ≡ Some d →
+        documents.new ≡ slice_set documents.old place (record d { in_step = accepted }) }
+{
+    let mut marked = mem::replace(documents, Sequence::new(alloc)).into_vec();
+    marked[place].in_step = accepted;
+    *documents = Sequence::from_vec(marked);
+}
+
 /// Opens a document, which replaces an open one of its name, and gives the files its text. Says whether they took it.
-/// After an error the documents are as before.
+/// After an error nothing has changed.
 pub fn open<F: Files>(
     alloc: Global,
     files: &mut F,
@@ -68,7 +99,6 @@ pub fn open<F: Files>(
     version: i64,
     text: &[u8],
 ) -> Result<bool, AllocError>
-    requires { Follows (F.text files.old) documents.old }
     ensures documents { IfOk result (λ accepted. documents.new ≡ opened (record {
       name = name.now;
       counting = counting;
@@ -76,27 +106,18 @@ pub fn open<F: Files>(
       text = text.now;
       in_step = accepted;
     }) documents.old) }
-    ensures follows { Follows (F.text files.new) documents.new }
+    ensures follows { Follows (F.text files.old) documents.old → Follows (F.text files.new) documents.new }
     ensures refused { IfOk result (λ accepted. accepted ≡ false → files.new ≡ files.old) }
     ensures others { (other : List ℕ) → bytes_eq other name.now ≡ false →
         F.text files.new other ≡ F.text files.old other }
     ensures err { OnErr result (documents.new ≡ documents.old) }
+    ensures err_files { OnErr result (files.new ≡ files.old) }
 {
-    let mut document = new_document(alloc, name, counting, version, text)?;
-    match index_of(documents.as_slice(), name) {
-        Some(place) => {
-            let accepted = files.write(name, text);
-            document.in_step = accepted;
-            documents.set(place, document);
-            Ok(accepted)
-        }
-        None => {
-            let accepted = files.write(name, text);
-            document.in_step = accepted;
-            documents.push(document)?;
-            Ok(accepted)
-        }
-    }
+    let document = new_document(alloc, name, counting, version, text)?;
+    let place = put(documents, document)?;
+    let accepted = files.write(name, text);
+    mark(alloc, documents, place, accepted);
+    Ok(accepted)
 }
 
 /// Closes the document of a name, if one is open. The files keep its text.
@@ -119,12 +140,11 @@ pub fn change<F: Files>(
     documents: &mut Sequence<Document>,
     name: &[u8],
     version: i64,
-    changes: &[Change<'_>],
+    changes: &[Change],
 ) -> Result<bool, AllocError>
-    requires { Follows (F.text files.old) documents.old }
     ensures documents { IfOk result (λ accepted.
         documents.new ≡ with_document name.now (after_changes name.now version changes.now accepted) documents.old) }
-    ensures follows { Follows (F.text files.new) documents.new }
+    ensures follows { Follows (F.text files.old) documents.old → Follows (F.text files.new) documents.new }
     ensures refused { IfOk result (λ accepted. accepted ≡ false → files.new ≡ files.old) }
     ensures others { (other : List ℕ) → bytes_eq other name.now ≡ false →
         F.text files.new other ≡ F.text files.old other }
