@@ -3,7 +3,7 @@ use Rattle.std.specs.Prelude.{ℕ, ℤ, negsuc, Bool, true, false, not, ◌||◌
 use Rattle.serde_json.specs.Data.{Data, null, boolean, number, negative, string, array, object, member, no_members}
 use Rattle.serde_json.specs.Find.{get, as_str, is_float}
 use Rattle.bt_rpc.specs.declared.answers.RpcError.{RpcError}
-use Rattle.bt_rpc.specs.declared.answers.RpcError.TheVariants.{ParseError, InvalidRequest, MethodNotFound, InvalidParams, InternalError}
+use Rattle.bt_rpc.specs.declared.answers.RpcError.TheVariants.{ParseError, InvalidRequest, MethodNotFound, InvalidParams, InternalError, ServerNotInitialized}
 
 -- what a value is as a message
 pub data Kind : Type 0 where
@@ -54,6 +54,7 @@ code_of InvalidRequest = negsuc 32599
 code_of MethodNotFound = negsuc 32600
 code_of InvalidParams = negsuc 32601
 code_of InternalError = negsuc 32602
+code_of ServerNotInitialized = negsuc 32001
 
 -- the words of an error
 abbrev pub words_of : RpcError → List ℕ
@@ -62,6 +63,7 @@ words_of InvalidRequest = codes "the message isn't one of JSON-RPC 2.0"
 words_of MethodNotFound = codes "the method is unknown"
 words_of InvalidParams = codes "the method's parameters are wrong"
 words_of InternalError = codes "out of memory, or the message is too large"
+words_of ServerNotInitialized = codes "the server isn't initialized"
 
 -- the answer to a request that has a result
 abbrev pub response : Data → Data → Data

@@ -18,6 +18,8 @@ pub enum RpcError {
     InvalidParams,
     /// Out of memory, or a message that is too large.
     InternalError,
+    /// A request before `initialize`. The code is the Language Server Protocol's.
+    ServerNotInitialized,
 }
 
 fn code_of(error: RpcError) -> i64
@@ -29,6 +31,7 @@ fn code_of(error: RpcError) -> i64
         RpcError::MethodNotFound => -32601,
         RpcError::InvalidParams => -32602,
         RpcError::InternalError => -32603,
+        RpcError::ServerNotInitialized => -32002,
     }
 }
 
@@ -41,6 +44,7 @@ fn words_of(error: RpcError) -> &'static str
         RpcError::MethodNotFound => "the method is unknown",
         RpcError::InvalidParams => "the method's parameters are wrong",
         RpcError::InternalError => "out of memory, or the message is too large",
+        RpcError::ServerNotInitialized => "the server isn't initialized",
     }
 }
 
