@@ -1,0 +1,235 @@
+//! What the facts of a path say of an integer: whether it is above 0, and its bounds.
+
+ghost use Rattle.std.specs.Int.{int_max, int_min};
+ghost use Rattle.std.specs.Prelude.{◌≡◌, ◌≤ℤ◌, ◌<ℤ◌, Some, true, false};
+
+use crate::facts::Facts;
+use crate::values::{Choice, Made, Node, TREE_DEPTH, Value, Values, is_test, node_kinds};
+use bt_style::Builtin;
+
+/// The least and the greatest that an integer can be.
+#[derive(Clone, Copy)]
+pub struct Bounds {
+    pub low: i64,
+    pub high: i64,
+}
+
+pub const UNBOUNDED: Bounds = Bounds {
+    low: i64::MIN,
+    high: i64::MAX,
+};
+
+fn exactly(number: i32) -> Bounds {
+    Bounds {
+        low: i64::from(number),
+        high: i64::from(number),
+    }
+}
+
+/// Whether an integer within the first bounds is greater than one within the second.
+fn is_above(ours: Bounds, theirs: Bounds) -> Option<bool>
+    ensures above { result ≡ Some true → theirs.high <ℤ ours.low }
+    ensures below { result ≡ Some false → ours.high ≤ℤ theirs.low }
+{
+    if ours.low > theirs.high {
+        Some(true)
+    } else if ours.high <= theirs.low {
+        Some(false)
+    } else {
+        None
+    }
+}
+
+impl Bounds {
+    fn sum(self, other: Bounds) -> Bounds {
+        Bounds {
+            low: self.low.saturating_add(other.low),
+            high: self.high.saturating_add(other.high),
+        }
+    }
+
+    fn difference(self, other: Bounds) -> Bounds {
+        Bounds {
+            low: self.low.saturating_sub(other.high),
+            high: self.high.saturating_sub(other.low),
+        }
+    }
+
+    fn or(self, other: Bounds) -> Bounds
+        ensures low { result.low ≡ int_min self.low other.low }
+        ensures high { result.high ≡ int_max self.high other.high }
+    {
+        Bounds {
+            low: self.low.min(other.low),
+            high: self.high.max(other.high),
+        }
+    }
+
+    fn and(self, other: Bounds) -> Bounds
+        ensures low { result.low ≡ int_max self.low other.low }
+        ensures high { result.high ≡ int_min self.high other.high }
+    {
+        Bounds {
+            low: self.low.max(other.low),
+            high: self.high.min(other.high),
+        }
+    }
+
+    /// Whether an integer within the bounds is above 0.
+    fn is_positive(self) -> Option<bool> {
+        is_above(self, exactly(0))
+    }
+}
+
+impl Values {
+    /// Whether the integer is above 0, if that is known.
+    pub fn decide(&self, facts: &Facts, value: Value) -> Option<bool> {
+        self.decide_within(facts, value, TREE_DEPTH)
+    }
+
+    /// The bounds of the integer.
+    pub fn bounds(&self, facts: &Facts, value: Value) -> Bounds {
+        self.bounds_within(facts, value, TREE_DEPTH)
+    }
+
+    #[cycle(deciding)]
+    fn decide_within(&self, facts: &Facts, value: Value, depth: usize) -> Option<bool> {
+        if depth == 0 {
+            return None;
+        }
+        let known = facts.truth(value);
+        if known.is_some() {
+            return known;
+        }
+        match self.node(value) {
+            Node::Integer(number) => Some(number > 0),
+            Node::Choice(choice) => self.decide_choice(facts, choice, depth - 1),
+            Node::Made(made) => self.decide_made(facts, value, made, depth - 1),
+            node => {
+                if node_kinds(node).integer {
+                    self.bounds_within(facts, value, depth - 1).is_positive()
+                } else {
+                    None
+                }
+            }
+        }
+    }
+
+    #[cycle(deciding)]
+    fn decide_choice(&self, facts: &Facts, choice: Choice, depth: usize) -> Option<bool> {
+        if depth == 0 {
+            return None;
+        }
+        match self.decide_within(facts, choice.test, depth - 1) {
+            Some(true) => self.decide_within(facts, choice.then, depth - 1),
+            Some(false) => self.decide_within(facts, choice.other, depth - 1),
+            None => {
+                let then = self.decide_within(facts, choice.then, depth - 1);
+                let other = self.decide_within(facts, choice.other, depth - 1);
+                if then == other { then } else { None }
+            }
+        }
+    }
+
+    #[cycle(deciding)]
+    fn decide_made(&self, facts: &Facts, value: Value, made: Made, depth: usize) -> Option<bool> {
+        if depth == 0 {
+            return None;
+        }
+        match made.by {
+            Builtin::Equals => self.decide_equality(facts, made),
+            Builtin::Empty => match facts.of(made.first).only {
+                Some(only) => Some(!self.is_solid(only)),
+                None => None,
+            },
+            Builtin::Greater => is_above(
+                self.bounds_within(facts, made.first, depth - 1),
+                self.bounds_within(facts, made.second, depth - 1),
+            ),
+            Builtin::Less => is_above(
+                self.bounds_within(facts, made.second, depth - 1),
+                self.bounds_within(facts, made.first, depth - 1),
+            ),
+            _ => self.bounds_within(facts, value, depth - 1).is_positive(),
+        }
+    }
+
+    fn decide_equality(&self, facts: &Facts, made: Made) -> Option<bool> {
+        match (facts.of(made.first).only, self.node(made.second)) {
+            (Some(only), Node::Text(_)) => Some(only == made.second),
+            _ => None,
+        }
+    }
+
+    #[cycle(deciding)]
+    fn bounds_within(&self, facts: &Facts, value: Value, depth: usize) -> Bounds {
+        if depth == 0 {
+            return UNBOUNDED;
+        }
+        let bounds = match self.node(value) {
+            Node::Integer(number) => exactly(number),
+            Node::Unknown(unknown) => Bounds {
+                low: unknown.low,
+                high: unknown.high,
+            },
+            Node::Choice(choice) => self.choice_bounds(facts, choice, depth - 1),
+            Node::Made(made) => self.made_bounds(facts, made, depth - 1),
+            _ => UNBOUNDED,
+        };
+        let known = facts.of(value);
+        bounds.and(Bounds {
+            low: known.low,
+            high: known.high,
+        })
+    }
+
+    #[cycle(deciding)]
+    fn choice_bounds(&self, facts: &Facts, choice: Choice, depth: usize) -> Bounds {
+        if depth == 0 {
+            return UNBOUNDED;
+        }
+        match self.decide_within(facts, choice.test, depth - 1) {
+            Some(true) => self.bounds_within(facts, choice.then, depth - 1),
+            Some(false) => self.bounds_within(facts, choice.other, depth - 1),
+            None => {
+                let then = self.bounds_within(facts, choice.then, depth - 1);
+                then.or(self.bounds_within(facts, choice.other, depth - 1))
+            }
+        }
+    }
+
+    #[cycle(deciding)]
+    fn made_bounds(&self, facts: &Facts, made: Made, depth: usize) -> Bounds {
+        if depth == 0 {
+            return UNBOUNDED;
+        }
+        match made.by {
+            Builtin::Plus => {
+                let first = self.bounds_within(facts, made.first, depth - 1);
+                first.sum(self.bounds_within(facts, made.second, depth - 1))
+            }
+            Builtin::Minus => {
+                let first = self.bounds_within(facts, made.first, depth - 1);
+                first.difference(self.bounds_within(facts, made.second, depth - 1))
+            }
+            Builtin::NumNames => {
+                let is_given = self.decide_within(facts, made.second, depth - 1) == Some(false);
+                Bounds {
+                    low: i64::from(is_given),
+                    high: i64::MAX,
+                }
+            }
+            Builtin::ChrToInt | Builtin::TextLength => Bounds {
+                low: 0,
+                high: i64::MAX,
+            },
+            by => {
+                if is_test(by) {
+                    Bounds { low: 0, high: 1 }
+                } else {
+                    UNBOUNDED
+                }
+            }
+        }
+    }
+}

@@ -1,0 +1,181 @@
+//! What is known of values on one path through a style.
+//!
+//! A value never changes (only variables do), so what a branch learns of a value holds for the rest of the step.
+
+ghost use Rattle.std.specs.Int.{int_max, int_min};
+ghost use Rattle.std.specs.Prelude.{◌≡◌};
+
+use crate::values::Value;
+use std::alloc::{AllocError, Global};
+
+/// What is known of one value.
+#[derive(Clone, Copy, PartialEq, Eq)]
+pub struct Known {
+    /// Whether the integer is above 0.
+    pub truth: Option<bool>,
+    /// The constant that the string equals.
+    pub only: Option<Value>,
+    /// The least that the integer can be.
+    pub low: i64,
+    /// The greatest that the integer can be.
+    pub high: i64,
+    /// How many other values were known before it.
+    pub age: usize,
+}
+
+/// Nothing is known.
+pub const NOTHING: Known = Known {
+    truth: None,
+    only: None,
+    low: i64::MIN,
+    high: i64::MAX,
+    age: 0,
+};
+
+impl Known {
+    fn says_nothing(self) -> bool {
+        self.truth.is_none() && self.only.is_none() && self.low == i64::MIN && self.high == i64::MAX
+    }
+
+    /// What holds where either of them holds.
+    pub fn joined(self, other: Known) -> Known
+        ensures low { result.low ≡ int_min self.low other.low }
+        ensures high { result.high ≡ int_max self.high other.high }
+    {
+        Known {
+            truth: if self.truth == other.truth {
+                self.truth
+            } else {
+                None
+            },
+            only: if self.only == other.only {
+                self.only
+            } else {
+                None
+            },
+            low: self.low.min(other.low),
+            high: self.high.max(other.high),
+            age: self.age,
+        }
+    }
+}
+
+/// That a choice is (or isn't) above 0, of which more may follow once its test is decided.
+#[derive(Clone, Copy, PartialEq, Eq)]
+pub struct Assumed {
+    pub value: Value,
+    pub truth: bool,
+}
+
+/// Whether both are known and not the same.
+fn differs(ours: Option<bool>, theirs: Option<bool>) -> bool {
+    ours.is_some() && theirs.is_some() && ours != theirs
+}
+
+/// The facts of a path.
+#[derive(Drop)]
+pub struct Facts {
+    /// The values of which something is known, in their order.
+    values: Vec<Value>,
+    /// What is known of each.
+    known: Vec<Known>,
+    pub assumed: Vec<Assumed>,
+}
+
+impl Facts {
+    pub fn new(alloc: Global) -> Facts {
+        Facts {
+            values: Vec::new(alloc),
+            known: Vec::new(alloc),
+            assumed: Vec::new(alloc),
+        }
+    }
+
+    pub fn copied(&self, alloc: Global) -> Result<Facts, AllocError> {
+        Ok(Facts {
+            values: Vec::from_slice(alloc, self.values.as_slice())?,
+            known: Vec::from_slice(alloc, self.known.as_slice())?,
+            assumed: Vec::from_slice(alloc, self.assumed.as_slice())?,
+        })
+    }
+
+    pub fn of(&self, value: Value) -> Known {
+        match self.values.binary_search(&value) {
+            Ok(place) => self.known.get(place).copied().unwrap_or(NOTHING),
+            Err(_) => NOTHING,
+        }
+    }
+
+    pub fn truth(&self, value: Value) -> Option<bool> {
+        self.of(value).truth
+    }
+
+    /// Replaces what is known of a value.
+    pub fn put(&mut self, value: Value, known: Known) -> Result<(), AllocError> {
+        match self.values.binary_search(&value) {
+            Ok(place) => {
+                if let Some(old) = self.known.get_mut(place) {
+                    let age = old.age;
+                    *old = known;
+                    old.age = age;
+                }
+            }
+            Err(place) => {
+                if place <= self.known.len() {
+                    let mut known = known;
+                    known.age = self.known.len();
+                    self.known.insert(place, known)?;
+                    self.values.insert(place, value)?;
+                }
+            }
+        }
+        Ok(())
+    }
+
+    pub fn put_truth(&mut self, value: Value, truth: bool) -> Result<(), AllocError> {
+        let mut known = self.of(value);
+        known.truth = Some(truth);
+        self.put(value, known)
+    }
+
+    pub fn assume(&mut self, value: Value, truth: bool) -> Result<(), AllocError> {
+        Ok(self.assumed.push(Assumed { value, truth })?)
+    }
+
+    /// What holds where either of them holds.
+    pub fn joined(&self, other: &Facts, alloc: Global) -> Result<Facts, AllocError> {
+        let mut both = Facts::new(alloc);
+        for (value, known) in self.values.iter().zip(self.known.iter()) {
+            let common = known.joined(other.of(*value));
+            if !common.says_nothing() {
+                both.values.push(*value)?;
+                both.known.push(common)?;
+            }
+        }
+        for assumed in &self.assumed {
+            if other.assumed.contains(assumed) {
+                both.assumed.push(*assumed)?;
+            }
+        }
+        Ok(both)
+    }
+
+    /// The value that has been known longest to be above 0 by one of the two and not by the other, if there is one.
+    pub fn difference(&self, other: &Facts) -> Option<Value> {
+        let mut found = None;
+        let mut best = usize::MAX;
+        for (value, known) in self.values.iter().zip(self.known.iter()) {
+            if known.age < best && differs(known.truth, other.truth(*value)) {
+                found = Some(*value);
+                best = known.age;
+            }
+        }
+        found
+    }
+
+    pub fn is_same(&self, other: &Facts) -> bool {
+        self.values.as_slice() == other.values.as_slice()
+            && self.known.as_slice() == other.known.as_slice()
+            && self.assumed.as_slice() == other.assumed.as_slice()
+    }
+}

@@ -1,0 +1,267 @@
+//! What follows for a path from the outcome of a test.
+
+use crate::deciding::Bounds;
+use crate::facts::{Assumed, Facts};
+use crate::values::{Choice, Made, Node, Value, Values, ZERO, node_kinds};
+use bt_style::Builtin;
+use std::alloc::AllocError;
+
+/// How deep one conclusion may lead to another. Beyond it nothing more is concluded.
+const DEPTH: usize = 400;
+
+fn at_least(low: i64) -> Bounds {
+    Bounds {
+        low,
+        high: i64::MAX,
+    }
+}
+
+fn at_most(high: i64) -> Bounds {
+    Bounds {
+        low: i64::MIN,
+        high,
+    }
+}
+
+/// The bounds of an integer that is above 0, or isn't.
+fn signed(is_positive: bool) -> Bounds {
+    if is_positive { at_least(1) } else { at_most(0) }
+}
+
+fn narrow(facts: &mut Facts, value: Value, bounds: Bounds) -> Result<(), AllocError> {
+    let mut known = facts.of(value);
+    known.low = known.low.max(bounds.low);
+    known.high = known.high.min(bounds.high);
+    facts.put(value, known)
+}
+
+impl Values {
+    /// Counts a step of the analysis, and says whether there is work left.
+    pub fn spend(&mut self) -> bool {
+        self.work = self.work.saturating_sub(1);
+        self.work > 0
+    }
+
+    /// The facts of the path on which the integer is above 0, or isn't. None if there is no such path.
+    pub fn refine(
+        &mut self,
+        facts: &Facts,
+        value: Value,
+        truth: bool,
+    ) -> Result<Option<Facts>, AllocError> {
+        self.refine_within(facts, value, truth, DEPTH)
+    }
+
+    #[cycle(refining)]
+    fn refine_within(
+        &mut self,
+        facts: &Facts,
+        value: Value,
+        truth: bool,
+        depth: usize,
+    ) -> Result<Option<Facts>, AllocError> {
+        if depth == 0 || !self.spend() {
+            return Ok(Some(facts.copied(self.alloc)?));
+        }
+        match self.decide(facts, value) {
+            Some(known) => {
+                if known == truth {
+                    Ok(Some(facts.copied(self.alloc)?))
+                } else {
+                    Ok(None)
+                }
+            }
+            None => match self.node(value) {
+                Node::Choice(choice) => self.refine_choice(facts, value, choice, truth, depth - 1),
+                node => self.refine_plain(facts, value, node, truth, depth - 1),
+            },
+        }
+    }
+
+    /// For a value that isn't a choice: what follows from it alone, and then from what was assumed.
+    #[cycle(refining)]
+    fn refine_plain(
+        &mut self,
+        facts: &Facts,
+        value: Value,
+        node: Node,
+        truth: bool,
+        depth: usize,
+    ) -> Result<Option<Facts>, AllocError> {
+        if depth == 0 {
+            return Ok(Some(facts.copied(self.alloc)?));
+        }
+        let mut now = facts.copied(self.alloc)?;
+        now.put_truth(value, truth)?;
+        self.learn(&mut now, value, node, truth)?;
+        for assumed in &facts.assumed {
+            match self.again(now, *assumed, depth - 1)? {
+                Some(next) => now = next,
+                None => return Ok(None),
+            }
+        }
+        Ok(Some(now))
+    }
+
+    #[cycle(refining)]
+    fn refine_both(
+        &mut self,
+        facts: &Facts,
+        test: Value,
+        is_test: bool,
+        value: Value,
+        truth: bool,
+        depth: usize,
+    ) -> Result<Option<Facts>, AllocError> {
+        if depth == 0 {
+            return Ok(Some(facts.copied(self.alloc)?));
+        }
+        match self.refine_within(facts, test, is_test, depth - 1)? {
+            Some(then) => self.refine_within(&then, value, truth, depth - 1),
+            None => Ok(None),
+        }
+    }
+
+    #[cycle(refining)]
+    fn refine_choice(
+        &mut self,
+        facts: &Facts,
+        value: Value,
+        choice: Choice,
+        truth: bool,
+        depth: usize,
+    ) -> Result<Option<Facts>, AllocError> {
+        if depth == 0 {
+            return Ok(Some(facts.copied(self.alloc)?));
+        }
+        let then = self.refine_both(facts, choice.test, true, choice.then, truth, depth - 1)?;
+        let other = self.refine_both(facts, choice.test, false, choice.other, truth, depth - 1)?;
+        match (then, other) {
+            (Some(then), Some(other)) => {
+                let mut both = then.joined(&other, self.alloc)?;
+                both.put_truth(value, truth)?;
+                both.assume(value, truth)?;
+                Ok(Some(both))
+            }
+            (Some(then), None) => Ok(Some(then)),
+            (None, other) => Ok(other),
+        }
+    }
+
+    /// Concludes what can be concluded now from an assumption about a choice.
+    #[cycle(refining)]
+    fn again(
+        &mut self,
+        facts: Facts,
+        assumed: Assumed,
+        depth: usize,
+    ) -> Result<Option<Facts>, AllocError> {
+        if depth == 0 {
+            return Ok(Some(facts));
+        }
+        let Node::Choice(choice) = self.node(assumed.value) else {
+            return Ok(Some(facts));
+        };
+        let wrong = Some(!assumed.truth);
+        let test = self.decide(&facts, choice.test);
+        let can_then = test != Some(false) && self.decide(&facts, choice.then) != wrong;
+        let can_other = test != Some(true) && self.decide(&facts, choice.other) != wrong;
+        if can_then && can_other {
+            Ok(Some(facts))
+        } else if can_then {
+            self.refine_both(
+                &facts,
+                choice.test,
+                true,
+                choice.then,
+                assumed.truth,
+                depth - 1,
+            )
+        } else if can_other {
+            self.refine_both(
+                &facts,
+                choice.test,
+                false,
+                choice.other,
+                assumed.truth,
+                depth - 1,
+            )
+        } else {
+            Ok(None)
+        }
+    }
+
+    /// What follows from one fact: what is missing is empty, a string equals one constant only, and bounds.
+    fn learn(
+        &mut self,
+        facts: &mut Facts,
+        value: Value,
+        node: Node,
+        truth: bool,
+    ) -> Result<(), AllocError> {
+        match node {
+            Node::Made(made) => self.learn_made(facts, value, made, truth),
+            Node::Held { .. } | Node::Unknown(_) => { narrow(facts, value, signed(truth)) }
+            _ => Ok(()),
+        }
+    }
+
+    fn learn_made(
+        &mut self,
+        facts: &mut Facts,
+        value: Value,
+        made: Made,
+        truth: bool,
+    ) -> Result<(), AllocError> {
+        match made.by {
+            Builtin::Empty if !truth => {
+                let missing = self.plain(Builtin::Missing, made.first, ZERO, ZERO)?;
+                facts.put_truth(missing, false)
+            }
+            Builtin::Missing if truth => {
+                let empty = self.plain(Builtin::Empty, made.first, ZERO, ZERO)?;
+                facts.put_truth(empty, true)
+            }
+            Builtin::Equals if truth => self.learn_equality(facts, made),
+            Builtin::Greater => self.learn_order(facts, made.first, made.second, truth),
+            Builtin::Less => self.learn_order(facts, made.second, made.first, truth),
+            Builtin::Plus | Builtin::Minus => { narrow(facts, value, signed(truth)) }
+            _ => Ok(()),
+        }
+    }
+
+    fn learn_equality(&mut self, facts: &mut Facts, made: Made) -> Result<(), AllocError> {
+        let node = self.node(made.second);
+        if let Node::Text(_) = node {
+            let mut known = facts.of(made.first);
+            known.only = Some(made.second);
+            return facts.put(made.first, known);
+        }
+        if node_kinds(node).integer && node_kinds(self.node(made.first)).integer {
+            let first = self.bounds(facts, made.first);
+            let second = self.bounds(facts, made.second);
+            narrow(facts, made.first, second)?;
+            narrow(facts, made.second, first)?;
+        }
+        Ok(())
+    }
+
+    /// `upper` is greater than `lower`, or isn't.
+    fn learn_order(
+        &mut self,
+        facts: &mut Facts,
+        upper: Value,
+        lower: Value,
+        truth: bool,
+    ) -> Result<(), AllocError> {
+        let above = self.bounds(facts, upper);
+        let below = self.bounds(facts, lower);
+        if truth {
+            narrow(facts, upper, at_least(below.low.saturating_add(1)))?;
+            narrow(facts, lower, at_most(above.high.saturating_sub(1)))
+        } else {
+            narrow(facts, upper, at_most(below.high))?;
+            narrow(facts, lower, at_least(above.low))
+        }
+    }
+}

@@ -1,0 +1,172 @@
+//! A state of a step on a set of paths: its stack, its variables, and what is known.
+
+use crate::facts::Facts;
+use crate::kinds::INTEGER;
+use crate::values::{Value, Values};
+use std::alloc::{AllocError, Global};
+
+#[derive(Drop)]
+pub struct State {
+    /// The literal stack, its top last.
+    pub stack: Vec<Value>,
+    /// What each variable holds, by its place.
+    pub variables: Vec<Value>,
+    pub facts: Facts,
+}
+
+/// A value that is above 0 on the first of two paths only.
+#[derive(Clone, Copy)]
+struct Fork {
+    test: Value,
+    /// Whether it is above 0 on the second one, and not on the first.
+    is_turned: bool,
+}
+
+impl State {
+    pub fn copied(&self, alloc: Global) -> Result<State, AllocError> {
+        let facts = self.facts.copied(alloc)?;
+        self.with_facts(alloc, facts)
+    }
+
+    /// The state on the paths with these facts.
+    pub fn with_facts(&self, alloc: Global, facts: Facts) -> Result<State, AllocError> {
+        Ok(State {
+            stack: Vec::from_slice(alloc, self.stack.as_slice())?,
+            variables: Vec::from_slice(alloc, self.variables.as_slice())?,
+            facts,
+        })
+    }
+
+    pub fn push(&mut self, value: Value) -> Result<(), AllocError> {
+        Ok(self.stack.push(value)?)
+    }
+
+    pub fn depth(&self) -> usize {
+        self.stack.len()
+    }
+}
+
+impl Values {
+    /// What tells the paths of two states apart.
+    fn fork(
+        &mut self,
+        ours: &Facts,
+        theirs: &Facts,
+        preferred: Option<Value>,
+    ) -> Result<Fork, AllocError> {
+        if let Some(test) = preferred {
+            if self.decide(ours, test) == Some(true) && self.decide(theirs, test) == Some(false) {
+                return Ok(Fork {
+                    test,
+                    is_turned: false,
+                });
+            }
+        }
+        match ours.difference(theirs) {
+            Some(test) => Ok(Fork {
+                test,
+                is_turned: ours.truth(test) == Some(false),
+            }),
+            None => Ok(Fork {
+                test: self.any(INTEGER)?,
+                is_turned: false,
+            }),
+        }
+    }
+
+    fn join_value(
+        &mut self,
+        fork: Fork,
+        facts: &Facts,
+        value: Value,
+        other_facts: &Facts,
+        other: Value,
+    ) -> Result<Value, AllocError> {
+        let kinds = self
+            .kinds(facts, value)?
+            .or(self.kinds(other_facts, other)?);
+        if fork.is_turned {
+            self.choice(fork.test, other, value, kinds)
+        } else {
+            self.choice(fork.test, value, other, kinds)
+        }
+    }
+
+    fn join_values(
+        &mut self,
+        fork: Fork,
+        facts: &Facts,
+        values: &mut Vec<Value>,
+        other_facts: &Facts,
+        others: &[Value],
+    ) -> Result<(), AllocError> {
+        for place in 0..others.len() {
+            if let (Some(value), Some(other)) = (values.get_mut(place), others.get(place)) {
+                if *value != *other {
+                    *value = self.join_value(fork, facts, *value, other_facts, *other)?;
+                }
+            }
+        }
+        Ok(())
+    }
+
+    /// Makes of a state one that covers another one of the same depth, too.
+    pub fn join(
+        &mut self,
+        state: &mut State,
+        other: &State,
+        preferred: Option<Value>,
+    ) -> Result<(), AllocError> {
+        let fork = self.fork(&state.facts, &other.facts, preferred)?;
+        let others = &other.facts;
+        self.join_values(
+            fork,
+            &state.facts,
+            &mut state.stack,
+            others,
+            other.stack.as_slice(),
+        )?;
+        self.join_values(
+            fork,
+            &state.facts,
+            &mut state.variables,
+            others,
+            other.variables.as_slice(),
+        )?;
+        state.facts = state.facts.joined(&other.facts, self.alloc)?;
+        Ok(())
+    }
+
+    /// Adds a state to a list that has at most one of each depth.
+    pub fn merge_in(
+        &mut self,
+        states: &mut Vec<State>,
+        state: State,
+        preferred: Option<Value>,
+    ) -> Result<(), AllocError> {
+        let depth = state.depth();
+        match states.iter().position(|s| s.depth() == depth) {
+            Some(place) => match states.get_mut(place) {
+                Some(other) => self.join(other, &state, preferred),
+                None => Ok(()),
+            },
+            None => Ok(states.push(state)?),
+        }
+    }
+
+    /// Joins states of the same depth.
+    pub fn merge(
+        &mut self,
+        states: Vec<State>,
+        preferred: Option<Value>,
+    ) -> Result<Vec<State>, AllocError> {
+        if states.len() < 2 {
+            return Ok(states);
+        }
+        let mut merged = Vec::new(self.alloc);
+        for state in states {
+            self.merge_in(&mut merged, state, preferred)?;
+        }
+        Ok(merged)
+    }
+}

@@ -1,0 +1,322 @@
+//! Which functions entries name as their types.
+//!
+//! An entry may name any function that is defined before READ, also a helper such as `and`, which fails then. Those meant
+//! are the standard types, functions that call what all of those call (as `output.bibitem` and `fin.entry`), their aliases,
+//! and functions that nothing calls and that run without a fault (as `IEEEtranBSTCTL`).
+
+use crate::checker::Checker;
+use crate::program::{Act, Program, Word};
+use bt_style::{Action, Builtin, Style, Target};
+use std::alloc::{AllocError, Global};
+
+/// The types of the four standard styles, and `conference`.
+pub const STANDARD: [&[u8]; 14] = [
+    b"article",
+    b"book",
+    b"booklet",
+    b"conference",
+    b"inbook",
+    b"incollection",
+    b"inproceedings",
+    b"manual",
+    b"mastersthesis",
+    b"misc",
+    b"phdthesis",
+    b"proceedings",
+    b"techreport",
+    b"unpublished",
+];
+
+fn is_standard(name: &[u8]) -> bool {
+    STANDARD.iter().any(|standard| *standard == name)
+}
+
+/// Which functions a body names, in braces too.
+#[derive(Drop)]
+pub struct Mentions {
+    pub functions: Vec<bool>,
+    /// Whether it names `call.type$`.
+    pub calls_type: bool,
+}
+
+pub fn marks(alloc: Global, count: usize) -> Result<Vec<bool>, AllocError> {
+    let mut marks = Vec::new(alloc);
+    for _ in 0..count {
+        marks.push(false)?;
+    }
+    Ok(marks)
+}
+
+pub fn is_marked(marks: &[bool], place: usize) -> bool {
+    marks.get(place).copied().unwrap_or(false)
+}
+
+pub fn mark(marks: &mut Vec<bool>, place: usize) {
+    if let Some(mark) = marks.get_mut(place) {
+        *mark = true;
+    }
+}
+
+/// Goes over the words of a body, those in braces too.
+pub fn all_words(alloc: Global, program: &Program, body: usize) -> Result<Vec<Word>, AllocError> {
+    let mut words = Vec::new(alloc);
+    let mut bodies = Vec::new(alloc);
+    bodies.push(body)?;
+    for _ in 0..u64::MAX {
+        let Some(body) = bodies.pop() else {
+            return Ok(words);
+        };
+        for word in program.body(body) {
+            words.push(*word)?;
+            if let Act::Block(inner) = word.act {
+                bodies.push(inner)?;
+            }
+        }
+    }
+    Ok(words)
+}
+
+/// What a function's body names.
+pub fn names_in(alloc: Global, program: &Program, function: usize) -> Result<Mentions, AllocError> {
+    let mut mentions = Mentions {
+        functions: marks(alloc, program.function_count)?,
+        calls_type: false,
+    };
+    let words = all_words(alloc, program, function)?;
+    for word in &words {
+        match word.act {
+            Act::Call(Target::Function(other)) | Act::Quote(Target::Function(other)) => {
+                mark(&mut mentions.functions, other);
+            }
+            Act::Call(Target::Builtin(Builtin::CallType))
+            | Act::Quote(Target::Builtin(Builtin::CallType)) => {
+                mentions.calls_type = true;
+            }
+            _ => {}
+        }
+    }
+    Ok(mentions)
+}
+
+fn common(marks: &mut Vec<bool>, others: &[bool]) {
+    for (mark, other) in marks.iter_mut().zip(others.iter()) {
+        *mark = *mark && *other;
+    }
+}
+
+fn shared_count(marks: &[bool], others: &[bool]) -> usize {
+    marks
+        .iter()
+        .zip(others.iter())
+        .filter(|pair| *pair.0 && *pair.1)
+        .count()
+}
+
+/// What the mentions of all functions tell of types.
+#[derive(Drop)]
+pub struct Catalogue {
+    pub mentions: Vec<Mentions>,
+    /// Functions that another function or a command names.
+    pub is_called: Vec<bool>,
+    /// What all standard types name; none if the style has no standard type.
+    pub common: Option<Vec<bool>>,
+}
+
+fn note_call(is_called: &mut Vec<bool>, target: Target) {
+    if let Target::Function(function) = target {
+        mark(is_called, function);
+    }
+}
+
+fn called(alloc: Global, style: &Style, mentions: &[Mentions]) -> Result<Vec<bool>, AllocError> {
+    let mut is_called = marks(alloc, mentions.len())?;
+    for one in mentions {
+        for (place, is_named) in one.functions.iter().enumerate() {
+            if *is_named {
+                mark(&mut is_called, place);
+            }
+        }
+    }
+    for command in style.commands.as_slice() {
+        match command.action {
+            Action::Execute(target) | Action::Iterate(target) | Action::Reverse(target) => {
+                note_call(&mut is_called, target);
+            }
+            _ => {}
+        }
+    }
+    Ok(is_called)
+}
+
+/// Whether a function is a standard type with a body of its own.
+fn is_whole(program: &Program, function: usize) -> bool {
+    is_marked(program.is_before_read.as_slice(), function)
+        && is_standard(program.text(function))
+        && program.body(function).len() > 1
+}
+
+fn common_mentions(
+    alloc: Global,
+    program: &Program,
+    mentions: &[Mentions],
+) -> Result<Option<Vec<bool>>, AllocError> {
+    let mut shared: Option<Vec<bool>> = None;
+    for (function, one) in mentions.iter().enumerate() {
+        if is_whole(program, function) {
+            match &mut shared {
+                Some(shared) => common(shared, one.functions.as_slice()),
+                None => shared = Some(Vec::from_slice(alloc, one.functions.as_slice())?),
+            }
+        }
+    }
+    Ok(shared)
+}
+
+impl Catalogue {
+    pub fn of(alloc: Global, style: &Style, program: &Program) -> Result<Catalogue, AllocError> {
+        let mut all = Vec::new(alloc);
+        for function in 0..program.function_count {
+            all.push(names_in(alloc, program, function)?)?;
+        }
+        Ok(Catalogue {
+            is_called: called(alloc, style, all.as_slice())?,
+            common: common_mentions(alloc, program, all.as_slice())?,
+            mentions: all,
+        })
+    }
+
+    /// Whether a function calls at least half of what all standard types call.
+    fn is_like_standard(&self, function: usize) -> bool {
+        match (&self.common, self.mentions.get(function)) {
+            (Some(common), Some(mentions)) => {
+                let all = common.iter().filter(|b| **b).count();
+                let ours = shared_count(common.as_slice(), mentions.functions.as_slice());
+                all > 0 && ours.saturating_mul(2) >= all
+            }
+            _ => false,
+        }
+    }
+
+    /// The functions that are types by what they call.
+    fn typical(&self, alloc: Global, program: &Program) -> Result<Vec<bool>, AllocError> {
+        let mut types = Vec::new(alloc);
+        for function in 0..program.function_count {
+            let can_be = is_marked(program.is_before_read.as_slice(), function);
+            types.push(
+                can_be && (is_standard(program.text(function)) || self.is_like_standard(function)),
+            )?;
+        }
+        Ok(types)
+    }
+}
+
+/// Adds the functions that only call a type. They come after it, so one pass finds them all.
+fn add_aliases(program: &Program, types: &mut Vec<bool>) {
+    for function in 0..program.function_count {
+        if let Some(other) = program.alias(function) {
+            if is_marked(program.is_before_read.as_slice(), function)
+                && is_marked(types.as_slice(), other)
+            {
+                mark(types, function);
+            }
+        }
+    }
+}
+
+impl<'a> Checker<'a> {
+    /// Whether a function that nothing calls is a type: a style without standard types may have others, and control entries
+    /// run without a fault.
+    fn is_other_type(
+        &mut self,
+        catalogue: &Catalogue,
+        function: usize,
+    ) -> Result<bool, AllocError> {
+        if !is_marked(self.program.is_before_read.as_slice(), function)
+            || is_marked(catalogue.is_called.as_slice(), function)
+            || self.program.is_inner_name(function)
+        {
+            return Ok(false);
+        }
+        if catalogue.common.is_none() {
+            return Ok(true);
+        }
+        self.is_clean(function)
+    }
+
+    /// Finds the functions of types.
+    pub fn find_types(&mut self, catalogue: &Catalogue) -> Result<(), AllocError> {
+        let program: &'a Program = self.program;
+        let mut types = catalogue.typical(self.alloc, program)?;
+        add_aliases(program, &mut types);
+        self.set_types(types.as_slice())?;
+        for function in 0..program.function_count {
+            if !is_marked(types.as_slice(), function) && self.is_other_type(catalogue, function)? {
+                mark(&mut types, function);
+            }
+        }
+        self.set_types(types.as_slice())
+    }
+
+    /// The functions that a name leads to.
+    pub fn reached(&self, catalogue: &Catalogue, target: Target) -> Result<Vec<usize>, AllocError> {
+        let mut seen = marks(self.alloc, self.program.function_count)?;
+        let mut waiting = Vec::new(self.alloc);
+        match target {
+            Target::Function(function) => waiting.push(function)?,
+            Target::Builtin(Builtin::CallType) => self.add_types(&mut waiting)?,
+            _ => {}
+        }
+        let mut reached = Vec::new(self.alloc);
+        for _ in 0..u64::MAX {
+            let Some(function) = waiting.pop() else {
+                return Ok(reached);
+            };
+            if !is_marked(seen.as_slice(), function) {
+                mark(&mut seen, function);
+                reached.push(function)?;
+                self.add_mentioned(catalogue, function, &mut waiting)?;
+            }
+        }
+        Ok(reached)
+    }
+
+    /// Adds the functions of all types.
+    pub fn add_types(&self, waiting: &mut Vec<usize>) -> Result<(), AllocError> {
+        waiting.extend_from_slice(self.types.as_slice())?;
+        if let Some(function) = self.program.default_type {
+            waiting.push(function)?;
+        }
+        Ok(())
+    }
+
+    fn add_mentioned(
+        &self,
+        catalogue: &Catalogue,
+        function: usize,
+        waiting: &mut Vec<usize>,
+    ) -> Result<(), AllocError> {
+        let Some(mentions) = catalogue.mentions.get(function) else {
+            return Ok(());
+        };
+        for (other, is_named) in mentions.functions.iter().enumerate() {
+            if *is_named {
+                waiting.push(other)?;
+            }
+        }
+        if mentions.calls_type {
+            self.add_types(waiting)?;
+        }
+        Ok(())
+    }
+
+    fn set_types(&mut self, types: &[bool]) -> Result<(), AllocError> {
+        let mut list = Vec::new(self.alloc);
+        for (function, is_type) in types.iter().enumerate() {
+            if *is_type && self.program.default_type != Some(function) {
+                list.push(function)?;
+            }
+        }
+        self.types = list;
+        Ok(())
+    }
+}

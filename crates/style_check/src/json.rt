@@ -1,0 +1,200 @@
+//! The findings as JSON, an object a line.
+
+use crate::report::{Checked, decimal};
+use bt_check::{Call, Condition, Fault, Hint};
+use bt_text::Bytes;
+use std::alloc::{AllocError, Global};
+
+/// Lines of JSON.
+#[derive(Drop)]
+struct Lines<'a> {
+    checked: &'a Checked<'a>,
+    text: Bytes,
+}
+
+/// The digit of a number below 16.
+fn hex(number: u8) -> u8 {
+    if number < 10 {
+        b'0'.saturating_add(number)
+    } else {
+        (b'a' - 10).saturating_add(number)
+    }
+}
+
+/// Appends a byte of a string: as it is, if JSON allows that.
+fn append_byte(text: &mut Bytes, byte: u8, is_plain: bool) -> Result<(), AllocError> {
+    match byte {
+        b'"' => text.append(b"\\\""),
+        b'\\' => text.append(b"\\\\"),
+        b' '..=b'~' => text.append(&[byte]),
+        _ => {
+            if is_plain && byte > b'~' {
+                text.append(&[byte])
+            } else {
+                text.append(b"\\u00")?;
+                text.append(&[hex(byte / 16), hex(byte % 16)])
+            }
+        }
+    }
+}
+
+/// Appends bytes as a string. Those that aren't UTF-8 are taken for Latin-1.
+fn append_string(text: &mut Bytes, bytes: &[u8]) -> Result<(), AllocError> {
+    let is_plain = std::str::from_utf8(bytes).is_ok();
+    text.append(b"\"")?;
+    for byte in bytes {
+        append_byte(text, *byte, is_plain)?;
+    }
+    text.append(b"\"")
+}
+
+impl<'a> Lines<'a> {
+    /// Begins a member of the object: `before` is what separates it from the one before.
+    fn member<'x>(&mut self, before: &'x [u8], name: &'x [u8]) -> Result<(), AllocError> {
+        self.text.append_all(&[before, b"\"", name, b"\":"])
+    }
+
+    fn string(&mut self, before: &[u8], name: &[u8], value: &[u8]) -> Result<(), AllocError> {
+        self.member(before, name)?;
+        append_string(&mut self.text, value)
+    }
+
+    fn number(&mut self, before: &[u8], name: &[u8], value: usize) -> Result<(), AllocError> {
+        let value = decimal(self.checked.alloc, value)?;
+        self.member(before, name)?;
+        self.text.append(value.as_slice())
+    }
+
+    /// Begins the object of a finding.
+    fn begin(
+        &mut self,
+        line: usize,
+        severity: &[u8],
+        code: &[u8],
+        words: &[u8],
+    ) -> Result<(), AllocError> {
+        self.string(b"{", b"file", self.checked.path.as_bytes())?;
+        self.number(b",", b"line", line)?;
+        self.string(b",", b"severity", severity)?;
+        self.string(b",", b"code", code)?;
+        self.string(b",", b"message", words)
+    }
+
+    fn calls(&mut self, calls: &[Call]) -> Result<(), AllocError> {
+        self.member(b",", b"calls")?;
+        let mut before: &[u8] = b"[{";
+        for call in calls.iter().rev() {
+            let name = self.checked.function_name(call.function);
+            self.string(before, b"function", name)?;
+            self.number(b",", b"line", call.line)?;
+            self.text.append(b"}")?;
+            before = b",{";
+        }
+        self.end_list(before == b"[{".as_slice())
+    }
+
+    fn end_list(&mut self, is_empty: bool) -> Result<(), AllocError> {
+        if is_empty {
+            self.text.append(b"[]")
+        } else {
+            self.text.append(b"]")
+        }
+    }
+
+    fn fields(&mut self, conditions: &[Condition]) -> Result<(), AllocError> {
+        self.member(b",", b"fields")?;
+        let mut before: &[u8] = b"[{";
+        for condition in conditions {
+            let name = self.checked.field_name(condition.field);
+            self.string(before, b"field", name)?;
+            self.string(b",", b"state", condition.state.word())?;
+            self.text.append(b"}")?;
+            before = b",{";
+        }
+        self.end_list(before == b"[{".as_slice())
+    }
+
+    fn fault(&mut self, fault: &Fault, witness: Option<&'a Bytes>) -> Result<(), AllocError> {
+        self.begin(
+            fault.line,
+            b"error",
+            fault.kind.code(),
+            fault.words.as_slice(),
+        )?;
+        self.calls(fault.calls.as_slice())?;
+        if let Some(function) = fault.step.entry_type {
+            let name = self.checked.function_name(function);
+            self.string(b",", b"type", name)?;
+        }
+        self.fields(fault.conditions.as_slice())?;
+        if let Some(entry) = witness {
+            self.string(b",", b"try", entry.as_slice())?;
+        }
+        self.text.append(b"}\n")
+    }
+
+    fn hint(&mut self, hint: &Hint) -> Result<(), AllocError> {
+        self.begin(
+            hint.line,
+            b"warning",
+            hint.rule.code(),
+            hint.words.as_slice(),
+        )?;
+        self.text.append(b"}\n")
+    }
+
+    fn types(&mut self) -> Result<(), AllocError> {
+        let checked: &'a Checked<'a> = self.checked;
+        self.member(b",", b"types")?;
+        let mut before: &[u8] = b"[";
+        for function in &checked.findings.types {
+            self.text.append(before)?;
+            append_string(&mut self.text, checked.function_name(*function))?;
+            before = b",";
+        }
+        self.end_list(before == b"[".as_slice())
+    }
+
+    /// The last line of a style.
+    fn end(&mut self) -> Result<(), AllocError> {
+        self.string(b"{", b"file", self.checked.path.as_bytes())?;
+        self.string(b",", b"result", self.checked.result())?;
+        if self.checked.shows_types {
+            self.types()?;
+        }
+        self.text.append(b"}\n")
+    }
+}
+
+/// The lines about a style that was checked.
+pub fn objects<'a>(checked: &'a Checked<'a>) -> Result<Bytes, AllocError> {
+    let mut lines = Lines {
+        checked,
+        text: Bytes::new(checked.alloc),
+    };
+    for (place, fault) in checked.findings.faults.iter().enumerate() {
+        lines.fault(fault, checked.witness(place))?;
+    }
+    for hint in &checked.hints {
+        lines.hint(hint)?;
+    }
+    lines.end()?;
+    Ok(lines.text)
+}
+
+/// The lines about a style that can't be read.
+pub fn refused(alloc: Global, path: &str, line: usize, words: &[u8]) -> Result<Bytes, AllocError> {
+    let mut text = Bytes::of(alloc, &[b"{\"file\":"])?;
+    append_string(&mut text, path.as_bytes())?;
+    let line = decimal(alloc, line)?;
+    text.append_all(&[
+        b",\"line\":",
+        line.as_slice(),
+        b",\"severity\":\"error\",\"code\":\"read\",\"message\":",
+    ])?;
+    append_string(&mut text, words)?;
+    text.append(b"}\n{\"file\":")?;
+    append_string(&mut text, path.as_bytes())?;
+    text.append(b",\"result\":\"unreadable\"}\n")?;
+    Ok(text)
+}

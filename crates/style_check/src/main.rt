@@ -1,0 +1,196 @@
+//! The program `bibtex-check`, which finds what databases can make a style do wrong.
+#![tactic(auto)]
+
+mod filling;
+mod json;
+mod options;
+mod report;
+mod witness;
+
+use crate::options::{Format, Options, Request, parse};
+use crate::report::{Checked, UNKNOWN};
+use crate::witness::witnesses;
+use bt_check::{check, lint};
+use bt_style::{Style, StyleRefusal, read_style};
+use bt_text::Bytes;
+use std::alloc::{AllocError, Global};
+use std::io::{ErrorKind, Read, Write};
+use std::process::ExitCode;
+use std::{env, fs};
+
+/// How many steps the analysis of a style may take: most styles take less than a tenth of them.
+const WORK: u64 = 2_000_000;
+
+const VERSION: &str = "0.9.0";
+
+const HELP: &str = "\
+usage: bibtex-check [--lint] [--types] [--format=text|json] STYLE..
+
+Finds what some database can make a style do wrong. It needs no database. STYLE is the file of
+a style, such as plain.bst.
+
+  --lint          also name what the style defines and doesn't use, and what it lacks
+  --types         also list the entry types that the check takes for the style's
+  --format=json   print a JSON object a line
+  --version       print the version
+  --help          print this
+
+Exit status: 0 if nothing was found, 1 for findings of --lint alone, 2 for faults, 3 if a style
+can't be read or the analysis gave up, or if the command line is wrong. That no fault was found
+isn't a proof.";
+
+fn read_file(rt: &HostRuntime, path: &str) -> Option<Bytes> {
+    let mut file = fs::open(rt, path).ok()?;
+    let mut bytes = Vec::new(rt.alloc());
+    file.read_to_end(&mut bytes).ok()?;
+    Some(Bytes::from_vec(bytes))
+}
+
+/// What is printed of a style, and its exit status.
+type Printed = (Bytes, u8);
+
+fn check_style<'a>(
+    alloc: Global,
+    path: &'a str,
+    text: &[u8],
+    style: &'a Style,
+    options: Options,
+) -> Result<Checked<'a>, AllocError> {
+    let findings = check(alloc, style, text, WORK)?;
+    let witnesses = witnesses(alloc, style, text, findings.faults.as_slice())?;
+    let hints = if options.lints {
+        lint(alloc, style, text, &findings)?
+    } else {
+        Vec::new(alloc)
+    };
+    Ok(Checked {
+        alloc,
+        path,
+        style,
+        findings,
+        witnesses,
+        hints,
+        shows_types: options.shows_types,
+    })
+}
+
+fn print_style<'a>(
+    alloc: Global,
+    path: &'a str,
+    text: &[u8],
+    style: &'a Style,
+    options: Options,
+) -> Result<Printed, AllocError> {
+    let checked = check_style(alloc, path, text, style, options)?;
+    let status = checked.status();
+    let printed = match options.format {
+        Format::Text => report::in_words(&checked)?,
+        Format::Json => json::objects(&checked)?,
+    };
+    Ok((printed, status))
+}
+
+fn print_refusal(
+    alloc: Global,
+    path: &str,
+    line: usize,
+    words: &[u8],
+    options: Options,
+) -> Result<Printed, AllocError> {
+    let printed = match options.format {
+        Format::Text => report::refused(alloc, path, line, words)?,
+        Format::Json => json::refused(alloc, path, line, words)?,
+    };
+    Ok((printed, UNKNOWN))
+}
+
+fn print_text(
+    alloc: Global,
+    path: &str,
+    text: &[u8],
+    options: Options,
+) -> Result<Printed, AllocError> {
+    match read_style(alloc, text) {
+        Ok(style) => print_style(alloc, path, text, &style, options),
+        Err(StyleRefusal::Fault { kind, line }) => {
+            print_refusal(alloc, path, line, kind.words(), options)
+        }
+        Err(StyleRefusal::OutOfMemory) => Err(AllocError),
+    }
+}
+
+fn check_file(rt: &HostRuntime, path: &str, options: Options) -> Result<u8, AllocError> {
+    let Some(text) = read_file(rt, path) else {
+        let _ = eprintln!(rt; "bibtex-check: can't read {path}");
+        return Ok(UNKNOWN);
+    };
+    let (printed, status) = print_text(rt.alloc(), path, text.as_slice(), options)?;
+    let mut out = rt.stdout();
+    let _ = out.write_all(printed.as_slice());
+    Ok(status)
+}
+
+/// The highest exit status of the styles.
+fn check_files(rt: &HostRuntime, options: Options, paths: &[&str]) -> Result<u8, AllocError> {
+    let mut status = 0;
+    for path in paths {
+        status = check_file(rt, *path, options)?.max(status);
+    }
+    Ok(status)
+}
+
+/// The words of the command line; none if they aren't UTF-8. The one error is out of memory.
+fn words(rt: &HostRuntime) -> Result<Option<Vec<String>>, AllocError> {
+    match env::args(rt) {
+        Ok(args) => {
+            let words: Result<Vec<String>, AllocError> = args.collect(rt.alloc());
+            Ok(Some(words?))
+        }
+        Err(fault) if fault.kind() == ErrorKind::OutOfMemory => Err(AllocError),
+        Err(_) => Ok(None),
+    }
+}
+
+fn refuse(rt: &HostRuntime, request: &Request<'_>) -> u8 {
+    let _ = match request {
+        Request::UnknownOption(word) => eprintln!(rt;
+            "bibtex-check: there is no option {word}; bibtex-check --help shows all"
+        ),
+        _ => eprintln!(rt;
+            "bibtex-check: name a style, as in bibtex-check plain.bst; bibtex-check --help shows more"
+        ),
+    };
+    UNKNOWN
+}
+
+/// Does what the command line asks for, and tells the exit status.
+fn answer(rt: &HostRuntime) -> Result<u8, AllocError> {
+    let Some(words) = words(rt)? else {
+        let _ = eprintln!(rt; "bibtex-check: the command line isn't UTF-8");
+        return Ok(UNKNOWN);
+    };
+    match parse(rt.alloc(), words.as_slice())? {
+        Request::Check(options, paths) => check_files(rt, options, paths.as_slice()),
+        Request::Help => {
+            let _ = println!(rt; "{HELP}");
+            Ok(0)
+        }
+        Request::Version => {
+            let _ = println!(rt; "dulshenko {VERSION}");
+            Ok(0)
+        }
+        request => Ok(refuse(rt, &request)),
+    }
+}
+
+fn out_of_memory(rt: &HostRuntime) -> ExitCode {
+    let _ = eprintln!(rt; "bibtex-check: out of memory");
+    ExitCode::from(UNKNOWN)
+}
+
+fn main(rt: HostRuntime) -> ExitCode {
+    match answer(&rt) {
+        Ok(status) => ExitCode::from(status),
+        Err(_) => out_of_memory(&rt),
+    }
+}

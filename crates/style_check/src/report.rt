@@ -1,0 +1,258 @@
+//! What is known of a style that was checked, and the report for people.
+
+use bt_check::{Fault, Findings, Hint};
+use bt_style::Style;
+use bt_text::Bytes;
+use std::alloc::{AllocError, Global};
+
+/// A style that was checked.
+#[derive(Drop)]
+pub struct Checked<'a> {
+    pub alloc: Global,
+    pub path: &'a str,
+    pub style: &'a Style,
+    pub findings: Findings,
+    /// For each fault an entry that triggers it, if one was found.
+    pub witnesses: Vec<Option<Bytes>>,
+    pub hints: Vec<Hint>,
+    pub shows_types: bool,
+}
+
+/// The exit status if only the lint found something.
+const HINTS: u8 = 1;
+/// The exit status if a style has a fault.
+const FAULTS: u8 = 2;
+/// The exit status if a style can't be read, or the analysis gave up.
+pub const UNKNOWN: u8 = 3;
+
+/// A number in decimal.
+pub fn decimal(alloc: Global, number: usize) -> Result<Bytes, AllocError> {
+    Bytes::copied(alloc, format!(in alloc; "{number}")?.as_bytes())
+}
+
+impl<'a> Checked<'a> {
+    pub fn function_name(&self, function: usize) -> &'a [u8] {
+        let style: &'a Style = self.style;
+        match style.functions.as_slice().get(function) {
+            Some(function) => function.name.as_slice(),
+            None => b"",
+        }
+    }
+
+    pub fn field_name(&self, field: usize) -> &'a [u8] {
+        let style: &'a Style = self.style;
+        match style.fields.as_slice().get(field) {
+            Some(name) => name.as_slice(),
+            None => b"",
+        }
+    }
+
+    /// An entry that triggers the fault of this place.
+    pub fn witness(&self, place: usize) -> Option<&Bytes> {
+        match self.witnesses.get(place) {
+            Some(Some(entry)) => Some(entry),
+            _ => None,
+        }
+    }
+
+    /// What the check came to.
+    pub fn result(&self) -> &'static [u8] {
+        if self.findings.gave_up {
+            b"gave up"
+        } else if self.findings.faults.is_empty() {
+            b"no fault found"
+        } else {
+            b"faults"
+        }
+    }
+
+    pub fn status(&self) -> u8 {
+        if self.findings.gave_up {
+            UNKNOWN
+        } else if !self.findings.faults.is_empty() {
+            FAULTS
+        } else if !self.hints.is_empty() {
+            HINTS
+        } else {
+            0
+        }
+    }
+}
+
+/// A report.
+#[derive(Drop)]
+struct Report<'a> {
+    checked: &'a Checked<'a>,
+    text: Bytes,
+}
+
+/// The report about a style that can't be read.
+pub fn refused(alloc: Global, path: &str, line: usize, words: &[u8]) -> Result<Bytes, AllocError> {
+    let mut text = Bytes::new(alloc);
+    add_head(alloc, &mut text, path, line, b"error", b"read")?;
+    text.append_all(&[words, b"\n"])?;
+    Ok(text)
+}
+
+/// Begins the first line of a finding.
+fn add_head<'x>(
+    alloc: Global,
+    text: &mut Bytes,
+    path: &'x str,
+    line: usize,
+    severity: &'x [u8],
+    code: &'x [u8],
+) -> Result<(), AllocError> {
+    let line = decimal(alloc, line)?;
+    text.append_all(&[
+        path.as_bytes(),
+        b":",
+        line.as_slice(),
+        b": ",
+        severity,
+        b"[",
+        code,
+        b"]: ",
+    ])
+}
+
+impl<'a> Report<'a> {
+    fn begin(
+        &mut self,
+        line: usize,
+        severity: &[u8],
+        code: &[u8],
+        words: &[u8],
+    ) -> Result<(), AllocError> {
+        let checked: &'a Checked<'a> = self.checked;
+        add_head(
+            checked.alloc,
+            &mut self.text,
+            checked.path,
+            line,
+            severity,
+            code,
+        )?;
+        self.text.append_all(&[words, b"\n"])
+    }
+
+    fn add_calls(&mut self, fault: &Fault) -> Result<(), AllocError> {
+        let mut between: &[u8] = b"    in ";
+        for call in fault.calls.iter().rev() {
+            let line = decimal(self.checked.alloc, call.line)?;
+            let name = self.checked.function_name(call.function);
+            self.text
+                .append_all(&[between, name, b":", line.as_slice()])?;
+            between = b" < ";
+        }
+        if between == b" < ".as_slice() {
+            self.text.append(b"\n")?;
+        }
+        Ok(())
+    }
+
+    /// Adds a word of a line, and what separates it from the one before.
+    fn add_word<'x>(
+        &mut self,
+        between: &'x [u8],
+        first: &'x [u8],
+        second: &'x [u8],
+    ) -> Result<(), AllocError> {
+        self.text.append_all(&[between, first, second])
+    }
+
+    fn add_conditions(&mut self, fault: &Fault) -> Result<(), AllocError> {
+        let mut between: &[u8] = b"    when ";
+        if let Some(function) = fault.step.entry_type {
+            let name = self.checked.function_name(function);
+            self.add_word(between, b"@", name)?;
+            between = b", ";
+        }
+        for condition in &fault.conditions {
+            let name = self.checked.field_name(condition.field);
+            self.add_word(between, name, b" ")?;
+            self.text.append(condition.state.word())?;
+            between = b", ";
+        }
+        if between == b", ".as_slice() {
+            self.text.append(b"\n")?;
+        }
+        Ok(())
+    }
+
+    /// Adds an entry that triggers the fault, or that none was found.
+    fn add_witness(&mut self, witness: Option<&Bytes>) -> Result<(), AllocError> {
+        match witness {
+            Some(entry) => self
+                .text
+                .append_all(&[b"    try ", entry.as_slice(), b"\n"]),
+            None => self.text.append(b"    no entry to try was found\n"),
+        }
+    }
+
+    fn fault(&mut self, fault: &Fault, witness: Option<&Bytes>) -> Result<(), AllocError> {
+        self.begin(
+            fault.line,
+            b"error",
+            fault.kind.code(),
+            fault.words.as_slice(),
+        )?;
+        self.add_calls(fault)?;
+        self.add_conditions(fault)?;
+        if fault.step.is_of_entries {
+            self.add_witness(witness)?;
+        }
+        Ok(())
+    }
+
+    fn hint(&mut self, hint: &Hint) -> Result<(), AllocError> {
+        self.begin(
+            hint.line,
+            b"warning",
+            hint.rule.code(),
+            hint.words.as_slice(),
+        )
+    }
+
+    /// Adds what the check came to, unless faults say it.
+    fn end(&mut self) -> Result<(), AllocError> {
+        let findings = &self.checked.findings;
+        if findings.gave_up || findings.faults.is_empty() {
+            let checked: &'a Checked<'a> = self.checked;
+            self.add_word(checked.path.as_bytes(), b": ", checked.result())?;
+            self.text.append(b"\n")?;
+        }
+        Ok(())
+    }
+
+    /// Adds the types that the check took for the style's.
+    fn types(&mut self) -> Result<(), AllocError> {
+        let checked: &'a Checked<'a> = self.checked;
+        self.text
+            .append_all(&[checked.path.as_bytes(), b": types:"])?;
+        for function in &checked.findings.types {
+            let name = checked.function_name(*function);
+            self.text.append_all(&[b" ", name])?;
+        }
+        self.text.append(b"\n")
+    }
+}
+
+/// The report about a style that was checked.
+pub fn in_words<'a>(checked: &'a Checked<'a>) -> Result<Bytes, AllocError> {
+    let mut report = Report {
+        checked,
+        text: Bytes::new(checked.alloc),
+    };
+    for (place, fault) in checked.findings.faults.iter().enumerate() {
+        report.fault(fault, checked.witness(place))?;
+    }
+    for hint in &checked.hints {
+        report.hint(hint)?;
+    }
+    report.end()?;
+    if checked.shows_types {
+        report.types()?;
+    }
+    Ok(report.text)
+}
