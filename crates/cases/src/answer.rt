@@ -1,7 +1,82 @@
-//! An answer as it is put together: texts to base 16, `-` for the empty one.
+//! An answer as it is put together, and how values are spelled in it: texts to base 16, `-` for the empty one, numbers to
+//! base 10, `.` for what isn't there.
 
-use bt_text::Bytes;
+use bt_text::{Bytes, Shared};
 use std::alloc::{AllocError, Global};
+use std::fmt::Display;
+
+/// What has a spelling in an answer.
+pub trait Spelled {
+    fn spell(&self, out: &mut Answer);
+}
+
+/// Puts the spellings of values after an answer.
+macro_rules! put {
+    ($out:expr; $($value:expr),+) => {{ $( $value.spell($out); )+ }};
+}
+
+pub(crate) use put;
+
+/// Bytes as they are.
+#[derive(Clone, Copy)]
+pub struct Raw<'a>(pub &'a [u8]);
+
+impl Spelled for Raw<'_> {
+    fn spell(&self, out: &mut Answer) {
+        out.put(self.0);
+    }
+}
+
+impl Spelled for &str {
+    fn spell(&self, out: &mut Answer) {
+        out.put(self.as_bytes());
+    }
+}
+
+impl Spelled for &[u8] {
+    fn spell(&self, out: &mut Answer) {
+        let digits = b"0123456789abcdef";
+        if self.is_empty() {
+            out.put(b"-");
+        }
+        for byte in self.iter() {
+            out.put(&[digits[(*byte / 16) as usize], digits[(*byte % 16) as usize]]);
+        }
+    }
+}
+
+impl Spelled for Bytes {
+    fn spell(&self, out: &mut Answer) {
+        self.as_slice().spell(out);
+    }
+}
+
+impl Spelled for Shared<Bytes> {
+    fn spell(&self, out: &mut Answer) {
+        self.as_slice().spell(out);
+    }
+}
+
+impl Spelled for bool {
+    fn spell(&self, out: &mut Answer) {
+        out.put(if *self { b"true" } else { b"false" });
+    }
+}
+
+impl Spelled for usize {
+    fn spell(&self, out: &mut Answer) {
+        out.shown(self);
+    }
+}
+
+impl<T: Spelled> Spelled for Option<T> {
+    fn spell(&self, out: &mut Answer) {
+        match self {
+            Some(value) => value.spell(out),
+            None => out.put(b"."),
+        }
+    }
+}
 
 /// An answer as it is put together. Whether memory ran out is told at the end.
 #[derive(Drop)]
@@ -30,60 +105,41 @@ impl Answer {
         }
     }
 
-    pub fn number(&mut self, n: i32) {
-        match format!(in self.alloc; "{n}") {
-            Ok(digits) => self.put(digits.as_bytes()),
+    /// Puts a value as `format!` shows it.
+    pub fn shown<T: Display>(&mut self, value: &T) {
+        match format!(in self.alloc; "{value}") {
+            Ok(words) => self.put(words.as_bytes()),
             Err(AllocError) => self.is_out_of_memory = true,
         }
     }
 
-    pub fn count(&mut self, n: usize) {
-        self.line(n as u128);
-    }
-
-    /// A line of a message to base 10.
-    pub fn line(&mut self, n: u128) {
-        match format!(in self.alloc; "{n}") {
-            Ok(digits) => self.put(digits.as_bytes()),
-            Err(AllocError) => self.is_out_of_memory = true,
-        }
-    }
-
-    pub fn spelled(&mut self, bytes: &[u8]) {
-        let digits = b"0123456789abcdef";
-        if bytes.is_empty() {
-            self.put(b"-");
-        }
-        for byte in bytes {
-            self.put(&[digits[(*byte / 16) as usize], digits[(*byte % 16) as usize]]);
-        }
-    }
-
-    /// Puts a sign after what is there, before each of several things but the first.
-    pub fn separator(&mut self, place: usize, sign: &[u8]) {
+    /// Puts a sign before each of several things but the first.
+    pub fn separator(&mut self, place: usize, sign: &str) {
         if 0 < place {
-            self.put(sign);
+            self.put(sign.as_bytes());
         }
     }
 
-    pub fn truth(&mut self, is_true: bool) {
-        self.put(if is_true { b"true" } else { b"false" });
+    /// Puts a sign before more, if anything is there.
+    pub fn more(&mut self, sign: &str) {
+        let place = self.bytes.len();
+        self.separator(place, sign);
     }
 
-    pub fn list(&mut self, texts: &[Bytes]) {
-        self.put(b"[");
-        for (place, text) in texts.iter().enumerate() {
-            self.separator(place, b",");
-            self.spelled(text.as_slice());
-        }
-        self.put(b"]");
+    /// Puts a value as a word of its own.
+    pub fn word<T: Spelled + Drop>(&mut self, value: T) {
+        self.more(" ");
+        value.spell(self);
     }
 
-    /// Puts a space after the words that are there, if there are any.
-    pub fn space(&mut self) {
-        if !self.is_empty() {
-            self.put(b" ");
+    /// Puts values with a sign between them.
+    pub fn list<T: Spelled>(&mut self, begin: &str, values: &[T], sign: &str, end: &str) {
+        begin.spell(self);
+        for (place, value) in values.iter().enumerate() {
+            self.separator(place, sign);
+            value.spell(self);
         }
+        end.spell(self);
     }
 
     /// The whole answer, unless memory ran out.

@@ -1,49 +1,75 @@
-//! Cases of `.aux` files: what is asked for from a root on, nested files in their places, and what the log says.
+//! Cases of `.aux` texts: the lines that count, and what is asked for from a root on, nested files in their places.
 
-use crate::answer::Answer;
+use crate::Done;
+use crate::answer::{Answer, Spelled, put};
 use crate::logs::push_log;
-use crate::spelling::{part_at, shared_text, word_at};
-use bt_job::{AuxTexts, Citations, File, read_citations};
+use crate::words::Words;
+use bt_bib::{AuxFault, AuxItem, Command, read_aux};
+use bt_job::{AuxTexts, File, read_citations};
 use bt_text::{Bytes, Shared};
-use std::alloc::{AllocError, Global};
+use std::alloc::AllocError;
 
-/// The file of a word: its name, a colon, and its text to base 16.
-fn file(alloc: Global, word: &str) -> Result<File, AllocError> {
-    let name = Shared::<Bytes>::copied(alloc, part_at(word, 0).as_bytes())?;
-    let text = shared_text(alloc, part_at(word, 1))?;
-    Ok(File { name, text })
+fn command_name(command: Command) -> &'static str {
+    match command {
+        Command::Citation => " Citation [",
+        Command::Database => " Database [",
+        Command::Style => " Style [",
+        Command::Nested => " Nested [",
+    }
 }
 
-fn files(alloc: Global, case: &str) -> Result<Vec<File>, AllocError> {
-    let mut files = Vec::new(alloc);
-    for word in case.split_whitespace().skip(2) {
-        files.push(file(alloc, word)?)?;
+fn fault_name(fault: Option<AuxFault>) -> &'static str {
+    match fault {
+        None => "] .",
+        Some(AuxFault::NoBrace) => "] NoBrace",
+        Some(AuxFault::WhiteSpace) => "] WhiteSpace",
+        Some(AuxFault::StuffAfter) => "] StuffAfter",
+    }
+}
+
+impl Spelled for AuxItem {
+    fn spell(&self, out: &mut Answer) {
+        put!(out; self.line);
+        let parts = self.parts.as_slice();
+        out.list(
+            command_name(self.command),
+            parts,
+            ",",
+            fault_name(self.fault),
+        );
+    }
+}
+
+fn push_lines(words: Words<'_>, out: &mut Answer) -> Done {
+    let items = read_aux(words.alloc, &words.text(1)?)?;
+    let begin = if items.len() == 0 { "." } else { "" };
+    out.list(begin, items.as_slice(), " ; ", "");
+    Ok(())
+}
+
+/// The files of a case, each a word of its name and its text.
+fn files(words: Words<'_>) -> Result<Vec<File>, AllocError> {
+    let mut files = Vec::new(words.alloc);
+    for word in words.after(2) {
+        let parts = words.parts(word);
+        let name = Shared::<Bytes>::copied(words.alloc, parts.word(0).as_bytes())?;
+        let text = parts.shared(1)?;
+        files.push(File { name, text })?;
     }
     Ok(files)
 }
 
-fn push_told(alloc: Global, out: &mut Answer, citations: &Citations) -> Result<(), AllocError> {
-    out.count(citations.keys.as_slice().len());
-    out.put(b" keys, ");
-    out.count(citations.databases.len());
-    out.put(b" databases, ");
-    out.count(citations.wanted.len());
-    out.put(b" wanted, status ");
-    push_log(alloc, out, citations.log.as_slice())
+fn push_asked(words: Words<'_>, out: &mut Answer, files: &[File]) -> Done {
+    let root = words.word(1).as_bytes();
+    let asked = read_citations(words.alloc, files, root, &mut AuxTexts::new(words.alloc))?;
+    put!(out; asked.keys.as_slice().len(), " keys, ", asked.databases.len(), " databases, ");
+    put!(out; asked.wanted.len(), " wanted, status ");
+    push_log(words, out, asked.log.as_slice())
 }
 
-fn push_told_of_files(
-    alloc: Global,
-    out: &mut Answer,
-    files: &[File],
-    root: &str,
-) -> Result<(), AllocError> {
-    let citations = read_citations(alloc, files, root.as_bytes(), &mut AuxTexts::new(alloc))?;
-    push_told(alloc, out, &citations)
-}
-
-/// Puts the answer of a case after `out`: what is asked for by its files from a root on.
-pub fn push_answer(alloc: Global, out: &mut Answer, case: &str) -> Result<(), AllocError> {
-    let files = files(alloc, case)?;
-    push_told_of_files(alloc, out, files.as_slice(), word_at(case, 1))
+pub fn push_answer(words: Words<'_>, out: &mut Answer) -> Done {
+    match words.word(0) {
+        "read_aux" => push_lines(words, out),
+        _ => push_asked(words, out, &files(words)?),
+    }
 }

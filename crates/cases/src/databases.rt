@@ -1,54 +1,59 @@
-//! Cases of databases: their items, each with its span, what was read of it, and its fault; and those of a text that
-//! was spliced, from the items that it had.
+//! Cases of databases: their items, each with its span, what was read of it, and its fault; and where a database can be
+//! cut into parts.
 
-use crate::answer::Answer;
-use crate::spelling::{text_at, word_at};
+ghost use Rattle.std.specs.Prelude.{◌≡◌};
+ghost use Rattle.bt_bib.specs.BibText.{pieces_of};
+
+use crate::Done;
+use crate::answer::{Answer, Spelled, put};
+use crate::words::Words;
 use bt_bib::{
-    Closing, Content, Definition, Entry, Field, Item, ItemFault, Items, NameRole, Part, Piece,
-    PlacedPiece, read_bib,
+    Closing, Content, Entry, Item, ItemFault, Items, NameRole, Part, Piece, PlacedPiece, is_closed,
+    read_bib, split_places,
 };
-use bt_text::{Bytes, Sequence, Shared};
+use bt_text::{Bytes, Sequence};
 use std::alloc::{AllocError, Global};
 
-fn what_word(what: NameRole) -> &'static [u8] {
-    match what {
-        NameRole::EntryType => b":type",
-        NameRole::StringName => b":string_name",
-        NameRole::FieldName => b":field_name",
-        NameRole::FieldPart => b":field_part",
+fn role_word(role: NameRole) -> &'static str {
+    match role {
+        NameRole::EntryType => "type",
+        NameRole::StringName => "string_name",
+        NameRole::FieldName => "field_name",
+        NameRole::FieldPart => "field_part",
     }
 }
 
-fn fault_word(fault: ItemFault) -> &'static [u8] {
+fn fault_word(fault: ItemFault) -> &'static str {
     match fault {
-        ItemFault::EndOfFile => b"EndOfFile:",
-        ItemFault::MissingName(_) => b"MissingName:",
-        ItemFault::BadNameEnd(_, _) => b"BadNameEnd:",
-        ItemFault::ExpectedOpen => b"ExpectedOpen:",
-        ItemFault::ExpectedCommaOrClose => b"ExpectedCommaOrClose:",
-        ItemFault::ExpectedEquals => b"ExpectedEquals:",
-        ItemFault::UnbalancedBraces => b"UnbalancedBraces:",
-        ItemFault::MissingPart => b"MissingPart:",
+        ItemFault::EndOfFile => "EndOfFile:",
+        ItemFault::MissingName(_) => "MissingName:",
+        ItemFault::BadNameEnd(_, _) => "BadNameEnd:",
+        ItemFault::ExpectedOpen => "ExpectedOpen:",
+        ItemFault::ExpectedCommaOrClose => "ExpectedCommaOrClose:",
+        ItemFault::ExpectedEquals => "ExpectedEquals:",
+        ItemFault::UnbalancedBraces => "UnbalancedBraces:",
+        ItemFault::MissingPart => "MissingPart:",
     }
 }
 
-fn closing_words(close: Option<Closing>) -> &'static [u8] {
+fn closing_words(close: Option<Closing>) -> &'static str {
     match close {
-        Some(Closing::Brace) => b" close=} fields=[",
-        Some(Closing::Parenthesis) => b" close=) fields=[",
-        None => b" close=. fields=[",
+        Some(Closing::Brace) => " close=} fields=[",
+        Some(Closing::Parenthesis) => " close=) fields=[",
+        None => " close=. fields=[",
     }
 }
 
+/// Items as they are spelled. Their lines count from that of their piece.
 #[derive(Drop)]
-struct Spelled {
+struct Listing {
     from: usize,
     out: Answer,
 }
 
-impl Spelled {
-    fn new(alloc: Global) -> Spelled {
-        Spelled {
+impl Listing {
+    fn new(alloc: Global) -> Listing {
+        Listing {
             from: 0,
             out: Answer::new(alloc),
         }
@@ -62,133 +67,83 @@ impl Spelled {
         out.end()
     }
 
-    fn line(&mut self, line: usize) {
-        self.out.count(self.from.saturating_add(line));
-    }
-
-    fn text(&mut self, label: &[u8], text: &Option<Shared<Bytes>>) {
-        self.out.put(label);
-        match text {
-            Some(text) => self.out.spelled(text.as_slice()),
-            None => self.out.put(b"."),
-        }
-    }
-
-    fn name_and_line(&mut self, name: &Bytes, line: usize) {
-        self.out.spelled(name.as_slice());
-        self.out.put(b":");
-        self.line(line);
-    }
-
-    fn part(&mut self, part: &Part) {
-        match part {
-            Part::Text(text) => {
-                self.out.put(b"text:");
-                self.out.spelled(text.as_slice());
-            }
-            Part::Macro(name, line) => {
-                self.out.put(b"macro:");
-                self.name_and_line(name, *line);
-            }
-        }
+    fn name(&mut self, name: &Bytes, line: usize) {
+        put!(&mut self.out; *name, ":", self.from.saturating_add(line));
     }
 
     fn parts(&mut self, parts: &Sequence<Part>) {
-        self.out.put(b"(");
         for (place, part) in parts.as_slice().iter().enumerate() {
-            self.out.separator(place, b" ");
-            self.part(part);
+            self.out.separator(place, " ");
+            match part {
+                Part::Text(text) => put!(&mut self.out; "text:", *text),
+                Part::Macro(name, line) => {
+                    put!(&mut self.out; "macro:");
+                    self.name(name, *line);
+                }
+            }
         }
-        self.out.put(b")");
     }
 
     fn value(&mut self, value: &Option<Sequence<Part>>) {
         match value {
-            Some(parts) => self.parts(parts),
-            None => self.out.put(b"."),
+            Some(parts) => {
+                put!(&mut self.out; "(");
+                self.parts(parts);
+                put!(&mut self.out; ")");
+            }
+            None => put!(&mut self.out; "."),
         }
     }
 
-    fn field(&mut self, field: &Field) {
-        self.name_and_line(&field.name, field.line);
-        self.out.put(b":");
-        self.parts(&field.value);
-    }
-
-    fn fields(&mut self, fields: &Sequence<Field>) {
-        for (place, field) in fields.as_slice().iter().enumerate() {
-            self.out.separator(place, b",");
-            self.field(field);
+    fn entry(&mut self, entry: &Entry, close: &str) {
+        put!(&mut self.out; "Entry type=", entry.kind, " key=", entry.key, close);
+        for (place, field) in entry.fields.as_slice().iter().enumerate() {
+            self.out.separator(place, ",");
+            self.name(&field.name, field.line);
+            put!(&mut self.out; ":(");
+            self.parts(&field.value);
+            put!(&mut self.out; ")");
         }
+        put!(&mut self.out; "] value=.");
     }
 
     fn content(&mut self, item: &Item) {
         let close = closing_words(item.close);
         match &item.content {
             Content::Entry(entry) => self.entry(entry, close),
-            Content::Define(definition) => self.definition(definition, close),
+            Content::Define(definition) => {
+                put!(&mut self.out; "Define type=. key=", definition.name, close, "] value=");
+                self.value(&definition.value);
+            }
             Content::Preamble(value) => {
-                self.out.put(b"Preamble type=. key=.");
-                self.out.put(close);
-                self.out.put(b"] value=");
+                put!(&mut self.out; "Preamble type=. key=.", close, "] value=");
                 self.value(value);
             }
         }
     }
 
-    fn entry(&mut self, entry: &Entry, close: &[u8]) {
-        self.text(b"Entry type=", &entry.kind);
-        self.text(b" key=", &entry.key);
-        self.out.put(close);
-        self.fields(&entry.fields);
-        self.out.put(b"] value=.");
-    }
-
-    fn definition(&mut self, definition: &Definition, close: &[u8]) {
-        self.text(b"Define type=. key=", &definition.name);
-        self.out.put(close);
-        self.out.put(b"] value=");
-        self.value(&definition.value);
-    }
-
     fn fault(&mut self, fault: ItemFault, line: usize) {
-        self.out.put(fault_word(fault));
-        self.out.count(line);
-        self.cause(fault);
-    }
-
-    fn cause(&mut self, fault: ItemFault) {
+        put!(&mut self.out; fault_word(fault), line, ":");
         match fault {
-            ItemFault::BadNameEnd(what, byte) => {
-                self.out.put(b":");
-                self.out.spelled(&[byte]);
-                self.out.put(what_word(what));
+            ItemFault::BadNameEnd(role, byte) => {
+                put!(&mut self.out; [byte].as_slice(), ":", role_word(role));
             }
-            ItemFault::MissingName(what) => {
-                self.out.put(b":.");
-                self.out.put(what_word(what));
-            }
-            ItemFault::MissingPart => self.out.put(b":.:field_part"),
-            _ => self.out.put(b":.:."),
+            ItemFault::MissingName(role) => put!(&mut self.out; ".:", role_word(role)),
+            ItemFault::MissingPart => put!(&mut self.out; ".:field_part"),
+            _ => put!(&mut self.out; ".:."),
         }
     }
 
-    fn span(&mut self, placed: &PlacedPiece, item: &Item) {
-        self.out.count(placed.start.place);
-        self.out.put(b"..");
-        self.out.count(placed.end.place);
-        self.out.put(b" line=");
-        self.line(item.line);
-        self.out.put(b" ");
-    }
-
     fn item(&mut self, placed: &PlacedPiece, item: &Item) {
-        self.span(placed, item);
+        self.from = placed.start.line;
+        let line = self.from.saturating_add(item.line);
+        self.out.more(" ; ");
+        put!(&mut self.out; placed.start.place, "..", placed.end.place, " line=", line, " ");
         self.content(item);
-        self.out.put(b" fault=");
+        put!(&mut self.out; " fault=");
         match item.fault {
             Some(fault) => self.fault(fault, placed.end.line),
-            None => self.out.put(b"."),
+            None => put!(&mut self.out; "."),
         }
     }
 
@@ -196,38 +151,29 @@ impl Spelled {
         if let Piece::Item(item) = &*placed.piece
             && let Some(fault) = item.fault
         {
-            self.out.count(placed.end.place);
-            self.out.put(b" ");
+            put!(&mut self.out; placed.end.place, " ");
             self.fault(fault, placed.end.line);
         }
     }
-
-    /// An item after others, with ` ; ` before it; a comment word is left out.
-    fn piece(&mut self, placed: &PlacedPiece) {
-        self.from = placed.start.line;
-        if let Piece::Item(item) = &*placed.piece {
-            if !self.out.is_empty() {
-                self.out.put(b" ; ");
-            }
-            self.item(placed, item);
-        }
-    }
 }
 
+/// The items, without comments.
 pub fn spelled_items(alloc: Global, items: &Items) -> Result<Bytes, AllocError> {
-    let mut spelled = Spelled::new(alloc);
+    let mut listing = Listing::new(alloc);
     for placed in items.pieces() {
-        spelled.piece(placed);
+        if let Piece::Item(item) = &*placed.piece {
+            listing.item(placed, item);
+        }
     }
-    spelled.end()
+    listing.end()
 }
 
 fn last_fault(alloc: Global, items: &Items) -> Result<Bytes, AllocError> {
-    let mut spelled = Spelled::new(alloc);
+    let mut listing = Listing::new(alloc);
     if let Some(placed) = items.pieces().last() {
-        spelled.last_fault(placed);
+        listing.last_fault(placed);
     }
-    spelled.end()
+    listing.end()
 }
 
 fn item_count(items: &Items) -> usize {
@@ -240,17 +186,30 @@ fn item_count(items: &Items) -> usize {
     count
 }
 
-fn push_told(alloc: Global, out: &mut Answer, items: &Items, call: &str) -> Result<(), AllocError> {
-    match call {
-        "item_count" => out.count(item_count(items)),
-        "last_fault" => out.put(last_fault(alloc, items)?.as_slice()),
-        _ => out.put(spelled_items(alloc, items)?.as_slice()),
+/// Where a text is cut into parts of so many bytes.
+fn push_cuts(words: Words<'_>, out: &mut Answer, text: &[u8], items: &Items) -> Done
+    requires { items.now ≡ pieces_of text.now }
+{
+    let cuts = split_places(words.alloc, text, items, words.count(2))?;
+    out.list(if cuts.is_empty() { "." } else { "" }, &cuts, " ", "");
+    Ok(())
+}
+
+fn push_told(words: Words<'_>, out: &mut Answer, text: &[u8], items: &Items) -> Done
+    requires { items.now ≡ pieces_of text.now }
+{
+    match words.word(0) {
+        "item_count" => put!(out; item_count(items)),
+        "last_fault" => out.put(last_fault(words.alloc, items)?.as_slice()),
+        "split_places" => push_cuts(words, out, text, items)?,
+        "is_closed" => put!(out; is_closed(text, items)),
+        _ => out.put(spelled_items(words.alloc, items)?.as_slice()),
     }
     Ok(())
 }
 
-/// Puts the answer of a case after `out`: the items of a text, how many there are, or the last one's fault.
-pub fn push_answer(alloc: Global, out: &mut Answer, case: &str) -> Result<(), AllocError> {
-    let items = read_bib(alloc, &text_at(alloc, case, 1)?)?;
-    push_told(alloc, out, &items, word_at(case, 0))
+pub fn push_answer(words: Words<'_>, out: &mut Answer) -> Done {
+    let text = words.text(1)?;
+    let items = read_bib(words.alloc, &text)?;
+    push_told(words, out, &text, &items)
 }

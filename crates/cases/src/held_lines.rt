@@ -1,105 +1,81 @@
 //! Cases of the held line: scripts of what is done with it.
 
-use crate::answer::Answer;
-use crate::spelling::unspelled;
+use crate::Done;
+use crate::answer::{Answer, Spelled, put};
+use crate::words::Words;
 use bt_text::{Bytes, Held, HeldFault, Sequence};
-use std::alloc::{AllocError, Global};
+use std::alloc::AllocError;
 
-fn write_bytes(
-    alloc: Global,
-    text: &[u8],
-    line: &mut Held,
-    lines: &mut Sequence<Bytes>,
-) -> Result<(), HeldFault> {
+/// The held line, and the lines before it.
+#[derive(Drop)]
+struct Page {
+    line: Held,
+    lines: Sequence<Bytes>,
+}
+
+fn write_bytes(step: Words<'_>, page: &mut Page, text: &[u8]) -> Result<(), HeldFault> {
     for byte in text {
-        line.write(alloc, &[*byte], lines)?;
+        page.line.write(step.alloc, &[*byte], &mut page.lines)?;
     }
     Ok(())
 }
 
-fn carry_out(
-    alloc: Global,
-    op: &str,
-    line: &mut Held,
-    lines: &mut Sequence<Bytes>,
-) -> Result<(), HeldFault> {
-    match op.split_once(':') {
-        Some(("write", word)) => line.write(alloc, &unspelled(alloc, word)?, lines),
-        Some((_, word)) => write_bytes(alloc, &unspelled(alloc, word)?, line, lines),
-        None => line.newline(alloc, lines),
+/// Ends the line, or writes a text, as a whole or byte by byte.
+fn carry_out(step: Words<'_>, page: &mut Page) -> Result<(), HeldFault> {
+    let text = step.text(1)?;
+    match step.word(0) {
+        "newline" => page.line.newline(step.alloc, &mut page.lines),
+        "write" => page.line.write(step.alloc, &text, &mut page.lines),
+        _ => write_bytes(step, page, &text),
     }
 }
 
-fn carry_out_all(
-    alloc: Global,
-    case: &str,
-    line: &mut Held,
-    lines: &mut Sequence<Bytes>,
-) -> Result<Option<usize>, AllocError> {
-    for (place, op) in case.split_whitespace().skip(1).enumerate() {
-        match carry_out(alloc, op, line, lines) {
+/// The lines and the held line after all steps, or which step was too long.
+fn push_end(words: Words<'_>, out: &mut Answer, page: &mut Page) -> Done {
+    for (place, word) in words.after(1).enumerate() {
+        match carry_out(words.parts(word), page) {
             Ok(()) => {}
-            Err(HeldFault::TooLong) => return Ok(Some(place)),
+            Err(HeldFault::TooLong) => {
+                put!(out; "TooLong ", place);
+                return Ok(());
+            }
             Err(HeldFault::OutOfMemory) => return Err(AllocError),
         }
     }
-    Ok(None)
-}
-
-fn push_shown(out: &mut Answer, line: &Held, lines: &Sequence<Bytes>) {
-    out.list(lines.as_slice());
-    out.put(b" ");
-    out.spelled(line.bytes());
-}
-
-/// Puts the answer of a case `held` after `out`: the lines and the held line after all that is done, or where it
-/// stopped.
-pub fn push_held(alloc: Global, out: &mut Answer, case: &str) -> Result<(), AllocError> {
-    let mut line = Held::new(alloc);
-    let mut lines = Sequence::new(alloc);
-    match carry_out_all(alloc, case, &mut line, &mut lines)? {
-        Some(place) => {
-            out.put(b"TooLong ");
-            out.count(place);
-        }
-        None => push_shown(out, &line, &lines),
-    }
+    out.list("[", page.lines.as_slice(), ",", "] ");
+    put!(out; page.line.bytes());
     Ok(())
 }
 
-/// Puts after `out` what is told of one word of a script: how many bytes are held, how many a copy has, how many lines
-/// there are, or whether what is done is too long.
-fn push_told(
-    alloc: Global,
-    out: &mut Answer,
-    op: &str,
-    line: &mut Held,
-    lines: &mut Sequence<Bytes>,
-) -> Result<(), AllocError> {
-    out.space();
-    match op {
-        "bytes" => out.count(line.bytes().len()),
-        "copied" => out.count(line.copy(alloc)?.bytes().len()),
-        "lines" => out.count(lines.len()),
-        _ => match carry_out(alloc, op, line, lines) {
-            Ok(()) => out.put(b"ok"),
-            Err(HeldFault::TooLong) => out.put(b"TooLong"),
+/// How many bytes are held, how many a copy has, how many lines there are, or whether a step is too long.
+fn push_told(step: Words<'_>, out: &mut Answer, page: &mut Page) -> Done {
+    match step.word(0) {
+        "bytes" => out.word(page.line.bytes().len()),
+        "copied" => out.word(page.line.copy(step.alloc)?.bytes().len()),
+        "lines" => out.word(page.lines.len()),
+        _ => match carry_out(step, page) {
+            Ok(()) => out.word("ok"),
+            Err(HeldFault::TooLong) => out.word("TooLong"),
             Err(HeldFault::OutOfMemory) => return Err(AllocError),
         },
     }
     Ok(())
 }
 
-/// Puts the answer of a case `held_step_by_step` after `out`: what is told of each word of a script, parted by spaces.
-pub fn push_held_step_by_step(
-    alloc: Global,
-    out: &mut Answer,
-    case: &str,
-) -> Result<(), AllocError> {
-    let mut line = Held::new(alloc);
-    let mut lines = Sequence::new(alloc);
-    for op in case.split_whitespace().skip(1) {
-        push_told(alloc, out, op, &mut line, &mut lines)?;
+fn push_each(words: Words<'_>, out: &mut Answer, page: &mut Page) -> Done {
+    for word in words.after(1) {
+        push_told(words.parts(word), out, page)?;
     }
     Ok(())
+}
+
+pub fn push_answer(words: Words<'_>, out: &mut Answer) -> Done {
+    let mut page = Page {
+        line: Held::new(words.alloc),
+        lines: Sequence::new(words.alloc),
+    };
+    match words.word(0) {
+        "held" => push_end(words, out, &mut page),
+        _ => push_each(words, out, &mut page),
+    }
 }

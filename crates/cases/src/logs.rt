@@ -1,10 +1,11 @@
 //! Cases of logs, and of the lines of a bibliography.
 
-use crate::answer::Answer;
-use crate::spelling::{shared_text, unspelled};
+use crate::Done;
+use crate::answer::{Answer, Spelled, put};
+use crate::words::Words;
 use bt_log::{Message, Rank, lines_bytes, log_bytes, status, terse_bytes};
 use bt_text::{Bytes, Sequence, Shared};
-use std::alloc::{AllocError, Global};
+use std::alloc::AllocError;
 
 fn rank_of(word: &str) -> Rank {
     match word {
@@ -17,51 +18,43 @@ fn rank_of(word: &str) -> Rank {
     }
 }
 
-pub fn push_log(alloc: Global, out: &mut Answer, log: &[Message]) -> Result<(), AllocError> {
-    out.count(status(log) as usize);
-    out.put(b" ");
-    out.spelled(log_bytes(alloc, log)?.as_slice());
+/// The status and the bytes of a log.
+pub fn push_log(words: Words<'_>, out: &mut Answer, log: &[Message]) -> Done {
+    put!(out; (status(log) as usize), " ", log_bytes(words.alloc, log)?);
     Ok(())
 }
 
-fn message(alloc: Global, word: &str) -> Result<Message, AllocError> {
-    let (rank, words) = word.split_once(':').unwrap_or((word, ""));
-    Message::of(alloc, rank_of(rank), &[&unspelled(alloc, words)?])
-}
-
 /// A log of messages, each a word of its rank and text.
-fn log_of(alloc: Global, case: &str) -> Result<Sequence<Message>, AllocError> {
-    let mut log = Sequence::new(alloc);
-    for word in case.split_whitespace().skip(1) {
-        log.push(message(alloc, word)?)?;
+fn log_of(words: Words<'_>) -> Result<Sequence<Message>, AllocError> {
+    let mut log = Sequence::new(words.alloc);
+    for word in words.after(1) {
+        let message = words.parts(word);
+        let rank = rank_of(message.word(0));
+        log.push(Message::of(words.alloc, rank, &[&message.text(1)?])?)?;
     }
     Ok(log)
 }
 
-fn push_both_logs(alloc: Global, out: &mut Answer, log: &[Message]) -> Result<(), AllocError> {
-    push_log(alloc, out, log)?;
-    out.put(b" ");
-    out.spelled(terse_bytes(alloc, log)?.as_slice());
-    Ok(())
-}
-
-/// Puts the answer of a case `log` after `out`: the status, the bytes and the terse ones of a log.
-pub fn push_log_answer(alloc: Global, out: &mut Answer, case: &str) -> Result<(), AllocError> {
-    let log = log_of(alloc, case)?;
-    push_both_logs(alloc, out, log.as_slice())
-}
-
-fn lines_of(alloc: Global, case: &str) -> Result<Vec<Shared<Bytes>>, AllocError> {
-    let mut lines = Vec::new(alloc);
-    for word in case.split_whitespace().skip(1) {
-        lines.push(shared_text(alloc, word)?)?;
+fn lines_of(words: Words<'_>) -> Result<Vec<Shared<Bytes>>, AllocError> {
+    let mut lines = Vec::new(words.alloc);
+    for word in words.after(1) {
+        lines.push(words.parts(word).shared(0)?)?;
     }
     Ok(lines)
 }
 
-/// Puts the answer of a case `lines` after `out`: the bytes of some lines.
-pub fn push_lines_answer(alloc: Global, out: &mut Answer, case: &str) -> Result<(), AllocError> {
-    let bytes = lines_bytes(alloc, &lines_of(alloc, case)?)?;
-    out.spelled(bytes.as_slice());
+fn push_both_logs(words: Words<'_>, out: &mut Answer, log: &[Message]) -> Done {
+    push_log(words, out, log)?;
+    put!(out; " ", terse_bytes(words.alloc, log)?);
     Ok(())
+}
+
+pub fn push_answer(words: Words<'_>, out: &mut Answer) -> Done {
+    match words.word(0) {
+        "log" => push_both_logs(words, out, log_of(words)?.as_slice()),
+        _ => {
+            put!(out; lines_bytes(words.alloc, &lines_of(words)?)?);
+            Ok(())
+        }
+    }
 }

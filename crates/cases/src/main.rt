@@ -5,82 +5,71 @@
 
 mod answer;
 mod aux_files;
-mod aux_lines;
 mod databases;
-mod fault_names;
+mod faults;
 mod held_lines;
 mod logs;
 mod name_tables;
 mod names;
-mod parts;
-mod reaches;
 mod resolved;
 mod sequences;
 mod sparse_texts;
-mod spelling;
 mod splices;
-mod style_faults;
 mod styles;
 mod texts;
 mod values;
+mod words;
 
 use answer::Answer;
 use bt_text::Bytes;
-use spelling::word_at;
 use std::alloc::{AllocError, Global};
 use std::io;
 use std::io::{BufRead, BufReader, BufWriter, Write};
+use words::Words;
 
-fn push_answer_of_texts(alloc: Global, out: &mut Answer, case: &str) -> Result<(), AllocError> {
-    match word_at(case, 0) {
-        "held" => held_lines::push_held(alloc, out, case),
-        "held_step_by_step" => held_lines::push_held_step_by_step(alloc, out, case),
-        "name_list" => name_tables::push_list_answer(alloc, out, case),
-        "name_table" => name_tables::push_table_answer(alloc, out, case),
-        "joined" => sequences::push_joined(alloc, out, case),
-        "appended" => sequences::push_appended(alloc, out, case),
-        "sequence" => sequences::push_listed(alloc, out, case),
-        "sparse_texts" => sparse_texts::push_answer(alloc, out, case),
-        "no_values" | "values" => values::push_answer(alloc, out, case),
-        "values_copied" => values::push_copy_answer(alloc, out, case),
-        "values_of_texts" => values::push_texts_answer(alloc, out, case),
-        _ => texts::push_answer(alloc, out, case),
+/// Whether an answer could be given: the error is that memory ran out.
+pub type Done = Result<(), AllocError>;
+
+fn push_answer_of_texts(words: Words<'_>, out: &mut Answer) -> Done {
+    match words.word(0) {
+        "held" | "held_step_by_step" => held_lines::push_answer(words, out),
+        "name_list" => name_tables::push_list_answer(words, out),
+        "name_table" => name_tables::push_table_answer(words, out),
+        "joined" | "appended" | "sequence" => sequences::push_answer(words, out),
+        "sparse_texts" => sparse_texts::push_answer(words, out),
+        "no_values" | "values" | "values_copied" | "values_of_texts" => {
+            values::push_answer(words, out)
+        }
+        _ => texts::push_answer(words, out),
     }
 }
 
-fn push_answer_of_parts(alloc: Global, out: &mut Answer, case: &str) -> Result<(), AllocError> {
-    match word_at(case, 0) {
-        "count" | "parts" | "format" | "format_within" => names::push_answer(alloc, out, case),
-        "read_style" => styles::push_answer(alloc, out, case),
-        "first_fault" | "fault_words" => style_faults::push_first_fault(alloc, out, case),
-        "beginnings" => style_faults::push_count_of_beginnings(alloc, out, case),
-        "chain" => style_faults::push_chain_answer(alloc, out, case),
-        "reach" | "reached" => reaches::push_answer(alloc, out, case),
-        "log" => logs::push_log_answer(alloc, out, case),
-        "lines" => logs::push_lines_answer(alloc, out, case),
-        "fault_names" => fault_names::push_answer(alloc, out, case),
-        _ => push_answer_of_texts(alloc, out, case),
-    }
-}
-
-/// Puts the answer of a case after `out`: of files and entries, or of a part of them.
-fn push_answer(alloc: Global, out: &mut Answer, case: &str) -> Result<(), AllocError> {
-    match word_at(case, 0) {
-        "read_aux" => aux_lines::push_answer(alloc, out, case),
-        "read_citations" => aux_files::push_answer(alloc, out, case),
-        "read_bib" | "item_count" | "last_fault" => databases::push_answer(alloc, out, case),
-        "respliced" => splices::push_answer_at(alloc, out, case),
-        "respliced_anywhere" => splices::push_answer_anywhere(alloc, out, case),
-        "split_places" => parts::push_answer(alloc, out, case),
-        "is_closed" => parts::push_closed(alloc, out, case),
-        "resolve" => resolved::push_answer(alloc, out, case),
-        _ => push_answer_of_parts(alloc, out, case),
+/// Puts the answer of a case after `out`.
+fn push_answer(words: Words<'_>, out: &mut Answer) -> Done {
+    match words.word(0) {
+        "read_aux" | "read_citations" => aux_files::push_answer(words, out),
+        "read_bib" | "item_count" | "last_fault" | "split_places" | "is_closed" => {
+            databases::push_answer(words, out)
+        }
+        "respliced" | "respliced_anywhere" => splices::push_answer(words, out),
+        "resolve" => resolved::push_answer(words, out),
+        "count" | "parts" | "format" | "format_within" => names::push_answer(words, out),
+        "read_style"
+        | "first_fault"
+        | "fault_words"
+        | "beginnings"
+        | "chain"
+        | "reach"
+        | "reached" => styles::push_answer(words, out),
+        "log" | "lines" => logs::push_answer(words, out),
+        "fault_names" => faults::push_answer(words, out),
+        _ => push_answer_of_texts(words, out),
     }
 }
 
 fn answer_of(alloc: Global, case: &str) -> Result<Bytes, AllocError> {
     let mut out = Answer::new(alloc);
-    push_answer(alloc, &mut out, case)?;
+    push_answer(Words::of(alloc, case), &mut out)?;
     out.end()
 }
 

@@ -1,114 +1,60 @@
 //! Cases of names: how many a text lists, the parts of one, and one in a pattern, within a limit too.
 
-use crate::answer::Answer;
-use crate::spelling::{number_at, place_at, text_at, word_at};
+use crate::Done;
+use crate::answer::{Answer, Spelled, put};
+use crate::words::Words;
 use bt_names::{
     FormatFault, Formatted, NameFault, Parts, Token, count, format, format_within, parts,
 };
-use bt_text::Sequence;
-use std::alloc::{AllocError, Global};
+use std::alloc::AllocError;
 
-fn push_token(out: &mut Answer, token: &Token) {
-    out.spelled(&[token.before]);
-    out.put(b":");
-    out.spelled(token.text.as_slice());
-}
-
-fn push_part(out: &mut Answer, name: &[u8], tokens: &Sequence<Token>) {
-    out.put(name);
-    out.put(b"=[");
-    for (place, token) in tokens.as_slice().iter().enumerate() {
-        out.separator(place, b",");
-        push_token(out, token);
+impl Spelled for Token {
+    fn spell(&self, out: &mut Answer) {
+        put!(out; [self.before].as_slice(), ":", self.text);
     }
-    out.put(b"]");
 }
 
 fn push_parts(out: &mut Answer, parts: &Parts) {
-    push_part(out, b"first", &parts.first);
-    push_part(out, b" von", &parts.von);
-    push_part(out, b" last", &parts.last);
-    push_part(out, b" jr", &parts.jr);
+    out.list("first=[", parts.first.as_slice(), ",", "]");
+    out.list(" von=[", parts.von.as_slice(), ",", "]");
+    out.list(" last=[", parts.last.as_slice(), ",", "]");
+    out.list(" jr=[", parts.jr.as_slice(), ",", "]");
 }
 
-fn push_parts_answer(
-    alloc: Global,
-    out: &mut Answer,
-    names: &[u8],
-    n: i32,
-) -> Result<(), AllocError> {
-    match parts(alloc, names, n) {
+fn push_parts_answer(words: Words<'_>, out: &mut Answer, names: &[u8]) -> Done {
+    match parts(words.alloc, names, words.number(2)) {
         Ok(parts) => push_parts(out, &parts),
-        Err(NameFault::NoSuchName) => out.put(b"NoSuchName"),
-        Err(NameFault::TooManyCommas) => out.put(b"TooManyCommas"),
         Err(NameFault::OutOfMemory) => return Err(AllocError),
+        Err(fault) => out.shown(&fault),
     }
     Ok(())
 }
 
-fn push_fault(out: &mut Answer, fault: FormatFault) -> Result<(), AllocError> {
-    match fault {
-        FormatFault::NoSuchName => out.put(b"NoSuchName"),
-        FormatFault::TooManyCommas => out.put(b"TooManyCommas"),
-        FormatFault::PatternFault(place) => {
-            out.put(b"PatternFault ");
-            out.count(place);
-        }
-        FormatFault::OutOfMemory => return Err(AllocError),
+fn formatted(words: Words<'_>, names: &[u8]) -> Result<Formatted, FormatFault> {
+    let (alloc, n, pattern) = (words.alloc, words.number(2), words.text(3)?);
+    match words.word(0) {
+        "format" => Ok(Formatted::Text(format(alloc, names, n, &pattern)?)),
+        _ => format_within(alloc, names, n, &pattern, words.count(4)),
+    }
+}
+
+fn push_formatted(words: Words<'_>, out: &mut Answer, names: &[u8]) -> Done {
+    match formatted(words, names) {
+        Ok(Formatted::Text(text)) => put!(out; text),
+        Ok(Formatted::Longer) => put!(out; "longer"),
+        Err(FormatFault::PatternFault(place)) => put!(out; "PatternFault ", place),
+        Err(FormatFault::OutOfMemory) => return Err(AllocError),
+        Err(fault) => out.shown(&fault),
     }
     Ok(())
 }
 
-fn push_format_answer(
-    alloc: Global,
-    out: &mut Answer,
-    names: &[u8],
-    n: i32,
-    pattern: &[u8],
-) -> Result<(), AllocError> {
-    match format(alloc, names, n, pattern) {
-        Ok(text) => out.spelled(text.as_slice()),
-        Err(fault) => push_fault(out, fault)?,
-    }
-    Ok(())
-}
-
-fn push_format_within_answer(
-    alloc: Global,
-    out: &mut Answer,
-    names: &[u8],
-    n: i32,
-    pattern: &[u8],
-    limit: usize,
-) -> Result<(), AllocError> {
-    match format_within(alloc, names, n, pattern, limit) {
-        Ok(Formatted::Text(text)) => out.spelled(text.as_slice()),
-        Ok(Formatted::Longer) => out.put(b"longer"),
-        Err(fault) => push_fault(out, fault)?,
-    }
-    Ok(())
-}
-
-fn push_formatted(
-    alloc: Global,
-    out: &mut Answer,
-    names: &[u8],
-    case: &str,
-) -> Result<(), AllocError> {
-    let pattern = text_at(alloc, case, 3)?;
-    let n = number_at(case, 2);
-    match word_at(case, 0) {
-        "format" => push_format_answer(alloc, out, names, n, &pattern),
-        _ => push_format_within_answer(alloc, out, names, n, &pattern, place_at(case, 4)),
-    }
-}
-
-pub fn push_answer(alloc: Global, out: &mut Answer, case: &str) -> Result<(), AllocError> {
-    let names = text_at(alloc, case, 1)?;
-    match word_at(case, 0) {
-        "count" => out.count(count(&names)),
-        "parts" => push_parts_answer(alloc, out, &names, number_at(case, 2))?,
-        _ => push_formatted(alloc, out, &names, case)?,
+pub fn push_answer(words: Words<'_>, out: &mut Answer) -> Done {
+    let names = words.text(1)?;
+    match words.word(0) {
+        "count" => put!(out; count(&names)),
+        "parts" => push_parts_answer(words, out, &names)?,
+        _ => push_formatted(words, out, &names)?,
     }
     Ok(())
 }

@@ -4,8 +4,9 @@
 ghost use Rattle.std.specs.Prelude.{◌≡◌, ◌≤◌, [], ◌∷◌, codes, length, IfOk, IfSome, IsTrue};
 ghost use Rattle.bt_text.specs.NameList.{are_apart};
 
-use crate::answer::Answer;
-use crate::spelling::{place_at, unspelled, word_at};
+use crate::Done;
+use crate::answer::{Answer, Raw, Spelled, put};
+use crate::words::Words;
 use bt_bib::{Items, read_bib};
 use bt_log::{Message, Place, Rank, Said};
 use bt_resolve::{Cites, Declared, Entry, Macro, Resolved, resolve};
@@ -22,17 +23,14 @@ fn fields(alloc: Global) -> Result<Sequence<Bytes>, AllocError>
 }
 
 fn types(alloc: Global) -> Result<Sequence<Bytes>, AllocError> {
-    let mut types = Sequence::new(alloc);
-    types.push(Bytes::copied(alloc, b"misc")?)?;
-    Ok(types)
+    let kind = Bytes::copied(alloc, b"misc")?;
+    Ok(Sequence::from_vec(vec![in alloc; kind]?))
 }
 
 fn macros(alloc: Global) -> Result<Sequence<Macro>, AllocError> {
     let name = Bytes::copied(alloc, b"s")?;
     let value = Bytes::copied(alloc, b"S")?;
-    let mut macros = Sequence::new(alloc);
-    macros.push(Macro { name, value })?;
-    Ok(macros)
+    Ok(Sequence::from_vec(vec![in alloc; Macro { name, value }]?))
 }
 
 fn declared(alloc: Global) -> Result<Declared, AllocError>
@@ -77,72 +75,49 @@ fn star_within(star: Option<usize>, keys: &NameList) -> Option<usize>
     }
 }
 
-/// Puts the end of a line after what stands there.
-fn push_end(out: &mut Answer) {
-    if !out.is_empty() {
-        out.put(b" ; ");
-    }
-}
-
-fn push_fields(out: &mut Answer, entry: &Entry) {
-    for place in 0..entry.fields.len() {
-        match entry.fields.get(place) {
-            None => out.put(b" -"),
-            Some(text) => {
-                out.put(b" [");
-                out.put(text.as_slice());
-                out.put(b"]");
+impl Spelled for Entry {
+    fn spell(&self, out: &mut Answer) {
+        put!(out; Raw(self.key.as_slice()), " ", Raw(self.kind.as_slice()));
+        if let Some(function) = self.function {
+            put!(out; " ", function);
+        }
+        for place in 0..self.fields.len() {
+            match self.fields.get(place) {
+                None => put!(out; " -"),
+                Some(text) => put!(out; " [", Raw(text.as_slice()), "]"),
             }
         }
     }
 }
 
-fn push_entry(out: &mut Answer, entry: &Entry) {
-    push_end(out);
-    out.put(entry.key.as_slice());
-    out.put(b" ");
-    out.put(entry.kind.as_slice());
-    if let Some(function) = entry.function {
-        out.put(b" ");
-        out.count(function);
-    }
-    push_fields(out, entry);
-}
-
-fn push_message(out: &mut Answer, message: &Message) {
-    push_end(out);
-    match message.rank {
-        Rank::Error => out.put(b"error "),
-        _ => out.put(b"warning "),
-    }
-    if let Some(Place::DatabaseLine { database, line, .. }) = &message.place {
-        out.count(*database);
-        out.put(b":");
-        out.line(*line);
-        out.put(b" ");
-    }
-    match &message.said {
-        Said::Words(words) => out.put(words.as_slice()),
-        Said::OfFile { file, .. } => out.put(file.as_slice()),
-    }
-    if let Some(second) = &message.second {
-        out.put(b" | ");
-        out.put(second.as_slice());
+impl Spelled for Message {
+    fn spell(&self, out: &mut Answer) {
+        put!(out; if self.rank == Rank::Error { "error " } else { "warning " });
+        if let Some(Place::DatabaseLine { database, line, .. }) = &self.place {
+            put!(out; *database, ":");
+            out.shown(line);
+            put!(out; " ");
+        }
+        match &self.said {
+            Said::Words(words) => put!(out; Raw(words.as_slice())),
+            Said::OfFile { file, .. } => put!(out; Raw(file.as_slice())),
+        }
+        if let Some(second) = &self.second {
+            put!(out; " | ", Raw(second.as_slice()));
+        }
     }
 }
 
 fn push_resolved(out: &mut Answer, resolved: &Resolved) {
-    for entry in resolved.entries.as_slice() {
-        push_entry(out, entry);
-    }
+    out.list("", resolved.entries.as_slice(), " ; ", "");
     if resolved.preamble.len() > 0 {
-        push_end(out);
-        out.put(b"preamble ");
-        out.put(resolved.preamble.as_slice());
+        out.more(" ; ");
+        put!(out; "preamble ", Raw(resolved.preamble.as_slice()));
     }
-    for message in resolved.messages.as_slice() {
-        push_message(out, message);
+    if resolved.messages.len() > 0 {
+        out.more(" ; ");
     }
+    out.list("", resolved.messages.as_slice(), " ; ", "");
 }
 
 fn cites_of(alloc: Global, word: &str) -> Result<Cites, AllocError>
@@ -155,46 +130,33 @@ fn cites_of(alloc: Global, word: &str) -> Result<Cites, AllocError>
     Ok(Cites { keys, star })
 }
 
+/// Puts what the keys give, with these items of two databases.
 fn push_told(
-    alloc: Global,
+    words: Words<'_>,
     out: &mut Answer,
     declared: &Declared,
     cites: &Cites,
     databases: &[&Items],
-    min: u32,
-) -> Result<(), AllocError>
+) -> Done
     requires fields { IsTrue (are_apart declared.now.fields) }
     requires star { IfSome cites.now.star (λ before. before ≤ length cites.now.keys) }
 {
-    let resolved = resolve(alloc, declared, cites, databases, min)?;
-    push_resolved(out, &resolved);
+    let min = words.count(2).min(65_535) as u32;
+    push_resolved(out, &resolve(words.alloc, declared, cites, databases, min)?);
     Ok(())
 }
 
-fn items(alloc: Global, word: &str) -> Result<Items, AllocError> {
-    let text = unspelled(alloc, word)?;
-    read_bib(alloc, &text)
-}
-
-fn push_told_of_case(
-    alloc: Global,
-    out: &mut Answer,
-    declared: &Declared,
-    cites: &Cites,
-    case: &str,
-) -> Result<(), AllocError>
+/// Reads the two databases of a case.
+fn push_read(words: Words<'_>, out: &mut Answer, declared: &Declared, cites: &Cites) -> Done
     requires fields { IsTrue (are_apart declared.now.fields) }
     requires star { IfSome cites.now.star (λ before. before ≤ length cites.now.keys) }
 {
-    let min = place_at(case, 2).min(65_535) as u32;
-    let first = items(alloc, word_at(case, 3))?;
-    let second = items(alloc, word_at(case, 4))?;
-    push_told(alloc, out, declared, cites, &[&first, &second], min)
+    let first = read_bib(words.alloc, &words.text(3)?)?;
+    let second = read_bib(words.alloc, &words.text(4)?)?;
+    push_told(words, out, declared, cites, &[&first, &second])
 }
 
-/// Puts the answer of a case after `out`: what its keys and its two databases give.
-pub fn push_answer(alloc: Global, out: &mut Answer, case: &str) -> Result<(), AllocError> {
-    let cites = cites_of(alloc, word_at(case, 1))?;
-    let declared = declared(alloc)?;
-    push_told_of_case(alloc, out, &declared, &cites, case)
+pub fn push_answer(words: Words<'_>, out: &mut Answer) -> Done {
+    let cites = cites_of(words.alloc, words.word(1))?;
+    push_read(words, out, &declared(words.alloc)?, &cites)
 }

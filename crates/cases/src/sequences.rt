@@ -1,38 +1,32 @@
 //! Cases of byte texts and lists: scripts of what is done with one.
 
-use crate::answer::Answer;
-use crate::spelling::{number_in, part_at, unspelled};
+use crate::Done;
+use crate::answer::{Answer, Spelled, put};
+use crate::words::Words;
 use bt_text::{Bytes, Sequence};
-use std::alloc::{AllocError, Global};
+use std::alloc::AllocError;
 
-fn texts_of(alloc: Global, case: &str) -> Result<Vec<Vec<u8>>, AllocError> {
-    let mut texts = Vec::new(alloc);
-    for word in case.split_whitespace().skip(1) {
-        texts.push(unspelled(alloc, word)?)?;
+fn texts_of(words: Words<'_>) -> Result<Vec<Vec<u8>>, AllocError> {
+    let mut texts = Vec::new(words.alloc);
+    for word in words.after(1) {
+        texts.push(Words::of(words.alloc, word).text(0)?)?;
     }
     Ok(texts)
 }
 
-fn joined(alloc: Global, texts: &[Vec<u8>]) -> Result<Bytes, AllocError> {
-    let mut pieces = Vec::new(alloc);
+fn joined(words: Words<'_>, texts: &[Vec<u8>]) -> Result<Bytes, AllocError> {
+    let mut pieces = Vec::new(words.alloc);
     for text in texts {
         pieces.push(text.as_slice())?;
     }
-    Bytes::of(alloc, &pieces)
+    Bytes::of(words.alloc, &pieces)
 }
 
-/// Puts the answer of a case `joined` after `out`: its texts, joined in one call.
-pub fn push_joined(alloc: Global, out: &mut Answer, case: &str) -> Result<(), AllocError> {
-    let text = joined(alloc, &texts_of(alloc, case)?)?;
-    out.spelled(text.as_slice());
-    Ok(())
-}
-
-fn appended(alloc: Global, texts: &[Vec<u8>]) -> Result<Bytes, AllocError> {
-    let mut text = Bytes::new(alloc);
+fn appended(words: Words<'_>, texts: &[Vec<u8>]) -> Result<Bytes, AllocError> {
+    let mut text = Bytes::new(words.alloc);
     for (place, more) in texts.iter().enumerate() {
         if place == 0 {
-            text = Bytes::copied(alloc, more)?;
+            text = Bytes::copied(words.alloc, more)?;
         } else {
             text.append(more)?;
         }
@@ -40,50 +34,41 @@ fn appended(alloc: Global, texts: &[Vec<u8>]) -> Result<Bytes, AllocError> {
     Ok(text)
 }
 
-/// Puts the answer of a case `appended` after `out`: its first text, with the others appended, the length, and that of
-/// the same bytes out of a vector.
-pub fn push_appended(alloc: Global, out: &mut Answer, case: &str) -> Result<(), AllocError> {
-    let text = appended(alloc, &texts_of(alloc, case)?)?;
-    out.spelled(text.as_slice());
-    out.put(b" ");
-    out.count(text.len());
-    out.put(b" ");
-    out.count(Bytes::from_vec(text.into_vec()).len());
+/// Its first text, with the others appended, the length, and that of the same bytes out of a vector.
+fn push_appended(words: Words<'_>, out: &mut Answer, texts: &[Vec<u8>]) -> Done {
+    let text = appended(words, texts)?;
+    put!(out; text, " ", text.len(), " ");
+    put!(out; Bytes::from_vec(text.into_vec()).len());
     Ok(())
-}
-
-fn list_of(alloc: Global, n: usize) -> Result<Sequence<usize>, AllocError> {
-    let mut numbers = Sequence::new(alloc);
-    numbers.push(n)?;
-    Ok(numbers)
 }
 
 /// Pushes a number, puts one in a place that is there, appends a list of one number, or begins anew with such a list.
-fn carry_out(alloc: Global, word: &str, numbers: &mut Sequence<usize>) -> Result<(), AllocError> {
-    let n = number_in(word, 1);
-    match part_at(word, 0) {
+fn carry_out(step: Words<'_>, numbers: &mut Sequence<usize>) -> Done {
+    let n = step.count(1);
+    match step.word(0) {
         "push" => numbers.push(n)?,
-        "set" if n < numbers.len() => numbers.set(n, number_in(word, 2)),
-        "append" => numbers.append(list_of(alloc, n)?)?,
-        _ => *numbers = Sequence::from_vec(vec![in alloc; n]?),
+        "set" if n < numbers.len() => numbers.set(n, step.count(2)),
+        "append" => numbers.append(Sequence::from_vec(vec![in step.alloc; n]?))?,
+        _ => *numbers = Sequence::from_vec(vec![in step.alloc; n]?),
     }
     Ok(())
 }
 
-fn push_numbers(out: &mut Answer, numbers: &[usize]) {
-    out.count(numbers.len());
-    for (place, n) in numbers.iter().enumerate() {
-        out.put(if 0 < place { b"," } else { b" " });
-        out.count(*n);
+fn push_listed(words: Words<'_>, out: &mut Answer) -> Done {
+    let mut numbers = Sequence::new(words.alloc);
+    for word in words.after(1) {
+        carry_out(words.parts(word), &mut numbers)?;
     }
+    put!(out; numbers.len());
+    out.list(" ", numbers.as_slice(), ",", "");
+    Ok(())
 }
 
-/// Puts the answer of a case `sequence` after `out`: the same of a list that its words change.
-pub fn push_listed(alloc: Global, out: &mut Answer, case: &str) -> Result<(), AllocError> {
-    let mut numbers = Sequence::new(alloc);
-    for word in case.split_whitespace().skip(1) {
-        carry_out(alloc, word, &mut numbers)?;
+pub fn push_answer(words: Words<'_>, out: &mut Answer) -> Done {
+    match words.word(0) {
+        "joined" => put!(out; joined(words, &texts_of(words)?)?),
+        "appended" => push_appended(words, out, &texts_of(words)?)?,
+        _ => push_listed(words, out)?,
     }
-    push_numbers(out, numbers.as_slice());
     Ok(())
 }

@@ -1,21 +1,22 @@
 //! Cases of the functions on texts.
 
-use crate::answer::Answer;
-use crate::spelling::{number_at, text_at, word_at};
+use crate::Done;
+use crate::answer::{Answer, Spelled, put};
+use crate::words::Words;
 use bt_text::{
     Bytes, Class, Mode, add_period, balanced, change_case, class, eq_ignore_ascii_case, is_name,
     is_white_joined, join_white, name_len, purify, substring, text_length, text_prefix,
     to_ascii_lowercase, trim_end, white_run, width,
 };
-use std::alloc::{AllocError, Global};
+use std::alloc::AllocError;
 
-fn class_name(class: Class) -> &'static [u8] {
+fn class_name(class: Class) -> &'static str {
     match class {
-        Class::White => b"White",
-        Class::Letter => b"Letter",
-        Class::Digit => b"Digit",
-        Class::Sep => b"Sep",
-        Class::Other => b"Other",
+        Class::White => "White",
+        Class::Letter => "Letter",
+        Class::Digit => "Digit",
+        Class::Sep => "Sep",
+        Class::Other => "Other",
     }
 }
 
@@ -27,67 +28,52 @@ fn mode_of(word: &str) -> Mode {
     }
 }
 
-fn push_width(out: &mut Answer, text: &[u8]) {
-    if text.len() <= 65_536 {
-        out.count(width(text) as usize);
-    } else {
-        out.put(b"too long");
-    }
-}
-
-fn made(alloc: Global, case: &str, text: &[u8]) -> Result<Bytes, AllocError> {
-    match word_at(case, 0) {
+fn made(words: Words<'_>, text: &[u8]) -> Result<Bytes, AllocError> {
+    let alloc = words.alloc;
+    match words.word(0) {
         "purify" => purify(alloc, text),
         "add_period" => add_period(alloc, text),
-        "text_prefix" => text_prefix(alloc, text, number_at(case, 2)),
+        "text_prefix" => text_prefix(alloc, text, words.number(2)),
         "to_ascii_lowercase" => to_ascii_lowercase(alloc, text),
         "join_white" => join_white(alloc, text),
         "trim_end" => Bytes::copied(alloc, trim_end(text)),
-        _ => substring(alloc, text, number_at(case, 2), number_at(case, 3)),
+        _ => substring(alloc, text, words.number(2), words.number(3)),
     }
 }
 
-fn push_made(alloc: Global, out: &mut Answer, case: &str, text: &[u8]) -> Result<(), AllocError> {
-    out.spelled(made(alloc, case, text)?.as_slice());
-    Ok(())
-}
-
-fn push_changed(alloc: Global, out: &mut Answer, case: &str) -> Result<(), AllocError> {
-    let text = text_at(alloc, case, 2)?;
-    let changed = change_case(alloc, &text, mode_of(word_at(case, 1)))?;
-    match word_at(case, 0) {
-        "keeps_case" => out.truth(changed.as_slice() == text.as_slice()),
-        _ => out.spelled(changed.as_slice()),
+fn push_changed(words: Words<'_>, out: &mut Answer) -> Done {
+    let text = words.text(2)?;
+    let changed = change_case(words.alloc, &text, mode_of(words.word(1)))?;
+    match words.word(0) {
+        "keeps_case" => put!(out; (changed.as_slice() == text.as_slice())),
+        _ => put!(out; changed),
     }
     Ok(())
 }
 
-fn push_is_match(alloc: Global, out: &mut Answer, case: &str) -> Result<(), AllocError> {
-    let text = text_at(alloc, case, 1)?;
-    let other = text_at(alloc, case, 2)?;
-    out.truth(eq_ignore_ascii_case(&text, &other));
-    Ok(())
-}
-
-fn push_told(alloc: Global, out: &mut Answer, case: &str, text: &[u8]) -> Result<(), AllocError> {
-    match word_at(case, 0) {
-        "class" => out.put(class_name(class(text.first().copied().unwrap_or(0)))),
-        "balanced" => out.truth(balanced(text)),
-        "is_name" => out.truth(is_name(text)),
-        "is_white_joined" => out.truth(is_white_joined(text)),
-        "text_length" => out.count(text_length(text)),
-        "name_len" => out.count(name_len(text)),
-        "white_run" => out.count(white_run(text)),
-        "width" => push_width(out, text),
-        _ => push_made(alloc, out, case, text)?,
+fn push_told(words: Words<'_>, out: &mut Answer, text: &[u8]) -> Done {
+    match words.word(0) {
+        "class" => put!(out; class_name(class(text.first().copied().unwrap_or(0)))),
+        "balanced" => put!(out; balanced(text)),
+        "is_name" => put!(out; is_name(text)),
+        "is_white_joined" => put!(out; is_white_joined(text)),
+        "text_length" => put!(out; text_length(text)),
+        "name_len" => put!(out; name_len(text)),
+        "white_run" => put!(out; white_run(text)),
+        "width" if text.len() <= 65_536 => out.shown(&width(text)),
+        "width" => put!(out; "too long"),
+        _ => put!(out; made(words, text)?),
     }
     Ok(())
 }
 
-pub fn push_answer(alloc: Global, out: &mut Answer, case: &str) -> Result<(), AllocError> {
-    match word_at(case, 0) {
-        "change_case" | "keeps_case" => push_changed(alloc, out, case),
-        "eq_ignore_ascii_case" => push_is_match(alloc, out, case),
-        _ => push_told(alloc, out, case, &text_at(alloc, case, 1)?),
+pub fn push_answer(words: Words<'_>, out: &mut Answer) -> Done {
+    match words.word(0) {
+        "change_case" | "keeps_case" => push_changed(words, out),
+        "eq_ignore_ascii_case" => {
+            put!(out; eq_ignore_ascii_case(&words.text(1)?, &words.text(2)?));
+            Ok(())
+        }
+        _ => push_told(words, out, &words.text(1)?),
     }
 }
