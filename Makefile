@@ -46,6 +46,7 @@ test:
 	tests/front $(JOB_PROGRAM) $(PROGRAM)
 	tests/check $(CHECK_PROGRAM)
 	tests/originals
+	tests/random
 	tests/memory
 
 check:

@@ -29,13 +29,13 @@ impl Model for KeptFile {
 
 /// A folder in memory, which also knows what was read of it and written to it.
 #[derive(Drop)]
-pub struct Memory<'a> {
+pub struct Memory {
     alloc: Global,
     given: Sequence<KeptFile>,
     /// The names whose bytes find no room.
-    tight: Vec<&'a str>,
+    tight: Sequence<Bytes>,
     /// The names that can't be written.
-    sealed: Vec<&'a str>,
+    sealed: Sequence<Bytes>,
     looked_up: Sequence<Bytes>,
     written: Sequence<KeptFile>,
     failures: u64,
@@ -54,8 +54,8 @@ fn note(lines: &mut Bytes, name: &[u8]) -> Result<(), AllocError> {
     lines.append(b"\n")
 }
 
-fn has(names: &[&str], name: &[u8]) -> bool {
-    names.iter().any(|each| each.as_bytes() == name)
+fn has(names: &[Bytes], name: &[u8]) -> bool {
+    names.iter().any(|each| each.as_slice() == name)
 }
 
 fn keep(
@@ -104,15 +104,15 @@ fn last_of<'a>(files: &'a [KeptFile], name: &[u8], before: Option<&'a [u8]>) -> 
     found
 }
 
-impl<'a> Memory<'a> {
+impl Memory {
     pub fn new(alloc: Global) -> Self
-        ensures { ⟦<Memory<'a> as Folder>⟧.seen result ≡ untouched }
+        ensures { ⟦<Memory as Folder>⟧.seen result ≡ untouched }
     {
         Memory {
             alloc,
             given: Sequence::new(alloc),
-            tight: Vec::new(alloc),
-            sealed: Vec::new(alloc),
+            tight: Sequence::new(alloc),
+            sealed: Sequence::new(alloc),
             looked_up: Sequence::new(alloc),
             written: Sequence::new(alloc),
             failures: 0,
@@ -133,13 +133,13 @@ impl<'a> Memory<'a> {
     }
 
     /// From now on a read finds no room for the bytes of this name.
-    pub fn deny_room(&mut self, name: &'a str) -> Result<(), AllocError> {
-        Ok(self.tight.push(name)?)
+    pub fn deny_room(&mut self, name: &str) -> Result<(), AllocError> {
+        keep_name(self.alloc, &mut self.tight, name.as_bytes())
     }
 
     /// From now on this name can't be written.
-    pub fn seal(&mut self, name: &'a str) -> Result<(), AllocError> {
-        Ok(self.sealed.push(name)?)
+    pub fn seal(&mut self, name: &str) -> Result<(), AllocError> {
+        keep_name(self.alloc, &mut self.sealed, name.as_bytes())
     }
 
     /// A line `read NAME` for each read, the first first.
@@ -149,7 +149,7 @@ impl<'a> Memory<'a> {
 
     /// The files that were written, the first first.
     pub fn written(&self) -> &[KeptFile]
-        ensures { Some result.now ≡ (⟦<Memory<'a> as Folder>⟧.seen self.now).written }
+        ensures { Some result.now ≡ (⟦<Memory as Folder>⟧.seen self.now).written }
     {
         self.written.as_slice()
     }
@@ -180,7 +180,7 @@ impl<'a> Memory<'a> {
     }
 }
 
-impl Folder for Memory<'_> {
+impl Folder for Memory {
     ghost use Rattle.fakes.specs.Held.{held_in};
 
     ghost seen = { λ m. record {

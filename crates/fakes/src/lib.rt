@@ -3,12 +3,10 @@
 
 mod folder;
 mod limits;
-mod script;
 mod sink;
 mod source;
 
 pub use folder::{KeptFile, Memory};
 pub use limits::Limits;
-pub use script::{first_line, number};
 pub use sink::Taker;
 pub use source::Giver;

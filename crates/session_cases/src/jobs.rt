@@ -1,18 +1,21 @@
 //! Cases of the command line and of the one-shot form, over a folder in memory, and what came of each.
 
-mod script;
-mod telling;
+ghost use Rattle.std.specs.Prelude.{◌≡◌, ◌<◌, ◌^◌, ◌-◌, true};
+ghost use Rattle.bibtex.specs.Present.{is_root_name};
 
-use crate::jobs::script::{Content, Step, first_step};
-use crate::jobs::telling::{show_faults, tell_options, tell_run};
+use crate::script::{Case, Script, number, split, text};
 use anyhow::Result;
-use fakes::Memory;
+use bt_one_shot::{Folder, Options, OptionsFault, one_shot, parse_options};
+use bt_streams::Sink;
+use fakes::{Limits, Memory, Taker};
 use std::alloc::{AllocError, Global};
+use std::cell::Cell;
 
-fn words_of(alloc: Global, words: Option<&str>) -> Result<Vec<String>, AllocError> {
+/// The words of a command line, with `|` between them.
+fn words_of(alloc: Global, line: &str) -> Result<Vec<String>, AllocError> {
     let mut all = Vec::new(alloc);
     all.push(String::from_str(alloc, "bibtex")?)?;
-    if let Some(words) = words {
+    if let Some((_, words)) = line.split_once(' ') {
         for word in words.split('|') {
             all.push(String::from_str(alloc, word)?)?;
         }
@@ -20,80 +23,130 @@ fn words_of(alloc: Global, words: Option<&str>) -> Result<Vec<String>, AllocErro
     Ok(all)
 }
 
-fn give<'a>(
-    folder: &mut Memory<'a>,
-    name: &'a str,
-    content: Content<'a>,
-) -> Result<(), AllocError> {
-    match content {
-        Content::Bytes(bytes) => folder.give(name, bytes),
-        Content::Letters(count) => folder.give_letters(name, count),
-        Content::NoRoom => folder.deny_room(name),
-        Content::Unwritable => folder.seal(name),
+fn tell_fault(rt: &HostRuntime, fault: &OptionsFault) -> Result<()> {
+    match fault {
+        OptionsFault::Parser(fault) if fault.exit_code() == 0 => println!(rt; "help")?,
+        OptionsFault::Parser(_) => println!(rt; "usage fault")?,
+        OptionsFault::BadJobName => println!(rt; "bad job name")?,
+        OptionsFault::OutOfMemory => println!(rt; "out of memory")?,
     }
+    Ok(())
 }
 
-fn options(rt: &HostRuntime, words: Option<&str>) -> Result<()> {
-    let words = words_of(rt.alloc(), words)?;
-    tell_options(rt, &words)
+/// Shows the fault that words have, if they have one, and each fault that isn't the parser's.
+fn show_faults(rt: &HostRuntime, words: &[String]) -> Result<()> {
+    if let Err(fault) = parse_options(rt.alloc(), words) {
+        println!(rt; "{fault}")?;
+    }
+    println!(rt; "{}", OptionsFault::BadJobName)?;
+    println!(rt; "{}", OptionsFault::OutOfMemory)?;
+    Ok(())
 }
 
-fn faults(rt: &HostRuntime, words: Option<&str>) -> Result<()> {
-    let words = words_of(rt.alloc(), words)?;
-    show_faults(rt, &words)
+fn tell_options(rt: &HostRuntime, options: &Options) -> Result<()> {
+    let (root, min) = (text(options.root.as_slice()), options.min);
+    let (terse, resident) = (options.terse, options.resident);
+    println!(rt; "root {root} min {min} terse {terse} resident {resident}")?;
+    Ok(())
 }
 
+/// Runs a job over a folder and sinks of any kind: what is proved of that isn't used here, and would be slow to carry.
+fn run_job<F: Folder, O: Sink, E: Sink>(
+    alloc: Global,
+    options: &Options,
+    out: &mut O,
+    err: &mut E,
+    folder: &mut F,
+) -> Result<u8, AllocError>
+    requires root { is_root_name options.now.root ≡ true }
+    requires folder { (F.seen folder.old).failures < 2 ^ 64 - 1 }
+    requires out { (O.seen out.old).failures < 2 ^ 64 - 1 }
+    requires err { (E.seen err.old).failures < 2 ^ 64 - 1 }
+{
+    one_shot(alloc, options, folder, out, err)
+}
+
+fn tell_bytes(rt: &HostRuntime, title: &str, bytes: &[u8]) -> Result<()> {
+    print!(rt; "{title} {}\n{}", bytes.len(), text(bytes))?;
+    Ok(())
+}
+
+fn tell_ended(rt: &HostRuntime, status: u8, folder: &Memory) -> Result<()> {
+    println!(rt; "exit {status}")?;
+    tell_bytes(rt, "read", folder.read_lines())?;
+    for file in folder.written() {
+        tell_bytes(rt, text(file.name.as_slice()), file.bytes.as_slice())?;
+    }
+    Ok(())
+}
+
+fn run(rt: &HostRuntime, options: &Options, folder: &mut Memory, room: (usize, usize)) -> Result<()>
+    requires root { is_root_name options.now.root ≡ true }
+    requires folder { (⟦<Memory as Folder>⟧.seen folder.old).failures < 2 ^ 64 - 1 }
+{
+    let alloc = rt.alloc();
+    let handed_on = Cell::new(0);
+    let mut out = Taker::new(alloc, Limits::writes_up_to(room.0), &handed_on);
+    let mut err = Taker::new(alloc, Limits::writes_up_to(room.1), &handed_on);
+    let status = run_job(alloc, options, &mut out, &mut err, folder)?;
+    tell_ended(rt, status, folder)?;
+    tell_bytes(rt, "out", out.bytes())?;
+    tell_bytes(rt, "err", err.bytes())
+}
+
+/// A folder, and how many bytes standard output and standard error take.
 #[derive(Drop)]
-struct Case<'a> {
-    folder: Memory<'a>,
-    /// How many bytes standard output takes.
+pub struct Job {
+    folder: Memory,
     out: usize,
-    /// How many bytes standard error takes.
     err: usize,
 }
 
-impl<'a> Case<'a> {
-    fn new(alloc: Global) -> Case<'a> {
-        Case {
-            folder: Memory::new(alloc),
-            out: usize::MAX,
-            err: usize::MAX,
+impl Job {
+    /// Tells what a command line asks for, the fault that it has, or what comes of its job.
+    fn answer(&mut self, rt: &HostRuntime, word: &str, words: &[String]) -> Result<()> {
+        if word == "faults" {
+            return show_faults(rt, words);
         }
-    }
-
-    fn carry_out(&mut self, rt: &HostRuntime, step: Step<'a>) -> Result<()> {
-        let alloc = rt.alloc();
-        match step {
-            Step::Case(name) => {
-                println!(rt; "case {name}")?;
-                *self = Case::new(alloc);
+        match parse_options(rt.alloc(), words) {
+            Ok(options) if word == "run" && self.folder.failures() < u64::MAX => {
+                run(rt, &options, &mut self.folder, (self.out, self.err))
             }
-            Step::File(name, content) => give(&mut self.folder, name, content)?,
-            Step::Out(room) => self.out = room,
-            Step::Err(room) => self.err = room,
-            Step::Options(words) => options(rt, words)?,
-            Step::Faults(words) => faults(rt, words)?,
-            Step::Run(words) => self.run(rt, words)?,
+            Ok(options) => tell_options(rt, &options),
+            Err(fault) => tell_fault(rt, &fault),
         }
-        Ok(())
-    }
-
-    fn run(&mut self, rt: &HostRuntime, words: Option<&str>) -> Result<()> {
-        let words = words_of(rt.alloc(), words)?;
-        tell_run(rt, &words, &mut self.folder, (self.out, self.err))
     }
 }
 
-/// Answers the cases of a script up to its first line that is no step of one, and gives the script from there on.
-pub fn answer_all<'a>(rt: &HostRuntime, script: &'a [u8]) -> Result<&'a [u8]> {
-    let mut rest = script;
-    let mut case = Case::new(rt.alloc());
-    for _ in 0..u32::MAX {
-        let Some((step, after)) = first_step(rest) else {
-            break;
-        };
-        case.carry_out(rt, step)?;
-        rest = after;
+impl Case for Job {
+    fn begun(rt: &HostRuntime) -> Result<Self> {
+        Ok(Job {
+            folder: Memory::new(rt.alloc()),
+            out: usize::MAX,
+            err: usize::MAX,
+        })
     }
-    Ok(rest)
+
+    /// `file NAME LEN` and so many bytes, `letters NAME LEN`: a file of the folder. `no_room NAME`: bytes for which there
+    /// is no room. `unwritable NAME`: a name that can't be written. `out LEN`, `err LEN`: how many bytes they take.
+    /// `options WORD|WORD|..`, `run ..`, `faults ..`: a command line.
+    fn carry_out<'a>(
+        &mut self,
+        rt: &HostRuntime,
+        line: &'a str,
+        script: &mut Script<'a>,
+    ) -> Result<()> {
+        let (word, words) = split(line);
+        let (name, count) = split(words);
+        match word {
+            "file" => self.folder.give(name, script.bytes(number(count)))?,
+            "letters" => self.folder.give_letters(name, number(count))?,
+            "no_room" => self.folder.deny_room(words)?,
+            "unwritable" => self.folder.seal(words)?,
+            "out" => self.out = number(words),
+            "err" => self.err = number(words),
+            _ => self.answer(rt, word, &words_of(rt.alloc(), line)?)?,
+        }
+        Ok(())
+    }
 }

@@ -1,10 +1,8 @@
 //! Runs of the command loop over sources and sinks that fail, or move few bytes at a time, and what came of each.
 
-mod script;
+ghost use Rattle.std.specs.Prelude.{◌<◌, ◌-◌, ◌^◌};
 
-ghost use Rattle.std.specs.Prelude.{◌≡◌, ◌<◌, ◌-◌, ◌^◌};
-
-use crate::loops::script::{Step, first_step};
+use crate::script::{Case, Script, number, split, text};
 use anyhow::Result;
 use bibtex::{Refusal, Session};
 use bt_serve::{ServeFault, serve};
@@ -12,11 +10,9 @@ use bt_streams::{Sink, Source, StreamFailed};
 use fakes::{Giver, Limits, Taker};
 use std::alloc::{AllocError, Global};
 use std::cell::Cell;
+use std::fmt::Display;
 
-/// The names of which it is said whether their files are there.
-const NAMES: [&str; 4] = ["job.aux", "s.bst", "x.bib", "y.bib"];
-
-/// Answers the commands of a source, of any kind: what is proved of that isn't used here, and would be dear to carry.
+/// Answers the commands of a source, of any kind: what is proved of that isn't used here, and would be slow to carry.
 fn answer_input<S: Source, K: Sink>(
     alloc: Global,
     source: &mut S,
@@ -31,115 +27,64 @@ fn answer_input<S: Source, K: Sink>(
 
 fn tell(
     rt: &HostRuntime,
-    title: &str,
     ended: Result<(), ServeFault>,
     session: &Session,
     source: &Giver<'_>,
     sink: &Taker<'_>,
 ) -> Result<()> {
     match ended {
-        Ok(()) => print!(rt; "{title}: Ok")?,
-        Err(fault) => print!(rt; "{title}: {fault}")?,
+        Ok(()) => print!(rt; ": Ok, {} bytes read", source.given())?,
+        Err(fault) => print!(rt; ": {fault}, {} bytes read", source.given())?,
     }
-    print!(rt; ", {} bytes read", source.given())?;
-    for name in NAMES {
+    for name in ["job.aux", "s.bst", "x.bib", "y.bib"] {
         if session.file(name.as_bytes()).is_some() {
             print!(rt; ", {name}")?;
         }
     }
-    let text = str::from_utf8(sink.bytes()).unwrap_or("no text");
-    println!(rt; "\n{} bytes written\n{text}", sink.bytes().len())?;
+    println!(rt;
+        "\n{} bytes written\n{}",
+        sink.bytes().len(),
+        text(sink.bytes())
+    )?;
     for count in source.notes() {
         println!(rt; "{count} handed on")?;
     }
     Ok(())
 }
 
-fn answer(rt: &HostRuntime, title: &str, input: &[u8], limits: Limits<'_>) -> Result<()> {
+fn answer(rt: &HostRuntime, input: &[u8], limits: Limits<'_>) -> Result<()> {
     let alloc = rt.alloc();
     let mut session = Session::new(alloc, b"job", 2)?;
     let handed_on = Cell::new(0);
     let mut source = Giver::new(alloc, input, limits, &handed_on);
     let mut sink = Taker::new(alloc, limits, &handed_on);
     let ended = answer_input(alloc, &mut source, &mut sink, &mut session);
-    tell(rt, title, ended, &session, &source, &sink)
+    tell(rt, ended, &session, &source, &sink)
 }
 
-/// Answers an input cut short after n bytes, for each n from `first` to `end` - 1.
-fn cut(rt: &HostRuntime, input: &[u8], limits: Limits<'_>, first: usize, end: usize) -> Result<()> {
-    for place in first..end {
-        answer(rt, "cut", input.get(..place).unwrap_or(&[]), limits)?;
-    }
-    Ok(())
-}
-
-/// Answers an input where the read after n bytes fails, for each n from `first` to `end` - 1.
-fn fail_reads(
-    rt: &HostRuntime,
-    input: &[u8],
-    limits: Limits<'_>,
-    first: usize,
-    end: usize,
-) -> Result<()> {
-    for place in first..end {
-        let limits = Limits {
-            read_fails: place,
-            ..limits
-        };
-        answer(rt, "read fails", input, limits)?;
-    }
-    Ok(())
-}
-
-/// Answers an input where the write after n bytes fails, for each n from `first` to `end` - 1.
-fn fail_writes(
-    rt: &HostRuntime,
-    input: &[u8],
-    limits: Limits<'_>,
-    first: usize,
-    end: usize,
-) -> Result<()> {
-    for place in first..end {
-        let limits = Limits {
-            write_fails: place,
-            ..limits
-        };
-        answer(rt, "write fails", input, limits)?;
+fn show_all<T: Display>(rt: &HostRuntime, faults: &[T]) -> Result<()> {
+    for fault in faults {
+        println!(rt; "{fault}")?;
     }
     Ok(())
 }
 
 fn show_faults(rt: &HostRuntime) -> Result<()> {
-    println!(rt; "{StreamFailed}")?;
-    for fault in [
-        ServeFault::ReadFailed,
-        ServeFault::WriteFailed,
-        ServeFault::Truncated,
-    ] {
-        println!(rt; "{fault}")?;
-    }
-    for refusal in [
-        Refusal::BadName,
-        Refusal::NoSuchFile,
-        Refusal::RangeOutside,
-        Refusal::FileTooLarge,
-        Refusal::TooManyFiles,
-        Refusal::OutOfMemory,
-    ] {
-        println!(rt; "{refusal}")?;
-    }
-    Ok(())
-}
-
-fn answer_as(rt: &HostRuntime, step: Step<'_>, input: &[u8], limits: Limits<'_>) -> Result<()> {
-    match step {
-        Step::Serve => answer(rt, "whole input", input, limits),
-        Step::Cut(first, end) => cut(rt, input, limits, first, end),
-        Step::ReadFails(first, end) => fail_reads(rt, input, limits, first, end),
-        Step::WriteFails(first, end) => fail_writes(rt, input, limits, first, end),
-        Step::Faults => show_faults(rt),
-        _ => Ok(()),
-    }
+    use ServeFault::{ReadFailed, Truncated, WriteFailed};
+    show_all(rt, &[StreamFailed])?;
+    show_all(rt, &[ReadFailed, WriteFailed, Truncated])?;
+    show_all(
+        rt,
+        &[Refusal::BadName, Refusal::NoSuchFile, Refusal::RangeOutside],
+    )?;
+    show_all(
+        rt,
+        &[
+            Refusal::FileTooLarge,
+            Refusal::TooManyFiles,
+            Refusal::OutOfMemory,
+        ],
+    )
 }
 
 fn push_letters(input: &mut Vec<u8>, count: usize) -> Result<(), AllocError> {
@@ -152,65 +97,86 @@ fn push_letters(input: &mut Vec<u8>, count: usize) -> Result<(), AllocError> {
 fn places(alloc: Global, words: &str) -> Result<Vec<usize>, AllocError> {
     let mut places = Vec::new(alloc);
     for word in words.split(',') {
-        places.push(word.parse::<usize>().unwrap_or(0))?;
+        places.push(number(word))?;
     }
     Ok(places)
 }
 
+fn title(word: &str) -> &'static str {
+    match word {
+        "cut" => "cut",
+        "read_fails" => "read fails",
+        "write_fails" => "write fails",
+        _ => "whole input",
+    }
+}
+
 /// An input, how it moves, and where it is watched.
 #[derive(Drop)]
-struct Case {
+pub struct Loop {
     input: Vec<u8>,
     watched: Vec<usize>,
     most: usize,
 }
 
-impl Case {
-    fn new(alloc: Global) -> Self {
-        Case {
-            input: Vec::new(alloc),
-            watched: Vec::new(alloc),
-            most: usize::MAX,
-        }
-    }
-
-    fn answer(&self, rt: &HostRuntime, step: Step<'_>) -> Result<()> {
-        let limits = Limits {
+impl Loop {
+    /// Answers the input, which is cut short after so many bytes, or of which the read or the write fails there.
+    fn run(&self, rt: &HostRuntime, word: &str, place: usize) -> Result<()> {
+        let input = self.input.as_slice();
+        let mut limits = Limits {
             most: self.most,
             watched: self.watched.as_slice(),
             ..Limits::none()
         };
-        answer_as(rt, step, self.input.as_slice(), limits)
+        let end = if word == "cut" { place } else { usize::MAX };
+        match word {
+            "read_fails" => limits.read_fails = place,
+            "write_fails" => limits.write_fails = place,
+            _ => {}
+        }
+        print!(rt; "{}", title(word))?;
+        answer(rt, &input[..end.min(input.len())], limits)
     }
 
-    fn take(&mut self, rt: &HostRuntime, step: Step<'_>) -> Result<()> {
-        match step {
-            Step::Text(bytes) => self.input.extend_from_slice(bytes)?,
-            Step::Letters(count) => push_letters(&mut self.input, count)?,
-            Step::Most(count) => self.most = count,
-            Step::Watch(words) => self.watched = places(rt.alloc(), words)?,
-            _ => self.answer(rt, step)?,
+    /// Runs for each place from a number to another.
+    fn run_all(&self, rt: &HostRuntime, word: &str, words: &str) -> Result<()> {
+        let (first, end) = split(words);
+        for place in number(first)..number(end) {
+            self.run(rt, word, place)?;
         }
         Ok(())
     }
 }
 
-/// Answers the runs of a script up to its first line that is no step of one, and gives the script from there on.
-pub fn answer_all<'a>(rt: &HostRuntime, script: &'a [u8]) -> Result<&'a [u8]> {
-    let mut rest = script;
-    let mut case = Case::new(rt.alloc());
-    for _ in 0..u32::MAX {
-        let Some((step, behind)) = first_step(rest) else {
-            break;
-        };
-        match step {
-            Step::Case(name) => {
-                println!(rt; "case {name}")?;
-                case = Case::new(rt.alloc());
-            }
-            _ => case.take(rt, step)?,
-        }
-        rest = behind;
+impl Case for Loop {
+    fn begun(rt: &HostRuntime) -> Result<Self> {
+        Ok(Loop {
+            input: Vec::new(rt.alloc()),
+            watched: Vec::new(rt.alloc()),
+            most: usize::MAX,
+        })
     }
-    Ok(rest)
+
+    /// `text LEN` and so many bytes, `letters LEN`: more input. `most LEN`: reads and writes move at most so many bytes.
+    /// `watch PLACE,PLACE,..`: notes what was handed on where a byte of these places is read. `serve`: answers the whole
+    /// input. `cut FIRST END`, `read_fails FIRST END`, `write_fails FIRST END`: answers it for each n from FIRST to
+    /// END - 1, cut short after n bytes, or where the read or write after n bytes fails. `faults`: shows all faults.
+    fn carry_out<'a>(
+        &mut self,
+        rt: &HostRuntime,
+        line: &'a str,
+        script: &mut Script<'a>,
+    ) -> Result<()> {
+        let (word, words) = split(line);
+        match word {
+            "text" => self.input.extend_from_slice(script.bytes(number(words)))?,
+            "letters" => push_letters(&mut self.input, number(words))?,
+            "most" => self.most = number(words),
+            "watch" => self.watched = places(rt.alloc(), words)?,
+            "serve" => self.run(rt, word, 0)?,
+            "faults" => show_faults(rt)?,
+            _ => self.run_all(rt, word, words)?,
+        }
+        Ok(())
+    }
 }

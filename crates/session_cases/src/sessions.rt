@@ -1,153 +1,280 @@
 //! Sessions that are edited step by step, and what they show: names that no command can spell, the names that are
-//! wanted, the terse log, and that nothing changes when an edit is refused.
+//! wanted, the terse log, messages, reasons against an edit, and that nothing changes when an edit is refused.
 
-mod agreeing;
-mod script;
-
-use crate::answers::{push_all, push_answer, push_text, push_wanted};
-use crate::sessions::agreeing::agree;
-use crate::sessions::script::{Step, first_step};
+use crate::inputs::agree;
+use crate::script::{Case, Script, number, split, text};
 use anyhow::Result;
-use bibtex::{Bytes, Edit, Refusal, Report, Session};
+use bibtex::{Bytes, Edit, Message, Place, Refusal, Report, Said, Session, edit_all};
 use std::alloc::{AllocError, Global};
 
-/// The names whose texts must stay when an edit is refused.
-const NAMES: [&str; 6] = ["job.aux", "two.aux", "s.bst", "x.bib", "y.bib", "a b"];
+/// The names whose texts are compared.
+const NAMES: [&str; 8] = [
+    "job.aux", "two.aux", "n.aux", "s.bst", "t.bst", "x.bib", "y.bib", "a b",
+];
 
-/// Makes an edit, what is proved of which isn't used here.
-fn make(session: &mut Session, edit: Edit<'_>) -> Result<Report, Refusal> {
+/// All that a session answers.
+pub fn seen(alloc: Global, session: &Session) -> Result<Bytes, AllocError> {
+    let status = [session.status()];
+    let mut seen = Bytes::of(
+        alloc,
+        &[session.bbl(), session.blg(), session.terse(), &status],
+    )?;
+    for name in session.wanted() {
+        seen.append_all(&[name.as_slice(), b"\n"])?;
+    }
+    for name in NAMES {
+        if let Some(text) = session.file(name.as_bytes()) {
+            seen.append_all(&[name.as_bytes(), b"\n", text])?;
+        }
+    }
+    seen.append(format!(in alloc; "{:?}", session.messages())?.as_bytes())?;
+    Ok(seen)
+}
+
+fn shows(alloc: Global, session: &Session, wanted: &Bytes) -> Result<bool, AllocError> {
+    Ok(seen(alloc, session)?.as_slice() == wanted.as_slice())
+}
+
+/// A new session. What is proved of it isn't used here, and would be slow to carry.
+pub fn begin(alloc: Global, root: &[u8], min: u32) -> Result<Session, Refusal> {
+    Session::new(alloc, root, min)
+}
+
+/// Makes an edit, of which the same holds.
+pub fn make(session: &mut Session, edit: Edit<'_>) -> Result<Report, Refusal> {
     session.edit(edit)
 }
 
-/// All that a session answers: status, bibliography, logs, the names that are wanted, and the texts.
-fn seen(alloc: Global, session: &Session) -> Result<Bytes, AllocError> {
-    let mut out = Bytes::new(alloc);
-    push_all(alloc, &mut out, session)?;
-    push_wanted(&mut out, session)?;
-    for name in NAMES {
-        push_text(&mut out, session, name.as_bytes())?;
+/// The edit of a line: `write LEN NAME` and so many bytes, `splice START END LEN NAME` and so many bytes, `remove NAME`,
+/// `root NAME`, or `min N`. A name may have spaces in it.
+fn edit_of<'a>(line: &'a str, script: &mut Script<'a>) -> Edit<'a> {
+    let (word, words) = split(line);
+    let (first, rest) = split(words);
+    match word {
+        "write" => Edit::Write(rest.as_bytes(), script.bytes(number(first))),
+        "splice" => {
+            let (end, rest) = split(rest);
+            let (count, name) = split(rest);
+            let bytes = script.bytes(number(count));
+            Edit::Splice(name.as_bytes(), number(first), number(end), bytes)
+        }
+        "remove" => Edit::Remove(words.as_bytes()),
+        "root" => Edit::Root(words.as_bytes()),
+        _ => Edit::MinCrossrefs(words.parse::<u32>().unwrap_or(2)),
     }
-    Ok(out)
 }
 
-/// Puts the answer to an edit after `out`, and after a refusal, whether all is as before.
-fn push_told(
-    alloc: Global,
-    out: &mut Bytes,
-    answer: &Result<Report, Refusal>,
-    is_as_before: bool,
-) -> Result<(), AllocError> {
-    push_answer(alloc, out, answer)?;
+fn tell_answer(rt: &HostRuntime, answer: Result<Report, Refusal>) -> Result<()> {
     match answer {
-        Ok(_) => Ok(()),
-        Err(_) if is_as_before => out.append(b"all is as before\n"),
-        Err(_) => out.append(b"something has changed\n"),
+        Ok(report) => {
+            let (ran, reused, ticks) = (report.ran, report.reused, report.ticks);
+            println!(rt; "ok {} {ran} {reused} {ticks}", report.status)?;
+        }
+        Err(refusal) => println!(rt; "refused {refusal}")?,
     }
-}
-
-fn push_edited(
-    alloc: Global,
-    out: &mut Bytes,
-    session: &mut Session,
-    edit: Edit<'_>,
-) -> Result<(), AllocError> {
-    let before = seen(alloc, session)?;
-    let answer = make(session, edit);
-    let after = seen(alloc, session)?;
-    push_told(alloc, out, &answer, before.as_slice() == after.as_slice())
-}
-
-fn push_lettered(
-    alloc: Global,
-    out: &mut Bytes,
-    session: &mut Session,
-    name: &str,
-    count: usize,
-) -> Result<(), AllocError> {
-    let letters = vec![in alloc; b'a'; count]?;
-    let edit = Edit::Write(name.as_bytes(), letters.as_slice());
-    push_edited(alloc, out, session, edit)
-}
-
-fn push_agreement(
-    alloc: Global,
-    out: &mut Bytes,
-    one: &str,
-    other: &str,
-) -> Result<(), AllocError> {
-    let are_alike = agree(alloc, one, other)?;
-    out.append(if are_alike {
-        b"they agree\n"
-    } else {
-        b"they differ\n"
-    })
-}
-
-fn push_shown(
-    alloc: Global,
-    out: &mut Bytes,
-    session: &Session,
-    step: Step<'_>,
-) -> Result<(), AllocError> {
-    match step {
-        Step::Wanted => push_wanted(out, session),
-        Step::Text(name) => push_text(out, session, name.as_bytes()),
-        Step::Show => push_all(alloc, out, session),
-        Step::Agrees(one, other) => push_agreement(alloc, out, one, other),
-        _ => Ok(()),
-    }
-}
-
-fn push_step(
-    alloc: Global,
-    out: &mut Bytes,
-    session: &mut Session,
-    step: Step<'_>,
-) -> Result<(), AllocError> {
-    match step {
-        Step::Edit(edit) => push_edited(alloc, out, session, edit),
-        Step::Letters(name, count) => push_lettered(alloc, out, session, name, count),
-        _ => push_shown(alloc, out, session, step),
-    }
-}
-
-fn answer_step(rt: &HostRuntime, session: &mut Session, step: Step<'_>) -> Result<()> {
-    let mut out = Bytes::new(rt.alloc());
-    push_step(rt.alloc(), &mut out, session, step)?;
-    print!(rt; "{}", str::from_utf8(out.as_slice()).unwrap_or("no text\n"))?;
     Ok(())
 }
 
-/// Answers the steps of a case, and gives the script from the first line on that is no step of it.
-fn answer_steps<'a>(rt: &HostRuntime, script: &'a [u8], session: &mut Session) -> Result<&'a [u8]> {
-    let mut rest = script;
-    for _ in 0..u32::MAX {
-        match first_step(rest) {
-            None | Some((Step::Case(_), _)) => break,
-            Some((step, behind)) => {
-                answer_step(rt, session, step)?;
-                rest = behind;
-            }
+/// Makes an edit, and gives its report; tells after a refusal whether all is as before. If memory ran out and all is,
+/// standard error says so, and the edit is made once more.
+fn tell_edit(rt: &HostRuntime, session: &mut Session, edit: Edit<'_>) -> Result<Option<Report>> {
+    let before = seen(rt.alloc(), session)?;
+    let mut answer = make(session, edit);
+    if matches!(answer, Err(Refusal::OutOfMemory)) && shows(rt.alloc(), session, &before)? {
+        eprintln!(rt; "out of memory: once more")?;
+        answer = make(session, edit);
+    }
+    tell_answer(rt, answer)?;
+    if answer.is_err() && shows(rt.alloc(), session, &before)? {
+        println!(rt; "all is as before")?;
+    } else if answer.is_err() {
+        println!(rt; "something has changed")?;
+    }
+    Ok(answer.ok())
+}
+
+/// Whether a new session, which is given the present texts, shows the same, with as many steps in its last report.
+fn is_as_anew(
+    alloc: Global,
+    session: &Session,
+    last: Option<Report>,
+    anew: &mut Session,
+) -> Result<bool, Refusal> {
+    let mut report = None;
+    for name in NAMES {
+        if let Some(text) = session.file(name.as_bytes()) {
+            report = Some(make(anew, Edit::Write(name.as_bytes(), text))?);
         }
     }
-    Ok(rest)
-}
-
-/// Answers a case over a new session, and gives the script after it.
-fn answer_case<'a>(rt: &HostRuntime, name: &str, script: &'a [u8]) -> Result<&'a [u8]> {
-    println!(rt; "case {name}")?;
-    let mut session = Session::new(rt.alloc(), b"job", 2)?;
-    answer_steps(rt, script, &mut session)
-}
-
-/// Answers the cases of a script up to its first line that is no step of one, and gives the script from there on.
-pub fn answer_all<'a>(rt: &HostRuntime, script: &'a [u8]) -> Result<&'a [u8]> {
-    let mut rest = script;
-    for _ in 0..u32::MAX {
-        let Some((Step::Case(name), behind)) = first_step(rest) else {
-            break;
-        };
-        rest = answer_case(rt, name, behind)?;
+    if let (Some(last), Some(report)) = (last, report)
+        && last.ran.saturating_add(last.reused) != report.ran.saturating_add(report.reused)
+    {
+        return Ok(false);
     }
-    Ok(rest)
+    Ok(shows(alloc, anew, &seen(alloc, session)?)?)
+}
+
+fn tell_anew(rt: &HostRuntime, session: &Session, last: Option<Report>, words: &str) -> Result<()> {
+    let (min, root) = split(words);
+    let mut anew = begin(rt.alloc(), root.as_bytes(), min.parse::<u32>().unwrap_or(2))?;
+    if is_as_anew(rt.alloc(), session, last, &mut anew)? {
+        println!(rt; "as anew")?;
+    } else {
+        println!(rt; "not as anew")?;
+    }
+    Ok(())
+}
+
+fn tell_letters(rt: &HostRuntime, session: &mut Session, words: &str) -> Result<()> {
+    let (count, name) = split(words);
+    let letters = vec![in rt.alloc(); b'a'; number(count)]?;
+    let edit = Edit::Write(name.as_bytes(), letters.as_slice());
+    tell_edit(rt, session, edit)?;
+    Ok(())
+}
+
+fn has_run_out(answers: &Result<Vec<Result<Report, Refusal>>, AllocError>) -> bool {
+    match answers {
+        Ok(answers) => answers
+            .iter()
+            .any(|each| matches!(each, Err(Refusal::OutOfMemory))),
+        Err(AllocError) => true,
+    }
+}
+
+/// Makes edits as one list; once more if memory ran out and all is as before.
+fn tell_list(rt: &HostRuntime, session: &mut Session, edits: &[Edit<'_>]) -> Result<()> {
+    let before = seen(rt.alloc(), session)?;
+    let mut answers = edit_all(rt.alloc(), session, edits);
+    if has_run_out(&answers) && shows(rt.alloc(), session, &before)? {
+        eprintln!(rt; "out of memory: once more")?;
+        answers = edit_all(rt.alloc(), session, edits);
+    }
+    for answer in answers?.iter() {
+        tell_answer(rt, *answer)?;
+    }
+    Ok(())
+}
+
+fn edits_of<'a>(
+    alloc: Global,
+    count: usize,
+    script: &mut Script<'a>,
+) -> Result<Vec<Edit<'a>>, AllocError> {
+    let mut edits = Vec::new(alloc);
+    for _ in 0..count {
+        if let Some(line) = script.line() {
+            edits.push(edit_of(line, script))?;
+        }
+    }
+    Ok(edits)
+}
+
+fn tell_wanted(rt: &HostRuntime, session: &Session) -> Result<()> {
+    print!(rt; "wanted:")?;
+    for name in session.wanted() {
+        print!(rt; " {}", text(name.as_slice()))?;
+    }
+    println!(rt; "")?;
+    Ok(())
+}
+
+/// How many messages there are, and the last one: its rank, its words or the file that it names, and its place.
+fn tell_last(rt: &HostRuntime, messages: &[Message]) -> Result<()> {
+    println!(rt; "messages: {}", messages.len())?;
+    let Some(message) = messages.last() else {
+        return Ok(());
+    };
+    let said = match &message.said {
+        Said::Words(words) => words,
+        Said::OfFile { file, .. } => file,
+    };
+    print!(rt; "{:?} {}", message.rank, text(said.as_slice()))?;
+    if let Some(Place::Line { file, line, .. }) = &message.place {
+        print!(rt; " {}:{line}", text(file.as_slice()))?;
+    }
+    println!(rt; "")?;
+    Ok(())
+}
+
+fn tell_logs(rt: &HostRuntime, session: &Session) -> Result<()> {
+    println!(rt; "status {}", session.status())?;
+    print!(rt; "bibliography:\n{}", text(session.bbl()))?;
+    print!(rt; "log:\n{}", text(session.blg()))?;
+    print!(rt; "terse log:\n{}", text(session.terse()))?;
+    Ok(())
+}
+
+fn tell_agreement(rt: &HostRuntime, words: &str) -> Result<()> {
+    let (one, other) = split(words);
+    if agree(rt.alloc(), one, other)? {
+        println!(rt; "they agree")?;
+    } else {
+        println!(rt; "they differ")?;
+    }
+    Ok(())
+}
+
+fn show(rt: &HostRuntime, session: &Session, word: &str, words: &str) -> Result<()> {
+    match word {
+        "wanted" => tell_wanted(rt, session)?,
+        "show" => tell_logs(rt, session)?,
+        "bibliography" => print!(rt; "bibliography:\n{}", text(session.bbl()))?,
+        "message" => tell_last(rt, session.messages())?,
+        "agrees" => tell_agreement(rt, words)?,
+        _ => {
+            let text = text(session.file(words.as_bytes()).unwrap_or(b"none"));
+            println!(rt; "{words}: {text}")?;
+        }
+    }
+    Ok(())
+}
+
+/// A session that is edited, and the report of its last edit, if it wasn't refused.
+#[derive(Drop)]
+pub struct Edited {
+    session: Session,
+    last: Option<Report>,
+}
+
+impl Case for Edited {
+    fn begun(rt: &HostRuntime) -> Result<Self> {
+        Ok(Edited {
+            session: begin(rt.alloc(), b"job", 2)?,
+            last: None,
+        })
+    }
+
+    /// An edit; `letters LEN NAME`: a write of so many letters; `list N`: the edits of the next N lines as one list;
+    /// `refusal SIZE EDIT`: the first reason against an edit that brings so many bytes; `anew MIN ROOT`: whether a new
+    /// session shows the same; `wanted`: the names that are wanted; `text NAME`; `show`: the status, the bibliography, and
+    /// both logs; `bibliography`; `message`: the last one; `agrees KEY,TITLE,NOTE KEY,TITLE,NOTE`: whether the steps of two
+    /// such entries agree.
+    fn carry_out<'a>(
+        &mut self,
+        rt: &HostRuntime,
+        line: &'a str,
+        script: &mut Script<'a>,
+    ) -> Result<()> {
+        let session = &mut self.session;
+        let (word, words) = split(line);
+        match word {
+            "write" | "splice" | "remove" | "root" | "min" => {
+                self.last = tell_edit(rt, session, edit_of(line, script))?;
+            }
+            "letters" => tell_letters(rt, session, words)?,
+            "list" => {
+                let edits = edits_of(rt.alloc(), number(words), script)?;
+                tell_list(rt, session, edits.as_slice())?;
+            }
+            "refusal" => {
+                let (size, line) = split(words);
+                let reason = session.refusal(edit_of(line, script), number(size));
+                println!(rt; "refusal: {reason:?}")?;
+            }
+            "anew" => tell_anew(rt, session, self.last, words)?,
+            _ => show(rt, session, word, words)?,
+        }
+        Ok(())
+    }
 }

@@ -5,8 +5,8 @@ use std::alloc::{AllocError, Global};
 
 /// What calls are made on, with their answers.
 pub trait Case: Drop {
-    /// What the calls of a group are made on, with no answer yet.
-    fn begun(alloc: Global, group: &str) -> Result<Self, AllocError>;
+    /// What the calls are made on, with no answer yet.
+    fn begun(alloc: Global) -> Result<Self, AllocError>;
 
     /// Makes the call of a name, and keeps its answer. The error is that it says that memory ran out.
     fn call(&mut self, alloc: Global, name: &str) -> Result<(), AllocError>;
@@ -41,8 +41,8 @@ struct Wanted {
     after: Bytes,
 }
 
-/// What must be seen, by an example.
-fn by_example<C: Case>(alloc: Global, example: &mut C, name: &str) -> Result<Wanted, AllocError> {
+fn by_example<C: Case>(alloc: Global, name: &str) -> Result<Wanted, AllocError> {
+    let mut example = C::begun(alloc)?;
     let before = example.seen(alloc)?;
     example.call(alloc, name)?;
     let after = example.seen(alloc)?;
@@ -50,8 +50,7 @@ fn by_example<C: Case>(alloc: Global, example: &mut C, name: &str) -> Result<Wan
 }
 
 fn shows<C: Case>(alloc: Global, case: &C, wanted: &Bytes) -> Result<bool, AllocError> {
-    let seen = case.seen(alloc)?;
-    Ok(seen.as_slice() == wanted.as_slice())
+    Ok(case.seen(alloc)?.as_slice() == wanted.as_slice())
 }
 
 /// What comes of a call.
@@ -75,16 +74,10 @@ fn judged<C: Case>(
     }
 }
 
-/// What comes of the call of a group and a name. The error is that memory was refused outside of the call.
-pub fn verdict_on<C: Case>(
-    alloc: Global,
-    group: &str,
-    name: &str,
-    part: Part,
-) -> Result<Verdict, AllocError> {
-    let mut case = C::begun(alloc, group)?;
-    let mut example = C::begun(alloc, group)?;
-    let wanted = by_example(alloc, &mut example, name)?;
+/// What comes of the call of a name. The error is that memory was refused outside of the call.
+pub fn verdict_on<C: Case>(alloc: Global, name: &str, part: Part) -> Result<Verdict, AllocError> {
+    let wanted = by_example::<C>(alloc, name)?;
+    let mut case = C::begun(alloc)?;
     match part {
         Part::Setup => Ok(Verdict::NotRefused),
         Part::Call => {

@@ -38,14 +38,11 @@ fn with_inserted(
     requires { place < length text.now }
     ensures { IfOk result (λ new. IsSplice text.now new place (place + 1) (length bytes.now)) }
 {
-    let mut new = Bytes::copied(alloc, &text[..place])?;
-    new.append(bytes)?;
-    new.append(&text[place + 1..])?;
-    Ok(new)
+    Bytes::of(alloc, &[&text[..place], bytes, &text[place + 1..]])
 }
 
 impl Case for Rereading {
-    fn begun(alloc: Global, _group: &str) -> Result<Self, AllocError> {
+    fn begun(alloc: Global) -> Result<Self, AllocError> {
         let text = Bytes::copied(alloc, DATABASE)?;
         let items = read_bib(alloc, text.as_slice())?;
         Ok(Rereading {

@@ -1,53 +1,134 @@
 //! Calls that take no memory. What they are made on is made first. From there on nothing asks for memory: neither the
 //! calls, nor the comparison of their answers with the right ones. So `tests/memory` refuses every request from there on.
 
-mod sessions;
-mod steps;
-mod texts;
-
+use crate::inputs::{input, reach, style};
 use crate::refused::attempt::{Part, Verdict};
-use crate::refused::free::sessions::{Answering, AskedOfErrors, AskedOfNone, AskedOfTwo, Refusing};
-use crate::refused::free::steps::{Agreement, Meters};
-use crate::refused::free::texts::{FullLine, Names, Texts};
+use crate::refused::refusing::is_refusing;
+use bt_bib::ReadMeter;
+use bt_machine::{Meter, agrees};
+use bt_names::{FormatFault, NameFault, count, format, parts};
+use bt_text::{
+    Bytes, Class, Held, HeldFault, Sequence, TEXT_BYTES, balanced, class, text_length, width,
+};
 use std::alloc::{AllocError, Global};
 
-/// What calls that take no memory are made on.
-pub trait Free: Drop {
-    /// Makes it.
-    fn made(alloc: Global) -> Result<Self, AllocError>;
-
-    /// Makes the calls, and says whether each gives the right answer.
-    fn is_right(&mut self, alloc: Global) -> bool;
+fn are_classes_right() -> bool {
+    class(b'\t') == Class::White
+        && class(b'a') == Class::Letter
+        && class(200) == Class::Letter
+        && class(b'0') == Class::Digit
+        && class(b'~') == Class::Sep
+        && class(b'{') == Class::Other
 }
 
-/// Whether the calls of a case give the right answers; true where they aren't to be made.
-fn is_right<F: Free>(alloc: Global, part: Part) -> Result<bool, AllocError> {
-    let mut made = F::made(alloc)?;
-    Ok(part == Part::Setup || made.is_right(alloc))
+fn are_braces_right() -> bool {
+    balanced(b"{a}{{b}}") && balanced(b"") && !balanced(b"}{") && !balanced(b"{")
 }
 
-/// Whether the calls of this name give the right answers.
-fn right_by_name(alloc: Global, name: &str, part: Part) -> Result<bool, AllocError> {
+fn are_lengths_right() -> bool {
+    text_length(b"{\\'e}b{cd}") == 4
+        && text_length(b"") == 0
+        && width(b"ab") == 1056
+        && width(b"{a}") == 1500
+        && width(b"{\\ss}") == 500
+}
+
+fn are_counts_right() -> bool {
+    count(b"") == 0
+        && count(b"A and B") == 2
+        && count(b"A and and B") == 3
+        && count(b"A {and} B") == 1
+}
+
+fn are_texts_right() -> bool {
+    are_classes_right() && are_braces_right() && are_lengths_right() && are_counts_right()
+}
+
+fn has_no_parts(alloc: Global, names: &[u8], n: i32, fault: NameFault) -> bool {
+    match parts(alloc, names, n) {
+        Err(found) => found == fault,
+        Ok(_) => false,
+    }
+}
+
+fn is_not_formatted(alloc: Global, names: &[u8], pattern: &[u8], fault: FormatFault) -> bool {
+    match format(alloc, names, 1, pattern) {
+        Err(found) => found == fault,
+        Ok(_) => false,
+    }
+}
+
+/// Whether names, and patterns where the name has none, have their fault, at the right place.
+fn are_names_right(alloc: Global) -> bool {
+    has_no_parts(alloc, b"", 1, NameFault::NoSuchName)
+        && has_no_parts(alloc, b"A and B", 3, NameFault::NoSuchName)
+        && has_no_parts(alloc, b"A, B, C, D", 1, NameFault::TooManyCommas)
+        && is_not_formatted(alloc, b"", b"}", FormatFault::NoSuchName)
+        && is_not_formatted(alloc, b"A, B, C, D", b"}", FormatFault::TooManyCommas)
+        && is_not_formatted(alloc, b"A", b"{ff x}", FormatFault::PatternFault(4))
+        && is_not_formatted(alloc, b"A", b"{ff", FormatFault::PatternFault(3))
+        && is_not_formatted(alloc, b"A", b"}", FormatFault::PatternFault(0))
+}
+
+/// Fills a held line with as many bytes as it may have.
+fn fill(alloc: Global, held: &mut Held, lines: &mut Sequence<Bytes>) -> Result<(), AllocError> {
+    for _ in 0..TEXT_BYTES / 8 {
+        if held.write(alloc, b"letters_", lines).is_err() {
+            return Err(AllocError);
+        }
+    }
+    Ok(())
+}
+
+fn is_too_long(alloc: Global, held: &mut Held, lines: &mut Sequence<Bytes>, text: &[u8]) -> bool {
+    matches!(held.write(alloc, text, lines), Err(HeldFault::TooLong))
+        && held.bytes().len() == TEXT_BYTES
+        && lines.len() == 0
+}
+
+/// Whether a full line takes no more.
+fn is_full_line_right(alloc: Global, part: Part) -> Result<bool, AllocError> {
+    let mut held = Held::new(alloc);
+    let mut lines = Sequence::new(alloc);
+    fill(alloc, &mut held, &mut lines)?;
+    Ok(
+        part == Part::Setup
+            || Held::new(alloc).bytes().is_empty()
+                && is_too_long(alloc, &mut held, &mut lines, b"a")
+                && is_too_long(alloc, &mut held, &mut lines, b"a word and more"),
+    )
+}
+
+/// Whether two inputs of a step that differ in their keys alone don't agree in what it reaches.
+fn is_agreement_right(alloc: Global, part: Part) -> Result<bool, AllocError> {
+    let one = input(alloc, "key,A,n")?;
+    let other = input(alloc, "other,A,n")?;
+    let style = style(alloc)?;
+    let reach = reach(alloc, &style)?;
+    Ok(
+        part == Part::Setup
+            || agrees(&style, &one, &one, &reach) && !agrees(&style, &one, &other, &reach),
+    )
+}
+
+/// Whether the calls of this name give the right answers; true where they aren't to be made.
+fn is_right(alloc: Global, name: &str, part: Part) -> Result<bool, AllocError> {
     match name {
-        "texts" => is_right::<Texts>(alloc, part),
-        "names" => is_right::<Names>(alloc, part),
-        "full-line" => is_right::<FullLine>(alloc, part),
-        "meters" => is_right::<Meters>(alloc, part),
-        "agreement" => is_right::<Agreement>(alloc, part),
-        "asked-of-none" => is_right::<AskedOfNone>(alloc, part),
-        "asked-of-two" => is_right::<AskedOfTwo>(alloc, part),
-        "asked-of-errors" => is_right::<AskedOfErrors>(alloc, part),
-        "refusing" => is_right::<Refusing>(alloc, part),
-        "answering" => is_right::<Answering>(alloc, part),
+        "texts" => Ok(part == Part::Setup || are_texts_right()),
+        "names" => Ok(part == Part::Setup || are_names_right(alloc)),
+        "full-line" => is_full_line_right(alloc, part),
+        "meters" => Ok(Meter::new().value() == 0 && ReadMeter::new().value() == 0),
+        "agreement" => is_agreement_right(alloc, part),
+        "refusing" => is_refusing(alloc, part),
         _ => Ok(false),
     }
 }
 
 /// What comes of the calls of a name. The error is that memory was refused before them.
 pub fn verdict_on_free(alloc: Global, name: &str, part: Part) -> Result<Verdict, AllocError> {
-    if right_by_name(alloc, name, part)? {
-        Ok(Verdict::NotRefused)
+    Ok(if is_right(alloc, name, part)? {
+        Verdict::NotRefused
     } else {
-        Ok(Verdict::Lost)
-    }
+        Verdict::Lost
+    })
 }

@@ -8,7 +8,7 @@ use std::alloc::{AllocError, Global};
 const LINE: &[u8] =
     b"A Line of Some Words, longer than the text and the names that are there before it, and some more, so that the held line is broken where it is written, and once more";
 
-/// What grows, and what was found in it.
+/// What grows.
 #[derive(Drop)]
 pub struct Growing {
     text: Bytes,
@@ -18,7 +18,6 @@ pub struct Growing {
     texts: SparseTexts,
     held: Held,
     lines: Sequence<Bytes>,
-    found: Option<Bytes>,
 }
 
 fn push_name(alloc: Global, names: &mut NameList, name: &[u8]) -> Result<(), AllocError> {
@@ -77,53 +76,8 @@ fn held(alloc: Global) -> Result<Held, AllocError> {
     Ok(held)
 }
 
-fn found_name(alloc: Global, names: &NameList) -> Result<Bytes, AllocError> {
-    match names.find(alloc, b"NAME 1")? {
-        Some(name) => Bytes::copied(alloc, name.as_slice()),
-        None => Bytes::copied(alloc, b"none"),
-    }
-}
-
-fn found_value(alloc: Global, values: &ByName<usize>) -> Result<Bytes, AllocError> {
-    match values.get(alloc, b"C")? {
-        Some(_) => Bytes::copied(alloc, b"there"),
-        None => Bytes::copied(alloc, b"none"),
-    }
-}
-
-fn copied(alloc: Global, held: &Held) -> Result<Bytes, AllocError> {
-    let copy = held.copy(alloc)?;
-    Bytes::copied(alloc, copy.bytes())
-}
-
-impl Growing {
-    /// Makes those calls that give a text.
-    fn given(&self, alloc: Global, name: &str) -> Result<Bytes, AllocError> {
-        match name {
-            "copy" => Bytes::copied(alloc, LINE),
-            "join" => Bytes::of(alloc, &[LINE, b" and ", LINE]),
-            "copy-held" => copied(alloc, &self.held),
-            "find-name" => found_name(alloc, &self.names),
-            _ => found_value(alloc, &self.values),
-        }
-    }
-
-    /// Makes those calls that change names, or give a text.
-    fn call_on_names(&mut self, alloc: Global, name: &str) -> Result<(), AllocError> {
-        match name {
-            "push-name" => push_name(alloc, &mut self.names, LINE),
-            "insert" => self.values.insert(alloc, LINE, 7),
-            "make-room" => self.values.make_room(),
-            _ => {
-                self.found = Some(self.given(alloc, name)?);
-                Ok(())
-            }
-        }
-    }
-}
-
 impl Case for Growing {
-    fn begun(alloc: Global, _group: &str) -> Result<Self, AllocError> {
+    fn begun(alloc: Global) -> Result<Self, AllocError> {
         // The parts with the largest types come last: fewer requests for memory can fail where they are there.
         let text = Bytes::copied(alloc, b"text")?;
         let list = listed(alloc, 4)?;
@@ -139,7 +93,6 @@ impl Case for Growing {
             texts,
             held,
             lines: Sequence::new(alloc),
-            found: None,
         })
     }
 
@@ -152,16 +105,18 @@ impl Case for Growing {
             "write" => felt(self.held.write(alloc, LINE, &mut self.lines)),
             "write-a-word" => felt(self.held.write(alloc, b"word", &mut self.lines)),
             "newline" => felt(self.held.newline(alloc, &mut self.lines)),
-            _ => self.call_on_names(alloc, name),
+            "push-name" => push_name(alloc, &mut self.names, LINE),
+            "insert" => self.values.insert(alloc, LINE, 7),
+            _ => self.values.make_room(),
         }
     }
 
     fn seen(&self, alloc: Global) -> Result<Bytes, AllocError> {
         let (text, list, names) = (&self.text, &self.list, self.names.as_slice());
-        let (values, texts, held) = (self.values.values(), &self.texts, &self.held);
-        let (lines, found) = (&self.lines, &self.found);
+        let (values, texts) = (self.values.values(), &self.texts);
+        let (held, lines) = (&self.held, &self.lines);
         let words = format!(in alloc;
-            "{text:?} {list:?} {names:?} {values:?} {texts:?} {held:?} {lines:?} {found:?}"
+            "{text:?} {list:?} {names:?} {values:?} {texts:?} {held:?} {lines:?}"
         )?;
         Ok(Bytes::from_vec(words.into_bytes()))
     }

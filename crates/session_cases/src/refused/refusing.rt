@@ -1,0 +1,127 @@
+//! What a session with as many files as there may be shows, and which edits it refuses.
+
+use crate::refused::attempt::Part;
+use crate::sessions::{begin, make};
+use bibtex::{Edit, FILE_BYTES, FILE_LIMIT, Refusal, Session};
+use bt_log::status;
+use std::alloc::{AllocError, Global};
+
+const DATABASE: &[u8] = b"@misc{a, title = {A}}\n@misc{b, title = {B}}\n";
+
+/// A job of two entries.
+const WRITES: &[Edit<'static>] = &[
+    Edit::Write(
+        b"job.aux",
+        b"\\citation{a,b}\n\\bibdata{x}\n\\bibstyle{s}\n",
+    ),
+    Edit::Write(
+        b"s.bst",
+        b"ENTRY {title}{}{}\nFUNCTION {misc} {title write$ newline$}\nREAD\nITERATE {call.type$}\n",
+    ),
+    Edit::Write(b"x.bib", DATABASE),
+];
+
+/// How its log begins.
+const FILES: &[u8] =
+    b"The top-level auxiliary file: job.aux\nThe style file: s.bst\nDatabase file #1: x.bib\n";
+
+/// Edits, and why they are refused.
+const REFUSED: &[(Edit<'static>, Refusal)] = &[
+    (Edit::Write(b"a b", b"text"), Refusal::BadName),
+    (Edit::Write(b"", b"text"), Refusal::BadName),
+    (Edit::Splice(b"a b", 0, 0, b"text"), Refusal::BadName),
+    (Edit::Remove(b"a b"), Refusal::BadName),
+    (Edit::Root(b"a b"), Refusal::BadName),
+    (
+        Edit::Root(b"aaaaaaaaaaaaaaaaaaaaaaaaaaaaaaaaaaaaaaaaaaaaaaaaaaaaaaaaaaaaa"),
+        Refusal::BadName,
+    ),
+    (Edit::Splice(b"y.bib", 1, 0, b"text"), Refusal::NoSuchFile),
+    (Edit::Remove(b"y.bib"), Refusal::NoSuchFile),
+    (Edit::Splice(b"x.bib", 0, 45, b""), Refusal::RangeOutside),
+    (Edit::Splice(b"x.bib", 2, 1, b"text"), Refusal::RangeOutside),
+    (Edit::Write(b"y.bib", b"text"), Refusal::TooManyFiles),
+];
+
+/// Whether the session shows the job of two entries.
+fn shows_two(session: &Session) -> bool {
+    session.bbl() == b"A\nB\n".as_slice()
+        && session.blg().starts_with(FILES)
+        && session.terse().is_empty()
+        && session.status() == 0
+        && session.wanted().is_empty()
+        && session.file(b"x.bib") == Some(DATABASE)
+        && session.file(b"y.bib").is_none()
+        && status(session.messages()) == 0
+        && session.refusal(Edit::Splice(b"x.bib", 1, 100_000, b""), 9)
+            == Some(Refusal::RangeOutside)
+}
+
+fn is_refused(session: &mut Session, edit: Edit<'_>, reason: Refusal) -> bool {
+    match make(session, edit) {
+        Err(refusal) => refusal == reason && shows_two(session),
+        Ok(_) => false,
+    }
+}
+
+fn refuses_listed(session: &mut Session) -> bool {
+    for (edit, reason) in REFUSED {
+        if !is_refused(session, *edit, *reason) {
+            return false;
+        }
+    }
+    true
+}
+
+/// Whether edits that bring more bytes than a file may have are refused.
+fn refuses_many(session: &mut Session, many: &[u8]) -> bool {
+    let large = Refusal::FileTooLarge;
+    is_refused(session, Edit::Write(b"a b", many), Refusal::BadName)
+        && is_refused(session, Edit::Write(b"y.bib", many), large)
+        && is_refused(session, Edit::Write(b"x.bib", many), large)
+        && is_refused(session, Edit::Splice(b"x.bib", 0, 44, many), large)
+}
+
+fn refuses_root(alloc: Global) -> bool {
+    match begin(alloc, b"a b", 2) {
+        Err(refusal) => refusal == Refusal::BadName,
+        Ok(_) => false,
+    }
+}
+
+/// Gives a session the job's files, and others up to as many as there may be.
+fn fill_up(alloc: Global, session: &mut Session) -> Result<(), Refusal> {
+    for edit in WRITES {
+        make(session, *edit)?;
+    }
+    for number in WRITES.len()..FILE_LIMIT {
+        let name = format!(in alloc; "more-{number}")?;
+        make(session, Edit::Write(name.as_bytes(), b"1"))?;
+    }
+    Ok(())
+}
+
+fn letters(alloc: Global, count: usize) -> Result<Vec<u8>, AllocError> {
+    vec![in alloc; b'a'; count]
+}
+
+fn full_session(alloc: Global) -> Result<Session, Refusal> {
+    let mut session = begin(alloc, b"job", 2)?;
+    fill_up(alloc, &mut session)?;
+    Ok(session)
+}
+
+/// Whether the session shows its job, and refuses edits and keeps showing it.
+pub fn is_refusing(alloc: Global, part: Part) -> Result<bool, AllocError> {
+    let many = letters(alloc, FILE_BYTES + 1)?;
+    let Ok(mut session) = full_session(alloc) else {
+        return Err(AllocError);
+    };
+    Ok(
+        part == Part::Setup
+            || shows_two(&session)
+                && refuses_root(alloc)
+                && refuses_listed(&mut session)
+                && refuses_many(&mut session, many.as_slice()),
+    )
+}
