@@ -247,9 +247,9 @@ impl Case for Edited {
 
     /// An edit; `letters LEN NAME`: a write of so many letters; `list N`: the edits of the next N lines as one list;
     /// `refusal SIZE EDIT`: the first reason against an edit that brings so many bytes; `anew MIN ROOT`: whether a new
-    /// session shows the same; `wanted`: the names that are wanted; `text NAME`; `show`: the status, the bibliography, and
-    /// both logs; `bibliography`; `message`: the last one; `agrees KEY,TITLE,NOTE KEY,TITLE,NOTE`: whether the steps of two
-    /// such entries agree.
+    /// session shows the same; `wanted`: the names that are wanted; `text NAME`; `show`: the status, the bibliography,
+    /// and both logs; `bibliography`; `message`: the last one; `agrees KEY,TITLE,NOTE KEY,TITLE,NOTE`: whether the steps
+    /// of two such entries agree.
     fn carry_out<'a>(
         &mut self,
         rt: &HostRuntime,
