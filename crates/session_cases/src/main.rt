@@ -33,15 +33,26 @@ fn answer_script(rt: &HostRuntime) -> Result<()> {
     answer_all::<Edited>(rt, &mut script, "end")
 }
 
-/// Does what a word says. The answer is false where a call gives a wrong answer.
-fn answer(rt: &HostRuntime, word: &str) -> Result<bool> {
-    if word == "scripts" {
-        answer_script(rt)?;
-        return Ok(true);
-    }
+/// Makes all calls, and says whether each gave the right answer.
+fn make_calls(rt: &HostRuntime) -> Result<bool> {
     let are_right = refused::all_are_right(rt.alloc())?;
     println!(rt; "calls: {}", if are_right { "right" } else { "wrong" })?;
     Ok(are_right)
+}
+
+/// Does what a word says. The answer is false if a call gives a wrong answer, or if there is no such word.
+fn answer(rt: &HostRuntime, word: &str) -> Result<bool> {
+    match word {
+        "scripts" => {
+            answer_script(rt)?;
+            Ok(true)
+        }
+        "calls" => make_calls(rt),
+        _ => {
+            eprintln!(rt; "{word} is no word of this program")?;
+            Ok(false)
+        }
+    }
 }
 
 fn answer_words(rt: &HostRuntime, words: &[String]) -> Result<ExitCode> {

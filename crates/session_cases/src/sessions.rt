@@ -125,12 +125,11 @@ fn tell_anew(rt: &HostRuntime, session: &Session, last: Option<Report>, words: &
     Ok(())
 }
 
-fn tell_letters(rt: &HostRuntime, session: &mut Session, words: &str) -> Result<()> {
+fn tell_letters(rt: &HostRuntime, session: &mut Session, words: &str) -> Result<Option<Report>> {
     let (count, name) = split(words);
     let letters = vec![in rt.alloc(); b'a'; number(count)]?;
     let edit = Edit::Write(name.as_bytes(), letters.as_slice());
-    tell_edit(rt, session, edit)?;
-    Ok(())
+    tell_edit(rt, session, edit)
 }
 
 fn has_run_out(answers: &Result<Vec<Result<Report, Refusal>>, AllocError>) -> bool {
@@ -146,7 +145,10 @@ fn has_run_out(answers: &Result<Vec<Result<Report, Refusal>>, AllocError>) -> bo
 fn tell_list(rt: &HostRuntime, session: &mut Session, edits: &[Edit<'_>]) -> Result<()> {
     let before = seen(rt.alloc(), session)?;
     let mut answers = edit_all(rt.alloc(), session, edits);
-    if has_run_out(&answers) && shows(rt.alloc(), session, &before)? {
+    if has_run_out(&answers) {
+        if !shows(rt.alloc(), session, &before)? {
+            println!(rt; "something has changed")?;
+        }
         eprintln!(rt; "out of memory: once more")?;
         answers = edit_all(rt.alloc(), session, edits);
     }
@@ -221,6 +223,7 @@ fn show(rt: &HostRuntime, session: &Session, word: &str, words: &str) -> Result<
         "show" => tell_logs(rt, session)?,
         "bibliography" => print!(rt; "bibliography:\n{}", text(session.bbl()))?,
         "message" => tell_last(rt, session.messages())?,
+        "messages" => println!(rt; "{:?}", session.messages())?,
         "agrees" => tell_agreement(rt, words)?,
         _ => {
             let text = text(session.file(words.as_bytes()).unwrap_or(b"none"));
@@ -248,8 +251,8 @@ impl Case for Edited {
     /// An edit; `letters LEN NAME`: a write of so many letters; `list N`: the edits of the next N lines as one list;
     /// `refusal SIZE EDIT`: the first reason against an edit that brings so many bytes; `anew MIN ROOT`: whether a new
     /// session shows the same; `wanted`: the names that are wanted; `text NAME`; `show`: the status, the bibliography,
-    /// and both logs; `bibliography`; `message`: the last one; `agrees KEY,TITLE,NOTE KEY,TITLE,NOTE`: whether the steps
-    /// of two such entries agree.
+    /// and both logs; `bibliography`; `message`: the last one; `messages`: all, with all their parts;
+    /// `agrees KEY,TITLE,NOTE KEY,TITLE,NOTE`: whether the steps of two such entries agree.
     fn carry_out<'a>(
         &mut self,
         rt: &HostRuntime,
@@ -262,10 +265,11 @@ impl Case for Edited {
             "write" | "splice" | "remove" | "root" | "min" => {
                 self.last = tell_edit(rt, session, edit_of(line, script))?;
             }
-            "letters" => tell_letters(rt, session, words)?,
+            "letters" => self.last = tell_letters(rt, session, words)?,
             "list" => {
                 let edits = edits_of(rt.alloc(), number(words), script)?;
                 tell_list(rt, session, edits.as_slice())?;
+                self.last = None;
             }
             "refusal" => {
                 let (size, line) = split(words);
