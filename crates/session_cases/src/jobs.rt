@@ -71,13 +71,14 @@ fn tell_bytes(rt: &HostRuntime, title: &str, bytes: &[u8]) -> Result<()> {
     Ok(())
 }
 
-fn tell_ended(rt: &HostRuntime, status: u8, folder: &Memory) -> Result<()> {
+fn tell_ended(rt: &HostRuntime, status: u8, folder: &Memory, out: &[u8], err: &[u8]) -> Result<()> {
     println!(rt; "exit {status}")?;
     tell_bytes(rt, "read", folder.read_lines())?;
     for file in folder.written() {
         tell_bytes(rt, text(file.name.as_slice()), file.bytes.as_slice())?;
     }
-    Ok(())
+    tell_bytes(rt, "out", out)?;
+    tell_bytes(rt, "err", err)
 }
 
 fn run(rt: &HostRuntime, options: &Options, folder: &mut Memory, room: (usize, usize)) -> Result<()>
@@ -89,9 +90,29 @@ fn run(rt: &HostRuntime, options: &Options, folder: &mut Memory, room: (usize, u
     let mut out = Taker::new(alloc, Limits::writes_up_to(room.0), &handed_on);
     let mut err = Taker::new(alloc, Limits::writes_up_to(room.1), &handed_on);
     let status = run_job(alloc, options, &mut out, &mut err, folder)?;
-    tell_ended(rt, status, folder)?;
-    tell_bytes(rt, "out", out.bytes())?;
-    tell_bytes(rt, "err", err.bytes())
+    tell_ended(rt, status, folder, out.bytes(), err.bytes())
+}
+
+/// Tells what a command line asks for, or the fault that it has.
+fn tell_line(rt: &HostRuntime, words: &[String]) -> Result<()> {
+    match parse_options(rt.alloc(), words) {
+        Ok(options) => tell_options(rt, &options),
+        Err(fault) => tell_fault(rt, &fault),
+    }
+}
+
+/// Tells what comes of the job of a command line, or the fault that it has.
+fn tell_run(
+    rt: &HostRuntime,
+    words: &[String],
+    folder: &mut Memory,
+    room: (usize, usize),
+) -> Result<()> {
+    match parse_options(rt.alloc(), words) {
+        Ok(options) if folder.failures() < u64::MAX => run(rt, &options, folder, room),
+        Ok(_) => Ok(()),
+        Err(fault) => tell_fault(rt, &fault),
+    }
 }
 
 /// A folder, and how many bytes standard output and standard error take.
@@ -103,17 +124,12 @@ pub struct Job {
 }
 
 impl Job {
-    /// Tells what a command line asks for, the fault that it has, or what comes of its job.
-    fn answer(&mut self, rt: &HostRuntime, word: &str, words: &[String]) -> Result<()> {
-        if word == "faults" {
-            return show_faults(rt, words);
-        }
-        match parse_options(rt.alloc(), words) {
-            Ok(options) if word == "run" && self.folder.failures() < u64::MAX => {
-                run(rt, &options, &mut self.folder, (self.out, self.err))
-            }
-            Ok(options) => tell_options(rt, &options),
-            Err(fault) => tell_fault(rt, &fault),
+    fn answer(&mut self, rt: &HostRuntime, word: &str, line: &str) -> Result<()> {
+        let words = words_of(rt.alloc(), line)?;
+        match word {
+            "faults" => show_faults(rt, &words),
+            "run" => tell_run(rt, &words, &mut self.folder, (self.out, self.err)),
+            _ => tell_line(rt, &words),
         }
     }
 }
@@ -145,7 +161,7 @@ impl Case for Job {
             "unwritable" => self.folder.seal(words)?,
             "out" => self.out = number(words),
             "err" => self.err = number(words),
-            _ => self.answer(rt, word, &words_of(rt.alloc(), line)?)?,
+            _ => self.answer(rt, word, line)?,
         }
         Ok(())
     }

@@ -3,6 +3,7 @@
 ghost use Rattle.std.specs.Prelude.{◌<◌, ◌-◌, ◌^◌};
 
 use crate::script::{Case, Script, number, split, text};
+use crate::sessions::begin;
 use anyhow::Result;
 use bibtex::{Refusal, Session};
 use bt_serve::{ServeFault, serve};
@@ -54,7 +55,7 @@ fn tell(
 
 fn answer(rt: &HostRuntime, input: &[u8], limits: Limits<'_>) -> Result<()> {
     let alloc = rt.alloc();
-    let mut session = Session::new(alloc, b"job", 2)?;
+    let mut session = begin(alloc, b"job", 2)?;
     let handed_on = Cell::new(0);
     let mut source = Giver::new(alloc, input, limits, &handed_on);
     let mut sink = Taker::new(alloc, limits, &handed_on);
@@ -135,7 +136,7 @@ impl Loop {
             _ => {}
         }
         print!(rt; "{}", title(word))?;
-        answer(rt, &input[..end.min(input.len())], limits)
+        answer(rt, input.get(..end).unwrap_or(input), limits)
     }
 
     /// Runs for each place from a number to another.

@@ -12,22 +12,30 @@ const NAMES: [&str; 8] = [
     "job.aux", "two.aux", "n.aux", "s.bst", "t.bst", "x.bib", "y.bib", "a b",
 ];
 
-/// All that a session answers.
-pub fn seen(alloc: Global, session: &Session) -> Result<Bytes, AllocError> {
+fn push_answers(session: &Session, seen: &mut Bytes) -> Result<(), AllocError> {
     let status = [session.status()];
-    let mut seen = Bytes::of(
-        alloc,
-        &[session.bbl(), session.blg(), session.terse(), &status],
-    )?;
+    seen.append_all(&[session.bbl(), session.blg(), session.terse(), &status])?;
     for name in session.wanted() {
         seen.append_all(&[name.as_slice(), b"\n"])?;
     }
+    Ok(())
+}
+
+fn push_texts(session: &Session, seen: &mut Bytes) -> Result<(), AllocError> {
     for name in NAMES {
         if let Some(text) = session.file(name.as_bytes()) {
             seen.append_all(&[name.as_bytes(), b"\n", text])?;
         }
     }
-    seen.append(format!(in alloc; "{:?}", session.messages())?.as_bytes())?;
+    Ok(())
+}
+
+/// All that a session answers.
+fn seen(alloc: Global, session: &Session) -> Result<Bytes, AllocError> {
+    let words = format!(in alloc; "{:?}", session.messages())?;
+    let mut seen = Bytes::from_vec(words.into_bytes());
+    push_answers(session, &mut seen)?;
+    push_texts(session, &mut seen)?;
     Ok(seen)
 }
 
@@ -75,54 +83,88 @@ fn tell_answer(rt: &HostRuntime, answer: Result<Report, Refusal>) -> Result<()> 
     Ok(())
 }
 
-/// Makes an edit, and gives its report; tells after a refusal whether all is as before. If memory ran out and all is,
-/// standard error says so, and the edit is made once more.
+/// Makes an edit. If memory ran out and all is as before, standard error says so, and the edit is made once more.
+fn made(
+    rt: &HostRuntime,
+    session: &mut Session,
+    edit: Edit<'_>,
+    before: &Bytes,
+) -> Result<Result<Report, Refusal>> {
+    let answer = make(session, edit);
+    if !matches!(answer, Err(Refusal::OutOfMemory)) || !shows(rt.alloc(), session, before)? {
+        return Ok(answer);
+    }
+    eprintln!(rt; "out of memory: once more")?;
+    Ok(make(session, edit))
+}
+
+/// Tells after a refusal whether all is as before.
+fn tell_change(rt: &HostRuntime, session: &Session, before: &Bytes) -> Result<()> {
+    if shows(rt.alloc(), session, before)? {
+        println!(rt; "all is as before")?;
+    } else {
+        println!(rt; "something has changed")?;
+    }
+    Ok(())
+}
+
+/// Makes an edit, and gives its report.
 fn tell_edit(rt: &HostRuntime, session: &mut Session, edit: Edit<'_>) -> Result<Option<Report>> {
     let before = seen(rt.alloc(), session)?;
-    let mut answer = make(session, edit);
-    if matches!(answer, Err(Refusal::OutOfMemory)) && shows(rt.alloc(), session, &before)? {
-        eprintln!(rt; "out of memory: once more")?;
-        answer = make(session, edit);
-    }
+    let answer = made(rt, session, edit, &before)?;
     tell_answer(rt, answer)?;
-    if answer.is_err() && shows(rt.alloc(), session, &before)? {
-        println!(rt; "all is as before")?;
-    } else if answer.is_err() {
-        println!(rt; "something has changed")?;
+    if answer.is_err() {
+        tell_change(rt, session, &before)?;
     }
     Ok(answer.ok())
 }
 
-/// Whether a new session, which is given the present texts, shows the same, with as many steps in its last report.
-fn is_as_anew(
-    alloc: Global,
+/// Gives a new session the present texts of another one, and gives the last report.
+fn give_texts(anew: &mut Session, session: &Session) -> Result<Option<Report>, Refusal> {
+    let mut last = None;
+    for name in NAMES {
+        if let Some(text) = session.file(name.as_bytes()) {
+            last = Some(make(anew, Edit::Write(name.as_bytes(), text))?);
+        }
+    }
+    Ok(last)
+}
+
+/// Whether two reports, if both are there, have as many steps.
+fn are_as_long(one: Option<Report>, other: Option<Report>) -> bool {
+    match (one, other) {
+        (Some(one), Some(other)) => {
+            one.ran.saturating_add(one.reused) == other.ran.saturating_add(other.reused)
+        }
+        _ => true,
+    }
+}
+
+fn shows_same(alloc: Global, session: &Session, anew: &Session) -> Result<bool, AllocError> {
+    shows(alloc, anew, &seen(alloc, session)?)
+}
+
+/// Tells whether a new session, which is given the present texts, shows the same, with as many steps in its last report.
+fn tell_difference(
+    rt: &HostRuntime,
     session: &Session,
     last: Option<Report>,
     anew: &mut Session,
-) -> Result<bool, Refusal> {
-    let mut report = None;
-    for name in NAMES {
-        if let Some(text) = session.file(name.as_bytes()) {
-            report = Some(make(anew, Edit::Write(name.as_bytes(), text))?);
-        }
-    }
-    if let (Some(last), Some(report)) = (last, report)
-        && last.ran.saturating_add(last.reused) != report.ran.saturating_add(report.reused)
-    {
-        return Ok(false);
-    }
-    Ok(shows(alloc, anew, &seen(alloc, session)?)?)
-}
-
-fn tell_anew(rt: &HostRuntime, session: &Session, last: Option<Report>, words: &str) -> Result<()> {
-    let (min, root) = split(words);
-    let mut anew = begin(rt.alloc(), root.as_bytes(), min.parse::<u32>().unwrap_or(2))?;
-    if is_as_anew(rt.alloc(), session, last, &mut anew)? {
+) -> Result<()> {
+    let report = give_texts(anew, session)?;
+    if are_as_long(last, report) && shows_same(rt.alloc(), session, anew)? {
         println!(rt; "as anew")?;
     } else {
         println!(rt; "not as anew")?;
     }
     Ok(())
+}
+
+fn tell_anew(rt: &HostRuntime, session: &Session, last: Option<Report>, words: &str) -> Result<()> {
+    let (min, root) = split(words);
+    let min = min.parse::<u32>().unwrap_or(2);
+    let mut anew = begin(rt.alloc(), root.as_bytes(), min)?;
+    tell_difference(rt, session, last, &mut anew)
 }
 
 fn tell_letters(rt: &HostRuntime, session: &mut Session, words: &str) -> Result<Option<Report>> {
@@ -132,30 +174,58 @@ fn tell_letters(rt: &HostRuntime, session: &mut Session, words: &str) -> Result<
     tell_edit(rt, session, edit)
 }
 
-fn has_run_out(answers: &Result<Vec<Result<Report, Refusal>>, AllocError>) -> bool {
-    match answers {
-        Ok(answers) => answers
-            .iter()
-            .any(|each| matches!(each, Err(Refusal::OutOfMemory))),
-        Err(AllocError) => true,
-    }
+/// Makes edits as one list, of which the same holds.
+fn make_all(
+    alloc: Global,
+    session: &mut Session,
+    edits: &[Edit<'_>],
+) -> Result<Vec<Result<Report, Refusal>>, AllocError> {
+    edit_all(alloc, session, edits)
 }
 
-/// Makes edits as one list; once more if memory ran out and all is as before.
-fn tell_list(rt: &HostRuntime, session: &mut Session, edits: &[Edit<'_>]) -> Result<()> {
-    let before = seen(rt.alloc(), session)?;
-    let mut answers = edit_all(rt.alloc(), session, edits);
+fn has_run_out(answers: &[Result<Report, Refusal>]) -> bool {
+    answers
+        .iter()
+        .any(|each| matches!(each, Err(Refusal::OutOfMemory)))
+}
+
+/// Makes edits as one list. Nothing is given if memory ran out.
+fn made_once(
+    alloc: Global,
+    session: &mut Session,
+    edits: &[Edit<'_>],
+) -> Option<Vec<Result<Report, Refusal>>> {
+    let answers = make_all(alloc, session, edits).ok()?;
     if has_run_out(&answers) {
-        if !shows(rt.alloc(), session, &before)? {
-            println!(rt; "something has changed")?;
-        }
-        eprintln!(rt; "out of memory: once more")?;
-        answers = edit_all(rt.alloc(), session, edits);
+        return None;
     }
-    for answer in answers?.iter() {
+    Some(answers)
+}
+
+/// Tells that memory ran out in a list of edits, and whether something has changed.
+fn tell_run_out(rt: &HostRuntime, session: &Session, before: &Bytes) -> Result<()> {
+    if !shows(rt.alloc(), session, before)? {
+        println!(rt; "something has changed")?;
+    }
+    eprintln!(rt; "out of memory: once more")?;
+    Ok(())
+}
+
+fn tell_answers(rt: &HostRuntime, answers: &[Result<Report, Refusal>]) -> Result<()> {
+    for answer in answers {
         tell_answer(rt, *answer)?;
     }
     Ok(())
+}
+
+/// Makes edits as one list; once more if memory ran out.
+fn tell_list(rt: &HostRuntime, session: &mut Session, edits: &[Edit<'_>]) -> Result<()> {
+    let before = seen(rt.alloc(), session)?;
+    if let Some(answers) = made_once(rt.alloc(), session, edits) {
+        return tell_answers(rt, &answers);
+    }
+    tell_run_out(rt, session, &before)?;
+    tell_answers(rt, &make_all(rt.alloc(), session, edits)?)
 }
 
 fn edits_of<'a>(
@@ -170,6 +240,30 @@ fn edits_of<'a>(
         }
     }
     Ok(edits)
+}
+
+/// Makes the edits of the next lines as one list.
+fn tell_list_of<'a>(
+    rt: &HostRuntime,
+    session: &mut Session,
+    count: usize,
+    script: &mut Script<'a>,
+) -> Result<()> {
+    let edits = edits_of(rt.alloc(), count, script)?;
+    tell_list(rt, session, &edits)
+}
+
+/// Tells the first reason against an edit that brings so many bytes.
+fn tell_reason<'a>(
+    rt: &HostRuntime,
+    session: &Session,
+    words: &'a str,
+    script: &mut Script<'a>,
+) -> Result<()> {
+    let (size, line) = split(words);
+    let reason = session.refusal(edit_of(line, script), number(size));
+    println!(rt; "refusal: {reason:?}")?;
+    Ok(())
 }
 
 fn tell_wanted(rt: &HostRuntime, session: &Session) -> Result<()> {
@@ -259,25 +353,19 @@ impl Case for Edited {
         line: &'a str,
         script: &mut Script<'a>,
     ) -> Result<()> {
-        let session = &mut self.session;
         let (word, words) = split(line);
         match word {
             "write" | "splice" | "remove" | "root" | "min" => {
-                self.last = tell_edit(rt, session, edit_of(line, script))?;
+                self.last = tell_edit(rt, &mut self.session, edit_of(line, script))?;
             }
-            "letters" => self.last = tell_letters(rt, session, words)?,
+            "letters" => self.last = tell_letters(rt, &mut self.session, words)?,
             "list" => {
-                let edits = edits_of(rt.alloc(), number(words), script)?;
-                tell_list(rt, session, edits.as_slice())?;
+                tell_list_of(rt, &mut self.session, number(words), script)?;
                 self.last = None;
             }
-            "refusal" => {
-                let (size, line) = split(words);
-                let reason = session.refusal(edit_of(line, script), number(size));
-                println!(rt; "refusal: {reason:?}")?;
-            }
-            "anew" => tell_anew(rt, session, self.last, words)?,
-            _ => show(rt, session, word, words)?,
+            "refusal" => tell_reason(rt, &self.session, words, script)?,
+            "anew" => tell_anew(rt, &self.session, self.last, words)?,
+            _ => show(rt, &self.session, word, words)?,
         }
         Ok(())
     }

@@ -41,12 +41,16 @@ struct Wanted {
     after: Bytes,
 }
 
-fn by_example<C: Case>(alloc: Global, name: &str) -> Result<Wanted, AllocError> {
-    let mut example = C::begun(alloc)?;
+fn shown_by<C: Case>(alloc: Global, example: &mut C, name: &str) -> Result<Wanted, AllocError> {
     let before = example.seen(alloc)?;
     example.call(alloc, name)?;
     let after = example.seen(alloc)?;
     Ok(Wanted { before, after })
+}
+
+fn by_example<C: Case>(alloc: Global, name: &str) -> Result<Wanted, AllocError> {
+    let mut example = C::begun(alloc)?;
+    shown_by(alloc, &mut example, name)
 }
 
 fn shows<C: Case>(alloc: Global, case: &C, wanted: &Bytes) -> Result<bool, AllocError> {
@@ -74,16 +78,27 @@ fn judged<C: Case>(
     }
 }
 
-/// What comes of the call of a name. The error is that memory was refused outside of the call.
-pub fn verdict_on<C: Case>(alloc: Global, name: &str, part: Part) -> Result<Verdict, AllocError> {
-    let wanted = by_example::<C>(alloc, name)?;
-    let mut case = C::begun(alloc)?;
+/// What comes of as much of the case as is run.
+fn verdict_in<C: Case>(
+    alloc: Global,
+    case: &mut C,
+    name: &str,
+    part: Part,
+    wanted: &Wanted,
+) -> Result<Verdict, AllocError> {
     match part {
         Part::Setup => Ok(Verdict::NotRefused),
         Part::Call => {
             let _ = case.call(alloc, name);
             Ok(Verdict::NotRefused)
         }
-        Part::Whole => judged(alloc, &mut case, name, &wanted),
+        Part::Whole => judged(alloc, case, name, wanted),
     }
+}
+
+/// What comes of the call of a name. The error is that memory was refused outside of the call.
+pub fn verdict_on<C: Case>(alloc: Global, name: &str, part: Part) -> Result<Verdict, AllocError> {
+    let wanted = by_example::<C>(alloc, name)?;
+    let mut case = C::begun(alloc)?;
+    verdict_in(alloc, &mut case, name, part, &wanted)
 }

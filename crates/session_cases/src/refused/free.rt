@@ -5,8 +5,9 @@ use crate::inputs::{input, reach, style};
 use crate::refused::attempt::{Part, Verdict};
 use crate::refused::refusing::is_refusing;
 use bt_bib::ReadMeter;
-use bt_machine::{Meter, agrees};
+use bt_machine::{Input, Meter, agrees};
 use bt_names::{FormatFault, NameFault, count, format, parts};
+use bt_style::{Reach, Style};
 use bt_text::{
     Bytes, Class, Held, HeldFault, Sequence, TEXT_BYTES, balanced, class, text_length, width,
 };
@@ -58,16 +59,21 @@ fn is_not_formatted(alloc: Global, names: &[u8], pattern: &[u8], fault: FormatFa
     }
 }
 
-/// Whether names, and patterns where the name has none, have their fault, at the right place.
+/// Whether patterns have their fault at the right place, where the name has none.
+fn are_patterns_refused(alloc: Global) -> bool {
+    is_not_formatted(alloc, b"A", b"{ff x}", FormatFault::PatternFault(4))
+        && is_not_formatted(alloc, b"A", b"{ff", FormatFault::PatternFault(3))
+        && is_not_formatted(alloc, b"A", b"}", FormatFault::PatternFault(0))
+}
+
+/// Whether names have their fault.
 fn are_names_right(alloc: Global) -> bool {
     has_no_parts(alloc, b"", 1, NameFault::NoSuchName)
         && has_no_parts(alloc, b"A and B", 3, NameFault::NoSuchName)
         && has_no_parts(alloc, b"A, B, C, D", 1, NameFault::TooManyCommas)
         && is_not_formatted(alloc, b"", b"}", FormatFault::NoSuchName)
         && is_not_formatted(alloc, b"A, B, C, D", b"}", FormatFault::TooManyCommas)
-        && is_not_formatted(alloc, b"A", b"{ff x}", FormatFault::PatternFault(4))
-        && is_not_formatted(alloc, b"A", b"{ff", FormatFault::PatternFault(3))
-        && is_not_formatted(alloc, b"A", b"}", FormatFault::PatternFault(0))
+        && are_patterns_refused(alloc)
 }
 
 /// Fills a held line with as many bytes as it may have.
@@ -86,29 +92,36 @@ fn is_too_long(alloc: Global, held: &mut Held, lines: &mut Sequence<Bytes>, text
         && lines.len() == 0
 }
 
-/// Whether a full line takes no more.
+/// Whether a new line is empty, and a full one takes no more.
+fn takes_no_more(alloc: Global, held: &mut Held, lines: &mut Sequence<Bytes>) -> bool {
+    Held::new(alloc).bytes().is_empty()
+        && is_too_long(alloc, held, lines, b"a")
+        && is_too_long(alloc, held, lines, b"a word and more")
+}
+
 fn is_full_line_right(alloc: Global, part: Part) -> Result<bool, AllocError> {
     let mut held = Held::new(alloc);
     let mut lines = Sequence::new(alloc);
     fill(alloc, &mut held, &mut lines)?;
-    Ok(
-        part == Part::Setup
-            || Held::new(alloc).bytes().is_empty()
-                && is_too_long(alloc, &mut held, &mut lines, b"a")
-                && is_too_long(alloc, &mut held, &mut lines, b"a word and more"),
-    )
+    Ok(part == Part::Setup || takes_no_more(alloc, &mut held, &mut lines))
 }
 
-/// Whether two inputs of a step that differ in their keys alone don't agree in what it reaches.
-fn is_agreement_right(alloc: Global, part: Part) -> Result<bool, AllocError> {
+/// Whether an input agrees with itself, and not with another, in what a step reaches.
+fn agrees_alone(style: &Style, one: &Input, other: &Input, reach: &Reach) -> bool {
+    agrees(style, one, one, reach) && !agrees(style, one, other, reach)
+}
+
+/// Whether two inputs that differ in their keys alone don't agree in what a step of this style reaches.
+fn are_apart(alloc: Global, style: &Style, part: Part) -> Result<bool, AllocError> {
+    let reach = reach(alloc, style)?;
     let one = input(alloc, "key,A,n")?;
     let other = input(alloc, "other,A,n")?;
+    Ok(part == Part::Setup || agrees_alone(style, &one, &other, &reach))
+}
+
+fn is_agreement_right(alloc: Global, part: Part) -> Result<bool, AllocError> {
     let style = style(alloc)?;
-    let reach = reach(alloc, &style)?;
-    Ok(
-        part == Part::Setup
-            || agrees(&style, &one, &one, &reach) && !agrees(&style, &one, &other, &reach),
-    )
+    are_apart(alloc, &style, part)
 }
 
 /// Whether the calls of this name give the right answers; true where they aren't to be made.

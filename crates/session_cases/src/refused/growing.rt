@@ -76,6 +76,16 @@ fn held(alloc: Global) -> Result<Held, AllocError> {
     Ok(held)
 }
 
+impl Growing {
+    fn call_on_names(&mut self, alloc: Global, name: &str) -> Result<(), AllocError> {
+        match name {
+            "push-name" => push_name(alloc, &mut self.names, LINE),
+            "insert" => self.values.insert(alloc, LINE, 7),
+            _ => self.values.make_room(),
+        }
+    }
+}
+
 impl Case for Growing {
     fn begun(alloc: Global) -> Result<Self, AllocError> {
         // The parts with the largest types come last: fewer requests for memory can fail where they are there.
@@ -105,9 +115,7 @@ impl Case for Growing {
             "write" => felt(self.held.write(alloc, LINE, &mut self.lines)),
             "write-a-word" => felt(self.held.write(alloc, b"word", &mut self.lines)),
             "newline" => felt(self.held.newline(alloc, &mut self.lines)),
-            "push-name" => push_name(alloc, &mut self.names, LINE),
-            "insert" => self.values.insert(alloc, LINE, 7),
-            _ => self.values.make_room(),
+            _ => self.call_on_names(alloc, name),
         }
     }
 

@@ -43,6 +43,13 @@ const REFUSED: &[(Edit<'static>, Refusal)] = &[
     (Edit::Write(b"y.bib", b"text"), Refusal::TooManyFiles),
 ];
 
+fn shows_texts(session: &Session) -> bool {
+    session.file(b"x.bib") == Some(DATABASE)
+        && session.file(b"y.bib").is_none()
+        && session.refusal(Edit::Splice(b"x.bib", 1, 100_000, b""), 9)
+            == Some(Refusal::RangeOutside)
+}
+
 /// Whether the session shows the job of two entries.
 fn shows_two(session: &Session) -> bool {
     session.bbl() == b"A\nB\n".as_slice()
@@ -50,11 +57,8 @@ fn shows_two(session: &Session) -> bool {
         && session.terse().is_empty()
         && session.status() == 0
         && session.wanted().is_empty()
-        && session.file(b"x.bib") == Some(DATABASE)
-        && session.file(b"y.bib").is_none()
         && status(session.messages()) == 0
-        && session.refusal(Edit::Splice(b"x.bib", 1, 100_000, b""), 9)
-            == Some(Refusal::RangeOutside)
+        && shows_texts(session)
 }
 
 fn is_refused(session: &mut Session, edit: Edit<'_>, reason: Refusal) -> bool {
@@ -89,14 +93,19 @@ fn refuses_root(alloc: Global) -> bool {
     }
 }
 
+fn write_one(alloc: Global, session: &mut Session, number: usize) -> Result<(), Refusal> {
+    let name = format!(in alloc; "more-{number}")?;
+    make(session, Edit::Write(name.as_bytes(), b"1"))?;
+    Ok(())
+}
+
 /// Gives a session the job's files, and others up to as many as there may be.
 fn fill_up(alloc: Global, session: &mut Session) -> Result<(), Refusal> {
     for edit in WRITES {
         make(session, *edit)?;
     }
     for number in WRITES.len()..FILE_LIMIT {
-        let name = format!(in alloc; "more-{number}")?;
-        make(session, Edit::Write(name.as_bytes(), b"1"))?;
+        write_one(alloc, session, number)?;
     }
     Ok(())
 }
@@ -105,23 +114,29 @@ fn letters(alloc: Global, count: usize) -> Result<Vec<u8>, AllocError> {
     vec![in alloc; b'a'; count]
 }
 
-fn full_session(alloc: Global) -> Result<Session, Refusal> {
-    let mut session = begin(alloc, b"job", 2)?;
-    fill_up(alloc, &mut session)?;
-    Ok(session)
+/// Whether the session shows its job, and refuses edits and keeps showing it.
+fn refuses_all(alloc: Global, session: &mut Session, many: &[u8]) -> bool {
+    shows_two(session)
+        && refuses_root(alloc)
+        && refuses_listed(session)
+        && refuses_many(session, many)
 }
 
-/// Whether the session shows its job, and refuses edits and keeps showing it.
-pub fn is_refusing(alloc: Global, part: Part) -> Result<bool, AllocError> {
+/// Fills a session up, and says whether it does what it must then.
+fn fills_up(alloc: Global, session: &mut Session, part: Part) -> Result<bool, Refusal> {
     let many = letters(alloc, FILE_BYTES + 1)?;
-    let Ok(mut session) = full_session(alloc) else {
-        return Err(AllocError);
-    };
-    Ok(
-        part == Part::Setup
-            || shows_two(&session)
-                && refuses_root(alloc)
-                && refuses_listed(&mut session)
-                && refuses_many(&mut session, many.as_slice()),
-    )
+    fill_up(alloc, session)?;
+    Ok(part == Part::Setup || refuses_all(alloc, session, &many))
+}
+
+fn is_full_refusing(alloc: Global, part: Part) -> Result<bool, Refusal> {
+    let mut session = begin(alloc, b"job", 2)?;
+    fills_up(alloc, &mut session, part)
+}
+
+pub fn is_refusing(alloc: Global, part: Part) -> Result<bool, AllocError> {
+    match is_full_refusing(alloc, part) {
+        Ok(is_refusing) => Ok(is_refusing),
+        Err(_) => Err(AllocError),
+    }
 }
