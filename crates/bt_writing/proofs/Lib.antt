@@ -1,0 +1,9 @@
+pub mod TableLemmas
+pub mod KeptByteLemmas
+pub mod RunLemmas
+pub mod PurifyLemmas
+pub mod CaseLemmas
+pub mod QuietLemmas
+pub mod EndLemmas
+pub mod WidthLemmas
+pub mod PrefixLemmas
