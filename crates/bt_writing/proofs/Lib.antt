@@ -7,3 +7,12 @@ pub mod QuietLemmas
 pub mod EndLemmas
 pub mod WidthLemmas
 pub mod PrefixLemmas
+pub mod SectionLemmas
+pub mod NameLemmas
+pub mod PatternLemmas
+pub mod ListingLemmas
+pub mod CutLemmas
+pub mod GroupLemmas
+pub mod PieceLemmas
+pub mod WritingLemmas
+pub mod CallLemmas

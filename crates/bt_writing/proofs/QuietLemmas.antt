@@ -91,3 +91,11 @@ pub quiet_moved : (p q end : TitlePlace) (t front back : List ℕ) (n : ℕ) →
 quiet_moved p q end t front back n no_colon is_front is_back quiet some moved so_far =
     let whole : front ++ back ≡ t = ap (λ (l : List ℕ). l ++ back) is_front ∙ ap (λ (l : List ℕ). take n t ++ l) is_back ∙ take-append-drop n t in
     ap (λ r. fold next_place r back) (moved ∙ sym (after_quiet p front no_colon quiet some)) ∙ sym (fold-two p front back) ∙ ap (fold next_place p) whole ∙ so_far
+
+-- After a right brace nothing is spared, whatever stands before it.
+pub closed_place : (p : TitlePlace) (t : List ℕ) → 0 < length t → get_or t (length t - 1) 0 ≡ 125 → fold next_place p t ≡ record { is_first = false; follows_white = false; follows_colon = false }
+closed_place p [] some e = absurd (omega arith)
+closed_place p (b ∷ []) some e = ap (next_place p) e
+closed_place p (b ∷ c ∷ t) some e =
+    let last : length (b ∷ c ∷ t) - 1 ≡ suc (length (c ∷ t) - 1) = omega arith in
+    closed_place (next_place p b) (c ∷ t) (omega arith) (sym (ap (λ k. get_or (b ∷ c ∷ t) k 0) last) ∙ e)

@@ -24,7 +24,7 @@ pub struct Place {
 }
 
 impl Place {
-    ghost use Rattle.std.specs.Prelude.{◌≡◌, fold};
+    ghost use Rattle.std.specs.Prelude.{◌≡◌, ◌<◌, fold, length};
     ghost use Rattle.bt_text.specs.declared.modes.Mode.TheVariants.{Title};
     ghost use Rattle.bt_text.specs.inner.TitlePlace.{is_spared_at, next_place, title_place_after};
     ghost use Rattle.bt_writing.specs.inner.Titles.{place_of};
@@ -61,6 +61,22 @@ impl Place {
             place = place.behind(*byte);
         }
         place
+    }
+    /// The place after a block. Most groups end in their right brace, and then nothing else counts.
+    #[tactic(auto, using(crate::proofs::QuietLemmas::closed_place))]
+    fn behind_block(self, block: &[u8]) -> Self
+        requires { 0 < length block.now }
+        ensures { place_of result ≡ fold next_place (place_of self) block.now }
+    {
+        if block[block.len() - 1] == b'}' {
+            Place {
+                is_first: false,
+                follows_white: false,
+                follows_colon: false,
+            }
+        } else {
+            self.after_all(block)
+        }
     }
 }
 
@@ -149,7 +165,7 @@ pub fn push_title(out: &mut Vec<u8>, text: &[u8]) -> Result<(), AllocError>
         if *first == b'{' {
             let (block, behind) = rest.split_at(block_len(rest));
             push_part(out, place, block)?;
-            place = place.after_all(block);
+            place = place.behind_block(block);
             rest = behind;
         } else {
             let (run, behind) = rest.split_at(run_len(rest));

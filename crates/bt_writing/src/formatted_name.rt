@@ -1,0 +1,47 @@
+//! A name in a pattern.
+
+ghost use Rattle.std.specs.Prelude.{IfErr, IfOk, IsOkAnd};
+ghost use Rattle.bt_names.specs.FormattedName.{formatted_name, IsFormatFault};
+ghost use Rattle.bt_writing.specs.Written.{IsWritten};
+
+use crate::cuts::has_many_commas;
+use crate::name::Name;
+use crate::name_parts::cut_name;
+use crate::names::name_at;
+use crate::pieces::Pattern;
+use crate::writing::{Written, push_pieces};
+use bt_names::FormatFault;
+use std::alloc::Global;
+
+/// Puts the n-th of the names that a text lists, counted from 1, in a pattern after `out`, if that has at most `limit`
+/// bytes. It asks for little more memory than the names and the limit need, however long the whole text would be.
+///
+/// The faults are reported in this order: `NoSuchName` if n is 0 or less or above the number of names, `TooManyCommas` if
+/// the name has more than two, `PatternFault` with the place of the first fault of the pattern, `OutOfMemory`. The first
+/// three take no memory.
+pub fn push_formatted(
+    alloc: Global,
+    out: &mut Vec<u8>,
+    names: &[u8],
+    n: i32,
+    pattern: &Pattern,
+    limit: usize,
+) -> Result<Written, FormatFault>
+    ensures text { IfOk result (λ written.
+        IsOkAnd (formatted_name names.now n pattern.now) (λ t. IsWritten limit t out.old.items out.new.items written)) }
+    ensures fault { IfErr result (IsFormatFault (formatted_name names.now n pattern.now)) }
+{
+    let Some(name) = name_at(names, n) else {
+        return Err(FormatFault::NoSuchName);
+    };
+    if has_many_commas(name) {
+        return Err(FormatFault::TooManyCommas);
+    }
+    if let Some(place) = pattern.fault() {
+        return Err(FormatFault::PatternFault(place));
+    }
+    let name = Name::new(alloc, name)?;
+    let cut = cut_name(alloc, &name)?;
+    let written = push_pieces(out, limit, &cut.parts(), pattern.pieces())?;
+    Ok(written)
+}

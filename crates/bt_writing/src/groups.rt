@@ -1,0 +1,194 @@
+//! What a group with a letter gives.
+//!
+//! A group is written straight behind what the buffer holds. Its end may still change: a tie there goes, or becomes a
+//! space. So contracts speak of what stands from the group's start on.
+
+ghost use Rattle.std.specs.Prelude.{◌≡◌, ◌≤◌, ◌++◌, ◌==◌, ◌||◌, if◌then◌else◌, OnOk, length, take, drop, map};
+ghost use Rattle.std.specs.List.{suffix_len};
+ghost use Rattle.bt_text.specs.ByteTests.{is_separator, space, tie};
+ghost use Rattle.bt_names.specs.Groups.{ends_in_tie, group_finished, put_in};
+ghost use Rattle.bt_names.specs.Joints.{is_short, joined};
+ghost use Rattle.bt_names.specs.Spelling.{initial};
+ghost use Rattle.bt_names.specs.inner.Cases.{linked};
+ghost use Rattle.bt_writing.specs.inner.Written.{between_of, spell};
+
+use crate::cuts::first_len;
+use crate::length::text_length;
+use crate::lent_tokens::LentToken;
+use bt_text::{begins_special, is_letter, is_separator};
+use std::alloc::AllocError;
+
+/// The first letter of a text at any depth, or its first special character.
+fn initial(text: &[u8]) -> &[u8]
+    ensures { result.now ≡ initial text.now }
+{
+    let mut rest = text;
+    'walk: while let [first, behind @ ..] = rest {
+        if is_letter(*first) {
+            let (letter, _) = rest.split_at(1);
+            return letter;
+        }
+        if begins_special(rest) {
+            let (block, _) = rest.split_at(first_len(rest));
+            return block;
+        }
+        rest = behind;
+    }
+    &[]
+}
+
+/// The bytes of a token, whole or its initial.
+fn spelling<'a>(is_whole: bool, token: &LentToken<'a>) -> &'a [u8]
+    ensures { result.now ≡ (spell is_whole token.now).text }
+{
+    if is_whole {
+        token.text()
+    } else {
+        initial(token.text())
+    }
+}
+
+fn trailing_ties(text: &[u8]) -> usize
+    ensures { result ≡ suffix_len (λ b. b == tie) text.now }
+{
+    text.iter().rev().take_while(|byte| **byte == b'~').count()
+}
+
+fn ends_in_tie(text: &[u8]) -> bool
+    ensures { result ≡ ends_in_tie text.now }
+{
+    0 < trailing_ties(text)
+}
+
+fn is_short(text: &[u8]) -> bool
+    ensures { result ≡ is_short text.now }
+{
+    text_length(text) < 3
+}
+
+/// If what stands from `start` on ends in two ties, one goes. A single one becomes a space if 3 text characters stand
+/// before it.
+#[tactic(auto, using(crate::proofs::GroupLemmas::tail_cut, crate::proofs::GroupLemmas::tail_set))]
+pub fn finish(out: &mut Vec<u8>, start: usize)
+    requires { start ≤ length out.old.items }
+    ensures front { take start out.new.items ≡ take start out.old.items }
+    ensures group { drop start out.new.items ≡ group_finished (drop start out.old.items) }
+{
+    let (_, group) = out.as_slice().split_at(start);
+    if !ends_in_tie(group) {
+        return;
+    }
+    let len = group.len().saturating_sub(1);
+    let (front, _) = group.split_at(len);
+    if ends_in_tie(front) {
+        out.truncate(start + len);
+    } else if !is_short(front) {
+        let last = start + len;
+        if last < out.len() {
+            out[last] = b' ';
+        }
+    }
+}
+
+fn sign(before: u8, is_last: bool, group: &[u8]) -> u8
+    ensures { result
+        ≡ (if is_separator before then before else (if is_last || is_short group.now then tie else space)) }
+{
+    if is_separator(before) {
+        before
+    } else if is_last || is_short(group) {
+        b'~'
+    } else {
+        b' '
+    }
+}
+
+/// Puts what links a token to the ones before it after what stands from `start` on.
+#[tactic(auto, using(crate::proofs::GroupLemmas::tail_append, crate::proofs::GroupLemmas::front_append))]
+fn push_link(
+    out: &mut Vec<u8>,
+    start: usize,
+    has_own: bool,
+    own: &[u8],
+    is_whole: bool,
+    token: &LentToken,
+    behind: &[LentToken],
+) -> Result<(), AllocError>
+    requires { start ≤ length out.old.items }
+    ensures front { OnOk result (take start out.new.items ≡ take start out.old.items) }
+    ensures size { OnOk result (start ≤ length out.new.items) }
+    ensures group { OnOk result (drop start out.new.items
+        ≡ linked (drop start out.old.items) (spell is_whole token.now) (map (spell is_whole) behind.now) (between_of has_own own.now is_whole)) }
+{
+    if has_own {
+        return out.extend_from_slice(own);
+    }
+    if !is_whole {
+        out.push(b'.')?;
+    }
+    let (_, group) = out.as_slice().split_at(start);
+    let sign = sign(token.before(), behind.is_empty(), group);
+    out.push(sign)?;
+    Ok(())
+}
+
+/// Puts tokens after what stands from `start` on, with what links each to the ones before it.
+#[tactic(auto, using(crate::proofs::GroupLemmas::tail_append, crate::proofs::GroupLemmas::front_append))]
+fn push_others(
+    out: &mut Vec<u8>,
+    start: usize,
+    has_own: bool,
+    own: &[u8],
+    is_whole: bool,
+    tokens: &[LentToken],
+) -> Result<(), AllocError>
+    requires { start ≤ length out.old.items }
+    ensures front { OnOk result (take start out.new.items ≡ take start out.old.items) }
+    ensures size { OnOk result (start ≤ length out.new.items) }
+    ensures group { OnOk result (drop start out.new.items
+        ≡ joined (between_of has_own own.now is_whole) (drop start out.old.items) (map (spell is_whole) tokens.now)) }
+{
+    let mut rest = tokens;
+    'walk: while let [token, behind @ ..] = rest {
+        push_link(out, start, has_own, own, is_whole, token, behind)?;
+        out.extend_from_slice(spelling(is_whole, token))?;
+        rest = behind;
+    }
+    Ok(())
+}
+
+/// Puts what a group with a letter gives after `out`: `own` stands between tokens if the group has it, else signs do.
+#[tactic(auto, using(crate::proofs::GroupLemmas::whole_of, crate::proofs::GroupLemmas::tail_append, crate::proofs::GroupLemmas::front_append))]
+pub fn push_part(
+    out: &mut Vec<u8>,
+    before: &[u8],
+    has_own: bool,
+    own: &[u8],
+    is_whole: bool,
+    tokens: &[LentToken],
+    behind: &[u8],
+) -> Result<(), AllocError>
+    ensures { OnOk result (out.new.items ≡ out.old.items
+        ++ put_in (between_of has_own own.now is_whole) before.now (map (spell is_whole) tokens.now) behind.now) }
+{
+    if let [first, others @ ..] = tokens {
+        let start = out.len();
+        out.extend_from_slice(before)?;
+        out.extend_from_slice(spelling(is_whole, first))?;
+        push_others(out, start, has_own, own, is_whole, others)?;
+        out.extend_from_slice(behind)?;
+        finish(out, start);
+    }
+    Ok(())
+}
+
+/// Puts a group without a letter after `out`.
+#[tactic(auto, using(crate::proofs::GroupLemmas::whole_of, crate::proofs::GroupLemmas::tail_append, crate::proofs::GroupLemmas::front_append))]
+pub fn push_bare(out: &mut Vec<u8>, bytes: &[u8]) -> Result<(), AllocError>
+    ensures { OnOk result (out.new.items ≡ out.old.items ++ group_finished bytes.now) }
+{
+    let start = out.len();
+    out.extend_from_slice(bytes)?;
+    finish(out, start);
+    Ok(())
+}

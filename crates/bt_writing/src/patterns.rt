@@ -1,0 +1,140 @@
+//! The groups of a pattern, their letters, and the faults of a pattern.
+
+ghost use Rattle.std.specs.Prelude.{◌≡◌, ◌<◌, ◌≤◌, ◌-◌, ◌+◌, [], ◌∷◌, IfSome, IfNone, if◌then◌else◌, length, drop, slice_index, slice_get};
+ghost use Rattle.bt_text.specs.Blocks.{begins_group};
+ghost use Rattle.bt_text.specs.Depth.{depth_at};
+ghost use Rattle.bt_names.specs.Patterns.{block_fault, inside_group, is_doubled_at, letter_end, letter_fault, letter_places, letters_from, names_part, pattern_fault};
+ghost use Rattle.bt_names.specs.inner.Patterns.{IsLetterPlace};
+
+use bt_text::{block_len, depth_after, depth_of, is_letter};
+
+/// Whether a block is a group.
+pub fn begins_group(block: &[u8]) -> bool
+    ensures { result ≡ begins_group block.now }
+{
+    matches!(block, [b'{', ..])
+}
+
+/// What stands inside a group.
+pub fn inside(group: &[u8]) -> &[u8]
+    ensures value { result.now ≡ inside_group group.now }
+    ensures shorter { length result.now ≤ length group.now - 1 }
+{
+    let behind = group.get(1..).unwrap_or(&[]);
+    if depth_of(group) == 0 {
+        &behind[..behind.len().saturating_sub(1)]
+    } else {
+        behind
+    }
+}
+
+/// The first letter at depth 0 of what stands inside a group, from a place on.
+#[tactic(auto, using(crate::proofs::PatternLemmas::letters))]
+pub fn next_letter(text: &[u8], start: usize) -> Option<usize>
+    requires flat { depth_at text.now start ≡ 0 }
+    ensures first { result ≡ slice_get (letters_from text.now start) 0 }
+    ensures others { IfSome result (λ i. letters_from text.now start ≡ i ∷ letters_from text.now (i + 1)) }
+    ensures none { IfNone result (letters_from text.now start ≡ []) }
+    ensures place { IfSome result (IsLetterPlace text.now) }
+{
+    let mut depth = 0;
+    let mut place = start;
+    'walk: while place < text.len() {
+        if depth == 0 && is_letter(text[place]) {
+            return Some(place);
+        }
+        depth = depth_after(depth, text[place]);
+        place += 1;
+    }
+    None
+}
+
+fn names_part(byte: u8) -> bool
+    ensures { result ≡ names_part byte }
+{
+    matches!(byte.to_ascii_lowercase(), b'f' | b'v' | b'l' | b'j')
+}
+
+/// The byte at a place, or 0 after the end.
+fn byte_at(text: &[u8], place: usize) -> u8
+    ensures { result ≡ slice_index text.now place }
+{
+    text.get(place).copied().unwrap_or(0)
+}
+
+/// Whether the letter at a place is doubled, in either case.
+pub fn is_doubled_at(text: &[u8], place: usize) -> bool
+    requires { place < length text.now }
+    ensures { result ≡ is_doubled_at text.now place }
+{
+    byte_at(text, place).to_ascii_lowercase() == byte_at(text, place + 1).to_ascii_lowercase()
+}
+
+/// The place after a letter, or after both if it is doubled.
+pub fn letter_end(text: &[u8], place: usize) -> usize
+    requires { IsLetterPlace text.now place }
+    ensures end { result ≡ letter_end text.now place }
+    ensures within { result ≤ length text.now }
+    ensures flat { depth_at text.now result ≡ 0 }
+    ensures letters { (if is_doubled_at text.now place
+        then drop 1 (letters_from text.now (place + 1))
+        else letters_from text.now (place + 1)) ≡ letters_from text.now result }
+{
+    if is_doubled_at(text, place) {
+        place + 2
+    } else {
+        place + 1
+    }
+}
+
+fn letter_fault(text: &[u8]) -> Option<usize>
+    ensures place { result ≡ letter_fault text.now (letter_places text.now) }
+    ensures within { IfSome result (λ i. i < length text.now) }
+{
+    match next_letter(text, 0) {
+        None => None,
+        Some(place) => {
+            if names_part(text[place]) {
+                next_letter(text, letter_end(text, place))
+            } else {
+                Some(place)
+            }
+        }
+    }
+}
+
+fn block_fault(block: &[u8]) -> Option<usize>
+    ensures place { result ≡ block_fault block.now }
+    ensures within { IfSome result (λ i. i ≤ length block.now) }
+{
+    match block {
+        [b'{', ..] => match letter_fault(inside(block)) {
+            Some(place) => Some(1 + place),
+            None => {
+                if depth_of(block) == 0 {
+                    None
+                } else {
+                    Some(block.len())
+                }
+            }
+        },
+        [b'}'] => Some(0),
+        _ => None,
+    }
+}
+
+/// The place of a pattern's first fault.
+pub fn pattern_fault(pattern: &[u8]) -> Option<usize>
+    ensures { result ≡ pattern_fault pattern.now }
+{
+    let mut start = 0;
+    'walk: while start < pattern.len() {
+        let (_, rest) = pattern.split_at(start);
+        let (block, _) = rest.split_at(block_len(rest));
+        if let Some(place) = block_fault(block) {
+            return Some(start + place);
+        }
+        start += block.len();
+    }
+    None
+}
