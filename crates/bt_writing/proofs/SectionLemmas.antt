@@ -3,7 +3,7 @@ use Rattle.std.proofs.Common.{◌≡◌, ◌≢◌, ◌⊎◌, inl, inr, ℕ, ze
 use Rattle.std.specs.List.{prefix_len, onto_first}
 use Rattle.std.proofs.lemmas.List.{drop-append-le, drop-drop, take-append-le, take-append-drop}
 use Rattle.std.proofs.lemmas.List.Sums.{sum_by-cons}
-use Rattle.std.proofs.lemmas.Bool.{true≢false, false≢true, cases_Bool, or_parts, not-true, eqb-true, ne_eqb}
+use Rattle.std.proofs.lemmas.Bool.{true≢false, false≢true, cases_Bool, or_parts, not-true, ne_eqb}
 use Rattle.bt_text.specs.Blocks.{blocks}
 use Rattle.bt_text.specs.Depth.{depth_after}
 use Rattle.bt_text.proofs.BlockLemmas.{blocks_from, blocks_from_start}

@@ -1,11 +1,11 @@
 -- Texts that are longer than a limit.
-use Rattle.std.proofs.Common.{◌≡◌, ℕ, zero, suc, ◌+◌, ◌-◌, ◌*◌, ◌<◌, ◌≤◌, Bool, true, false, cond, List, [], ◌∷◌, ◌++◌, get_or, length, map, take, drop, flat_map, subst, sym, ap, ◌∙◌, arith, length-append}
+use Rattle.std.proofs.Common.{◌≡◌, ℕ, suc, ◌+◌, ◌-◌, ◌*◌, ◌<◌, ◌≤◌, Bool, true, false, cond, List, [], ◌∷◌, ◌++◌, get_or, length, map, take, drop, flat_map, subst, sym, ap, ◌∙◌, arith, length-append}
 use Rattle.std.proofs.lemmas.Bool.{true≢false}
 use native.Mathlib.Nat.{suc-mul, zero-mul}
 use Rattle.std.proofs.lemmas.List.{drop_more, length-map, length-take-le}
 use Rattle.bt_names.specs.declared.tokens.Token.{Token}
 use Rattle.bt_names.specs.Groups.{ends_in_tie, group_finished, put_in}
-use Rattle.bt_names.specs.Joints.{Between, by_text, is_short, joined}
+use Rattle.bt_names.specs.Joints.{by_text, is_short, joined}
 use Rattle.bt_writing.specs.inner.Written.{between_of, spell}
 
 -- The end of a group takes away one byte at most.
