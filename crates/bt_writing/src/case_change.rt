@@ -21,7 +21,7 @@ fn changed_byte(mode: Mode, byte: u8) -> u8
     }
 }
 
-/// Puts bytes after `out` in the case of the mode. All are copied at once, then changed where they lie.
+/// Appends bytes to `out` in the case of the mode. All are copied at once, then changed in place.
 pub fn push_changed(out: &mut Vec<u8>, mode: Mode, text: &[u8]) -> Result<(), AllocError>
     ensures { OnOk result (out.new.items ≡ out.old.items ++ map (changed_byte mode) text.now) }
 {
@@ -35,7 +35,7 @@ pub fn push_changed(out: &mut Vec<u8>, mode: Mode, text: &[u8]) -> Result<(), Al
     Ok(())
 }
 
-/// Puts the name of a control sequence after `out`, in the case of the mode if it is foreign.
+/// Appends the name of a control sequence to `out`, in the case of the mode if it is foreign.
 fn push_name(out: &mut Vec<u8>, mode: Mode, name: &[u8]) -> Result<(), AllocError>
     ensures { OnOk result (out.new.items ≡ out.old.items
         ++ (if is_foreign name.now then map (changed_byte mode) name.now else name.now)) }
@@ -47,7 +47,7 @@ fn push_name(out: &mut Vec<u8>, mode: Mode, name: &[u8]) -> Result<(), AllocErro
     }
 }
 
-/// Puts a control sequence after `out`, with its name in the case of the mode.
+/// Appends a control sequence to `out`, with its name in the case of the mode.
 fn push_whole(out: &mut Vec<u8>, mode: Mode, name: &[u8], gap: &[u8]) -> Result<(), AllocError>
     ensures { OnOk result (out.new.items ≡ out.old.items
         ++ (92 ∷ (if is_foreign name.now then map (changed_byte mode) name.now else name.now)
@@ -92,7 +92,7 @@ fn push_special(out: &mut Vec<u8>, mode: Mode, text: &[u8]) -> Result<(), AllocE
     Ok(())
 }
 
-/// Puts a block after `out` in the case of the mode.
+/// Appends a block to `out` in the case of the mode.
 pub fn push_block(out: &mut Vec<u8>, mode: Mode, block: &[u8]) -> Result<(), AllocError>
     ensures { OnOk result (out.new.items ≡ out.old.items ++ changed_block mode block.now) }
 {
@@ -105,7 +105,7 @@ pub fn push_block(out: &mut Vec<u8>, mode: Mode, block: &[u8]) -> Result<(), All
     }
 }
 
-/// Puts a text after `out` in small or large letters.
+/// Appends a text to `out` in small or large letters.
 fn push_flat(out: &mut Vec<u8>, mode: Mode, text: &[u8]) -> Result<(), AllocError>
     ensures { OnOk result (out.new.items ≡ out.old.items ++ flat_map (changed_block mode) (blocks text.now)) }
 {
@@ -124,7 +124,7 @@ fn push_flat(out: &mut Vec<u8>, mode: Mode, text: &[u8]) -> Result<(), AllocErro
     Ok(())
 }
 
-/// Puts a text after `out` in the case of the mode.
+/// Appends a text to `out` in the case of the mode. After an error, nothing is said of `out`.
 #[tactic(auto, using(crate::proofs::CaseLemmas::small_flat, crate::proofs::CaseLemmas::large_flat))]
 pub fn push_changed_case(out: &mut Vec<u8>, text: &[u8], mode: Mode) -> Result<(), AllocError>
     ensures { OnOk result (out.new.items ≡ out.old.items ++ changed_case mode text.now) }

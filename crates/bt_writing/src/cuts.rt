@@ -1,7 +1,7 @@
 //! Cuts a name at its commas and into its tokens.
 //!
-//! The definition cuts the whole name into blocks, the blocks into sections and those into runs. The code walks once over
-//! the bytes of each section, and puts the tokens of all sections into one vector.
+//! The definition cuts the whole name into blocks, the blocks into sections and the sections into runs. The code goes
+//! once over the bytes of each section, and appends the tokens of all sections to one vector.
 
 ghost use Rattle.std.specs.Prelude.{◌≡◌, ◌<◌, ◌≤◌, [], ◌∷◌, ◌++◌, ◌==◌, nat_lt, if◌then◌else◌, IfOk, OnOk, IfSome, IfNone, IsTrue, length, take, drop, count_by};
 ghost use Rattle.std.specs.List.{prefix_len};
@@ -92,7 +92,7 @@ fn sign_of(gap: &[u8]) -> u8
     }
 }
 
-/// What stands before a section's first token, or before another one. `start` tokens were found before the section.
+/// What comes before a token of a section: `lead` before the first one. `start` tokens were found before the section.
 fn sign_or_lead(found: &[LentToken], start: usize, lead: u8, gap: &[u8]) -> u8
     requires { start ≤ length found.now }
     ensures { result ≡ (if length (drop start found.now) == 0 then lead else sign_of gap.now) }
@@ -167,14 +167,14 @@ fn push_tokens<'a>(
     }
 }
 
-/// What stands before the first token of a section after these tokens.
+/// What comes before the first token of a section that follows these tokens.
 fn lead_after(tokens: &[LentToken]) -> u8
     ensures { result ≡ lead_after tokens.now }
 {
     if tokens.is_empty() { 0 } else { b',' }
 }
 
-/// Puts the tokens before the first comma after those found before, and returns what stands behind them.
+/// Appends the tokens up to the first comma to those found before, and returns the rest of the text.
 pub fn push_section<'a>(
     found: &mut Vec<LentToken<'a>>,
     text: &'a [u8],

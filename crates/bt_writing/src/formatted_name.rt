@@ -13,8 +13,9 @@ use crate::writing::{Written, push_pieces};
 use bt_names::FormatFault;
 use std::alloc::Global;
 
-/// Puts the n-th of the names that a text lists, counted from 1, in a pattern after `out`, if that has at most `limit`
-/// bytes. It asks for little more memory than the names and the limit need, however long the whole text would be.
+/// Appends the n-th of the names that a text lists, counted from 1, in a pattern to `out`, if that has at most `limit`
+/// bytes. It allocates little more than the names and the limit need, however long the whole text would be. After an
+/// error or `Longer`, nothing is said of `out`.
 ///
 /// The faults are reported in this order: `NoSuchName` if n is 0 or less or above the number of names, `TooManyCommas` if
 /// the name has more than two, `PatternFault` with the place of the first fault of the pattern, `OutOfMemory`. The first

@@ -1,7 +1,7 @@
 //! What a group with a letter gives.
 //!
-//! A group is written straight behind what the buffer holds. Its end may still change: a tie there goes, or becomes a
-//! space. So contracts speak of what stands from the group's start on.
+//! A group is appended straight to the buffer. Its end may still change: a tie there is removed, or becomes a space. So
+//! contracts speak of the bytes from the group's start on, which is `start`.
 
 ghost use Rattle.std.specs.Prelude.{◌≡◌, ◌≤◌, ◌++◌, ◌==◌, ◌||◌, if◌then◌else◌, OnOk, length, take, drop, map};
 ghost use Rattle.std.specs.List.{suffix_len};
@@ -66,8 +66,8 @@ fn is_short(text: &[u8]) -> bool
     text_length(text) < 3
 }
 
-/// If what stands from `start` on ends in two ties, one goes. A single one becomes a space if 3 text characters stand
-/// before it.
+/// If the group that begins at `start` ends in two ties, one is removed. A single tie becomes a space if 3 text
+/// characters come before it in the group.
 #[tactic(auto, using(crate::proofs::GroupLemmas::tail_cut, crate::proofs::GroupLemmas::tail_set))]
 pub fn finish(out: &mut Vec<u8>, start: usize)
     requires { start ≤ length out.old.items }
@@ -103,7 +103,7 @@ fn sign(before: u8, is_last: bool, group: &[u8]) -> u8
     }
 }
 
-/// Puts what links a token to the ones before it after what stands from `start` on.
+/// Appends what links a token to the ones before it, in the group that begins at `start`.
 #[tactic(auto, using(crate::proofs::GroupLemmas::tail_append, crate::proofs::GroupLemmas::front_append))]
 fn push_link(
     out: &mut Vec<u8>,
@@ -118,7 +118,8 @@ fn push_link(
     ensures front { OnOk result (take start out.new.items ≡ take start out.old.items) }
     ensures size { OnOk result (start ≤ length out.new.items) }
     ensures group { OnOk result (drop start out.new.items
-        ≡ linked (drop start out.old.items) (spell is_whole token.now) (map (spell is_whole) behind.now) (between_of has_own own.now is_whole)) }
+        ≡ linked (drop start out.old.items) (spell is_whole token.now) (map (spell is_whole) behind.now)
+        (between_of has_own own.now is_whole)) }
 {
     if has_own {
         return out.extend_from_slice(own);
@@ -132,7 +133,7 @@ fn push_link(
     Ok(())
 }
 
-/// Puts tokens after what stands from `start` on, with what links each to the ones before it.
+/// Appends tokens to the group that begins at `start`, each with what links it to the ones before it.
 #[tactic(auto, using(crate::proofs::GroupLemmas::tail_append, crate::proofs::GroupLemmas::front_append))]
 fn push_others(
     out: &mut Vec<u8>,
@@ -157,7 +158,7 @@ fn push_others(
     Ok(())
 }
 
-/// Puts what a group with a letter gives after `out`: `own` stands between tokens if the group has it, else signs do.
+/// Appends what a group with a letter gives to `out`, with `own` between tokens if the group has it, otherwise signs.
 #[tactic(auto, using(crate::proofs::GroupLemmas::whole_of, crate::proofs::GroupLemmas::tail_append, crate::proofs::GroupLemmas::front_append))]
 pub fn push_part(
     out: &mut Vec<u8>,
@@ -182,7 +183,7 @@ pub fn push_part(
     Ok(())
 }
 
-/// Puts a group without a letter after `out`.
+/// Appends a group without a letter to `out`.
 #[tactic(auto, using(crate::proofs::GroupLemmas::whole_of, crate::proofs::GroupLemmas::tail_append, crate::proofs::GroupLemmas::front_append))]
 pub fn push_bare(out: &mut Vec<u8>, bytes: &[u8]) -> Result<(), AllocError>
     ensures { OnOk result (out.new.items ≡ out.old.items ++ group_finished bytes.now) }

@@ -37,7 +37,7 @@ impl<'a> LentToken<'a> {
         self.text
     }
 
-    /// What parts it from the token before.
+    /// The sign between it and the token before.
     pub fn before(&self) -> u8
         ensures { result ≡ self.now.before }
     {

@@ -1,7 +1,7 @@
-//! The functions on texts, in forms that write behind what a buffer holds.
+//! The functions on texts and names, as functions that append to a caller's buffer.
 //!
-//! The definitions cut a text into blocks. Here the bytes outside of groups go as whole runs: copied at once, then
-//! changed where they lie. Only groups are looked at block by block.
+//! The definitions cut a text into blocks. Here the bytes outside groups are handled in runs: a run is copied at once,
+//! then changed in place. Only groups are looked at block by block.
 #![tactic(auto)]
 
 mod case_change;

@@ -27,8 +27,8 @@ fn ends_sentence(text: &[u8]) -> bool
     false
 }
 
-/// Puts a text after `out`, and a full stop after it, unless it is empty or its last byte that is no right brace is
-/// `.`, `?` or `!`.
+/// Appends a text to `out`, and then a full stop, unless the text is empty or its last byte that is no right brace is
+/// `.`, `?` or `!`. After an error, nothing is said of `out`.
 pub fn push_with_period(out: &mut Vec<u8>, text: &[u8]) -> Result<(), AllocError>
     ensures { OnOk result (out.new.items ≡ out.old.items ++ with_period text.now) }
 {

@@ -54,7 +54,7 @@ fn first_block(text: &[u8]) -> &[u8]
     }
 }
 
-/// A group with a letter, from what stands before and behind the letter.
+/// A group with a letter, from what comes before the letter and after it.
 #[tactic(auto, using(crate::proofs::PieceLemmas::spelled_map))]
 fn part_of<'p>(letter: u8, is_whole: bool, before: &'p [u8], behind: &'p [u8]) -> Piece<'p>
     ensures { (parts : Parts) → piece_output parts result
@@ -107,7 +107,8 @@ fn piece_of(block: &[u8]) -> Piece<'_>
 }
 
 fn pieces_of<'p>(alloc: Global, pattern: &'p [u8]) -> Result<Vec<Piece<'p>>, AllocError>
-    ensures { IfOk result (λ pieces. (parts : Parts) → flat_map (piece_output parts) pieces.items ≡ formatted parts pattern.now) }
+    ensures { IfOk result (λ pieces. (parts : Parts) →
+        flat_map (piece_output parts) pieces.items ≡ formatted parts pattern.now) }
 {
     let mut pieces = Vec::new(alloc);
     let mut rest = pattern;
@@ -170,7 +171,7 @@ impl<'p> Pattern<'p> {
     }
 
     /// What it gives for each name, piece by piece.
-    pub fn pieces(&self) -> &[Piece<'p>]
+    pub(crate) fn pieces(&self) -> &[Piece<'p>]
         ensures { (parts : Parts) → flat_map (piece_output parts) result.now ≡ formatted parts self.now }
     {
         self.pieces.as_slice()

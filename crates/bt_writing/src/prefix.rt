@@ -79,7 +79,7 @@ fn push_first_characters(out: &mut Vec<u8>, text: &[u8], most: usize) -> Result<
     Ok(())
 }
 
-/// Puts right braces after a text.
+/// Appends right braces to `out`.
 fn push_closers(out: &mut Vec<u8>, count: usize) -> Result<(), AllocError>
     ensures { OnOk result (out.new.items ≡ out.old.items ++ replicate count right_brace) }
 {
@@ -89,8 +89,8 @@ fn push_closers(out: &mut Vec<u8>, count: usize) -> Result<(), AllocError>
     Ok(())
 }
 
-/// Puts after `out` the beginning of a text with its first `most` text characters, or all of it if there are fewer, and
-/// a right brace for each brace left open.
+/// Appends to `out` the beginning of a text with its first `most` text characters, or all of it if there are fewer, and
+/// a right brace for each brace left open. After an error, nothing is said of `out`.
 pub fn push_prefix(out: &mut Vec<u8>, text: &[u8], most: i32) -> Result<(), AllocError>
     ensures { OnOk result (out.new.items ≡ out.old.items ++ text_prefix_of text.now most) }
 {

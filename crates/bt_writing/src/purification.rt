@@ -11,7 +11,7 @@ use crate::special::{control_parts, letters_of};
 use bt_text::{begins_special, block_len, is_digit, is_letter};
 use std::alloc::AllocError;
 
-/// Puts after `out` what is kept of bytes outside special characters. All are copied at once, then what is kept is
+/// Appends to `out` what is kept of bytes outside special characters. All are copied at once, then what is kept is
 /// written over the copy.
 #[tactic(auto, using(crate::proofs::PurifyLemmas::dropped, crate::proofs::PurifyLemmas::kept))]
 fn push_pure(out: &mut Vec<u8>, text: &[u8]) -> Result<(), AllocError>
@@ -60,8 +60,9 @@ fn push_pure_group(out: &mut Vec<u8>, block: &[u8]) -> Result<(), AllocError>
     }
 }
 
-/// Puts after `out` the letters and digits of a text, and a space for white space and separators. In special
-/// characters letters and digits alone are kept, and the letters that foreign control sequences stand for.
+/// Appends to `out` the letters and digits of a text, and a space for white space and separators. Of special characters
+/// only letters and digits are kept, and the letters that foreign control sequences stand for. After an error, nothing
+/// is said of `out`.
 pub fn push_purified(out: &mut Vec<u8>, text: &[u8]) -> Result<(), AllocError>
     ensures { OnOk result (out.new.items ≡ out.old.items ++ purified text.now) }
 {

@@ -27,7 +27,7 @@ pub fn is_without_large_form(name: &[u8]) -> bool
     matches!(name, b"i" | b"j" | b"ss")
 }
 
-/// The letters that stand for a control sequence when it is left out.
+/// The letters that `purify$` keeps of a control sequence, by its name.
 pub fn letters_of(name: &[u8]) -> &[u8]
     ensures { result.now ≡ letters_of name.now }
 {

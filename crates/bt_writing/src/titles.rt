@@ -1,7 +1,7 @@
 //! The case of a title.
 //!
-//! A title spares its first letter, and one after white space with a colon before it. So most of it goes in small
-//! letters up to the next colon, and only the beginning and what follows a colon go byte by byte.
+//! A title spares its first letter, and one after white space with a colon before it. So most of it is lowered in runs,
+//! each up to the next colon. Only the beginning and what follows a colon are handled byte by byte.
 
 ghost use Rattle.std.specs.Prelude.{◌≡◌, ◌≢◌, false, ◌<◌, ◌-◌, ◌≤◌, take, slice_index, ◌++◌, if◌then◌else◌, OnOk, IfOk, length, fold};
 ghost use Rattle.bt_text.specs.declared.modes.Mode.TheVariants.{Title};
@@ -15,7 +15,7 @@ use bt_text::{Mode, block_len, is_white};
 use memchr::memchr;
 use std::alloc::AllocError;
 
-/// What stands before a place of a title.
+/// What decides whether the letter at a place of a title is spared.
 #[derive(Clone, Copy)]
 pub struct Place {
     is_first: bool,
@@ -29,7 +29,7 @@ impl Place {
     ghost use Rattle.bt_text.specs.inner.TitlePlace.{is_spared_at, next_place, title_place_after};
     ghost use Rattle.bt_writing.specs.inner.Titles.{place_of};
 
-    /// Whether what stands here is spared.
+    /// Whether a letter or a group here is spared.
     fn is_spared(self) -> bool
         ensures { result ≡ is_spared_at Title (place_of self) }
     {
@@ -62,6 +62,7 @@ impl Place {
         }
         place
     }
+
     /// The place after a block. Most groups end in their right brace, and then nothing else counts.
     #[tactic(auto, using(crate::proofs::QuietLemmas::closed_place))]
     fn behind_block(self, block: &[u8]) -> Self
@@ -102,7 +103,7 @@ fn place_after_quiet(quiet: &[u8]) -> Place
     }
 }
 
-/// Whether a byte, or what comes after it, may be spared.
+/// Whether a byte has to be looked at singly: it, or what comes after it, may be spared.
 fn wants_care(place: Place, byte: u8) -> bool
     ensures first { result ≡ false → place.is_first ≡ false }
     ensures colon { result ≡ false → place.follows_colon ≡ false }
@@ -111,8 +112,8 @@ fn wants_care(place: Place, byte: u8) -> bool
     place.is_first || place.follows_colon || byte == b':'
 }
 
-/// Puts a run of bytes outside of groups after `out`, in the case of a title: byte by byte at the beginning and after a
-/// colon, else as a whole up to the next colon.
+/// Appends a run of bytes outside groups to `out`, in the case of a title: byte by byte at the beginning and after a
+/// colon, otherwise all up to the next colon at once.
 fn push_title_run(out: &mut Vec<u8>, place: Place, text: &[u8]) -> Result<Place, AllocError>
     ensures run { OnOk result (out.new.items ≡ out.old.items ++ title_run (place_of place) text.now) }
     ensures place { IfOk result (λ after. place_of after ≡ fold next_place (place_of place) text.now) }
@@ -139,7 +140,7 @@ fn push_title_run(out: &mut Vec<u8>, place: Place, text: &[u8]) -> Result<Place,
     Ok(place)
 }
 
-/// Puts a block after `out`, as it is where it is spared.
+/// Appends a block to `out`, unchanged if it is spared.
 fn push_part(out: &mut Vec<u8>, place: Place, block: &[u8]) -> Result<(), AllocError>
     ensures { OnOk result (out.new.items ≡ out.old.items
         ++ (if is_spared_at Title (place_of place) then block.now else changed_block Title block.now)) }
@@ -151,7 +152,7 @@ fn push_part(out: &mut Vec<u8>, place: Place, block: &[u8]) -> Result<(), AllocE
     }
 }
 
-/// Puts a text after `out` in the case of a title.
+/// Appends a text to `out` in the case of a title.
 pub fn push_title(out: &mut Vec<u8>, text: &[u8]) -> Result<(), AllocError>
     ensures { OnOk result (out.new.items ≡ out.old.items ++ changed_case Title text.now) }
 {

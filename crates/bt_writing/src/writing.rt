@@ -1,7 +1,7 @@
 //! Writes the parts of a name in a pattern, up to a limit.
 //!
 //! A group can put a long text between many tokens, so it may be far longer than name and pattern. Such a group isn't
-//! begun: the limit is compared with what its text takes alone, and with what was written after each piece.
+//! begun if that text alone exceeds the limit. After each piece, the bytes written are compared with the limit.
 
 ghost use Rattle.std.specs.Prelude.{◌≡◌, ◌<◌, ◌+◌, ◌-◌, ◌*◌, ◌++◌, IfOk, IsTrue, OnOk, flat_map, length};
 ghost use Rattle.bt_writing.specs.Written.{IsWritten};
@@ -67,7 +67,7 @@ fn push_piece(out: &mut Vec<u8>, parts: &LentParts, piece: Piece) -> Result<(), 
     }
 }
 
-/// Puts what the pieces of a pattern give after `out`, if it has at most `limit` bytes.
+/// Appends what the pieces of a pattern give to `out`, if that has at most `limit` bytes.
 pub fn push_pieces(
     out: &mut Vec<u8>,
     limit: usize,
