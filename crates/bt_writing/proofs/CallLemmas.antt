@@ -10,6 +10,7 @@ use Rattle.bt_names.specs.Groups.{formatted}
 use Rattle.bt_names.specs.NameParts.{parts_of}
 use Rattle.bt_names.specs.Names.{name_at}
 use Rattle.bt_names.specs.Patterns.{pattern_fault}
+use Rattle.bt_writing.specs.Written.{IsKept}
 use Rattle.bt_names.specs.inner.Cases.{formatted_or_fault, formatted_parts, is_comma, text_or_fault}
 use Rattle.bt_names.proofs.CallLemmas.{memory_format_fault, some_text}
 
@@ -28,6 +29,10 @@ says_of_text P names n name pattern t parts e f g is told =
 -- the exit of a `?`
 pub out_of_memory : {X : Type 0} (r : Result X FormatFault) (names : List ℕ) (n : ℤ) (name pattern : List ℕ) → IsErrAnd r (λ e. e ≡ OutOfMemory) → name_at names n ≡ Some name → count_by is_comma (blocks name) ≤ 2 → pattern_fault pattern ≡ None → IfErr r (IsFormatFault (formatted_name names n pattern))
 out_of_memory r names n name pattern same e few g = memory_format_fault r _ same (some_text names n name pattern e few g)
+
+pub memory_keeps : {X : Type 0} (r : Result X FormatFault) (old new : List ℕ) → IsErrAnd r (λ e. e ≡ OutOfMemory) → IfErr r (IsKept old new)
+memory_keeps (Ok x) old new h = tt
+memory_keeps (Err e) old new h = rw h tt
 
 pub many : (b : Bool) (n : ℕ) → b ≡ ltb 2 n → b ≡ true → 2 < n
 many b n is e = ltb-true 2 n (sym is ∙ e)

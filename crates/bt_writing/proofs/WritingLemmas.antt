@@ -2,7 +2,8 @@
 use Rattle.std.proofs.Common.{◌≡◌, ℕ, suc, ◌+◌, ◌-◌, ◌*◌, ◌<◌, ◌≤◌, Bool, true, false, cond, List, [], ◌∷◌, ◌++◌, get_or, length, map, take, drop, flat_map, subst, sym, ap, ◌∙◌, arith, length-append}
 use Rattle.std.proofs.lemmas.Bool.{true≢false}
 use native.Mathlib.Nat.{suc-mul, zero-mul}
-use Rattle.std.proofs.lemmas.List.{drop_more, length-map, length-take-le}
+use Rattle.std.proofs.lemmas.List.{drop_more, length-map, length-take-le, take-append-le}
+use Rattle.std.proofs.Math.Seq.{take-append_seam}
 use Rattle.bt_names.specs.declared.tokens.Token.{Token}
 use Rattle.bt_names.specs.Groups.{ends_in_tie, group_finished, put_in}
 use Rattle.bt_names.specs.Joints.{by_text, is_short, joined}
@@ -60,3 +61,12 @@ pub written_longer : {X : Type 0} (f : X → List ℕ) (xs : List X) (i limit : 
 written_longer f xs i limit x d old out new all h is so_far grown long =
     let here : flat_map f (drop i xs) ≡ f x ++ flat_map f (drop (i + 1) xs) = ap (flat_map f) (drop_more xs i d h ∙ ap (λ y. y ∷ drop (i + 1) xs) (sym is)) in
     omega (arith, long, ap length grown, length-append out (f x), ap length so_far, length-append out (flat_map f (drop i xs)), length-append old all, ap length here, length-append (f x) (flat_map f (drop (i + 1) xs)))
+
+-- What was written so far still begins with the old bytes.
+pub begins_with : (old out more all : List ℕ) → out ++ more ≡ old ++ all → length old ≤ length out → take (length old) out ≡ old
+begins_with old out more all so_far grown =
+    sym (take-append-le (length old) out more grown) ∙ ap (λ (l : List ℕ). take (length old) l) so_far ∙ take-append_seam old all
+
+pub still_begins : (old out piece more all new : List ℕ) → out ++ more ≡ old ++ all → length old ≤ length out → new ≡ out ++ piece → take (length old) new ≡ old
+still_begins old out piece more all new so_far grown is =
+    ap (λ (l : List ℕ). take (length old) l) is ∙ take-append-le (length old) out piece grown ∙ begins_with old out more all so_far grown

@@ -2,7 +2,7 @@
 
 ghost use Rattle.std.specs.Prelude.{IfErr, IfOk, IsOkAnd};
 ghost use Rattle.bt_names.specs.FormattedName.{formatted_name, IsFormatFault};
-ghost use Rattle.bt_writing.specs.Written.{IsWritten};
+ghost use Rattle.bt_writing.specs.Written.{IsKept, IsWritten};
 
 use crate::cuts::has_many_commas;
 use crate::name::Name;
@@ -14,8 +14,8 @@ use bt_names::FormatFault;
 use std::alloc::Global;
 
 /// Appends the n-th of the names that a text lists, counted from 1, in a pattern to `out`, if that has at most `limit`
-/// bytes. It allocates little more than the names and the limit need, however long the whole text would be. After an
-/// error or `Longer`, nothing is said of `out`.
+/// bytes. It allocates little more than the names and the limit need, however long the whole text would be. If the result
+/// is `Longer`, `out` begins with its old bytes. A fault other than out of memory leaves `out` unchanged.
 ///
 /// The faults are reported in this order: `NoSuchName` if n is 0 or less or above the number of names, `TooManyCommas` if
 /// the name has more than two, `PatternFault` with the place of the first fault of the pattern, `OutOfMemory`. The first
@@ -31,6 +31,7 @@ pub fn push_formatted(
     ensures text { IfOk result (λ written.
         IsOkAnd (formatted_name names.now n pattern.now) (λ t. IsWritten limit t out.old.items out.new.items written)) }
     ensures fault { IfErr result (IsFormatFault (formatted_name names.now n pattern.now)) }
+    ensures kept { IfErr result (IsKept out.old.items out.new.items) }
 {
     let Some(name) = name_at(names, n) else {
         return Err(FormatFault::NoSuchName);
