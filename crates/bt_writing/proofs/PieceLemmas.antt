@@ -3,7 +3,7 @@ use Rattle.std.proofs.Common.{◌≡◌, Bool, true, false, List, map, refl, sym
 use Rattle.std.proofs.lemmas.List.{map-id}
 use Rattle.bt_names.specs.declared.tokens.Token.{Token}
 use Rattle.bt_names.specs.Spelling.{spelled}
-use Rattle.bt_writing.specs.inner.Written.{form_of, spell}
+use Rattle.bt_writing.specs.inner.Spelling.{form_of, spell}
 
 pub spelled_map : (whole : Bool) (ws : List Token) → spelled (form_of whole) ws ≡ map (spell whole) ws
 spelled_map true ws = sym (map-id ws)

@@ -7,7 +7,7 @@ use Rattle.std.proofs.Math.Seq.{take-append_seam}
 use Rattle.bt_names.specs.declared.tokens.Token.{Token}
 use Rattle.bt_names.specs.Groups.{ends_in_tie, group_finished, put_in}
 use Rattle.bt_names.specs.Joints.{by_text, is_short, joined}
-use Rattle.bt_writing.specs.inner.Written.{between_of, spell}
+use Rattle.bt_writing.specs.inner.Spelling.{between_of, spell}
 
 -- The end of a group takes away one byte at most.
 finished_longer : (out : List ℕ) → length out ≤ length (group_finished out) + 1

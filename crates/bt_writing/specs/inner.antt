@@ -3,5 +3,5 @@ pub mod KeptBytes
 pub mod Runs
 pub mod Titles
 pub mod Endings
-pub mod Written
+pub mod Spelling
 pub mod Pieces

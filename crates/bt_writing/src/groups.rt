@@ -10,7 +10,7 @@ ghost use Rattle.bt_names.specs.Groups.{ends_in_tie, group_finished, put_in};
 ghost use Rattle.bt_names.specs.Joints.{is_short, joined};
 ghost use Rattle.bt_names.specs.Spelling.{initial};
 ghost use Rattle.bt_names.specs.inner.Cases.{linked};
-ghost use Rattle.bt_writing.specs.inner.Written.{between_of, spell};
+ghost use Rattle.bt_writing.specs.inner.Spelling.{between_of, spell};
 
 use crate::cuts::first_len;
 use crate::length::text_length;

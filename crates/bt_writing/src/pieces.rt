@@ -7,7 +7,7 @@ ghost use Rattle.bt_names.specs.Groups.{block_output, formatted, group_output, p
 ghost use Rattle.bt_names.specs.Patterns.{letter_places};
 ghost use Rattle.bt_names.specs.Spelling.{first_block, spelled};
 ghost use Rattle.bt_writing.specs.inner.Pieces.{piece_output};
-ghost use Rattle.bt_writing.specs.inner.Written.{form_of};
+ghost use Rattle.bt_writing.specs.inner.Spelling.{form_of};
 
 use crate::cuts::first_len;
 use crate::patterns::{

@@ -5,7 +5,7 @@ use Rattle.bt_names.specs.Groups.{group_finished, part_named, put_in}
 use Rattle.bt_writing.specs.declared.pieces.Part.{Part}
 use Rattle.bt_writing.specs.declared.pieces.Piece.{Piece}
 use Rattle.bt_writing.specs.declared.pieces.Piece.TheVariants.{Bare, Lettered, Plain}
-use Rattle.bt_writing.specs.inner.Written.{between_of, spell}
+use Rattle.bt_writing.specs.inner.Spelling.{between_of, spell}
 
 abbrev pub part_output : Parts → Part → List ℕ
 part_output parts p =

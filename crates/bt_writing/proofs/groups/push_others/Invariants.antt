@@ -1,6 +1,6 @@
 use Rattle.std.proofs.Common.{◌≡◌, ◌≤◌, length, take, drop, map}
 use Rattle.bt_names.specs.Joints.{joined}
-use Rattle.bt_writing.specs.inner.Written.{between_of, spell}
+use Rattle.bt_writing.specs.inner.Spelling.{between_of, spell}
 use Rattle.bt_writing.proofs.groups.push_others.Given as goal
 
 abbrev pub invariant-walk : goal.invariant-walk
