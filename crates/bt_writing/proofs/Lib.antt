@@ -13,6 +13,7 @@ pub mod PatternLemmas
 pub mod ListingLemmas
 pub mod CutLemmas
 pub mod GroupLemmas
+pub mod PartLemmas
 pub mod PieceLemmas
 pub mod WritingLemmas
 pub mod CallLemmas

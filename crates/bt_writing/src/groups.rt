@@ -3,14 +3,15 @@
 //! A group is appended straight to the buffer. Its end may still change: a tie there is removed, or becomes a space. So
 //! contracts speak of the bytes from the group's start on, which is `start`.
 
-ghost use Rattle.std.specs.Prelude.{◌≡◌, ◌≤◌, ◌++◌, ◌==◌, ◌||◌, if◌then◌else◌, OnOk, length, take, drop, map};
+ghost use Rattle.std.specs.Prelude.{◌≡◌, ◌≤◌, ◌++◌, ◌==◌, ◌||◌, false, if◌then◌else◌, IfOk, OnOk, length, take, drop, map};
 ghost use Rattle.std.specs.List.{suffix_len};
 ghost use Rattle.bt_text.specs.ByteTests.{is_separator, space, tie};
 ghost use Rattle.bt_names.specs.Groups.{ends_in_tie, group_finished, put_in};
-ghost use Rattle.bt_names.specs.Joints.{is_short, joined};
+ghost use Rattle.bt_text.specs.Length.{text_length_of};
+ghost use Rattle.bt_names.specs.Joints.{by_signs, by_text, dotted, is_short, joined};
 ghost use Rattle.bt_names.specs.Spelling.{initial};
 ghost use Rattle.bt_names.specs.inner.Cases.{linked};
-ghost use Rattle.bt_writing.specs.inner.Spelling.{between_of, spell};
+ghost use Rattle.bt_writing.specs.inner.Spelling.{between_of, form_of, spell};
 
 use crate::cuts::first_len;
 use crate::length::text_length;
@@ -90,51 +91,118 @@ pub fn finish(out: &mut Vec<u8>, start: usize)
     }
 }
 
-fn sign(before: u8, is_last: bool, group: &[u8]) -> u8
+fn sign(before: u8, is_last: bool, is_short: bool) -> u8
     ensures { result
-        ≡ (if is_separator before then before else (if is_last || is_short group.now then tie else space)) }
+        ≡ (if is_separator before then before else (if is_last || is_short then tie else space)) }
 {
     if is_separator(before) {
         before
-    } else if is_last || is_short(group) {
+    } else if is_last || is_short {
         b'~'
     } else {
         b' '
     }
 }
 
-/// Appends what links a token to the ones before it, in the group that begins at `start`.
+/// A group only grows, so once it has 3 text characters they aren't counted again for each token.
+fn stays_short(was_short: bool, group: &[u8]) -> bool
+    requires { was_short ≡ false → 3 ≤ text_length_of group.now }
+    ensures { result ≡ is_short group.now }
+{
+    was_short && is_short(group)
+}
+
+/// Appends a full stop after an initial, in the group that begins at `start`.
 #[tactic(auto, using(crate::proofs::GroupLemmas::tail_append, crate::proofs::GroupLemmas::front_append))]
-fn push_link(
+fn push_dot(out: &mut Vec<u8>, start: usize, is_whole: bool) -> Result<(), AllocError>
+    requires { start ≤ length out.old.items }
+    ensures front { OnOk result (take start out.new.items ≡ take start out.old.items) }
+    ensures size { OnOk result (start ≤ length out.new.items) }
+    ensures group { OnOk result (drop start out.new.items ≡ dotted (form_of is_whole) (drop start out.old.items)) }
+{
+    if is_whole {
+        return Ok(());
+    }
+    out.push(b'.')?;
+    Ok(())
+}
+
+/// Appends a token to the group that begins at `start`, with signs between it and the ones before it, and returns whether
+/// the group was short before the last sign.
+#[tactic(auto, using(crate::proofs::GroupLemmas::tail_append, crate::proofs::GroupLemmas::front_append))]
+fn push_linked(
     out: &mut Vec<u8>,
     start: usize,
-    has_own: bool,
-    own: &[u8],
+    was_short: bool,
     is_whole: bool,
     token: &LentToken,
     behind: &[LentToken],
+) -> Result<bool, AllocError>
+    requires within { start ≤ length out.old.items }
+    requires short { was_short ≡ false → 3 ≤ text_length_of (drop start out.old.items) }
+    ensures front { OnOk result (take start out.new.items ≡ take start out.old.items) }
+    ensures size { OnOk result (start ≤ length out.new.items) }
+    ensures group { OnOk result (drop start out.new.items
+        ≡ linked (drop start out.old.items) (spell is_whole token.now) (map (spell is_whole) behind.now)
+        (by_signs (form_of is_whole)) ++ (spell is_whole token.now).text) }
+    ensures short { IfOk result (λ short. short ≡ false → 3 ≤ text_length_of (drop start out.new.items)) }
+{
+    push_dot(out, start, is_whole)?;
+    let (_, group) = out.as_slice().split_at(start);
+    let is_short = stays_short(was_short, group);
+    let link = sign(token.before(), behind.is_empty(), is_short);
+    out.push(link)?;
+    out.extend_from_slice(spelling(is_whole, token))?;
+    Ok(is_short)
+}
+
+/// Appends tokens to the group that begins at `start`, with signs before each.
+fn push_by_signs(
+    out: &mut Vec<u8>,
+    start: usize,
+    is_whole: bool,
+    tokens: &[LentToken],
 ) -> Result<(), AllocError>
     requires { start ≤ length out.old.items }
     ensures front { OnOk result (take start out.new.items ≡ take start out.old.items) }
     ensures size { OnOk result (start ≤ length out.new.items) }
     ensures group { OnOk result (drop start out.new.items
-        ≡ linked (drop start out.old.items) (spell is_whole token.now) (map (spell is_whole) behind.now)
-        (between_of has_own own.now is_whole)) }
+        ≡ joined (by_signs (form_of is_whole)) (drop start out.old.items) (map (spell is_whole) tokens.now)) }
 {
-    if has_own {
-        return out.extend_from_slice(own);
+    let mut is_short = true;
+    let mut rest = tokens;
+    'walk: while let [token, behind @ ..] = rest {
+        is_short = push_linked(out, start, is_short, is_whole, token, behind)?;
+        rest = behind;
     }
-    if !is_whole {
-        out.push(b'.')?;
+    Ok(())
+}
+
+/// Appends tokens to the group that begins at `start`, with the group's own text before each.
+#[tactic(auto, using(crate::proofs::GroupLemmas::tail_append, crate::proofs::GroupLemmas::front_append))]
+fn push_by_text(
+    out: &mut Vec<u8>,
+    start: usize,
+    own: &[u8],
+    is_whole: bool,
+    tokens: &[LentToken],
+) -> Result<(), AllocError>
+    requires { start ≤ length out.old.items }
+    ensures front { OnOk result (take start out.new.items ≡ take start out.old.items) }
+    ensures size { OnOk result (start ≤ length out.new.items) }
+    ensures group { OnOk result (drop start out.new.items
+        ≡ joined (by_text own.now) (drop start out.old.items) (map (spell is_whole) tokens.now)) }
+{
+    let mut rest = tokens;
+    'walk: while let [token, behind @ ..] = rest {
+        out.extend_from_slice(own)?;
+        out.extend_from_slice(spelling(is_whole, token))?;
+        rest = behind;
     }
-    let (_, group) = out.as_slice().split_at(start);
-    let sign = sign(token.before(), behind.is_empty(), group);
-    out.push(sign)?;
     Ok(())
 }
 
 /// Appends tokens to the group that begins at `start`, each with what links it to the ones before it.
-#[tactic(auto, using(crate::proofs::GroupLemmas::tail_append, crate::proofs::GroupLemmas::front_append))]
 fn push_others(
     out: &mut Vec<u8>,
     start: usize,
@@ -149,13 +217,11 @@ fn push_others(
     ensures group { OnOk result (drop start out.new.items
         ≡ joined (between_of has_own own.now is_whole) (drop start out.old.items) (map (spell is_whole) tokens.now)) }
 {
-    let mut rest = tokens;
-    'walk: while let [token, behind @ ..] = rest {
-        push_link(out, start, has_own, own, is_whole, token, behind)?;
-        out.extend_from_slice(spelling(is_whole, token))?;
-        rest = behind;
+    if has_own {
+        push_by_text(out, start, own, is_whole, tokens)
+    } else {
+        push_by_signs(out, start, is_whole, tokens)
     }
-    Ok(())
 }
 
 /// Appends what a group with a letter gives to `out`, with `own` between tokens if the group has it, otherwise signs.

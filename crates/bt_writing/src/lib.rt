@@ -35,6 +35,6 @@ pub use period::push_with_period;
 pub use pieces::Pattern;
 pub use prefix::push_prefix;
 pub use purification::push_purified;
-pub use substrings::substring;
+pub use substrings::part_place;
 pub use widths::width;
 pub use writing::Written;

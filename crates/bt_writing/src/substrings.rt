@@ -1,32 +1,39 @@
-//! Parts of a text, lent from it.
+//! Where a part of a text is.
 
-ghost use Rattle.std.specs.Prelude.{◌≡◌, ◌-◌, length, take, drop};
+ghost use Rattle.std.specs.Prelude.{◌≡◌, ◌≤◌, ◌+◌, ◌-◌, ℕ, List, length, take, drop};
 ghost use Rattle.bt_text.specs.Substrings.{last_bytes, substring_of};
 
-fn bytes_from(text: &[u8], place: usize, len: usize) -> &[u8]
-    ensures { result.now ≡ take len (drop place text.now) }
+/// At most `len` bytes from a place on.
+fn place_from(count: usize, place: usize, len: usize) -> (usize, usize)
+    ensures within { result.0 + result.1 ≤ count }
+    ensures part { (t : List ℕ) → length t ≡ count → take result.1 (drop result.0 t) ≡ take len (drop place t) }
 {
-    let behind = text.get(place..).unwrap_or(&[]);
-    behind.get(..len).unwrap_or(behind)
+    let from = place.min(count);
+    (from, len.min(count - from))
 }
 
 /// At most `len` bytes that end before the last `behind` bytes.
-fn bytes_up_to(text: &[u8], behind: usize, len: usize) -> &[u8]
-    ensures { result.now ≡ last_bytes len (take (length text.now - behind) text.now) }
+fn place_up_to(count: usize, behind: usize, len: usize) -> (usize, usize)
+    ensures within { result.0 + result.1 ≤ count }
+    ensures part { (t : List ℕ) → length t ≡ count
+        → take result.1 (drop result.0 t) ≡ last_bytes len (take (length t - behind) t) }
 {
-    let front = &text[..text.len().saturating_sub(behind)];
-    &front[front.len().saturating_sub(len)..]
+    let end = count.saturating_sub(behind);
+    let from = end.saturating_sub(len);
+    (from, end - from)
 }
 
-/// At most `len` bytes of a text: those from `start` on, counted from 1, or those up to `-start` from the end.
-pub fn substring(text: &[u8], start: i32, len: i32) -> &[u8]
-    ensures { result.now ≡ substring_of text.now start len }
+/// At most `len` bytes of a text of `count` bytes: those from `start` on, counted from 1, or those up to `-start` from the
+/// end. The first number is the place of the first of them, the second says how many they are.
+pub fn part_place(count: usize, start: i32, len: i32) -> (usize, usize)
+    ensures within { result.0 + result.1 ≤ count }
+    ensures part { (t : List ℕ) → length t ≡ count → take result.1 (drop result.0 t) ≡ substring_of t start len }
 {
     if len < 0 || start == 0 {
-        &[]
+        (0, 0)
     } else if 0 < start {
-        bytes_from(text, start as usize - 1, len as usize)
+        place_from(count, start as usize - 1, len as usize)
     } else {
-        bytes_up_to(text, (-1 - start) as usize, len as usize)
+        place_up_to(count, (-1 - start) as usize, len as usize)
     }
 }
