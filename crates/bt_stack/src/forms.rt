@@ -79,7 +79,7 @@ pub trait OfTextToText {
         ensures { result ≡ builtin };
 
     /// Writes its value on a page.
-    fn write(alloc: Global, text: &[u8], page: &mut Vec<u8>) -> Result<(), AllocError>
+    fn write(text: &[u8], page: &mut Vec<u8>) -> Result<(), AllocError>
         ensures { OnOk result (page.new.items ≡ page.old.items ++ value text.now) };
 }
 
@@ -156,20 +156,14 @@ pub fn answer_page(state: &mut State, count: usize, page: Vec<u8>) -> Result<Flo
     }
 }
 
-/// Puts a copy of a text in place of arguments, unless it is too long.
-pub fn answer_copy(
-    state: &mut State,
-    alloc: Global,
-    count: usize,
-    text: &Bytes,
-) -> Result<Flow, AllocError>
+/// Puts a text in place of arguments, unless it is too long.
+pub fn answer_bytes(state: &mut State, count: usize, text: Bytes) -> Result<Flow, AllocError>
     requires some { 0 < count }
     requires there { count ≤ length state.old.stack.items }
-    ensures { IfOk result (Acts (λ world. pushed (Txt text.now) (with_stack (drop count world.stack) world))
+    ensures { IfOk result (Acts (λ world. pushed (Txt text) (with_stack (drop count world.stack) world))
         state.old state.new) }
 {
-    let mut page = state.stack.take_page(alloc);
-    page.extend_from_slice(text.as_slice())?;
+    let page = text.into_vec();
     answer_page(state, count, page)
 }
 
@@ -248,7 +242,7 @@ pub fn call_of_text_to_text<F: OfTextToText>(
     let mut page = state.stack.take_page(alloc);
     match state.stack.text_at(0) {
         Some(text) => {
-            F::write(alloc, text, &mut page)?;
+            F::write(text, &mut page)?;
             answer_page(state, 1, page)
         }
         None => {

@@ -1,6 +1,6 @@
 //! The functions on lists of names.
 
-ghost use Rattle.std.specs.Prelude.{◌≡◌, ◌≤◌, None, length, drop, option_map, IfOk};
+ghost use Rattle.std.specs.Prelude.{◌≡◌, ◌≤◌, [], None, length, drop, option_map, IfOk};
 ghost use Rattle.bt_actions.specs.Arguments.{as_number, as_text, taken_three};
 ghost use Rattle.bt_actions.specs.Given.{Errs, valued, answered, empty_item};
 ghost use Rattle.bt_actions.specs.Names.{names_counted, name_formatted};
@@ -8,16 +8,17 @@ ghost use Rattle.bt_actions.specs.World.{World, with_stack};
 ghost use Rattle.bt_names.specs.FormattedName.{formatted_name, IsFormatFault};
 ghost use Rattle.bt_style.specs.declared.builtin.Builtin.TheVariants as builtin;
 ghost use Rattle.bt_stack.specs.View.{world_of, Acts};
-ghost use Rattle.bt_stack.specs.inner.Formatted.{formatted_answer, name_asked, pushed_within};
+ghost use Rattle.bt_stack.specs.inner.Formatted.{name_asked, pushed_written, written_answer};
 
-use crate::forms::{OfTextToNumber, answer_copy, answer_empty_in_error};
+use crate::forms::{OfTextToNumber, answer_empty_in_error, answer_page};
 use crate::stack::Stack;
 use crate::state::State;
 use crate::texts::count_fitting;
 use bt_actions::{Complaint, Flow};
-use bt_names::{FormatFault, Formatted, count, format_within};
+use bt_names::FormatFault;
 use bt_style::Builtin;
 use bt_text::{Bytes, TEXT_BYTES};
+use bt_writing::{Pattern, Written, count, push_formatted};
 use std::alloc::{AllocError, Global};
 
 /// `num.names$`.
@@ -65,19 +66,22 @@ fn fault_complaint(
     }
 }
 
-/// Writes a name in the form of a pattern, or tells what is wrong with them. A name that is too long for the stack is
-/// cut off, since it isn't put there.
-fn formatted(
+/// Writes a name in the form of a pattern on an empty page, or tells what is wrong with them. A name that is too long
+/// for the stack isn't written to its end, since it isn't put there.
+fn write_name(
     alloc: Global,
+    page: &mut Vec<u8>,
     names: &[u8],
     number: i32,
     pattern: &[u8],
-) -> Result<Result<Formatted, Complaint>, AllocError>
-    ensures { IfOk result (λ told. (w : World) → formatted_answer told w
+) -> Result<Result<Written, Complaint>, AllocError>
+    requires { page.old.items ≡ [] }
+    ensures { IfOk result (λ told. (w : World) → written_answer told page.new.items w
         ≡ answered (name_formatted (names.now, number, pattern.now)) w) }
 {
-    match format_within(alloc, names, number, pattern, TEXT_BYTES) {
-        Ok(formatted) => Ok(Ok(formatted)),
+    let compiled = Pattern::compiled(alloc, pattern)?;
+    match push_formatted(alloc, page, names, number, &compiled, TEXT_BYTES) {
+        Ok(written) => Ok(Ok(written)),
         Err(fault) => {
             let complaint = fault_complaint(alloc, names, number, pattern, fault)?;
             Ok(Err(complaint))
@@ -85,15 +89,15 @@ fn formatted(
     }
 }
 
-/// Puts a formatted name in place of three arguments, if it isn't too long.
-fn answer_within(state: &mut State, alloc: Global, formatted: Formatted) -> Result<Flow, AllocError>
+/// Puts a name that was written in place of three arguments, if it isn't too long.
+fn answer_written(state: &mut State, page: Vec<u8>, written: Written) -> Result<Flow, AllocError>
     requires { 3 ≤ length state.old.stack.items }
-    ensures { IfOk result (Acts (λ world. pushed_within formatted (with_stack (drop 3 world.stack) world))
+    ensures { IfOk result (Acts (λ world. pushed_written written page.items (with_stack (drop 3 world.stack) world))
         state.old state.new) }
 {
-    match formatted {
-        Formatted::Text(text) => answer_copy(state, alloc, 3, &text),
-        Formatted::Longer => {
+    match written {
+        Written::Whole => answer_page(state, 3, page),
+        Written::Longer => {
             state.stack.drop_tops(3);
             state.pass_text_limit()
         }
@@ -101,33 +105,35 @@ fn answer_within(state: &mut State, alloc: Global, formatted: Formatted) -> Resu
 }
 
 /// The same, or reports what is wrong with the arguments.
-fn answer_formatted(
+fn answer_name(
     state: &mut State,
-    alloc: Global,
-    told: Result<Formatted, Complaint>,
+    page: Vec<u8>,
+    told: Result<Written, Complaint>,
 ) -> Result<Flow, AllocError>
     requires { 3 ≤ length state.old.stack.items }
-    ensures { IfOk result (Acts (λ world. formatted_answer told (with_stack (drop 3 world.stack) world))
+    ensures { IfOk result (Acts (λ world. written_answer told page.items (with_stack (drop 3 world.stack) world))
         state.old state.new) }
 {
     match told {
-        Ok(formatted) => answer_within(state, alloc, formatted),
+        Ok(written) => answer_written(state, page, written),
         Err(complaint) => answer_empty_in_error(state, 3, complaint),
     }
 }
 
-/// The name that the three topmost values ask for, or what is wrong with it, if they are two texts about a number. The
-/// texts are borrowed only here, so the caller can change the stack.
-fn formatted_tops(
+/// Writes the name that the three topmost values ask for, or tells what is wrong with it, if they are two texts about a
+/// number. The texts are borrowed only here, so the caller can change the stack.
+fn write_tops(
     alloc: Global,
+    page: &mut Vec<u8>,
     stack: &Stack,
-) -> Result<Option<Result<Formatted, Complaint>>, AllocError>
-    ensures { IfOk result (λ told. (w : World) → option_map (λ name. formatted_answer name w) told
+) -> Result<Option<Result<Written, Complaint>>, AllocError>
+    requires { page.old.items ≡ [] }
+    ensures { IfOk result (λ told. (w : World) → option_map (λ name. written_answer name page.new.items w) told
         ≡ option_map (λ asked. answered (name_formatted asked) w) (name_asked stack.now.items)) }
 {
     match (stack.text_at(2), stack.number_at(1), stack.text_at(0)) {
         (Some(names), Some(number), Some(pattern)) => {
-            let told = formatted(alloc, names, number, pattern)?;
+            let told = write_name(alloc, page, names, number, pattern)?;
             Ok(Some(told))
         }
         _ => Ok(None),
@@ -156,8 +162,9 @@ pub fn format_name(state: &mut State, alloc: Global) -> Result<Flow, AllocError>
         valued name_formatted empty_item (taken_three builtin.FormatName as_text as_number as_text world))
         state.old state.new) }
 {
-    match formatted_tops(alloc, &state.stack)? {
-        Some(told) => answer_formatted(state, alloc, told),
+    let mut page = state.stack.take_page(alloc);
+    match write_tops(alloc, &mut page, &state.stack)? {
+        Some(told) => answer_name(state, page, told),
         None => refuse_name(state),
     }
 }

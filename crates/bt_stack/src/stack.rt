@@ -311,7 +311,8 @@ impl<'a> Stack<'a> {
 
     /// Replaces the topmost value by a part of it, if it is a text. Nothing is copied.
     pub fn cut_top(&mut self, from: usize, len: usize)
-        ensures { self.new ≡ with_items (with_top (cut from len) self.old.items) self.old }
+        ensures top { self.new ≡ with_items (with_top (cut from len) self.old.items) self.old }
+        ensures few { length self.old.items ≤ 1000 }
     {
         let count = self.values.len();
         if count > 0 {

@@ -55,7 +55,7 @@ pub fn call_basic(
         Builtin::Purify => call_of_text_to_text::<Purify>(state, alloc),
         Builtin::Quote => state.push_given(b"\""),
         Builtin::Stack => log_lines::all(state, alloc, style),
-        Builtin::Substring => cut(state, alloc),
+        Builtin::Substring => cut(state),
         Builtin::Swap => operands::swap(state),
         Builtin::TextLength => call_of_text_to_number::<TextLength>(state, alloc),
         Builtin::TextPrefix => prefix(state, alloc),

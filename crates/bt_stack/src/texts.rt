@@ -1,6 +1,6 @@
 //! The functions on texts. A text that ends the pool grows where it lies; all others are written on the stack's page.
 
-ghost use Rattle.std.specs.Prelude.{◌≡◌, ◌≤◌, None, pos, length, drop, option_map, IfOk, IfSome};
+ghost use Rattle.std.specs.Prelude.{◌≡◌, ◌≤◌, [], None, pos, length, drop, option_map, IfOk, IfSome, IfNone};
 ghost use Rattle.bt_text.specs.Period.{with_period};
 ghost use Rattle.bt_text.specs.Purification.{purified};
 ghost use Rattle.bt_actions.specs.Arguments.{as_number, as_text, taken_two, taken_three};
@@ -12,15 +12,16 @@ ghost use Rattle.bt_stack.specs.Forms.{number_or_error};
 ghost use Rattle.bt_stack.specs.Tops.{joined_tops, top_len};
 ghost use Rattle.bt_stack.specs.View.{world_of, Acts};
 ghost use Rattle.bt_stack.specs.inner.Converted.{case_told, case_asked, case_answer};
-ghost use Rattle.bt_stack.specs.inner.Part.{part_of, part_asked, text_of_prefix, prefix_asked};
+ghost use Rattle.bt_stack.specs.inner.Part.{IsPart, part_asked, text_of_prefix, prefix_asked};
 
-use crate::forms::{OfTextToNumber, OfTextToText, answer_copy};
+use crate::forms::{OfTextToNumber, OfTextToText, answer_bytes};
 use crate::stack::Stack;
 use crate::state::State;
 use bt_actions::{Complaint, Flow};
 use bt_style::Builtin;
-use bt_text::{
-    Bytes, Mode, add_period, change_case, purify, substring, text_length, text_prefix, width,
+use bt_text::{Bytes, Mode};
+use bt_writing::{
+    part_place, push_changed_case, push_prefix, push_purified, push_with_period, text_length, width,
 };
 use std::alloc::{AllocError, Global};
 
@@ -80,9 +81,8 @@ impl OfTextToText for Purify {
         Builtin::Purify
     }
 
-    fn write(alloc: Global, text: &[u8], page: &mut Vec<u8>) -> Result<(), AllocError> {
-        let pure = purify(alloc, text)?;
-        page.extend_from_slice(pure.as_slice())
+    fn write(text: &[u8], page: &mut Vec<u8>) -> Result<(), AllocError> {
+        push_purified(page, text)
     }
 }
 
@@ -98,9 +98,8 @@ impl OfTextToText for AddPeriod {
         Builtin::AddPeriod
     }
 
-    fn write(alloc: Global, text: &[u8], page: &mut Vec<u8>) -> Result<(), AllocError> {
-        let ended = add_period(alloc, text)?;
-        page.extend_from_slice(ended.as_slice())
+    fn write(text: &[u8], page: &mut Vec<u8>) -> Result<(), AllocError> {
+        push_with_period(page, text)
     }
 }
 
@@ -157,18 +156,21 @@ fn refuse_mode(state: &mut State, complaint: Complaint) -> Result<Flow, AllocErr
     Ok(Flow::Go)
 }
 
-/// A text in the case that another one names, or that it names none.
+/// A text in the case that another one names, written on an empty page, or that it names none.
 fn converted(
     alloc: Global,
+    page: Vec<u8>,
     text: &[u8],
     name: &[u8],
 ) -> Result<Result<Bytes, Complaint>, AllocError>
+    requires { page.items ≡ [] }
     ensures { IfOk result (λ told. told ≡ case_told (text.now, name.now)) }
 {
     match mode_of(name) {
         Some(mode) => {
-            let changed = change_case(alloc, text, mode)?;
-            Ok(Ok(changed))
+            let mut page = page;
+            push_changed_case(&mut page, text, mode)?;
+            Ok(Ok(Bytes::from_vec(page)))
         }
         None => {
             let name = Bytes::copied(alloc, name)?;
@@ -182,8 +184,10 @@ fn converted(
 #[tactic(auto, using(crate::proofs::CaseLemmas::second_short))]
 fn converted_tops(
     alloc: Global,
+    page: Vec<u8>,
     stack: &Stack,
 ) -> Result<Option<Result<Bytes, Complaint>>, AllocError>
+    requires { page.items ≡ [] }
     ensures told { IfOk result (λ told. told ≡ option_map case_told (case_asked stack.now.items)) }
     ensures few { length stack.now.items ≤ 1000 }
     ensures short { IfOk result (λ told. IfSome told (λ _. top_len (drop 1 stack.now.items) ≤ 65536)) }
@@ -193,7 +197,7 @@ fn converted_tops(
     }
     match (stack.text_at(1), stack.text_at(0)) {
         (Some(text), Some(name)) => {
-            let told = converted(alloc, text, name)?;
+            let told = converted(alloc, page, text, name)?;
             Ok(Some(told))
         }
         _ => Ok(None),
@@ -201,16 +205,12 @@ fn converted_tops(
 }
 
 /// Puts a text in another case in place of two arguments, or reports that none was named.
-fn answer_converted(
-    state: &mut State,
-    alloc: Global,
-    told: Result<Bytes, Complaint>,
-) -> Result<Flow, AllocError>
+fn answer_converted(state: &mut State, told: Result<Bytes, Complaint>) -> Result<Flow, AllocError>
     requires { 2 ≤ length state.old.stack.items }
     ensures { IfOk result (Acts (case_answer told) state.old state.new) }
 {
     match told {
-        Ok(text) => answer_copy(state, alloc, 2, &text),
+        Ok(text) => answer_bytes(state, 2, text),
         Err(complaint) => refuse_mode(state, complaint),
     }
 }
@@ -233,21 +233,24 @@ pub fn convert_case(state: &mut State, alloc: Global) -> Result<Flow, AllocError
     ensures { IfOk result (Acts (λ world.
         valued case_of empty_item (taken_two builtin.ChangeCase as_text as_text world)) state.old state.new) }
 {
-    match converted_tops(alloc, &state.stack)? {
-        Some(told) => answer_converted(state, alloc, told),
+    let page = state.stack.take_page(alloc);
+    match converted_tops(alloc, page, &state.stack)? {
+        Some(told) => answer_converted(state, told),
         None => refuse_case(state),
     }
 }
 
-/// The prefix that the two topmost values ask for, if they are a text and a number. The text is borrowed only here, so
-/// the caller can change the stack.
-fn prefix_tops(alloc: Global, stack: &Stack) -> Result<Option<Bytes>, AllocError>
+/// The prefix that the two topmost values ask for, written on an empty page, if they are a text and a number. The text
+/// is borrowed only here, so the caller can change the stack.
+fn prefix_tops(page: Vec<u8>, stack: &Stack) -> Result<Option<Bytes>, AllocError>
+    requires { page.items ≡ [] }
     ensures { IfOk result (λ prefix. prefix ≡ option_map text_of_prefix (prefix_asked stack.now.items)) }
 {
     match (stack.text_at(1), stack.number_at(0)) {
         (Some(text), Some(most)) => {
-            let prefix = text_prefix(alloc, text, most)?;
-            Ok(Some(prefix))
+            let mut page = page;
+            push_prefix(&mut page, text, most)?;
+            Ok(Some(Bytes::from_vec(page)))
         }
         _ => Ok(None),
     }
@@ -271,23 +274,22 @@ pub fn prefix(state: &mut State, alloc: Global) -> Result<Flow, AllocError>
     ensures { IfOk result (Acts (λ world.
         valued prefix_of empty_item (taken_two builtin.TextPrefix as_text as_number world)) state.old state.new) }
 {
-    match prefix_tops(alloc, &state.stack)? {
-        Some(prefix) => answer_copy(state, alloc, 2, &prefix),
+    let page = state.stack.take_page(alloc);
+    match prefix_tops(page, &state.stack)? {
+        Some(prefix) => answer_bytes(state, 2, prefix),
         None => refuse_prefix(state),
     }
 }
 
-/// The part of a text that the three topmost values ask for, if they are a text and two numbers. The text is borrowed
-/// only here, so the caller can change the stack.
-fn part_tops(alloc: Global, stack: &Stack) -> Result<Option<Bytes>, AllocError>
-    ensures { IfOk result (λ part. part ≡ option_map part_of (part_asked stack.now.items)) }
+/// Where in a text the part is that the three topmost values ask for, if they are a text and two numbers. The text is
+/// borrowed only here, so the caller can change the stack.
+fn part_tops(stack: &Stack) -> Option<(usize, usize)>
+    ensures some { IfSome result (λ place. IsPart place.0 place.1 stack.now.items) }
+    ensures none { IfNone result (part_asked stack.now.items ≡ None) }
 {
     match (stack.text_at(2), stack.number_at(1), stack.number_at(0)) {
-        (Some(text), Some(start), Some(len)) => {
-            let part = substring(alloc, text, start, len)?;
-            Ok(Some(part))
-        }
-        _ => Ok(None),
+        (Some(text), Some(start), Some(len)) => Some(part_place(text.len(), start, len)),
+        _ => None,
     }
 }
 
@@ -307,14 +309,18 @@ fn refuse_part(state: &mut State) -> Result<Flow, AllocError>
     state.push_given(b"")
 }
 
-/// `substring$`.
-pub fn cut(state: &mut State, alloc: Global) -> Result<Flow, AllocError>
+/// `substring$`. The part isn't copied: it is a place in the same text.
+pub fn cut(state: &mut State) -> Result<Flow, AllocError>
     ensures { IfOk result (Acts (λ world.
         valued substring_given empty_item (taken_three builtin.Substring as_text as_number as_number world))
         state.old state.new) }
 {
-    match part_tops(alloc, &state.stack)? {
-        Some(part) => answer_copy(state, alloc, 3, &part),
+    match part_tops(&state.stack) {
+        Some(place) => {
+            state.stack.drop_tops(2);
+            state.stack.cut_top(place.0, place.1);
+            Ok(Flow::Go)
+        }
         None => refuse_part(state),
     }
 }

@@ -1,18 +1,26 @@
 -- What `substring$` and `text.prefix$` ask for, and what they are told.
-use Rattle.std.specs.Prelude.{ℕ, ℤ, List, Option, option_and_then, slice_get}
+use Rattle.std.specs.Prelude.{◌≡◌, ℕ, ℤ, ◌≤◌, List, length, take, drop, Option, Some, option_and_then, slice_get}
 use Rattle.std.specs.Option.{option_zip}
 use Rattle.bt_text.specs.Substrings.{substring_of, text_prefix_of}
 use Rattle.bt_actions.specs.Arguments.{as_number, as_text, all_three}
 use Rattle.bt_actions.specs.Item.{Item}
-
-abbrev pub part_of : List ℕ × ℤ × ℤ → List ℕ
-part_of (t, start, len) = substring_of t start len
 
 -- the text and the two numbers on the stack, if they are on top
 abbrev pub part_asked : List Item → Option (List ℕ × ℤ × ℤ)
 part_asked items =
     all_three (option_and_then as_text (slice_get items 2)) (option_and_then as_number (slice_get items 1))
     (option_and_then as_number (slice_get items 0))
+
+-- the values on the stack ask for the part of a text that has count bytes from a place on
+pub record IsPart (from count : ℕ) (items : List Item) : Type 0 where
+  pub text : List ℕ
+  pub start : ℤ
+  pub len : ℤ
+  pub is_text : Some text ≡ option_and_then as_text (slice_get items 2)
+  pub is_start : Some start ≡ option_and_then as_number (slice_get items 1)
+  pub is_len : Some len ≡ option_and_then as_number (slice_get items 0)
+  pub short : length text ≤ 65536
+  pub part : take count (drop from text) ≡ substring_of text start len
 
 abbrev pub text_of_prefix : List ℕ × ℤ → List ℕ
 text_of_prefix (t, most) = text_prefix_of t most

@@ -1,16 +1,16 @@
-use Rattle.std.proofs.Common.{◌∙◌}
-use Rattle.std.proofs.lemmas.Result.{IfOk-weaker}
+use Rattle.std.proofs.Common.{ap, ◌∙◌}
+use Rattle.bt_actions.specs.World.{Goes}
+use Rattle.bt_stack.specs.Desk.{with_items}
+use Rattle.bt_stack.specs.Tops.{cut, with_top}
 use Rattle.bt_stack.specs.View.{world_of}
-use Rattle.bt_stack.proofs.PartLemmas.{three_there, part_pushed, none_asked}
+use Rattle.bt_stack.proofs.PartLemmas.{part_answered, numbers_there}
 use Rattle.bt_stack.proofs.texts.cut.Goals as goal
 
-pub answer_copy-requires-clause-there : goal.answer_copy-requires-clause-there
-answer_copy-requires-clause-there c = three_there c.args.state.now.stack.items _ (rw c.in-Some.is at c.in_ok-part.ensures)
+pub drop_tops-requires : goal.drop_tops-requires
+drop_tops-requires c = numbers_there c.args.state.now.stack.items _ _ c.in-Some.ensures.some
 
 pub returns-in-Some : goal.returns-in-Some
 returns-in-Some c = let s = c.args.state.now in
-    let known = rw c.in-Some.is at c.in_ok-part.ensures in
-    IfOk-weaker c.answer_copy.result _ _ (λ flow h. h ∙ part_pushed s.stack.items _ (world_of s) known) c.answer_copy.ensures
-
-pub refuse_part-requires : goal.refuse_part-requires
-refuse_part-requires c = none_asked _ (rw c.in-None.is at c.in_ok-part.ensures)
+    let some = c.in-Some.ensures.some in
+    ap (λ d. Goes (world_of (record s { stack = d }))) (c.cut_top.ensures.top ∙ ap (λ d. with_items (with_top (cut c.in-Some.place.0 c.in-Some.place.1) d.items) d) c.drop_tops.ensures)
+    ∙ part_answered s.stack.items c.in-Some.place.0 c.in-Some.place.1 (world_of s) some (rw c.drop_tops.ensures at c.cut_top.ensures.few)
