@@ -1,12 +1,10 @@
 -- What the calls answer: the parts of the n-th name, that name in a pattern, or why there is none.
-use Rattle.std.specs.Prelude.{◌≡◌, ℤ, ℕ, nat_le, if◌then◌else◌, List, length, None, Some, Result, Ok, Err, IsOk}
+use Rattle.std.specs.Prelude.{◌≡◌, ℤ, ℕ, List, None, Some, Result, Ok, Err, IsOk}
 use Rattle.bt_names.specs.declared.tokens.Parts.{Parts}
 use Rattle.bt_names.specs.declared.faults.NameFault.{NameFault}
 use Rattle.bt_names.specs.declared.faults.NameFault.TheVariants.{NoSuchName as no_such_name, TooManyCommas as too_many_commas, OutOfMemory as no_memory}
 use Rattle.bt_names.specs.declared.faults.FormatFault.{FormatFault}
 use Rattle.bt_names.specs.declared.faults.FormatFault.TheVariants.{NoSuchName, TooManyCommas, PatternFault, OutOfMemory}
-use Rattle.bt_names.specs.declared.formatted_name.Formatted.{Formatted}
-use Rattle.bt_names.specs.declared.formatted_name.Formatted.TheVariants.{Text, Longer}
 use Rattle.bt_names.specs.Names.{name_at}
 use Rattle.bt_names.specs.NameParts.{parts_of}
 use Rattle.bt_names.specs.Patterns.{pattern_fault}
@@ -44,10 +42,3 @@ IsFormatFault r OutOfMemory = IsOk r
 IsFormatFault r NoSuchName = r ≡ Err NoSuchName
 IsFormatFault r TooManyCommas = r ≡ Err TooManyCommas
 IsFormatFault r (PatternFault place) = r ≡ Err (PatternFault place)
-
--- the n-th name in a pattern, if it has at most limit bytes
-unfoldable pub formatted_within : List ℕ → ℤ → List ℕ → ℕ → Result Formatted FormatFault
-formatted_within names n pattern limit = elim (formatted_name names n pattern) [
-  | Ok t ↦ Ok (if nat_le (length t) limit then Text t else Longer)
-  | Err fault ↦ Err fault
-]

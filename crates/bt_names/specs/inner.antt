@@ -2,5 +2,3 @@
 pub mod Cases
 pub mod Cuts
 pub mod Patterns
-pub mod Spelling
-pub mod Growth

@@ -1,11 +1,10 @@
 -- The steps of a change of case.
-use Rattle.std.proofs.Common.{◌≡◌, ℕ, cond, List, [], ◌∷◌, ◌++◌, fold, take, drop, flat_map, append_assoc, refl, sym, ap, ◌∙◌}
+use Rattle.std.proofs.Common.{◌≡◌, ℕ, cond, List, [], ◌∷◌, ◌++◌, fold, flat_map, append_assoc, refl, sym, ap, ◌∙◌}
 use Rattle.bt_text.specs.declared.modes.Mode.{Mode}
-use Rattle.bt_text.specs.declared.title_place.TitlePlace.{TitlePlace}
 use Rattle.bt_text.specs.Blocks.{blocks}
 use Rattle.bt_text.specs.CaseChange.{changed_after, changed_block, changed_case}
 use Rattle.bt_text.specs.Special.{Symbol, control, symbols}
-use Rattle.bt_text.specs.inner.TitlePlace.{is_spared_at, next_place, title_place_after}
+use Rattle.bt_text.specs.inner.TitlePlace.{TitlePlace, is_spared_at, next_place, title_place_after}
 use Rattle.bt_text.proofs.TitlePlaceLemmas.{title_place_after-append, spared_at_place}
 
 -- the step of a loop over the symbols of a special character
@@ -25,10 +24,3 @@ changed_behind_from mode front (block ∷ rest) =
 
 pub changed_from_start : (mode : Mode) (t : List ℕ) → changed_case mode t ≡ changed_from mode (title_place_after []) (blocks t)
 changed_from_start mode t = changed_behind_from mode [] (blocks t)
-
--- the step of a loop over the blocks
-pub changed_more : (mode : Mode) (place : TitlePlace) (out t new all : List ℕ) (n : ℕ) → blocks t ≡ take n t ∷ blocks (drop n t) → new ≡ out ++ cond (is_spared_at mode place) (take n t) (changed_block mode (take n t)) → out ++ changed_from mode place (blocks t) ≡ all → new ++ changed_from mode (fold next_place place (take n t)) (blocks (drop n t)) ≡ all
-changed_more mode place out t new all n first grown so_far =
-    let shown = cond (is_spared_at mode place) (take n t) (changed_block mode (take n t)) in
-    let rest = changed_from mode (fold next_place place (take n t)) (blocks (drop n t)) in
-    ap (λ l. l ++ rest) grown ∙ append_assoc out shown rest ∙ ap (λ bs. out ++ changed_from mode place bs) (sym first) ∙ so_far

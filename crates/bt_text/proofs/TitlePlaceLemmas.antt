@@ -5,10 +5,9 @@ use Rattle.std.proofs.lemmas.Bool.{lt-ltb}
 use Rattle.std.proofs.lemmas.List.{reverse-append, take-append-le, take_all}
 use Rattle.bt_text.specs.declared.modes.Mode.{Mode}
 use Rattle.bt_text.specs.declared.modes.Mode.TheVariants.{Title, Lower, Upper}
-use Rattle.bt_text.specs.declared.title_place.TitlePlace.{TitlePlace}
 use Rattle.bt_text.specs.ByteTests.{is_white}
 use Rattle.bt_text.specs.CaseChange.{is_spared}
-use Rattle.bt_text.specs.inner.TitlePlace.{is_empty, is_spared_at, next_place, title_place_after}
+use Rattle.bt_text.specs.inner.TitlePlace.{TitlePlace, is_empty, is_spared_at, next_place, title_place_after}
 use Rattle.bt_text.specs.White.{ends_in, trimmed_end}
 
 suffix_len-push : (test : ℕ → Bool) (t : List ℕ) (b : ℕ) → suffix_len test (t ++ b ∷ []) ≡ cond (test b) (1 + suffix_len test t) 0

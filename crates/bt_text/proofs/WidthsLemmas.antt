@@ -9,7 +9,6 @@ use Rattle.bt_text.specs.Special.{Symbol, control}
 use Rattle.bt_text.specs.Widths.{byte_width, control_width, piece_width, symbol_width, widths}
 use Rattle.std.specs.List.{list_all}
 use Rattle.std.proofs.lemmas.Bool.{leb-true}
-use Rattle.std.proofs.lemmas.List.{get_or_past}
 use Rattle.bt_text.proofs.PieceLemmas.{pieces_of_plain}
 
 first_holds : (a b : Bool) → (a && b) ≡ true → a ≡ true
@@ -28,10 +27,6 @@ below_all m (x ∷ xs) e (suc i) = below_all m xs (others_hold (leb x m) (list_a
 pub widths_narrow : (i : ℕ) → get_or widths i 0 ≤ 1028
 unfolding widths
 widths_narrow i = below_all 1028 widths refl i
-
-pub widths_past : (i : ℕ) → 95 ≤ i → get_or widths i 0 ≡ 0
-unfolding widths
-widths_past i h = get_or_past widths i 0 h
 
 -- outside special characters each byte has its own width
 pub width_single : (b : ℕ) → piece_width (single b) ≡ byte_width b

@@ -1,13 +1,11 @@
 //! Control sequences, and the foreign letters among them.
 
-ghost use Rattle.std.specs.Prelude.{◌≡◌, ◌≤◌, length, take, drop};
+ghost use Rattle.std.specs.Prelude.{◌≡◌, ◌≤◌, length, take};
 ghost use Rattle.bt_text.specs.ByteTests.{is_letter};
-ghost use Rattle.bt_text.specs.NameList.{is_among};
-ghost use Rattle.bt_text.specs.Special.{control_gap, control_name, is_foreign, letters_of, without_large_form};
+ghost use Rattle.bt_text.specs.Special.{control_name, is_foreign};
 ghost use Rattle.std.specs.List.{prefix_len};
 
 use crate::byte_tests::is_letter;
-use crate::white::white_run;
 
 fn letters_len(text: &[u8]) -> usize
     ensures within { result ≤ length text.now }
@@ -35,32 +33,6 @@ pub fn control_name_len(text: &[u8]) -> usize
     }
 }
 
-/// The name of the control sequence whose backslash stands before the text, and what follows the white space after
-/// it.
-pub fn control_split(text: &[u8]) -> (&[u8], &[u8])
-    ensures name { result.0.now ≡ control_name text.now }
-    ensures behind { result.1.now
-        ≡ drop (length (control_gap text.now)) (drop (length (control_name text.now)) text.now) }
-    ensures shorter { length result.1.now ≤ length text.now }
-{
-    let (name, _, behind) = control_parts(text);
-    (name, behind)
-}
-
-/// The name of the control sequence whose backslash stands before the text, the white space after it, and what
-/// follows.
-pub fn control_parts(text: &[u8]) -> (&[u8], &[u8], &[u8])
-    ensures name { result.0.now ≡ control_name text.now }
-    ensures gap { result.1.now ≡ control_gap text.now }
-    ensures behind { result.2.now
-        ≡ drop (length (control_gap text.now)) (drop (length (control_name text.now)) text.now) }
-    ensures shorter { length result.2.now ≤ length text.now }
-{
-    let (name, after) = text.split_at(control_name_len(text));
-    let (gap, behind) = after.split_at(white_run(after));
-    (name, gap, behind)
-}
-
 /// Whether a control sequence is a foreign letter.
 pub fn is_foreign(name: &[u8]) -> bool
     ensures { result ≡ is_foreign name.now }
@@ -81,22 +53,4 @@ pub fn is_foreign(name: &[u8]) -> bool
             | b"aa"
             | b"AA"
     )
-}
-
-/// Whether a foreign letter has no large form.
-pub fn is_without_large_form(name: &[u8]) -> bool
-    ensures { result ≡ is_among without_large_form name.now }
-{
-    matches!(name, b"i" | b"j" | b"ss")
-}
-
-/// The letters that stand for a control sequence when it is left out.
-pub fn letters_of(name: &[u8]) -> &[u8]
-    ensures { result.now ≡ letters_of name.now }
-{
-    match name {
-        b"oe" | b"OE" | b"ae" | b"AE" | b"ss" => name,
-        b"i" | b"j" | b"o" | b"O" | b"l" | b"L" | b"aa" | b"AA" => &name[..1],
-        _ => &[],
-    }
 }

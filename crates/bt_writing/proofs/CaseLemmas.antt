@@ -5,10 +5,9 @@ use Rattle.std.proofs.lemmas.Bool.Decides.{eqb_tells}
 use Rattle.std.proofs.lemmas.Grind.{flat_map-append}
 use Rattle.bt_text.specs.declared.modes.Mode.{Mode}
 use Rattle.bt_text.specs.declared.modes.Mode.TheVariants.{Title, Lower, Upper}
-use Rattle.bt_text.specs.declared.title_place.TitlePlace.{TitlePlace}
 use Rattle.bt_text.specs.Blocks.{blocks}
 use Rattle.bt_text.specs.CaseChange.{changed_after, changed_block, changed_byte, changed_case}
-use Rattle.bt_text.specs.inner.TitlePlace.{is_spared_at, next_place}
+use Rattle.bt_text.specs.inner.TitlePlace.{TitlePlace, is_spared_at, next_place}
 use Rattle.bt_text.proofs.CasingLemmas.{changed_from}
 use Rattle.bt_writing.specs.inner.Runs.{alone}
 use Rattle.bt_writing.specs.inner.Titles.{title_run}

@@ -7,9 +7,8 @@ use Rattle.std.proofs.lemmas.Bool.{eqb-true, eq-eqb}
 use Rattle.std.proofs.lemmas.Bool.Decides.{eqb_tells}
 use Rattle.std.proofs.lemmas.List.{take-append-drop}
 use Rattle.bt_text.specs.declared.modes.Mode.TheVariants.{Title}
-use Rattle.bt_text.specs.declared.title_place.TitlePlace.{TitlePlace}
 use Rattle.bt_text.specs.ByteTests.{is_white}
-use Rattle.bt_text.specs.inner.TitlePlace.{is_spared_at, next_place}
+use Rattle.bt_text.specs.inner.TitlePlace.{TitlePlace, is_spared_at, next_place}
 use Rattle.bt_writing.specs.inner.Titles.{IsQuiet, quiet_place, title_run}
 
 quiet_to : (k : ℕ) (t : List ℕ) → ((j : ℕ) → j < k → eqb (get_or t j 0) 58 ≡ true → ⊥) → IsQuiet (take k t)

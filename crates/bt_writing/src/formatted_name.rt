@@ -1,7 +1,7 @@
-//! A name in a pattern.
+//! The parts of a name, and a name in a pattern.
 
-ghost use Rattle.std.specs.Prelude.{IfErr, IfOk, IsOkAnd};
-ghost use Rattle.bt_names.specs.FormattedName.{formatted_name, IsFormatFault};
+ghost use Rattle.std.specs.Prelude.{◌≡◌, IfErr, IfOk, IsOkAnd, Ok};
+ghost use Rattle.bt_names.specs.FormattedName.{formatted_name, name_parts, IsFormatFault, IsNameFault};
 ghost use Rattle.bt_writing.specs.Written.{IsKept, IsWritten};
 
 use crate::cuts::has_many_commas;
@@ -10,8 +10,28 @@ use crate::name_parts::cut_name;
 use crate::names::name_at;
 use crate::pieces::Pattern;
 use crate::writing::{Written, push_pieces};
-use bt_names::FormatFault;
+use bt_names::{FormatFault, NameFault, Parts};
 use std::alloc::Global;
+
+/// The parts of the n-th of the names that a text lists, counted from 1.
+///
+/// The faults are reported in this order: `NoSuchName` if n is 0 or less or above the number of names, `TooManyCommas` if
+/// the name has more than two, `OutOfMemory`. The first two take no memory.
+#[tactic(auto, unfolding(bt_names::specs::FormattedName::name_parts))]
+pub fn parts(alloc: Global, names: &[u8], n: i32) -> Result<Parts, NameFault>
+    ensures parts { IfOk result (λ parts. name_parts names.now n ≡ Ok parts) }
+    ensures fault { IfErr result (IsNameFault (name_parts names.now n)) }
+{
+    let Some(name) = name_at(names, n) else {
+        return Err(NameFault::NoSuchName);
+    };
+    if has_many_commas(name) {
+        return Err(NameFault::TooManyCommas);
+    }
+    let name = Name::new(alloc, name)?;
+    let cut = cut_name(alloc, &name)?;
+    Ok(cut.parts().copied(alloc)?)
+}
 
 /// Appends the n-th of the names that a text lists, counted from 1, in a pattern to `out`, if that has at most `limit`
 /// bytes. It allocates little more than the names and the limit need, however long the whole text would be. If the result

@@ -3,6 +3,11 @@
 //! A name is cut and formatted without a copy of its tokens. For contracts a lent token is a token, so the definitions
 //! know nothing of it.
 
+ghost use Rattle.std.specs.Prelude.{◌≡◌, IfOk};
+
+use bt_names::{Parts, Token};
+use bt_text::{Bytes, Sequence};
+use std::alloc::{AllocError, Global};
 use std::marker::Model;
 
 /// A token whose bytes a name has. Contracts see the token.
@@ -45,6 +50,19 @@ impl<'a> LentToken<'a> {
     }
 }
 
+fn copied(alloc: Global, tokens: &[LentToken]) -> Result<Sequence<Token>, AllocError>
+    ensures { IfOk result (λ copies. copies ≡ tokens.now) }
+{
+    let mut copies = Sequence::new(alloc);
+    'walk: for token in tokens {
+        copies.push(Token {
+            text: Bytes::copied(alloc, token.text())?,
+            before: token.before(),
+        })?;
+    }
+    Ok(copies)
+}
+
 /// The four parts of a name that has their bytes. Contracts see the parts.
 #[derive(Drop)]
 pub struct LentParts<'t, 'a> {
@@ -63,7 +81,7 @@ impl<'t, 'a> Model for LentParts<'t, 'a> {
 }
 
 impl<'t, 'a> LentParts<'t, 'a> {
-    ghost use Rattle.std.specs.Prelude.{◌≡◌};
+    ghost use Rattle.std.specs.Prelude.{◌≡◌, IfOk};
     ghost use Rattle.bt_names.specs.Groups.{part_named};
 
     /// The tokens of the part that a letter names.
@@ -76,5 +94,17 @@ impl<'t, 'a> LentParts<'t, 'a> {
             b'l' => self.last,
             _ => self.jr,
         }
+    }
+
+    /// The parts with bytes of their own.
+    pub fn copied(&self, alloc: Global) -> Result<Parts, AllocError>
+        ensures { IfOk result (λ parts. parts ≡ self.now) }
+    {
+        Ok(Parts {
+            first: copied(alloc, self.first)?,
+            von: copied(alloc, self.von)?,
+            last: copied(alloc, self.last)?,
+            jr: copied(alloc, self.jr)?,
+        })
     }
 }

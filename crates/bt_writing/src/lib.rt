@@ -28,7 +28,7 @@ mod widths;
 mod writing;
 
 pub use case_change::push_changed_case;
-pub use formatted_name::push_formatted;
+pub use formatted_name::{parts, push_formatted};
 pub use length::text_length;
 pub use names::count;
 pub use period::push_with_period;

@@ -3,9 +3,8 @@ use Rattle.std.specs.Prelude.{ℕ, ◌≡◌, List, [], ◌∷◌, length, Some,
 use Rattle.bt_names.specs.declared.faults.FormatFault.{FormatFault}
 use Rattle.bt_names.specs.declared.faults.FormatFault.TheVariants.{NoSuchName, TooManyCommas, PatternFault}
 use Rattle.bt_names.specs.declared.faults.NameFault.TheVariants.{TooManyCommas as too_many}
-use Rattle.bt_names.specs.declared.formatted_name.Formatted.TheVariants.{Text, Longer}
 use Rattle.bt_names.specs.Names.{has_and_at, names_of}
-use Rattle.bt_names.specs.FormattedName.{formatted_name, formatted_within}
+use Rattle.bt_names.specs.FormattedName.{formatted_name}
 use Rattle.bt_names.specs.inner.Cases.{formatted_or_fault, name_parts_or_fault}
 
 -- the whole text as a name, in a pattern
@@ -138,10 +137,6 @@ three_parts = refl
 four_sections : name_parts_or_fault (Some (codes "A,,,")) ≡ Err too_many
 four_sections = refl
 
-within_the_limit : formatted_within (codes "Donald Ervin Knuth") (pos 1) (codes "{ff{/}}") 12 ≡ Ok (Text (codes "Donald/Ervin"))
-unfolding has_and_at formatted_within formatted_name names_of
-within_the_limit = refl
-
-above_the_limit : formatted_within (codes "Donald Ervin Knuth") (pos 1) (codes "{ff{/}}") 11 ≡ Ok Longer
-unfolding has_and_at formatted_within formatted_name names_of
-above_the_limit = refl
+own_text_between : formatted_name (codes "Donald Ervin Knuth") (pos 1) (codes "{ff{/}}") ≡ Ok (codes "Donald/Ervin")
+unfolding has_and_at formatted_name names_of
+own_text_between = refl

@@ -1,13 +1,11 @@
 -- Parts of rules, for the functions and lemmas that speak of them.
-use Rattle.std.specs.Prelude.{ℕ, ◌==◌, nat_le, Bool, if◌then◌else◌, List, [], ◌∷◌, ◌++◌, length, Option, None, Some, Result, Ok, Err}
+use Rattle.std.specs.Prelude.{ℕ, ◌==◌, Bool, List, [], ◌∷◌, ◌++◌, Option, None, Some, Result, Ok, Err}
 use Rattle.bt_names.specs.declared.tokens.Token.{Token}
 use Rattle.bt_names.specs.declared.tokens.Parts.{Parts}
 use Rattle.bt_names.specs.declared.faults.NameFault.{NameFault}
 use Rattle.bt_names.specs.declared.faults.NameFault.TheVariants.{NoSuchName as no_such_name, TooManyCommas as too_many_commas}
 use Rattle.bt_names.specs.declared.faults.FormatFault.{FormatFault}
 use Rattle.bt_names.specs.declared.faults.FormatFault.TheVariants.{NoSuchName, TooManyCommas, PatternFault}
-use Rattle.bt_names.specs.declared.formatted_name.Formatted.{Formatted}
-use Rattle.bt_names.specs.declared.formatted_name.Formatted.TheVariants.{Text, Longer}
 use Rattle.bt_names.specs.Cuts.{Run, comma, is_single}
 use Rattle.bt_names.specs.NameParts.{parts_of}
 use Rattle.bt_names.specs.Patterns.{pattern_fault}
@@ -50,11 +48,3 @@ formatted_parts pattern (Some parts) = text_or_fault parts pattern (pattern_faul
 abbrev pub formatted_or_fault : List ℕ → Option (List ℕ) → Result (List ℕ) FormatFault
 formatted_or_fault pattern None = Err NoSuchName
 formatted_or_fault pattern (Some name) = formatted_parts pattern (parts_of name)
-
--- a text of at most limit bytes, or that it is longer
-abbrev pub cut_off : ℕ → List ℕ → Formatted
-cut_off limit t = if nat_le (length t) limit then Text t else Longer
-
-abbrev pub cut_off_text : ℕ → Result (List ℕ) FormatFault → Result Formatted FormatFault
-cut_off_text limit (Ok t) = Ok (cut_off limit t)
-cut_off_text limit (Err fault) = Err fault

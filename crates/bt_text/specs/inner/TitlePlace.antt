@@ -2,9 +2,15 @@
 use Rattle.std.specs.Prelude.{ℕ, Bool, true, false, ◌&&◌, ◌||◌, ◌==◌, if◌then◌else◌, List, [], ◌∷◌}
 use Rattle.bt_text.specs.declared.modes.Mode.{Mode}
 use Rattle.bt_text.specs.declared.modes.Mode.TheVariants.{Title, Lower, Upper}
-use Rattle.bt_text.specs.declared.title_place.TitlePlace.{TitlePlace}
 use Rattle.bt_text.specs.ByteTests.{is_white}
 use Rattle.bt_text.specs.White.{ends_in, trimmed_end}
+
+-- a place of a title
+pub record TitlePlace : Type 0 where
+  pub is_first : Bool
+  pub follows_white : Bool
+  -- whether the last byte before it that isn't white is a colon
+  pub follows_colon : Bool
 
 abbrev pub is_empty : List ℕ → Bool
 is_empty [] = true

@@ -2,9 +2,8 @@
 use Rattle.std.specs.Prelude.{◌≢◌, ℕ, ◌<◌, false, length, slice_index, if◌then◌else◌, List, [], ◌∷◌}
 use Rattle.std.specs.Char.{to_ascii_lowercase}
 use Rattle.bt_text.specs.declared.modes.Mode.TheVariants.{Title}
-use Rattle.bt_text.specs.declared.title_place.TitlePlace.{TitlePlace}
 use Rattle.bt_text.specs.ByteTests.{is_white}
-use Rattle.bt_text.specs.inner.TitlePlace.{is_spared_at, next_place}
+use Rattle.bt_text.specs.inner.TitlePlace.{TitlePlace, is_spared_at, next_place}
 use Rattle.bt_writing.specs.declared.titles.Place.{Place}
 
 abbrev pub colon : ℕ
