@@ -5,4 +5,10 @@ pub mod SplittingLemmas
 pub mod PatternLemmas
 pub mod LengthLemmas
 pub mod CallLemmas
+pub mod SectionLemmas
+pub mod NameLemmas
+pub mod CutLemmas
+pub mod GroupLemmas
+pub mod PieceLemmas
+pub mod WritingLemmas
 mod rows

@@ -1,5 +1,5 @@
 -- Counting names.
-use Rattle.std.proofs.Common.{◌≡◌, ℕ, zero, suc, ◌+◌, ◌-◌, ◌<◌, ◌≤◌, Bool, true, false, cond, eqb, List, [], ◌∷◌, ◌++◌, ◌&&◌, ◌||◌, get_or, length, take, drop, filter, slice_get, slice_range, Option, refl, sym, ap, ◌∙◌, add-zero, arith, length-append}
+use Rattle.std.proofs.Common.{◌≡◌, ℕ, zero, suc, ◌+◌, ◌-◌, ◌<◌, ◌≤◌, Bool, true, false, cond, eqb, List, [], ◌∷◌, ◌++◌, ◌&&◌, ◌||◌, get_or, length, take, drop, filter, slice_get, slice_range, Option, refl, sym, ap, ◌∙◌, add-zero, arith, length-append, None}
 use Rattle.std.specs.List.{range_with_len}
 use Rattle.std.proofs.lemmas.Bool.{cond-true, cond-false, and_left, and_right}
 use Rattle.std.specs.Char.{to_ascii_lowercase}
@@ -117,3 +117,21 @@ no_and b (n ∷ d ∷ w ∷ t) h = and_left _ (is_white w) (and_left (eqb (to_as
 pub no_and_at : (t : List ℕ) (i : ℕ) → i < length t → (eqb (get_or t i 0) 97 || eqb (get_or t i 0) 65) ≡ false → has_and_at t i ≡ false
 unfolding has_and_at
 no_and_at t i lt h = and_right (follows_white t i) (begins_with_and (drop i t)) (ap begins_with_and (drop_more t i 0 lt) ∙ no_and (get_or t i 0) (drop (i + 1) t) h)
+
+pub and_at : (t : List ℕ) (i : ℕ) → has_and_at t i ≡ (follows_white t i && begins_with_and (drop i t))
+unfolding has_and_at
+and_at t i = refl
+
+pub no_names : (t : List ℕ) → length t ≡ 0 → length (names_of t) ≡ 0
+unfolding names_of
+no_names [] h = refl
+no_names (b ∷ t) h = absurd (omega (arith, h))
+
+pub no_name : (t : List ℕ) (i : ℕ) → length t ≡ 0 → slice_get (names_of t) i ≡ None
+unfolding names_of
+no_name [] i h = refl
+no_name (b ∷ t) i h = absurd (omega (arith, h))
+
+pub ruleset naming = (depth_take, names_from_more, names_from_end, names_from_start, names_here)
+
+pub ruleset counting = (depth_take, and_places_more, length-names, no_names)

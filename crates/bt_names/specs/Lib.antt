@@ -7,4 +7,5 @@ pub mod Spelling
 pub mod Joints
 pub mod Groups
 pub mod FormattedName
+pub mod Written
 pub mod inner

@@ -2,3 +2,5 @@
 pub mod Cases
 pub mod Cuts
 pub mod Patterns
+pub mod Spelling
+pub mod Pieces

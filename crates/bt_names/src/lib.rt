@@ -1,11 +1,25 @@
-//! Names of people: what their tokens, parts and faults are. The definitions say how many names a text lists, what the
-//! parts of one are, and what it is in a pattern.
+//! Names of people: how many a text lists, the parts of one, and one in a pattern.
 #![tactic(auto)]
 
+mod cuts;
 mod faults;
+mod formatted_name;
+mod groups;
+mod lent_tokens;
+mod name;
+mod name_parts;
+mod names;
+mod patterns;
+mod pieces;
 mod spelling;
 mod tokens;
+mod vons;
+mod writing;
 
 pub use faults::{FormatFault, NameFault};
+pub use formatted_name::{format, parts, push_formatted};
+pub use names::count;
+pub use pieces::Pattern;
 pub use spelling::Form;
 pub use tokens::{Parts, Token};
+pub use writing::Written;

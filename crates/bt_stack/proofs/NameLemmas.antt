@@ -4,9 +4,9 @@ use Rattle.std.specs.Prelude.{Option, Some, None, option_map, slice_get, is_none
 use Rattle.std.proofs.lemmas.Option.{none-some, same_Some}
 use Rattle.bt_names.specs.declared.faults.FormatFault.{FormatFault}
 use Rattle.bt_names.specs.FormattedName.{formatted_name}
-use Rattle.bt_writing.specs.declared.writing.Written.{Written}
-use Rattle.bt_writing.specs.declared.writing.Written.TheVariants.{Whole, Longer}
-use Rattle.bt_writing.specs.Written.{IsWritten}
+use Rattle.bt_names.specs.declared.writing.Written.{Written}
+use Rattle.bt_names.specs.declared.writing.Written.TheVariants.{Whole, Longer}
+use Rattle.bt_names.specs.Written.{IsWritten}
 use Rattle.bt_style.specs.declared.builtin.Builtin.TheVariants as builtin
 use Rattle.bt_actions.specs.declared.complaint.Complaint.{Complaint}
 use Rattle.bt_actions.specs.Arguments.{as_number, as_text, all_three, is_wrong, judged, taken_three}

@@ -15,10 +15,9 @@ use crate::stack::Stack;
 use crate::state::State;
 use crate::texts::count_fitting;
 use bt_actions::{Complaint, Flow};
-use bt_names::FormatFault;
+use bt_names::{FormatFault, Pattern, Written, count, push_formatted};
 use bt_style::Builtin;
 use bt_text::{Bytes, TEXT_BYTES};
-use bt_writing::{Pattern, Written, count, push_formatted};
 use std::alloc::{AllocError, Global};
 
 /// `num.names$`.

@@ -19,9 +19,9 @@ use crate::stack::Stack;
 use crate::state::State;
 use bt_actions::{Complaint, Flow};
 use bt_style::Builtin;
-use bt_text::{Bytes, Mode};
-use bt_writing::{
-    part_place, push_changed_case, push_prefix, push_purified, push_with_period, text_length, width,
+use bt_text::{
+    Bytes, Mode, part_place, push_changed_case, push_prefix, push_purified, push_with_period,
+    text_length, width,
 };
 use std::alloc::{AllocError, Global};
 

@@ -17,5 +17,15 @@ pub mod SparseLemmas
 pub mod MergingLemmas
 pub mod WhiteLemmas
 pub mod LayerLemmas
+pub mod TableLemmas
+pub mod KeptByteLemmas
+pub mod RunLemmas
+pub mod PurifyLemmas
+pub mod CaseLemmas
+pub mod QuietLemmas
+pub mod EndLemmas
+pub mod WidthLemmas
+pub mod PrefixLemmas
+pub mod PartLemmas
 pub mod laws
 mod rows

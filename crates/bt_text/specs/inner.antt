@@ -3,3 +3,7 @@ pub mod Cases
 pub mod TitlePlace
 pub mod Merging
 pub mod Chunks
+pub mod Endings
+pub mod KeptBytes
+pub mod Runs
+pub mod Titles

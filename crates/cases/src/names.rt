@@ -4,7 +4,7 @@ use crate::Done;
 use crate::answer::{Answer, Spelled, put};
 use crate::words::Words;
 use bt_names::{
-    FormatFault, Formatted, NameFault, Parts, Token, count, format, format_within, parts,
+    FormatFault, NameFault, Parts, Pattern, Token, Written, count, format, parts, push_formatted,
 };
 use std::alloc::AllocError;
 
@@ -30,21 +30,32 @@ fn push_parts_answer(words: Words<'_>, out: &mut Answer, names: &[u8]) -> Done {
     Ok(())
 }
 
-fn formatted(words: Words<'_>, names: &[u8]) -> Result<Formatted, FormatFault> {
-    let (alloc, n, pattern) = (words.alloc, words.number(2), words.text(3)?);
-    match words.word(0) {
-        "format" => Ok(Formatted::Text(format(alloc, names, n, &pattern)?)),
-        _ => format_within(alloc, names, n, &pattern, words.count(4)),
+fn push_fault(out: &mut Answer, fault: FormatFault) -> Done {
+    match fault {
+        FormatFault::PatternFault(place) => put!(out; "PatternFault ", place),
+        FormatFault::OutOfMemory => return Err(AllocError),
+        fault => out.shown(&fault),
     }
+    Ok(())
 }
 
-fn push_formatted(words: Words<'_>, out: &mut Answer, names: &[u8]) -> Done {
-    match formatted(words, names) {
-        Ok(Formatted::Text(text)) => put!(out; text),
-        Ok(Formatted::Longer) => put!(out; "longer"),
-        Err(FormatFault::PatternFault(place)) => put!(out; "PatternFault ", place),
-        Err(FormatFault::OutOfMemory) => return Err(AllocError),
-        Err(fault) => out.shown(&fault),
+fn push_format_answer(words: Words<'_>, out: &mut Answer, names: &[u8]) -> Done {
+    match format(words.alloc, names, words.number(2), &words.text(3)?) {
+        Ok(text) => put!(out; text),
+        Err(fault) => push_fault(out, fault)?,
+    }
+    Ok(())
+}
+
+fn push_within_answer(words: Words<'_>, out: &mut Answer, names: &[u8]) -> Done {
+    let (alloc, limit) = (words.alloc, words.count(4));
+    let pattern = words.text(3)?;
+    let pattern = Pattern::compiled(alloc, &pattern)?;
+    let mut page = Vec::new(alloc);
+    match push_formatted(alloc, &mut page, names, words.number(2), &pattern, limit) {
+        Ok(Written::Whole) => put!(out; page.as_slice()),
+        Ok(Written::Longer) => put!(out; "longer"),
+        Err(fault) => push_fault(out, fault)?,
     }
     Ok(())
 }
@@ -54,7 +65,8 @@ pub fn push_answer(words: Words<'_>, out: &mut Answer) -> Done {
     match words.word(0) {
         "count" => put!(out; count(&names)),
         "parts" => push_parts_answer(words, out, &names)?,
-        _ => push_formatted(words, out, &names)?,
+        "format" => push_format_answer(words, out, &names)?,
+        _ => push_within_answer(words, out, &names)?,
     }
     Ok(())
 }

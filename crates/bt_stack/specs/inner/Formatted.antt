@@ -1,7 +1,7 @@
 -- What `format.name$` puts on the stack. Of a name that is too long, only that is known.
 use Rattle.std.specs.Prelude.{ℕ, ℤ, List, Option, option_and_then, slice_get, Result, Ok, Err}
-use Rattle.bt_writing.specs.declared.writing.Written.{Written}
-use Rattle.bt_writing.specs.declared.writing.Written.TheVariants.{Whole, Longer}
+use Rattle.bt_names.specs.declared.writing.Written.{Written}
+use Rattle.bt_names.specs.declared.writing.Written.TheVariants.{Whole, Longer}
 use Rattle.bt_actions.specs.declared.complaint.Complaint.{Complaint}
 use Rattle.bt_actions.specs.Arguments.{as_number, as_text, all_three}
 use Rattle.bt_actions.specs.Given.{empty_item}

@@ -1,0 +1,104 @@
+//! The parts of a name, and a name in a pattern.
+
+ghost use Rattle.std.specs.Prelude.{◌≡◌, IfErr, IfNone, IfOk, IfSome, IsOk, IsOkAnd, Err, Ok};
+ghost use Rattle.bt_names.specs.FormattedName.{formatted_name, name_parts, IsFormatFault, IsNameFault};
+ghost use Rattle.bt_names.specs.Written.{IsKept, IsWritten};
+
+use crate::cuts::has_many_commas;
+use crate::faults::{FormatFault, NameFault};
+use crate::name::Name;
+use crate::name_parts::cut_name;
+use crate::names::name_at;
+use crate::patterns::pattern_fault;
+use crate::pieces::Pattern;
+use crate::tokens::Parts;
+use crate::writing::{Written, push_pieces};
+use bt_text::Bytes;
+use std::alloc::Global;
+
+/// The parts of the n-th of the names that a text lists, counted from 1.
+///
+/// The faults are reported in this order: `NoSuchName` if n is 0 or less or above the number of names, `TooManyCommas` if
+/// the name has more than two, `OutOfMemory`. The first two take no memory.
+#[tactic(auto, unfolding(crate::specs::FormattedName::name_parts))]
+pub fn parts(alloc: Global, names: &[u8], n: i32) -> Result<Parts, NameFault>
+    ensures parts { IfOk result (λ parts. name_parts names.now n ≡ Ok parts) }
+    ensures fault { IfErr result (IsNameFault (name_parts names.now n)) }
+{
+    let Some(name) = name_at(names, n) else {
+        return Err(NameFault::NoSuchName);
+    };
+    if has_many_commas(name) {
+        return Err(NameFault::TooManyCommas);
+    }
+    let name = Name::new(alloc, name)?;
+    let cut = cut_name(alloc, &name)?;
+    Ok(cut.parts().copied(alloc)?)
+}
+
+/// Appends the n-th of the names that a text lists, counted from 1, in a pattern to `out`, if that has at most `limit`
+/// bytes. It allocates little more than the names and the limit need, however long the whole text would be. If the result
+/// is `Longer`, `out` begins with its old bytes. A fault other than out of memory leaves `out` unchanged.
+///
+/// The faults are reported in this order: `NoSuchName` if n is 0 or less or above the number of names, `TooManyCommas` if
+/// the name has more than two, `PatternFault` with the place of the first fault of the pattern, `OutOfMemory`. The first
+/// three take no memory.
+pub fn push_formatted(
+    alloc: Global,
+    out: &mut Vec<u8>,
+    names: &[u8],
+    n: i32,
+    pattern: &Pattern,
+    limit: usize,
+) -> Result<Written, FormatFault>
+    ensures text { IfOk result (λ written.
+        IsOkAnd (formatted_name names.now n pattern.now) (λ t. IsWritten limit t out.old.items out.new.items written)) }
+    ensures fault { IfErr result (IsFormatFault (formatted_name names.now n pattern.now)) }
+    ensures kept { IfErr result (IsKept out.old.items out.new.items) }
+{
+    let Some(name) = name_at(names, n) else {
+        return Err(FormatFault::NoSuchName);
+    };
+    if has_many_commas(name) {
+        return Err(FormatFault::TooManyCommas);
+    }
+    if let Some(place) = pattern.fault() {
+        return Err(FormatFault::PatternFault(place));
+    }
+    let name = Name::new(alloc, name)?;
+    let cut = cut_name(alloc, &name)?;
+    let written = push_pieces(out, limit, &cut.parts(), pattern.pieces())?;
+    Ok(written)
+}
+
+/// What is wrong with the names or the pattern. It takes no memory to know.
+#[tactic(auto, unfolding(crate::specs::FormattedName::formatted_name))]
+fn fault_of(names: &[u8], n: i32, pattern: &[u8]) -> Option<FormatFault>
+    ensures fault { IfSome result (λ fault. formatted_name names.now n pattern.now ≡ Err fault) }
+    ensures none { IfNone result (IsOk (formatted_name names.now n pattern.now)) }
+{
+    let Some(name) = name_at(names, n) else {
+        return Some(FormatFault::NoSuchName);
+    };
+    if has_many_commas(name) {
+        return Some(FormatFault::TooManyCommas);
+    }
+    pattern_fault(pattern).map(FormatFault::PatternFault)
+}
+
+/// The n-th of the names that a text lists, counted from 1, in a pattern. The faults are those of `push_formatted`, in
+/// the same order, and all but out of memory take no memory.
+pub fn format(alloc: Global, names: &[u8], n: i32, pattern: &[u8]) -> Result<Bytes, FormatFault>
+    ensures text { IfOk result (λ text. formatted_name names.now n pattern.now ≡ Ok text) }
+    ensures fault { IfErr result (IsFormatFault (formatted_name names.now n pattern.now)) }
+{
+    if let Some(fault) = fault_of(names, n, pattern) {
+        return Err(fault);
+    }
+    let pattern = Pattern::compiled(alloc, pattern)?;
+    let mut page = Vec::new(alloc);
+    match push_formatted(alloc, &mut page, names, n, &pattern, usize::MAX)? {
+        Written::Whole => Ok(Bytes::from_vec(page)),
+        Written::Longer => Err(FormatFault::OutOfMemory),
+    }
+}

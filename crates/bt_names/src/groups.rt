@@ -1,0 +1,260 @@
+//! What a group with a letter gives.
+//!
+//! A group is appended straight to the buffer. Its end may still change: a tie there is removed, or becomes a space. So
+//! contracts speak of the bytes from the group's start on, which is `start`.
+
+ghost use Rattle.std.specs.Prelude.{◌≡◌, ◌≤◌, ◌++◌, ◌==◌, ◌||◌, false, if◌then◌else◌, IfOk, OnOk, length, take, drop, map};
+ghost use Rattle.std.specs.List.{suffix_len};
+ghost use Rattle.bt_text.specs.ByteTests.{is_separator, space, tie};
+ghost use Rattle.bt_names.specs.Groups.{ends_in_tie, group_finished, put_in};
+ghost use Rattle.bt_text.specs.Length.{text_length_of};
+ghost use Rattle.bt_names.specs.Joints.{by_signs, by_text, dotted, is_short, joined};
+ghost use Rattle.bt_names.specs.Spelling.{initial};
+ghost use Rattle.bt_names.specs.inner.Cases.{linked};
+ghost use Rattle.bt_names.specs.inner.Spelling.{between_of, form_of, spell};
+
+use crate::cuts::first_len;
+use crate::lent_tokens::LentToken;
+use bt_text::{begins_special, is_letter, is_separator, text_length};
+use std::alloc::AllocError;
+
+/// The first letter of a text at any depth, or its first special character.
+fn initial(text: &[u8]) -> &[u8]
+    ensures { result.now ≡ initial text.now }
+{
+    let mut rest = text;
+    'walk: while let [first, behind @ ..] = rest {
+        if is_letter(*first) {
+            let (letter, _) = rest.split_at(1);
+            return letter;
+        }
+        if begins_special(rest) {
+            let (block, _) = rest.split_at(first_len(rest));
+            return block;
+        }
+        rest = behind;
+    }
+    &[]
+}
+
+/// The bytes of a token, whole or its initial.
+fn spelling<'a>(is_whole: bool, token: &LentToken<'a>) -> &'a [u8]
+    ensures { result.now ≡ (spell is_whole token.now).text }
+{
+    if is_whole {
+        token.text()
+    } else {
+        initial(token.text())
+    }
+}
+
+fn trailing_ties(text: &[u8]) -> usize
+    ensures { result ≡ suffix_len (λ b. b == tie) text.now }
+{
+    text.iter().rev().take_while(|byte| **byte == b'~').count()
+}
+
+fn ends_in_tie(text: &[u8]) -> bool
+    ensures { result ≡ ends_in_tie text.now }
+{
+    0 < trailing_ties(text)
+}
+
+fn is_short(text: &[u8]) -> bool
+    ensures { result ≡ is_short text.now }
+{
+    text_length(text) < 3
+}
+
+/// If the group that begins at `start` ends in two ties, one is removed. A single tie becomes a space if 3 text
+/// characters come before it in the group.
+#[tactic(auto, using(crate::proofs::GroupLemmas::tail_cut, crate::proofs::GroupLemmas::tail_set))]
+pub fn finish(out: &mut Vec<u8>, start: usize)
+    requires { start ≤ length out.old.items }
+    ensures front { take start out.new.items ≡ take start out.old.items }
+    ensures group { drop start out.new.items ≡ group_finished (drop start out.old.items) }
+{
+    let (_, group) = out.as_slice().split_at(start);
+    if !ends_in_tie(group) {
+        return;
+    }
+    let len = group.len().saturating_sub(1);
+    let (front, _) = group.split_at(len);
+    if ends_in_tie(front) {
+        out.truncate(start + len);
+    } else if !is_short(front) {
+        let last = start + len;
+        if last < out.len() {
+            out[last] = b' ';
+        }
+    }
+}
+
+fn sign(before: u8, is_last: bool, is_short: bool) -> u8
+    ensures { result
+        ≡ (if is_separator before then before else (if is_last || is_short then tie else space)) }
+{
+    if is_separator(before) {
+        before
+    } else if is_last || is_short {
+        b'~'
+    } else {
+        b' '
+    }
+}
+
+/// A group only grows, so once it has 3 text characters they aren't counted again for each token.
+fn stays_short(was_short: bool, group: &[u8]) -> bool
+    requires { was_short ≡ false → 3 ≤ text_length_of group.now }
+    ensures { result ≡ is_short group.now }
+{
+    was_short && is_short(group)
+}
+
+/// Appends a full stop after an initial, in the group that begins at `start`.
+#[tactic(auto, using(crate::proofs::GroupLemmas::tail_append, crate::proofs::GroupLemmas::front_append))]
+fn push_dot(out: &mut Vec<u8>, start: usize, is_whole: bool) -> Result<(), AllocError>
+    requires { start ≤ length out.old.items }
+    ensures front { OnOk result (take start out.new.items ≡ take start out.old.items) }
+    ensures size { OnOk result (start ≤ length out.new.items) }
+    ensures group { OnOk result (drop start out.new.items ≡ dotted (form_of is_whole) (drop start out.old.items)) }
+{
+    if is_whole {
+        return Ok(());
+    }
+    out.push(b'.')?;
+    Ok(())
+}
+
+/// Appends a token to the group that begins at `start`, with signs between it and the ones before it, and returns whether
+/// the group was short before the last sign.
+#[tactic(auto, using(crate::proofs::GroupLemmas::tail_append, crate::proofs::GroupLemmas::front_append))]
+fn push_linked(
+    out: &mut Vec<u8>,
+    start: usize,
+    was_short: bool,
+    is_whole: bool,
+    token: &LentToken,
+    behind: &[LentToken],
+) -> Result<bool, AllocError>
+    requires within { start ≤ length out.old.items }
+    requires short { was_short ≡ false → 3 ≤ text_length_of (drop start out.old.items) }
+    ensures front { OnOk result (take start out.new.items ≡ take start out.old.items) }
+    ensures size { OnOk result (start ≤ length out.new.items) }
+    ensures group { OnOk result (drop start out.new.items
+        ≡ linked (drop start out.old.items) (spell is_whole token.now) (map (spell is_whole) behind.now)
+        (by_signs (form_of is_whole)) ++ (spell is_whole token.now).text) }
+    ensures short { IfOk result (λ short. short ≡ false → 3 ≤ text_length_of (drop start out.new.items)) }
+{
+    push_dot(out, start, is_whole)?;
+    let (_, group) = out.as_slice().split_at(start);
+    let is_short = stays_short(was_short, group);
+    let link = sign(token.before(), behind.is_empty(), is_short);
+    out.push(link)?;
+    out.extend_from_slice(spelling(is_whole, token))?;
+    Ok(is_short)
+}
+
+/// Appends tokens to the group that begins at `start`, with signs before each.
+fn push_by_signs(
+    out: &mut Vec<u8>,
+    start: usize,
+    is_whole: bool,
+    tokens: &[LentToken],
+) -> Result<(), AllocError>
+    requires { start ≤ length out.old.items }
+    ensures front { OnOk result (take start out.new.items ≡ take start out.old.items) }
+    ensures size { OnOk result (start ≤ length out.new.items) }
+    ensures group { OnOk result (drop start out.new.items
+        ≡ joined (by_signs (form_of is_whole)) (drop start out.old.items) (map (spell is_whole) tokens.now)) }
+{
+    let mut is_short = true;
+    let mut rest = tokens;
+    'walk: while let [token, behind @ ..] = rest {
+        is_short = push_linked(out, start, is_short, is_whole, token, behind)?;
+        rest = behind;
+    }
+    Ok(())
+}
+
+/// Appends tokens to the group that begins at `start`, with the group's own text before each.
+#[tactic(auto, using(crate::proofs::GroupLemmas::tail_append, crate::proofs::GroupLemmas::front_append))]
+fn push_by_text(
+    out: &mut Vec<u8>,
+    start: usize,
+    own: &[u8],
+    is_whole: bool,
+    tokens: &[LentToken],
+) -> Result<(), AllocError>
+    requires { start ≤ length out.old.items }
+    ensures front { OnOk result (take start out.new.items ≡ take start out.old.items) }
+    ensures size { OnOk result (start ≤ length out.new.items) }
+    ensures group { OnOk result (drop start out.new.items
+        ≡ joined (by_text own.now) (drop start out.old.items) (map (spell is_whole) tokens.now)) }
+{
+    let mut rest = tokens;
+    'walk: while let [token, behind @ ..] = rest {
+        out.extend_from_slice(own)?;
+        out.extend_from_slice(spelling(is_whole, token))?;
+        rest = behind;
+    }
+    Ok(())
+}
+
+/// Appends tokens to the group that begins at `start`, each with what links it to the ones before it.
+fn push_others(
+    out: &mut Vec<u8>,
+    start: usize,
+    has_own: bool,
+    own: &[u8],
+    is_whole: bool,
+    tokens: &[LentToken],
+) -> Result<(), AllocError>
+    requires { start ≤ length out.old.items }
+    ensures front { OnOk result (take start out.new.items ≡ take start out.old.items) }
+    ensures size { OnOk result (start ≤ length out.new.items) }
+    ensures group { OnOk result (drop start out.new.items
+        ≡ joined (between_of has_own own.now is_whole) (drop start out.old.items) (map (spell is_whole) tokens.now)) }
+{
+    if has_own {
+        push_by_text(out, start, own, is_whole, tokens)
+    } else {
+        push_by_signs(out, start, is_whole, tokens)
+    }
+}
+
+/// Appends what a group with a letter gives to `out`, with `own` between tokens if the group has it, otherwise signs.
+#[tactic(auto, using(crate::proofs::GroupLemmas::whole_of, crate::proofs::GroupLemmas::tail_append, crate::proofs::GroupLemmas::front_append))]
+pub fn push_part(
+    out: &mut Vec<u8>,
+    before: &[u8],
+    has_own: bool,
+    own: &[u8],
+    is_whole: bool,
+    tokens: &[LentToken],
+    behind: &[u8],
+) -> Result<(), AllocError>
+    ensures { OnOk result (out.new.items ≡ out.old.items
+        ++ put_in (between_of has_own own.now is_whole) before.now (map (spell is_whole) tokens.now) behind.now) }
+{
+    if let [first, others @ ..] = tokens {
+        let start = out.len();
+        out.extend_from_slice(before)?;
+        out.extend_from_slice(spelling(is_whole, first))?;
+        push_others(out, start, has_own, own, is_whole, others)?;
+        out.extend_from_slice(behind)?;
+        finish(out, start);
+    }
+    Ok(())
+}
+
+/// Appends a group without a letter to `out`.
+#[tactic(auto, using(crate::proofs::GroupLemmas::whole_of, crate::proofs::GroupLemmas::tail_append, crate::proofs::GroupLemmas::front_append))]
+pub fn push_bare(out: &mut Vec<u8>, bytes: &[u8]) -> Result<(), AllocError>
+    ensures { OnOk result (out.new.items ≡ out.old.items ++ group_finished bytes.now) }
+{
+    let start = out.len();
+    out.extend_from_slice(bytes)?;
+    finish(out, start);
+    Ok(())
+}

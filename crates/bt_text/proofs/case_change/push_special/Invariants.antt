@@ -1,0 +1,10 @@
+use Rattle.std.proofs.Common.{◌≡◌, ◌++◌, length, flat_map}
+use Rattle.bt_text.specs.CaseChange.{changed_symbol}
+use Rattle.bt_text.specs.Special.{symbols}
+use Rattle.bt_text.proofs.case_change.push_special.Given as goal
+
+abbrev pub invariant-walk : goal.invariant-walk
+invariant-walk l = l.out.items ++ flat_map (changed_symbol l.mode) (symbols l.rest) ≡ l.initial.out.items ++ flat_map (changed_symbol l.mode) (symbols l.text)
+
+abbrev pub decreases-walk : goal.decreases-walk
+decreases-walk l = length l.rest

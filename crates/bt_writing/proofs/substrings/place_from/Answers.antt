@@ -1,5 +1,0 @@
-use Rattle.bt_writing.proofs.PartLemmas.{part_from}
-use Rattle.bt_writing.proofs.substrings.place_from.Goals as goal
-
-pub returns-clause-part : goal.returns-clause-part
-returns-clause-part c = λ t long. part_from t c.args.count c.args.place c.args.len _ _ long c.min-from.ensures c.min.ensures
