@@ -3,25 +3,27 @@ use Rattle.std.proofs.Common.{◌≡◌, ℕ, zero, suc, ◌+◌, ◌≤◌, ◌
 use Rattle.std.specs.Prelude.{ℤ, pos, negsuc, map, reverse}
 use Rattle.std.proofs.lemmas.List.{get_or_past, length-map, map-append, reverse-append}
 use Rattle.std.proofs.lemmas.Bool.{false≢true}
-use Rattle.bt_style.specs.declared.builtin.Builtin.TheVariants.{While}
+use Rattle.bt_style.specs.declared.builtin.Builtin.TheVariants.{If, While}
 use Rattle.bt_style.specs.declared.style.Function.{Function}
 use Rattle.bt_style.specs.declared.style.Op.{Op}
+use Rattle.bt_style.specs.declared.style.Op.TheFolds.{fold-roll-Op}
+use Rattle.bt_style.specs.declared.style.Op.TheOpen as shape
+use Rattle.bt_style.specs.declared.style.Op.TheVariants as op
 use Rattle.bt_style.specs.declared.style.Target.{Target}
-use Rattle.bt_style.specs.Tree.{Element, Called, Body, End, Then, element_of, ops_body}
+use Rattle.bt_style.specs.Tree.{Element, Called, Body, End, Then, element_of, element_step, ops_body}
 use Rattle.bt_style.specs.Program.{Definition, Program, definitions_of, definition_of}
 use Rattle.bt_actions.specs.declared.flow.Flow.{Flow}
 use Rattle.bt_actions.specs.declared.flow.Flow.TheVariants.{Go, Stop}
 use Rattle.bt_actions.specs.declared.complaint.Complaint.TheVariants.{TicksPassed}
 use Rattle.bt_actions.specs.Item.{Code, Name, Block}
 use Rattle.bt_actions.specs.World.{World, say}
-use Rattle.bt_actions.specs.Arguments.{as_number, taken}
+use Rattle.bt_actions.specs.Arguments.{as_number, as_code, taken, taken_two, taken_three}
 use Rattle.bt_machine.specs.declared.run.Frame.{Frame as HeldFrame}
 use Rattle.bt_machine.specs.declared.run.Element.{Element as HeldElement}
-use Rattle.bt_machine.specs.declared.run.Next.{Next}
-use Rattle.bt_machine.specs.Eval.{Counts, Ending, Done, Stopped, then_go, code_body, function_body, no_definition, turn, looped, act, calls_after, eval}
+use Rattle.bt_machine.specs.Eval.{Counts, Ending, Done, Stopped, then_go, code_body, function_body, no_definition, run_with, by_sign, turn, looped, built_in, act, calls_after, eval}
 use Rattle.bt_machine.specs.inner.Cases.{finish_of}
 use Rattle.bt_machine.specs.Step.{counts_begun, step_begun, finished_at, step}
-use Rattle.bt_machine.specs.inner.Loop.{Frame, Run, Test, frame_seen, meant, left, run_ended, element_seen, followed, is_above, kept, whole, SameLeft, is_stop, checked_at}
+use Rattle.bt_machine.specs.inner.Loop.{Frame, Run, Test, frame_seen, meant, left, run_ended, element_seen, is_above, kept, whole, SameLeft, is_stop, checked_at}
 use Rattle.bt_machine.proofs.Equations.{eval-end, eval-no_tick, eval-then, looped-turn}
 
 -- two runs after one
@@ -124,10 +126,10 @@ nothing_kept ops fs e p w k = sym (none_same ops fs (kept fs) e (λ p w k. refl)
 
 -- What an element leads to.
 
-pub element_leads : (p : Program) (e : HeldElement) (next : Next) (fs gs : List Frame) (w w' : World) (k k1 : Counts) (o : Ending) → left p fs w k ≡ o → SameLeft fs (Run (Block (Then (element_seen e) End)) ∷ gs) → k1.0 + 1 ≡ k.0 → k1.1 ≡ calls_after (element_seen e) k.1 → followed p next w' k1 ≡ act p (eval p) (element_seen e) w k1 → then_go (followed p next w' k1) (left p gs) ≡ o
-element_leads p e next fs gs w w' k k1 o leads same ticks calls did =
+pub element_leads : (p : Program) (e : HeldElement) (fs gs : List Frame) (w : World) (k k1 : Counts) (now o : Ending) → left p fs w k ≡ o → SameLeft fs (Run (Block (Then (element_seen e) End)) ∷ gs) → k1.0 + 1 ≡ k.0 → k1.1 ≡ calls_after (element_seen e) k.1 → now ≡ then_go (act p (eval p) (element_seen e) w k1) (left p gs) → now ≡ o
+element_leads p e fs gs w k k1 now o leads same ticks calls did =
     let r : k.0 ≡ suc k1.0 = omega (arith, ticks) in
-    ap (λ o. then_go o (left p gs)) did
+    did
     ∙ ap (λ calls. then_go (act p (eval p) (element_seen e) w (k1.0, calls)) (left p gs)) calls
     ∙ sym (one_element p (element_seen e) gs w k1.0 k.1)
     ∙ ap (λ n. left p (Run (Block (Then (element_seen e) End)) ∷ gs) w (n, k.1)) (sym r)
@@ -148,8 +150,27 @@ loop_same p test body fs w k =
     sym (ap (λ o. then_go o (left p fs)) (looped-turn p test body w k) ∙ then_go-then_go (eval p (code_body test) w k) _ (left p fs))
 
 -- a loop was put before what is left
-pub loop_leads : (p : Program) (test body : Code) (fs gs : List Frame) (w : World) (k : Counts) (o : Ending) → then_go (looped (eval p) test body w k) (left p fs) ≡ o → SameLeft gs (Run test ∷ Test test body ∷ fs) → left p gs w k ≡ o
-loop_leads p test body fs gs w k o leads same = same p w k ∙ loop_same p test body fs w k ∙ leads
+pub loop_leads : (p : Program) (test body : Code) (fs gs : List Frame) (w w' : World) (k : Counts) → (Some (test, body), w') ≡ taken_two While as_code as_code w → SameLeft gs (Run test ∷ Test test body ∷ fs) → left p gs w' k ≡ then_go (built_in p (eval p) While w k) (left p fs)
+loop_leads p test body fs gs w w' k took same =
+    same p w' k
+    ∙ loop_same p test body fs w' k
+    ∙ ap (λ q. then_go (run_with (λ codes. looped (eval p) codes.0 codes.1) q k) (left p fs)) took
+
+-- one of two functions was put before what is left
+pub choice_leads : (p : Program) (n m : ℤ) (above other code : Code) (fs gs : List Frame) (w w' : World) (k : Counts) → (Some (n, above, other), w') ≡ taken_three If as_number as_code as_code w → m ≡ n → code ≡ by_sign m above other → SameLeft gs (Run code ∷ fs) → left p gs w' k ≡ then_go (built_in p (eval p) If w k) (left p fs)
+choice_leads p n m above other code fs gs w w' k took is_n is_code same =
+    same p w' k
+    ∙ ap (λ c. then_go (eval p (code_body c) w' k) (left p fs)) (is_code ∙ ap (λ n. by_sign n above other) is_n)
+    ∙ ap (λ q. then_go (run_with (λ all. eval p (code_body (by_sign all.0 all.1 all.2))) q k) (left p fs)) took
+
+-- a body was put before what is left
+pub body_leads : (p : Program) (b b' : Body) (fs gs : List Frame) (w : World) (k : Counts) → b ≡ b' → SameLeft gs fs → left p (Run (Block b) ∷ gs) w k ≡ then_go (eval p b' w k) (left p fs)
+body_leads p b b' fs gs w k is_body same =
+    same_under (Run (Block b)) gs fs same p w k ∙ ap (λ b. then_go (eval p b w k) (left p fs)) is_body
+
+-- what an element that calls a name is
+pub call_seen : (t : Target) → element_of (op.Call t) ≡ Called t
+call_seen t = ap element_of (sym (op.rolls-Call t)) ∙ fold-roll-Op Element element_step (shape.Call t)
 
 -- a turn of a loop
 
@@ -193,11 +214,11 @@ starts p t ops control w k none is_control is_k =
     ∙ then_go-done p (eval p (Then (Called t) End) w counts_begun)
 
 -- no function of this number: nothing is run
-pub entered_past : (p : Program) (functions : List Function) (n : ℕ) (w : World) (k : Counts) → p.functions ≡ definitions_of functions → length functions ≤ n → Done w k ≡ eval p (function_body p.functions n) w k
-entered_past p functions n w k e h =
+pub entered_past : (p : Program) (functions : List Function) (n : ℕ) → p.functions ≡ definitions_of functions → length functions ≤ n → End ≡ function_body p.functions n
+entered_past p functions n e h =
     let l = length-map functions definition_of in
     let m = ap length e in
-    sym (eval-end p w k) ∙ ap (λ (d : Definition). eval p d.body w k) (sym (get_or_past p.functions n no_definition (omega arith)))
+    ap (λ (d : Definition). d.body) (sym (get_or_past p.functions n no_definition (omega arith)))
 
 -- a step's end
 

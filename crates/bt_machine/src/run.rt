@@ -6,16 +6,19 @@
 //!
 //! The definition (`eval`) is a recursion that knows nothing of this. Each function here has a contract on its part of
 //! the definition; `work` joins them.
+//!
+//! An element is matched where it lies in its body, and what comes after it is only a slice. So the loop holds both in
+//! registers: a copy of an element, or a result that holds a `Target`, would go through memory at each tick.
 
 ghost use Rattle.std.specs.Prelude.{◌≡◌, ◌+◌, ◌≤◌, ◌∷◌, length, bytes_eq, codes, position, IfOk, OnOk};
 ghost use Rattle.std.specs.Option.{option_or};
 ghost use Rattle.bt_style.specs.Program.{Program, program_of};
-ghost use Rattle.bt_style.specs.Tree.{End, Then, Called, element_of};
+ghost use Rattle.bt_style.specs.Tree.{End, Then, Called, ops_body};
 ghost use Rattle.bt_style.specs.declared.builtin.Builtin.TheVariants as builtin;
 ghost use Rattle.bt_actions.specs.Arguments.{as_number, taken};
 ghost use Rattle.bt_actions.specs.View.{code_seen};
 ghost use Rattle.bt_stack.specs.View.{world_of};
-ghost use Rattle.bt_machine.specs.Eval.{eval, act, called, built_in, function_body, builtin_called, default_type};
+ghost use Rattle.bt_machine.specs.Eval.{eval, act, called, built_in, by_sign, function_body, builtin_called, default_type};
 ghost use Rattle.bt_machine.specs.Step.{counts_begun};
 ghost use Rattle.bt_machine.specs.inner.Loop.{Run, Test, counts, run_ended, element_seen, LeadsTo, Means, SameLeft, is_above, kept, whole, IsDue};
 
@@ -39,46 +42,42 @@ pub enum Frame<'a> {
 /// What takes a tick: an element of a body, or the call of a quoted name.
 #[derive(Clone, Copy)]
 pub enum Element<'a> {
-    Number(i32),
-    Text(&'a [u8]),
-    Quote(Target),
-    Block(&'a [Op]),
-    Call(Target),
+    Op(&'a Op),
+    Name(Target),
+}
+
+/// The built-in function that a call of a name calls.
+fn builtin_of(target: Target) -> Option<Builtin>
+    ensures { result ≡ builtin_called (Called target) }
+{
+    match target {
+        Target::Builtin(builtin) => Some(builtin),
+        _ => None,
+    }
 }
 
 impl<'a> Element<'a> {
-    fn of(op: &'a Op) -> Element<'a>
-        ensures { element_seen result ≡ element_of op.now }
-    {
-        match op {
-            Op::Number(n) => Element::Number(*n),
-            Op::Text(text) => Element::Text(text.as_slice()),
-            Op::Quote(target) => Element::Quote(*target),
-            Op::Block(ops) => Element::Block(ops),
-            Op::Call(target) => Element::Call(*target),
-        }
-    }
-
     /// The built-in function that it calls.
     fn builtin(self) -> Option<Builtin>
         ensures { result ≡ builtin_called (element_seen self.entry) }
     {
         match self {
-            Element::Call(Target::Builtin(builtin)) => Some(builtin),
-            _ => None,
+            Element::Op(op) => match op {
+                Op::Call(target) => builtin_of(*target),
+                _ => None,
+            },
+            Element::Name(target) => builtin_of(target),
         }
     }
 }
 
-/// What comes after an element, before the rest of its body.
+/// What comes after an element.
 #[derive(Clone, Copy)]
 pub enum Next<'a> {
-    /// Nothing, or the end of the run.
+    /// The rest of its body, or the end of the run.
     Flow(Flow),
-    /// A function.
-    Run(Code<'a>),
-    /// A loop, of its test and its body.
-    Loop(Code<'a>, Code<'a>),
+    /// This body; the rest of the element's waits.
+    Body(&'a [Op]),
 }
 
 /// What the loop does next.
@@ -98,11 +97,11 @@ fn next_due<'a>(rest: &'a [Op], control: &mut Vec<Frame<'a>>) -> (Due<'a>, &'a [
     ensures { IsDue result.0 rest.now control.old.items result.1.now control.new.items }
 {
     match rest.split_first() {
-        Some((op, after)) => (Due::Element(Element::of(op)), after),
+        Some((op, after)) => (Due::Element(Element::Op(op)), after),
         None => match control.pop() {
             None => (Due::Nothing, rest),
             Some(Frame::Run(Code::Block(ops))) => (Due::Body, ops),
-            Some(Frame::Run(Code::Name(target))) => (Due::Element(Element::Call(target)), rest),
+            Some(Frame::Run(Code::Name(target))) => (Due::Element(Element::Name(target)), rest),
             Some(Frame::Test(test, body)) => (Due::Test(test, body), rest),
         },
     }
@@ -185,20 +184,42 @@ fn type_function(entry: &Entry, style: &Style) -> Option<usize>
     }
 }
 
-/// A number out of range stands for a function without elements.
-fn enter<'a>(style: &'a Style, n: usize) -> Next<'a>
-    ensures { let p = program_of style.now in Means p result (eval p (function_body p.functions n)) }
+/// The body of the function of a number. One out of range stands for a function without elements.
+fn function_body(style: &Style, n: usize) -> &[Op]
+    ensures { ops_body result.now ≡ function_body (program_of style.now).functions n }
 {
     if n < style.functions.len() {
-        Next::Run(Code::Block(&style.functions[n].body))
+        &style.functions[n].body
     } else {
-        Next::Flow(Flow::Go)
+        &[]
     }
 }
 
+/// Enters the function of a number.
+fn enter<'a>(
+    control: &mut Vec<Frame<'a>>,
+    style: &'a Style,
+    n: usize,
+    rest: &'a [Op],
+) -> Result<Next<'a>, AllocError>
+    ensures leads { let p = program_of style.now in IfOk result (λ next.
+        Means p (eval p (function_body p.functions n)) rest.now control.old.items next control.new.items) }
+    ensures more { OnOk result (length control.new.items ≤ length control.old.items + 4) }
+{
+    keep(control, rest)?;
+    Ok(Next::Body(function_body(style, n)))
+}
+
 /// `call.type$`.
-fn call_type<'a>(state: &mut State<'a>, style: &'a Style) -> Result<Next<'a>, AllocError>
-    ensures { let p = program_of style.now in IfOk result (LeadsTo p state.old state.new (built_in p (eval p) builtin.CallType)) }
+fn call_type<'a>(
+    state: &mut State<'a>,
+    control: &mut Vec<Frame<'a>>,
+    style: &'a Style,
+    rest: &'a [Op],
+) -> Result<Next<'a>, AllocError>
+    ensures leads { let p = program_of style.now in IfOk result (λ next. LeadsTo p state.old state.new
+        (built_in p (eval p) builtin.CallType) rest.now control.old.items next control.new.items) }
+    ensures more { OnOk result (length control.new.items ≤ length control.old.items + 4) }
 {
     match state.entry {
         None => {
@@ -207,81 +228,149 @@ fn call_type<'a>(state: &mut State<'a>, style: &'a Style) -> Result<Next<'a>, Al
         }
         Some(entry) => match type_function(entry, style) {
             None => Ok(Next::Flow(Flow::Go)),
-            Some(n) => Ok(enter(style, n)),
+            Some(n) => {
+                let next = enter(control, style, n, rest)?;
+                Ok(next)
+            }
         },
     }
 }
 
+/// The one of its functions that `if$` runs.
+fn chosen<'a>(number: i32, above: Code<'a>, other: Code<'a>) -> Code<'a>
+    ensures { code_seen result ≡ by_sign number (code_seen above.entry) (code_seen other.entry) }
+{
+    if number > 0 { above } else { other }
+}
+
 /// `if$`.
-fn choose<'a>(state: &mut State<'a>) -> Result<Next<'a>, AllocError>
-    ensures { (p : Program) → IfOk result (LeadsTo p state.old state.new (built_in p (eval p) builtin.If)) }
+fn choose<'a>(
+    state: &mut State<'a>,
+    control: &mut Vec<Frame<'a>>,
+    rest: &'a [Op],
+) -> Result<Next<'a>, AllocError>
+    ensures leads { (p : Program) → IfOk result (λ next. LeadsTo p state.old state.new
+        (built_in p (eval p) builtin.If) rest.now control.old.items next control.new.items) }
+    ensures more { OnOk result (length control.new.items ≤ length control.old.items + 4) }
 {
     match take_choice(state)? {
         None => Ok(Next::Flow(Flow::Go)),
-        Some((number, above, other)) => Ok(Next::Run(if number > 0 { above } else { other })),
+        Some((number, above, other)) => {
+            let code = chosen(number, above, other);
+            let body = begin(control, rest, code)?;
+            Ok(Next::Body(body))
+        }
     }
 }
 
 /// `while$`.
-fn repeat<'a>(state: &mut State<'a>) -> Result<Next<'a>, AllocError>
-    ensures { (p : Program) → IfOk result (LeadsTo p state.old state.new (built_in p (eval p) builtin.While)) }
+fn repeat<'a>(
+    state: &mut State<'a>,
+    control: &mut Vec<Frame<'a>>,
+    rest: &'a [Op],
+) -> Result<Next<'a>, AllocError>
+    ensures leads { (p : Program) → IfOk result (λ next. LeadsTo p state.old state.new
+        (built_in p (eval p) builtin.While) rest.now control.old.items next control.new.items) }
+    ensures more { OnOk result (length control.new.items ≤ length control.old.items + 4) }
 {
     match take_loop(state)? {
         None => Ok(Next::Flow(Flow::Go)),
-        Some((test, body)) => Ok(Next::Loop(test, body)),
+        Some((test, body)) => {
+            let first = begin_loop(control, rest, test, body)?;
+            Ok(Next::Body(first))
+        }
     }
 }
 
 fn call_builtin<'a>(
     state: &mut State<'a>,
+    control: &mut Vec<Frame<'a>>,
     alloc: Global,
     style: &'a Style,
     builtin: Builtin,
+    rest: &'a [Op],
 ) -> Result<Next<'a>, AllocError>
-    ensures { let p = program_of style.now in IfOk result (LeadsTo p state.old state.new (built_in p (eval p) builtin)) }
+    ensures leads { let p = program_of style.now in IfOk result (λ next. LeadsTo p state.old state.new
+        (built_in p (eval p) builtin) rest.now control.old.items next control.new.items) }
+    ensures more { OnOk result (length control.new.items ≤ length control.old.items + 4) }
 {
     match builtin {
-        Builtin::CallType => call_type(state, style),
-        Builtin::If => choose(state),
-        Builtin::While => repeat(state),
+        Builtin::CallType => call_type(state, control, style, rest),
+        Builtin::If => choose(state, control, rest),
+        Builtin::While => repeat(state, control, rest),
         _ => Ok(Next::Flow(call_basic(state, alloc, style, builtin)?)),
     }
 }
 
+#[inline(always)]
 fn call<'a>(
     state: &mut State<'a>,
+    control: &mut Vec<Frame<'a>>,
     alloc: Global,
     style: &'a Style,
     target: Target,
+    rest: &'a [Op],
 ) -> Result<Next<'a>, AllocError>
-    ensures { let p = program_of style.now in IfOk result (LeadsTo p state.old state.new (called p (eval p) target)) }
+    ensures leads { let p = program_of style.now in IfOk result (λ next. LeadsTo p state.old state.new
+        (called p (eval p) target) rest.now control.old.items next control.new.items) }
+    ensures more { OnOk result (length control.new.items ≤ length control.old.items + 4) }
 {
     match target {
-        Target::Builtin(builtin) => call_builtin(state, alloc, style, builtin),
+        Target::Builtin(builtin) => call_builtin(state, control, alloc, style, builtin, rest),
         Target::Field(n) => Ok(Next::Flow(call_field(state, n)?)),
         Target::EntryNumber(n) => Ok(Next::Flow(call_entry_number(state, n)?)),
         Target::EntryText(n) => Ok(Next::Flow(call_entry_text(state, n)?)),
         Target::GlobalNumber(n) => Ok(Next::Flow(call_global_number(state, n)?)),
         Target::GlobalText(n) => Ok(Next::Flow(call_global_text(state, n)?)),
-        Target::Function(n) => Ok(enter(style, n)),
+        Target::Function(n) => {
+            let next = enter(control, style, n, rest)?;
+            Ok(next)
+        }
     }
+}
+
+/// Calls a quoted name. It stands apart, so that `call` is inlined into the loop once.
+#[inline(never)]
+fn call_quoted<'a>(
+    state: &mut State<'a>,
+    control: &mut Vec<Frame<'a>>,
+    alloc: Global,
+    style: &'a Style,
+    target: Target,
+    rest: &'a [Op],
+) -> Result<Next<'a>, AllocError>
+    ensures leads { let p = program_of style.now in IfOk result (λ next. LeadsTo p state.old state.new
+        (called p (eval p) target) rest.now control.old.items next control.new.items) }
+    ensures more { OnOk result (length control.new.items ≤ length control.old.items + 4) }
+{
+    call(state, control, alloc, style, target, rest)
 }
 
 /// Carries out an element, after its tick, and returns what comes next.
 fn carry_out<'a>(
     state: &mut State<'a>,
+    control: &mut Vec<Frame<'a>>,
     alloc: Global,
     style: &'a Style,
     element: Element<'a>,
+    rest: &'a [Op],
 ) -> Result<Next<'a>, AllocError>
-    ensures { let p = program_of style.now in IfOk result (LeadsTo p state.old state.new (act p (eval p) (element_seen element.entry))) }
+    ensures leads { let p = program_of style.now in IfOk result (λ next. LeadsTo p state.old state.new
+        (act p (eval p) (element_seen element.entry)) rest.now control.old.items next control.new.items) }
+    ensures more { OnOk result (length control.new.items ≤ length control.old.items + 4) }
 {
     match element {
-        Element::Number(n) => Ok(Next::Flow(state.push_number(n)?)),
-        Element::Text(text) => Ok(Next::Flow(state.push_given(text)?)),
-        Element::Quote(target) => Ok(Next::Flow(state.push_name(target)?)),
-        Element::Block(ops) => Ok(Next::Flow(state.push_block(ops)?)),
-        Element::Call(target) => call(state, alloc, style, target),
+        Element::Op(op) => match op {
+            Op::Number(n) => Ok(Next::Flow(state.push_number(*n)?)),
+            Op::Text(text) => Ok(Next::Flow(state.push_given(text.as_slice())?)),
+            Op::Quote(target) => Ok(Next::Flow(state.push_name(*target)?)),
+            Op::Block(ops) => Ok(Next::Flow(state.push_block(ops)?)),
+            Op::Call(target) => {
+                let next = call(state, control, alloc, style, *target, rest)?;
+                Ok(next)
+            }
+        },
+        Element::Name(target) => call_quoted(state, control, alloc, style, target, rest),
     }
 }
 
@@ -318,7 +407,7 @@ pub fn work<'a>(
                     return Ok((Flow::Stop, tally));
                 }
                 tally.take(element.builtin());
-                let next = carry_out(state, alloc, style, element)?;
+                let next = carry_out(state, control, alloc, style, element, rest)?;
                 // The loop's measure needs this call's clause that the stack is small.
                 let _depth = state.stack.len();
                 match next {
@@ -326,8 +415,7 @@ pub fn work<'a>(
                         Flow::Go => {}
                         Flow::Stop => return Ok((Flow::Stop, tally)),
                     },
-                    Next::Run(code) => rest = begin(control, rest, code)?,
-                    Next::Loop(test, body) => rest = begin_loop(control, rest, test, body)?,
+                    Next::Body(body) => rest = body,
                 }
             }
         }

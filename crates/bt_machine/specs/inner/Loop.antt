@@ -2,7 +2,7 @@
 use Rattle.std.specs.Prelude.{◌≡◌, ℤ, pos, negsuc, zero, suc, ◌≤◌, ◌<◌, Bool, true, false, List, [], ◌∷◌, Option, Some, None, length, map, reverse}
 use Rattle.bt_style.specs.declared.style.Op.{Op}
 use Rattle.bt_style.specs.Program.{Program}
-use Rattle.bt_style.specs.Tree.{Element, Amount, Words, Quoted, Braced, Called, End, Then, ops_body}
+use Rattle.bt_style.specs.Tree.{Element, Called, End, Then, element_of, ops_body}
 use Rattle.bt_style.specs.declared.builtin.Builtin.TheVariants.{While}
 use Rattle.bt_actions.specs.declared.flow.Flow.{Flow}
 use Rattle.bt_actions.specs.declared.flow.Flow.TheVariants.{Go, Stop}
@@ -65,25 +65,8 @@ checked_at Go w = checked w.stack w
 checked_at Stop w = w
 
 abbrev pub element_seen : HeldElement → Element
-element_seen (element.Number n) = Amount n
-element_seen (element.Text t) = Words t.now
-element_seen (element.Quote t) = Quoted t
-element_seen (element.Block ops) = Braced (ops_body ops.now)
-element_seen (element.Call t) = Called t
-
--- what comes after an element, before the rest of its body
-abbrev pub followed : Program → Next → World → Counts → Ending
-followed p (next.Flow flow) w k = run_ended flow w k
-followed p (next.Run c) w k = eval p (code_body (code_seen c)) w k
-followed p (next.Loop test body) w k = looped (eval p) (code_seen test) (code_seen body) w k
-
--- what follows in the new state comes to the same as this run in the old one
-abbrev pub LeadsTo : Program → State → State → (World → Counts → Ending) → Next → Type 0
-LeadsTo p old new run next = (k : Counts) → followed p next (world_of new) k ≡ run (world_of old) k
-
--- what follows is this run
-abbrev pub Means : Program → Next → (World → Counts → Ending) → Type 0
-Means p next run = (w : World) (k : Counts) → followed p next w k ≡ run w k
+element_seen (element.Op op) = element_of op.now
+element_seen (element.Name t) = Called t
 
 -- whether a number is there and above 0
 abbrev pub is_above : Option ℤ → Bool
@@ -99,6 +82,21 @@ kept control = reverse (map frame_seen control)
 -- what is left of the body, and then what waits
 abbrev pub whole : List Op → List HeldFrame → List Frame
 whole ops control = Run (Block (ops_body ops)) ∷ kept control
+
+-- what comes after an element, with the rest of its body and what waits
+abbrev pub followed : Program → List Op → Next → List HeldFrame → World → Counts → Ending
+followed p rest (next.Flow flow) fs w k = then_go (run_ended flow w k) (left p (whole rest fs))
+followed p rest (next.Body ops) fs w k = left p (whole ops.now fs) w k
+
+-- what follows in the new state comes to the same as this run in the old one, and then what was left
+abbrev pub LeadsTo : Program → State → State → (World → Counts → Ending) → List Op → List HeldFrame → Next → List HeldFrame → Type 0
+LeadsTo p old new run rest fs next fs' =
+    (k : Counts) → followed p rest next fs' (world_of new) k ≡ then_go (run (world_of old) k) (left p (whole rest fs))
+
+-- what follows is this run, and then what was left
+abbrev pub Means : Program → (World → Counts → Ending) → List Op → List HeldFrame → Next → List HeldFrame → Type 0
+Means p run rest fs next fs' =
+    (w : World) (k : Counts) → followed p rest next fs' w k ≡ then_go (run w k) (left p (whole rest fs))
 
 -- two lists of what is left to do come to the same
 abbrev pub SameLeft : List Frame → List Frame → Type 0

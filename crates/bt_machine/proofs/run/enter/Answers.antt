@@ -1,8 +1,11 @@
-use Rattle.std.proofs.Common.{refl, arith}
 use Rattle.bt_style.specs.Program.{program_of}
-use Rattle.bt_machine.proofs.LoopLemmas.{entered_past}
+use Rattle.bt_style.specs.Tree.{ops_body}
+use Rattle.bt_machine.specs.Eval.{function_body}
+use Rattle.bt_machine.specs.inner.Loop.{kept, whole}
+use Rattle.bt_machine.proofs.LoopLemmas.{body_leads}
 use Rattle.bt_machine.proofs.run.enter.Goals as goal
 
-pub returns-else-n-len : goal.returns-else-n-len
-returns-else-n-len c = λ w k.
-    entered_past (program_of c.args.style.now) c.args.style.now.functions.items c.args.n w k refl (omega arith)
+pub returns-clause-leads : goal.returns-clause-leads
+returns-clause-leads c = λ w k.
+    let p = program_of c.args.style.now in
+    body_leads p (ops_body c.function_body.result.now) (function_body p.functions c.args.n) (whole c.args.rest.now c.args.control.now.items) (kept c.keep.new.control.items) w k c.function_body.ensures c.in_ok-keep.ensures.same

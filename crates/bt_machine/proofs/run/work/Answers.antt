@@ -8,11 +8,12 @@ use Rattle.bt_actions.specs.View.{code_seen}
 use Rattle.bt_stack.specs.View.{world_of}
 use Rattle.bt_machine.specs.declared.run.Frame.TheVariants as held
 use Rattle.bt_actions.specs.declared.code.Code.TheVariants as code
+use Rattle.bt_machine.specs.declared.run.Next.{Next}
 use Rattle.bt_machine.specs.declared.run.Next.TheVariants as next
-use Rattle.bt_machine.specs.Eval.{eval}
+use Rattle.bt_machine.specs.Eval.{Ending, eval}
 use Rattle.bt_machine.specs.Step.{counts_begun}
 use Rattle.bt_machine.specs.inner.Loop.{Run, counts, IsDue, followed, kept, whole}
-use Rattle.bt_machine.proofs.LoopLemmas.{element_leads, ends_leads, kept_some, loop_leads, no_tick_leads, starts, turn_leads}
+use Rattle.bt_machine.proofs.LoopLemmas.{element_leads, ends_leads, kept_some, no_tick_leads, starts, turn_leads}
 use Rattle.bt_machine.proofs.run.work.Goals as goal
 
 pub work-init : goal.work-init
@@ -70,9 +71,9 @@ work-preserved-in-Go c =
     let left_now = whole c.next_due.result.1.now c.next_due.new.control.items in
     let is_due = subst (λ d. IsDue d c.work.rest.now c.work.control.items c.next_due.result.1.now c.next_due.new.control.items) c.in-Element.is c.next_due.ensures in
     let calls = c.take.ensures.calls ∙ ap (λ b. with_call b c.work.tally.calls) c.builtin.ensures in
-    let did = ap (λ n. followed p n (world_of c.carry_out.new.state) (counts c.take.new.self)) (sym (c.in-Flow.is ∙ ap next.Flow c.in-Go.is)) ∙ c.in_ok-next-in-Element.ensures (counts c.take.new.self) in
-    let led = element_leads p c.in-Element.element (next.Flow Go) left_before left_now (world_of c.work.state) (world_of c.carry_out.new.state) (counts c.work.tally) (counts c.take.new.self) end c.work.invariant is_due.0 c.take.ensures.ticks calls did in
-    led
+    let follows : Next → Ending = λ next. followed p c.next_due.result.1.now next c.carry_out.new.control.items (world_of c.carry_out.new.state) (counts c.take.new.self) in
+    let did = ap follows (sym (c.in-Flow.is ∙ ap next.Flow c.in-Go.is)) ∙ c.in_ok-next-in-Element.ensures.leads (counts c.take.new.self) in
+    element_leads p c.in-Element.element left_before left_now (world_of c.work.state) (counts c.work.tally) (counts c.take.new.self) (follows (next.Flow Go)) end c.work.invariant is_due.0 c.take.ensures.ticks calls did
 
 pub returns-in-Stop : goal.returns-in-Stop
 returns-in-Stop c =
@@ -82,21 +83,9 @@ returns-in-Stop c =
     let left_now = whole c.next_due.result.1.now c.next_due.new.control.items in
     let is_due = subst (λ d. IsDue d c.work.rest.now c.work.control.items c.next_due.result.1.now c.next_due.new.control.items) c.in-Element.is c.next_due.ensures in
     let calls = c.take.ensures.calls ∙ ap (λ b. with_call b c.work.tally.calls) c.builtin.ensures in
-    let did = ap (λ n. followed p n (world_of c.carry_out.new.state) (counts c.take.new.self)) (sym (c.in-Flow.is ∙ ap next.Flow c.in-Stop.is)) ∙ c.in_ok-next-in-Element.ensures (counts c.take.new.self) in
-    let led = element_leads p c.in-Element.element (next.Flow Stop) left_before left_now (world_of c.work.state) (world_of c.carry_out.new.state) (counts c.work.tally) (counts c.take.new.self) end c.work.invariant is_due.0 c.take.ensures.ticks calls did in
-    led
-
-pub work-preserved-in-Run : goal.work-preserved-in-Run
-work-preserved-in-Run c =
-    let p = program_of c.args.style.now in
-    let end = eval p (Then (Called c.args.first) End) (world_of c.args.state.now) counts_begun in
-    let left_before = whole c.work.rest.now c.work.control.items in
-    let left_now = whole c.next_due.result.1.now c.next_due.new.control.items in
-    let is_due = subst (λ d. IsDue d c.work.rest.now c.work.control.items c.next_due.result.1.now c.next_due.new.control.items) c.in-Element.is c.next_due.ensures in
-    let calls = c.take.ensures.calls ∙ ap (λ b. with_call b c.work.tally.calls) c.builtin.ensures in
-    let did = ap (λ n. followed p n (world_of c.carry_out.new.state) (counts c.take.new.self)) (sym (c.in-Run.is)) ∙ c.in_ok-next-in-Element.ensures (counts c.take.new.self) in
-    let led = element_leads p c.in-Element.element (next.Run c.in-Run.code) left_before left_now (world_of c.work.state) (world_of c.carry_out.new.state) (counts c.work.tally) (counts c.take.new.self) end c.work.invariant is_due.0 c.take.ensures.ticks calls did in
-    c.in_ok-rest-in-Run.ensures.same p (world_of c.carry_out.new.state) (counts c.take.new.self) ∙ led
+    let follows : Next → Ending = λ next. followed p c.next_due.result.1.now next c.carry_out.new.control.items (world_of c.carry_out.new.state) (counts c.take.new.self) in
+    let did = ap follows (sym (c.in-Flow.is ∙ ap next.Flow c.in-Stop.is)) ∙ c.in_ok-next-in-Element.ensures.leads (counts c.take.new.self) in
+    element_leads p c.in-Element.element left_before left_now (world_of c.work.state) (counts c.work.tally) (counts c.take.new.self) (follows (next.Flow Stop)) end c.work.invariant is_due.0 c.take.ensures.ticks calls did
 
 pub work-preserved : goal.work-preserved
 work-preserved c =
@@ -106,6 +95,6 @@ work-preserved c =
     let left_now = whole c.next_due.result.1.now c.next_due.new.control.items in
     let is_due = subst (λ d. IsDue d c.work.rest.now c.work.control.items c.next_due.result.1.now c.next_due.new.control.items) c.in-Element.is c.next_due.ensures in
     let calls = c.take.ensures.calls ∙ ap (λ b. with_call b c.work.tally.calls) c.builtin.ensures in
-    let did = ap (λ n. followed p n (world_of c.carry_out.new.state) (counts c.take.new.self)) (sym (c.in-Loop.is)) ∙ c.in_ok-next-in-Element.ensures (counts c.take.new.self) in
-    let led = element_leads p c.in-Element.element (next.Loop c.in-Loop.test c.in-Loop.body) left_before left_now (world_of c.work.state) (world_of c.carry_out.new.state) (counts c.work.tally) (counts c.take.new.self) end c.work.invariant is_due.0 c.take.ensures.ticks calls did in
-    loop_leads p (code_seen c.in-Loop.test) (code_seen c.in-Loop.body) left_now (whole c.in_ok-rest-in-Loop.rest.now c.begin_loop-in-Loop.new.control.items) (world_of c.carry_out.new.state) (counts c.take.new.self) end led c.in_ok-rest-in-Loop.ensures.same
+    let follows : Next → Ending = λ next. followed p c.next_due.result.1.now next c.carry_out.new.control.items (world_of c.carry_out.new.state) (counts c.take.new.self) in
+    let did = ap follows (sym (c.in-Body-next.is)) ∙ c.in_ok-next-in-Element.ensures.leads (counts c.take.new.self) in
+    element_leads p c.in-Element.element left_before left_now (world_of c.work.state) (counts c.work.tally) (counts c.take.new.self) (follows (next.Body c.in-Body-next.body)) end c.work.invariant is_due.0 c.take.ensures.ticks calls did
