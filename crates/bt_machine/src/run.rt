@@ -282,6 +282,7 @@ fn repeat<'a>(
     }
 }
 
+#[inline(always)]
 fn call_builtin<'a>(
     state: &mut State<'a>,
     control: &mut Vec<Frame<'a>>,
@@ -374,7 +375,9 @@ fn carry_out<'a>(
     }
 }
 
-/// Runs a call of a name and all that it leads to. `control` is its buffer.
+/// Runs a call of a name and all that it leads to. `control` is its buffer. It isn't inlined, so that it finds the state
+/// through one register and its own locals near.
+#[inline(never)]
 pub fn work<'a>(
     state: &mut State<'a>,
     control: &mut Vec<Frame<'a>>,

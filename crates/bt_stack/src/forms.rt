@@ -189,6 +189,7 @@ pub fn call_of_two_numbers<F: OfTwoNumbers>(state: &mut State) -> Result<Flow, A
 }
 
 /// Calls a function of a text that gives a number.
+#[inline(never)]
 pub fn call_of_text_to_number<F: OfTextToNumber>(
     state: &mut State,
     alloc: Global,
@@ -232,6 +233,7 @@ pub fn call_of_field_text<F: OfFieldText>(state: &mut State) -> Result<Flow, All
 }
 
 /// Calls a function of a text that gives a text.
+#[inline(never)]
 pub fn call_of_text_to_text<F: OfTextToText>(
     state: &mut State,
     alloc: Global,
@@ -254,6 +256,7 @@ pub fn call_of_text_to_text<F: OfTextToText>(
 }
 
 /// Calls a function of a number that gives a text.
+#[inline(never)]
 pub fn call_of_number_to_text<F: OfNumberToText>(
     state: &mut State,
     alloc: Global,

@@ -32,6 +32,7 @@ fn log_top(state: &mut State, alloc: Global, style: &Style) -> Result<bool, Allo
 }
 
 /// `top$`.
+#[inline(never)]
 pub fn top(state: &mut State, alloc: Global, style: &Style) -> Result<Flow, AllocError>
     ensures { IfOk result (Acts (λ world.
         change_with (log_value (program_of style.now)) (taken builtin.Top as_any world)) state.old state.new) }
@@ -43,6 +44,7 @@ pub fn top(state: &mut State, alloc: Global, style: &Style) -> Result<Flow, Allo
 }
 
 /// `stack$`.
+#[inline(never)]
 #[tactic(auto, using(crate::proofs::LogLemmas::all_more, crate::proofs::LogLemmas::fewer_left, crate::proofs::LogLemmas::none_left))]
 pub fn all(state: &mut State, alloc: Global, style: &Style) -> Result<Flow, AllocError>
     ensures { IfOk result (Acts (λ world. Goes (log_stack (program_of style.now) world)) state.old state.new) }
@@ -52,6 +54,7 @@ pub fn all(state: &mut State, alloc: Global, style: &Style) -> Result<Flow, Allo
 }
 
 /// `warning$`.
+#[inline(never)]
 pub fn warning(state: &mut State, alloc: Global) -> Result<Flow, AllocError>
     ensures { IfOk result (Acts (λ world.
         change_with log_warning (taken builtin.Warning as_text world)) state.old state.new) }

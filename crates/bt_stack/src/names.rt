@@ -156,6 +156,7 @@ fn refuse_name(state: &mut State) -> Result<Flow, AllocError>
 }
 
 /// `format.name$`.
+#[inline(never)]
 pub fn format_name(state: &mut State, alloc: Global) -> Result<Flow, AllocError>
     ensures { IfOk result (Acts (λ world.
         valued name_formatted empty_item (taken_three builtin.FormatName as_text as_number as_text world))

@@ -15,6 +15,7 @@ use bt_text::HeldFault;
 use std::alloc::{AllocError, Global};
 
 /// `newline$`.
+#[inline(never)]
 pub fn newline(state: &mut State, alloc: Global) -> Result<Flow, AllocError>
     ensures { IfOk result (Acts (λ world. Goes (held_line_ended world)) state.old state.new) }
 {
@@ -25,6 +26,7 @@ pub fn newline(state: &mut State, alloc: Global) -> Result<Flow, AllocError>
 }
 
 /// `write$`. The text is read where it lies.
+#[inline(never)]
 pub fn write(state: &mut State, alloc: Global) -> Result<Flow, AllocError>
     ensures { IfOk result (Acts (λ world. act_with appended (taken builtin.Write as_text world)) state.old
         state.new) }

@@ -1,4 +1,7 @@
 //! The table of the built-in functions that run no other.
+//!
+//! It is inlined into the machine's loop, with the functions that take a few instructions. Those on texts and lines stay
+//! functions, so the loop stays small.
 
 ghost use Rattle.std.specs.Prelude.{IfOk};
 ghost use Rattle.bt_style.specs.Program.{program_of};
@@ -22,6 +25,7 @@ use std::alloc::{AllocError, Global};
 
 /// Calls a built-in function that runs no other: what it does to the state, and whether the run goes on. For
 /// `call.type$`, `if$` and `while$`, which run others, nothing is done.
+#[inline(always)]
 pub fn call_basic(
     state: &mut State,
     alloc: Global,

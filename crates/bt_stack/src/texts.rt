@@ -104,6 +104,7 @@ impl OfTextToText for AddPeriod {
 }
 
 /// `*`.
+#[inline(never)]
 pub fn join(state: &mut State) -> Result<Flow, AllocError>
     ensures { IfOk result (Acts (λ world.
         valued join_of empty_item (taken_two builtin.Join as_text as_text world)) state.old state.new) }
@@ -229,6 +230,7 @@ fn refuse_case(state: &mut State) -> Result<Flow, AllocError>
 }
 
 /// `change.case$`.
+#[inline(never)]
 pub fn convert_case(state: &mut State, alloc: Global) -> Result<Flow, AllocError>
     ensures { IfOk result (Acts (λ world.
         valued case_of empty_item (taken_two builtin.ChangeCase as_text as_text world)) state.old state.new) }
@@ -270,6 +272,7 @@ fn refuse_prefix(state: &mut State) -> Result<Flow, AllocError>
 }
 
 /// `text.prefix$`.
+#[inline(never)]
 pub fn prefix(state: &mut State, alloc: Global) -> Result<Flow, AllocError>
     ensures { IfOk result (Acts (λ world.
         valued prefix_of empty_item (taken_two builtin.TextPrefix as_text as_number world)) state.old state.new) }
@@ -310,6 +313,7 @@ fn refuse_part(state: &mut State) -> Result<Flow, AllocError>
 }
 
 /// `substring$`. The part isn't copied: it is a place in the same text.
+#[inline(never)]
 pub fn cut(state: &mut State) -> Result<Flow, AllocError>
     ensures { IfOk result (Acts (λ world.
         valued substring_given empty_item (taken_three builtin.Substring as_text as_number as_number world))
