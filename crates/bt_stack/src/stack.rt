@@ -30,6 +30,13 @@ mod variables;
 /// No pool is swept before it has this many bytes. Few steps make more.
 const SWEEP_BYTES: usize = 65_536;
 
+/// How many bytes the pool gets when the step makes its first text. Most steps need no more, and up to 1,032 bytes malloc
+/// keeps a free block at hand.
+const FIRST_BYTES: usize = 1_024;
+
+/// How many values there is room for at a step's beginning. Most steps need no more; it is 1,008 bytes.
+const FIRST_VALUES: usize = 42;
+
 /// The literal stack, and the variables of a step.
 #[derive(Drop)]
 pub struct Stack<'a> {
@@ -41,7 +48,7 @@ pub struct Stack<'a> {
     pool: Vec<u8>,
     /// A buffer for bytes on their way into the pool.
     scratch: Vec<u8>,
-    /// The pool is swept once it has this many bytes.
+    /// The pool is swept once it has this many bytes. At first it is 0, so the first text finds the pool with room.
     sweep_at: usize,
 }
 
@@ -82,8 +89,15 @@ impl<'a> Stack<'a> {
             },
             pool: Vec::new(alloc),
             scratch: Vec::new(alloc),
-            sweep_at: SWEEP_BYTES,
+            sweep_at: 0,
         }
+    }
+
+    /// Makes room for the values of most steps, so that the stack needn't grow by small steps.
+    pub fn make_room(&mut self) -> Result<(), AllocError>
+        ensures { self.new ≡ self.old }
+    {
+        self.values.reserve(FIRST_VALUES)
     }
 
     /// How many values there are.

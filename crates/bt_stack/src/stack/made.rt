@@ -6,7 +6,7 @@ ghost use Rattle.bt_stack.specs.Tops.{joined_tops};
 
 use crate::joining::join;
 use crate::moving::{copy_made, made_size, move_made};
-use crate::stack::{SWEEP_BYTES, Stack};
+use crate::stack::{FIRST_BYTES, SWEEP_BYTES, Stack};
 use crate::value::Value;
 use bt_text::TEXT_BYTES;
 use std::alloc::{AllocError, Global};
@@ -116,13 +116,24 @@ impl<'a> Stack<'a> {
         Ok(())
     }
 
+    /// Gives an empty pool room for its first texts.
+    fn begin_pool(&mut self) -> Result<(), AllocError>
+        ensures { self.new ≡ self.old }
+    {
+        self.pool.reserve(FIRST_BYTES)
+    }
+
     /// Compacts the pool, and puts off the next sweep until the pool has twice the bytes that it has then. So all sweeps
-    /// together copy fewer bytes than the step wrote.
+    /// together copy fewer bytes than the step wrote. An empty pool gets room instead.
     #[cold]
     fn sweep(&mut self) -> Result<(), AllocError>
         ensures { self.new ≡ self.old }
     {
-        self.compact()?;
+        if self.pool.is_empty() {
+            self.begin_pool()?;
+        } else {
+            self.compact()?;
+        }
         self.sweep_at = self.pool.len().saturating_mul(2).max(SWEEP_BYTES);
         Ok(())
     }
