@@ -1,4 +1,4 @@
-use Rattle.std.proofs.Common.{◌∙◌, sym, arith, true, false}
+use Rattle.std.proofs.Common.{◌∙◌, sym, arith}
 use mathlib.Core.Bool.{false≢true}
 use Rattle.bt_text.proofs.WhiteLemmas.{first_stays}
 use Rattle.bt_text.proofs.white.is_white_joined.Goals as goal
