@@ -5,6 +5,7 @@
 mod draft;
 mod edit;
 mod edits;
+mod entry_lines;
 mod files;
 mod refusal;
 mod reread;

@@ -5,6 +5,7 @@ ghost use Rattle.std.specs.Option.{option_map};
 
 use crate::draft::Draft;
 use crate::edit::{Edit, Refusal};
+use crate::entry_lines::entry_text;
 use crate::reread::Reread;
 use crate::state::State;
 use bt_job::text_of;
@@ -44,6 +45,8 @@ impl Session {
     ghost use Rattle.bibtex.specs.Applied.{applied, refusal_of, IsAnswer, IsNew};
     ghost use Rattle.bt_job.specs.FileNames.{text_of};
     ghost use Rattle.bt_log.specs.Log.{log_bytes};
+    ghost use Rattle.bt_run.specs.Meaning.{trace};
+    ghost use Rattle.bibtex.specs.EntryText.{entry_text};
 
     /// A session without files, whose run begins at the root name followed by `.aux`. The errors are `BadName`, exactly
     /// where the root isn't a file name of at most 60 bytes, and `OutOfMemory`.
@@ -179,6 +182,14 @@ impl Session {
         ensures { result.now ≡ (shown self.now).wanted }
     {
         self.answers.wanted.as_slice()
+    }
+
+    /// What the entry of a key prints in the present run, in the paper's own style: the lines that the steps for this key
+    /// end, each with a line feed. It is empty if the run has no such entry. The only error is out of memory.
+    pub fn entry_text(&self, key: &[u8]) -> Result<Bytes, AllocError>
+        ensures { IfOk result (λ text. text ≡ entry_text key.now (trace self.now.texts self.now.root self.now.min)) }
+    {
+        entry_text(self.alloc, self.kept.steps.as_slice(), key)
     }
 
     /// The present text of a name, if there is one. Each name stands once among the present texts.
