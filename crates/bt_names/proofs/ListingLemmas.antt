@@ -92,10 +92,6 @@ name_passed t start i (suc left) d name h g e k f =
     let one : suc left - 1 ≡ left = omega arith in
     ap (slice_get (names_from t (i + 3) (i + 1))) one ∙ sym (ap (λ ts. slice_get ts (suc left)) (names_here t start i d h g e)) ∙ f
 
-pub ruleset naming = (depth_take, names_from_more, names_from_end, names_from_start, names_here)
-
-pub ruleset counting = (depth_take, and_places_more, length-names)
-
 pub depth_behind_most : (d b : ℕ) → depth_after d b ≤ d + 1
 depth_behind_most d b = by_test (eqb b 123) (eqb b 125)
   where

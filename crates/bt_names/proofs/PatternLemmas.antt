@@ -104,5 +104,3 @@ pub fault_behind : (t : List ℕ) (i n : ℕ) (all : Option ℕ) → length (tak
 fault_behind t i n all k e f g =
     let rest = fault_of_blocks (blocks (drop n (drop i t))) in
     ap (λ s. moved_by (i + n) (fault_of_blocks (blocks s))) (sym (drop-drop n i t)) ∙ sym (moved_more i n rest) ∙ ap (λ n. moved_by i (moved_by n rest)) (sym k) ∙ ap (λ o. moved_by i (option_or o (moved_by (length (take n (drop i t))) rest))) (sym f) ∙ ap (λ bs. moved_by i (fault_of_blocks bs)) (sym e) ∙ g
-
-pub ruleset letters = (depth_take, letters_more, letters_end, letters_found)

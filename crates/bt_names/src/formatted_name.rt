@@ -74,7 +74,7 @@ pub fn push_formatted(
 /// What is wrong with the names or the pattern. It takes no memory to know.
 #[tactic(auto, unfolding(crate::specs::FormattedName::formatted_name))]
 fn fault_of(names: &[u8], n: i32, pattern: &[u8]) -> Option<FormatFault>
-    ensures fault { IfSome result (λ fault. formatted_name names.now n pattern.now ≡ Err fault) }
+    ensures fault { IfSome result (IsFormatFault (formatted_name names.now n pattern.now)) }
     ensures none { IfNone result (IsOk (formatted_name names.now n pattern.now)) }
 {
     let Some(name) = name_at(names, n) else {
@@ -83,7 +83,8 @@ fn fault_of(names: &[u8], n: i32, pattern: &[u8]) -> Option<FormatFault>
     if has_many_commas(name) {
         return Some(FormatFault::TooManyCommas);
     }
-    pattern_fault(pattern).map(FormatFault::PatternFault)
+    let place = pattern_fault(pattern)?;
+    Some(FormatFault::PatternFault(place))
 }
 
 /// The n-th of the names that a text lists, counted from 1, in a pattern. The faults are those of `push_formatted`, in
