@@ -44,6 +44,20 @@ answered_from (u ∷ v ∷ x ∷ rest) t start len from count w e f g short few 
 pub part_answered : (l : List Item) (from count : ℕ) (w : World) → IsPart from count l → length (drop 2 l) ≤ 1000 → Goes (with_stack (with_top (cut from count) (drop 2 l)) w) ≡ valued substring_given empty_item (taken_three builtin.Substring as_text as_number as_number (with_stack l w))
 part_answered l from count w p few = answered_from l p.text p.start p.len from count w p.is_text p.is_start p.is_len p.short few p.part
 
+-- a part whose numbers were read through references
+pub is_part : (l : List Item) (t : List ℕ) (start len m n : ℤ) (from count : ℕ) → Some t ≡ option_and_then as_text (slice_get l 2) → Some start ≡ option_and_then as_number (slice_get l 1) → Some len ≡ option_and_then as_number (slice_get l 0) → length t ≤ 65536 → take count (drop from t) ≡ substring_of t m n → m ≡ start → n ≡ len → IsPart from count l
+is_part l t start len m n from count e f g short is same_start same_len =
+    record {
+      text = t;
+      start = start;
+      len = len;
+      is_text = e;
+      is_start = f;
+      is_len = g;
+      short = short;
+      part = is ∙ (λ k. substring_of t (same_start k) (same_len k));
+    }
+
 text_there : (l : List Item) (t : List ℕ) → Some t ≡ option_and_then as_text (slice_get l 2) → 2 ≤ length l
 text_there [] t e = absurd (none-some t (sym e))
 text_there (u ∷ []) t e = absurd (none-some t (sym e))

@@ -1,4 +1,4 @@
-use Rattle.std.proofs.Math.Facts.{to_z-of_z}
+use Rattle.std.proofs.Common.{to_z-of_z}
 use Rattle.bt_stack.proofs.NameLemmas.{answered_written}
 use Rattle.bt_stack.proofs.names.write_name.Goals as goal
 
