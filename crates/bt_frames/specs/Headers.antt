@@ -49,3 +49,13 @@ pub record IsHeader (bytes : List ℕ) (says : Option ℕ) : Type 0 where
   pub lines : AreLines front says false
   pub empty : HasNoFeed last × (length (without_cr last) ≡ 0)
   pub text : bytes ≡ front ++ (last ++ 10 ∷ [])
+
+-- a header that was cut off: some lines and a part of a line, not both empty
+pub record IsCutHeader (bytes : List ℕ) : Type 0 where
+  pub front : List ℕ
+  pub last : List ℕ
+  pub says : Option ℕ
+  pub lines : AreLines front says false
+  pub part : HasNoFeed last
+  pub text : bytes ≡ front ++ last
+  pub some : 0 < length bytes

@@ -1,3 +1,4 @@
 pub mod Headers
 pub mod Frames
 pub mod Framed
+pub mod inner

@@ -1,9 +1,10 @@
 //! Reads frames from a source.
 
-ghost use Rattle.bt_frames.specs.Frames.{ReadsHeader, ReadsFrame};
+ghost use Rattle.bt_frames.specs.Frames.{body_bytes, ReadsHeader, ReadsFrame};
+ghost use Rattle.bt_frames.specs.inner.Bodies.{IsEnded, ReadsBody};
 ghost use Rattle.bt_frames.specs.Framed.{head_of};
 ghost use Rattle.std.specs.String.{string_bytes};
-ghost use Rattle.std.specs.Prelude.{◌≡◌, ◌+◌, ◌-◌, ◌^◌, ◌<◌, length, IfOk, OnOk, OnErr};
+ghost use Rattle.std.specs.Prelude.{◌≡◌, ◌+◌, ◌-◌, ◌^◌, ◌<◌, ◌≤◌, length, IfOk, OnOk, OnErr};
 
 use crate::headers::{said_by, without_cr};
 use bt_streams::{LineEnd, Source, StreamFailed, drop_bytes, read_bytes, read_line, skip_line};
@@ -20,8 +21,10 @@ pub enum Frame {
     Body(Vec<u8>),
     /// A header that doesn't say how long the body is.
     NoLength,
-    /// A body of more than `BODY_BYTES` bytes, or one for which memory ran out. It was read and dropped.
+    /// A body of more than `BODY_BYTES` bytes. It was read and dropped.
     TooLarge,
+    /// A body for which memory ran out. It was read and dropped.
+    NoMemory,
     /// The input ended between two frames.
     End,
     /// The input ended inside a frame.
@@ -33,6 +36,17 @@ enum Header {
     Length(Option<usize>),
     End,
     Cut,
+}
+
+/// What it means that the input ends after lines of a header, or none of them, and `count` bytes of a line.
+fn ended(first: bool, count: usize) -> Header
+    ensures { IsEnded first count result }
+{
+    if first && count == 0 {
+        Header::End
+    } else {
+        Header::Cut
+    }
 }
 
 /// Reads a header up to its empty line, and skips lines that say nothing of the length.
@@ -55,8 +69,7 @@ fn read_header<S: Source>(source: &mut S) -> Result<Header, StreamFailed>
                 }
                 length = said_by(length, line);
             }
-            LineEnd::End(0) if first => return Ok(Header::End),
-            LineEnd::End(_) => return Ok(Header::Cut),
+            LineEnd::End(count) => return Ok(ended(first, count)),
             LineEnd::None => {
                 if !skip_line(source)? {
                     return Ok(Header::Cut);
@@ -67,14 +80,70 @@ fn read_header<S: Source>(source: &mut S) -> Result<Header, StreamFailed>
     }
 }
 
-/// A buffer for a body of `count` bytes.
-fn buffer_for(alloc: Global, count: usize) -> Result<Vec<u8>, AllocError>
-    ensures { IfOk result (λ bytes. length bytes.items ≡ count) }
+/// Drops a body that is too large.
+fn drop_large<S: Source>(source: &mut S, count: usize) -> Result<Frame, StreamFailed>
+    requires failures { (S.seen source.old).failures < 2 ^ 64 - 1 }
+    requires large { body_bytes < count }
+    ensures body { IfOk result (ReadsBody (S.seen source.old).rest (S.seen source.new).rest count) }
+    ensures lowers { (S.seen source.new).reads_left ≤ (S.seen source.old).reads_left }
+    ensures ok { OnOk result ((S.seen source.new).failures ≡ (S.seen source.old).failures) }
+    ensures err { OnErr result ((S.seen source.new).failures ≡ (S.seen source.old).failures + 1) }
+{
+    if drop_bytes(source, count)? {
+        Ok(Frame::TooLarge)
+    } else {
+        Ok(Frame::Cut)
+    }
+}
+
+/// Drops a body for which there is no memory.
+fn drop_unread<S: Source>(source: &mut S, count: usize) -> Result<Frame, StreamFailed>
+    requires failures { (S.seen source.old).failures < 2 ^ 64 - 1 }
+    requires fits { count ≤ body_bytes }
+    ensures body { IfOk result (ReadsBody (S.seen source.old).rest (S.seen source.new).rest count) }
+    ensures lowers { (S.seen source.new).reads_left ≤ (S.seen source.old).reads_left }
+    ensures ok { OnOk result ((S.seen source.new).failures ≡ (S.seen source.old).failures) }
+    ensures err { OnErr result ((S.seen source.new).failures ≡ (S.seen source.old).failures + 1) }
+{
+    if drop_bytes(source, count)? {
+        Ok(Frame::NoMemory)
+    } else {
+        Ok(Frame::Cut)
+    }
+}
+
+/// Reads a body into a buffer of its size.
+fn fill<S: Source>(source: &mut S, buffer: Vec<u8>) -> Result<Frame, StreamFailed>
+    requires failures { (S.seen source.old).failures < 2 ^ 64 - 1 }
+    requires fits { length buffer.items ≤ body_bytes }
+    ensures body { IfOk result (ReadsBody (S.seen source.old).rest (S.seen source.new).rest (length buffer.items)) }
+    ensures lowers { (S.seen source.new).reads_left ≤ (S.seen source.old).reads_left }
+    ensures ok { OnOk result ((S.seen source.new).failures ≡ (S.seen source.old).failures) }
+    ensures err { OnErr result ((S.seen source.new).failures ≡ (S.seen source.old).failures + 1) }
+{
+    let mut body = buffer;
+    if read_bytes(source, &mut body)? {
+        Ok(Frame::Body(body))
+    } else {
+        Ok(Frame::Cut)
+    }
+}
+
+/// Reads a body of `count` bytes, or drops it.
+fn read_body<S: Source>(alloc: Global, source: &mut S, count: usize) -> Result<Frame, StreamFailed>
+    requires { (S.seen source.old).failures < 2 ^ 64 - 1 }
+    ensures body { IfOk result (ReadsBody (S.seen source.old).rest (S.seen source.new).rest count) }
+    ensures lowers { (S.seen source.new).reads_left ≤ (S.seen source.old).reads_left }
+    ensures ok { OnOk result ((S.seen source.new).failures ≡ (S.seen source.old).failures) }
+    ensures err { OnErr result ((S.seen source.new).failures ≡ (S.seen source.old).failures + 1) }
 {
     if count > BODY_BYTES {
-        return Err(AllocError);
+        return drop_large(source, count);
     }
-    vec![in alloc; 0; count]
+    match vec![in alloc; 0; count] {
+        Ok(buffer) => fill(source, buffer),
+        Err(_) => drop_unread(source, count),
+    }
 }
 
 /// Reads the next frame, and says what it holds. It fails only if a read does.
@@ -85,27 +154,14 @@ pub fn read_frame<S: Source>(alloc: Global, source: &mut S) -> Result<Frame, Str
     ensures ok { OnOk result ((S.seen source.new).failures ≡ (S.seen source.old).failures) }
     ensures err { OnErr result ((S.seen source.new).failures ≡ (S.seen source.old).failures + 1) }
 {
-    let count = match read_header(source)? {
-        Header::Length(Some(count)) => count,
-        Header::Length(None) => return Ok(Frame::NoLength),
-        Header::End => return Ok(Frame::End),
-        Header::Cut => return Ok(Frame::Cut),
-    };
-    match buffer_for(alloc, count) {
-        Ok(mut body) => {
-            if read_bytes(source, &mut body)? {
-                Ok(Frame::Body(body))
-            } else {
-                Ok(Frame::Cut)
-            }
+    match read_header(source)? {
+        Header::Length(Some(count)) => {
+            let frame = read_body(alloc, source, count)?;
+            Ok(frame)
         }
-        Err(_) => {
-            if drop_bytes(source, count)? {
-                Ok(Frame::TooLarge)
-            } else {
-                Ok(Frame::Cut)
-            }
-        }
+        Header::Length(None) => Ok(Frame::NoLength),
+        Header::End => Ok(Frame::End),
+        Header::Cut => Ok(Frame::Cut),
     }
 }
 

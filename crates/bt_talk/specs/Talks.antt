@@ -15,27 +15,27 @@ sent messages = flat_map (λ m. framed (compact_text m)) messages
 -- The loop ends at the first frame after which the desk is over (the truth value is true), or where the input ends.
 -- The bytes are what was said, each message in its frame.
 pub data Talks {D : Type 0} (answers : D → List ℕ → Data → Result Data RpcError → List Data → D → Type 0)
-    (notes : D → List ℕ → Data → List Data → D → Type 0) (is_over : D → Bool) :
+    (notes : D → List ℕ → Data → List Data → D → Type 0) (lost : D → D → Type 0) (is_over : D → Bool) :
     Bool → List ℕ → List ℕ → D → List ℕ → D → Type 0 where
   -- the input has ended
-  ends : (d : D) → Talks answers notes is_over false [] [] d [] d
+  ends : (d : D) → Talks answers notes lost is_over false [] [] d [] d
   -- the desk is over after this frame
   stops : (input frame rest : List ℕ) (mail : Mail) (said : List Data) (d e : D) → IsFrame frame mail →
-      input ≡ frame ++ rest → Handled answers notes mail d said e → is_over e ≡ true →
-      Talks answers notes is_over true input rest d (sent said) e
+      input ≡ frame ++ rest → Handled answers notes lost mail d said e → is_over e ≡ true →
+      Talks answers notes lost is_over true input rest d (sent said) e
   -- it isn't over after this frame, and the loop goes on
   goes_on : (over : Bool) (input frame mid rest bytes : List ℕ) (mail : Mail) (said : List Data) (d e f : D) →
-      IsFrame frame mail → input ≡ frame ++ mid → Handled answers notes mail d said e → is_over e ≡ false →
-      Talks answers notes is_over over mid rest e bytes f →
-      Talks answers notes is_over over input rest d (sent said ++ bytes) f
+      IsFrame frame mail → input ≡ frame ++ mid → Handled answers notes lost mail d said e → is_over e ≡ false →
+      Talks answers notes lost is_over over mid rest e bytes f →
+      Talks answers notes lost is_over over input rest d (sent said ++ bytes) f
 
 -- One turn of the loop: the input has ended, or a frame was handled and what was said is written.
 abbrev pub Turn : {D : Type 0} → (D → List ℕ → Data → Result Data RpcError → List Data → D → Type 0) →
-    (D → List ℕ → Data → List Data → D → Type 0) → Bool → List ℕ → List ℕ → D → List ℕ → List ℕ → D → Type 0
-Turn {D} answers notes true input rest d said said' e = (input ≡ []) × (rest ≡ []) × (said' ≡ said) × (e ≡ d)
-Turn {D} answers notes false input rest d said said' e =
+    (D → List ℕ → Data → List Data → D → Type 0) → (D → D → Type 0) → Bool → List ℕ → List ℕ → D → List ℕ → List ℕ → D → Type 0
+Turn {D} answers notes lost true input rest d said said' e = (input ≡ []) × (rest ≡ []) × (said' ≡ said) × (e ≡ d)
+Turn {D} answers notes lost false input rest d said said' e =
     (frame : List ℕ) × (mail : Mail) × (messages : List Data) × IsFrame frame mail × (input ≡ frame ++ rest) ×
-    Handled answers notes mail d messages e × (said' ≡ said ++ sent messages)
+    Handled answers notes lost mail d messages e × (said' ≡ said ++ sent messages)
 
 -- what a call does of which, where source and sink show their bytes, such a turn is true
 abbrev pub TakesTurn : {D E : Type 0} → (Bool → List ℕ → List ℕ → D → List ℕ → List ℕ → D → Type 0) →

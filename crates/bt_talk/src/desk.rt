@@ -12,7 +12,8 @@ pub struct Reply {
     pub notes: Vec<Value>,
 }
 
-/// What carries out messages. If memory runs out, a call has changed nothing.
+/// What carries out messages. A request that runs out of memory has changed nothing. A notification can't be answered, so
+/// what happens without memory is the desk's to say and to remember.
 pub trait Desk {
     ghost use Rattle.std.specs.Prelude.{◌≡◌, ℕ, Bool, List, Result, IfOk, OnErr, map};
     ghost use Rattle.std.specs.List.{AllByRecursion};
@@ -30,6 +31,9 @@ pub trait Desk {
     /// are sent, the state after.
     ghost notes: { Self → List ℕ → Data → List Data → Self → Type 0 };
 
+    /// Whether a desk may go from one state to another when a message is lost.
+    ghost lost: { Self → Self → Type 0 };
+
     /// Whether the loop ends.
     ghost is_over: { Self → Bool };
 
@@ -42,15 +46,13 @@ pub trait Desk {
         ensures err { OnErr result (self.new ≡ self.old) };
 
     /// Carries out a notification, and returns its notes.
-    fn note(
-        &mut self,
-        alloc: Global,
-        method: &str,
-        message: &Value,
-    ) -> Result<Vec<Value>, AllocError>
-        ensures ok { IfOk result (λ told. notes self.old method.now (view message.now) (map view told.items) self.new) }
-        ensures notes { IfOk result (λ told. AllByRecursion IsNote (map view told.items)) }
-        ensures err { OnErr result (self.new ≡ self.old) };
+    fn note(&mut self, alloc: Global, method: &str, message: &Value) -> Vec<Value>
+        ensures said { notes self.old method.now (view message.now) (map view result.items) self.new }
+        ensures notes { AllByRecursion IsNote (map view result.items) };
+
+    /// Takes note that a message is lost: it was too large, there was no memory to read it, or it isn't a message.
+    fn lose(&mut self)
+        ensures { lost self.old self.new };
 
     /// Whether the loop ends after the message that was carried out last.
     fn is_over(&self) -> bool

@@ -26,14 +26,6 @@ fn error_to(alloc: Global, id: &Value, error: RpcError) -> Result<Vec<Value>, Al
     Ok(said)
 }
 
-/// One message: an error whose id is null.
-pub fn error_without_id(alloc: Global, error: RpcError) -> Result<Vec<Value>, AllocError>
-    ensures said { IfOk result (λ said. map view said.items ≡ error_response null error ∷ []) }
-    ensures plain { IfOk result (λ said. AllByRecursion HasNoFloat (map view said.items)) }
-{
-    error_to(alloc, &Value::Null, error)
-}
-
 /// The answer to a request with this outcome.
 fn answer_to(
     alloc: Global,
@@ -58,7 +50,7 @@ fn carry_out_request<D: Desk>(
     message: &Value,
 ) -> Result<Vec<Value>, AllocError>
     requires { is_id (view id.now) ≡ true }
-    ensures said { IfOk result (λ said. CarriedOut D.answers D.notes (request (view id.now) method.now)
+    ensures said { IfOk result (λ said. CarriedOut D.answers D.notes D.lost (request (view id.now) method.now)
         (view message.now) desk.old (map view said.items) desk.new) }
     ensures plain { IfOk result (λ said. AllByRecursion HasNoFloat (map view said.items)) }
 {
@@ -71,7 +63,7 @@ fn carry_out_request<D: Desk>(
     }
 }
 
-/// Carries out a notification: the desk's notes, or nothing if memory runs out.
+/// Carries out a notification: the desk's notes.
 #[tactic(auto, using(crate::proofs::PlainLemmas::notes_plain))]
 fn carry_out_notification<D: Desk>(
     alloc: Global,
@@ -79,14 +71,37 @@ fn carry_out_notification<D: Desk>(
     method: &str,
     message: &Value,
 ) -> Vec<Value>
-    ensures said { CarriedOut D.answers D.notes (notified method.now)
+    ensures said { CarriedOut D.answers D.notes D.lost (notified method.now)
         (view message.now) desk.old (map view result.items) desk.new }
     ensures plain { AllByRecursion HasNoFloat (map view result.items) }
 {
-    match desk.note(alloc, method, message) {
-        Ok(told) => told,
-        Err(_) => Vec::new(alloc),
-    }
+    desk.note(alloc, method, message)
+}
+
+/// Tells the desk that a message is lost. One error with this id is said.
+#[tactic(auto, using(crate::proofs::PlainLemmas::error_plain))]
+fn lose_with_id<D: Desk>(
+    alloc: Global,
+    desk: &mut D,
+    id: &Value,
+    error: RpcError,
+) -> Result<Vec<Value>, AllocError>
+    requires { has_float (view id.now) ≡ false }
+    ensures said { IfOk result (λ said. map view said.items ≡ error_response (view id.now) error ∷ []) }
+    ensures plain { IfOk result (λ said. AllByRecursion HasNoFloat (map view said.items)) }
+    ensures lost { D.lost desk.old desk.new }
+{
+    desk.lose();
+    error_to(alloc, id, error)
+}
+
+/// The same with the id null.
+pub fn lose<D: Desk>(alloc: Global, desk: &mut D, error: RpcError) -> Result<Vec<Value>, AllocError>
+    ensures said { IfOk result (λ said. map view said.items ≡ error_response null error ∷ []) }
+    ensures plain { IfOk result (λ said. AllByRecursion HasNoFloat (map view said.items)) }
+    ensures lost { D.lost desk.old desk.new }
+{
+    lose_with_id(alloc, desk, &Value::Null, error)
 }
 
 /// Carries out a message, and returns what is said.
@@ -96,7 +111,7 @@ fn carry_out<D: Desk>(
     desk: &mut D,
     message: &Value,
 ) -> Result<Vec<Value>, AllocError>
-    ensures said { IfOk result (λ said. CarriedOut D.answers D.notes (kind_of (view message.now))
+    ensures said { IfOk result (λ said. CarriedOut D.answers D.notes D.lost (kind_of (view message.now))
         (view message.now) desk.old (map view said.items) desk.new) }
     ensures plain { IfOk result (λ said. AllByRecursion HasNoFloat (map view said.items)) }
 {
@@ -104,15 +119,15 @@ fn carry_out<D: Desk>(
         Message::Request(id, method) => carry_out_request(alloc, desk, id, method, message),
         Message::Notification(method) => Ok(carry_out_notification(alloc, desk, method, message)),
         Message::Reply => Ok(Vec::new(alloc)),
-        Message::Malformed(Some(id)) => error_to(alloc, id, RpcError::InvalidRequest),
-        Message::Malformed(None) => error_without_id(alloc, RpcError::InvalidRequest),
+        Message::Malformed(Some(id)) => lose_with_id(alloc, desk, id, RpcError::InvalidRequest),
+        Message::Malformed(None) => lose(alloc, desk, RpcError::InvalidRequest),
     }
 }
 
 /// Handles the body of a frame, and returns what is said. It fails if there is no memory for an error, or for the
 /// answer to a request that the desk has carried out.
 pub fn handle<D: Desk>(alloc: Global, desk: &mut D, body: &[u8]) -> Result<Vec<Value>, AllocError>
-    ensures said { IfOk result (λ said. Handled D.answers D.notes (text body.now) desk.old
+    ensures said { IfOk result (λ said. Handled D.answers D.notes D.lost (text body.now) desk.old
         (map view said.items) desk.new) }
     ensures plain { IfOk result (λ said. AllByRecursion HasNoFloat (map view said.items)) }
 {
@@ -120,9 +135,9 @@ pub fn handle<D: Desk>(alloc: Global, desk: &mut D, body: &[u8]) -> Result<Vec<V
         Ok(message) => carry_out(alloc, desk, &message),
         Err(error) => {
             if error.is_memory() {
-                error_without_id(alloc, RpcError::InternalError)
+                lose(alloc, desk, RpcError::InternalError)
             } else {
-                error_without_id(alloc, RpcError::ParseError)
+                lose(alloc, desk, RpcError::ParseError)
             }
         }
     }

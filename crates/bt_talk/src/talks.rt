@@ -4,7 +4,7 @@ ghost use Rattle.std.specs.Prelude.{◌≡◌, ◌-◌, ◌^◌, ◌<◌, OnOk};
 ghost use Rattle.bt_talk.specs.Talks.{Turn, Talks, TakesTurn, Holds};
 
 use crate::desk::Desk;
-use crate::handling::{error_without_id, handle};
+use crate::handling::{handle, lose};
 use crate::sending::{TalkFault, send_all};
 use bt_frames::{Frame, read_frame};
 use bt_rpc::RpcError;
@@ -20,7 +20,7 @@ fn turn<S: Source, K: Sink, D: Desk>(
 ) -> Result<bool, TalkFault>
     requires reads { (S.seen source.old).failures < 2 ^ 64 - 1 }
     requires writes { (K.seen sink.old).failures < 2 ^ 64 - 1 }
-    ensures turn { TakesTurn (Turn D.answers D.notes) (S.seen source.old) (S.seen source.new)
+    ensures turn { TakesTurn (Turn D.answers D.notes D.lost) (S.seen source.old) (S.seen source.new)
         (K.seen sink.old) (K.seen sink.new) desk.old desk.new result }
     ensures reads { OnOk result ((S.seen source.new).failures ≡ (S.seen source.old).failures) }
     ensures writes { OnOk result ((K.seen sink.new).failures ≡ (K.seen sink.old).failures) }
@@ -31,12 +31,17 @@ fn turn<S: Source, K: Sink, D: Desk>(
         Ok(Frame::End) => Ok(true),
         Ok(Frame::Cut) => Err(TalkFault::Truncated),
         Ok(Frame::NoLength) => {
-            let said = error_without_id(alloc, RpcError::ParseError)?;
+            let said = lose(alloc, desk, RpcError::ParseError)?;
             send_all(alloc, sink, &said)?;
             Ok(false)
         }
         Ok(Frame::TooLarge) => {
-            let said = error_without_id(alloc, RpcError::InternalError)?;
+            let said = lose(alloc, desk, RpcError::InternalError)?;
+            send_all(alloc, sink, &said)?;
+            Ok(false)
+        }
+        Ok(Frame::NoMemory) => {
+            let said = lose(alloc, desk, RpcError::InternalError)?;
             send_all(alloc, sink, &said)?;
             Ok(false)
         }
@@ -59,7 +64,7 @@ pub fn talk<S: Source, K: Sink, D: Desk>(
 ) -> Result<bool, TalkFault>
     requires reads { (S.seen source.old).failures < 2 ^ 64 - 1 }
     requires writes { (K.seen sink.old).failures < 2 ^ 64 - 1 }
-    ensures all { Holds (Talks D.answers D.notes D.is_over) (S.seen source.old) (S.seen source.new)
+    ensures all { Holds (Talks D.answers D.notes D.lost D.is_over) (S.seen source.old) (S.seen source.new)
         (K.seen sink.old) (K.seen sink.new) desk.old desk.new result }
 {
     'turns: loop {

@@ -6,5 +6,5 @@ use Rattle.bt_talk.specs.laws.Laws.{RequestsAreAnsweredOnce}
 use Rattle.bt_talk.proofs.laws.OnceLemmas.{answered_once, not_answered}
 
 pub requests_are_answered_once : {D : Type 0} (answers : D → List ℕ → Data → Result Data RpcError → List Data → D → Type 0)
-    (notes : D → List ℕ → Data → List Data → D → Type 0) → RequestsAreAnsweredOnce answers notes
-requests_are_answered_once answers notes = record { once = answered_once answers notes; never = not_answered answers notes }
+    (notes : D → List ℕ → Data → List Data → D → Type 0) (lost : D → D → Type 0) → RequestsAreAnsweredOnce answers notes lost
+requests_are_answered_once answers notes lost = record { once = answered_once answers notes lost; never = not_answered answers notes lost }

@@ -38,28 +38,27 @@ same_message o m n p q = cc
 read_twice : (body : List ℕ) (m : Data) → read body ≡ Some m → read body ≡ None → ⊥
 read_twice body m p q = cc
 
-pub answered_once : {D : Type 0} (answers : D → List ℕ → Data → Result Data RpcError → List Data → D → Type 0) (notes : D → List ℕ → Data → List Data → D → Type 0)
-    (body method : List ℕ) (m id : Data) (said : List Data) (d e : D) → IsJson body m → kind_of m ≡ request id method → Handled answers notes (text body) d said e → IsAnsweredOnce id said
-answered_once answers notes body method m id said d e json kind (inl (n, is, carried)) =
+pub answered_once : {D : Type 0} (answers : D → List ℕ → Data → Result Data RpcError → List Data → D → Type 0) (notes : D → List ℕ → Data → List Data → D → Type 0) (lost : D → D → Type 0)
+    (body method : List ℕ) (m id : Data) (said : List Data) (d e : D) → IsJson body m → kind_of m ≡ request id method → Handled answers notes lost (text body) d said e → IsAnsweredOnce id said
+answered_once answers notes lost body method m id said d e json kind (inl (n, is, carried)) =
     let same : n ≡ m = same_message (read body) m n json.1 is.1 in
-    go (subst (λ k. CarriedOut answers notes k n d said e) (ap kind_of same ∙ kind) carried)
+    go (subst (λ k. CarriedOut answers notes lost k n d said e) (ap kind_of same ∙ kind) carried)
   where
-    go : CarriedOut answers notes (request id method) n d said e → IsAnsweredOnce id said
+    go : CarriedOut answers notes lost (request id method) n d said e → IsAnsweredOnce id said
     go (inl (outcome, told, how, are, is)) =
         let a = answer_to id outcome in
         (a, ap (filter is_answer) is ∙ notes_drop told (a ∷ []) are ∙ kept a (answers_are id outcome), inl (answers_have id outcome))
     go (inr (is, stays)) = one_answer id (error_response id InternalError) said is refl (inl refl)
-answered_once answers notes body method m id said d e json kind (inr (inl (broken, is, stays))) = absurd (read_twice body m json.1 (broken json.0))
-answered_once answers notes body method m id said d e json kind (inr (inr (is, stays))) = one_answer id (error_response null InternalError) said is refl (inr refl)
+answered_once answers notes lost body method m id said d e json kind (inr (inl (broken, is, stays))) = absurd (read_twice body m json.1 (broken json.0))
+answered_once answers notes lost body method m id said d e json kind (inr (inr (is, stays))) = one_answer id (error_response null InternalError) said is refl (inr refl)
 
-pub not_answered : {D : Type 0} (answers : D → List ℕ → Data → Result Data RpcError → List Data → D → Type 0) (notes : D → List ℕ → Data → List Data → D → Type 0)
-    (body method : List ℕ) (m : Data) (said : List Data) (d e : D) → IsJson body m → kind_of m ≡ notified method → Handled answers notes (text body) d said e → IsNotAnswered said
-not_answered answers notes body method m said d e json kind (inl (n, is, carried)) =
+pub not_answered : {D : Type 0} (answers : D → List ℕ → Data → Result Data RpcError → List Data → D → Type 0) (notes : D → List ℕ → Data → List Data → D → Type 0) (lost : D → D → Type 0)
+    (body method : List ℕ) (m : Data) (said : List Data) (d e : D) → IsJson body m → kind_of m ≡ notified method → Handled answers notes lost (text body) d said e → IsNotAnswered said
+not_answered answers notes lost body method m said d e json kind (inl (n, is, carried)) =
     let same : n ≡ m = same_message (read body) m n json.1 is.1 in
-    go (subst (λ k. CarriedOut answers notes k n d said e) (ap kind_of same ∙ kind) carried)
+    go (subst (λ k. CarriedOut answers notes lost k n d said e) (ap kind_of same ∙ kind) carried)
   where
-    go : CarriedOut answers notes (notified method) n d said e → IsNotAnswered said
-    go (inl (how, are)) = inl (no_answers said are)
-    go (inr (is, stays)) = inl (ap (filter is_answer) is)
-not_answered answers notes body method m said d e json kind (inr (inl (broken, is, stays))) = absurd (read_twice body m json.1 (broken json.0))
-not_answered answers notes body method m said d e json kind (inr (inr (is, stays))) = inr is
+    go : CarriedOut answers notes lost (notified method) n d said e → IsNotAnswered said
+    go (how, are) = inl (no_answers said are)
+not_answered answers notes lost body method m said d e json kind (inr (inl (broken, is, stays))) = absurd (read_twice body m json.1 (broken json.0))
+not_answered answers notes lost body method m said d e json kind (inr (inr (is, stays))) = inr is

@@ -10,8 +10,8 @@ use Rattle.bt_talk.specs.laws.Once.{IsAnsweredOnce, IsNotAnswered}
 -- notification gets none, unless there was no memory to read it.
 pub record RequestsAreAnsweredOnce {D : Type 0}
     (answers : D → List ℕ → Data → Result Data RpcError → List Data → D → Type 0)
-    (notes : D → List ℕ → Data → List Data → D → Type 0) : Type 0 where
+    (notes : D → List ℕ → Data → List Data → D → Type 0) (lost : D → D → Type 0) : Type 0 where
   pub once : (body method : List ℕ) (m id : Data) (said : List Data) (d e : D) → IsJson body m →
-      kind_of m ≡ request id method → Handled answers notes (text body) d said e → IsAnsweredOnce id said
+      kind_of m ≡ request id method → Handled answers notes lost (text body) d said e → IsAnsweredOnce id said
   pub never : (body method : List ℕ) (m : Data) (said : List Data) (d e : D) → IsJson body m →
-      kind_of m ≡ notified method → Handled answers notes (text body) d said e → IsNotAnswered said
+      kind_of m ≡ notified method → Handled answers notes lost (text body) d said e → IsNotAnswered said

@@ -1,4 +1,4 @@
-use Rattle.std.proofs.Common.{◌≡◌, ◌≤◌, ℕ, List}
+use Rattle.std.proofs.Common.{◌≡◌, ◌≤◌, ◌<◌, ℕ, List, length, false}
 use Rattle.std.specs.Io.KnownBytes.{Consumes}
 use Rattle.bt_frames.specs.Headers.{AreLines}
 use Rattle.bt_frames.proofs.framing.read_header.Given as goal
@@ -9,7 +9,7 @@ invariant-lines g l =
     record {
       failures : (source.seen l.source).failures ≡ (source.seen l.fn.source).failures;
       reads : (source.seen l.source).reads_left ≤ (source.seen l.fn.source).reads_left;
-      read : (bytes : List ℕ) × AreLines bytes l.length l.first × Consumes (source.seen l.fn.source).rest (source.seen l.source).rest bytes;
+      read : (bytes : List ℕ) × AreLines bytes l.length l.first × Consumes (source.seen l.fn.source).rest (source.seen l.source).rest bytes × (l.first ≡ false → 0 < length bytes);
     }
 
 abbrev pub decreases-lines : goal.decreases-lines

@@ -12,7 +12,7 @@ invariant-turns g l =
       writes : (sink.seen l.sink).failures ≡ (sink.seen l.fn.sink).failures;
       talked : (input : List ℕ) (said : List ℕ) → (source.seen l.fn.source).rest ≡ Some input → (sink.seen l.fn.sink).contents ≡ Some said →
           (mid : List ℕ) × (told : List ℕ) × ((source.seen l.source).rest ≡ Some mid) × ((sink.seen l.sink).contents ≡ Some (said ++ told)) ×
-          TalksOn desk.answers desk.notes desk.is_over input mid l.fn.desk told l.desk;
+          TalksOn desk.answers desk.notes desk.lost desk.is_over input mid l.fn.desk told l.desk;
     }
 
 abbrev pub decreases-turns : goal.decreases-turns

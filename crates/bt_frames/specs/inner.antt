@@ -1,0 +1,2 @@
+-- What only helpers, loops and proofs need: no part of the meaning.
+pub mod Bodies
