@@ -18,8 +18,8 @@ use Rattle.bt_actions.specs.declared.complaint.Complaint.TheVariants.{TicksPasse
 use Rattle.bt_actions.specs.Item.{Code, Name, Block}
 use Rattle.bt_actions.specs.World.{World, say}
 use Rattle.bt_actions.specs.Arguments.{as_number, as_code, taken, taken_two, taken_three}
-use Rattle.bt_machine.specs.declared.run.Frame.{Frame as HeldFrame}
-use Rattle.bt_machine.specs.declared.run.Element.{Element as HeldElement}
+use Rattle.bt_machine.specs.declared.control.Frame.{Frame as HeldFrame}
+use Rattle.bt_machine.specs.declared.control.Element.{Element as HeldElement}
 use Rattle.bt_machine.specs.Eval.{Counts, Ending, Done, Stopped, then_go, code_body, function_body, no_definition, run_with, by_sign, turn, looped, built_in, act, calls_after, eval}
 use Rattle.bt_machine.specs.inner.Cases.{finish_of}
 use Rattle.bt_machine.specs.Step.{counts_begun, step_begun, finished_at, step}

@@ -13,14 +13,14 @@ use Rattle.bt_actions.specs.World.{World}
 use Rattle.bt_actions.specs.View.{code_seen}
 use Rattle.bt_stack.specs.declared.state.State.{State}
 use Rattle.bt_stack.specs.View.{world_of}
-use Rattle.bt_machine.specs.declared.run.Frame.{Frame as HeldFrame}
-use Rattle.bt_machine.specs.declared.run.Element.{Element as HeldElement}
-use Rattle.bt_machine.specs.declared.run.Element.TheVariants as element
-use Rattle.bt_machine.specs.declared.run.Next.{Next}
-use Rattle.bt_machine.specs.declared.run.Next.TheVariants as next
-use Rattle.bt_machine.specs.declared.run.Due.{Due}
-use Rattle.bt_machine.specs.declared.run.Due.TheVariants as due
-use Rattle.bt_machine.specs.declared.run.Frame.TheVariants as held
+use Rattle.bt_machine.specs.declared.control.Frame.{Frame as HeldFrame}
+use Rattle.bt_machine.specs.declared.control.Element.{Element as HeldElement}
+use Rattle.bt_machine.specs.declared.control.Element.TheVariants as element
+use Rattle.bt_machine.specs.declared.calls.Next.{Next}
+use Rattle.bt_machine.specs.declared.calls.Next.TheVariants as next
+use Rattle.bt_machine.specs.declared.control.Due.{Due}
+use Rattle.bt_machine.specs.declared.control.Due.TheVariants as due
+use Rattle.bt_machine.specs.declared.control.Frame.TheVariants as held
 use Rattle.bt_machine.specs.Eval.{Counts, Ending, Done, Stopped, then_go, code_body, turn, eval, looped}
 use Rattle.bt_machine.specs.Step.{checked}
 

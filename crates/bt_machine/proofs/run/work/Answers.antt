@@ -6,10 +6,10 @@ use Rattle.bt_actions.specs.Item.{Name}
 use Rattle.bt_actions.specs.Tally.{with_call}
 use Rattle.bt_actions.specs.View.{code_seen}
 use Rattle.bt_stack.specs.View.{world_of}
-use Rattle.bt_machine.specs.declared.run.Frame.TheVariants as held
+use Rattle.bt_machine.specs.declared.control.Frame.TheVariants as held
 use Rattle.bt_actions.specs.declared.code.Code.TheVariants as code
-use Rattle.bt_machine.specs.declared.run.Next.{Next}
-use Rattle.bt_machine.specs.declared.run.Next.TheVariants as next
+use Rattle.bt_machine.specs.declared.calls.Next.{Next}
+use Rattle.bt_machine.specs.declared.calls.Next.TheVariants as next
 use Rattle.bt_machine.specs.Eval.{Ending, eval}
 use Rattle.bt_machine.specs.Step.{counts_begun}
 use Rattle.bt_machine.specs.inner.Loop.{Run, counts, IsDue, followed, kept, whole}

@@ -2,7 +2,7 @@ use Rattle.bt_actions.specs.View.{code_seen}
 use Rattle.bt_stack.specs.View.{world_of}
 use Rattle.bt_machine.specs.inner.Loop.{whole}
 use Rattle.bt_machine.proofs.LoopLemmas.{loop_leads}
-use Rattle.bt_machine.proofs.run.repeat.Goals as goal
+use Rattle.bt_machine.proofs.calls.repeat.Goals as goal
 
 pub returns-in_ok-first-in-Some-clause-leads : goal.returns-in_ok-first-in-Some-clause-leads
 returns-in_ok-first-in-Some-clause-leads c = λ p k.

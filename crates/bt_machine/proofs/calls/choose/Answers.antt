@@ -3,7 +3,7 @@ use Rattle.bt_actions.specs.View.{code_seen}
 use Rattle.bt_stack.specs.View.{world_of}
 use Rattle.bt_machine.specs.inner.Loop.{whole}
 use Rattle.bt_machine.proofs.LoopLemmas.{choice_leads}
-use Rattle.bt_machine.proofs.run.choose.Goals as goal
+use Rattle.bt_machine.proofs.calls.choose.Goals as goal
 
 pub returns-in_ok-body-in-Some-clause-leads : goal.returns-in_ok-body-in-Some-clause-leads
 returns-in_ok-body-in-Some-clause-leads c = λ p k.

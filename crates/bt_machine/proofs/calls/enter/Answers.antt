@@ -3,7 +3,7 @@ use Rattle.bt_style.specs.Tree.{ops_body}
 use Rattle.bt_machine.specs.Eval.{function_body}
 use Rattle.bt_machine.specs.inner.Loop.{kept, whole}
 use Rattle.bt_machine.proofs.LoopLemmas.{body_leads}
-use Rattle.bt_machine.proofs.run.enter.Goals as goal
+use Rattle.bt_machine.proofs.calls.enter.Goals as goal
 
 pub returns-clause-leads : goal.returns-clause-leads
 returns-clause-leads c = λ w k.

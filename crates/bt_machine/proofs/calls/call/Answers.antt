@@ -4,7 +4,7 @@ use Rattle.bt_style.specs.Program.{program_of}
 use Rattle.bt_stack.specs.View.{world_of}
 use Rattle.bt_machine.specs.Eval.{then_go, called, eval}
 use Rattle.bt_machine.specs.inner.Loop.{left, whole}
-use Rattle.bt_machine.proofs.run.call.Goals as goal
+use Rattle.bt_machine.proofs.calls.call.Goals as goal
 
 pub returns-in-Builtin-clause-leads : goal.returns-in-Builtin-clause-leads
 returns-in-Builtin-clause-leads c =

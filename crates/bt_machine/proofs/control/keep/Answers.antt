@@ -1,6 +1,6 @@
 use Rattle.std.proofs.Common.{◌≡◌, length, rules}
 use Rattle.bt_machine.proofs.LoopLemmas.{nothing_kept}
-use Rattle.bt_machine.proofs.run.keep.Goals as goal
+use Rattle.bt_machine.proofs.control.keep.Goals as goal
 
 pub returns-else-not-is_empty-clause-same : goal.returns-else-not-is_empty-clause-same
 returns-else-not-is_empty-clause-same c =

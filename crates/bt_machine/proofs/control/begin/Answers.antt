@@ -1,9 +1,9 @@
 use Rattle.std.proofs.Common.{[], ◌∷◌, refl}
-use Rattle.bt_machine.specs.declared.run.Frame.TheVariants as held
+use Rattle.bt_machine.specs.declared.control.Frame.TheVariants as held
 use Rattle.bt_actions.specs.View.{code_seen}
 use Rattle.bt_machine.specs.inner.Loop.{Run, whole}
 use Rattle.bt_machine.proofs.LoopLemmas.{kept_same, none_same}
-use Rattle.bt_machine.proofs.run.begin.Goals as goal
+use Rattle.bt_machine.proofs.control.begin.Goals as goal
 
 pub returns-in_ok-push-in-Name-clause-same : goal.returns-in_ok-push-in-Name-clause-same
 returns-in_ok-push-in-Name-clause-same c =

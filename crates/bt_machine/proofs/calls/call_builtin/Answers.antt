@@ -4,7 +4,7 @@ use Rattle.bt_style.specs.Program.{program_of}
 use Rattle.bt_stack.specs.View.{world_of}
 use Rattle.bt_machine.specs.Eval.{then_go, built_in, eval}
 use Rattle.bt_machine.specs.inner.Loop.{left, whole}
-use Rattle.bt_machine.proofs.run.call_builtin.Goals as goal
+use Rattle.bt_machine.proofs.calls.call_builtin.Goals as goal
 
 pub returns-in-CallType-clause-leads : goal.returns-in-CallType-clause-leads
 returns-in-CallType-clause-leads c =

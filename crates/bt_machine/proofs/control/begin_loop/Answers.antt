@@ -1,10 +1,10 @@
 use Rattle.std.proofs.Common.{[], ◌∷◌, refl}
 use Rattle.std.proofs.lemmas.Result.{IfOk-weaker}
 use Rattle.bt_actions.specs.View.{code_seen}
-use Rattle.bt_machine.specs.declared.run.Frame.TheVariants as held
+use Rattle.bt_machine.specs.declared.control.Frame.TheVariants as held
 use Rattle.bt_machine.specs.inner.Loop.{Run, Test, whole}
 use Rattle.bt_machine.proofs.LoopLemmas.{kept_same, none_same, same_join, same_under}
-use Rattle.bt_machine.proofs.run.begin_loop.Goals as goal
+use Rattle.bt_machine.proofs.control.begin_loop.Goals as goal
 
 pub returns-clause-same : goal.returns-clause-same
 returns-clause-same c =

@@ -3,7 +3,7 @@ use Rattle.std.specs.Prelude.{bytes_eq, codes, position}
 use Rattle.bt_style.specs.Program.{definition_of, program_of}
 use Rattle.bt_machine.specs.Eval.{default_type}
 use Rattle.bt_machine.proofs.Positions.{position-map}
-use Rattle.bt_machine.proofs.run.type_function.Goals as goal
+use Rattle.bt_machine.proofs.calls.type_function.Goals as goal
 
 pub returns-in-None : goal.returns-in-None
 returns-in-None c =

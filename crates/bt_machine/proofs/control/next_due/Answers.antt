@@ -1,10 +1,10 @@
 use Rattle.std.proofs.Common.{◌≡◌, [], ◌∷◌, ◌++◌, refl, ap, ◌∙◌, arith}
 use Rattle.std.proofs.lemmas.Grind.{common_steps}
 use Rattle.bt_actions.specs.declared.code.Code.TheVariants as code
-use Rattle.bt_machine.specs.declared.run.Element.TheVariants as element
-use Rattle.bt_machine.specs.declared.run.Frame.TheVariants as held
+use Rattle.bt_machine.specs.declared.control.Element.TheVariants as element
+use Rattle.bt_machine.specs.declared.control.Frame.TheVariants as held
 use Rattle.bt_machine.proofs.LoopLemmas.{as_many, due_element, due_frame, due_kept, due_nothing, no_more, one_less}
-use Rattle.bt_machine.proofs.run.next_due.Goals as goal
+use Rattle.bt_machine.proofs.control.next_due.Goals as goal
 
 pub returns-in-Some : goal.returns-in-Some
 returns-in-Some c =

@@ -1,0 +1,209 @@
+//! Calls of names, and the built-in functions that run others: `call.type$`, `if$` and `while$`. A function runs after
+//! the call has put it before what is left to do.
+
+ghost use Rattle.std.specs.Prelude.{◌≡◌, ◌+◌, ◌≤◌, length, bytes_eq, codes, position, IfOk, OnOk};
+ghost use Rattle.std.specs.Option.{option_or};
+ghost use Rattle.bt_style.specs.Program.{Program, program_of};
+ghost use Rattle.bt_style.specs.Tree.{ops_body};
+ghost use Rattle.bt_style.specs.declared.builtin.Builtin.TheVariants as builtin;
+ghost use Rattle.bt_actions.specs.View.{code_seen};
+ghost use Rattle.bt_machine.specs.Eval.{eval, called, built_in, by_sign, function_body, default_type};
+ghost use Rattle.bt_machine.specs.inner.Loop.{LeadsTo, Means};
+
+use crate::control::{Frame, begin, begin_loop, keep};
+use bt_actions::{Code, Complaint, Entry, Flow};
+use bt_stack::{
+    State, call_basic, call_entry_number, call_entry_text, call_field, call_global_number,
+    call_global_text, take_choice, take_loop,
+};
+use bt_style::{Builtin, Function, Op, Style, Target};
+use std::alloc::{AllocError, Global};
+
+/// What comes after an element.
+#[derive(Clone, Copy)]
+pub enum Next<'a> {
+    /// The rest of its body, or the end of the run.
+    Flow(Flow),
+    /// This body; the rest of the element's waits.
+    Body(&'a [Op]),
+}
+
+#[cold]
+fn find_default_type(functions: &[Function]) -> Option<usize>
+    ensures { result ≡ position (λ f. bytes_eq f.name (codes "default.type")) functions.now }
+{
+    functions.iter().position(|function| function.name.as_slice() == b"default.type".as_slice())
+}
+
+/// The number of the function that an entry's type calls, if there is one.
+fn type_function(entry: &Entry, style: &Style) -> Option<usize>
+    ensures { result ≡ option_or entry.now.function (default_type (program_of style.now).functions) }
+{
+    match entry.function {
+        Some(n) => Some(n),
+        None => find_default_type(&style.functions),
+    }
+}
+
+/// The body of the function of a number. One out of range stands for a function without elements.
+fn function_body(style: &Style, n: usize) -> &[Op]
+    ensures { ops_body result.now ≡ function_body (program_of style.now).functions n }
+{
+    if n < style.functions.len() {
+        &style.functions[n].body
+    } else {
+        &[]
+    }
+}
+
+/// Enters the function of a number.
+fn enter<'a>(
+    control: &mut Vec<Frame<'a>>,
+    style: &'a Style,
+    n: usize,
+    rest: &'a [Op],
+) -> Result<Next<'a>, AllocError>
+    ensures leads { let p = program_of style.now in IfOk result (λ next.
+        Means p (eval p (function_body p.functions n)) rest.now control.old.items next control.new.items) }
+    ensures more { OnOk result (length control.new.items ≤ length control.old.items + 4) }
+{
+    keep(control, rest)?;
+    Ok(Next::Body(function_body(style, n)))
+}
+
+/// `call.type$`.
+fn call_type<'a>(
+    state: &mut State<'a>,
+    control: &mut Vec<Frame<'a>>,
+    style: &'a Style,
+    rest: &'a [Op],
+) -> Result<Next<'a>, AllocError>
+    ensures leads { let p = program_of style.now in IfOk result (λ next. LeadsTo p state.old state.new
+        (built_in p (eval p) builtin.CallType) rest.now control.old.items next control.new.items) }
+    ensures more { OnOk result (length control.new.items ≤ length control.old.items + 4) }
+{
+    match state.entry {
+        None => {
+            state.tell(Complaint::NoEntry)?;
+            Ok(Next::Flow(Flow::Go))
+        }
+        Some(entry) => match type_function(entry, style) {
+            None => Ok(Next::Flow(Flow::Go)),
+            Some(n) => {
+                let next = enter(control, style, n, rest)?;
+                Ok(next)
+            }
+        },
+    }
+}
+
+/// The one of its functions that `if$` runs.
+fn chosen<'a>(number: i32, above: Code<'a>, other: Code<'a>) -> Code<'a>
+    ensures { code_seen result ≡ by_sign number (code_seen above.entry) (code_seen other.entry) }
+{
+    if number > 0 { above } else { other }
+}
+
+/// `if$`.
+fn choose<'a>(
+    state: &mut State<'a>,
+    control: &mut Vec<Frame<'a>>,
+    rest: &'a [Op],
+) -> Result<Next<'a>, AllocError>
+    ensures leads { (p : Program) → IfOk result (λ next. LeadsTo p state.old state.new
+        (built_in p (eval p) builtin.If) rest.now control.old.items next control.new.items) }
+    ensures more { OnOk result (length control.new.items ≤ length control.old.items + 4) }
+{
+    match take_choice(state)? {
+        None => Ok(Next::Flow(Flow::Go)),
+        Some((number, above, other)) => {
+            let code = chosen(number, above, other);
+            let body = begin(control, rest, code)?;
+            Ok(Next::Body(body))
+        }
+    }
+}
+
+/// `while$`.
+fn repeat<'a>(
+    state: &mut State<'a>,
+    control: &mut Vec<Frame<'a>>,
+    rest: &'a [Op],
+) -> Result<Next<'a>, AllocError>
+    ensures leads { (p : Program) → IfOk result (λ next. LeadsTo p state.old state.new
+        (built_in p (eval p) builtin.While) rest.now control.old.items next control.new.items) }
+    ensures more { OnOk result (length control.new.items ≤ length control.old.items + 4) }
+{
+    match take_loop(state)? {
+        None => Ok(Next::Flow(Flow::Go)),
+        Some((test, body)) => {
+            let first = begin_loop(control, rest, test, body)?;
+            Ok(Next::Body(first))
+        }
+    }
+}
+
+#[inline(always)]
+fn call_builtin<'a>(
+    state: &mut State<'a>,
+    control: &mut Vec<Frame<'a>>,
+    alloc: Global,
+    style: &'a Style,
+    builtin: Builtin,
+    rest: &'a [Op],
+) -> Result<Next<'a>, AllocError>
+    ensures leads { let p = program_of style.now in IfOk result (λ next. LeadsTo p state.old state.new
+        (built_in p (eval p) builtin) rest.now control.old.items next control.new.items) }
+    ensures more { OnOk result (length control.new.items ≤ length control.old.items + 4) }
+{
+    match builtin {
+        Builtin::CallType => call_type(state, control, style, rest),
+        Builtin::If => choose(state, control, rest),
+        Builtin::While => repeat(state, control, rest),
+        _ => Ok(Next::Flow(call_basic(state, alloc, style, builtin)?)),
+    }
+}
+
+#[inline(always)]
+pub fn call<'a>(
+    state: &mut State<'a>,
+    control: &mut Vec<Frame<'a>>,
+    alloc: Global,
+    style: &'a Style,
+    target: Target,
+    rest: &'a [Op],
+) -> Result<Next<'a>, AllocError>
+    ensures leads { let p = program_of style.now in IfOk result (λ next. LeadsTo p state.old state.new
+        (called p (eval p) target) rest.now control.old.items next control.new.items) }
+    ensures more { OnOk result (length control.new.items ≤ length control.old.items + 4) }
+{
+    match target {
+        Target::Builtin(builtin) => call_builtin(state, control, alloc, style, builtin, rest),
+        Target::Field(n) => Ok(Next::Flow(call_field(state, n)?)),
+        Target::EntryNumber(n) => Ok(Next::Flow(call_entry_number(state, n)?)),
+        Target::EntryText(n) => Ok(Next::Flow(call_entry_text(state, n)?)),
+        Target::GlobalNumber(n) => Ok(Next::Flow(call_global_number(state, n)?)),
+        Target::GlobalText(n) => Ok(Next::Flow(call_global_text(state, n)?)),
+        Target::Function(n) => {
+            let next = enter(control, style, n, rest)?;
+            Ok(next)
+        }
+    }
+}
+
+/// Calls a quoted name. It stands apart, so that `call` is inlined into the loop once.
+#[inline(never)]
+pub fn call_quoted<'a>(
+    state: &mut State<'a>,
+    control: &mut Vec<Frame<'a>>,
+    alloc: Global,
+    style: &'a Style,
+    target: Target,
+    rest: &'a [Op],
+) -> Result<Next<'a>, AllocError>
+    ensures leads { let p = program_of style.now in IfOk result (λ next. LeadsTo p state.old state.new
+        (called p (eval p) target) rest.now control.old.items next control.new.items) }
+    ensures more { OnOk result (length control.new.items ≤ length control.old.items + 4) }
+{
+    call(state, control, alloc, style, target, rest)
+}
