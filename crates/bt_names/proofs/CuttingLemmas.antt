@@ -43,9 +43,6 @@ sections_comma t block u e h = ap (slice_split is_comma) e ∙ slice_split-cons_
 pub first_section_comma : (t block u : List ℕ) → blocks t ≡ block ∷ blocks u → is_comma block ≡ true → first_section t ≡ []
 first_section_comma t block u e h = ap (λ l. slice_index_or l 0 []) (sections_comma t block u e h)
 
-pub other_sections_comma : (t block u : List ℕ) → blocks t ≡ block ∷ blocks u → is_comma block ≡ true → other_sections t ≡ sections_from u
-other_sections_comma t block u e h = ap (drop 1) (sections_comma t block u e h)
-
 -- ---- runs
 
 -- a run, of which the first bytes are given

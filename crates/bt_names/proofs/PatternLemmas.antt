@@ -1,16 +1,14 @@
 -- Letters and faults of a pattern.
-use Rattle.std.proofs.Common.{◌≡◌, ◌⊎◌, inl, inr, ℕ, suc, ◌+◌, ◌-◌, ◌<◌, ◌≤◌, Bool, true, false, cond, eqb, ◌&&◌, List, [], ◌∷◌, length, get_or, take, drop, filter, Option, None, Some, refl, sym, ap, ◌∙◌, arith, slice_get}
+use Rattle.std.proofs.Common.{◌≡◌, ◌⊎◌, inl, inr, ℕ, suc, ◌+◌, ◌-◌, ◌<◌, ◌≤◌, Bool, true, false, cond, eqb, ◌&&◌, List, [], ◌∷◌, length, get_or, take, drop, filter, Option, Some, sym, ap, ◌∙◌, arith, slice_get}
 use Rattle.std.specs.List.{range_with_len}
-use Rattle.std.proofs.lemmas.List.{drop-drop, get_or_past}
+use Rattle.std.proofs.lemmas.List.{get_or_past}
 use Rattle.std.proofs.lemmas.Bool.{cases_lt, true≢false, false≢true, cases_Bool, cond-true, cond-false, eqb-true, eq-eqb, and_from}
 use Rattle.std.proofs.lemmas.Bool.Decides.{nat_tests}
 use Rattle.bt_text.specs.ByteTests.{is_letter}
-use Rattle.bt_text.specs.Blocks.{blocks}
 use Rattle.std.specs.Char.{to_ascii_lowercase}
 use Rattle.bt_text.specs.Depth.{depth, depth_after}
 use Rattle.bt_text.proofs.BlockLemmas.{depth_take}
-use Rattle.std.specs.Option.{option_or}
-use Rattle.bt_names.specs.Patterns.{block_fault, fault_of_blocks, is_doubled_at, letter_fault, letter_places, names_part, letters_from, moved_by, pattern_fault}
+use Rattle.bt_names.specs.Patterns.{is_doubled_at, letter_fault, letter_places, names_part, letters_from}
 use Rattle.bt_names.specs.inner.Patterns.{IsLetterPlace}
 
 pub letters_more : (t : List ℕ) (i : ℕ) → i < length t → letters_from t i ≡ cond (is_letter (get_or t i 0) && eqb (depth (take i t)) 0) (i ∷ letters_from t (i + 1)) (letters_from t (i + 1))
@@ -78,29 +76,3 @@ pub second_fault : (t : List ℕ) (i e : ℕ) (o : Option ℕ) → letters_from 
 second_fault t i e o f n g h =
     let others = letters_from t (i + 1) in
     h ∙ ap (λ l. slice_get l 0) (sym g) ∙ sym (cond-true (names_part (get_or t i 0)) (slice_get (cond (is_doubled_at t i) (drop 1 others) others) 0) (Some i) n) ∙ ap (letter_fault t) (sym f)
-
-moved_none : (o : Option ℕ) → moved_by 0 o ≡ o
-moved_none None = refl
-moved_none (Some i) =
-    let same : 0 + i ≡ i = omega arith in
-    ap Some same
-
-moved_more : (a b : ℕ) (o : Option ℕ) → moved_by a (moved_by b o) ≡ moved_by (a + b) o
-moved_more a b None = refl
-moved_more a b (Some i) =
-    let same : a + (b + i) ≡ a + b + i = omega arith in
-    ap Some same
-
-pub pattern_fault_start : (t : List ℕ) → moved_by 0 (fault_of_blocks (blocks t)) ≡ pattern_fault t
-pattern_fault_start t = moved_none (fault_of_blocks (blocks t))
-
--- the step of a loop over the blocks, where a block has a fault and where it has none
-pub fault_here : (t : List ℕ) (i n place : ℕ) (all : Option ℕ) → blocks (drop i t) ≡ take n (drop i t) ∷ blocks (drop n (drop i t)) → block_fault (take n (drop i t)) ≡ Some place → moved_by i (fault_of_blocks (blocks (drop i t))) ≡ all → Some (i + place) ≡ all
-fault_here t i n place all e f g =
-    let rest = moved_by (length (take n (drop i t))) (fault_of_blocks (blocks (drop n (drop i t)))) in
-    ap (λ o. moved_by i (option_or o rest)) (sym f) ∙ ap (λ bs. moved_by i (fault_of_blocks bs)) (sym e) ∙ g
-
-pub fault_behind : (t : List ℕ) (i n : ℕ) (all : Option ℕ) → length (take n (drop i t)) ≡ n → blocks (drop i t) ≡ take n (drop i t) ∷ blocks (drop n (drop i t)) → block_fault (take n (drop i t)) ≡ None → moved_by i (fault_of_blocks (blocks (drop i t))) ≡ all → moved_by (i + n) (fault_of_blocks (blocks (drop (i + n) t))) ≡ all
-fault_behind t i n all k e f g =
-    let rest = fault_of_blocks (blocks (drop n (drop i t))) in
-    ap (λ s. moved_by (i + n) (fault_of_blocks (blocks s))) (sym (drop-drop n i t)) ∙ sym (moved_more i n rest) ∙ ap (λ n. moved_by i (moved_by n rest)) (sym k) ∙ ap (λ o. moved_by i (option_or o (moved_by (length (take n (drop i t))) rest))) (sym f) ∙ ap (λ bs. moved_by i (fault_of_blocks bs)) (sym e) ∙ g

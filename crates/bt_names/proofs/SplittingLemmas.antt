@@ -1,17 +1,15 @@
 -- The parts of a name.
-use Rattle.std.proofs.Common.{◌≡◌, ◌⊎◌, inl, inr, ℕ, ◌+◌, ◌-◌, ◌<◌, ◌≤◌, Bool, true, false, cond, eqb, not, List, [], ◌∷◌, ◌++◌, length, take, drop, filter, count_by, None, Some, is_some, refl, sym, ap, ◌∙◌, arith}
+use Rattle.std.proofs.Common.{◌≡◌, ◌⊎◌, inl, inr, ℕ, ◌+◌, ◌<◌, ◌≤◌, Bool, true, false, cond, eqb, not, List, [], ◌∷◌, ◌++◌, length, filter, count_by, None, Some, is_some, refl, sym, ap, ◌∙◌, arith}
 use Rattle.std.specs.List.{slice_split}
-use Rattle.std.proofs.lemmas.List.{drop-take, take-take}
 use Rattle.std.proofs.lemmas.List.Sums.{sum_by-cons}
 use Rattle.std.proofs.lemmas.List.Splits.{length-slice_split}
-use Rattle.std.proofs.lemmas.Bool.{true≢false, cases_Bool, eqb-true}
+use Rattle.std.proofs.lemmas.Bool.{cases_Bool, eqb-true}
 use Rattle.bt_text.specs.Blocks.{blocks}
 use Rattle.bt_names.specs.declared.tokens.Token.{Token}
 use Rattle.bt_names.specs.Cuts.{is_single, kept_blocks, runs, sections, tokens, lead_after}
 use Rattle.bt_names.specs.inner.Cases.{is_comma}
 use Rattle.bt_names.specs.inner.Cuts.{sections_from, first_section, other_sections}
-use Rattle.bt_names.specs.declared.tokens.Parts.{Parts}
-use Rattle.bt_names.specs.NameParts.{parts_of, parts_of_sections, split_at_two, with_commas, without_comma}
+use Rattle.bt_names.specs.NameParts.{parts_of, parts_of_sections, with_commas, without_comma}
 use Rattle.bt_names.proofs.StrayLemmas.{is_kept}
 use Rattle.bt_names.proofs.CuttingLemmas.{sections_is}
 
@@ -68,17 +66,6 @@ parts_of_three name kept rest behind front second third few e f g h k m =
     let three : sections name ≡ first_section kept ∷ first_section rest ∷ first_section behind ∷ other_sections behind = sections_kept name kept e ∙ ap (λ ss. first_section kept ∷ ss) (f ∙ sections_is rest ∙ ap (λ ss. first_section rest ∷ ss) (g ∙ sections_is behind)) in
     let none : other_sections behind ≡ [] = last_section (other_sections behind) (omega (arith, few, length-sections name, ap length three)) in
     ap parts_of_sections (three ∙ ap (λ ss. first_section kept ∷ first_section rest ∷ first_section behind ∷ ss) none) ∙ ap (λ ws. Some (with_commas ws (tokens (lead_after ws) (runs (first_section rest))) (tokens (lead_after (ws ++ tokens (lead_after ws) (runs (first_section rest)))) (runs (first_section behind))))) (sym h) ∙ ap (λ ws. Some (with_commas front ws (tokens (lead_after (front ++ ws)) (runs (first_section behind))))) (sym k) ∙ ap (λ ws. Some (with_commas front second ws)) (sym m)
-
-pub lead_two : (front second : List Token) → eqb (length front) 0 ≡ false → 44 ≡ lead_after (front ++ second)
-lead_two [] second h = absurd (true≢false h)
-lead_two (w ∷ ws) second h = refl
-
-pub parts_cut : (first von last jr ws : List Token) (a b : ℕ) → a ≤ b → first ≡ take a (take b ws) → von ≡ drop a (take b ws) → last ≡ drop b ws → jr ≡ [] → let parts : Parts = record { first = first; von = von; last = last; jr = jr } in parts ≡ split_at_two ws a b
-parts_cut first von last jr ws a b h e f g k =
-    let whole : a + (b - a) ≡ b = omega arith in
-    let front = e ∙ take-take a b ws h in
-    let middle = f ∙ ap (λ n. drop a (take n ws)) (sym whole) ∙ drop-take a (b - a) ws in
-    rw (front, middle, g, k) refl
 
 parts_of_few : (ss : List (List (List ℕ))) → 0 < length ss → length ss ≤ 3 → is_some (parts_of_sections ss) ≡ true
 parts_of_few [] h g = absurd (omega arith)

@@ -1,6 +1,6 @@
 //! The parts of a name, and a name in a pattern.
 
-ghost use Rattle.std.specs.Prelude.{◌≡◌, IfErr, IfNone, IfOk, IfSome, IsOk, IsOkAnd, Err, Ok};
+ghost use Rattle.std.specs.Prelude.{◌≡◌, IfErr, IfNone, IfOk, IfSome, IsOk, IsOkAnd, Ok};
 ghost use Rattle.bt_names.specs.FormattedName.{formatted_name, name_parts, IsFormatFault, IsNameFault};
 ghost use Rattle.bt_names.specs.Written.{IsKept, IsWritten};
 

@@ -1,6 +1,6 @@
 //! A pattern, read once: its pieces say what it gives for each name.
 
-ghost use Rattle.std.specs.Prelude.{◌≡◌, ◌<◌, IfOk, drop, flat_map, length, slice_index};
+ghost use Rattle.std.specs.Prelude.{◌≡◌, IfOk, drop, flat_map};
 ghost use Rattle.bt_text.specs.Blocks.{begins_group};
 ghost use Rattle.bt_names.specs.declared.tokens.Parts.{Parts};
 ghost use Rattle.bt_names.specs.Groups.{block_output, formatted, group_output, part_named, with_tokens};
