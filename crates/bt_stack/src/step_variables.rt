@@ -11,6 +11,10 @@ use bt_actions::Variables;
 use bt_text::{Bytes, Shared, TEXT_BYTES, Values};
 use std::alloc::AllocError;
 
+/// For how many variables there is room once a step gives a value to the first. Most styles have fewer; texts of so many
+/// variables are 1,008 bytes.
+const FIRST_VARIABLES: usize = 42;
+
 /// Variables, and the values that a step gave to some of them, each by the number of its variable. A variable after the
 /// end of `numbers` or `texts` has none, and neither has one whose place holds `None` or a kept value that is no text.
 #[derive(Drop)]
@@ -94,6 +98,17 @@ pub fn text_of<'a>(
     }
 }
 
+/// Gives an empty vector room for the values of the first variables.
+fn make_room<T: Drop>(values: &mut Vec<T>, count: usize) -> Result<(), AllocError>
+    ensures { values.new.items ≡ values.old.items }
+{
+    if values.is_empty() {
+        values.reserve(count.min(FIRST_VARIABLES))
+    } else {
+        Ok(())
+    }
+}
+
 /// Gives a value to number variable `n` of `count`, if there is one.
 #[tactic(auto, using(crate::proofs::VariableLemmas::numbers_padded, crate::proofs::VariableLemmas::numbers_set, crate::proofs::VariableLemmas::numbers_past))]
 pub fn set_number(
@@ -107,6 +122,7 @@ pub fn set_number(
     ensures err { OnErr result ((zs : List ℤ) → numbers_over numbers.new.items zs ≡ numbers_over numbers.old.items zs) }
 {
     if n < count {
+        make_room(numbers, count)?;
         'numbers: while numbers.len() <= n {
             numbers.push(None)?;
         }
@@ -132,6 +148,7 @@ pub fn set_text<'a>(
     ensures fit { (size : ℕ) → Fits size value.entry → AllFit size texts.old.items → AllFit size texts.new.items }
 {
     if n < count {
+        make_room(texts, count)?;
         'texts: while texts.len() <= n {
             texts.push(Value::Missing(0))?;
         }

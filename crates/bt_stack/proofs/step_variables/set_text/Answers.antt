@@ -6,6 +6,18 @@ use Rattle.bt_stack.proofs.TopLemmas.{fit_pushed}
 use Rattle.bt_stack.proofs.VariableLemmas.{texts_padded}
 use Rattle.bt_stack.proofs.step_variables.set_text.Goals as goal
 
+pub returns-in_err-make_room-clause-fit : goal.returns-in_err-make_room-clause-fit
+returns-in_err-make_room-clause-fit c = λ size fits all.
+    let P : List Value → Type 0 = λ l. AllFit size l in
+    subst P (sym c.in_err-make_room.ensures) all
+
+pub texts-init : goal.texts-init
+texts-init c =
+    record {
+      same = λ pool ts. ap (λ l. texts_over pool l ts) c.in_ok-make_room.ensures;
+      fit = λ size all. let P : List Value → Type 0 = λ l. AllFit size l in subst P (sym c.in_ok-make_room.ensures) all;
+    }
+
 pub texts-preserved : goal.texts-preserved
 texts-preserved c =
     record {
