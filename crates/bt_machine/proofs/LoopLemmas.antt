@@ -20,6 +20,7 @@ use Rattle.bt_actions.specs.World.{World, say}
 use Rattle.bt_actions.specs.Arguments.{as_number, as_code, taken, taken_two, taken_three}
 use Rattle.bt_machine.specs.declared.control.Frame.{Frame as HeldFrame}
 use Rattle.bt_machine.specs.declared.control.Element.{Element as HeldElement}
+use Rattle.bt_stack.specs.Choice.{chosen_of}
 use Rattle.bt_machine.specs.Eval.{Counts, Ending, Done, Stopped, then_go, code_body, function_body, no_definition, run_with, by_sign, turn, looped, built_in, act, calls_after, eval}
 use Rattle.bt_machine.specs.inner.Cases.{finish_of}
 use Rattle.bt_machine.specs.Step.{counts_begun, step_begun, finished_at, step}
@@ -156,12 +157,25 @@ loop_leads p test body fs gs w w' k took same =
     ∙ loop_same p test body fs w' k
     ∙ ap (λ q. then_go (run_with (λ codes. looped (eval p) codes.0 codes.1) q k) (left p fs)) took
 
--- one of two functions was put before what is left
-pub choice_leads : (p : Program) (n m : ℤ) (above other code : Code) (fs gs : List Frame) (w w' : World) (k : Counts) → (Some (n, above, other), w') ≡ taken_three If as_number as_code as_code w → m ≡ n → code ≡ by_sign m above other → SameLeft gs (Run code ∷ fs) → left p gs w' k ≡ then_go (built_in p (eval p) If w k) (left p fs)
-choice_leads p n m above other code fs gs w w' k took is_n is_code same =
-    same p w' k
-    ∙ ap (λ c. then_go (eval p (code_body c) w' k) (left p fs)) (is_code ∙ ap (λ n. by_sign n above other) is_n)
-    ∙ ap (λ q. then_go (run_with (λ all. eval p (code_body (by_sign all.0 all.1 all.2))) q k) (left p fs)) took
+-- the function that was taken is the one that runs
+chosen_runs : (p : Program) (q : Option (ℤ × Code × Code) × World) (k : Counts) → run_with (λ c. eval p (code_body c)) (chosen_of q) k ≡ run_with (λ all. eval p (code_body (by_sign all.0 all.1 all.2))) q k
+chosen_runs p (None, w) k = refl
+chosen_runs p (Some (pos zero, above, other), w) k = refl
+chosen_runs p (Some (pos (suc n), above, other), w) k = refl
+chosen_runs p (Some (negsuc n, above, other), w) k = refl
+
+choice_runs : (p : Program) (o : Option Code) (fs : List Frame) (w w' : World) (k : Counts) → ◌≡◌ {A = Option Code × World} (o, w') (chosen_of (taken_three If as_number as_code as_code w)) → then_go (run_with (λ c. eval p (code_body c)) (o, w') k) (left p fs) ≡ then_go (built_in p (eval p) If w k) (left p fs)
+choice_runs p o fs w w' k took =
+    ap (λ q. then_go (run_with (λ c. eval p (code_body c)) q k) (left p fs)) took
+    ∙ ap (λ o. then_go o (left p fs)) (chosen_runs p (taken_three If as_number as_code as_code w) k)
+
+-- a function was put before what is left
+pub choice_leads : (p : Program) (code : Code) (fs gs : List Frame) (w w' : World) (k : Counts) → ◌≡◌ {A = Option Code × World} (Some code, w') (chosen_of (taken_three If as_number as_code as_code w)) → SameLeft gs (Run code ∷ fs) → left p gs w' k ≡ then_go (built_in p (eval p) If w k) (left p fs)
+choice_leads p code fs gs w w' k took same = same p w' k ∙ choice_runs p (Some code) fs w w' k took
+
+-- there is none
+pub no_choice_leads : (p : Program) (fs : List Frame) (w w' : World) (k : Counts) → ◌≡◌ {A = Option Code × World} (None, w') (chosen_of (taken_three If as_number as_code as_code w)) → left p fs w' k ≡ then_go (built_in p (eval p) If w k) (left p fs)
+no_choice_leads p fs w w' k took = choice_runs p None fs w w' k took
 
 -- a body was put before what is left
 pub body_leads : (p : Program) (b b' : Body) (fs gs : List Frame) (w : World) (k : Counts) → b ≡ b' → SameLeft gs fs → left p (Run (Block b) ∷ gs) w k ≡ then_go (eval p b' w k) (left p fs)

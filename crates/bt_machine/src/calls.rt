@@ -6,8 +6,7 @@ ghost use Rattle.std.specs.Option.{option_or};
 ghost use Rattle.bt_style.specs.Program.{Program, program_of};
 ghost use Rattle.bt_style.specs.Tree.{ops_body};
 ghost use Rattle.bt_style.specs.declared.builtin.Builtin.TheVariants as builtin;
-ghost use Rattle.bt_actions.specs.View.{code_seen};
-ghost use Rattle.bt_machine.specs.Eval.{eval, called, built_in, by_sign, function_body, default_type};
+ghost use Rattle.bt_machine.specs.Eval.{eval, called, built_in, function_body, default_type};
 ghost use Rattle.bt_machine.specs.inner.Loop.{LeadsTo, Means};
 
 use crate::control::{Frame, begin, begin_loop, keep};
@@ -97,13 +96,6 @@ fn call_type<'a>(
     }
 }
 
-/// The one of its functions that `if$` runs.
-fn chosen<'a>(number: i32, above: Code<'a>, other: Code<'a>) -> Code<'a>
-    ensures { code_seen result ≡ by_sign number (code_seen above.entry) (code_seen other.entry) }
-{
-    if number > 0 { above } else { other }
-}
-
 /// `if$`.
 fn choose<'a>(
     state: &mut State<'a>,
@@ -116,8 +108,7 @@ fn choose<'a>(
 {
     match take_choice(state)? {
         None => Ok(Next::Flow(Flow::Go)),
-        Some((number, above, other)) => {
-            let code = chosen(number, above, other);
+        Some(code) => {
             let body = begin(control, rest, code)?;
             Ok(Next::Body(body))
         }

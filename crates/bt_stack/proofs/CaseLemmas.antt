@@ -1,5 +1,5 @@
 -- A change of case that two values ask for.
-use Rattle.std.proofs.Common.{◌≡◌, ◌≤◌, ℕ, Bool, true, false, List, [], ◌∷◌, length, drop, Result, Ok, Err, refl, ap, sym, subst, ◌∙◌, arith}
+use Rattle.std.proofs.Common.{◌≡◌, ◌≤◌, ℕ, true, false, List, [], ◌∷◌, length, drop, Result, refl, ap, sym, subst, ◌∙◌, arith}
 use Rattle.std.specs.Prelude.{Option, Some, None, option_map, option_and_then, slice_get, is_none, nat_lt, nat_le, if◌then◌else◌, ◌||◌}
 use Rattle.std.specs.Option.{option_zip}
 use Rattle.std.proofs.lemmas.Option.{none-some, same_Some}

@@ -1,4 +1,5 @@
 mod CaseLemmas
+mod ChoiceLemmas
 mod FormLemmas
 mod GrowLemmas
 mod JoinLemmas

@@ -1,5 +1,6 @@
 pub mod Desk
 pub mod Tops
 pub mod Forms
+pub mod Choice
 pub mod View
 pub mod inner
