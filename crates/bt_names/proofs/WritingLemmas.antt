@@ -1,11 +1,13 @@
 -- Texts that are longer than a limit.
-use Rattle.std.proofs.Common.{◌≡◌, ℕ, suc, ◌+◌, ◌-◌, ◌*◌, ◌<◌, ◌≤◌, Bool, true, false, cond, List, [], ◌∷◌, ◌++◌, get_or, length, map, take, drop, flat_map, subst, sym, ap, ◌∙◌, arith, length-append}
+use Rattle.std.proofs.Common.{◌≡◌, ℕ, suc, ◌+◌, ◌-◌, ◌*◌, ◌<◌, ◌≤◌, Bool, true, false, cond, List, [], ◌∷◌, ◌++◌, length, map, take, flat_map, subst, sym, ap, ◌∙◌, arith, length-append}
 use Rattle.std.proofs.lemmas.Bool.{true≢false}
 use native.Mathlib.Nat.{suc-mul, zero-mul}
-use Rattle.std.proofs.lemmas.List.{drop_more, length-map, length-take-le, take-append-le}
+use Rattle.std.proofs.lemmas.List.{length-map, length-take-le, take-append-le}
 use Rattle.std.proofs.Math.Seq.{take-append_seam}
 use Rattle.bt_names.specs.declared.tokens.Token.{Token}
-use Rattle.bt_names.specs.Groups.{ends_in_tie, group_finished, put_in}
+use Rattle.bt_text.specs.Blocks.{blocks}
+use Rattle.bt_names.specs.declared.tokens.Parts.{Parts}
+use Rattle.bt_names.specs.Groups.{block_output, ends_in_tie, formatted, group_finished, put_in}
 use Rattle.bt_names.specs.Joints.{by_text, is_short, joined}
 use Rattle.bt_names.specs.inner.Spelling.{between_of, spell}
 
@@ -50,17 +52,19 @@ own_longer limit true whole own before ws behind e h =
     put_in_long limit own before (map (spell whole) ws) behind (subst (λ k. limit + 1 < (k - 1) * length own) (sym same) h)
 own_longer limit false whole own before ws behind e h = absurd (true≢false (sym e))
 
+-- What a pattern gives, by its first block.
+pub first_given : (parts : Parts) (t block behind given : List ℕ) → blocks t ≡ block ∷ blocks behind → given ≡ block_output parts block → formatted parts t ≡ given ++ formatted parts behind
+first_given parts t block behind given e is = ap (flat_map (block_output parts)) e ∙ ap (λ (l : List ℕ). l ++ formatted parts behind) (sym is)
+
 -- Where a piece is longer than the limit, the whole is.
-pub piece_longer : {X : Type 0} (f : X → List ℕ) (xs : List X) (i limit : ℕ) (x d : X) (old out all : List ℕ) → i < length xs → x ≡ get_or xs i d → out ++ flat_map f (drop i xs) ≡ old ++ all → length old ≤ length out → limit < length (f x) → limit < length all
-piece_longer f xs i limit x d old out all h is so_far grown long =
-    let here : flat_map f (drop i xs) ≡ f x ++ flat_map f (drop (i + 1) xs) = ap (flat_map f) (drop_more xs i d h ∙ ap (λ y. y ∷ drop (i + 1) xs) (sym is)) in
-    omega (arith, long, grown, ap length so_far, length-append out (flat_map f (drop i xs)), length-append old all, ap length here, length-append (f x) (flat_map f (drop (i + 1) xs)))
+pub piece_longer : (limit : ℕ) (out left given behind old all : List ℕ) → left ≡ given ++ behind → out ++ left ≡ old ++ all → length old ≤ length out → limit < length given → limit < length all
+piece_longer limit out left given behind old all cut so_far grown long =
+    omega (arith, long, grown, ap length so_far, length-append out left, length-append old all, ap length cut, length-append given behind)
 
 -- Where what was written is longer than the limit, the whole is.
-pub written_longer : {X : Type 0} (f : X → List ℕ) (xs : List X) (i limit : ℕ) (x d : X) (old out new all : List ℕ) → i < length xs → x ≡ get_or xs i d → out ++ flat_map f (drop i xs) ≡ old ++ all → new ≡ out ++ f x → limit < length new - length old → limit < length all
-written_longer f xs i limit x d old out new all h is so_far grown long =
-    let here : flat_map f (drop i xs) ≡ f x ++ flat_map f (drop (i + 1) xs) = ap (flat_map f) (drop_more xs i d h ∙ ap (λ y. y ∷ drop (i + 1) xs) (sym is)) in
-    omega (arith, long, ap length grown, length-append out (f x), ap length so_far, length-append out (flat_map f (drop i xs)), length-append old all, ap length here, length-append (f x) (flat_map f (drop (i + 1) xs)))
+pub written_longer : (limit : ℕ) (out left given behind old all new : List ℕ) → left ≡ given ++ behind → out ++ left ≡ old ++ all → new ≡ out ++ given → limit < length new - length old → limit < length all
+written_longer limit out left given behind old all new cut so_far grown long =
+    omega (arith, long, ap length grown, length-append out given, ap length so_far, length-append out left, length-append old all, ap length cut, length-append given behind)
 
 -- What was written so far still begins with the old bytes.
 pub begins_with : (old out more all : List ℕ) → out ++ more ≡ old ++ all → length old ≤ length out → take (length old) out ≡ old

@@ -67,7 +67,7 @@ pub fn push_formatted(
     }
     let name = Name::new(alloc, name)?;
     let cut = cut_name(alloc, &name)?;
-    let written = push_pieces(out, limit, &cut.parts(), pattern.pieces())?;
+    let written = push_pieces(out, limit, &cut.parts(), pattern.bytes())?;
     Ok(written)
 }
 

@@ -1,9 +1,9 @@
-//! A pattern, read once: its pieces say what it gives for each name.
+//! A pattern, and the pieces that it is made of.
 
-ghost use Rattle.std.specs.Prelude.{◌≡◌, IfOk, drop, flat_map};
+ghost use Rattle.std.specs.Prelude.{◌≡◌, drop};
 ghost use Rattle.bt_text.specs.Blocks.{begins_group};
 ghost use Rattle.bt_names.specs.declared.tokens.Parts.{Parts};
-ghost use Rattle.bt_names.specs.Groups.{block_output, formatted, group_output, part_named, with_tokens};
+ghost use Rattle.bt_names.specs.Groups.{block_output, group_output, part_named, with_tokens};
 ghost use Rattle.bt_names.specs.Patterns.{letter_places};
 ghost use Rattle.bt_names.specs.Spelling.{first_block, spelled};
 ghost use Rattle.bt_names.specs.inner.Pieces.{piece_output};
@@ -96,7 +96,8 @@ fn group_of(text: &[u8]) -> Piece<'_>
     }
 }
 
-fn piece_of(block: &[u8]) -> Piece<'_>
+/// A block of a pattern.
+pub fn piece_of(block: &[u8]) -> Piece<'_>
     ensures { (parts : Parts) → piece_output parts result ≡ block_output parts block.now }
 {
     if begins_group(block) {
@@ -106,61 +107,34 @@ fn piece_of(block: &[u8]) -> Piece<'_>
     }
 }
 
-fn pieces_of<'p>(alloc: Global, pattern: &'p [u8]) -> Result<Vec<Piece<'p>>, AllocError>
-    ensures { IfOk result (λ pieces. (parts : Parts) →
-        flat_map (piece_output parts) pieces.items ≡ formatted parts pattern.now) }
-{
-    let mut pieces = Vec::new(alloc);
-    let mut rest = pattern;
-    'walk: while !rest.is_empty() {
-        let (block, behind) = rest.split_at(first_len(rest));
-        pieces.push(piece_of(block))?;
-        rest = behind;
-    }
-    Ok(pieces)
-}
-
-/// A pattern with its first fault and its pieces. Contracts see its bytes.
+/// A pattern with its first fault. Contracts see its bytes.
 #[derive(Drop)]
 pub struct Pattern<'p> {
     bytes: &'p [u8],
     fault: Option<usize>,
-    pieces: Vec<Piece<'p>>,
 }
 
 impl<'p> Model for Pattern<'p> {
-    ghost use Rattle.std.specs.Prelude.{◌≡◌, List, ℕ, flat_map};
-    ghost use Rattle.bt_names.specs.declared.tokens.Parts.{Parts};
-    ghost use Rattle.bt_names.specs.Groups.{formatted};
+    ghost use Rattle.std.specs.Prelude.{◌≡◌, List, ℕ};
     ghost use Rattle.bt_names.specs.Patterns.{pattern_fault};
-    ghost use Rattle.bt_names.specs.inner.Pieces.{piece_output};
 
     ghost Value = { List ℕ };
 
     ghost view = { λ pattern. pattern.bytes.now };
 
-    ghost invariant = { λ pattern. (pattern.fault ≡ pattern_fault pattern.bytes.now)
-        × ((parts : Parts) → flat_map (piece_output parts) pattern.pieces.items ≡ formatted parts pattern.bytes.now) };
+    ghost invariant = { λ pattern. pattern.fault ≡ pattern_fault pattern.bytes.now };
 }
 
 impl<'p> Pattern<'p> {
-    ghost use Rattle.std.specs.Prelude.{◌≡◌, IfOk, flat_map};
-    ghost use Rattle.bt_names.specs.declared.tokens.Parts.{Parts};
-    ghost use Rattle.bt_names.specs.Groups.{formatted};
+    ghost use Rattle.std.specs.Prelude.{◌≡◌, IfOk};
     ghost use Rattle.bt_names.specs.Patterns.{pattern_fault};
-    ghost use Rattle.bt_names.specs.inner.Pieces.{piece_output};
 
-    /// The pattern of these bytes.
-    pub fn compiled(alloc: Global, bytes: &'p [u8]) -> Result<Pattern<'p>, AllocError>
+    /// The pattern of these bytes. Nothing is allocated for it.
+    pub fn compiled(_alloc: Global, bytes: &'p [u8]) -> Result<Pattern<'p>, AllocError>
         ensures { IfOk result (λ pattern. pattern ≡ bytes.now) }
     {
         let fault = pattern_fault(bytes);
-        let pieces = pieces_of(alloc, bytes)?;
-        Ok(Pattern {
-            bytes,
-            fault,
-            pieces,
-        })
+        Ok(Pattern { bytes, fault })
     }
 
     /// The place of its first fault.
@@ -170,10 +144,10 @@ impl<'p> Pattern<'p> {
         self.fault
     }
 
-    /// What it gives for each name, piece by piece.
-    pub(crate) fn pieces(&self) -> &[Piece<'p>]
-        ensures { (parts : Parts) → flat_map (piece_output parts) result.now ≡ formatted parts self.now }
+    /// Its bytes.
+    pub(crate) fn bytes(&self) -> &'p [u8]
+        ensures { result.now ≡ self.now }
     {
-        self.pieces.as_slice()
+        self.bytes
     }
 }

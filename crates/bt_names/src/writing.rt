@@ -3,13 +3,15 @@
 //! A group can put a long text between many tokens, so it may be far longer than name and pattern. Such a group isn't
 //! begun if that text alone exceeds the limit. After each piece, the bytes written are compared with the limit.
 
-ghost use Rattle.std.specs.Prelude.{◌≡◌, ◌<◌, ◌+◌, ◌-◌, ◌*◌, ◌++◌, IfOk, IsTrue, OnOk, flat_map, length};
+ghost use Rattle.std.specs.Prelude.{◌≡◌, ◌<◌, ◌+◌, ◌-◌, ◌*◌, ◌++◌, IfOk, IsTrue, OnOk, length};
+ghost use Rattle.bt_names.specs.Groups.{formatted};
 ghost use Rattle.bt_names.specs.Written.{IsWritten};
 ghost use Rattle.bt_names.specs.inner.Pieces.{piece_output};
 
+use crate::cuts::first_len;
 use crate::groups::{push_bare, push_part};
 use crate::lent_tokens::{LentParts, LentToken};
-use crate::pieces::Piece;
+use crate::pieces::{Piece, piece_of};
 use std::alloc::AllocError;
 
 /// Whether a text was written.
@@ -67,24 +69,28 @@ fn push_piece(out: &mut Vec<u8>, parts: &LentParts, piece: Piece) -> Result<(), 
     }
 }
 
-/// Appends what the pieces of a pattern give to `out`, if that has at most `limit` bytes.
+/// Appends what a pattern gives to `out`, if that has at most `limit` bytes.
 pub fn push_pieces(
     out: &mut Vec<u8>,
     limit: usize,
     parts: &LentParts,
-    pieces: &[Piece],
+    pattern: &[u8],
 ) -> Result<Written, AllocError>
-    ensures { IfOk result (IsWritten limit (flat_map (piece_output parts.now) pieces.now) out.old.items out.new.items) }
+    ensures { IfOk result (IsWritten limit (formatted parts.now pattern.now) out.old.items out.new.items) }
 {
     let start = out.len();
-    'pieces: for piece in pieces {
-        if is_longer(limit, parts, *piece) {
+    let mut rest = pattern;
+    'walk: while !rest.is_empty() {
+        let (block, behind) = rest.split_at(first_len(rest));
+        let piece = piece_of(block);
+        if is_longer(limit, parts, piece) {
             return Ok(Written::Longer);
         }
-        push_piece(out, parts, *piece)?;
+        push_piece(out, parts, piece)?;
         if limit < out.len().saturating_sub(start) {
             return Ok(Written::Longer);
         }
+        rest = behind;
     }
     Ok(Written::Whole)
 }

@@ -1,6 +1,7 @@
 use Rattle.std.proofs.Common.{Some, sym, ap, ◌∙◌}
 use Rattle.std.proofs.lemmas.Int.{to_z-of_z}
 use Rattle.bt_names.proofs.CallLemmas.{no_text, fault_of_pattern}
+use Rattle.bt_names.specs.Groups.{formatted}
 use Rattle.bt_names.specs.Written.{IsWritten}
 use Rattle.bt_names.proofs.CallLemmas.{few, many, memory_keeps, no_such, out_of_memory, says_of_text}
 use Rattle.bt_names.proofs.formatted_name.push_formatted.Goals as goal
@@ -46,7 +47,7 @@ returns-clause-text c =
     let fits = c.ranges.n in
     let some = simp to_z-of_z at c.in-Some.ensures.some in
     let cut = rw c.in_ok-name.ensures at c.in_ok-cut.ensures in
-    says_of_text (λ t. IsWritten c.args.limit t c.args.out.now.items c.push_pieces.new.out.items c.in_ok-written.written) c.args.names.now c.args.n c.in-Some.name.now c.args.pattern.now _ c.parts.result some (cut ∙ ap Some (sym c.parts.ensures)) (sym c.in_default-fault.ensures) (c.pieces.ensures c.parts.result) c.in_ok-written.ensures
+    says_of_text (λ t. IsWritten c.args.limit t c.args.out.now.items c.push_pieces.new.out.items c.in_ok-written.written) c.args.names.now c.args.n c.in-Some.name.now c.args.pattern.now _ c.parts.result some (cut ∙ ap Some (sym c.parts.ensures)) (sym c.in_default-fault.ensures) (ap (formatted c.parts.result) c.bytes.ensures) c.in_ok-written.ensures
 
 pub returns-in_err-name-clause-kept : goal.returns-in_err-name-clause-kept
 returns-in_err-name-clause-kept c = memory_keeps c.from_residual.result _ _ c.from_residual.ensures.1
