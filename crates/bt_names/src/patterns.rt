@@ -1,8 +1,8 @@
 //! The groups of a pattern, their letters, and the faults of a pattern.
 
-ghost use Rattle.std.specs.Prelude.{◌≡◌, ◌<◌, ◌≤◌, ◌-◌, ◌+◌, [], ◌∷◌, IfSome, IfNone, if◌then◌else◌, length, drop, slice_index, slice_get};
+ghost use Rattle.std.specs.Prelude.{◌≡◌, ◌<◌, ◌≤◌, ◌-◌, ◌+◌, ◌==◌, [], ◌∷◌, IfSome, IfNone, IsTrue, if◌then◌else◌, length, drop, slice_index, slice_get};
 ghost use Rattle.bt_text.specs.Blocks.{begins_group};
-ghost use Rattle.bt_text.specs.Depth.{depth_at};
+ghost use Rattle.bt_text.specs.Depth.{depth, depth_at};
 ghost use Rattle.bt_names.specs.Patterns.{block_fault, inside_group, is_doubled_at, letter_end, letter_fault, letter_places, letters_from, names_part, pattern_fault};
 ghost use Rattle.bt_names.specs.inner.Patterns.{IsLetterPlace};
 
@@ -15,17 +15,31 @@ pub fn begins_group(block: &[u8]) -> bool
     matches!(block, [b'{', ..])
 }
 
-/// What stands inside a group.
-pub fn inside(group: &[u8]) -> &[u8]
+/// Whether a group has its right brace.
+fn is_closed(group: &[u8]) -> bool
+    ensures { result ≡ (depth group.now == 0) }
+{
+    depth_of(group) == 0
+}
+
+fn inside_of(group: &[u8], is_closed: bool) -> &[u8]
+    requires { is_closed ≡ (depth group.now == 0) }
     ensures value { result.now ≡ inside_group group.now }
     ensures shorter { length result.now ≤ length group.now - 1 }
 {
     let behind = group.get(1..).unwrap_or(&[]);
-    if depth_of(group) == 0 {
+    if is_closed {
         &behind[..behind.len().saturating_sub(1)]
     } else {
         behind
     }
+}
+
+/// What stands inside a group.
+pub fn inside(group: &[u8]) -> &[u8]
+    ensures { result.now ≡ inside_group group.now }
+{
+    inside_of(group, is_closed(group))
 }
 
 /// The first letter at depth 0 of what stands inside a group, from a place on.
@@ -103,21 +117,25 @@ fn letter_fault(text: &[u8]) -> Option<usize>
     }
 }
 
+/// The first fault of a group: a letter, or its end.
+fn group_fault(group: &[u8]) -> Option<usize>
+    requires { IsTrue (begins_group group.now) }
+    ensures place { result ≡ block_fault group.now }
+    ensures within { IfSome result (λ i. i ≤ length group.now) }
+{
+    let is_closed = is_closed(group);
+    match letter_fault(inside_of(group, is_closed)) {
+        Some(place) => Some(1 + place),
+        None => { if is_closed { None } else { Some(group.len()) } }
+    }
+}
+
 fn block_fault(block: &[u8]) -> Option<usize>
     ensures place { result ≡ block_fault block.now }
     ensures within { IfSome result (λ i. i ≤ length block.now) }
 {
     match block {
-        [b'{', ..] => match letter_fault(inside(block)) {
-            Some(place) => Some(1 + place),
-            None => {
-                if depth_of(block) == 0 {
-                    None
-                } else {
-                    Some(block.len())
-                }
-            }
-        },
+        [b'{', ..] => group_fault(block),
         [b'}'] => Some(0),
         _ => None,
     }
