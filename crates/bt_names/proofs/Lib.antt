@@ -10,5 +10,6 @@ pub mod NameLemmas
 pub mod CutLemmas
 pub mod GroupLemmas
 pub mod PieceLemmas
+pub mod SoundLemmas
 pub mod WritingLemmas
 mod rows

@@ -1,6 +1,6 @@
 //! The groups of a pattern, their letters, and the faults of a pattern.
 
-ghost use Rattle.std.specs.Prelude.{◌≡◌, ◌<◌, ◌≤◌, ◌-◌, ◌+◌, ◌==◌, [], ◌∷◌, IfSome, IfNone, IsTrue, if◌then◌else◌, length, drop, slice_index, slice_get};
+ghost use Rattle.std.specs.Prelude.{◌≡◌, ◌<◌, ◌≤◌, ◌-◌, ◌+◌, ◌==◌, [], ◌∷◌, IfSome, IfNone, IsTrue, None, if◌then◌else◌, length, drop, slice_index, slice_get};
 ghost use Rattle.bt_text.specs.Blocks.{begins_group};
 ghost use Rattle.bt_text.specs.Depth.{depth, depth_at};
 ghost use Rattle.bt_names.specs.Patterns.{block_fault, inside_group, is_doubled_at, letter_end, letter_fault, letter_places, letters_from, names_part, pattern_fault};
@@ -33,6 +33,16 @@ fn inside_of(group: &[u8], is_closed: bool) -> &[u8]
     } else {
         behind
     }
+}
+
+/// What stands inside a group without a fault, which has its right brace.
+#[tactic(auto, using(crate::proofs::SoundLemmas::sound_closed))]
+pub fn inside_sound(group: &[u8]) -> &[u8]
+    requires group { IsTrue (begins_group group.now) }
+    requires sound { block_fault group.now ≡ None }
+    ensures { result.now ≡ inside_group group.now }
+{
+    inside_of(group, true)
 }
 
 /// What stands inside a group.

@@ -1,17 +1,17 @@
 //! A pattern, and the pieces that it is made of.
 
-ghost use Rattle.std.specs.Prelude.{◌≡◌, drop};
+ghost use Rattle.std.specs.Prelude.{◌≡◌, None, drop};
 ghost use Rattle.bt_text.specs.Blocks.{begins_group};
 ghost use Rattle.bt_names.specs.declared.tokens.Parts.{Parts};
 ghost use Rattle.bt_names.specs.Groups.{block_output, group_output, part_named, with_tokens};
-ghost use Rattle.bt_names.specs.Patterns.{letter_places};
+ghost use Rattle.bt_names.specs.Patterns.{block_fault, letter_places};
 ghost use Rattle.bt_names.specs.Spelling.{first_block, spelled};
 ghost use Rattle.bt_names.specs.inner.Pieces.{piece_output};
 ghost use Rattle.bt_names.specs.inner.Spelling.{form_of};
 
 use crate::cuts::first_len;
 use crate::patterns::{
-    begins_group, inside, is_doubled_at, letter_end, next_letter, pattern_fault,
+    begins_group, inside, inside_sound, is_doubled_at, letter_end, next_letter, pattern_fault,
 };
 use std::alloc::{AllocError, Global};
 use std::marker::Model;
@@ -96,12 +96,13 @@ fn group_of(text: &[u8]) -> Piece<'_>
     }
 }
 
-/// A block of a pattern.
+/// A block of a pattern without a fault.
 pub fn piece_of(block: &[u8]) -> Piece<'_>
+    requires { block_fault block.now ≡ None }
     ensures { (parts : Parts) → piece_output parts result ≡ block_output parts block.now }
 {
     if begins_group(block) {
-        group_of(inside(block))
+        group_of(inside_sound(block))
     } else {
         Piece::Plain(block)
     }

@@ -3,8 +3,9 @@
 //! A group can put a long text between many tokens, so it may be far longer than name and pattern. Such a group isn't
 //! begun if that text alone exceeds the limit. After each piece, the bytes written are compared with the limit.
 
-ghost use Rattle.std.specs.Prelude.{◌≡◌, ◌<◌, ◌+◌, ◌-◌, ◌*◌, ◌++◌, IfOk, IsTrue, OnOk, length};
+ghost use Rattle.std.specs.Prelude.{◌≡◌, ◌<◌, ◌+◌, ◌-◌, ◌*◌, ◌++◌, IfOk, IsTrue, None, OnOk, length};
 ghost use Rattle.bt_names.specs.Groups.{formatted};
+ghost use Rattle.bt_names.specs.Patterns.{pattern_fault};
 ghost use Rattle.bt_names.specs.Written.{IsWritten};
 ghost use Rattle.bt_names.specs.inner.Pieces.{piece_output};
 
@@ -69,13 +70,15 @@ fn push_piece(out: &mut Vec<u8>, parts: &LentParts, piece: Piece) -> Result<(), 
     }
 }
 
-/// Appends what a pattern gives to `out`, if that has at most `limit` bytes.
+/// Appends what a pattern without a fault gives to `out`, if that has at most `limit` bytes.
+#[tactic(auto, using(crate::proofs::SoundLemmas::sound_first, crate::proofs::SoundLemmas::sound_rest))]
 pub fn push_pieces(
     out: &mut Vec<u8>,
     limit: usize,
     parts: &LentParts,
     pattern: &[u8],
 ) -> Result<Written, AllocError>
+    requires { pattern_fault pattern.now ≡ None }
     ensures { IfOk result (IsWritten limit (formatted parts.now pattern.now) out.old.items out.new.items) }
 {
     let start = out.len();
