@@ -25,6 +25,7 @@ mod texts;
 mod value;
 
 pub use arguments::{take_choice, take_loop, take_number};
+pub use assignment::assign_value;
 pub use leaving::Left;
 pub use operands::{
     call_entry_number, call_entry_text, call_field, call_global_number, call_global_text,
