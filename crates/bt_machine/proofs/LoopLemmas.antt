@@ -58,11 +58,11 @@ pub end_same : (fs : List Frame) → SameLeft fs (Run (Block End) ∷ fs)
 end_same fs p w k = sym (same_end fs p w k)
 
 -- an element alone
-one_element : (p : Program) (e : Element) (fs : List Frame) (w : World) (k : ℕ) (calls : List ℕ) → left p (Run (Block (Then e End)) ∷ fs) w (suc k, calls) ≡ then_go (act p (eval p) e w (k, calls_after e calls)) (left p fs)
+pub one_element : (p : Program) (e : Element) (fs : List Frame) (w : World) (k : ℕ) (calls : List ℕ) → left p (Run (Block (Then e End)) ∷ fs) w (suc k, calls) ≡ then_go (act p (eval p) e w (k, calls_after e calls)) (left p fs)
 one_element p e fs w k calls = ap (λ o. then_go o (left p fs)) (eval-then p e End w k calls) ∙ then_go-eval_end p _ (left p fs)
 
 -- the first element of a body, apart from the rest
-same_then : (e : Element) (rest : Body) (fs : List Frame) → SameLeft (Run (Block (Then e rest)) ∷ fs) (Run (Block (Then e End)) ∷ Run (Block rest) ∷ fs)
+pub same_then : (e : Element) (rest : Body) (fs : List Frame) → SameLeft (Run (Block (Then e rest)) ∷ fs) (Run (Block (Then e End)) ∷ Run (Block rest) ∷ fs)
 same_then e rest fs p w (zero, calls) =
     ap (λ o. then_go o (left p fs)) (eval-no_tick p e rest w calls)
     ∙ sym (ap (λ o. then_go o (left p (Run (Block rest) ∷ fs))) (eval-no_tick p e End w calls))

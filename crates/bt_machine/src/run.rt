@@ -16,10 +16,11 @@ ghost use Rattle.bt_actions.specs.Arguments.{as_number, taken};
 ghost use Rattle.bt_stack.specs.View.{world_of};
 ghost use Rattle.bt_machine.specs.Eval.{eval, act};
 ghost use Rattle.bt_machine.specs.Step.{counts_begun};
-ghost use Rattle.bt_machine.specs.inner.Loop.{counts, run_ended, element_seen, LeadsTo, is_above};
+ghost use Rattle.bt_machine.specs.inner.Loop.{counts, run_ended, element_seen, ComesTo, is_above};
 
 use crate::calls::{Next, call, call_quoted};
 use crate::control::{Due, Element, Frame, begin, begin_loop, next_due};
+use crate::idioms::{put_block, put_name};
 use bt_actions::{Code, Complaint, Flow, Tally};
 use bt_stack::{State, take_number};
 use bt_style::{Op, Style, Target};
@@ -41,21 +42,29 @@ fn goes_on(state: &mut State) -> Result<bool, AllocError>
 fn carry_out<'a>(
     state: &mut State<'a>,
     control: &mut Vec<Frame<'a>>,
+    tally: &mut Tally,
     alloc: Global,
     style: &'a Style,
     element: Element<'a>,
     rest: &'a [Op],
 ) -> Result<Next<'a>, AllocError>
-    ensures leads { let p = program_of style.now in IfOk result (λ next. LeadsTo p state.old state.new
+    ensures leads { let p = program_of style.now in IfOk result (λ next. ComesTo p state.old tally.old state.new tally.new
         (act p (eval p) (element_seen element.entry)) rest.now control.old.items next control.new.items) }
+    ensures ticks { OnOk result (tally.new.ticks ≤ tally.old.ticks) }
     ensures more { OnOk result (length control.new.items ≤ length control.old.items + 4) }
 {
     match element {
         Element::Op(op) => match op {
             Op::Number(n) => Ok(Next::Flow(state.push_number(*n)?)),
             Op::Text(text) => Ok(Next::Flow(state.push_given(text.as_slice())?)),
-            Op::Quote(target) => Ok(Next::Flow(state.push_name(*target)?)),
-            Op::Block(ops) => Ok(Next::Flow(state.push_block(ops)?)),
+            Op::Quote(target) => {
+                let next = put_name(state, tally, op, *target, rest)?;
+                Ok(next)
+            }
+            Op::Block(ops) => {
+                let next = put_block(state, control, tally, op, ops, rest)?;
+                Ok(next)
+            }
             Op::Call(target) => {
                 let next = call(state, control, alloc, style, *target, rest)?;
                 Ok(next)
@@ -100,7 +109,7 @@ pub fn work<'a>(
                     return Ok((Flow::Stop, tally));
                 }
                 tally.take(element.builtin());
-                let next = carry_out(state, control, alloc, style, element, rest)?;
+                let next = carry_out(state, control, &mut tally, alloc, style, element, rest)?;
                 // The loop's measure needs this call's clause that the stack is small.
                 let _depth = state.stack.len();
                 match next {

@@ -93,6 +93,11 @@ abbrev pub LeadsTo : Program → State → State → (World → Counts → Endin
 LeadsTo p old new run rest fs next fs' =
     (k : Counts) → followed p rest next fs' (world_of new) k ≡ then_go (run (world_of old) k) (left p (whole rest fs))
 
+-- the same from these ticks and calls, of which more may have gone
+abbrev pub ComesTo : Program → State → Tally → State → Tally → (World → Counts → Ending) → List Op → List HeldFrame → Next → List HeldFrame → Type 0
+ComesTo p old before new after run rest fs next fs' =
+    followed p rest next fs' (world_of new) (counts after) ≡ then_go (run (world_of old) (counts before)) (left p (whole rest fs))
+
 -- what follows is this run, and then what was left
 abbrev pub Means : Program → (World → Counts → Ending) → List Op → List HeldFrame → Next → List HeldFrame → Type 0
 Means p run rest fs next fs' =

@@ -71,8 +71,8 @@ work-preserved-in-Go c =
     let left_now = whole c.next_due.result.1.now c.next_due.new.control.items in
     let is_due = subst (λ d. IsDue d c.work.rest.now c.work.control.items c.next_due.result.1.now c.next_due.new.control.items) c.in-Element.is c.next_due.ensures in
     let calls = c.take.ensures.calls ∙ ap (λ b. with_call b c.work.tally.calls) c.builtin.ensures in
-    let follows : Next → Ending = λ next. followed p c.next_due.result.1.now next c.carry_out.new.control.items (world_of c.carry_out.new.state) (counts c.take.new.self) in
-    let did = ap follows (sym (c.in-Flow.is ∙ ap next.Flow c.in-Go.is)) ∙ c.in_ok-next-in-Element.ensures.leads (counts c.take.new.self) in
+    let follows : Next → Ending = λ next. followed p c.next_due.result.1.now next c.carry_out.new.control.items (world_of c.carry_out.new.state) (counts c.carry_out.new.tally) in
+    let did = ap follows (sym (c.in-Flow.is ∙ ap next.Flow c.in-Go.is)) ∙ c.in_ok-next-in-Element.ensures.leads in
     element_leads p c.in-Element.element left_before left_now (world_of c.work.state) (counts c.work.tally) (counts c.take.new.self) (follows (next.Flow Go)) end c.work.invariant is_due.0 c.take.ensures.ticks calls did
 
 pub returns-in-Stop : goal.returns-in-Stop
@@ -83,8 +83,8 @@ returns-in-Stop c =
     let left_now = whole c.next_due.result.1.now c.next_due.new.control.items in
     let is_due = subst (λ d. IsDue d c.work.rest.now c.work.control.items c.next_due.result.1.now c.next_due.new.control.items) c.in-Element.is c.next_due.ensures in
     let calls = c.take.ensures.calls ∙ ap (λ b. with_call b c.work.tally.calls) c.builtin.ensures in
-    let follows : Next → Ending = λ next. followed p c.next_due.result.1.now next c.carry_out.new.control.items (world_of c.carry_out.new.state) (counts c.take.new.self) in
-    let did = ap follows (sym (c.in-Flow.is ∙ ap next.Flow c.in-Stop.is)) ∙ c.in_ok-next-in-Element.ensures.leads (counts c.take.new.self) in
+    let follows : Next → Ending = λ next. followed p c.next_due.result.1.now next c.carry_out.new.control.items (world_of c.carry_out.new.state) (counts c.carry_out.new.tally) in
+    let did = ap follows (sym (c.in-Flow.is ∙ ap next.Flow c.in-Stop.is)) ∙ c.in_ok-next-in-Element.ensures.leads in
     element_leads p c.in-Element.element left_before left_now (world_of c.work.state) (counts c.work.tally) (counts c.take.new.self) (follows (next.Flow Stop)) end c.work.invariant is_due.0 c.take.ensures.ticks calls did
 
 pub work-preserved : goal.work-preserved
@@ -95,6 +95,6 @@ work-preserved c =
     let left_now = whole c.next_due.result.1.now c.next_due.new.control.items in
     let is_due = subst (λ d. IsDue d c.work.rest.now c.work.control.items c.next_due.result.1.now c.next_due.new.control.items) c.in-Element.is c.next_due.ensures in
     let calls = c.take.ensures.calls ∙ ap (λ b. with_call b c.work.tally.calls) c.builtin.ensures in
-    let follows : Next → Ending = λ next. followed p c.next_due.result.1.now next c.carry_out.new.control.items (world_of c.carry_out.new.state) (counts c.take.new.self) in
-    let did = ap follows (sym (c.in-Body-next.is)) ∙ c.in_ok-next-in-Element.ensures.leads (counts c.take.new.self) in
+    let follows : Next → Ending = λ next. followed p c.next_due.result.1.now next c.carry_out.new.control.items (world_of c.carry_out.new.state) (counts c.carry_out.new.tally) in
+    let did = ap follows (sym (c.in-Body-next.is)) ∙ c.in_ok-next-in-Element.ensures.leads in
     element_leads p c.in-Element.element left_before left_now (world_of c.work.state) (counts c.work.tally) (counts c.take.new.self) (follows (next.Body c.in-Body-next.body)) end c.work.invariant is_due.0 c.take.ensures.ticks calls did
