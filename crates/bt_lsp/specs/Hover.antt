@@ -1,0 +1,60 @@
+-- What an entry prints, for the key under the cursor.
+use Rattle.std.specs.Prelude.{ℕ, suc, ◌+◌, ◌-◌, ◌==◌, nat_lt, ◌&&◌, not, Bool, if◌then◌else◌, List, [], ◌∷◌, take, drop, Result}
+use Rattle.serde_json.specs.Data.{Data, null}
+use Rattle.bt_rpc.specs.declared.answers.RpcError.{RpcError}
+use Rattle.bt_positions.specs.declared.indexed_text.Position.{Position}
+use Rattle.bt_positions.specs.Positions.{offset_of}
+use Rattle.bt_documents.specs.declared.document.Document.{Document}
+use Rattle.bt_lsp.specs.Parameters.{document_of, cursor_of, at_place}
+use Rattle.bt_bib.specs.BibText.{pieces_of}
+use Rattle.bt_lsp.specs.Entries.{key_in, is_database}
+use Rattle.bt_lsp.specs.Shapes.{hover}
+
+-- whether a byte can belong to a key in a citation or a database
+abbrev pub is_key_byte : ℕ → Bool
+is_key_byte b =
+    nat_lt 32 b && not (b == 34) && not (b == 37) && not (b == 40) && not (b == 41) && not (b == 44) &&
+    not (b == 123) && not (b == 125)
+
+-- how many key bytes a text begins with
+abbrev pub key_len : List ℕ → ℕ
+key_len [] = 0
+key_len (b ∷ t) = if is_key_byte b then suc (key_len t) else 0
+
+-- how many key bytes a text ends with, if so many precede it
+abbrev pub keys_at_end : ℕ → List ℕ → ℕ
+keys_at_end count [] = count
+keys_at_end count (b ∷ t) = keys_at_end (if is_key_byte b then suc count else 0) t
+
+-- the word of key bytes around a place
+abbrev pub word_at : ℕ → List ℕ → List ℕ
+word_at place text =
+    let before = keys_at_end 0 (take place text) in
+    take (before + key_len (drop place text)) (drop (place - before) text)
+
+-- the word of key bytes at a position of a document
+abbrev pub word_of : Document → Position → List ℕ
+word_of d at = word_at (offset_of d.counting at d.text) d.text
+
+-- the key at a position of a document: in a database that of the entry around it, elsewhere the word around it
+abbrev pub key_at : Document → Position → List ℕ
+key_at d at =
+    if is_database d.name then key_in (offset_of d.counting at d.text) (pieces_of d.text)
+    else word_of d at
+
+-- what a hover shows of lines; null if there are none
+abbrev pub hover_lines : List ℕ → Data
+hover_lines [] = null
+hover_lines (b ∷ t) = hover (b ∷ t)
+
+-- what a hover shows for a key
+abbrev pub hover_of : {P : Type 0} → (P → List ℕ → List ℕ) → P → List ℕ → Data
+hover_of entry_text paper key = hover_lines (entry_text paper key)
+
+-- what a hover shows at a position of a document
+abbrev pub hover_at : {P : Type 0} → (P → List ℕ → List ℕ) → P → Document → Position → Data
+hover_at entry_text paper d at = hover_of entry_text paper (key_at d at)
+
+-- the answer to a hover
+abbrev pub hover_answer : {P : Type 0} → (P → List ℕ → List ℕ) → P → List Document → Data → Result Data RpcError
+hover_answer entry_text paper docs m = at_place (hover_at entry_text paper) (document_of docs m) (cursor_of m)

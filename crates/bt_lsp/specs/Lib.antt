@@ -1,0 +1,13 @@
+pub mod Methods
+pub mod Parameters
+pub mod Words
+pub mod Changes
+pub mod Shapes
+pub mod Entries
+pub mod News
+pub mod Hover
+pub mod Outline
+pub mod Finding
+pub mod Citing
+pub mod Taken
+pub mod Desk

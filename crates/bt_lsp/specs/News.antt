@@ -1,0 +1,60 @@
+-- What the editor is told after a change.
+use Rattle.std.specs.Prelude.{ℕ, nat_lt, not, ◌||◌, Bool, true, false, if◌then◌else◌, List, [], ◌∷◌, map, length, codes, Option, Some, None}
+use Rattle.serde_json.specs.Data.{Data, number, unsigned, string, object, member, no_members}
+use Rattle.bt_log.specs.declared.message.Message.{Message}
+use Rattle.bt_rpc.specs.Messages.{notification}
+use Rattle.bt_documents.specs.declared.document.Document.{Document}
+use Rattle.bt_diagnostics.specs.declared.diagnostic.Diagnostic.{Diagnostic}
+use Rattle.bt_diagnostics.specs.Diagnostics.{diagnostics}
+use Rattle.bt_lsp.specs.declared.methods.Notice.{Notice}
+use Rattle.bt_lsp.specs.declared.methods.Notice.TheVariants.{Opened, Changed, Closed, Saved, Exit, Other}
+use Rattle.bt_lsp.specs.Parameters.{text_at}
+use Rattle.bt_lsp.specs.Shapes.{published}
+
+-- the diagnostics of a document whose file has this name in the run, if it has one
+abbrev pub shown_as : Option (List ℕ) → List Message → Document → List Diagnostic
+shown_as None messages d = []
+shown_as (Some name) messages d = diagnostics name d.counting d.text messages
+
+-- The diagnostics of a document: the messages of the run at their places in its text. It has none if the run doesn't have
+-- its text, or if the text has more than 1 GiB.
+abbrev pub shown_of : {P : Type 0} → (P → List ℕ → Option (List ℕ)) → (P → List Message) → P → Document → List Diagnostic
+shown_of name messages paper d =
+    if not d.in_step || nat_lt 1073741824 (length d.text) then [] else shown_as (name paper d.name) (messages paper) d
+
+-- the notification that publishes them
+abbrev pub published_of : {P : Type 0} → (P → List ℕ → Option (List ℕ)) → (P → List Message) → P → Document → Data
+published_of name messages paper d = published d.name (shown_of name messages paper d)
+
+-- the diagnostics of each open document
+abbrev pub news : {P : Type 0} → (P → List ℕ → Option (List ℕ)) → (P → List Message) → P → List Document → List Data
+news name messages paper docs = map (published_of name messages paper) docs
+
+-- the parameters of the warning that a message was lost
+abbrev pub warning_params : Data
+warning_params =
+    object (member (codes "message")
+    (string (codes "bibtex-lsp lost a message. Close the changed files and open them again."))
+    (member (codes "type") (number (unsigned 2)) no_members))
+
+-- the warning
+abbrev pub warning : Data
+warning = notification (codes "window/showMessage") warning_params
+
+-- the warning, if a message was lost
+abbrev pub warned : Bool → List Data
+warned lost = if lost then warning ∷ [] else []
+
+-- that the document of this URI has no diagnostics, if there is a URI
+abbrev pub cleared_at : Option (List ℕ) → List Data
+cleared_at None = []
+cleared_at (Some uri) = published uri [] ∷ []
+
+-- that a document which is closed has no diagnostics
+abbrev pub cleared : Notice → Data → List Data
+cleared Closed m = cleared_at (text_at (codes "/params/textDocument/uri") m)
+cleared Opened m = []
+cleared Changed m = []
+cleared Saved m = []
+cleared Exit m = []
+cleared Other m = []

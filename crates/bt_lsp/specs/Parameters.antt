@@ -1,0 +1,49 @@
+-- Parameters of messages.
+use Rattle.std.specs.Prelude.{ℕ, ℤ, pos, List, codes, bytes_eq, find, Option, Some, None, option_and_then, unwrap_or, Result, Ok, Err}
+use Rattle.serde_json.specs.Data.{Data}
+use Rattle.serde_json.specs.Find.{pointer, as_str, as_number, as_u64, as_i64}
+use Rattle.bt_positions.specs.declared.indexed_text.Position.{Position}
+use Rattle.bt_documents.specs.declared.document.Document.{Document}
+use Rattle.bt_rpc.specs.declared.answers.RpcError.{RpcError}
+use Rattle.bt_rpc.specs.declared.answers.RpcError.TheVariants.{InvalidParams}
+
+-- the text at a pointer
+abbrev pub text_at : List ℕ → Data → Option (List ℕ)
+text_at path m = option_and_then as_str (pointer path m)
+
+-- the number at a pointer
+abbrev pub number_at : List ℕ → Data → Option ℕ
+number_at path m = option_and_then (λ d. option_and_then as_u64 (as_number d)) (pointer path m)
+
+-- the integer at a pointer, or 0
+abbrev pub version_at : List ℕ → Data → ℤ
+version_at path m = unwrap_or (option_and_then (λ d. option_and_then as_i64 (as_number d)) (pointer path m)) (pos 0)
+
+-- the position of a line and a character, if both are there
+abbrev pub position_of : Option ℕ → Option ℕ → Option Position
+position_of (Some line) (Some character) = Some (record { line = line; character = character })
+position_of (Some line) None = None
+position_of None character = None
+
+-- the position whose line and character stand at two pointers
+abbrev pub position_at : List ℕ → List ℕ → Data → Option Position
+position_at line character m = position_of (number_at line m) (number_at character m)
+
+-- the first document of a name
+abbrev pub document_named : List ℕ → List Document → Option Document
+document_named name docs = find (λ (d : Document). bytes_eq d.name name) docs
+
+-- the open document that a message names
+abbrev pub document_of : List Document → Data → Option Document
+document_of docs m =
+    option_and_then (λ uri. document_named uri docs) (text_at (codes "/params/textDocument/uri") m)
+
+-- the cursor's position, if a message has it
+abbrev pub cursor_of : Data → Option Position
+cursor_of m = position_at (codes "/params/position/line") (codes "/params/position/character") m
+
+-- the answer at a position of a document, or that one of them is missing
+abbrev pub at_place : (Document → Position → Data) → Option Document → Option Position → Result Data RpcError
+at_place f (Some d) (Some at) = Ok (f d at)
+at_place f (Some d) None = Err InvalidParams
+at_place f None at = Err InvalidParams

@@ -1,0 +1,65 @@
+-- Values of the protocol.
+use Rattle.std.specs.Prelude.{ℕ, Bool, true, if◌then◌else◌, List, ◌++◌, map, codes}
+use Rattle.std.specs.Str.{is_utf8}
+use Rattle.std.specs.Str.Lossy.{utf8_lossy}
+use Rattle.serde_json.specs.Data.{Data, number, unsigned, boolean, string, array, item, no_items, object, member, no_members}
+use Rattle.serde_json.specs.View.{items_of}
+use Rattle.bt_positions.specs.declared.indexed_text.Position.{Position}
+use Rattle.bt_diagnostics.specs.declared.diagnostic.Diagnostic.{Diagnostic}
+use Rattle.bt_rpc.specs.Messages.{notification}
+
+-- a position
+abbrev pub position : Position → Data
+position p =
+    object (member (codes "character") (number (unsigned p.character))
+    (member (codes "line") (number (unsigned p.line)) no_members))
+
+-- a range
+abbrev pub range : Position → Position → Data
+range from to = object (member (codes "end") (position to) (member (codes "start") (position from) no_members))
+
+-- bytes as a text, with U+FFFD for what isn't UTF-8
+abbrev pub text : List ℕ → Data
+text bytes = string (utf8_lossy bytes)
+
+-- a diagnostic
+abbrev pub diagnostic : Diagnostic → Data
+diagnostic d =
+    object (member (codes "message") (text d.words) (member (codes "range") (range d.from d.to)
+    (member (codes "severity") (number (unsigned d.severity)) (member (codes "source") (string (codes "bibtex"))
+    no_members))))
+
+-- its parameters: the diagnostics of a document
+abbrev pub published_params : List ℕ → List Diagnostic → Data
+published_params uri found =
+    object (member (codes "diagnostics") (array (items_of (map diagnostic found)))
+    (member (codes "uri") (text uri) no_members))
+
+-- the notification that publishes them
+abbrev pub published : List ℕ → List Diagnostic → Data
+published uri found = notification (codes "textDocument/publishDiagnostics") (published_params uri found)
+
+-- what a hover shows of lines: a block of LaTeX in Markdown
+abbrev pub hover : List ℕ → Data
+hover lines =
+    object (member (codes "contents") (object (member (codes "kind") (string (codes "markdown"))
+    (member (codes "value") (string (codes "```latex\n" ++ utf8_lossy lines ++ codes "```")) no_members))) no_members)
+
+-- the bibliography or the log, with the run's status
+abbrev pub shown_text : List ℕ → ℕ → Data
+shown_text bytes status =
+    object (member (codes "exact") (boolean (is_utf8 bytes)) (member (codes "status") (number (unsigned status))
+    (member (codes "text") (text bytes) no_members)))
+
+-- the answer to `initialize`: how positions count, and what the server can do
+abbrev pub capabilities : Bool → Data
+capabilities counts_bytes =
+    object (member (codes "capabilities") (object (member (codes "completionProvider") (object
+    (member (codes "triggerCharacters") (array (item (string (codes "{")) (item (string (codes ",")) no_items)))
+    no_members)) (member (codes "definitionProvider") (boolean true) (member (codes "documentSymbolProvider") (boolean true)
+    (member (codes "hoverProvider") (boolean true)
+    (member (codes "positionEncoding") (string (if counts_bytes then codes "utf-8" else codes "utf-16"))
+    (member (codes "textDocumentSync") (object (member (codes "change") (number (unsigned 2))
+    (member (codes "openClose") (boolean true) (member (codes "save") (boolean true) no_members))))
+    no_members)))))))
+    (member (codes "serverInfo") (object (member (codes "name") (string (codes "bibtex-lsp")) no_members)) no_members))

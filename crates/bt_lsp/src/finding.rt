@@ -1,0 +1,121 @@
+//! Finds the entry of a key in the paper's databases.
+
+ghost use Rattle.std.specs.Prelude.{◌≡◌, ◌<◌, ◌*◌, ◌^◌, length, IfOk};
+ghost use Rattle.serde_json.specs.View.{view};
+ghost use Rattle.bt_bib.specs.BibText.{pieces_of};
+ghost use Rattle.bt_talk.specs.Replies.{outcome_of};
+ghost use Rattle.bt_lsp.specs.Finding.{place_in, location, location_in, found_in, found_at, definition_answer};
+
+use crate::entries::{is_database, key_of};
+use crate::hover::word_of;
+use crate::news::SHOWN_BYTES;
+use crate::paper::Paper;
+use crate::parameters::{cursor_of, document_of};
+use crate::shapes::range;
+use crate::words::shown;
+use bt_bib::{PlacedPiece, read_bib};
+use bt_documents::Document;
+use bt_positions::{Counting, IndexedText, Position};
+use bt_rpc::RpcError;
+use bt_text::eq_ignore_ascii_case;
+use serde_json::{Value, json};
+use std::alloc::{AllocError, Global};
+
+/// Where the first entry of a key begins.
+fn place_in(pieces: &[PlacedPiece], key: &[u8]) -> Option<usize>
+    ensures { result ≡ place_in key.now pieces.now }
+{
+    'pieces: for piece in pieces {
+        if eq_ignore_ascii_case(key_of(piece), key) {
+            return Some(piece.start.place);
+        }
+    }
+    None
+}
+
+/// A place of a file.
+fn location(alloc: Global, uri: &[u8], at: Position) -> Result<Value, AllocError>
+    ensures { IfOk result (λ v. view v ≡ location uri.now at) }
+{
+    let uri = shown(alloc, uri)?;
+    let range = range(alloc, at, at)?;
+    json!(in alloc; {"uri": uri, "range": range})
+}
+
+/// Where the entry of a key begins in a file; null if it has none, or isn't a database.
+fn location_in(
+    alloc: Global,
+    counting: Counting,
+    uri: &[u8],
+    text: &[u8],
+    key: &[u8],
+) -> Result<Value, AllocError>
+    ensures { IfOk result (λ v. view v ≡ location_in counting key.now uri.now text.now) }
+{
+    if !is_database(uri) || text.len() > SHOWN_BYTES {
+        return Ok(Value::Null);
+    }
+    let items = read_bib(alloc, text)?;
+    match place_in(items.pieces(), key) {
+        Some(place) => {
+            let indexed = IndexedText::copied(alloc, text)?;
+            location(
+                alloc,
+                uri,
+                indexed.position_of(counting, place.min(text.len())),
+            )
+        }
+        None => Ok(Value::Null),
+    }
+}
+
+/// Where the entry of a key begins: in the first of the paper's databases that has it. Null if none has.
+fn found_in<P: Paper>(
+    alloc: Global,
+    paper: &P,
+    counting: Counting,
+    key: &[u8],
+) -> Result<Value, AllocError>
+    ensures { IfOk result (λ v. view v ≡ found_in counting key.now (P.files paper.now)) }
+{
+    'files: for n in 0..paper.file_count() {
+        let (uri, text) = paper.file(n);
+        let found = location_in(alloc, counting, uri, text, key)?;
+        if !found.is_null() {
+            return Ok(found);
+        }
+    }
+    Ok(Value::Null)
+}
+
+/// Where the entry of the key at a position of a document begins.
+fn found_at<P: Paper>(
+    alloc: Global,
+    paper: &P,
+    document: &Document,
+    at: Position,
+) -> Result<Value, AllocError>
+    ensures { IfOk result (λ v. view v ≡ found_at (P.files paper.now) document.now at) }
+{
+    let found = found_in(alloc, paper, document.counting, word_of(document, at))?;
+    Ok(found)
+}
+
+/// The answer to a request for the definition of the key under the cursor.
+pub fn definition_answer<P: Paper>(
+    alloc: Global,
+    paper: &P,
+    documents: &[Document],
+    message: &Value,
+) -> Result<Result<Value, RpcError>, AllocError>
+    ensures { IfOk result (λ outcome. outcome_of outcome ≡
+        definition_answer (P.files paper.now) documents.now (view message.now)) }
+{
+    let Some(document) = document_of(documents, message) else {
+        return Ok(Err(RpcError::InvalidParams));
+    };
+    let Some(at) = cursor_of(message) else {
+        return Ok(Err(RpcError::InvalidParams));
+    };
+    Ok(Ok(found_at(alloc, paper, document, at)?))
+}

@@ -1,0 +1,139 @@
+//! What an entry prints, for the key under the cursor.
+
+ghost use Rattle.std.specs.Prelude.{◌≡◌, ◌≤◌, length, IfOk};
+ghost use Rattle.serde_json.specs.View.{view};
+ghost use Rattle.bt_talk.specs.Replies.{outcome_of};
+ghost use Rattle.bt_lsp.specs.Hover.{is_key_byte, key_len, keys_at_end, word_at, word_of, key_at, hover_of, hover_at, hover_answer};
+
+use crate::entries::{is_database, key_around};
+use crate::paper::Paper;
+use crate::parameters::{cursor_of, document_of};
+use crate::shapes::hover;
+use bt_documents::Document;
+use bt_positions::Position;
+use bt_rpc::RpcError;
+use bt_text::Bytes;
+use serde_json::Value;
+use std::alloc::{AllocError, Global};
+
+/// Whether a byte can belong to a key in a citation or a database.
+fn is_key_byte(byte: u8) -> bool
+    ensures { result ≡ is_key_byte byte }
+{
+    byte > b' '
+        && byte != b'"'
+        && byte != b'%'
+        && byte != b'('
+        && byte != b')'
+        && byte != b','
+        && byte != b'{'
+        && byte != b'}'
+}
+
+/// How many key bytes a text begins with.
+fn key_len(text: &[u8]) -> usize
+    ensures value { result ≡ key_len text.now }
+    ensures within { result ≤ length text.now }
+{
+    let mut count = 0;
+    let mut rest = text;
+    'bytes: while let [first, others @ ..] = rest {
+        if !is_key_byte(*first) {
+            return count;
+        }
+        count += 1;
+        rest = others;
+    }
+    count
+}
+
+/// How many key bytes a text ends with.
+fn keys_at_end(text: &[u8]) -> usize
+    ensures value { result ≡ keys_at_end 0 text.now }
+    ensures within { result ≤ length text.now }
+{
+    let mut count = 0;
+    let mut rest = text;
+    'bytes: while let [first, others @ ..] = rest {
+        count = if is_key_byte(*first) { count + 1 } else { 0 };
+        rest = others;
+    }
+    count
+}
+
+/// The word of key bytes around a place.
+fn word_at(text: &[u8], place: usize) -> &[u8]
+    requires { place ≤ length text.now }
+    ensures { result.now ≡ word_at place text.now }
+{
+    let (front, back) = text.split_at(place);
+    let before = keys_at_end(front);
+    let after = key_len(back);
+    let (_, word) = text.split_at(place - before);
+    word.split_at(before + after).0
+}
+
+/// The word of key bytes at a position of a document.
+pub fn word_of(document: &Document, at: Position) -> &[u8]
+    ensures { result.now ≡ word_of document.now at }
+{
+    let place = document.text.offset_of(document.counting, at);
+    word_at(document.text.as_slice(), place)
+}
+
+/// The key at a position of a document: in a database that of the entry around it, elsewhere the word around it.
+fn key_at(alloc: Global, document: &Document, at: Position) -> Result<Bytes, AllocError>
+    ensures { IfOk result (λ key. key ≡ key_at document.now at) }
+{
+    if is_database(document.name.as_slice()) {
+        let place = document.text.offset_of(document.counting, at);
+        key_around(alloc, document.text.as_slice(), place)
+    } else {
+        Bytes::copied(alloc, word_of(document, at))
+    }
+}
+
+/// What a hover shows for a key; null if the run prints nothing for it.
+fn hover_of<P: Paper>(alloc: Global, paper: &P, key: &[u8]) -> Result<Value, AllocError>
+    ensures { IfOk result (λ v. view v ≡ hover_of P.entry_text paper.now key.now) }
+{
+    let lines = paper.entry_text(key)?;
+    if lines.as_slice().is_empty() {
+        Ok(Value::Null)
+    } else {
+        hover(alloc, lines.as_slice())
+    }
+}
+
+/// What a hover shows at a position of a document.
+fn hover_at<P: Paper>(
+    alloc: Global,
+    paper: &P,
+    document: &Document,
+    at: Position,
+) -> Result<Value, AllocError>
+    ensures { IfOk result (λ v. view v ≡ hover_at P.entry_text paper.now document.now at) }
+{
+    let key = key_at(alloc, document, at)?;
+    let shown = hover_of(alloc, paper, key.as_slice())?;
+    Ok(shown)
+}
+
+/// The answer to a hover.
+pub fn hover_answer<P: Paper>(
+    alloc: Global,
+    paper: &P,
+    documents: &[Document],
+    message: &Value,
+) -> Result<Result<Value, RpcError>, AllocError>
+    ensures { IfOk result (λ outcome. outcome_of outcome ≡
+        hover_answer P.entry_text paper.now documents.now (view message.now)) }
+{
+    let Some(document) = document_of(documents, message) else {
+        return Ok(Err(RpcError::InvalidParams));
+    };
+    let Some(at) = cursor_of(message) else {
+        return Ok(Err(RpcError::InvalidParams));
+    };
+    Ok(Ok(hover_at(alloc, paper, document, at)?))
+}

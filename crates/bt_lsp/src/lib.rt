@@ -1,0 +1,24 @@
+//! The desk of the language server: the documents that the editor holds open, the paper that they belong to, and what the
+//! messages about them mean.
+//!
+//! The desk is written over any `Paper`. So its contract speaks of a paper's messages and of what an entry prints, and
+//! nothing here depends on how a session gets them.
+#![tactic(auto)]
+
+mod changes;
+mod citing;
+mod entries;
+mod finding;
+mod hover;
+mod methods;
+mod news;
+mod outline;
+mod paper;
+mod parameters;
+mod server;
+mod shapes;
+mod taking;
+mod words;
+
+pub use paper::Paper;
+pub use server::Server;

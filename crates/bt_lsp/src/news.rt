@@ -1,0 +1,126 @@
+//! What the editor is told after a change: the diagnostics of each open document.
+
+ghost use Rattle.std.specs.Prelude.{◌≡◌, ◌++◌, ◌∷◌, [], map, IfOk};
+ghost use Rattle.serde_json.specs.View.{view};
+ghost use Rattle.bt_lsp.specs.News.{shown_of, published_of, warning_params, warning, warned, cleared, news};
+ghost use Rattle.bt_lsp.specs.Shapes.{published};
+
+use crate::methods::Notice;
+use crate::paper::Paper;
+use crate::parameters::text_at;
+use crate::shapes::published;
+use bt_diagnostics::{Diagnostic, diagnostics};
+use bt_documents::Document;
+use bt_rpc::notification;
+use bt_text::Sequence;
+use serde_json::{Value, json};
+use std::alloc::{AllocError, Global};
+
+/// The most bytes of a document that is shown with diagnostics or an outline: 1 GiB.
+pub const SHOWN_BYTES: usize = 1_073_741_824;
+
+/// The diagnostics of a document. It has none if the run doesn't have its text.
+fn shown_of<P: Paper>(
+    alloc: Global,
+    paper: &P,
+    document: &Document,
+) -> Result<Sequence<Diagnostic>, AllocError>
+    ensures { IfOk result (λ shown. shown ≡ shown_of P.name P.messages paper.now document.now) }
+{
+    if !document.in_step || document.text.as_slice().len() > SHOWN_BYTES {
+        return Ok(Sequence::new(alloc));
+    }
+    match paper.name(document.name.as_slice()) {
+        Some(name) => diagnostics(
+            alloc,
+            name,
+            document.counting,
+            &document.text,
+            paper.messages(),
+        ),
+        None => Ok(Sequence::new(alloc)),
+    }
+}
+
+fn published_of<P: Paper>(
+    alloc: Global,
+    paper: &P,
+    document: &Document,
+) -> Result<Value, AllocError>
+    ensures { IfOk result (λ v. view v ≡ published_of P.name P.messages paper.now document.now) }
+{
+    let shown = shown_of(alloc, paper, document)?;
+    published(alloc, document.name.as_slice(), shown.as_slice())
+}
+
+/// The parameters of the warning that a message was lost.
+fn warning_params(alloc: Global) -> Result<Value, AllocError>
+    ensures { IfOk result (λ v. view v ≡ warning_params) }
+{
+    json!(in alloc; {
+        "type": 2,
+        "message": "bibtex-lsp lost a message. Close the changed files and open them again."
+    })
+}
+
+/// The warning that a message was lost.
+fn warning(alloc: Global) -> Result<Value, AllocError>
+    ensures { IfOk result (λ v. view v ≡ warning) }
+{
+    let params = warning_params(alloc)?;
+    let message = notification(alloc, "window/showMessage", &params)?;
+    Ok(message)
+}
+
+/// The warning, if a message was lost.
+fn warned(alloc: Global, lost: bool) -> Result<Vec<Value>, AllocError>
+    ensures { IfOk result (λ told. map view told.items ≡ warned lost) }
+{
+    let mut told = Vec::new(alloc);
+    if lost {
+        told.push(warning(alloc)?)?;
+    }
+    Ok(told)
+}
+
+/// That a document which is closed has no diagnostics.
+fn cleared(alloc: Global, uri: &str) -> Result<Value, AllocError>
+    ensures { IfOk result (λ v. view v ≡ published uri.now []) }
+{
+    published(alloc, uri.as_bytes(), &[])
+}
+
+/// What comes before the diagnostics of the open documents.
+pub fn first_news(
+    alloc: Global,
+    lost: bool,
+    notice: Notice,
+    message: &Value,
+) -> Result<Vec<Value>, AllocError>
+    ensures { IfOk result (λ told. map view told.items ≡ warned lost ++ cleared notice (view message.now)) }
+{
+    let mut told = warned(alloc, lost)?;
+    if notice == Notice::Closed
+        && let Some(uri) = text_at(message, "/params/textDocument/uri")
+    {
+        told.push(cleared(alloc, uri)?)?;
+    }
+    Ok(told)
+}
+
+/// What comes first, and then the diagnostics of each open document.
+pub fn news<P: Paper>(
+    alloc: Global,
+    paper: &P,
+    documents: &[Document],
+    first: Vec<Value>,
+) -> Result<Vec<Value>, AllocError>
+    ensures { IfOk result (λ told. map view told.items ≡
+        map view first.items ++ news P.name P.messages paper.now documents.now) }
+{
+    let mut told = first;
+    'documents: for document in documents {
+        told.push(published_of(alloc, paper, document)?)?;
+    }
+    Ok(told)
+}

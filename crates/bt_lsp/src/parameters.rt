@@ -1,0 +1,76 @@
+//! Parameters of messages.
+
+ghost use Rattle.std.specs.Prelude.{◌≡◌, option_map};
+ghost use Rattle.serde_json.specs.View.{view};
+ghost use Rattle.bt_lsp.specs.Parameters.{text_at, number_at, version_at, position_at, cursor_of, document_named, document_of};
+
+use bt_documents::Document;
+use bt_positions::Position;
+use serde_json::Value;
+
+/// The text at a pointer.
+pub fn text_at<'a>(value: &'a Value, path: &str) -> Option<&'a str>
+    ensures { option_map (λ s. s.now) result ≡ text_at path.now (view value.now) }
+{
+    value.pointer(path).and_then(Value::as_str)
+}
+
+/// The number at a pointer.
+pub fn number_at(value: &Value, path: &str) -> Option<u64>
+    ensures { result ≡ number_at path.now (view value.now) }
+{
+    value.pointer(path).and_then(Value::as_u64)
+}
+
+/// The integer at a pointer; 0 if there is none.
+pub fn version_at(value: &Value, path: &str) -> i64
+    ensures { result ≡ version_at path.now (view value.now) }
+{
+    match value.pointer(path).and_then(Value::as_i64) {
+        Some(version) => version,
+        None => 0,
+    }
+}
+
+/// The position whose line and character stand at two pointers.
+pub fn position_at(value: &Value, line: &str, character: &str) -> Option<Position>
+    ensures { result ≡ position_at line.now character.now (view value.now) }
+{
+    match (number_at(value, line), number_at(value, character)) {
+        (Some(line), Some(character)) => Some(Position {
+            line: line as usize,
+            character: character as usize,
+        }),
+        _ => None,
+    }
+}
+
+/// The cursor's position, if a message has it.
+pub fn cursor_of(message: &Value) -> Option<Position>
+    ensures { result ≡ cursor_of (view message.now) }
+{
+    position_at(
+        message,
+        "/params/position/line",
+        "/params/position/character",
+    )
+}
+
+/// The first document of a name.
+pub fn document_named<'a>(documents: &'a [Document], name: &[u8]) -> Option<&'a Document>
+    ensures { option_map (λ d. d.now) result ≡ document_named name.now documents.now }
+{
+    documents
+        .iter()
+        .find(|document| document.name.as_slice() == name)
+}
+
+/// The open document that a message names.
+pub fn document_of<'a>(documents: &'a [Document], message: &Value) -> Option<&'a Document>
+    ensures { option_map (λ d. d.now) result ≡ document_of documents.now (view message.now) }
+{
+    match text_at(message, "/params/textDocument/uri") {
+        Some(uri) => document_named(documents, uri.as_bytes()),
+        None => None,
+    }
+}

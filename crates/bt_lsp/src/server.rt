@@ -1,0 +1,277 @@
+//! The desk: what each message does, and what is answered.
+
+ghost use Rattle.std.specs.Prelude.{◌≡◌, map, IfOk, OnErr};
+ghost use Rattle.serde_json.specs.View.{view};
+ghost use Rattle.bt_talk.specs.Replies.{outcome_of};
+ghost use Rattle.bt_lsp.specs.Desk.{duty_of, answered_query, IsBegun, IsOutcome, Tells, Carried};
+
+use crate::citing::completion_answer;
+use crate::finding::definition_answer;
+use crate::hover::hover_answer;
+use crate::methods::{Notice, Request, notice_of, request_of};
+use crate::news::{first_news, news};
+use crate::outline::symbols_answer;
+use crate::paper::Paper;
+use crate::parameters::text_at;
+use crate::shapes::{capabilities, shown_text};
+use crate::taking::take;
+use bt_documents::Document;
+use bt_rpc::RpcError;
+use bt_talk::{Desk, Reply};
+use bt_text::Sequence;
+use serde_json::Value;
+use std::alloc::{AllocError, Global};
+
+/// How far the editor has come.
+#[derive(Clone, Copy, Debug, PartialEq, Eq)]
+pub enum Phase {
+    /// Before `initialize`.
+    New,
+    Ready,
+    /// After `shutdown`.
+    ShutDown,
+}
+
+/// What the desk does with a notification.
+#[derive(Clone, Copy, Debug, PartialEq, Eq)]
+pub enum Duty {
+    /// It is over.
+    End,
+    /// Nothing.
+    Pass,
+    /// It takes it and tells the news.
+    Carry,
+}
+
+/// A desk over a paper.
+#[derive(Drop)]
+pub struct Server<P> {
+    pub paper: P,
+    pub documents: Sequence<Document>,
+    pub phase: Phase,
+    /// Whether the editor's positions count bytes of UTF-8, and not units of UTF-16.
+    pub counts_bytes: bool,
+    /// Whether a message was lost of which the editor hasn't been warned.
+    pub lost: bool,
+    /// Whether there is news that the editor hasn't been told.
+    pub pending: bool,
+    /// Whether `exit` came.
+    pub over: bool,
+}
+
+fn duty_of(phase: Phase, pending: bool, notice: Notice) -> Duty
+    ensures { result ≡ duty_of phase pending notice }
+{
+    match (notice, phase) {
+        (Notice::Exit, _) => Duty::End,
+        (Notice::Other, Phase::Ready) => if pending { Duty::Carry } else { Duty::Pass },
+        (_, Phase::Ready) => Duty::Carry,
+        _ => Duty::Pass,
+    }
+}
+
+/// The outcome of a request that changes nothing.
+fn answered_query<P: Paper>(
+    alloc: Global,
+    paper: &P,
+    documents: &[Document],
+    request: Request,
+    message: &Value,
+) -> Result<Result<Value, RpcError>, AllocError>
+    ensures { IfOk result (λ outcome. outcome_of outcome ≡
+        answered_query P.files P.entry_text P.bibliography P.log P.status paper.now documents.now request (view message.now)) }
+{
+    match request {
+        Request::Hover => hover_answer(alloc, paper, documents, message),
+        Request::Definition => definition_answer(alloc, paper, documents, message),
+        Request::Completion => completion_answer(alloc, paper, documents, message),
+        Request::Outline => symbols_answer(alloc, documents, message),
+        Request::Bibliography => Ok(Ok(shown_text(alloc, paper.bibliography(), paper.status())?)),
+        Request::Log => Ok(Ok(shown_text(alloc, paper.log(), paper.status())?)),
+        Request::Initialize | Request::Shutdown => Ok(Err(RpcError::InvalidRequest)),
+        Request::Unknown => Ok(Err(RpcError::MethodNotFound)),
+    }
+}
+
+/// Whether an editor offers to count bytes of UTF-8.
+fn offers_bytes(message: &Value) -> bool {
+    match message
+        .pointer("/params/capabilities/general/positionEncodings")
+        .and_then(Value::as_array)
+    {
+        Some(words) => words.iter().any(|word| word.as_str() == Some("utf-8")),
+        None => false,
+    }
+}
+
+impl<P: Paper> Server<P> {
+    /// A desk before `initialize`.
+    pub fn new(alloc: Global, paper: P) -> Server<P> {
+        Server {
+            paper,
+            documents: Sequence::new(alloc),
+            phase: Phase::New,
+            counts_bytes: false,
+            lost: false,
+            pending: false,
+            over: false,
+        }
+    }
+
+    /// Whether `shutdown` came, as it should before `exit`.
+    pub fn is_shut_down(&self) -> bool {
+        self.phase == Phase::ShutDown
+    }
+}
+
+/// Carries out `initialize`.
+fn begin<P: Paper>(
+    alloc: Global,
+    server: &mut Server<P>,
+    message: &Value,
+) -> Result<Result<Value, RpcError>, AllocError>
+    ensures ok { IfOk result (λ outcome. IsBegun server.old (outcome_of outcome) server.new) }
+    ensures err { OnErr result (server.new ≡ server.old) }
+{
+    let counts_bytes = offers_bytes(message);
+    let answer = capabilities(alloc, counts_bytes)?;
+    let job = text_at(message, "/params/initializationOptions/job");
+    let folder = text_at(message, "/params/rootUri");
+    server.paper.begin(alloc, job, folder)?;
+    server.documents = Sequence::new(alloc);
+    server.counts_bytes = counts_bytes;
+    server.phase = Phase::Ready;
+    Ok(Ok(answer))
+}
+
+/// Carries out a request.
+fn outcome_for<P: Paper>(
+    alloc: Global,
+    server: &mut Server<P>,
+    request: Request,
+    message: &Value,
+) -> Result<Result<Value, RpcError>, AllocError>
+    ensures ok { IfOk result (λ outcome. IsOutcome
+        (answered_query P.files P.entry_text P.bibliography P.log P.status server.old.paper server.old.documents request (view message.now))
+        server.old.phase request server.old (outcome_of outcome) server.new) }
+    ensures err { OnErr result (server.new ≡ server.old) }
+{
+    match (server.phase, request) {
+        (Phase::New, Request::Initialize) => begin(alloc, server, message),
+        (Phase::New, _) => Ok(Err(RpcError::ServerNotInitialized)),
+        (Phase::ShutDown, _) => Ok(Err(RpcError::InvalidRequest)),
+        (Phase::Ready, Request::Shutdown) => {
+            server.phase = Phase::ShutDown;
+            Ok(Ok(Value::Null))
+        }
+        (Phase::Ready, query) => {
+            answered_query(
+                alloc,
+                &server.paper,
+                server.documents.as_slice(),
+                query,
+                message,
+            )
+        }
+    }
+}
+
+/// Tells the news: what comes first, and then the diagnostics of each open document.
+fn tell<P: Paper>(
+    alloc: Global,
+    server: &mut Server<P>,
+    notice: Notice,
+    message: &Value,
+) -> Vec<Value>
+    ensures told { Tells P.name P.messages server.old.lost notice (view message.now) (map view result.items) server.new }
+    ensures rest { server.new ≡ record server.old { lost = server.new.lost; pending = server.new.pending } }
+{
+    let told = match first_news(alloc, server.lost, notice, message) {
+        Ok(first) => news(alloc, &server.paper, server.documents.as_slice(), first),
+        Err(error) => Err(error),
+    };
+    match told {
+        Ok(told) => {
+            server.lost = false;
+            server.pending = false;
+            told
+        }
+        Err(_) => {
+            server.pending = true;
+            Vec::new(alloc)
+        }
+    }
+}
+
+/// Takes a notification and tells the news.
+fn carry<P: Paper>(
+    alloc: Global,
+    server: &mut Server<P>,
+    notice: Notice,
+    message: &Value,
+) -> Vec<Value>
+    ensures { Carried P.text P.name P.messages server.old notice (view message.now) (map view result.items) server.new }
+{
+    let taken = take(
+        alloc,
+        &mut server.paper,
+        &mut server.documents,
+        server.counts_bytes,
+        notice,
+        message,
+    );
+    if taken.is_err() {
+        server.lost = true;
+    }
+    tell(alloc, server, notice, message)
+}
+
+impl<P: Paper + Drop> Desk for Server<P> {
+    ghost use Rattle.std.specs.Prelude.{◌≡◌, [], true};
+    ghost use Rattle.bt_lsp.specs.Methods.{request_of};
+    ghost use Rattle.bt_lsp.specs.Desk.{answered_query, IsOutcome, Noted, IsLost};
+
+    ghost answers = { λ d method m outcome told e. (told ≡ []) × IsOutcome
+        (answered_query P.files P.entry_text P.bibliography P.log P.status d.paper d.documents (request_of method) m)
+        d.phase (request_of method) d outcome e };
+
+    ghost notes = { λ d method m told e. Noted P.text P.name P.messages d method m told e };
+
+    ghost lost = { λ d e. IsLost d e };
+
+    ghost is_over = { λ d. d.over };
+
+    fn answer(
+        &mut self,
+        alloc: Global,
+        method: &str,
+        message: &Value,
+    ) -> Result<Reply, AllocError> {
+        let outcome = outcome_for(alloc, self, request_of(method), message)?;
+        Ok(Reply {
+            outcome,
+            notes: Vec::new(alloc),
+        })
+    }
+
+    fn note(&mut self, alloc: Global, method: &str, message: &Value) -> Vec<Value> {
+        let notice = notice_of(method);
+        match duty_of(self.phase, self.pending, notice) {
+            Duty::End => {
+                self.over = true;
+                Vec::new(alloc)
+            }
+            Duty::Pass => Vec::new(alloc),
+            Duty::Carry => carry(alloc, self, notice, message),
+        }
+    }
+
+    fn lose(&mut self) {
+        self.lost = true;
+        self.pending = true;
+    }
+
+    fn is_over(&self) -> bool {
+        self.over
+    }
+}

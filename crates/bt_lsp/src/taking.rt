@@ -1,0 +1,157 @@
+//! What notifications do to the documents.
+
+ghost use Rattle.std.specs.Prelude.{◌≡◌, IfOk, OnErr, option_map};
+ghost use Rattle.serde_json.specs.View.{view};
+ghost use Rattle.bt_documents.specs.Documents.{Follows};
+ghost use Rattle.bt_lsp.specs.Parameters.{document_named};
+ghost use Rattle.bt_lsp.specs.Taken.{IsOpened, IsChanged, IsClosed, Taken};
+
+use crate::changes::changes_of;
+use crate::methods::Notice;
+use crate::paper::Paper;
+use crate::parameters::{text_at, version_at};
+use crate::words::bytes_of;
+use bt_documents::{Document, change, close, open};
+use bt_positions::Counting;
+use bt_text::Sequence;
+use serde_json::Value;
+use std::alloc::{AllocError, Global};
+
+/// A notification that wasn't taken: it can't be read, or memory ran out.
+#[derive(Clone, Copy, Debug, PartialEq, Eq)]
+pub struct Untaken;
+
+impl From<AllocError> for Untaken {
+    fn from(_value: AllocError) -> Untaken {
+        Untaken
+    }
+}
+
+/// The units of a text in an editor that counts bytes or units of UTF-16.
+fn counting_of(counts_bytes: bool, is_latin: bool) -> Counting {
+    match (counts_bytes, is_latin) {
+        (true, true) => Counting::LatinAsUtf8,
+        (true, false) => Counting::Utf8,
+        (false, true) => Counting::LatinAsUtf16,
+        (false, false) => Counting::Utf16,
+    }
+}
+
+fn take_opened<P: Paper>(
+    alloc: Global,
+    paper: &mut P,
+    documents: &mut Sequence<Document>,
+    counts_bytes: bool,
+    message: &Value,
+) -> Result<(), Untaken>
+    ensures taken { IfOk result (λ _. IsOpened (view message.now) documents.old documents.new) }
+    ensures follows { Follows (P.text paper.old) documents.old → Follows (P.text paper.new) documents.new }
+    ensures err { OnErr result (documents.new ≡ documents.old) }
+{
+    let Some(uri) = text_at(message, "/params/textDocument/uri") else {
+        return Err(Untaken);
+    };
+    let Some(text) = text_at(message, "/params/textDocument/text") else {
+        return Err(Untaken);
+    };
+    let version = version_at(message, "/params/textDocument/version");
+    let counting = counting_of(counts_bytes, paper.is_latin(alloc, uri, text));
+    let bytes = bytes_of(alloc, counting, text)?;
+    open(
+        alloc,
+        paper,
+        documents,
+        uri.as_bytes(),
+        counting,
+        version,
+        bytes.as_slice(),
+    )?;
+    Ok(())
+}
+
+/// The units of the first document of a name.
+fn counting_named(documents: &[Document], name: &[u8]) -> Option<Counting>
+    ensures { result ≡ option_map (λ d. d.counting) (document_named name.now documents.now) }
+{
+    match documents
+        .iter()
+        .find(|document| document.name.as_slice() == name)
+    {
+        Some(document) => Some(document.counting),
+        None => None,
+    }
+}
+
+fn take_changed<P: Paper>(
+    alloc: Global,
+    paper: &mut P,
+    documents: &mut Sequence<Document>,
+    message: &Value,
+) -> Result<(), Untaken>
+    ensures taken { IfOk result (λ _. IsChanged (view message.now) documents.old documents.new) }
+    ensures follows { Follows (P.text paper.old) documents.old → Follows (P.text paper.new) documents.new }
+    ensures err { OnErr result (documents.new ≡ documents.old) }
+{
+    let Some(uri) = text_at(message, "/params/textDocument/uri") else {
+        return Err(Untaken);
+    };
+    let Some(counting) = counting_named(documents.as_slice(), uri.as_bytes()) else {
+        return Err(Untaken);
+    };
+    let Some(changes) = changes_of(alloc, counting, message)? else {
+        return Err(Untaken);
+    };
+    let version = version_at(message, "/params/textDocument/version");
+    change(
+        alloc,
+        paper,
+        documents,
+        uri.as_bytes(),
+        version,
+        changes.as_slice(),
+    )?;
+    Ok(())
+}
+
+fn take_closed<P: Paper>(
+    alloc: Global,
+    paper: &mut P,
+    documents: &mut Sequence<Document>,
+    message: &Value,
+) -> Result<(), Untaken>
+    ensures taken { IfOk result (λ _. IsClosed (view message.now) documents.old documents.new) }
+    ensures follows { Follows (P.text paper.old) documents.old → Follows (P.text paper.new) documents.new }
+    ensures err { OnErr result (documents.new ≡ documents.old) }
+{
+    let Some(uri) = text_at(message, "/params/textDocument/uri") else {
+        return Err(Untaken);
+    };
+    close(alloc, documents, uri.as_bytes());
+    paper.refresh(alloc, documents.as_slice());
+    Ok(())
+}
+
+/// Does to the documents what a notification says, and gives the paper their new texts.
+pub fn take<P: Paper>(
+    alloc: Global,
+    paper: &mut P,
+    documents: &mut Sequence<Document>,
+    counts_bytes: bool,
+    notice: Notice,
+    message: &Value,
+) -> Result<(), Untaken>
+    ensures taken { IfOk result (λ _. Taken notice (view message.now) documents.old documents.new) }
+    ensures follows { Follows (P.text paper.old) documents.old → Follows (P.text paper.new) documents.new }
+    ensures err { OnErr result (documents.new ≡ documents.old) }
+{
+    match notice {
+        Notice::Opened => take_opened(alloc, paper, documents, counts_bytes, message),
+        Notice::Changed => take_changed(alloc, paper, documents, message),
+        Notice::Closed => take_closed(alloc, paper, documents, message),
+        Notice::Saved => {
+            paper.refresh(alloc, documents.as_slice());
+            Ok(())
+        }
+        Notice::Exit | Notice::Other => Ok(()),
+    }
+}

@@ -1,0 +1,55 @@
+//! Bytes as texts that an editor shows, and back.
+
+ghost use Rattle.std.specs.Prelude.{◌≡◌, map, IfOk};
+ghost use Rattle.std.specs.Str.{chars, is_utf8};
+ghost use Rattle.std.specs.Str.Lossy.{utf8_lossy};
+ghost use Rattle.std.specs.String.{string_bytes};
+ghost use Rattle.bt_lsp.specs.Words.{latin_of, bytes_of};
+
+use bt_positions::Counting;
+use bt_text::Bytes;
+use std::alloc::{AllocError, Global};
+
+/// The text of these bytes. What isn't UTF-8 is shown as U+FFFD.
+pub fn shown(alloc: Global, bytes: &[u8]) -> Result<String, AllocError>
+    ensures { IfOk result (λ text. string_bytes text ≡ utf8_lossy bytes.now) }
+{
+    String::from_utf8_lossy(alloc, bytes)
+}
+
+/// Whether bytes are UTF-8.
+pub fn is_utf8(bytes: &[u8]) -> bool
+    ensures { result ≡ is_utf8 bytes.now }
+{
+    match str::from_utf8(bytes) {
+        Ok(_) => true,
+        Err(_) => false,
+    }
+}
+
+/// A character's byte in Latin-1; a question mark if it has none.
+fn latin(letter: char) -> u8
+    ensures { result ≡ latin_of letter }
+{
+    let code = letter as u32;
+    if code < 256 { code as u8 } else { b'?' }
+}
+
+/// The bytes of a text in Latin-1.
+fn latin_bytes(alloc: Global, text: &str) -> Result<Vec<u8>, AllocError>
+    ensures { IfOk result (λ bytes. bytes.items ≡ map latin_of (chars text.now)) }
+{
+    text.chars().map(|letter| latin(letter)).collect(alloc)
+}
+
+/// The bytes that saving a text would write.
+pub fn bytes_of(alloc: Global, counting: Counting, text: &str) -> Result<Bytes, AllocError>
+    ensures { IfOk result (λ bytes. bytes ≡ bytes_of counting text.now) }
+{
+    match counting {
+        Counting::Utf8 | Counting::Utf16 => Bytes::copied(alloc, text.as_bytes()),
+        Counting::LatinAsUtf8 | Counting::LatinAsUtf16 => {
+            Ok(Bytes::from_vec(latin_bytes(alloc, text)?))
+        }
+    }
+}
