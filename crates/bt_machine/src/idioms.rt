@@ -1,36 +1,38 @@
-//! Elements that follow one another so often that they are carried out at once: `{..} {..} if$` and `'name :=`. More than
-//! a quarter of plain.bst's ticks are theirs.
+//! Elements that follow one another so often that they are carried out at once: two functions with `if$`, each in braces
+//! or a quoted name, and `'name :=`. A third of plain.bst's ticks are theirs.
 //!
 //! The functions, or the name, aren't put on the stack. So this is done only if there are ticks and places on the stack
 //! for each element by itself. Otherwise they are carried out one by one, and a limit is passed at exactly its element.
 
-ghost use Rattle.std.specs.Prelude.{◌≡◌, ◌+◌, ◌≤◌, ◌<◌, ◌∷◌, Some, length, drop, slice_get, option_and_then, IfOk, IfSome, IsTrue, OnOk, List};
+ghost use Rattle.std.specs.Prelude.{◌≡◌, ◌+◌, ◌≤◌, ◌<◌, ◌∷◌, Some, if◌then◌else◌, length, drop, slice_get, option_and_then, IfOk, IfSome, IsTrue, OnOk};
 ghost use Rattle.bt_style.specs.Program.{Program};
 ghost use Rattle.bt_style.specs.Tree.{Then, Quoted, Braced, Called, element_of, ops_body};
 ghost use Rattle.bt_style.specs.declared.builtin.Builtin.TheVariants as builtin;
 ghost use Rattle.bt_style.specs.declared.style.Target.TheVariants as target;
 ghost use Rattle.bt_actions.specs.Arguments.{as_number};
-ghost use Rattle.bt_actions.specs.Item.{Block};
+ghost use Rattle.bt_actions.specs.Item.{Code as ItemCode};
 ghost use Rattle.bt_actions.specs.Tally.{with_call};
+ghost use Rattle.bt_actions.specs.View.{code_seen};
 ghost use Rattle.bt_actions.specs.World.{with_stack};
 ghost use Rattle.bt_stack.specs.View.{world_of};
 ghost use Rattle.bt_machine.specs.Eval.{eval, act, builtin_called, by_sign};
-ghost use Rattle.bt_machine.specs.declared.control.Frame.{Frame as HeldFrame};
-ghost use Rattle.bt_machine.specs.inner.Loop.{Run, ComesTo, SameLeft, whole};
+ghost use Rattle.bt_machine.specs.inner.Loop.{Run, ComesTo, SameLeft, putting, whole};
 
 use crate::calls::Next;
-use crate::control::{Element, Frame, keep};
-use bt_actions::{STACK_LIMIT, Tally};
+use crate::control::{Element, Frame, begin};
+use bt_actions::{Code, STACK_LIMIT, Tally};
 use bt_stack::{State, assign_value};
 use bt_style::{Builtin, Op, Target};
 use std::alloc::AllocError;
 
-/// The function in braces that an element is.
-fn block_of(op: &Op) -> Option<&[Op]>
-    ensures { IfSome result (λ ops. element_of op.now ≡ Braced (ops_body ops.now)) }
+/// The function that an element puts on the stack.
+#[inline(always)]
+fn code_of(op: &Op) -> Option<Code<'_>>
+    ensures { IfSome result (λ code. element_of op.now ≡ putting (code_seen code)) }
 {
     match op {
-        Op::Block(ops) => Some(ops),
+        Op::Quote(name) => Some(Code::Name(*name)),
+        Op::Block(ops) => Some(Code::Block(ops)),
         _ => None,
     }
 }
@@ -50,13 +52,14 @@ fn calls_assign(op: &Op) -> bool
 }
 
 /// The other function and the `if$` after the first function, and what comes after them.
-fn choice_behind<'a>(rest: &'a [Op]) -> Option<(&'a [Op], &'a [Op])>
+#[inline(always)]
+fn choice_behind<'a>(rest: &'a [Op]) -> Option<(Code<'a>, &'a [Op])>
     ensures { IfSome result (λ two. ops_body rest.now
-        ≡ Then (Braced (ops_body two.0.now)) (Then (Called (target.Builtin builtin.If)) (ops_body two.1.now))) }
+        ≡ Then (putting (code_seen two.0)) (Then (Called (target.Builtin builtin.If)) (ops_body two.1.now))) }
 {
     match rest {
         [first, second, after @ ..] if calls_if(second) => {
-            let other = block_of(first)?;
+            let other = code_of(first)?;
             Some((other, after))
         }
         _ => None,
@@ -74,35 +77,64 @@ fn assignment_behind(rest: &[Op]) -> Option<&[Op]>
     }
 }
 
-/// The one of two functions that `if$` runs.
-fn chosen<'a>(number: i32, above: &'a [Op], other: &'a [Op]) -> &'a [Op]
-    ensures { Block (ops_body result.now) ≡ by_sign number (Block (ops_body above.now)) (Block (ops_body other.now)) }
+/// The number, the other function and what comes after `if$`, if all are there, with ticks and places for each element.
+#[inline(always)]
+fn choice_ahead<'a>(
+    state: &State<'a>,
+    tally: &Tally,
+    rest: &'a [Op],
+) -> Option<(i32, Code<'a>, &'a [Op])>
+    ensures ticks { IfSome result (λ all. 2 ≤ tally.now.ticks) }
+    ensures few { IfSome result (λ all. length (world_of state.now).stack ≤ 998) }
+    ensures number { IfSome result (λ all.
+        Some all.0 ≡ option_and_then as_number (slice_get (world_of state.now).stack 0)) }
+    ensures behind { IfSome result (λ all. ops_body rest.now
+        ≡ Then (putting (code_seen all.1)) (Then (Called (target.Builtin builtin.If)) (ops_body all.2.now))) }
 {
-    if number > 0 { above } else { other }
+    if tally.ticks < 2 || state.stack.len() > STACK_LIMIT - 2 {
+        return None;
+    }
+    let (other, after) = choice_behind(rest)?;
+    let number = state.stack.number_at(0)?;
+    Some((number, other, after))
 }
 
-/// Takes the ticks of the second function and of `if$`, and the number, and returns the function that runs.
+/// Whether `if$` runs the first of its functions.
+fn is_above(number: i32) -> bool
+    ensures { (a b : ItemCode) → by_sign number a b ≡ (if result then a else b) }
+{
+    number > 0
+}
+
+/// Takes the ticks of the second function and of `if$`, and the number, and returns the body that runs next.
+#[inline(always)]
 fn choose_at_once<'a>(
     state: &mut State<'a>,
     control: &mut Vec<Frame<'a>>,
     tally: &mut Tally,
-    body: &'a [Op],
+    is_above: bool,
+    above: Code<'a>,
+    other: Code<'a>,
     after: &'a [Op],
-) -> Result<(), AllocError>
+) -> Result<&'a [Op], AllocError>
     requires ticks { 2 ≤ tally.old.ticks }
     requires number { 0 < length state.old.stack.items }
     ensures ticks { OnOk result (tally.new.ticks + 2 ≡ tally.old.ticks) }
     ensures calls { OnOk result (tally.new.calls ≡ with_call (Some builtin.If) tally.old.calls) }
     ensures world { OnOk result (world_of state.new
         ≡ with_stack (drop 1 (world_of state.old).stack) (world_of state.old)) }
-    ensures same { OnOk result (SameLeft (whole body.now control.new.items)
-        (Run (Block (ops_body body.now)) ∷ whole after.now control.old.items)) }
+    ensures same { IfOk result (λ body. SameLeft (whole body.now control.new.items)
+        (Run (if is_above then code_seen above.entry else code_seen other.entry) ∷ whole after.now control.old.items)) }
     ensures more { OnOk result (length control.new.items ≤ length control.old.items + 4) }
 {
     tally.take(None);
     tally.take(Some(Builtin::If));
     state.stack.drop_tops(1);
-    keep(control, after)
+    if is_above {
+        begin(control, after, above)
+    } else {
+        begin(control, after, other)
+    }
 }
 
 /// Puts a function in braces on the stack, or carries out the `if$` that it belongs to.
@@ -120,38 +152,80 @@ pub fn put_block<'a>(
     ensures ticks { OnOk result (tally.new.ticks ≤ tally.old.ticks) }
     ensures more { OnOk result (length control.new.items ≤ length control.old.items + 4) }
 {
-    if tally.ticks >= 2 && state.stack.len() <= STACK_LIMIT - 2 {
-        if let Some((other, after)) = choice_behind(rest) {
-            if let Some(number) = state.stack.number_at(0) {
-                let body = chosen(number, above, other);
-                choose_at_once(state, control, tally, body, after)?;
-                return Ok(Next::Body(body));
-            }
+    match choice_ahead(state, tally, rest) {
+        Some((number, other, after)) => {
+            let first = is_above(number);
+            let above = Code::Block(above);
+            let body = choose_at_once(state, control, tally, first, above, other, after)?;
+            Ok(Next::Body(body))
         }
+        None => Ok(Next::Flow(state.push_block(above)?)),
     }
-    Ok(Next::Flow(state.push_block(above)?))
 }
 
-/// Puts a quoted name on the stack, or carries out the `:=` that it belongs to.
-pub fn put_name<'a>(
+/// What comes after the `:=` after a quoted name, if there is a value for it, with ticks and places for each element.
+#[inline(always)]
+fn assignment_ahead<'a>(state: &State, tally: &Tally, rest: &'a [Op]) -> Option<&'a [Op]>
+    ensures ticks { IfSome result (λ after. 1 ≤ tally.now.ticks) }
+    ensures some { IfSome result (λ after. 0 < length (world_of state.now).stack) }
+    ensures few { IfSome result (λ after. length (world_of state.now).stack ≤ 999) }
+    ensures behind { IfSome result (λ after. ops_body rest.now
+        ≡ Then (Called (target.Builtin builtin.Assign)) (ops_body after.now)) }
+{
+    let count = state.stack.len();
+    if tally.ticks < 1 || count < 1 || count >= STACK_LIMIT {
+        return None;
+    }
+    assignment_behind(rest)
+}
+
+/// Puts a quoted name on the stack, or carries out the `if$` that it belongs to.
+fn put_quoted<'a>(
     state: &mut State<'a>,
+    control: &mut Vec<Frame<'a>>,
     tally: &mut Tally,
     op: &'a Op,
     name: Target,
     rest: &'a [Op],
 ) -> Result<Next<'a>, AllocError>
     requires { element_of op.now ≡ Quoted name }
-    ensures leads { (p : Program) (fs : List HeldFrame) → IfOk result (λ next. ComesTo p state.old tally.old state.new
-        tally.new (act p (eval p) (element_of op.now)) rest.now fs next fs) }
+    ensures leads { (p : Program) → IfOk result (λ next. ComesTo p state.old tally.old state.new tally.new
+        (act p (eval p) (element_of op.now)) rest.now control.old.items next control.new.items) }
     ensures ticks { OnOk result (tally.new.ticks ≤ tally.old.ticks) }
+    ensures more { OnOk result (length control.new.items ≤ length control.old.items + 4) }
 {
-    let count = state.stack.len();
-    if tally.ticks >= 1 && 1 <= count && count < STACK_LIMIT {
-        if let Some(after) = assignment_behind(rest) {
+    match choice_ahead(state, tally, rest) {
+        Some((number, other, after)) => {
+            let first = is_above(number);
+            let above = Code::Name(name);
+            let body = choose_at_once(state, control, tally, first, above, other, after)?;
+            Ok(Next::Body(body))
+        }
+        None => Ok(Next::Flow(state.push_name(name)?)),
+    }
+}
+
+/// The same, or carries out the `:=` that it belongs to.
+pub fn put_name<'a>(
+    state: &mut State<'a>,
+    control: &mut Vec<Frame<'a>>,
+    tally: &mut Tally,
+    op: &'a Op,
+    name: Target,
+    rest: &'a [Op],
+) -> Result<Next<'a>, AllocError>
+    requires { element_of op.now ≡ Quoted name }
+    ensures leads { (p : Program) → IfOk result (λ next. ComesTo p state.old tally.old state.new tally.new
+        (act p (eval p) (element_of op.now)) rest.now control.old.items next control.new.items) }
+    ensures ticks { OnOk result (tally.new.ticks ≤ tally.old.ticks) }
+    ensures more { OnOk result (length control.new.items ≤ length control.old.items + 4) }
+{
+    match assignment_ahead(state, tally, rest) {
+        Some(after) => {
             tally.take(Some(Builtin::Assign));
             assign_value(state, name)?;
-            return Ok(Next::Body(after));
+            Ok(Next::Body(after))
         }
+        None => put_quoted(state, control, tally, op, name, rest),
     }
-    Ok(Next::Flow(state.push_name(name)?))
 }

@@ -58,7 +58,7 @@ fn carry_out<'a>(
             Op::Number(n) => Ok(Next::Flow(state.push_number(*n)?)),
             Op::Text(text) => Ok(Next::Flow(state.push_given(text.as_slice())?)),
             Op::Quote(target) => {
-                let next = put_name(state, tally, op, *target, rest)?;
+                let next = put_name(state, control, tally, op, *target, rest)?;
                 Ok(next)
             }
             Op::Block(ops) => {

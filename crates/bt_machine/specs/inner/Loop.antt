@@ -2,13 +2,13 @@
 use Rattle.std.specs.Prelude.{◌≡◌, ℤ, pos, negsuc, zero, suc, ◌≤◌, ◌<◌, Bool, true, false, List, [], ◌∷◌, Option, Some, None, length, map, reverse}
 use Rattle.bt_style.specs.declared.style.Op.{Op}
 use Rattle.bt_style.specs.Program.{Program}
-use Rattle.bt_style.specs.Tree.{Element, Called, End, Then, element_of, ops_body}
+use Rattle.bt_style.specs.Tree.{Element, Quoted, Braced, Called, End, Then, element_of, ops_body}
 use Rattle.bt_style.specs.declared.builtin.Builtin.TheVariants.{While}
 use Rattle.bt_actions.specs.declared.flow.Flow.{Flow}
 use Rattle.bt_actions.specs.declared.flow.Flow.TheVariants.{Go, Stop}
 use Rattle.bt_actions.specs.declared.tally.Tally.{Tally}
 use Rattle.bt_actions.specs.Arguments.{as_number, taken}
-use Rattle.bt_actions.specs.Item.{Code, Block}
+use Rattle.bt_actions.specs.Item.{Code, Name, Block}
 use Rattle.bt_actions.specs.World.{World}
 use Rattle.bt_actions.specs.View.{code_seen}
 use Rattle.bt_stack.specs.declared.state.State.{State}
@@ -67,6 +67,11 @@ checked_at Stop w = w
 abbrev pub element_seen : HeldElement → Element
 element_seen (element.Op op) = element_of op.now
 element_seen (element.Name t) = Called t
+
+-- the element that puts a function on the stack
+abbrev pub putting : Code → Element
+putting (Name t) = Quoted t
+putting (Block b) = Braced b
 
 -- whether a number is there and above 0
 abbrev pub is_above : Option ℤ → Bool

@@ -25,8 +25,7 @@ pub returns-in_ok-next-in-Quote-clause-leads : goal.returns-in_ok-next-in-Quote-
 returns-in_ok-next-in-Quote-clause-leads c =
     let p = program_of c.args.style.now in
     let k = counts c.args.tally.now in
-    let fs = c.args.control.now.items in
-    c.in_ok-next-in-Quote.ensures.leads p fs ∙ ap (λ e. then_go (act p (eval p) (element_seen e) (world_of c.args.state.now) k) (left p (whole c.args.rest.now fs))) (sym c.in-Op.is)
+    c.in_ok-next-in-Quote.ensures.leads p ∙ ap (λ e. then_go (act p (eval p) (element_seen e) (world_of c.args.state.now) k) (left p (whole c.args.rest.now c.args.control.now.items))) (sym c.in-Op.is)
 
 pub returns-in_ok-next-in-Block-clause-leads : goal.returns-in_ok-next-in-Block-clause-leads
 returns-in_ok-next-in-Block-clause-leads c =
