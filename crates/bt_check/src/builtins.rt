@@ -9,13 +9,11 @@ use crate::values::{Node, Value, ZERO};
 use bt_style::Builtin;
 use std::alloc::AllocError;
 
-/// Whether a text is one of the modes of `change.case$`.
 fn is_mode(text: &[u8]) -> bool {
     matches!(text, b"t" | b"T" | b"l" | b"L" | b"u" | b"U")
 }
 
 impl<'a> Checker<'a> {
-    /// Complains of constants that a built-in function refuses.
     fn check_constants(
         &mut self,
         by: Builtin,
@@ -114,7 +112,6 @@ impl<'a> Checker<'a> {
         Ok(true)
     }
 
-    /// What a built-in function with one result pushes.
     fn push_made(
         &mut self,
         by: Builtin,

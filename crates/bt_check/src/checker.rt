@@ -15,10 +15,8 @@ use bt_style::{Builtin, Style, Target};
 use bt_text::Bytes;
 use std::alloc::{AllocError, Global};
 
-/// No more faults of a style are kept.
 const MOST_FAULTS: usize = 500;
 
-/// Evaluates a style's words.
 #[derive(Drop)]
 pub struct Checker<'a> {
     pub alloc: Global,
@@ -57,7 +55,6 @@ impl<'a> Checker<'a> {
         })
     }
 
-    /// What a path tells of a field.
     fn field_state(&self, facts: &Facts, field: usize) -> Option<FieldState> {
         let value = self.values.find(Node::Field(field))?;
         let is_empty = self.truth_of(facts, Builtin::Empty, value);
@@ -125,7 +122,6 @@ impl<'a> Checker<'a> {
         )
     }
 
-    /// The name of a value that is a field.
     fn field_name(&self, value: Value) -> &'a [u8] {
         let style: &'a Style = self.style;
         match self.values.node(value) {
@@ -238,7 +234,6 @@ impl<'a> Checker<'a> {
             .saturating_add(self.style.global_texts.len())
     }
 
-    /// The value of a field or variable.
     pub fn held(&mut self, state: &State, target: Target) -> Result<Value, AllocError> {
         match (target, self.variable(target)) {
             (Target::Field(field), _) => self.values.make(Node::Field(field), false),

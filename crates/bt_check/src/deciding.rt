@@ -7,7 +7,6 @@ use crate::facts::Facts;
 use crate::values::{Choice, Made, Node, TREE_DEPTH, Value, Values, is_test, node_kinds};
 use bt_style::Builtin;
 
-/// The least and the greatest that an integer can be.
 #[derive(Clone, Copy)]
 pub struct Bounds {
     pub low: i64,
@@ -26,7 +25,6 @@ fn exactly(number: i32) -> Bounds {
     }
 }
 
-/// Whether an integer within the first bounds is greater than one within the second.
 fn is_above(ours: Bounds, theirs: Bounds) -> Option<bool>
     ensures above { result ≡ Some true → theirs.high <ℤ ours.low }
     ensures below { result ≡ Some false → ours.high ≤ℤ theirs.low }
@@ -75,19 +73,16 @@ impl Bounds {
         }
     }
 
-    /// Whether an integer within the bounds is above 0.
     fn is_positive(self) -> Option<bool> {
         is_above(self, exactly(0))
     }
 }
 
 impl Values {
-    /// Whether the integer is above 0, if that is known.
     pub fn decide(&self, facts: &Facts, value: Value) -> Option<bool> {
         self.decide_within(facts, value, TREE_DEPTH)
     }
 
-    /// The bounds of the integer.
     pub fn bounds(&self, facts: &Facts, value: Value) -> Bounds {
         self.bounds_within(facts, value, TREE_DEPTH)
     }

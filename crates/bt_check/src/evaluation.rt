@@ -17,7 +17,6 @@ pub const DEPTH: usize = 600;
 const MOST_TURNS: usize = 100;
 
 impl<'a> Checker<'a> {
-    /// Runs the words of a body.
     #[cycle(evaluation)]
     pub fn body(
         &mut self,
@@ -61,7 +60,6 @@ impl<'a> Checker<'a> {
         }
     }
 
-    /// Calls a name.
     #[cycle(evaluation)]
     pub fn call(
         &mut self,
@@ -99,7 +97,6 @@ impl<'a> Checker<'a> {
         add(states, next)
     }
 
-    /// Runs a built-in function.
     #[cycle(evaluation)]
     fn builtin(
         &mut self,
@@ -151,7 +148,6 @@ impl<'a> Checker<'a> {
         self.merge_to(ends, Some(test), next)
     }
 
-    /// Runs a function value.
     #[cycle(evaluation)]
     fn run(
         &mut self,
@@ -180,7 +176,6 @@ impl<'a> Checker<'a> {
         }
     }
 
-    /// Runs the functions that the entry's type can have.
     #[cycle(evaluation)]
     fn call_type(
         &mut self,
@@ -259,7 +254,6 @@ impl<'a> Checker<'a> {
     }
 }
 
-/// Puts states behind those that are there.
 fn add(mut states: Vec<State>, next: &mut Vec<State>) -> Result<(), AllocError> {
     Ok(next.append(&mut states)?)
 }

@@ -8,22 +8,18 @@ ghost use Rattle.std.specs.Prelude.{◌≡◌};
 use crate::values::Value;
 use std::alloc::{AllocError, Global};
 
-/// What is known of one value.
 #[derive(Clone, Copy, PartialEq, Eq)]
 pub struct Known {
     /// Whether the integer is above 0.
     pub truth: Option<bool>,
     /// The constant that the string equals.
     pub only: Option<Value>,
-    /// The least that the integer can be.
     pub low: i64,
-    /// The greatest that the integer can be.
     pub high: i64,
     /// How many other values were known before it.
     pub age: usize,
 }
 
-/// Nothing is known.
 pub const NOTHING: Known = Known {
     truth: None,
     only: None,
@@ -67,17 +63,14 @@ pub struct Assumed {
     pub truth: bool,
 }
 
-/// Whether both are known and not the same.
 fn differs(ours: Option<bool>, theirs: Option<bool>) -> bool {
     ours.is_some() && theirs.is_some() && ours != theirs
 }
 
-/// The facts of a path.
 #[derive(Drop)]
 pub struct Facts {
     /// The values of which something is known, in their order.
     values: Vec<Value>,
-    /// What is known of each.
     known: Vec<Known>,
     pub assumed: Vec<Assumed>,
 }
@@ -110,7 +103,6 @@ impl Facts {
         self.of(value).truth
     }
 
-    /// Replaces what is known of a value.
     pub fn put(&mut self, value: Value, known: Known) -> Result<(), AllocError> {
         match self.values.binary_search(&value) {
             Ok(place) => {
@@ -142,7 +134,6 @@ impl Facts {
         Ok(self.assumed.push(Assumed { value, truth })?)
     }
 
-    /// What holds where either of them holds.
     pub fn joined(&self, other: &Facts, alloc: Global) -> Result<Facts, AllocError> {
         let mut both = Facts::new(alloc);
         for (value, known) in self.values.iter().zip(self.known.iter()) {

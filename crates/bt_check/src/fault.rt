@@ -4,7 +4,6 @@ use bt_style::Builtin;
 use bt_text::Bytes;
 use std::alloc::{AllocError, Global};
 
-/// The kinds of faults.
 #[derive(Clone, Copy, PartialEq, Eq)]
 pub enum FaultKind {
     /// A built-in function finds too little on the stack.
@@ -30,7 +29,6 @@ pub enum FaultKind {
 }
 
 impl FaultKind {
-    /// Its code in reports.
     pub fn code(self) -> &'static [u8] {
         match self {
             FaultKind::Empty => b"empty",
@@ -47,16 +45,13 @@ impl FaultKind {
     }
 }
 
-/// A call that leads to a fault.
 #[derive(Clone, Copy)]
 pub struct Call {
-    /// The number of the function.
     pub function: usize,
     /// The line of the word in it that is being run.
     pub line: usize,
 }
 
-/// What a path tells of a field.
 #[derive(Clone, Copy)]
 pub enum FieldState {
     Missing,
@@ -82,10 +77,8 @@ impl FieldState {
     }
 }
 
-/// What a path tells of one field of the entry.
 #[derive(Clone, Copy)]
 pub struct Condition {
-    /// The number of the field.
     pub field: usize,
     pub state: FieldState,
 }
@@ -95,20 +88,16 @@ pub struct Condition {
 pub struct Step {
     /// The function that the command names, if it names no built-in one.
     pub function: Option<usize>,
-    /// The command's line.
     pub line: usize,
-    /// Whether it runs for entries.
     pub is_of_entries: bool,
     /// The function of the entries' type, if the step is of `call.type$`.
     pub entry_type: Option<usize>,
 }
 
-/// A fault that an entry, or any run, can trigger.
 #[derive(Drop)]
 pub struct Fault {
     pub kind: FaultKind,
     pub words: Bytes,
-    /// The line of the word.
     pub line: usize,
     /// The calls that lead to it, the outermost first.
     pub calls: Vec<Call>,

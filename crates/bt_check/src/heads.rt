@@ -10,7 +10,6 @@ use crate::values::{Node, Unknown, Value};
 use bt_style::Builtin;
 use std::alloc::AllocError;
 
-/// How many stacks of different depths a loop may have.
 const MOST_HEADS: usize = 12;
 
 /// What is known each time that a loop begins a turn with a stack of one depth.
@@ -23,7 +22,6 @@ struct Head {
     is_new: bool,
 }
 
-/// The heads of a loop.
 #[derive(Drop)]
 pub struct Heads {
     all: Vec<Head>,
@@ -55,7 +53,6 @@ impl<'a> Checker<'a> {
         }
     }
 
-    /// The states in which a loop ends.
     pub fn leave(&mut self, heads: Heads, next: &mut Vec<State>) -> Result<(), AllocError> {
         let mut ends = Vec::new(self.alloc);
         for head in heads.all {
@@ -118,7 +115,6 @@ impl<'a> Checker<'a> {
         Ok(())
     }
 
-    /// Notes what a turn gave: the states in which the loop ends, and those in which it comes back.
     pub fn come_back(
         &mut self,
         heads: &mut Heads,
@@ -192,7 +188,6 @@ impl<'a> Checker<'a> {
         Ok(is_changed)
     }
 
-    /// A value that stands for either of two.
     fn widened(
         &mut self,
         facts: &Facts,

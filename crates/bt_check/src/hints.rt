@@ -9,7 +9,6 @@ use bt_style::{Action, Builtin, Style, Target};
 use bt_text::Bytes;
 use std::alloc::{AllocError, Global};
 
-/// A rule of the lint.
 #[derive(Clone, Copy)]
 pub enum Rule {
     /// No command and no type runs a function.
@@ -29,7 +28,6 @@ pub enum Rule {
 }
 
 impl Rule {
-    /// Its code in reports.
     pub fn code(self) -> &'static [u8] {
         match self {
             Rule::UnusedFunction => b"unused-function",
@@ -44,7 +42,6 @@ impl Rule {
     }
 }
 
-/// What a rule says of a style.
 #[derive(Drop)]
 pub struct Hint {
     pub rule: Rule,
@@ -60,10 +57,8 @@ const MONTHS: [&[u8]; 12] = [
 /// A style with so few of the standard types has types of its own.
 const FEW_TYPES: usize = 4;
 
-/// What can run, and what it does with fields and variables.
 #[derive(Drop)]
 struct Uses {
-    /// The functions that a command or a type runs.
     functions: Vec<bool>,
     fields: Vec<bool>,
     /// The variables that they read, by their places.
@@ -107,7 +102,6 @@ impl Uses {
     }
 }
 
-/// The functions that a command or a type runs.
 fn used_functions(checker: &Checker<'_>, catalogue: &Catalogue) -> Result<Vec<bool>, AllocError> {
     let mut used = marks(checker.alloc, checker.program.function_count)?;
     let mut targets = Vec::new(checker.alloc);
@@ -155,7 +149,6 @@ fn found_uses(checker: &Checker<'_>, catalogue: &Catalogue) -> Result<Uses, Allo
     Ok(uses)
 }
 
-/// What is found so far.
 #[derive(Drop)]
 struct Linter<'a> {
     alloc: Global,
@@ -328,7 +321,6 @@ impl<'a> Linter<'a> {
     }
 }
 
-/// What a style with these types uses.
 fn uses_with(
     alloc: Global,
     style: &Style,

@@ -2,7 +2,6 @@
 
 ghost use Rattle.std.specs.Prelude.{◌≡◌, ◌||◌, ◌&&◌, not, IsTrue};
 
-/// A set of kinds.
 #[derive(Clone, Copy, PartialEq, Eq, Hash)]
 pub struct Kinds {
     pub function: bool,
@@ -46,7 +45,7 @@ pub const STRING: Kinds = Kinds {
     missing: false,
     string: true,
 };
-/// What a field may be.
+
 pub const FIELD: Kinds = Kinds {
     function: false,
     integer: false,
@@ -62,7 +61,6 @@ pub const ANY: Kinds = Kinds {
 };
 
 impl Kinds {
-    /// The kinds in either set.
     pub fn or(self, other: Kinds) -> Kinds
         ensures function { result.function ≡ (self.function || other.function) }
         ensures integer { result.integer ≡ (self.integer || other.integer) }
@@ -77,7 +75,6 @@ impl Kinds {
         }
     }
 
-    /// The kinds in both sets.
     pub fn and(self, other: Kinds) -> Kinds
         ensures function { result.function ≡ (self.function && other.function) }
         ensures integer { result.integer ≡ (self.integer && other.integer) }
@@ -92,7 +89,6 @@ impl Kinds {
         }
     }
 
-    /// The kinds of this set that aren't in the other.
     pub fn without(self, other: Kinds) -> Kinds
         ensures function { result.function ≡ (self.function && not other.function) }
         ensures integer { result.integer ≡ (self.integer && not other.integer) }
@@ -121,7 +117,6 @@ impl Kinds {
             || self.is_within(STRING)
     }
 
-    /// Whether each kind of this set is in the other.
     pub fn is_within(self, other: Kinds) -> bool
         ensures function { IsTrue result → IsTrue self.function → IsTrue other.function }
         ensures integer { IsTrue result → IsTrue self.integer → IsTrue other.integer }

@@ -8,7 +8,6 @@ use std::alloc::{AllocError, Global};
 /// The lines of a function, from 1.
 #[derive(Drop)]
 pub struct FunctionLines {
-    /// The line of its name.
     pub name: usize,
     /// The line of each word of its body in the order of the text; of a function in braces, that of its left brace.
     pub words: Vec<usize>,
@@ -21,7 +20,6 @@ enum Piece<'a> {
     Word(&'a [u8]),
 }
 
-/// What is left of the text.
 #[derive(Clone, Copy)]
 struct Scan<'a> {
     rest: &'a [u8],
@@ -32,7 +30,6 @@ fn is_word_byte(byte: u8) -> bool {
     !is_white(byte) && byte != b'%' && byte != b'{' && byte != b'}'
 }
 
-/// The bytes before the first that fails the test, and those from there on.
 fn halves(bytes: &[u8], length: usize) -> (&[u8], &[u8]) {
     bytes.split_at(length.min(bytes.len()))
 }
@@ -82,7 +79,6 @@ impl<'a> Scan<'a> {
     }
 }
 
-/// Where in a command a piece stands.
 #[derive(Drop)]
 struct Place {
     is_function: bool,
@@ -99,7 +95,6 @@ fn note_word(functions: &mut Vec<FunctionLines>, line: usize) -> Result<(), Allo
 }
 
 impl Place {
-    /// Takes a word on a line.
     fn word(
         &mut self,
         alloc: Global,

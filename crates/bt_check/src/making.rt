@@ -26,7 +26,6 @@ impl Values {
         self.make(Node::Integer(number), false)
     }
 
-    /// What a built-in function with one result makes of up to three arguments.
     pub fn made(&mut self, by: Builtin, arguments: [Value; 3]) -> Result<Value, AllocError> {
         let [first, second, third] = arguments;
         match by {

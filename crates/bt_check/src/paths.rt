@@ -62,7 +62,6 @@ impl<'a> Checker<'a> {
         self.values.merge(states, None)
     }
 
-    /// Joins states of the same depth, and adds them.
     pub fn merge_to(
         &mut self,
         states: Vec<State>,
@@ -73,7 +72,6 @@ impl<'a> Checker<'a> {
         Ok(next.append(&mut merged)?)
     }
 
-    /// The value of a word that calls nothing.
     fn constant(&mut self, act: Act) -> Result<Value, AllocError> {
         let program: &'a Program = self.program;
         match act {
@@ -96,7 +94,6 @@ impl<'a> Checker<'a> {
         Ok(next.push(state)?)
     }
 
-    /// Pushes what a field or variable holds.
     pub fn push_held(
         &mut self,
         target: Target,
@@ -111,7 +108,6 @@ impl<'a> Checker<'a> {
         Ok(next.push(state)?)
     }
 
-    /// Runs a built-in function that runs no other function.
     pub fn push_basic(
         &mut self,
         by: Builtin,
@@ -136,7 +132,6 @@ impl<'a> Checker<'a> {
         }
     }
 
-    /// The states on the paths where a test is above 0, and on the others.
     pub fn forked(
         &mut self,
         test: Value,
@@ -191,7 +186,6 @@ impl<'a> Checker<'a> {
         Ok(true)
     }
 
-    /// The facts of the paths on which the entry's type has this function.
     fn facts_of_type(
         &mut self,
         facts: &Facts,
@@ -218,7 +212,6 @@ impl<'a> Checker<'a> {
         Ok(())
     }
 
-    /// The functions that the entry's type can have, each with the state on its paths.
     pub fn typed(&mut self, state: State) -> Result<Vec<Typed>, AllocError> {
         let mut all = Vec::new(self.alloc);
         let mut function = self.step.entry_type;

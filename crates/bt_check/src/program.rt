@@ -6,7 +6,6 @@ use bt_text::is_white;
 use indexmap::IndexSet;
 use std::alloc::{AllocError, Global};
 
-/// What a word does.
 #[derive(Clone, Copy)]
 pub enum Act {
     Integer(i32),
@@ -38,7 +37,6 @@ pub struct Program {
     pub default_type: Option<usize>,
 }
 
-/// A part of a body that is still to be gone over.
 #[derive(Clone, Copy)]
 struct Part<'a> {
     body: usize,
@@ -52,7 +50,6 @@ fn put_word(bodies: &mut Vec<Vec<Word>>, body: usize, word: Word) -> Result<(), 
     Ok(())
 }
 
-/// The number of a text's constant.
 fn number_of(
     alloc: Global,
     texts: &mut IndexSet<Vec<u8>>,
@@ -98,7 +95,6 @@ impl Program {
         }
     }
 
-    /// Goes over the first element of a part.
     fn take<'a>(
         &mut self,
         alloc: Global,
@@ -183,7 +179,6 @@ impl Program {
         Ok(())
     }
 
-    /// The bodies of a style that this text spells.
     pub fn of(alloc: Global, style: &Style, text: &[u8]) -> Result<Program, AllocError> {
         let lines = function_lines(alloc, text)?;
         let mut program = Program::empty(alloc);
@@ -196,7 +191,6 @@ impl Program {
         Ok(program)
     }
 
-    /// The number of the empty text.
     pub fn empty_text(&self) -> usize {
         self.function_count
     }
@@ -220,7 +214,6 @@ impl Program {
         self.text(number).iter().any(|b| !is_white(*b))
     }
 
-    /// Whether a function only calls another one.
     pub fn alias(&self, function: usize) -> Option<usize> {
         match self.body(function) {
             [

@@ -23,7 +23,6 @@ fn at_most(high: i64) -> Bounds {
     }
 }
 
-/// The bounds of an integer that is above 0, or isn't.
 fn signed(is_positive: bool) -> Bounds {
     if is_positive { at_least(1) } else { at_most(0) }
 }

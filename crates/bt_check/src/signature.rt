@@ -37,7 +37,6 @@ pub fn takes(by: Builtin) -> &'static [Kinds] {
     }
 }
 
-/// Whether a built-in function can only be used for an entry.
 pub fn is_of_entries(by: Builtin) -> bool {
     matches!(by, Builtin::CallType | Builtin::Cite | Builtin::Type)
 }

@@ -24,12 +24,10 @@ pub enum Split {
 }
 
 impl Values {
-    /// The kinds that a value can have.
     pub fn kinds(&mut self, facts: &Facts, value: Value) -> Result<Kinds, AllocError> {
         self.kinds_within(facts, value, DEPTH)
     }
 
-    /// Whether the value is known to be missing, or known not to be.
     fn is_missing(&self, facts: &Facts, value: Value) -> Option<bool> {
         let test = Made {
             by: Builtin::Missing,
@@ -123,7 +121,6 @@ impl Values {
         }
     }
 
-    /// Splits a path by whether a value has one of the wanted kinds.
     pub fn split(
         &mut self,
         facts: &Facts,
@@ -182,7 +179,6 @@ impl Values {
         Ok(Split::Both { right, wrong })
     }
 
-    /// The paths of one branch of a choice.
     #[cycle(splitting)]
     fn split_branch(
         &mut self,

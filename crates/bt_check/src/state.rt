@@ -28,7 +28,6 @@ impl State {
         self.with_facts(alloc, facts)
     }
 
-    /// The state on the paths with these facts.
     pub fn with_facts(&self, alloc: Global, facts: Facts) -> Result<State, AllocError> {
         Ok(State {
             stack: Vec::from_slice(alloc, self.stack.as_slice())?,
@@ -47,7 +46,6 @@ impl State {
 }
 
 impl Values {
-    /// What tells the paths of two states apart.
     fn fork(
         &mut self,
         ours: &Facts,
@@ -154,7 +152,6 @@ impl Values {
         }
     }
 
-    /// Joins states of the same depth.
     pub fn merge(
         &mut self,
         states: Vec<State>,

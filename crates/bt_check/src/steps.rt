@@ -11,7 +11,6 @@ use crate::values::{EMPTY, Node, Value, Values, ZERO};
 use bt_style::{Action, Builtin, Command, Style, Target};
 use std::alloc::{AllocError, Global};
 
-/// What a check found.
 #[derive(Drop)]
 pub struct Findings {
     pub faults: Vec<Fault>,
@@ -50,7 +49,6 @@ impl<'a> Checker<'a> {
         })
     }
 
-    /// The name of each variable's place.
     fn variables(&self) -> Result<Vec<Target>, AllocError> {
         let mut variables = Vec::new(self.alloc);
         for place in 0..self.style.entry_numbers.len() {
@@ -81,7 +79,6 @@ impl<'a> Checker<'a> {
         Ok(constants)
     }
 
-    /// What each variable holds as a step begins.
     fn first_variables(&mut self, constants: &[Option<Value>]) -> Result<Vec<Value>, AllocError> {
         let mut variables = Vec::new(self.alloc);
         let targets = self.variables()?;
@@ -128,7 +125,6 @@ impl<'a> Checker<'a> {
         Ok(facts)
     }
 
-    /// The line on which a step that leaves values is told.
     fn told_function(&self) -> Option<usize> {
         match self.step.entry_type {
             Some(function) => Some(function),
@@ -159,7 +155,6 @@ impl<'a> Checker<'a> {
         )
     }
 
-    /// Runs a step, and returns the states in which it may end.
     fn run_step(
         &mut self,
         step: Step,
@@ -177,7 +172,6 @@ impl<'a> Checker<'a> {
         Ok(ends)
     }
 
-    /// Whether an entry can run this function without a fault.
     pub fn is_clean(&mut self, function: usize) -> Result<bool, AllocError> {
         self.is_quiet = true;
         self.quiet_count = 0;
@@ -213,7 +207,6 @@ impl<'a> Checker<'a> {
         matches!(self.values.node(value), Node::Integer(_) | Node::Text(_))
     }
 
-    /// Forgets the variables that steps of a function can assign to.
     fn forget(
         &self,
         constants: &mut Constants,

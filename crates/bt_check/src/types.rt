@@ -31,11 +31,9 @@ fn is_standard(name: &[u8]) -> bool {
     STANDARD.iter().any(|standard| *standard == name)
 }
 
-/// Which functions a body names, in braces too.
 #[derive(Drop)]
 pub struct Mentions {
     pub functions: Vec<bool>,
-    /// Whether it names `call.type$`.
     pub calls_type: bool,
 }
 
@@ -57,7 +55,6 @@ pub fn mark(marks: &mut Vec<bool>, place: usize) {
     }
 }
 
-/// Goes over the words of a body, those in braces too.
 pub fn all_words(alloc: Global, program: &Program, body: usize) -> Result<Vec<Word>, AllocError> {
     let mut words = Vec::new(alloc);
     let mut bodies = Vec::new(alloc);
@@ -76,7 +73,6 @@ pub fn all_words(alloc: Global, program: &Program, body: usize) -> Result<Vec<Wo
     Ok(words)
 }
 
-/// What a function's body names.
 pub fn names_in(alloc: Global, program: &Program, function: usize) -> Result<Mentions, AllocError> {
     let mut mentions = Mentions {
         functions: marks(alloc, program.function_count)?,
@@ -112,11 +108,9 @@ fn shared_count(marks: &[bool], others: &[bool]) -> usize {
         .count()
 }
 
-/// What the mentions of all functions tell of types.
 #[derive(Drop)]
 pub struct Catalogue {
     pub mentions: Vec<Mentions>,
-    /// Functions that another function or a command names.
     pub is_called: Vec<bool>,
     /// What all standard types name; none if the style has no standard type.
     pub common: Option<Vec<bool>>,
@@ -197,7 +191,6 @@ impl Catalogue {
         }
     }
 
-    /// The functions that are types by what they call.
     fn typical(&self, alloc: Global, program: &Program) -> Result<Vec<bool>, AllocError> {
         let mut types = Vec::new(alloc);
         for function in 0..program.function_count {
@@ -243,7 +236,6 @@ impl<'a> Checker<'a> {
         self.is_clean(function)
     }
 
-    /// Finds the functions of types.
     pub fn find_types(&mut self, catalogue: &Catalogue) -> Result<(), AllocError> {
         let program: &'a Program = self.program;
         let mut types = catalogue.typical(self.alloc, program)?;
@@ -257,7 +249,6 @@ impl<'a> Checker<'a> {
         self.set_types(types.as_slice())
     }
 
-    /// The functions that a name leads to.
     pub fn reached(&self, catalogue: &Catalogue, target: Target) -> Result<Vec<usize>, AllocError> {
         let mut seen = marks(self.alloc, self.program.function_count)?;
         let mut waiting = Vec::new(self.alloc);
@@ -280,7 +271,6 @@ impl<'a> Checker<'a> {
         Ok(reached)
     }
 
-    /// Adds the functions of all types.
     pub fn add_types(&self, waiting: &mut Vec<usize>) -> Result<(), AllocError> {
         waiting.extend_from_slice(self.types.as_slice())?;
         if let Some(function) = self.program.default_type {

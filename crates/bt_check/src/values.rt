@@ -11,7 +11,6 @@ use std::alloc::{AllocError, Global};
 /// The number of a tree.
 pub type Value = usize;
 
-/// The top of a tree.
 #[derive(Clone, Copy, PartialEq, Eq, Hash)]
 pub enum Node {
     Integer(i32),
@@ -21,15 +20,12 @@ pub enum Node {
     Field(usize),
     /// What the variable of this place held when the step began.
     Held { place: usize, kinds: Kinds },
-    /// A quoted name.
     Quoted(Target),
     /// A function in braces, by its body.
     Block(usize),
-    /// Only its kinds and bounds are known.
     Unknown(Unknown),
     /// `then` if `test` is above 0, else `other`.
     Choice(Choice),
-    /// What a built-in function makes of up to three values.
     Made(Made),
 }
 
@@ -73,9 +69,9 @@ struct Weight {
 
 /// The integer 0, also for arguments that a built-in function doesn't have.
 pub const ZERO: Value = 0;
-/// The integer 1.
+
 pub const ONE: Value = 1;
-/// The empty string.
+
 pub const EMPTY: Value = 2;
 
 /// A choice with more choices in it and in its test becomes unknown.
@@ -85,7 +81,6 @@ const MOST_NODES: usize = 200;
 /// No question follows a tree deeper than it can be.
 pub const TREE_DEPTH: usize = 2 * MOST_NODES;
 
-/// All trees, and how much may still be done with them.
 #[derive(Drop)]
 pub struct Values {
     pub alloc: Global,
@@ -118,7 +113,6 @@ impl Values {
             .unwrap_or(Node::Integer(0))
     }
 
-    /// The number of a tree that was made before.
     pub fn find(&self, node: Node) -> Option<Value> {
         self.nodes.get_index_of(&node)
     }
@@ -214,7 +208,6 @@ impl Values {
         )
     }
 
-    /// The value of a variable's kind that nothing is known of.
     pub fn any(&mut self, kinds: Kinds) -> Result<Value, AllocError> {
         self.unknown(kinds, i64::MIN, i64::MAX, false)
     }
@@ -292,7 +285,6 @@ impl Values {
         self.make(Node::Choice(choice), false)
     }
 
-    /// Whether a value can only be 1 or 0.
     fn is_bit(&self, value: Value) -> bool {
         match self.node(value) {
             Node::Made(made) => is_test(made.by),
@@ -309,7 +301,6 @@ pub fn is_test(by: Builtin) -> bool {
     )
 }
 
-/// The kind of what a built-in function makes.
 pub fn made_kinds(by: Builtin) -> Kinds {
     match by {
         Builtin::Plus

@@ -10,22 +10,17 @@ use std::alloc::{AllocError, Global};
 #[derive(Clone, Copy, PartialEq, Eq)]
 pub enum Rest {
     Nothing,
-    /// Fields that most entries have.
     Common,
     All,
     /// Only the field of this number.
     Only(usize),
-    /// The common fields and the field of this number.
     CommonAnd(usize),
-    /// All but the field of this number.
     AllBut(usize),
 }
 
-/// How an entry is filled in.
 #[derive(Clone, Copy)]
 pub struct Filling {
     pub rest: Rest,
-    /// The list of names in the fields that have one.
     pub names: &'static [u8],
     /// Whether a field that is missing or blank is blank.
     pub is_blank: bool,
@@ -56,7 +51,6 @@ fn is_among(names: &[&[u8]], name: &[u8]) -> bool {
     names.iter().any(|one| *one == name)
 }
 
-/// A value that a field usually has.
 fn value(field: &[u8], names: &'static [u8]) -> &'static [u8] {
     if is_among(&NAME_FIELDS, field) {
         return names;
@@ -78,7 +72,6 @@ fn value(field: &[u8], names: &'static [u8]) -> &'static [u8] {
 }
 
 impl Filling {
-    /// Whether a field of which nothing is known is filled in.
     fn has(self, field: usize, name: &[u8]) -> bool {
         match self.rest {
             Rest::Nothing => false,
@@ -108,7 +101,6 @@ impl Filling {
     }
 }
 
-/// What is known of a field.
 fn state_of(fault: &Fault, field: usize) -> Option<FieldState> {
     fault
         .conditions

@@ -5,14 +5,12 @@ use bt_check::{Call, Condition, Fault, Hint};
 use bt_text::Bytes;
 use std::alloc::{AllocError, Global};
 
-/// Lines of JSON.
 #[derive(Drop)]
 struct Lines<'a> {
     checked: &'a Checked<'a>,
     text: Bytes,
 }
 
-/// The digit of a number below 16.
 fn hex(number: u8) -> u8 {
     if number < 10 {
         b'0'.saturating_add(number)
@@ -21,7 +19,6 @@ fn hex(number: u8) -> u8 {
     }
 }
 
-/// Appends a byte of a string: as it is, if JSON allows that.
 fn append_byte(text: &mut Bytes, byte: u8, is_plain: bool) -> Result<(), AllocError> {
     match byte {
         b'"' => text.append(b"\\\""),
@@ -65,7 +62,6 @@ impl<'a> Lines<'a> {
         self.text.append(value.as_slice())
     }
 
-    /// Begins the object of a finding.
     fn begin(
         &mut self,
         line: usize,
@@ -155,7 +151,6 @@ impl<'a> Lines<'a> {
         self.end_list(before == b"[".as_slice())
     }
 
-    /// The last line of a style.
     fn end(&mut self) -> Result<(), AllocError> {
         self.string(b"{", b"file", self.checked.path.as_bytes())?;
         self.string(b",", b"result", self.checked.result())?;
@@ -166,7 +161,6 @@ impl<'a> Lines<'a> {
     }
 }
 
-/// The lines about a style that was checked.
 pub fn objects<'a>(checked: &'a Checked<'a>) -> Result<Bytes, AllocError> {
     let mut lines = Lines {
         checked,
@@ -182,7 +176,6 @@ pub fn objects<'a>(checked: &'a Checked<'a>) -> Result<Bytes, AllocError> {
     Ok(lines.text)
 }
 
-/// The lines about a style that can't be read.
 pub fn refused(alloc: Global, path: &str, line: usize, words: &[u8]) -> Result<Bytes, AllocError> {
     let mut text = Bytes::of(alloc, &[b"{\"file\":"])?;
     append_string(&mut text, path.as_bytes())?;

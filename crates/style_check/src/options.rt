@@ -2,7 +2,6 @@
 
 use std::alloc::{AllocError, Global};
 
-/// How findings are printed.
 #[derive(Clone, Copy, PartialEq, Eq)]
 pub enum Format {
     Text,
@@ -10,24 +9,18 @@ pub enum Format {
     Json,
 }
 
-/// What to print.
 #[derive(Clone, Copy)]
 pub struct Options {
-    /// Whether the entry types are listed that the check takes for the style's.
     pub shows_types: bool,
-    /// Whether the style is also linted.
     pub lints: bool,
     pub format: Format,
 }
 
-/// What the words of a command line come to.
 #[derive(Drop)]
 pub enum Request<'a> {
-    /// To check these styles.
     Check(Options, Vec<&'a str>),
     Help,
     Version,
-    /// It names no style.
     NoStyle,
     UnknownOption(&'a str),
 }

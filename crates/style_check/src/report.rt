@@ -5,7 +5,6 @@ use bt_style::Style;
 use bt_text::Bytes;
 use std::alloc::{AllocError, Global};
 
-/// A style that was checked.
 #[derive(Drop)]
 pub struct Checked<'a> {
     pub alloc: Global,
@@ -25,7 +24,6 @@ const FAULTS: u8 = 2;
 /// The exit status if a style can't be read, or the analysis gave up.
 pub const UNKNOWN: u8 = 3;
 
-/// A number in decimal.
 pub fn decimal(alloc: Global, number: usize) -> Result<Bytes, AllocError> {
     Bytes::copied(alloc, format!(in alloc; "{number}")?.as_bytes())
 }
@@ -47,7 +45,6 @@ impl<'a> Checked<'a> {
         }
     }
 
-    /// An entry that triggers the fault of this place.
     pub fn witness(&self, place: usize) -> Option<&Bytes> {
         match self.witnesses.get(place) {
             Some(Some(entry)) => Some(entry),
@@ -55,7 +52,6 @@ impl<'a> Checked<'a> {
         }
     }
 
-    /// What the check came to.
     pub fn result(&self) -> &'static [u8] {
         if self.findings.gave_up {
             b"gave up"
@@ -79,14 +75,12 @@ impl<'a> Checked<'a> {
     }
 }
 
-/// A report.
 #[derive(Drop)]
 struct Report<'a> {
     checked: &'a Checked<'a>,
     text: Bytes,
 }
 
-/// The report about a style that can't be read.
 pub fn refused(alloc: Global, path: &str, line: usize, words: &[u8]) -> Result<Bytes, AllocError> {
     let mut text = Bytes::new(alloc);
     add_head(alloc, &mut text, path, line, b"error", b"read")?;
@@ -94,7 +88,6 @@ pub fn refused(alloc: Global, path: &str, line: usize, words: &[u8]) -> Result<B
     Ok(text)
 }
 
-/// Begins the first line of a finding.
 fn add_head<'x>(
     alloc: Global,
     text: &mut Bytes,
@@ -225,7 +218,6 @@ impl<'a> Report<'a> {
         Ok(())
     }
 
-    /// Adds the types that the check took for the style's.
     fn types(&mut self) -> Result<(), AllocError> {
         let checked: &'a Checked<'a> = self.checked;
         self.text
@@ -238,7 +230,6 @@ impl<'a> Report<'a> {
     }
 }
 
-/// The report about a style that was checked.
 pub fn in_words<'a>(checked: &'a Checked<'a>) -> Result<Bytes, AllocError> {
     let mut report = Report {
         checked,

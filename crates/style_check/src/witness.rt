@@ -11,10 +11,8 @@ use bt_style::{Builtin, Style};
 use bt_text::{Bytes, Shared};
 use std::alloc::{AllocError, Global};
 
-/// A candidate.
 #[derive(Drop)]
 struct Candidate {
-    /// The place of its fault.
     fault: usize,
     key: Bytes,
     written: Bytes,
@@ -22,7 +20,6 @@ struct Candidate {
     shown: Bytes,
 }
 
-/// No more candidates are run together.
 const MOST_CANDIDATES: usize = 900;
 
 const NAMES: [&[u8]; 3] = [
@@ -57,7 +54,6 @@ fn words_of(fault: &Fault) -> (&'static [u8], &'static [u8]) {
     }
 }
 
-/// How hard the search is.
 #[derive(Clone, Copy, PartialEq, Eq)]
 enum Search {
     /// Nothing, the common fields and all of them.
@@ -66,7 +62,6 @@ enum Search {
     Long,
 }
 
-/// The type of the entries of a fault's step, if the step is of one type.
 fn own_type<'a>(style: &'a Style, fault: &Fault) -> Option<&'a [u8]> {
     let function = style.functions.as_slice().get(fault.step.entry_type?)?;
     if function.name.as_slice() == b"default.type".as_slice() {
@@ -92,7 +87,6 @@ fn add_rests(rests: &mut Vec<Rest>, fields: usize, search: Search) -> Result<(),
     }
 }
 
-/// The ways to fill in entries for a search.
 fn fillings(alloc: Global, style: &Style, search: Search) -> Result<Vec<Filling>, AllocError> {
     let mut rests = Vec::new(alloc);
     add_rests(&mut rests, style.fields.len(), search)?;
@@ -116,7 +110,6 @@ fn fillings(alloc: Global, style: &Style, search: Search) -> Result<Vec<Filling>
     Ok(fillings)
 }
 
-/// What is searched for, and what is found.
 #[derive(Drop)]
 struct Hunt<'a> {
     alloc: Global,
@@ -132,13 +125,11 @@ fn key_of(alloc: Global, number: usize) -> Result<Bytes, AllocError> {
     Bytes::copied(alloc, format!(in alloc; "e{number}")?.as_bytes())
 }
 
-/// The number of a candidate's key.
 fn number_of(key: &[u8]) -> Option<usize> {
     let digits = key.strip_prefix(b"e".as_slice())?;
     std::str::from_utf8(digits).ok()?.parse::<usize>().ok()
 }
 
-/// The number of the candidate that a message is about.
 fn candidate_of(message: &Message) -> Option<usize> {
     match &message.entry {
         Some(key) => number_of(key.as_slice()),
@@ -264,7 +255,6 @@ impl<'a> Hunt<'a> {
         run(self.alloc, files.as_slice(), b"j", 2)
     }
 
-    /// Whether a message is that of the fault of this place.
     fn is_said(&self, place: usize, message: &Message) -> bool {
         match self.faults.get(place) {
             Some(fault) => says(message, fault),
