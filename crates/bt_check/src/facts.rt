@@ -134,6 +134,10 @@ impl Facts {
         Ok(self.assumed.push(Assumed { value, truth })?)
     }
 
+    pub fn forget(&mut self, assumed: Assumed) {
+        self.assumed.retain(|one| *one != assumed);
+    }
+
     pub fn joined(&self, other: &Facts, alloc: Global) -> Result<Facts, AllocError> {
         let mut both = Facts::new(alloc);
         for (value, known) in self.values.iter().zip(self.known.iter()) {

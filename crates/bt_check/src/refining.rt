@@ -77,6 +77,16 @@ impl Values {
         }
     }
 
+    /// Whether a choice can be above 0 (or not) by its first side, and by its second.
+    fn sides(&self, facts: &Facts, choice: Choice, truth: bool) -> (bool, bool) {
+        let wrong = Some(!truth);
+        let test = self.decide(facts, choice.test);
+        (
+            test != Some(false) && self.decide(facts, choice.then) != wrong,
+            test != Some(true) && self.decide(facts, choice.other) != wrong,
+        )
+    }
+
     /// For a value that isn't a choice: what follows from it alone, and then from what was assumed.
     #[cycle(refining)]
     fn refine_plain(
@@ -133,8 +143,17 @@ impl Values {
         if depth == 0 {
             return Ok(Some(facts.copied(self.alloc)?));
         }
-        let then = self.refine_both(facts, choice.test, true, choice.then, truth, depth - 1)?;
-        let other = self.refine_both(facts, choice.test, false, choice.other, truth, depth - 1)?;
+        let (can_then, can_other) = self.sides(facts, choice, truth);
+        let then = if can_then {
+            self.refine_both(facts, choice.test, true, choice.then, truth, depth - 1)?
+        } else {
+            None
+        };
+        let other = if can_other {
+            self.refine_both(facts, choice.test, false, choice.other, truth, depth - 1)?
+        } else {
+            None
+        };
         match (then, other) {
             (Some(then), Some(other)) => {
                 let mut both = then.joined(&other, self.alloc)?;
@@ -151,7 +170,7 @@ impl Values {
     #[cycle(refining)]
     fn again(
         &mut self,
-        facts: Facts,
+        mut facts: Facts,
         assumed: Assumed,
         depth: usize,
     ) -> Result<Option<Facts>, AllocError> {
@@ -161,33 +180,18 @@ impl Values {
         let Node::Choice(choice) = self.node(assumed.value) else {
             return Ok(Some(facts));
         };
-        let wrong = Some(!assumed.truth);
-        let test = self.decide(&facts, choice.test);
-        let can_then = test != Some(false) && self.decide(&facts, choice.then) != wrong;
-        let can_other = test != Some(true) && self.decide(&facts, choice.other) != wrong;
+        let (can_then, can_other) = self.sides(&facts, choice, assumed.truth);
         if can_then && can_other {
-            Ok(Some(facts))
-        } else if can_then {
-            self.refine_both(
-                &facts,
-                choice.test,
-                true,
-                choice.then,
-                assumed.truth,
-                depth - 1,
-            )
-        } else if can_other {
-            self.refine_both(
-                &facts,
-                choice.test,
-                false,
-                choice.other,
-                assumed.truth,
-                depth - 1,
-            )
-        } else {
-            Ok(None)
+            return Ok(Some(facts));
         }
+        let Assumed { value, truth } = assumed;
+        // It isn't assumed meanwhile: else each fact that follows would begin the same conclusions again.
+        facts.forget(assumed);
+        let Some(mut next) = self.refine_choice(&facts, value, choice, truth, depth - 1)? else {
+            return Ok(None);
+        };
+        next.assume(value, truth)?;
+        Ok(Some(next))
     }
 
     /// What follows from one fact: what is missing is empty, a string equals one constant only, and bounds.

@@ -77,7 +77,7 @@ impl Values {
         choice: Choice,
         depth: usize,
     ) -> Result<Kinds, AllocError> {
-        if depth == 0 {
+        if depth == 0 || choice.kinds.is_single() {
             return Ok(choice.kinds);
         }
         match self.decide(facts, choice.test) {
