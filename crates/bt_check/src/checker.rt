@@ -10,7 +10,7 @@ use crate::program::Program;
 use crate::signature::takes;
 use crate::splitting::Split;
 use crate::state::State;
-use crate::values::{Made, Node, Value, Values, ZERO};
+use crate::values::{Node, Value, Values, ZERO};
 use bt_style::{Builtin, Style, Target};
 use bt_text::Bytes;
 use std::alloc::{AllocError, Global};
@@ -57,8 +57,8 @@ impl<'a> Checker<'a> {
 
     fn field_state(&self, facts: &Facts, field: usize) -> Option<FieldState> {
         let value = self.values.find(Node::Field(field))?;
-        let is_empty = self.truth_of(facts, Builtin::Empty, value);
-        let is_missing = self.truth_of(facts, Builtin::Missing, value);
+        let is_empty = self.values.truth_of(facts, Builtin::Empty, value);
+        let is_missing = self.values.truth_of(facts, Builtin::Missing, value);
         match (is_empty, is_missing) {
             (_, Some(true)) => Some(FieldState::Missing),
             (Some(true), Some(false)) => Some(FieldState::Blank),
@@ -67,16 +67,6 @@ impl<'a> Checker<'a> {
             (None, Some(false)) => Some(FieldState::Given),
             (None, None) => None,
         }
-    }
-
-    fn truth_of(&self, facts: &Facts, by: Builtin, value: Value) -> Option<bool> {
-        let test = self.values.find(Node::Made(Made {
-            by,
-            first: value,
-            second: ZERO,
-            third: ZERO,
-        }))?;
-        facts.truth(test)
     }
 
     fn conditions(&self, facts: &Facts) -> Result<Vec<Condition>, AllocError> {

@@ -59,8 +59,7 @@ impl<'a> Checker<'a> {
             let Head { mut exits, .. } = head;
             ends.append(&mut exits)?;
         }
-        let mut merged = self.values.merge(ends, None)?;
-        Ok(next.append(&mut merged)?)
+        self.merge_to(ends, None, next)
     }
 
     /// Takes a turn's test from the stack: adds the state in which the loop ends, and returns the one in which it goes on.

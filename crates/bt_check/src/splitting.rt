@@ -28,17 +28,15 @@ impl Values {
         self.kinds_within(facts, value, DEPTH)
     }
 
-    fn is_missing(&self, facts: &Facts, value: Value) -> Option<bool> {
-        let test = Made {
-            by: Builtin::Missing,
+    /// Whether a value is known to be empty or missing, as `by` tells.
+    pub fn truth_of(&self, facts: &Facts, by: Builtin, value: Value) -> Option<bool> {
+        let test = self.find(Node::Made(Made {
+            by,
             first: value,
             second: ZERO,
             third: ZERO,
-        };
-        match self.find(Node::Made(test)) {
-            Some(test) => facts.truth(test),
-            None => None,
-        }
+        }))?;
+        facts.truth(test)
     }
 
     fn plain_kinds(&self, facts: &Facts, value: Value, node: Node) -> Kinds {
@@ -46,7 +44,7 @@ impl Values {
         if !kinds.missing {
             return kinds;
         }
-        match self.is_missing(facts, value) {
+        match self.truth_of(facts, Builtin::Missing, value) {
             Some(true) => kinds.and(MISSING),
             Some(false) => kinds.without(MISSING),
             None => kinds,
