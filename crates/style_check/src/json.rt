@@ -76,9 +76,14 @@ impl<'a> Lines<'a> {
         self.string(b",", b"message", words)
     }
 
+    fn list(&mut self, name: &[u8]) -> Result<(), AllocError> {
+        self.member(b",", name)?;
+        self.text.append(b"[")
+    }
+
     fn calls(&mut self, calls: &[Call]) -> Result<(), AllocError> {
-        self.member(b",", b"calls")?;
-        let mut before: &[u8] = b"[{";
+        self.list(b"calls")?;
+        let mut before: &[u8] = b"{";
         for call in calls.iter().rev() {
             let name = self.checked.function_name(call.function);
             self.string(before, b"function", name)?;
@@ -86,20 +91,12 @@ impl<'a> Lines<'a> {
             self.text.append(b"}")?;
             before = b",{";
         }
-        self.end_list(before == b"[{".as_slice())
-    }
-
-    fn end_list(&mut self, is_empty: bool) -> Result<(), AllocError> {
-        if is_empty {
-            self.text.append(b"[]")
-        } else {
-            self.text.append(b"]")
-        }
+        self.text.append(b"]")
     }
 
     fn fields(&mut self, conditions: &[Condition]) -> Result<(), AllocError> {
-        self.member(b",", b"fields")?;
-        let mut before: &[u8] = b"[{";
+        self.list(b"fields")?;
+        let mut before: &[u8] = b"{";
         for condition in conditions {
             let name = self.checked.field_name(condition.field);
             self.string(before, b"field", name)?;
@@ -107,7 +104,7 @@ impl<'a> Lines<'a> {
             self.text.append(b"}")?;
             before = b",{";
         }
-        self.end_list(before == b"[{".as_slice())
+        self.text.append(b"]")
     }
 
     fn fault(&mut self, fault: &Fault, witness: Option<&'a Bytes>) -> Result<(), AllocError> {
@@ -141,14 +138,14 @@ impl<'a> Lines<'a> {
 
     fn types(&mut self) -> Result<(), AllocError> {
         let checked: &'a Checked<'a> = self.checked;
-        self.member(b",", b"types")?;
-        let mut before: &[u8] = b"[";
+        self.list(b"types")?;
+        let mut before: &[u8] = b"";
         for function in &checked.findings.types {
             self.text.append(before)?;
             append_string(&mut self.text, checked.function_name(*function))?;
             before = b",";
         }
-        self.end_list(before == b"[".as_slice())
+        self.text.append(b"]")
     }
 
     fn end(&mut self) -> Result<(), AllocError> {
