@@ -1,0 +1,4 @@
+pub mod StateLemmas
+pub mod KnownLemmas
+pub mod TextLemmas
+pub mod FollowLemmas

@@ -1,0 +1,99 @@
+-- Texts by their names: what is looked up after an edit of a session.
+use Rattle.std.proofs.Common.{◌≡◌, ◌∙◌, ap, sym, refl, ◌+◌, ℕ, suc, Bool, true, false, not, cond, List, [], ◌∷◌, length, Option, Some, None, option_map, one-add, true≢false}
+use Rattle.std.specs.Prelude.{if◌then◌else◌, nat_lt, bytes_eq}
+use Rattle.std.specs.List.{position_or_len}
+use Rattle.std.proofs.Math.Dec.{leb-zero, leb-suc-suc}
+use Rattle.std.proofs.lemmas.Cmp.{nat_list_eq_equiv}
+use Rattle.std.proofs.lemmas.Slice.Eq.{bytes_eq-Decides}
+use Rattle.bt_job.specs.declared.files.File.{File}
+use Rattle.bt_job.specs.FileNames.{text_of}
+use Rattle.bibtex.specs.Present.{place_of_file, put_at, without}
+
+-- Names
+
+-- names that are equal to one name
+pub same_name : (a b : List ℕ) → bytes_eq a b ≡ true → a ≡ b
+same_name a b h = (bytes_eq-Decides a b).0 h
+
+pub flipped : (a b : List ℕ) → bytes_eq a b ≡ bytes_eq b a
+flipped a b = nat_list_eq_equiv.symm a b
+
+-- a name that isn't another isn't both at once
+not_both : (a b n : List ℕ) → bytes_eq a b ≡ false → bytes_eq a n ≡ true → bytes_eq b n ≡ true → ⊥
+not_both a b n apart p q = true≢false (sym (nat_list_eq_equiv.congr a n b p ∙ flipped n b ∙ q) ∙ apart)
+
+-- Which file has a name
+
+-- the place in a longer list
+place_more : (b : Bool) (n l : ℕ) → cond (nat_lt (cond (not b) (1 + n) 0) (suc l)) (Some (cond (not b) (1 + n) 0)) None ≡ cond b (Some 0) (option_map suc (cond (nat_lt n l) (Some n) None))
+place_more true n l = rw (leb-suc-suc 0 l, leb-zero l) refl
+place_more false n l = rw (one-add n, leb-suc-suc (suc n) l) (go (nat_lt n l))
+  where
+    go : (q : Bool) → cond q (Some (suc n)) None ≡ option_map suc (cond q (Some n) None)
+    go true = refl
+    go false = refl
+
+pub place_step : (name : List ℕ) (f : File) (fs : List File) → place_of_file name (f ∷ fs) ≡ cond (bytes_eq f.name name) (Some 0) (option_map suc (place_of_file name fs))
+place_step name f fs = place_more (bytes_eq f.name name) (position_or_len (λ (g : File). bytes_eq g.name name) fs) (length fs)
+
+-- A text that is put
+
+-- a file in the place of that of its name, or after the others, file by file
+abbrev put : File → List File → List File
+put file [] = file ∷ []
+put file (f ∷ fs) = if bytes_eq f.name file.name then file ∷ fs else f ∷ put file fs
+
+put_more : (b : Bool) (o : Option ℕ) (file f : File) (fs : List File) → put_at (cond b (Some 0) (option_map suc o)) file (f ∷ fs) ≡ cond b (file ∷ fs) (f ∷ put_at o file fs)
+put_more true o file f fs = refl
+put_more false None file f fs = refl
+put_more false (Some n) file f fs = refl
+
+pub put_is : (file : File) (files : List File) → put_at (place_of_file file.name files) file files ≡ put file files
+put_is file [] = refl
+put_is file (f ∷ fs) =
+    ap (λ o. put_at o file (f ∷ fs)) (place_step file.name f fs)
+    ∙ put_more (bytes_eq f.name file.name) (place_of_file file.name fs) file f fs
+    ∙ ap (λ (rest : List File). cond (bytes_eq f.name file.name) (file ∷ fs) (f ∷ rest)) (put_is file fs)
+
+-- Look-ups after a change
+
+twice : {A : Type 0} (c : Bool) (x y z : A) → cond c x y ≡ cond c x (cond c z y)
+twice true x y z = refl
+twice false x y z = refl
+
+exchanged : {A : Type 0} (c d : Bool) (x y z : A) → (c ≡ true → d ≡ true → ⊥) → cond c x (cond d y z) ≡ cond d y (cond c x z)
+exchanged true true x y z apart = absurd (apart refl refl)
+exchanged true false x y z apart = refl
+exchanged false d x y z apart = refl
+
+pub text_of_put : (file : File) (files : List File) (n : List ℕ) → text_of (put file files) n ≡ (if bytes_eq file.name n then Some file.text else text_of files n)
+text_of_put file [] n = refl
+text_of_put file (f ∷ fs) n = go (bytes_eq f.name file.name) refl (text_of_put file fs n)
+  where
+    go : (b : Bool) → bytes_eq f.name file.name ≡ b → text_of (put file fs) n ≡ (if bytes_eq file.name n then Some file.text else text_of fs n) →
+        text_of (if b then file ∷ fs else f ∷ put file fs) n ≡ (if bytes_eq file.name n then Some file.text else text_of (f ∷ fs) n)
+    go true is later =
+        twice (bytes_eq file.name n) (Some file.text) (text_of fs n) (Some f.text)
+        ∙ ap (λ (m : List ℕ). cond (bytes_eq file.name n) (Some file.text) (cond (bytes_eq m n) (Some f.text) (text_of fs n))) (sym (same_name f.name file.name is))
+    go false is later =
+        ap (λ o. cond (bytes_eq f.name n) (Some f.text) o) later
+        ∙ exchanged (bytes_eq f.name n) (bytes_eq file.name n) (Some f.text) (Some file.text) (text_of fs n) (not_both f.name file.name n is)
+
+none_either : (b : Bool) → text_of [] [] ≡ (if b then None else text_of [] [])
+none_either true = refl
+none_either false = refl
+
+-- A name without a text has none, and every other has the one that it had.
+pub text_of_without : (name : List ℕ) (files : List File) (n : List ℕ) → text_of (without name files) n ≡ (if bytes_eq name n then None else text_of files n)
+text_of_without name [] n = none_either (bytes_eq name n)
+text_of_without name (f ∷ fs) n = go (bytes_eq f.name name) refl (text_of_without name fs n)
+  where
+    go : (b : Bool) → bytes_eq f.name name ≡ b → text_of (without name fs) n ≡ (if bytes_eq name n then None else text_of fs n) →
+        text_of (cond (not b) (f ∷ without name fs) (without name fs)) n ≡ (if bytes_eq name n then None else text_of (f ∷ fs) n)
+    go true is later =
+        later
+        ∙ twice (bytes_eq name n) None (text_of fs n) (Some f.text)
+        ∙ ap (λ (m : List ℕ). cond (bytes_eq name n) None (cond (bytes_eq m n) (Some f.text) (text_of fs n))) (sym (same_name f.name name is))
+    go false is later =
+        ap (λ o. cond (bytes_eq f.name n) (Some f.text) o) later
+        ∙ exchanged (bytes_eq f.name n) (bytes_eq name n) (Some f.text) None (text_of fs n) (not_both f.name name n is)

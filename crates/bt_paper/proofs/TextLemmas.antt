@@ -1,0 +1,104 @@
+-- What an edit of a session does to the texts of names.
+use Rattle.std.proofs.Common.{◌≡◌, ◌∙◌, ap, sym, refl, subst, ℕ, Bool, true, false, List, [], ◌∷◌, Option, Some, None, Result, Ok, Err, true≢false}
+use Rattle.std.specs.Prelude.{if◌then◌else◌, bytes_eq, IsTrue, IfOk, OnErr}
+use Rattle.bt_job.specs.declared.files.File.{File}
+use Rattle.bt_job.specs.FileNames.{text_of}
+use Rattle.bibtex.specs.declared.state.State.{State}
+use Rattle.bibtex.specs.declared.edit.Refusal.{Refusal}
+use Rattle.bibtex.specs.Edit.{write, remove}
+use Rattle.bibtex.specs.Applied.{applied, unless_refused, refusal_of, changed}
+use Rattle.bt_paper.proofs.StateLemmas.{same_name, flipped, put_is, text_of_put, text_of_without}
+use Rattle.bt_paper.specs.declared.known.Known.{Known}
+use Rattle.bt_paper.specs.Known.{name_of}
+use Rattle.bt_paper.specs.Paper.{text_under, text_at, GivesText, OthersStay, KeepsTexts, KeepsOthers}
+use Rattle.bt_paper.proofs.KnownLemmas.{some_is, not_none, is_itself, names_apart}
+
+unless_ok : (r : Option Refusal) (s t : State) → unless_refused r s ≡ Ok t → s ≡ t
+unless_ok None s t e = cc
+unless_ok (Some r) s t e = absurd (cc)
+
+-- a text that was written
+pub text_written : (name new : List ℕ) (s t : State) → applied (write name new) s ≡ Ok t → GivesText name new s t
+text_written name new s t e other =
+    ap (λ (x : State). text_of x.texts other) (sym (unless_ok _ (changed (write name new) s) t e)) ∙
+    ap (λ fs. text_of fs other) (put_is (record { name = name; text = new }) s.texts) ∙ text_of_put (record { name = name; text = new }) s.texts other
+
+-- a file that was taken away
+pub text_removed : (name : List ℕ) (s t : State) → applied (remove name) s ≡ Ok t → OthersStay name s t
+text_removed name s t e other apart =
+    ap (λ (x : State). text_of x.texts other) (sym (unless_ok _ (changed (remove name) s) t e)) ∙ text_of_without name s.texts other ∙ rw apart refl
+
+-- the same, whether it was there or not
+pub removed_any : {A : Type 0} (name : List ℕ) (s t : State) (r : Result A Refusal) → IfOk r (λ _. applied (remove name) s ≡ Ok t) → OnErr r (t ≡ s) → OthersStay name s t
+removed_any name s t (Ok x) ok err = text_removed name s t ok
+removed_any name s t (Err e) ok err = λ other apart. ap (λ (x : State). text_of x.texts other) err
+
+-- a text that was there already
+pub text_there : (name new : List ℕ) (s : State) → text_of s.texts name ≡ Some new → GivesText name new s s
+text_there name new s e other = go (bytes_eq name other) refl
+  where
+    go : (b : Bool) → bytes_eq name other ≡ b → text_of s.texts other ≡ (if b then Some new else text_of s.texts other)
+    go true is = subst (λ n. text_of s.texts n ≡ Some new) (same_name name other is) e
+    go false is = refl
+
+-- ---- from names to URIs
+
+-- the text of a URI is that of its name
+pub under : (s : State) (o : Option (List ℕ)) (text : List ℕ) → text_under (Some s) o ≡ Some text → (n : List ℕ) × (o ≡ Some n) × (text_of s.texts n ≡ Some text)
+under s None text e = absurd (cc)
+under s (Some n) text e = (n, refl, e)
+
+given_other : (name new other text : List ℕ) (s t : State) → GivesText name new s t → bytes_eq name other ≡ false → text_of s.texts other ≡ Some text → text_of t.texts other ≡ Some text
+given_other name new other text s t gives apart e = gives other ∙ rw apart e
+
+-- a name without a text is none that has one
+unlike : (s : State) (name other text : List ℕ) → text_of s.texts name ≡ None → text_of s.texts other ≡ Some text → bytes_eq name other ≡ false
+unlike s name other text none e = go (bytes_eq name other) refl
+  where
+    go : (b : Bool) → bytes_eq name other ≡ b → bytes_eq name other ≡ false
+    go false is = is
+    go true is = absurd (not_none (text_of s.texts other) text (subst (λ n. text_of s.texts n ≡ None) (same_name name other is) none) e)
+
+-- a new text under a name that has none
+pub text_added : (s t : State) (known more : List Known) (name new : List ℕ) (b : Bool) → text_of s.texts name ≡ None →
+    ((uri n : List ℕ) → name_of known uri ≡ Some n → name_of more uri ≡ Some n) → (b ≡ false → t ≡ s) → (IsTrue b → GivesText name new s t) →
+    KeepsTexts (text_at (Some s) known) (text_at (Some t) more)
+text_added s t known more name new b none keeps kept gives uri text e =
+    let was = under s (name_of known uri) text e in
+    rw (keeps uri was.0 was.1) (go b kept gives was.0 was.2)
+  where
+    go : (b : Bool) → (b ≡ false → t ≡ s) → (IsTrue b → GivesText name new s t) → (n : List ℕ) → text_of s.texts n ≡ Some text → text_of t.texts n ≡ Some text
+    go false kept gives n is = subst (λ (x : State). text_of x.texts n ≡ Some text) (sym (kept refl)) is
+    go true kept gives n is = given_other name new n text s t (gives refl) (unlike s name n text none is) is
+
+-- a new text of the file at a URI
+pub text_reread : (s t : State) (known : List Known) (uri name : List ℕ) → name_of known uri ≡ Some name → OthersStay name s t → KeepsOthers uri (text_at (Some s) known) (text_at (Some t) known)
+text_reread s t known uri name is stay other text apart e =
+    let was = under s (name_of known other) text e in
+    rw was.1 (stay was.0 (names_apart known uri other name was.0 is was.1 (flip apart)) ∙ was.2)
+  where
+    flip : bytes_eq other uri ≡ false → bytes_eq uri other ≡ false
+    flip apart = flipped uri other ∙ apart
+
+-- a text that was given, or refused, leaves others
+pub others_given : (s t : State) (name new : List ℕ) (b : Bool) → (b ≡ false → t ≡ s) → (IsTrue b → GivesText name new s t) → OthersStay name s t
+others_given s t name new false kept gives other apart = ap (λ (x : State). text_of x.texts other) (kept refl)
+others_given s t name new true kept gives other apart = gives refl other ∙ rw apart refl
+
+-- ---- what `write` says of URIs
+
+-- others keep what they have, a text or none
+pub uris_stay : (s t : State) (known : List Known) (uri other name : List ℕ) → name_of known uri ≡ Some name → OthersStay name s t → bytes_eq other uri ≡ false →
+    text_at (Some t) known other ≡ text_at (Some s) known other
+uris_stay s t known uri other name is stay apart = go (name_of known other) refl
+  where
+    flip : bytes_eq other uri ≡ false → bytes_eq uri other ≡ false
+    flip apart = flipped uri other ∙ apart
+
+    go : (o : Option (List ℕ)) → name_of known other ≡ o → text_under (Some t) (name_of known other) ≡ text_under (Some s) (name_of known other)
+    go None is_none = rw is_none refl
+    go (Some n) is_some = rw is_some (stay n (names_apart known uri other name n is is_some (flip apart)))
+
+-- the file at a URI has its new text
+pub uri_written : (s t : State) (known : List Known) (uri name new : List ℕ) → name_of known uri ≡ Some name → GivesText name new s t → text_at (Some t) known uri ≡ Some new
+uri_written s t known uri name new is gives = rw is (gives name ∙ rw (is_itself name) refl)

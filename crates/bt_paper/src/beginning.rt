@@ -1,0 +1,97 @@
+//! Begins a job: finds its files, and runs them once.
+
+use crate::finding::{Found, find};
+use crate::folders::{Folder, folder_at, folder_of};
+use crate::known::{Known, note};
+use crate::library::Library;
+use bibtex::{Draft, Edit, Session, is_root_name};
+use bt_text::Sequence;
+use std::alloc::{AllocError, Global};
+
+/// How often new texts may name further files: nested `.aux` files do.
+pub const ROUNDS: usize = 64;
+
+/// The folders of an editor and of the command line, in this order.
+pub fn all_folders(
+    alloc: Global,
+    editor: Option<&str>,
+    paths: &[String],
+) -> Result<Vec<Folder>, AllocError> {
+    let mut folders = Vec::new(alloc);
+    if let Some(uri) = editor
+        && let Some(folder) = folder_of(alloc, uri)?
+    {
+        folders.push(folder)?;
+    }
+    'paths: for path in paths {
+        folders.push(folder_at(alloc, path.as_str())?)?;
+    }
+    Ok(folders)
+}
+
+/// Gives a draft the file of a name, if it is found. Says whether the draft took it.
+fn add<L: Library>(
+    alloc: Global,
+    library: &L,
+    folders: &[Folder],
+    draft: &mut Draft,
+    known: &mut Sequence<Known>,
+    name: &[u8],
+) -> Result<bool, AllocError> {
+    let Some(Found { file, text }) = find(alloc, library, folders, name)? else {
+        return Ok(false);
+    };
+    note(known, file)?;
+    Ok(draft.edit(Edit::Write(name, text.as_slice())).is_ok())
+}
+
+/// Gives a draft the files that it looks for, as far as they are found. Says whether it took one.
+fn fill<L: Library>(
+    alloc: Global,
+    library: &L,
+    folders: &[Folder],
+    draft: &mut Draft,
+    known: &mut Sequence<Known>,
+) -> Result<bool, AllocError> {
+    let wanted = draft.wanted()?;
+    let mut grown = false;
+    'names: for name in wanted.as_slice() {
+        let taken = add(alloc, library, folders, draft, known, name.as_slice())?;
+        grown = grown || taken;
+    }
+    Ok(grown)
+}
+
+/// A draft of a job with its files, as far as they are found.
+fn filled<L: Library>(
+    alloc: Global,
+    library: &L,
+    folders: &[Folder],
+    root: &[u8],
+    known: &mut Sequence<Known>,
+) -> Result<Draft, AllocError> {
+    let Ok(mut draft) = Draft::new(alloc, root, 2) else {
+        return Err(AllocError);
+    };
+    'rounds: for _ in 0..ROUNDS {
+        if !fill(alloc, library, folders, &mut draft, known)? {
+            break;
+        }
+    }
+    Ok(draft)
+}
+
+/// The session of a job, whose files are read and run once. There is none if the job's name can't be one.
+pub fn begun<L: Library>(
+    alloc: Global,
+    library: &L,
+    folders: &[Folder],
+    root: &[u8],
+    known: &mut Sequence<Known>,
+) -> Result<Option<Session>, AllocError> {
+    if !is_root_name(root) {
+        return Ok(None);
+    }
+    let draft = filled(alloc, library, folders, root, known)?;
+    Ok(Some(Session::of(draft)?))
+}

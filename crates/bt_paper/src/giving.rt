@@ -1,0 +1,69 @@
+//! Gives a session's file a new text.
+
+ghost use Rattle.std.specs.Prelude.{◌≡◌, false, Some, None, IsTrue};
+ghost use Rattle.bt_job.specs.FileNames.{text_of};
+ghost use Rattle.bt_paper.specs.Paper.{GivesText, OthersStay};
+
+use bibtex::{Edit, Session};
+use bt_text::Bytes;
+
+/// Whether a session's file has this text.
+fn has_text(session: &Session, name: &[u8], text: &[u8]) -> bool
+    ensures { IsTrue result → text_of session.now.texts name.now ≡ Some text.now }
+{
+    match session.file(name) {
+        Some(own) => own == text,
+        None => false,
+    }
+}
+
+/// Whether a session has no file of a name.
+pub fn lacks(session: &Session, name: &[u8]) -> bool
+    ensures { IsTrue result → text_of session.now.texts name.now ≡ None }
+{
+    match session.file(name) {
+        Some(_) => false,
+        None => true,
+    }
+}
+
+/// Gives a session's file a text, and says whether the session took it.
+fn write(session: &mut Session, name: &[u8], new: &[u8]) -> bool
+    ensures kept { result ≡ false → session.new ≡ session.old }
+    ensures gives { IsTrue result → GivesText name.now new.now session.old session.new }
+{
+    match session.edit(Edit::Write(name, new)) {
+        Ok(_) => true,
+        Err(_) => false,
+    }
+}
+
+/// Gives a session's file a text that it may have already, and says whether it has it now.
+pub fn give(session: &mut Session, name: &[u8], new: &[u8]) -> bool
+    ensures kept { result ≡ false → session.new ≡ session.old }
+    ensures gives { IsTrue result → GivesText name.now new.now session.old session.new }
+{
+    if has_text(session, name, new) {
+        true
+    } else {
+        write(session, name, new)
+    }
+}
+
+/// Takes a session's file away, if it has one of this name.
+fn remove(session: &mut Session, name: &[u8])
+    ensures { OthersStay name.now session.old session.new }
+{
+    let _ = session.edit(Edit::Remove(name));
+}
+
+/// Gives a session's file a text, or takes it away if there is none.
+pub fn replace(session: &mut Session, name: &[u8], text: Option<Bytes>)
+    ensures { OthersStay name.now session.old session.new }
+{
+    let Some(text) = text else {
+        remove(session, name);
+        return;
+    };
+    let _ = give(session, name, text.as_slice());
+}

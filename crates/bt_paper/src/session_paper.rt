@@ -1,0 +1,245 @@
+//! A session as the desk's paper.
+
+ghost use Rattle.std.specs.Prelude.{◌≡◌};
+ghost use Rattle.bt_documents.specs.Documents.{Follows};
+ghost use Rattle.bt_paper.specs.Paper.{text_at, KeepsTexts};
+
+use crate::beginning::{ROUNDS, all_folders, begun};
+use crate::finding::find;
+use crate::folders::{Folder, path_of};
+use crate::giving::give;
+use crate::known::{Known, name_of};
+use crate::library::Library;
+use crate::open_files::{add, is_among, reread};
+use bibtex::Session;
+use bt_documents::{Document, Files};
+use bt_log::Message;
+use bt_lsp::Paper;
+use bt_text::{Bytes, Sequence};
+use std::alloc::{AllocError, Global};
+
+/// What the command line says.
+#[derive(Drop)]
+pub struct Options {
+    /// The job, unless the editor names another. Empty if it isn't named.
+    pub job: String,
+    /// The folders that are searched in order, each with a slash at its end. The editor's folder precedes them.
+    pub folders: Vec<String>,
+}
+
+/// A session, once its job is known, and its files.
+#[derive(Drop)]
+pub struct SessionPaper<L> {
+    pub alloc: Global,
+    pub library: L,
+    pub options: Options,
+    pub folders: Vec<Folder>,
+    pub session: Option<Session>,
+    pub known: Sequence<Known>,
+}
+
+/// Copies of the names of the files that the run looks for and doesn't find.
+fn wanted(alloc: Global, session: &Option<Session>) -> Result<Sequence<Bytes>, AllocError> {
+    let mut names = Sequence::new(alloc);
+    if let Some(session) = session {
+        'names: for name in session.wanted() {
+            names.push(Bytes::copied(alloc, name.as_slice())?)?;
+        }
+    }
+    Ok(names)
+}
+
+/// Whether a text is what a file in Latin-1 has.
+fn is_latin(bytes: &[u8], text: &str) -> bool {
+    str::from_utf8(bytes).is_err() && text.chars().eq(bytes.iter().map(|byte| *byte as char))
+}
+
+impl<L: Library> SessionPaper<L> {
+    /// A paper whose job isn't begun.
+    pub fn new(alloc: Global, library: L, options: Options) -> Self {
+        SessionPaper {
+            alloc,
+            library,
+            options,
+            folders: Vec::new(alloc),
+            session: None,
+            known: Sequence::new(alloc),
+        }
+    }
+
+    /// Reads the file at a place again, unless it is open.
+    fn reread(&mut self, alloc: Global, n: usize, documents: &[Document])
+        ensures { Follows (text_at self.old.session self.old.known) documents.now →
+            Follows (text_at self.new.session self.new.known) documents.now }
+    {
+        let Some(one) = self.known.as_slice().get(n) else {
+            return;
+        };
+        if is_among(documents, one.uri.as_slice()) {
+            return;
+        }
+        let text = self.library.read(alloc, one.path.as_str());
+        if let Some(session) = &mut self.session {
+            reread(session, self.known.as_slice(), one.uri.as_slice(), text);
+        }
+    }
+
+    /// Gives the run the file of a name, if it is found and the run has none. Says whether the run took it.
+    fn add(&mut self, alloc: Global, name: &[u8]) -> Result<bool, AllocError>
+        ensures { KeepsTexts (text_at self.old.session self.old.known) (text_at self.new.session self.new.known) }
+    {
+        let Some(found) = find(alloc, &self.library, &self.folders, name)? else {
+            return Ok(false);
+        };
+        match &mut self.session {
+            Some(session) => add(alloc, session, &mut self.known, found),
+            None => Ok(false),
+        }
+    }
+
+    /// Gives the run the files that it looks for, as far as they are found. Says whether it took one.
+    fn fill(&mut self, alloc: Global) -> Result<bool, AllocError>
+        ensures { KeepsTexts (text_at self.old.session self.old.known) (text_at self.new.session self.new.known) }
+    {
+        let names = wanted(alloc, &self.session)?;
+        let mut grown = false;
+        'names: for name in names.as_slice() {
+            let taken = self.add(alloc, name.as_slice())?;
+            grown = grown || taken;
+        }
+        Ok(grown)
+    }
+
+    /// The same until it takes none, or memory runs out.
+    fn complete(&mut self, alloc: Global)
+        ensures { KeepsTexts (text_at self.old.session self.old.known) (text_at self.new.session self.new.known) }
+    {
+        'rounds: for _ in 0..ROUNDS {
+            if !self.fill(alloc).unwrap_or(false) {
+                return;
+            }
+        }
+    }
+}
+
+impl<L: Library> Files for SessionPaper<L> {
+    ghost use Rattle.bt_paper.specs.Paper.{text_at};
+
+    ghost text = { λ paper uri. text_at paper.session paper.known uri };
+
+    fn write(&mut self, name: &[u8], new: &[u8]) -> bool {
+        let Some(own) = name_of(self.known.as_slice(), name) else {
+            return false;
+        };
+        match &mut self.session {
+            Some(session) => give(session, own, new),
+            None => false,
+        }
+    }
+}
+
+impl<L: Library> Paper for SessionPaper<L> {
+    ghost use Rattle.bt_paper.specs.Known.{name_of};
+    ghost use Rattle.bt_paper.specs.Paper.{messages_of, files_of, entry_of, bibliography_of, log_of, status_of};
+
+    ghost name = { λ paper uri. name_of paper.known uri };
+
+    ghost messages = { λ paper. messages_of paper.session };
+
+    ghost files = { λ paper. files_of paper.session paper.known };
+
+    ghost entry_text = { λ paper key. entry_of paper.session key };
+
+    ghost bibliography = { λ paper. bibliography_of paper.session };
+
+    ghost log = { λ paper. log_of paper.session };
+
+    ghost status = { λ paper. status_of paper.session };
+
+    fn name(&self, uri: &[u8]) -> Option<&[u8]> {
+        name_of(self.known.as_slice(), uri)
+    }
+
+    fn messages(&self) -> &[Message] {
+        match &self.session {
+            Some(session) => session.messages(),
+            None => &[],
+        }
+    }
+
+    fn file_count(&self) -> usize {
+        self.known.len()
+    }
+
+    fn file(&self, n: usize) -> (&[u8], &[u8]) {
+        let one = &self.known.as_slice()[n];
+        match &self.session {
+            Some(session) => (
+                one.uri.as_slice(),
+                session.file(one.name.as_slice()).unwrap_or(&[]),
+            ),
+            None => (one.uri.as_slice(), &[]),
+        }
+    }
+
+    fn entry_text(&self, key: &[u8]) -> Result<Bytes, AllocError> {
+        match &self.session {
+            Some(session) => session.entry_text(key),
+            None => Ok(Bytes::new(self.alloc)),
+        }
+    }
+
+    fn bibliography(&self) -> &[u8] {
+        match &self.session {
+            Some(session) => session.bbl(),
+            None => &[],
+        }
+    }
+
+    fn log(&self) -> &[u8] {
+        match &self.session {
+            Some(session) => session.blg(),
+            None => &[],
+        }
+    }
+
+    fn status(&self) -> u8 {
+        match &self.session {
+            Some(session) => session.status(),
+            None => 0,
+        }
+    }
+
+    fn is_latin(&self, alloc: Global, uri: &str, text: &str) -> bool {
+        let Ok(Some(path)) = path_of(alloc, uri.as_bytes()) else {
+            return false;
+        };
+        match self.library.read(alloc, path.as_str()) {
+            Some(bytes) => is_latin(bytes.as_slice(), text),
+            None => false,
+        }
+    }
+
+    fn begin(
+        &mut self,
+        alloc: Global,
+        job: Option<&str>,
+        folder: Option<&str>,
+    ) -> Result<(), AllocError> {
+        let folders = all_folders(alloc, folder, &self.options.folders)?;
+        let root = job.unwrap_or(self.options.job.as_str());
+        let mut known = Sequence::new(alloc);
+        let session = begun(alloc, &self.library, &folders, root.as_bytes(), &mut known)?;
+        self.folders = folders;
+        self.known = known;
+        self.session = session;
+        Ok(())
+    }
+
+    fn refresh(&mut self, alloc: Global, documents: &[Document]) {
+        'known: for n in 0..self.known.len() {
+            self.reread(alloc, n, documents);
+        }
+        self.complete(alloc);
+    }
+}
