@@ -1,0 +1,46 @@
+//! The command line.
+
+use bt_paper::Options;
+use std::alloc::{AllocError, Global};
+
+/// What the words of a command line come to.
+#[derive(Drop)]
+pub enum Request {
+    Serve(Options),
+    Help,
+    Version,
+    /// A word is no option.
+    Unknown,
+}
+
+/// What these words ask for, of which the first is the program's name. The one error is out of memory.
+pub fn parse(alloc: Global, words: &[String]) -> Result<Request, AllocError> {
+    let mut job = String::new(alloc);
+    let mut folders = Vec::new(alloc);
+    folders.push(String::from_str(alloc, "./")?)?;
+    'words: for word in words.iter().skip(1) {
+        let word = word.as_str();
+        match word {
+            "--help" => return Ok(Request::Help),
+            "--version" => return Ok(Request::Version),
+            _ => {}
+        }
+        if let Some(name) = word.strip_prefix("--job=") {
+            job = String::from_str(alloc, name)?;
+        } else if let Some(folder) = word.strip_prefix("--search=") {
+            folders.push(with_slash(alloc, folder)?)?;
+        } else {
+            return Ok(Request::Unknown);
+        }
+    }
+    Ok(Request::Serve(Options { job, folders }))
+}
+
+/// A folder's name with a slash at its end.
+fn with_slash(alloc: Global, folder: &str) -> Result<String, AllocError> {
+    let mut name = String::from_str(alloc, folder)?;
+    if !folder.ends_with('/') {
+        name.push('/')?;
+    }
+    Ok(name)
+}
