@@ -1,0 +1,46 @@
+;;; lsp.el --- the session of tests/editors/lsp in Emacs  -*- lexical-binding: t -*-
+
+(package-initialize)
+(require 'eglot)
+(load (expand-file-name "emacs/bibtex-lsp.el" (getenv "EDITORS")) nil t)
+(setq bibtex-lsp-program (getenv "PROGRAM")
+      eglot-connect-timeout 60
+      eglot-sync-connect 60)
+
+(defun check (step holds &optional found)
+  "Print whether STEP passed, that is HOLDS; otherwise also FOUND, and end."
+  (princ (format "%s: %s%s\n" (if holds "passed" "FAILED") step (if holds "" (format ": %S" found))))
+  (unless holds (kill-emacs 1)))
+
+(defun ask (method params)
+  "Ask the server METHOD with PARAMS, after it has got all changes."
+  (eglot--signal-textDocument/didChange)
+  (jsonrpc-request (eglot-current-server) method params :timeout 60))
+
+(defun hover ()
+  (plist-get (plist-get (ask :textDocument/hover (eglot--TextDocumentPositionParams)) :contents) :value))
+
+(defun messages-at (line)
+  "Wait for the diagnostics, and return those at LINE, or all if that is nil."
+  (ask :bibtex/log nil)
+  (accept-process-output nil 1)
+  (seq-filter (lambda (d) (or (not line) (= line (line-number-at-pos (flymake-diagnostic-beg d))))) (flymake-diagnostics)))
+
+(find-file "library.bib")
+(apply #'eglot (eglot--guess-contact))
+(check "the server starts" (eglot-current-server))
+(search-forward "Theory")
+(check "hover" (string-match-p "Theory of Games" (hover)) (hover))
+(insert "Z")
+(check "hover after a change" (string-match-p "TheoryZ of Games" (hover)) (hover))
+(delete-char -1)
+(end-of-line)
+(delete-char -1)
+(let ((line (1+ (line-number-at-pos))))
+  (check "a message at its line" (= 1 (length (messages-at line))) (messages-at nil)))
+(insert ",")
+(check "no message after the change is undone" (null (messages-at nil)) (messages-at nil))
+(check "symbols" (seq-some (lambda (s) (equal (plist-get s :name) "neumann:games"))
+                           (ask :textDocument/documentSymbol `(:textDocument ,(eglot--TextDocumentIdentifier)))))
+(princ "done\n")
+(kill-emacs 0)

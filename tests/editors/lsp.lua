@@ -1,0 +1,44 @@
+-- The session of tests/editors/lsp in Neovim.
+vim.g.bibtex_lsp_program = vim.env.PROGRAM
+vim.cmd('filetype plugin on')
+dofile(vim.env.EDITORS .. '/neovim/bibtex-lsp.lua')
+local out = assert(io.open('said', 'w'))
+
+local function check(step, holds, found)
+  out:write(holds and 'passed: ' or 'FAILED: ', step, holds and '' or ': ' .. vim.inspect(found), '\n')
+  out:flush()
+  if not holds then vim.cmd('cquit!') end
+end
+
+local function ask(method, params)
+  for _, answer in pairs(vim.lsp.buf_request_sync(0, method, params, 60000) or {}) do return answer.result end
+end
+
+local function hover()
+  local answer = ask('textDocument/hover', vim.lsp.util.make_position_params())
+  return answer and answer.contents.value or ''
+end
+
+vim.cmd('edit library.bib')
+check('the server starts', vim.wait(60000, function()
+  local client = vim.lsp.get_active_clients()[1]
+  return client and client.initialized
+end))
+vim.fn.search('Theory of Games')
+check('hover', hover():find('Theory of Games', 1, true), hover())
+vim.cmd('normal! ciwGreat')
+check('hover after a change', hover():find('Great of Games', 1, true), hover())
+vim.cmd('silent undo')
+check('hover after undo', hover():find('Theory of Games', 1, true), hover())
+local line = vim.fn.line('.')
+vim.fn.setline(line, (vim.fn.getline(line):gsub(',$', '')))
+check('a message at its line', vim.wait(60000, function()
+  return #vim.tbl_filter(function(d) return d.lnum == line end, vim.diagnostic.get(0)) == 1
+end), vim.diagnostic.get(0))
+vim.cmd('silent undo')
+check('no message after undo', vim.wait(60000, function() return #vim.diagnostic.get(0) == 0 end), vim.diagnostic.get(0))
+local symbols = ask('textDocument/documentSymbol', { textDocument = vim.lsp.util.make_text_document_params() })
+check('symbols', #vim.tbl_filter(function(s) return s.name == 'neumann:games' end, symbols or {}) == 1, symbols)
+out:write('done\n')
+out:close()
+vim.cmd('qall!')
