@@ -47,8 +47,13 @@ fn answer<S: Source, K: Sink>(
     let alloc = rt.alloc();
     let mut server = Server::new(alloc, SessionPaper::new(alloc, Disk { rt }, options));
     match talk(alloc, source, sink, &mut server) {
-        Ok(true) if server.is_shut_down() => Ok(ExitCode::SUCCESS),
-        Ok(_) => Ok(ExitCode::FAILURE),
+        Ok(over) => {
+            if over && server.is_shut_down() {
+                Ok(ExitCode::SUCCESS)
+            } else {
+                Ok(ExitCode::FAILURE)
+            }
+        }
         Err(fault) => {
             eprintln!(rt; "bibtex-lsp: {fault:?}")?;
             Ok(ExitCode::FAILURE)
