@@ -19,12 +19,11 @@ use Rattle.bt_actions.specs.Item.{Code, Name, Block}
 use Rattle.bt_actions.specs.World.{World, say}
 use Rattle.bt_actions.specs.Arguments.{as_number, as_code, taken, taken_two, taken_three}
 use Rattle.bt_machine.specs.declared.control.Frame.{Frame as HeldFrame}
-use Rattle.bt_machine.specs.declared.control.Element.{Element as HeldElement}
 use Rattle.bt_stack.specs.Choice.{chosen_of}
 use Rattle.bt_machine.specs.Eval.{Counts, Ending, Done, Stopped, then_go, code_body, function_body, no_definition, run_with, by_sign, turn, looped, built_in, act, calls_after, eval}
 use Rattle.bt_machine.specs.inner.Cases.{finish_of}
 use Rattle.bt_machine.specs.Step.{counts_begun, step_begun, finished_at, step}
-use Rattle.bt_machine.specs.inner.Loop.{Frame, Run, Test, frame_seen, meant, left, run_ended, element_seen, is_above, kept, whole, SameLeft, is_stop, checked_at}
+use Rattle.bt_machine.specs.inner.Loop.{Frame, Run, Test, frame_seen, meant, left, run_ended, is_above, kept, whole, SameLeft, is_stop, checked_at}
 use Rattle.bt_machine.proofs.Equations.{eval-end, eval-no_tick, eval-then, looped-turn}
 
 -- two runs after one
@@ -73,11 +72,9 @@ same_then e rest fs p w (suc k, calls) =
 
 -- What is due.
 
-pub due_element : (e : HeldElement) (op : Op) (ops ops' : List Op) (fs : List HeldFrame) → ops ≡ op ∷ ops' → element_seen e ≡ element_of op → SameLeft (whole ops fs) (Run (Block (Then (element_seen e) End)) ∷ whole ops' fs)
-due_element e op ops ops' fs is_ops is_op p w k =
-    ap (λ ops. left p (whole ops fs) w k) is_ops
-    ∙ same_then (element_of op) (ops_body ops') (kept fs) p w k
-    ∙ ap (λ e. left p (Run (Block (Then e End)) ∷ whole ops' fs) w k) (sym is_op)
+pub due_element : (op : Op) (ops ops' : List Op) (fs : List HeldFrame) → ops ≡ op ∷ ops' → SameLeft (whole ops fs) (Run (Block (Then (element_of op) End)) ∷ whole ops' fs)
+due_element op ops ops' fs is_ops p w k =
+    ap (λ ops. left p (whole ops fs) w k) is_ops ∙ same_then (element_of op) (ops_body ops') (kept fs) p w k
 
 pub kept_some : (fs fs' : List HeldFrame) (f : HeldFrame) → fs ≡ fs' ++ f ∷ [] → kept fs ≡ frame_seen f ∷ kept fs'
 kept_some fs fs' f is_fs =
@@ -98,9 +95,6 @@ due_frame ops fs fs' f none is_fs p w k =
     ∙ (λ i. left p (frame_seen f ∷ Run (Block (ops_body (sym none i))) ∷ kept fs') w k)
 
 -- how many wait
-
-pub as_many : (fs : List HeldFrame) → length fs ≤ length fs
-as_many fs = omega arith
 
 pub one_less : (fs fs' : List HeldFrame) (f : HeldFrame) → fs ≡ fs' ++ f ∷ [] → length fs' < length fs
 one_less fs fs' f is_fs =
@@ -127,21 +121,21 @@ nothing_kept ops fs e p w k = sym (none_same ops fs (kept fs) e (λ p w k. refl)
 
 -- What an element leads to.
 
-pub element_leads : (p : Program) (e : HeldElement) (fs gs : List Frame) (w : World) (k k1 : Counts) (now o : Ending) → left p fs w k ≡ o → SameLeft fs (Run (Block (Then (element_seen e) End)) ∷ gs) → k1.0 + 1 ≡ k.0 → k1.1 ≡ calls_after (element_seen e) k.1 → now ≡ then_go (act p (eval p) (element_seen e) w k1) (left p gs) → now ≡ o
+pub element_leads : (p : Program) (e : Element) (fs gs : List Frame) (w : World) (k k1 : Counts) (now o : Ending) → left p fs w k ≡ o → SameLeft fs (Run (Block (Then e End)) ∷ gs) → k1.0 + 1 ≡ k.0 → k1.1 ≡ calls_after e k.1 → now ≡ then_go (act p (eval p) e w k1) (left p gs) → now ≡ o
 element_leads p e fs gs w k k1 now o leads same ticks calls did =
     let r : k.0 ≡ suc k1.0 = omega (arith, ticks) in
     did
-    ∙ ap (λ calls. then_go (act p (eval p) (element_seen e) w (k1.0, calls)) (left p gs)) calls
-    ∙ sym (one_element p (element_seen e) gs w k1.0 k.1)
-    ∙ ap (λ n. left p (Run (Block (Then (element_seen e) End)) ∷ gs) w (n, k.1)) (sym r)
+    ∙ ap (λ calls. then_go (act p (eval p) e w (k1.0, calls)) (left p gs)) calls
+    ∙ sym (one_element p e gs w k1.0 k.1)
+    ∙ ap (λ n. left p (Run (Block (Then e End)) ∷ gs) w (n, k.1)) (sym r)
     ∙ sym (same p w k)
     ∙ leads
 
-pub no_tick_leads : (p : Program) (e : HeldElement) (fs gs : List Frame) (w w' : World) (k : Counts) (o : Ending) → left p fs w k ≡ o → SameLeft fs (Run (Block (Then (element_seen e) End)) ∷ gs) → k.0 ≡ 0 → w' ≡ say TicksPassed w → Stopped w' k ≡ o
+pub no_tick_leads : (p : Program) (e : Element) (fs gs : List Frame) (w w' : World) (k : Counts) (o : Ending) → left p fs w k ≡ o → SameLeft fs (Run (Block (Then e End)) ∷ gs) → k.0 ≡ 0 → w' ≡ say TicksPassed w → Stopped w' k ≡ o
 no_tick_leads p e fs gs w w' k o leads same none told =
     (λ i. Stopped (told i) (none i, k.1))
-    ∙ sym (ap (λ o. then_go o (left p gs)) (eval-no_tick p (element_seen e) End w k.1))
-    ∙ (λ i. left p (Run (Block (Then (element_seen e) End)) ∷ gs) w (sym none i, k.1))
+    ∙ sym (ap (λ o. then_go o (left p gs)) (eval-no_tick p e End w k.1))
+    ∙ (λ i. left p (Run (Block (Then e End)) ∷ gs) w (sym none i, k.1))
     ∙ sym (same p w k)
     ∙ leads
 

@@ -4,10 +4,10 @@
 //! end of a body doesn't make the `Vec` grow.
 
 ghost use Rattle.std.specs.Prelude.{◌≡◌, ◌+◌, ◌≤◌, ◌∷◌, length, IfOk, OnOk};
-ghost use Rattle.bt_style.specs.Tree.{Called};
+ghost use Rattle.bt_style.specs.Tree.{Called, element_of};
 ghost use Rattle.bt_actions.specs.View.{code_seen};
 ghost use Rattle.bt_machine.specs.Eval.{builtin_called};
-ghost use Rattle.bt_machine.specs.inner.Loop.{Run, Test, element_seen, SameLeft, kept, whole, IsDue};
+ghost use Rattle.bt_machine.specs.inner.Loop.{Run, Test, SameLeft, kept, whole, IsDue};
 
 use bt_actions::Code;
 use bt_style::{Builtin, Op, Target};
@@ -22,15 +22,8 @@ pub enum Frame<'a> {
     Test(Code<'a>, Code<'a>),
 }
 
-/// What takes a tick: an element of a body, or the call of a quoted name.
-#[derive(Clone, Copy)]
-pub enum Element<'a> {
-    Op(&'a Op),
-    Name(Target),
-}
-
 /// The built-in function that a call of a name calls.
-fn builtin_of(target: Target) -> Option<Builtin>
+pub fn builtin_of(target: Target) -> Option<Builtin>
     ensures { result ≡ builtin_called (Called target) }
 {
     match target {
@@ -39,45 +32,39 @@ fn builtin_of(target: Target) -> Option<Builtin>
     }
 }
 
-impl<'a> Element<'a> {
-    /// The built-in function that it calls.
-    pub fn builtin(self) -> Option<Builtin>
-        ensures { result ≡ builtin_called (element_seen self.entry) }
-    {
-        match self {
-            Element::Op(op) => match op {
-                Op::Call(target) => builtin_of(*target),
-                _ => None,
-            },
-            Element::Name(target) => builtin_of(target),
-        }
+/// The built-in function that an element calls.
+pub fn called_by(op: &Op) -> Option<Builtin>
+    ensures { result ≡ builtin_called (element_of op.now) }
+{
+    match op {
+        Op::Call(target) => builtin_of(*target),
+        _ => None,
     }
 }
 
-/// What the loop does next.
+/// What the loop does at the end of a body.
 #[derive(Clone, Copy)]
 pub enum Due<'a> {
     /// Nothing more.
     Nothing,
-    /// The body that is left.
-    Body,
-    Element(Element<'a>),
+    /// This body, which waited.
+    Body(&'a [Op]),
+    /// The call of a quoted name, which takes a tick.
+    Name(Target),
     /// A loop's test has run: the number that it left decides on a turn.
     Test(Code<'a>, Code<'a>),
 }
 
-/// The next thing to do, and what is left of the body after it.
-pub fn next_due<'a>(rest: &'a [Op], control: &mut Vec<Frame<'a>>) -> (Due<'a>, &'a [Op])
-    ensures { IsDue result.0 rest.now control.old.items result.1.now control.new.items }
+/// What is due at the end of a body, of which nothing is left.
+pub fn next_due<'a>(rest: &'a [Op], control: &mut Vec<Frame<'a>>) -> Due<'a>
+    requires { length rest.now ≡ 0 }
+    ensures { IsDue result rest.now control.old.items control.new.items }
 {
-    match rest.split_first() {
-        Some((op, after)) => (Due::Element(Element::Op(op)), after),
-        None => match control.pop() {
-            None => (Due::Nothing, rest),
-            Some(Frame::Run(Code::Block(ops))) => (Due::Body, ops),
-            Some(Frame::Run(Code::Name(target))) => (Due::Element(Element::Name(target)), rest),
-            Some(Frame::Test(test, body)) => (Due::Test(test, body), rest),
-        },
+    match control.pop() {
+        None => Due::Nothing,
+        Some(Frame::Run(Code::Block(ops))) => Due::Body(ops),
+        Some(Frame::Run(Code::Name(target))) => Due::Name(target),
+        Some(Frame::Test(test, body)) => Due::Test(test, body),
     }
 }
 

@@ -19,7 +19,7 @@ ghost use Rattle.bt_machine.specs.Eval.{eval, act, builtin_called, by_sign};
 ghost use Rattle.bt_machine.specs.inner.Loop.{Run, ComesTo, SameLeft, putting, whole};
 
 use crate::calls::Next;
-use crate::control::{Element, Frame, begin};
+use crate::control::{Frame, begin, called_by};
 use bt_actions::{Code, STACK_LIMIT, Tally};
 use bt_stack::{State, assign_value};
 use bt_style::{Builtin, Op, Target};
@@ -41,14 +41,14 @@ fn code_of(op: &Op) -> Option<Code<'_>>
 fn calls_if(op: &Op) -> bool
     ensures { IsTrue result → builtin_called (element_of op.now) ≡ Some builtin.If }
 {
-    matches!(Element::Op(op).builtin(), Some(Builtin::If))
+    matches!(called_by(op), Some(Builtin::If))
 }
 
 /// Whether an element calls `:=`.
 fn calls_assign(op: &Op) -> bool
     ensures { IsTrue result → builtin_called (element_of op.now) ≡ Some builtin.Assign }
 {
-    matches!(Element::Op(op).builtin(), Some(Builtin::Assign))
+    matches!(called_by(op), Some(Builtin::Assign))
 }
 
 /// The other function and the `if$` after the first function, and what comes after them.

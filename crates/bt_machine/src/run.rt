@@ -10,16 +10,16 @@
 
 ghost use Rattle.std.specs.Prelude.{◌≡◌, ◌+◌, ◌≤◌, length, IfOk, OnOk};
 ghost use Rattle.bt_style.specs.Program.{program_of};
-ghost use Rattle.bt_style.specs.Tree.{End, Then, Called};
+ghost use Rattle.bt_style.specs.Tree.{End, Then, Called, element_of};
 ghost use Rattle.bt_style.specs.declared.builtin.Builtin.TheVariants as builtin;
 ghost use Rattle.bt_actions.specs.Arguments.{as_number, taken};
 ghost use Rattle.bt_stack.specs.View.{world_of};
 ghost use Rattle.bt_machine.specs.Eval.{eval, act};
 ghost use Rattle.bt_machine.specs.Step.{counts_begun};
-ghost use Rattle.bt_machine.specs.inner.Loop.{counts, run_ended, element_seen, ComesTo, is_above};
+ghost use Rattle.bt_machine.specs.inner.Loop.{counts, run_ended, ComesTo, is_above};
 
 use crate::calls::{Next, call, call_quoted};
-use crate::control::{Due, Element, Frame, begin, begin_loop, next_due};
+use crate::control::{Due, Frame, begin, begin_loop, builtin_of, called_by, next_due};
 use crate::idioms::{put_block, put_name};
 use bt_actions::{Code, Complaint, Flow, Tally};
 use bt_stack::{State, take_number};
@@ -45,32 +45,29 @@ fn carry_out<'a>(
     tally: &mut Tally,
     alloc: Global,
     style: &'a Style,
-    element: Element<'a>,
+    op: &'a Op,
     rest: &'a [Op],
 ) -> Result<Next<'a>, AllocError>
     ensures leads { let p = program_of style.now in IfOk result (λ next. ComesTo p state.old tally.old state.new tally.new
-        (act p (eval p) (element_seen element.entry)) rest.now control.old.items next control.new.items) }
+        (act p (eval p) (element_of op.now)) rest.now control.old.items next control.new.items) }
     ensures ticks { OnOk result (tally.new.ticks ≤ tally.old.ticks) }
     ensures more { OnOk result (length control.new.items ≤ length control.old.items + 4) }
 {
-    match element {
-        Element::Op(op) => match op {
-            Op::Number(n) => Ok(Next::Flow(state.push_number(*n)?)),
-            Op::Text(text) => Ok(Next::Flow(state.push_given(text.as_slice())?)),
-            Op::Quote(target) => {
-                let next = put_name(state, control, tally, op, *target, rest)?;
-                Ok(next)
-            }
-            Op::Block(ops) => {
-                let next = put_block(state, control, tally, op, ops, rest)?;
-                Ok(next)
-            }
-            Op::Call(target) => {
-                let next = call(state, control, alloc, style, *target, rest)?;
-                Ok(next)
-            }
-        },
-        Element::Name(target) => call_quoted(state, control, alloc, style, target, rest),
+    match op {
+        Op::Number(n) => Ok(Next::Flow(state.push_number(*n)?)),
+        Op::Text(text) => Ok(Next::Flow(state.push_given(text.as_slice())?)),
+        Op::Quote(target) => {
+            let next = put_name(state, control, tally, op, *target, rest)?;
+            Ok(next)
+        }
+        Op::Block(ops) => {
+            let next = put_block(state, control, tally, op, ops, rest)?;
+            Ok(next)
+        }
+        Op::Call(target) => {
+            let next = call(state, control, alloc, style, *target, rest)?;
+            Ok(next)
+        }
     }
 }
 
@@ -92,34 +89,50 @@ pub fn work<'a>(
     let mut rest: &'a [Op] = &[];
     let mut tally = Tally::new();
     'work: loop {
-        let (due, after) = next_due(rest, control);
-        rest = after;
-        match due {
-            Due::Nothing => return Ok((Flow::Go, tally)),
-            Due::Body => {}
-            Due::Test(test, body) => {
-                if goes_on(state)? {
-                    rest = begin_loop(control, rest, test, body)?;
-                    rest = begin(control, rest, body)?;
-                }
-            }
-            Due::Element(element) => {
+        match rest.split_first() {
+            Some((op, after)) => {
                 if tally.ticks == 0 {
                     state.tell(Complaint::TicksPassed)?;
                     return Ok((Flow::Stop, tally));
                 }
-                tally.take(element.builtin());
-                let next = carry_out(state, control, &mut tally, alloc, style, element, rest)?;
+                tally.take(called_by(op));
+                let next = carry_out(state, control, &mut tally, alloc, style, op, after)?;
                 // The loop's measure needs this call's clause that the stack is small.
                 let _depth = state.stack.len();
                 match next {
                     Next::Flow(flow) => match flow {
-                        Flow::Go => {}
+                        Flow::Go => rest = after,
                         Flow::Stop => return Ok((Flow::Stop, tally)),
                     },
                     Next::Body(body) => rest = body,
                 }
             }
+            None => match next_due(rest, control) {
+                Due::Nothing => return Ok((Flow::Go, tally)),
+                Due::Body(body) => rest = body,
+                Due::Test(test, body) => {
+                    if goes_on(state)? {
+                        rest = begin_loop(control, rest, test, body)?;
+                        rest = begin(control, rest, body)?;
+                    }
+                }
+                Due::Name(name) => {
+                    if tally.ticks == 0 {
+                        state.tell(Complaint::TicksPassed)?;
+                        return Ok((Flow::Stop, tally));
+                    }
+                    tally.take(builtin_of(name));
+                    let next = call_quoted(state, control, alloc, style, name, rest)?;
+                    let _depth = state.stack.len();
+                    match next {
+                        Next::Flow(flow) => match flow {
+                            Flow::Go => {}
+                            Flow::Stop => return Ok((Flow::Stop, tally)),
+                        },
+                        Next::Body(body) => rest = body,
+                    }
+                }
+            },
         }
     }
 }

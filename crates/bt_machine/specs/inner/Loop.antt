@@ -2,7 +2,7 @@
 use Rattle.std.specs.Prelude.{◌≡◌, ℤ, pos, negsuc, zero, suc, ◌≤◌, ◌<◌, Bool, true, false, List, [], ◌∷◌, Option, Some, None, length, map, reverse}
 use Rattle.bt_style.specs.declared.style.Op.{Op}
 use Rattle.bt_style.specs.Program.{Program}
-use Rattle.bt_style.specs.Tree.{Element, Quoted, Braced, Called, End, Then, element_of, ops_body}
+use Rattle.bt_style.specs.Tree.{Element, Quoted, Braced, Called, End, Then, ops_body}
 use Rattle.bt_style.specs.declared.builtin.Builtin.TheVariants.{While}
 use Rattle.bt_actions.specs.declared.flow.Flow.{Flow}
 use Rattle.bt_actions.specs.declared.flow.Flow.TheVariants.{Go, Stop}
@@ -14,8 +14,6 @@ use Rattle.bt_actions.specs.View.{code_seen}
 use Rattle.bt_stack.specs.declared.state.State.{State}
 use Rattle.bt_stack.specs.View.{world_of}
 use Rattle.bt_machine.specs.declared.control.Frame.{Frame as HeldFrame}
-use Rattle.bt_machine.specs.declared.control.Element.{Element as HeldElement}
-use Rattle.bt_machine.specs.declared.control.Element.TheVariants as element
 use Rattle.bt_machine.specs.declared.calls.Next.{Next}
 use Rattle.bt_machine.specs.declared.calls.Next.TheVariants as next
 use Rattle.bt_machine.specs.declared.control.Due.{Due}
@@ -64,10 +62,6 @@ abbrev pub checked_at : Flow → World → World
 checked_at Go w = checked w.stack w
 checked_at Stop w = w
 
-abbrev pub element_seen : HeldElement → Element
-element_seen (element.Op op) = element_of op.now
-element_seen (element.Name t) = Called t
-
 -- the element that puts a function on the stack
 abbrev pub putting : Code → Element
 putting (Name t) = Quoted t
@@ -112,11 +106,11 @@ Means p run rest fs next fs' =
 abbrev pub SameLeft : List Frame → List Frame → Type 0
 SameLeft fs fs' = (p : Program) (w : World) (k : Counts) → left p fs w k ≡ left p fs' w k
 
--- what was left to do is this, and then what is left now
-abbrev pub IsDue : Due → List Op → List HeldFrame → List Op → List HeldFrame → Type 0
-IsDue due.Nothing ops fs ops' fs' = (p : Program) (w : World) (k : Counts) → left p (whole ops fs) w k ≡ Done w k
-IsDue due.Body ops fs ops' fs' = SameLeft (whole ops fs) (whole ops' fs') × (length fs' < length fs)
-IsDue (due.Element e) ops fs ops' fs' =
-    SameLeft (whole ops fs) (Run (Block (Then (element_seen e) End)) ∷ whole ops' fs') × (length fs' ≤ length fs)
-IsDue (due.Test test body) ops fs ops' fs' =
-    SameLeft (whole ops fs) (Test (code_seen test) (code_seen body) ∷ whole ops' fs') × (length fs' < length fs)
+-- at the end of a body, what was left to do is this, and then what is left now
+abbrev pub IsDue : Due → List Op → List HeldFrame → List HeldFrame → Type 0
+IsDue due.Nothing ops fs fs' = (p : Program) (w : World) (k : Counts) → left p (whole ops fs) w k ≡ Done w k
+IsDue (due.Body body) ops fs fs' = SameLeft (whole ops fs) (whole body.now fs') × (length fs' < length fs)
+IsDue (due.Name t) ops fs fs' =
+    SameLeft (whole ops fs) (Run (Block (Then (Called t) End)) ∷ whole ops fs') × (length fs' ≤ length fs)
+IsDue (due.Test test body) ops fs fs' =
+    SameLeft (whole ops fs) (Test (code_seen test) (code_seen body) ∷ whole ops fs') × (length fs' < length fs)

@@ -1,17 +1,12 @@
-use Rattle.std.proofs.Common.{◌≡◌, [], ◌∷◌, ◌++◌, refl, ap, ◌∙◌, arith}
+use Rattle.std.proofs.Common.{◌≡◌, [], ◌∷◌, ◌++◌, ap, ◌∙◌, arith}
 use Rattle.std.proofs.lemmas.Grind.{common_steps}
 use Rattle.bt_actions.specs.declared.code.Code.TheVariants as code
-use Rattle.bt_machine.specs.declared.control.Element.TheVariants as element
 use Rattle.bt_machine.specs.declared.control.Frame.TheVariants as held
-use Rattle.bt_machine.proofs.LoopLemmas.{as_many, due_element, due_frame, due_kept, due_nothing, no_more, one_less}
+use Rattle.bt_machine.proofs.LoopLemmas.{due_frame, due_kept, due_nothing, no_more, one_less}
 use Rattle.bt_machine.proofs.control.next_due.Goals as goal
 
-pub returns-in-Some : goal.returns-in-Some
-returns-in-Some c =
-    (due_element (element.Op c.in-Some.op) c.in-Some.op.now c.args.rest.now c.in-Some.after.now c.args.control.now.items c.in-Some.ensures.cases.0 refl, as_many c.args.control.now.items)
-
-pub returns-in-None-pop : goal.returns-in-None-pop
-returns-in-None-pop c =
+pub returns-in-None : goal.returns-in-None
+returns-in-None c =
     let none : c.args.rest.now ≡ [] = grind (arith, common_steps) in
     let empty : c.args.control.now.items ≡ [] = grind (arith, common_steps) in
     due_nothing c.args.rest.now c.args.control.now.items none empty

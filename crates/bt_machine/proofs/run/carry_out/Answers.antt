@@ -1,34 +1,21 @@
 use Rattle.std.proofs.Common.{ap, sym, ◌∙◌}
-use Rattle.std.proofs.lemmas.Result.{IfOk-weaker}
 use Rattle.bt_style.specs.Program.{program_of}
 use Rattle.bt_style.specs.Tree.{element_of}
 use Rattle.bt_stack.specs.View.{world_of}
 use Rattle.bt_machine.specs.Eval.{then_go, act, eval}
-use Rattle.bt_machine.specs.inner.Loop.{counts, element_seen, left, whole}
+use Rattle.bt_machine.specs.inner.Loop.{counts, left, whole}
 use Rattle.bt_machine.proofs.LoopLemmas.{call_seen}
 use Rattle.bt_machine.proofs.run.carry_out.Goals as goal
-
-pub returns-in-Name-clause-leads : goal.returns-in-Name-clause-leads
-returns-in-Name-clause-leads c =
-    let p = program_of c.args.style.now in
-    let k = counts c.args.tally.now in
-    IfOk-weaker c.call_quoted.result _ _ (λ next h. h k ∙ ap (λ e. then_go (act p (eval p) (element_seen e) (world_of c.args.state.now) k) (left p (whole c.args.rest.now c.args.control.now.items))) (sym c.in-Name.is)) c.call_quoted.ensures.leads
 
 pub returns-in_ok-next-in-Call-clause-leads : goal.returns-in_ok-next-in-Call-clause-leads
 returns-in_ok-next-in-Call-clause-leads c =
     let p = program_of c.args.style.now in
     let k = counts c.args.tally.now in
-    let is_call = ap element_seen c.in-Op.is ∙ ap element_of c.in-Call.is ∙ call_seen c.in-Call.target in
+    let is_call = ap element_of c.in-Call.is ∙ call_seen c.in-Call.target in
     c.in_ok-next-in-Call.ensures.leads k ∙ ap (λ e. then_go (act p (eval p) e (world_of c.args.state.now) k) (left p (whole c.args.rest.now c.args.control.now.items))) (sym is_call)
 
 pub returns-in_ok-next-in-Quote-clause-leads : goal.returns-in_ok-next-in-Quote-clause-leads
-returns-in_ok-next-in-Quote-clause-leads c =
-    let p = program_of c.args.style.now in
-    let k = counts c.args.tally.now in
-    c.in_ok-next-in-Quote.ensures.leads p ∙ ap (λ e. then_go (act p (eval p) (element_seen e) (world_of c.args.state.now) k) (left p (whole c.args.rest.now c.args.control.now.items))) (sym c.in-Op.is)
+returns-in_ok-next-in-Quote-clause-leads c = c.in_ok-next-in-Quote.ensures.leads (program_of c.args.style.now)
 
 pub returns-in_ok-next-in-Block-clause-leads : goal.returns-in_ok-next-in-Block-clause-leads
-returns-in_ok-next-in-Block-clause-leads c =
-    let p = program_of c.args.style.now in
-    let k = counts c.args.tally.now in
-    c.in_ok-next-in-Block.ensures.leads p ∙ ap (λ e. then_go (act p (eval p) (element_seen e) (world_of c.args.state.now) k) (left p (whole c.args.rest.now c.args.control.now.items))) (sym c.in-Op.is)
+returns-in_ok-next-in-Block-clause-leads c = c.in_ok-next-in-Block.ensures.leads (program_of c.args.style.now)

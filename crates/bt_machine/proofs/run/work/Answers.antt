@@ -1,6 +1,6 @@
 use Rattle.std.proofs.Common.{[], ◌∷◌, ◌∙◌, ap, sym, refl, subst}
 use Rattle.bt_style.specs.Program.{program_of}
-use Rattle.bt_style.specs.Tree.{End, Then, Called}
+use Rattle.bt_style.specs.Tree.{End, Then, Called, element_of}
 use Rattle.bt_actions.specs.declared.flow.Flow.TheVariants.{Go, Stop}
 use Rattle.bt_actions.specs.Item.{Name}
 use Rattle.bt_actions.specs.Tally.{with_call}
@@ -13,7 +13,7 @@ use Rattle.bt_machine.specs.declared.calls.Next.TheVariants as next
 use Rattle.bt_machine.specs.Eval.{Ending, eval}
 use Rattle.bt_machine.specs.Step.{counts_begun}
 use Rattle.bt_machine.specs.inner.Loop.{Run, counts, IsDue, followed, kept, whole}
-use Rattle.bt_machine.proofs.LoopLemmas.{element_leads, ends_leads, kept_some, no_tick_leads, starts, turn_leads}
+use Rattle.bt_machine.proofs.LoopLemmas.{due_element, element_leads, ends_leads, kept_some, no_tick_leads, starts, turn_leads}
 use Rattle.bt_machine.proofs.run.work.Goals as goal
 
 pub work-init : goal.work-init
@@ -25,13 +25,13 @@ work-init c =
 pub returns-in-Nothing : goal.returns-in-Nothing
 returns-in-Nothing c =
     let p = program_of c.args.style.now in
-    let is_due = subst (λ d. IsDue d c.work.rest.now c.work.control.items c.next_due.result.1.now c.next_due.new.control.items) c.in-Nothing.is c.next_due.ensures in
+    let is_due = subst (λ d. IsDue d c.work.rest.now c.work.control.items c.next_due.new.control.items) c.in-Nothing.is c.next_due.ensures in
     sym (is_due p (world_of c.work.state) (counts c.work.tally)) ∙ c.work.invariant
 
-pub work-preserved-in-Body : goal.work-preserved-in-Body
-work-preserved-in-Body c =
+pub work-preserved-in-Body-next_due : goal.work-preserved-in-Body-next_due
+work-preserved-in-Body-next_due c =
     let p = program_of c.args.style.now in
-    let is_due = subst (λ d. IsDue d c.work.rest.now c.work.control.items c.next_due.result.1.now c.next_due.new.control.items) c.in-Body.is c.next_due.ensures in
+    let is_due = subst (λ d. IsDue d c.work.rest.now c.work.control.items c.next_due.new.control.items) c.in-Body-next_due.is c.next_due.ensures in
     sym (is_due.0 p (world_of c.work.state) (counts c.work.tally)) ∙ c.work.invariant
 
 pub work-preserved-then-branch : goal.work-preserved-then-branch
@@ -39,8 +39,8 @@ work-preserved-then-branch c =
     let p = program_of c.args.style.now in
     let end = eval p (Then (Called c.args.first) End) (world_of c.args.state.now) counts_begun in
     let left_before = whole c.work.rest.now c.work.control.items in
-    let left_now = whole c.next_due.result.1.now c.next_due.new.control.items in
-    let is_due = subst (λ d. IsDue d c.work.rest.now c.work.control.items c.next_due.result.1.now c.next_due.new.control.items) c.in-Test.is c.next_due.ensures in
+    let left_now = whole c.work.rest.now c.next_due.new.control.items in
+    let is_due = subst (λ d. IsDue d c.work.rest.now c.work.control.items c.next_due.new.control.items) c.in-Test.is c.next_due.ensures in
     let goes = c.in_ok-goes_on-in-Test.ensures in
     turn_leads p (code_seen c.in-Test.test) (code_seen c.in-Test.body) left_before left_now (whole c.in_ok-rest-in-Test.rest.now c.begin_loop.new.control.items) (whole c.in_ok-rest-in-Test-2.rest.now c.begin.new.control.items) (world_of c.work.state) (world_of c.goes_on.new.state) (counts c.work.tally) end c.work.invariant is_due.0 (sym goes.turn ∙ c.if-branch.true) goes.world c.in_ok-rest-in-Test.ensures.same c.in_ok-rest-in-Test-2.ensures.same
 
@@ -49,8 +49,8 @@ work-preserved-else-branch c =
     let p = program_of c.args.style.now in
     let end = eval p (Then (Called c.args.first) End) (world_of c.args.state.now) counts_begun in
     let left_before = whole c.work.rest.now c.work.control.items in
-    let left_now = whole c.next_due.result.1.now c.next_due.new.control.items in
-    let is_due = subst (λ d. IsDue d c.work.rest.now c.work.control.items c.next_due.result.1.now c.next_due.new.control.items) c.in-Test.is c.next_due.ensures in
+    let left_now = whole c.work.rest.now c.next_due.new.control.items in
+    let is_due = subst (λ d. IsDue d c.work.rest.now c.work.control.items c.next_due.new.control.items) c.in-Test.is c.next_due.ensures in
     let goes = c.in_ok-goes_on-in-Test.ensures in
     ends_leads p (code_seen c.in-Test.test) (code_seen c.in-Test.body) left_before left_now (world_of c.work.state) (world_of c.goes_on.new.state) (counts c.work.tally) end c.work.invariant is_due.0 (sym goes.turn ∙ c.if-branch.false) goes.world
 
@@ -59,42 +59,95 @@ returns-then-tally-eq0 c =
     let p = program_of c.args.style.now in
     let end = eval p (Then (Called c.args.first) End) (world_of c.args.state.now) counts_begun in
     let left_before = whole c.work.rest.now c.work.control.items in
-    let left_now = whole c.next_due.result.1.now c.next_due.new.control.items in
-    let is_due = subst (λ d. IsDue d c.work.rest.now c.work.control.items c.next_due.result.1.now c.next_due.new.control.items) c.in-Element.is c.next_due.ensures in
-    no_tick_leads p c.in-Element.element left_before left_now (world_of c.work.state) (world_of c.tell.new.self) (counts c.work.tally) end c.work.invariant is_due.0 c.if-tally-eq0.true c.in_ok-tell-in-Element.ensures
+    let left_now = whole c.in-Some.after.now c.work.control.items in
+    let element = element_of c.in-Some.op.now in
+    let is_due = due_element c.in-Some.op.now c.work.rest.now c.in-Some.after.now c.work.control.items c.in-Some.ensures.cases.0 in
+    no_tick_leads p element left_before left_now (world_of c.work.state) (world_of c.tell.new.self) (counts c.work.tally) end c.work.invariant is_due c.if-tally-eq0.true c.in_ok-tell-in-Some.ensures
 
 pub work-preserved-in-Go : goal.work-preserved-in-Go
 work-preserved-in-Go c =
     let p = program_of c.args.style.now in
     let end = eval p (Then (Called c.args.first) End) (world_of c.args.state.now) counts_begun in
     let left_before = whole c.work.rest.now c.work.control.items in
-    let left_now = whole c.next_due.result.1.now c.next_due.new.control.items in
-    let is_due = subst (λ d. IsDue d c.work.rest.now c.work.control.items c.next_due.result.1.now c.next_due.new.control.items) c.in-Element.is c.next_due.ensures in
-    let calls = c.take.ensures.calls ∙ ap (λ b. with_call b c.work.tally.calls) c.builtin.ensures in
-    let follows : Next → Ending = λ next. followed p c.next_due.result.1.now next c.carry_out.new.control.items (world_of c.carry_out.new.state) (counts c.carry_out.new.tally) in
-    let did = ap follows (sym (c.in-Flow.is ∙ ap next.Flow c.in-Go.is)) ∙ c.in_ok-next-in-Element.ensures.leads in
-    element_leads p c.in-Element.element left_before left_now (world_of c.work.state) (counts c.work.tally) (counts c.take.new.self) (follows (next.Flow Go)) end c.work.invariant is_due.0 c.take.ensures.ticks calls did
+    let left_now = whole c.in-Some.after.now c.work.control.items in
+    let element = element_of c.in-Some.op.now in
+    let is_due = due_element c.in-Some.op.now c.work.rest.now c.in-Some.after.now c.work.control.items c.in-Some.ensures.cases.0 in
+    let calls = c.take.ensures.calls ∙ ap (λ b. with_call b c.work.tally.calls) c.called_by.ensures in
+    let follows : Next → Ending = λ next. followed p c.in-Some.after.now next c.carry_out.new.control.items (world_of c.carry_out.new.state) (counts c.carry_out.new.tally) in
+    let did = ap follows (sym (c.in-Flow.is ∙ ap next.Flow c.in-Go.is)) ∙ c.in_ok-next-in-Some.ensures.leads in
+    element_leads p element left_before left_now (world_of c.work.state) (counts c.work.tally) (counts c.take.new.self) (follows (next.Flow Go)) end c.work.invariant is_due c.take.ensures.ticks calls did
 
 pub returns-in-Stop : goal.returns-in-Stop
 returns-in-Stop c =
     let p = program_of c.args.style.now in
     let end = eval p (Then (Called c.args.first) End) (world_of c.args.state.now) counts_begun in
     let left_before = whole c.work.rest.now c.work.control.items in
-    let left_now = whole c.next_due.result.1.now c.next_due.new.control.items in
-    let is_due = subst (λ d. IsDue d c.work.rest.now c.work.control.items c.next_due.result.1.now c.next_due.new.control.items) c.in-Element.is c.next_due.ensures in
-    let calls = c.take.ensures.calls ∙ ap (λ b. with_call b c.work.tally.calls) c.builtin.ensures in
-    let follows : Next → Ending = λ next. followed p c.next_due.result.1.now next c.carry_out.new.control.items (world_of c.carry_out.new.state) (counts c.carry_out.new.tally) in
-    let did = ap follows (sym (c.in-Flow.is ∙ ap next.Flow c.in-Stop.is)) ∙ c.in_ok-next-in-Element.ensures.leads in
-    element_leads p c.in-Element.element left_before left_now (world_of c.work.state) (counts c.work.tally) (counts c.take.new.self) (follows (next.Flow Stop)) end c.work.invariant is_due.0 c.take.ensures.ticks calls did
+    let left_now = whole c.in-Some.after.now c.work.control.items in
+    let element = element_of c.in-Some.op.now in
+    let is_due = due_element c.in-Some.op.now c.work.rest.now c.in-Some.after.now c.work.control.items c.in-Some.ensures.cases.0 in
+    let calls = c.take.ensures.calls ∙ ap (λ b. with_call b c.work.tally.calls) c.called_by.ensures in
+    let follows : Next → Ending = λ next. followed p c.in-Some.after.now next c.carry_out.new.control.items (world_of c.carry_out.new.state) (counts c.carry_out.new.tally) in
+    let did = ap follows (sym (c.in-Flow.is ∙ ap next.Flow c.in-Stop.is)) ∙ c.in_ok-next-in-Some.ensures.leads in
+    element_leads p element left_before left_now (world_of c.work.state) (counts c.work.tally) (counts c.take.new.self) (follows (next.Flow Stop)) end c.work.invariant is_due c.take.ensures.ticks calls did
+
+pub work-preserved-in-Body : goal.work-preserved-in-Body
+work-preserved-in-Body c =
+    let p = program_of c.args.style.now in
+    let end = eval p (Then (Called c.args.first) End) (world_of c.args.state.now) counts_begun in
+    let left_before = whole c.work.rest.now c.work.control.items in
+    let left_now = whole c.in-Some.after.now c.work.control.items in
+    let element = element_of c.in-Some.op.now in
+    let is_due = due_element c.in-Some.op.now c.work.rest.now c.in-Some.after.now c.work.control.items c.in-Some.ensures.cases.0 in
+    let calls = c.take.ensures.calls ∙ ap (λ b. with_call b c.work.tally.calls) c.called_by.ensures in
+    let follows : Next → Ending = λ next. followed p c.in-Some.after.now next c.carry_out.new.control.items (world_of c.carry_out.new.state) (counts c.carry_out.new.tally) in
+    let did = ap follows (sym (c.in-Body.is)) ∙ c.in_ok-next-in-Some.ensures.leads in
+    element_leads p element left_before left_now (world_of c.work.state) (counts c.work.tally) (counts c.take.new.self) (follows (next.Body c.in-Body.body)) end c.work.invariant is_due c.take.ensures.ticks calls did
+
+pub returns-then-tally-eq0-2 : goal.returns-then-tally-eq0-2
+returns-then-tally-eq0-2 c =
+    let p = program_of c.args.style.now in
+    let end = eval p (Then (Called c.args.first) End) (world_of c.args.state.now) counts_begun in
+    let left_before = whole c.work.rest.now c.work.control.items in
+    let left_now = whole c.work.rest.now c.next_due.new.control.items in
+    let element = Called c.in-Name.name in
+    let is_due = subst (λ d. IsDue d c.work.rest.now c.work.control.items c.next_due.new.control.items) c.in-Name.is c.next_due.ensures in
+    no_tick_leads p element left_before left_now (world_of c.work.state) (world_of c.tell-then-tally-eq0-2.new.self) (counts c.work.tally) end c.work.invariant is_due.0 c.if-tally-eq0-2.true c.in_ok-tell-in-Name.ensures
+
+pub work-preserved-in-Go-flow : goal.work-preserved-in-Go-flow
+work-preserved-in-Go-flow c =
+    let p = program_of c.args.style.now in
+    let end = eval p (Then (Called c.args.first) End) (world_of c.args.state.now) counts_begun in
+    let left_before = whole c.work.rest.now c.work.control.items in
+    let left_now = whole c.work.rest.now c.next_due.new.control.items in
+    let element = Called c.in-Name.name in
+    let is_due = subst (λ d. IsDue d c.work.rest.now c.work.control.items c.next_due.new.control.items) c.in-Name.is c.next_due.ensures in
+    let calls = c.take-in-Name.ensures.calls ∙ ap (λ b. with_call b c.work.tally.calls) c.builtin_of.ensures in
+    let follows : Next → Ending = λ next. followed p c.work.rest.now next c.call_quoted.new.control.items (world_of c.call_quoted.new.state) (counts c.take-in-Name.new.self) in
+    let did = ap follows (sym (c.in-Flow-next.is ∙ ap next.Flow c.in-Go-flow.is)) ∙ c.in_ok-next-in-Name.ensures.leads (counts c.take-in-Name.new.self) in
+    element_leads p element left_before left_now (world_of c.work.state) (counts c.work.tally) (counts c.take-in-Name.new.self) (follows (next.Flow Go)) end c.work.invariant is_due.0 c.take-in-Name.ensures.ticks calls did
+
+pub returns-in-Stop-flow : goal.returns-in-Stop-flow
+returns-in-Stop-flow c =
+    let p = program_of c.args.style.now in
+    let end = eval p (Then (Called c.args.first) End) (world_of c.args.state.now) counts_begun in
+    let left_before = whole c.work.rest.now c.work.control.items in
+    let left_now = whole c.work.rest.now c.next_due.new.control.items in
+    let element = Called c.in-Name.name in
+    let is_due = subst (λ d. IsDue d c.work.rest.now c.work.control.items c.next_due.new.control.items) c.in-Name.is c.next_due.ensures in
+    let calls = c.take-in-Name.ensures.calls ∙ ap (λ b. with_call b c.work.tally.calls) c.builtin_of.ensures in
+    let follows : Next → Ending = λ next. followed p c.work.rest.now next c.call_quoted.new.control.items (world_of c.call_quoted.new.state) (counts c.take-in-Name.new.self) in
+    let did = ap follows (sym (c.in-Flow-next.is ∙ ap next.Flow c.in-Stop-flow.is)) ∙ c.in_ok-next-in-Name.ensures.leads (counts c.take-in-Name.new.self) in
+    element_leads p element left_before left_now (world_of c.work.state) (counts c.work.tally) (counts c.take-in-Name.new.self) (follows (next.Flow Stop)) end c.work.invariant is_due.0 c.take-in-Name.ensures.ticks calls did
 
 pub work-preserved : goal.work-preserved
 work-preserved c =
     let p = program_of c.args.style.now in
     let end = eval p (Then (Called c.args.first) End) (world_of c.args.state.now) counts_begun in
     let left_before = whole c.work.rest.now c.work.control.items in
-    let left_now = whole c.next_due.result.1.now c.next_due.new.control.items in
-    let is_due = subst (λ d. IsDue d c.work.rest.now c.work.control.items c.next_due.result.1.now c.next_due.new.control.items) c.in-Element.is c.next_due.ensures in
-    let calls = c.take.ensures.calls ∙ ap (λ b. with_call b c.work.tally.calls) c.builtin.ensures in
-    let follows : Next → Ending = λ next. followed p c.next_due.result.1.now next c.carry_out.new.control.items (world_of c.carry_out.new.state) (counts c.carry_out.new.tally) in
-    let did = ap follows (sym (c.in-Body-next.is)) ∙ c.in_ok-next-in-Element.ensures.leads in
-    element_leads p c.in-Element.element left_before left_now (world_of c.work.state) (counts c.work.tally) (counts c.take.new.self) (follows (next.Body c.in-Body-next.body)) end c.work.invariant is_due.0 c.take.ensures.ticks calls did
+    let left_now = whole c.work.rest.now c.next_due.new.control.items in
+    let element = Called c.in-Name.name in
+    let is_due = subst (λ d. IsDue d c.work.rest.now c.work.control.items c.next_due.new.control.items) c.in-Name.is c.next_due.ensures in
+    let calls = c.take-in-Name.ensures.calls ∙ ap (λ b. with_call b c.work.tally.calls) c.builtin_of.ensures in
+    let follows : Next → Ending = λ next. followed p c.work.rest.now next c.call_quoted.new.control.items (world_of c.call_quoted.new.state) (counts c.take-in-Name.new.self) in
+    let did = ap follows (sym (c.in-Body-next.is)) ∙ c.in_ok-next-in-Name.ensures.leads (counts c.take-in-Name.new.self) in
+    element_leads p element left_before left_now (world_of c.work.state) (counts c.work.tally) (counts c.take-in-Name.new.self) (follows (next.Body c.in-Body-next.body)) end c.work.invariant is_due.0 c.take-in-Name.ensures.ticks calls did
