@@ -8,15 +8,15 @@
 //! An element is matched where it lies in its body, and what comes after it is only a slice. So the loop holds both in
 //! registers: a copy of an element, or a result that holds a `Target`, would go through memory at each tick.
 
-ghost use Rattle.std.specs.Prelude.{◌≡◌, ◌+◌, ◌≤◌, length, IfOk, OnOk};
+ghost use Rattle.std.specs.Prelude.{◌≡◌, ◌+◌, ◌≤◌, ◌<◌, length, IfOk, IfSome, IfNone, OnOk};
 ghost use Rattle.bt_style.specs.Program.{program_of};
 ghost use Rattle.bt_style.specs.Tree.{End, Then, Called, element_of};
 ghost use Rattle.bt_style.specs.declared.builtin.Builtin.TheVariants as builtin;
 ghost use Rattle.bt_actions.specs.Arguments.{as_number, taken};
 ghost use Rattle.bt_stack.specs.View.{world_of};
-ghost use Rattle.bt_machine.specs.Eval.{eval, act};
+ghost use Rattle.bt_machine.specs.Eval.{Stopped, eval, act};
 ghost use Rattle.bt_machine.specs.Step.{counts_begun};
-ghost use Rattle.bt_machine.specs.inner.Loop.{counts, run_ended, ComesTo, is_above};
+ghost use Rattle.bt_machine.specs.inner.Loop.{counts, run_ended, ComesTo, is_above, left, whole, call_left};
 
 use crate::calls::{Next, call, call_quoted};
 use crate::control::{Due, Frame, begin, begin_loop, builtin_of, called_by, next_due};
@@ -71,6 +71,39 @@ fn carry_out<'a>(
     }
 }
 
+/// Calls a quoted name that waited, with its tick, and returns the body that runs next, unless the run stops.
+fn call_due<'a>(
+    state: &mut State<'a>,
+    control: &mut Vec<Frame<'a>>,
+    tally: &mut Tally,
+    alloc: Global,
+    style: &'a Style,
+    name: Target,
+    rest: &'a [Op],
+) -> Result<Option<&'a [Op]>, AllocError>
+    ensures goes { let p = program_of style.now in IfOk result (λ next. IfSome next (λ body.
+        left p (whole body.now control.new.items) (world_of state.new) (counts tally.new)
+        ≡ left p (call_left name rest.now control.old.items) (world_of state.old) (counts tally.old))) }
+    ensures stops { let p = program_of style.now in IfOk result (λ next. IfNone next (
+        Stopped (world_of state.new) (counts tally.new)
+        ≡ left p (call_left name rest.now control.old.items) (world_of state.old) (counts tally.old))) }
+    ensures ticks { IfOk result (λ next. IfSome next (λ body. tally.new.ticks < tally.old.ticks)) }
+    ensures more { OnOk result (length control.new.items ≤ length control.old.items + 4) }
+{
+    if tally.ticks == 0 {
+        state.tell(Complaint::TicksPassed)?;
+        return Ok(None);
+    }
+    tally.take(builtin_of(name));
+    match call_quoted(state, control, alloc, style, name, rest)? {
+        Next::Flow(flow) => match flow {
+            Flow::Go => Ok(Some(rest)),
+            Flow::Stop => Ok(None),
+        },
+        Next::Body(body) => Ok(Some(body)),
+    }
+}
+
 /// Runs a call of a name and all that it leads to. `control` is its buffer. It isn't inlined, so that it finds the state
 /// through one register and its own locals near.
 #[inline(never)]
@@ -117,19 +150,11 @@ pub fn work<'a>(
                     }
                 }
                 Due::Name(name) => {
-                    if tally.ticks == 0 {
-                        state.tell(Complaint::TicksPassed)?;
-                        return Ok((Flow::Stop, tally));
-                    }
-                    tally.take(builtin_of(name));
-                    let next = call_quoted(state, control, alloc, style, name, rest)?;
+                    let next = call_due(state, control, &mut tally, alloc, style, name, rest)?;
                     let _depth = state.stack.len();
                     match next {
-                        Next::Flow(flow) => match flow {
-                            Flow::Go => {}
-                            Flow::Stop => return Ok((Flow::Stop, tally)),
-                        },
-                        Next::Body(body) => rest = body,
+                        Some(body) => rest = body,
+                        None => return Ok((Flow::Stop, tally)),
                     }
                 }
             },

@@ -1,6 +1,7 @@
 -- What is left to do in the loop, what it means, and what an element leads to.
 use Rattle.std.specs.Prelude.{◌≡◌, ℤ, pos, negsuc, zero, suc, ◌≤◌, ◌<◌, Bool, true, false, List, [], ◌∷◌, Option, Some, None, length, map, reverse}
 use Rattle.bt_style.specs.declared.style.Op.{Op}
+use Rattle.bt_style.specs.declared.style.Target.{Target}
 use Rattle.bt_style.specs.Program.{Program}
 use Rattle.bt_style.specs.Tree.{Element, Quoted, Braced, Called, End, Then, ops_body}
 use Rattle.bt_style.specs.declared.builtin.Builtin.TheVariants.{While}
@@ -82,6 +83,10 @@ kept control = reverse (map frame_seen control)
 abbrev pub whole : List Op → List HeldFrame → List Frame
 whole ops control = Run (Block (ops_body ops)) ∷ kept control
 
+-- the call of a name before them
+abbrev pub call_left : Target → List Op → List HeldFrame → List Frame
+call_left name ops control = Run (Block (Then (Called name) End)) ∷ whole ops control
+
 -- what comes after an element, with the rest of its body and what waits
 abbrev pub followed : Program → List Op → Next → List HeldFrame → World → Counts → Ending
 followed p rest (next.Flow flow) fs w k = then_go (run_ended flow w k) (left p (whole rest fs))
@@ -111,6 +116,6 @@ abbrev pub IsDue : Due → List Op → List HeldFrame → List HeldFrame → Typ
 IsDue due.Nothing ops fs fs' = (p : Program) (w : World) (k : Counts) → left p (whole ops fs) w k ≡ Done w k
 IsDue (due.Body body) ops fs fs' = SameLeft (whole ops fs) (whole body.now fs') × (length fs' < length fs)
 IsDue (due.Name t) ops fs fs' =
-    SameLeft (whole ops fs) (Run (Block (Then (Called t) End)) ∷ whole ops fs') × (length fs' ≤ length fs)
+    SameLeft (whole ops fs) (call_left t ops fs') × (length fs' ≤ length fs)
 IsDue (due.Test test body) ops fs fs' =
     SameLeft (whole ops fs) (Test (code_seen test) (code_seen body) ∷ whole ops fs') × (length fs' < length fs)

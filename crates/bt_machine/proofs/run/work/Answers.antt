@@ -103,51 +103,16 @@ work-preserved-in-Body c =
     let did = ap follows (sym (c.in-Body.is)) ∙ c.in_ok-next-in-Some.ensures.leads in
     element_leads p element left_before left_now (world_of c.work.state) (counts c.work.tally) (counts c.take.new.self) (follows (next.Body c.in-Body.body)) end c.work.invariant is_due c.take.ensures.ticks calls did
 
-pub returns-then-tally-eq0-2 : goal.returns-then-tally-eq0-2
-returns-then-tally-eq0-2 c =
-    let p = program_of c.args.style.now in
-    let end = eval p (Then (Called c.args.first) End) (world_of c.args.state.now) counts_begun in
-    let left_before = whole c.work.rest.now c.work.control.items in
-    let left_now = whole c.work.rest.now c.next_due.new.control.items in
-    let element = Called c.in-Name.name in
-    let is_due = subst (λ d. IsDue d c.work.rest.now c.work.control.items c.next_due.new.control.items) c.in-Name.is c.next_due.ensures in
-    no_tick_leads p element left_before left_now (world_of c.work.state) (world_of c.tell-then-tally-eq0-2.new.self) (counts c.work.tally) end c.work.invariant is_due.0 c.if-tally-eq0-2.true c.in_ok-tell-in-Name.ensures
-
-pub work-preserved-in-Go-flow : goal.work-preserved-in-Go-flow
-work-preserved-in-Go-flow c =
-    let p = program_of c.args.style.now in
-    let end = eval p (Then (Called c.args.first) End) (world_of c.args.state.now) counts_begun in
-    let left_before = whole c.work.rest.now c.work.control.items in
-    let left_now = whole c.work.rest.now c.next_due.new.control.items in
-    let element = Called c.in-Name.name in
-    let is_due = subst (λ d. IsDue d c.work.rest.now c.work.control.items c.next_due.new.control.items) c.in-Name.is c.next_due.ensures in
-    let calls = c.take-in-Name.ensures.calls ∙ ap (λ b. with_call b c.work.tally.calls) c.builtin_of.ensures in
-    let follows : Next → Ending = λ next. followed p c.work.rest.now next c.call_quoted.new.control.items (world_of c.call_quoted.new.state) (counts c.take-in-Name.new.self) in
-    let did = ap follows (sym (c.in-Flow-next.is ∙ ap next.Flow c.in-Go-flow.is)) ∙ c.in_ok-next-in-Name.ensures.leads (counts c.take-in-Name.new.self) in
-    element_leads p element left_before left_now (world_of c.work.state) (counts c.work.tally) (counts c.take-in-Name.new.self) (follows (next.Flow Go)) end c.work.invariant is_due.0 c.take-in-Name.ensures.ticks calls did
-
-pub returns-in-Stop-flow : goal.returns-in-Stop-flow
-returns-in-Stop-flow c =
-    let p = program_of c.args.style.now in
-    let end = eval p (Then (Called c.args.first) End) (world_of c.args.state.now) counts_begun in
-    let left_before = whole c.work.rest.now c.work.control.items in
-    let left_now = whole c.work.rest.now c.next_due.new.control.items in
-    let element = Called c.in-Name.name in
-    let is_due = subst (λ d. IsDue d c.work.rest.now c.work.control.items c.next_due.new.control.items) c.in-Name.is c.next_due.ensures in
-    let calls = c.take-in-Name.ensures.calls ∙ ap (λ b. with_call b c.work.tally.calls) c.builtin_of.ensures in
-    let follows : Next → Ending = λ next. followed p c.work.rest.now next c.call_quoted.new.control.items (world_of c.call_quoted.new.state) (counts c.take-in-Name.new.self) in
-    let did = ap follows (sym (c.in-Flow-next.is ∙ ap next.Flow c.in-Stop-flow.is)) ∙ c.in_ok-next-in-Name.ensures.leads (counts c.take-in-Name.new.self) in
-    element_leads p element left_before left_now (world_of c.work.state) (counts c.work.tally) (counts c.take-in-Name.new.self) (follows (next.Flow Stop)) end c.work.invariant is_due.0 c.take-in-Name.ensures.ticks calls did
-
 pub work-preserved : goal.work-preserved
 work-preserved c =
     let p = program_of c.args.style.now in
-    let end = eval p (Then (Called c.args.first) End) (world_of c.args.state.now) counts_begun in
-    let left_before = whole c.work.rest.now c.work.control.items in
-    let left_now = whole c.work.rest.now c.next_due.new.control.items in
-    let element = Called c.in-Name.name in
     let is_due = subst (λ d. IsDue d c.work.rest.now c.work.control.items c.next_due.new.control.items) c.in-Name.is c.next_due.ensures in
-    let calls = c.take-in-Name.ensures.calls ∙ ap (λ b. with_call b c.work.tally.calls) c.builtin_of.ensures in
-    let follows : Next → Ending = λ next. followed p c.work.rest.now next c.call_quoted.new.control.items (world_of c.call_quoted.new.state) (counts c.take-in-Name.new.self) in
-    let did = ap follows (sym (c.in-Body-next.is)) ∙ c.in_ok-next-in-Name.ensures.leads (counts c.take-in-Name.new.self) in
-    element_leads p element left_before left_now (world_of c.work.state) (counts c.work.tally) (counts c.take-in-Name.new.self) (follows (next.Body c.in-Body-next.body)) end c.work.invariant is_due.0 c.take-in-Name.ensures.ticks calls did
+    let goes = rw c.in-Some-next.is at c.in_ok-next-in-Name.ensures.goes in
+    goes ∙ sym (is_due.0 p (world_of c.work.state) (counts c.work.tally)) ∙ c.work.invariant
+
+pub returns-in-None-next : goal.returns-in-None-next
+returns-in-None-next c =
+    let p = program_of c.args.style.now in
+    let is_due = subst (λ d. IsDue d c.work.rest.now c.work.control.items c.next_due.new.control.items) c.in-Name.is c.next_due.ensures in
+    let stops = rw c.in-None-next.is at c.in_ok-next-in-Name.ensures.stops in
+    stops ∙ sym (is_due.0 p (world_of c.work.state) (counts c.work.tally)) ∙ c.work.invariant
