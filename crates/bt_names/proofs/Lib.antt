@@ -10,6 +10,7 @@ pub mod NameLemmas
 pub mod CutLemmas
 pub mod GroupLemmas
 pub mod PieceLemmas
+pub mod ClosedLemmas
 pub mod SoundLemmas
 pub mod WritingLemmas
 mod rows

@@ -1,7 +1,7 @@
 //! The groups of a pattern, their letters, and the faults of a pattern.
 
-ghost use Rattle.std.specs.Prelude.{◌≡◌, ◌<◌, ◌≤◌, ◌-◌, ◌+◌, ◌==◌, [], ◌∷◌, IfSome, IfNone, IsTrue, None, if◌then◌else◌, length, drop, slice_index, slice_get};
-ghost use Rattle.bt_text.specs.Blocks.{begins_group};
+ghost use Rattle.std.specs.Prelude.{◌≡◌, ◌<◌, ◌≤◌, ◌-◌, ◌+◌, ◌==◌, [], ◌∷◌, IfSome, IfNone, IsTrue, None, if◌then◌else◌, length, take, drop, slice_index, slice_get};
+ghost use Rattle.bt_text.specs.Blocks.{begins_group, blocks};
 ghost use Rattle.bt_text.specs.Depth.{depth, depth_at};
 ghost use Rattle.bt_names.specs.Patterns.{block_fault, inside_group, is_doubled_at, letter_end, letter_fault, letter_places, letters_from, names_part, pattern_fault};
 ghost use Rattle.bt_names.specs.inner.Patterns.{IsLetterPlace};
@@ -15,11 +15,17 @@ pub fn begins_group(block: &[u8]) -> bool
     matches!(block, [b'{', ..])
 }
 
-/// Whether a group has its right brace.
-fn is_closed(group: &[u8]) -> bool
-    ensures { result ≡ (depth group.now == 0) }
+/// Whether the first block of a text, which has `len` bytes, leaves no brace open. Only the last block can leave one open.
+#[tactic(auto, using(crate::proofs::ClosedLemmas::closed_unless_last, crate::proofs::ClosedLemmas::last_is_whole))]
+fn is_closed(text: &[u8], len: usize) -> bool
+    requires { blocks text.now ≡ take len text.now ∷ blocks (drop len text.now) }
+    ensures { result ≡ (depth (take len text.now) == 0) }
 {
-    depth_of(group) == 0
+    if len < text.len() {
+        true
+    } else {
+        depth_of(text) == 0
+    }
 }
 
 fn inside_of(group: &[u8], is_closed: bool) -> &[u8]
@@ -49,7 +55,7 @@ pub fn inside_sound(group: &[u8]) -> &[u8]
 pub fn inside(group: &[u8]) -> &[u8]
     ensures { result.now ≡ inside_group group.now }
 {
-    inside_of(group, is_closed(group))
+    inside_of(group, depth_of(group) == 0)
 }
 
 /// The first letter at depth 0 of what stands inside a group, from a place on.
@@ -128,24 +134,25 @@ fn letter_fault(text: &[u8]) -> Option<usize>
 }
 
 /// The first fault of a group: a letter, or its end.
-fn group_fault(group: &[u8]) -> Option<usize>
-    requires { IsTrue (begins_group group.now) }
+fn group_fault(group: &[u8], is_closed: bool) -> Option<usize>
+    requires group { IsTrue (begins_group group.now) }
+    requires closed { is_closed ≡ (depth group.now == 0) }
     ensures place { result ≡ block_fault group.now }
     ensures within { IfSome result (λ i. i ≤ length group.now) }
 {
-    let is_closed = is_closed(group);
     match letter_fault(inside_of(group, is_closed)) {
         Some(place) => Some(1 + place),
         None => { if is_closed { None } else { Some(group.len()) } }
     }
 }
 
-fn block_fault(block: &[u8]) -> Option<usize>
+fn block_fault(block: &[u8], is_closed: bool) -> Option<usize>
+    requires { is_closed ≡ (depth block.now == 0) }
     ensures place { result ≡ block_fault block.now }
     ensures within { IfSome result (λ i. i ≤ length block.now) }
 {
     match block {
-        [b'{', ..] => group_fault(block),
+        [b'{', ..] => group_fault(block, is_closed),
         [b'}'] => Some(0),
         _ => None,
     }
@@ -158,11 +165,12 @@ pub fn pattern_fault(pattern: &[u8]) -> Option<usize>
     let mut start = 0;
     'walk: while start < pattern.len() {
         let (_, rest) = pattern.split_at(start);
-        let (block, _) = rest.split_at(block_len(rest));
-        if let Some(place) = block_fault(block) {
+        let len = block_len(rest);
+        let (block, _) = rest.split_at(len);
+        if let Some(place) = block_fault(block, is_closed(rest, len)) {
             return Some(start + place);
         }
-        start += block.len();
+        start += len;
     }
     None
 }
