@@ -1,5 +1,5 @@
 -- What the public calls answer.
-use Rattle.std.proofs.Common.{◌≡◌, ℕ, ℤ, ◌<◌, ◌≤◌, true, List, count_by, Option, None, Some, Result, Ok, Err, IsOk, IfErr, IfNone, IsErrAnd, is_ok, is_some, refl, sym, ap, subst, ◌∙◌, Bool, false, ltb, IsOkAnd}
+use Rattle.std.proofs.Common.{◌≡◌, ℕ, ℤ, ◌<◌, ◌≤◌, true, List, count_by, Option, None, Some, Result, Ok, Err, IsOk, IfErr, IsErrAnd, is_ok, is_some, refl, sym, ap, subst, ◌∙◌, Bool, false, ltb, IsOkAnd}
 use Rattle.std.proofs.lemmas.Bool.{false≢true, ltb-false, ltb-true}
 use Rattle.bt_text.specs.Blocks.{blocks}
 use Rattle.bt_names.specs.declared.tokens.Parts.{Parts}
@@ -81,7 +81,3 @@ many b n is e = ltb-true 2 n (sym is ∙ e)
 
 pub few : (b : Bool) (n : ℕ) → b ≡ ltb 2 n → b ≡ false → n ≤ 2
 few b n is e = ltb-false 2 n (sym is ∙ e)
-
-pub if_none : {X P : Type 0} (o : Option X) → P → IfNone o P
-if_none None h = h
-if_none (Some x) h = tt

@@ -1,6 +1,6 @@
 //! The parts of a name, and a name in a pattern.
 
-ghost use Rattle.std.specs.Prelude.{◌≡◌, IfErr, IfNone, IfOk, IfSome, IsOk, IsOkAnd, Ok};
+ghost use Rattle.std.specs.Prelude.{◌≡◌, IfErr, IfOk, IsOkAnd, Ok};
 ghost use Rattle.bt_names.specs.FormattedName.{formatted_name, name_parts, IsFormatFault, IsNameFault};
 ghost use Rattle.bt_names.specs.Written.{IsKept, IsWritten};
 
@@ -10,7 +10,6 @@ use crate::name::Name;
 use crate::name_parts::cut_name;
 use crate::names::name_at;
 use crate::patterns::pattern_fault;
-use crate::pieces::Pattern;
 use crate::tokens::Parts;
 use crate::writing::{Written, push_pieces};
 use bt_text::Bytes;
@@ -48,7 +47,7 @@ pub fn push_formatted(
     out: &mut Vec<u8>,
     names: &[u8],
     n: i32,
-    pattern: &Pattern,
+    pattern: &[u8],
     limit: usize,
 ) -> Result<Written, FormatFault>
     ensures text { IfOk result (λ written.
@@ -62,29 +61,13 @@ pub fn push_formatted(
     if has_many_commas(name) {
         return Err(FormatFault::TooManyCommas);
     }
-    if let Some(place) = pattern.fault() {
+    if let Some(place) = pattern_fault(pattern) {
         return Err(FormatFault::PatternFault(place));
     }
     let name = Name::new(alloc, name)?;
     let cut = cut_name(alloc, &name)?;
-    let written = push_pieces(out, limit, &cut.parts(), pattern.bytes())?;
+    let written = push_pieces(out, limit, &cut.parts(), pattern)?;
     Ok(written)
-}
-
-/// What is wrong with the names or the pattern. It takes no memory to know.
-#[tactic(auto, unfolding(crate::specs::FormattedName::formatted_name))]
-fn fault_of(names: &[u8], n: i32, pattern: &[u8]) -> Option<FormatFault>
-    ensures fault { IfSome result (IsFormatFault (formatted_name names.now n pattern.now)) }
-    ensures none { IfNone result (IsOk (formatted_name names.now n pattern.now)) }
-{
-    let Some(name) = name_at(names, n) else {
-        return Some(FormatFault::NoSuchName);
-    };
-    if has_many_commas(name) {
-        return Some(FormatFault::TooManyCommas);
-    }
-    let place = pattern_fault(pattern)?;
-    Some(FormatFault::PatternFault(place))
 }
 
 /// The n-th of the names that a text lists, counted from 1, in a pattern. The faults are those of `push_formatted`, in
@@ -93,12 +76,8 @@ pub fn format(alloc: Global, names: &[u8], n: i32, pattern: &[u8]) -> Result<Byt
     ensures text { IfOk result (λ text. formatted_name names.now n pattern.now ≡ Ok text) }
     ensures fault { IfErr result (IsFormatFault (formatted_name names.now n pattern.now)) }
 {
-    if let Some(fault) = fault_of(names, n, pattern) {
-        return Err(fault);
-    }
-    let pattern = Pattern::compiled(alloc, pattern)?;
     let mut page = Vec::new(alloc);
-    match push_formatted(alloc, &mut page, names, n, &pattern, usize::MAX)? {
+    match push_formatted(alloc, &mut page, names, n, pattern, usize::MAX)? {
         Written::Whole => Ok(Bytes::from_vec(page)),
         Written::Longer => Err(FormatFault::OutOfMemory),
     }

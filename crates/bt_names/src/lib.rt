@@ -1,4 +1,7 @@
 //! Names of people: how many a text lists, the parts of one, and one in a pattern.
+//!
+//! Definitions cut whole texts. The code makes one pass with a depth counter: names and faults are found without memory,
+//! tokens borrow the bytes of their name, and a pattern is written straight into the caller's buffer.
 #![tactic(auto)]
 
 mod cuts;
@@ -19,7 +22,6 @@ mod writing;
 pub use faults::{FormatFault, NameFault};
 pub use formatted_name::{format, parts, push_formatted};
 pub use names::count;
-pub use pieces::Pattern;
 pub use spelling::Form;
 pub use tokens::{Parts, Token};
 pub use writing::Written;

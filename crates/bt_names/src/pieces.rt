@@ -1,4 +1,4 @@
-//! A pattern, and the pieces that it is made of.
+//! The pieces that a pattern is made of.
 
 ghost use Rattle.std.specs.Prelude.{◌≡◌, None, drop};
 ghost use Rattle.bt_text.specs.Blocks.{begins_group};
@@ -10,11 +10,7 @@ ghost use Rattle.bt_names.specs.inner.Pieces.{piece_output};
 ghost use Rattle.bt_names.specs.inner.Spelling.{form_of};
 
 use crate::cuts::first_len;
-use crate::patterns::{
-    begins_group, inside, inside_sound, is_doubled_at, letter_end, next_letter, pattern_fault,
-};
-use std::alloc::{AllocError, Global};
-use std::marker::Model;
+use crate::patterns::{begins_group, inside, inside_sound, is_doubled_at, letter_end, next_letter};
 
 /// What a group with a letter says.
 #[derive(Clone, Copy)]
@@ -105,50 +101,5 @@ pub fn piece_of(block: &[u8]) -> Piece<'_>
         group_of(inside_sound(block))
     } else {
         Piece::Plain(block)
-    }
-}
-
-/// A pattern with its first fault. Contracts see its bytes.
-#[derive(Drop)]
-pub struct Pattern<'p> {
-    bytes: &'p [u8],
-    fault: Option<usize>,
-}
-
-impl<'p> Model for Pattern<'p> {
-    ghost use Rattle.std.specs.Prelude.{◌≡◌, List, ℕ};
-    ghost use Rattle.bt_names.specs.Patterns.{pattern_fault};
-
-    ghost Value = { List ℕ };
-
-    ghost view = { λ pattern. pattern.bytes.now };
-
-    ghost invariant = { λ pattern. pattern.fault ≡ pattern_fault pattern.bytes.now };
-}
-
-impl<'p> Pattern<'p> {
-    ghost use Rattle.std.specs.Prelude.{◌≡◌, IfOk};
-    ghost use Rattle.bt_names.specs.Patterns.{pattern_fault};
-
-    /// The pattern of these bytes. Nothing is allocated for it.
-    pub fn compiled(_alloc: Global, bytes: &'p [u8]) -> Result<Pattern<'p>, AllocError>
-        ensures { IfOk result (λ pattern. pattern ≡ bytes.now) }
-    {
-        let fault = pattern_fault(bytes);
-        Ok(Pattern { bytes, fault })
-    }
-
-    /// The place of its first fault.
-    pub fn fault(&self) -> Option<usize>
-        ensures { result ≡ pattern_fault self.now }
-    {
-        self.fault
-    }
-
-    /// Its bytes.
-    pub(crate) fn bytes(&self) -> &'p [u8]
-        ensures { result.now ≡ self.now }
-    {
-        self.bytes
     }
 }

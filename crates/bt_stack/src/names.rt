@@ -15,7 +15,7 @@ use crate::stack::Stack;
 use crate::state::State;
 use crate::texts::count_fitting;
 use bt_actions::{Complaint, Flow};
-use bt_names::{FormatFault, Pattern, Written, count, push_formatted};
+use bt_names::{FormatFault, Written, count, push_formatted};
 use bt_style::Builtin;
 use bt_text::{Bytes, TEXT_BYTES};
 use std::alloc::{AllocError, Global};
@@ -78,8 +78,7 @@ fn write_name(
     ensures { IfOk result (λ told. (w : World) → written_answer told page.new.items w
         ≡ answered (name_formatted (names.now, number, pattern.now)) w) }
 {
-    let compiled = Pattern::compiled(alloc, pattern)?;
-    match push_formatted(alloc, page, names, number, &compiled, TEXT_BYTES) {
+    match push_formatted(alloc, page, names, number, pattern, TEXT_BYTES) {
         Ok(written) => Ok(Ok(written)),
         Err(fault) => {
             let complaint = fault_complaint(alloc, names, number, pattern, fault)?;

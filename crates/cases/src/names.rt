@@ -4,7 +4,7 @@ use crate::Done;
 use crate::answer::{Answer, Spelled, put};
 use crate::words::Words;
 use bt_names::{
-    FormatFault, NameFault, Parts, Pattern, Token, Written, count, format, parts, push_formatted,
+    FormatFault, NameFault, Parts, Token, Written, count, format, parts, push_formatted,
 };
 use std::alloc::AllocError;
 
@@ -50,7 +50,6 @@ fn push_format_answer(words: Words<'_>, out: &mut Answer, names: &[u8]) -> Done 
 fn push_within_answer(words: Words<'_>, out: &mut Answer, names: &[u8]) -> Done {
     let (alloc, limit) = (words.alloc, words.count(4));
     let pattern = words.text(3)?;
-    let pattern = Pattern::compiled(alloc, &pattern)?;
     let mut page = Vec::new(alloc);
     match push_formatted(alloc, &mut page, names, words.number(2), &pattern, limit) {
         Ok(Written::Whole) => put!(out; page.as_slice()),
