@@ -13,6 +13,9 @@ use std::alloc::AllocError;
 /// How deep calls, tests and loops may stand in one another. Beyond it the analysis gives up.
 pub const DEPTH: usize = 600;
 
+/// How many values the literal stack holds. Where it may be full, the analysis gives up.
+const MOST_VALUES: usize = 1000;
+
 /// How many turns a loop is followed. Real ones take at most six.
 const MOST_TURNS: usize = 100;
 
@@ -49,7 +52,7 @@ impl<'a> Checker<'a> {
         next: &mut Vec<State>,
         depth: usize,
     ) -> Result<(), AllocError> {
-        if depth == 0 || !self.spend() {
+        if depth == 0 || state.depth() >= MOST_VALUES || !self.spend() {
             self.give_up();
             return Ok(());
         }
