@@ -4,10 +4,10 @@
 //! they do besides calling each other is in `paths.rt` and `heads.rt`.
 
 use crate::checker::{Arguments, Checker};
-use crate::program::{Act, Program, Word};
 use crate::state::State;
 use crate::values::{Node, Value};
 use bt_style::{Builtin, Target};
+use bt_words::{Act, Program, Word};
 use std::alloc::AllocError;
 
 /// How deep calls, tests and loops may stand in one another. Beyond it the analysis gives up.

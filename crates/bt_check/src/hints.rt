@@ -1,12 +1,11 @@
 //! What a style has and doesn't use, and what most styles have and it doesn't.
 
 use crate::checker::Checker;
-use crate::lines::line_of;
-use crate::program::{Act, Program, Word};
 use crate::steps::Findings;
 use crate::types::{Catalogue, STANDARD, all_words, is_marked, mark, marks};
 use bt_style::{Action, Builtin, Style, Target};
 use bt_text::Bytes;
+use bt_words::{Act, Program, Word, line_of};
 use std::alloc::{AllocError, Global};
 
 #[derive(Clone, Copy)]

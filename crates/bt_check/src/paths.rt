@@ -3,10 +3,10 @@
 use crate::checker::{Arguments, Checker};
 use crate::facts::Facts;
 use crate::fault::{Call, FaultKind};
-use crate::program::{Act, Program};
 use crate::state::State;
 use crate::values::{Node, Value, ZERO};
 use bt_style::{Builtin, Target};
+use bt_words::{Act, Program};
 use std::alloc::AllocError;
 
 /// The state on the paths on which the entry's type has this function; none if it has no function.

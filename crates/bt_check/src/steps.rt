@@ -4,11 +4,11 @@ use crate::checker::Checker;
 use crate::evaluation::DEPTH;
 use crate::facts::Facts;
 use crate::fault::{Call, Fault, FaultKind, Step, kinds_words};
-use crate::program::{Act, Program};
 use crate::state::State;
 use crate::types::{Catalogue, all_words};
 use crate::values::{EMPTY, Node, Value, Values, ZERO};
 use bt_style::{Action, Builtin, Command, Style, Target};
+use bt_words::{Act, Program};
 use std::alloc::{AllocError, Global};
 
 #[derive(Drop)]

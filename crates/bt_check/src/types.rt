@@ -5,8 +5,8 @@
 //! and functions that nothing calls and that run without a fault (as `IEEEtranBSTCTL`).
 
 use crate::checker::Checker;
-use crate::program::{Act, Program, Word};
 use bt_style::{Action, Builtin, Style, Target};
+use bt_words::{Act, Program, Word};
 use std::alloc::{AllocError, Global};
 
 /// The types of the four standard styles, and `conference`.
