@@ -12,7 +12,9 @@ ghost use Rattle.std.specs.Prelude.{◌≡◌, ◌+◌, ◌≤◌, ◌<◌, leng
 ghost use Rattle.bt_style.specs.Program.{program_of};
 ghost use Rattle.bt_style.specs.Tree.{End, Then, Called, element_of};
 ghost use Rattle.bt_style.specs.declared.builtin.Builtin.TheVariants as builtin;
+ghost use Rattle.bt_actions.specs.declared.complaint.Complaint.TheVariants.{TicksPassed};
 ghost use Rattle.bt_actions.specs.Arguments.{as_number, taken};
+ghost use Rattle.bt_actions.specs.World.{say};
 ghost use Rattle.bt_stack.specs.View.{world_of};
 ghost use Rattle.bt_machine.specs.Eval.{Stopped, eval, act};
 ghost use Rattle.bt_machine.specs.Step.{counts_begun};
@@ -25,6 +27,14 @@ use bt_actions::{Code, Complaint, Flow, Tally};
 use bt_stack::{State, take_number};
 use bt_style::{Op, Style, Target};
 use std::alloc::{AllocError, Global};
+
+/// Reports that a step has no tick left. If `work` made the complaint, it would set its bytes to 0 at each tick.
+#[cold]
+fn tell_no_tick(state: &mut State) -> Result<(), AllocError>
+    ensures { OnOk result (world_of state.new ≡ say TicksPassed (world_of state.old)) }
+{
+    state.tell(Complaint::TicksPassed)
+}
 
 /// Takes the number that a loop's test left, and returns whether there is another turn. Without a number, after an
 /// error, there is none.
@@ -91,7 +101,7 @@ fn call_due<'a>(
     ensures more { OnOk result (length control.new.items ≤ length control.old.items + 4) }
 {
     if tally.ticks == 0 {
-        state.tell(Complaint::TicksPassed)?;
+        tell_no_tick(state)?;
         return Ok(None);
     }
     tally.take(builtin_of(name));
@@ -125,7 +135,7 @@ pub fn work<'a>(
         match rest.split_first() {
             Some((op, after)) => {
                 if tally.ticks == 0 {
-                    state.tell(Complaint::TicksPassed)?;
+                    tell_no_tick(state)?;
                     return Ok((Flow::Stop, tally));
                 }
                 tally.take(called_by(op));

@@ -5,6 +5,7 @@ ghost use Rattle.bt_actions.specs.Actions.{change_with};
 ghost use Rattle.bt_actions.specs.Arguments.{as_any, as_target, taken_two};
 ghost use Rattle.bt_actions.specs.Assignment.{assigned};
 ghost use Rattle.bt_actions.specs.World.{say, with_stack};
+ghost use Rattle.bt_actions.specs.declared.complaint.Complaint.TheVariants.{NoEntry, NotVariable, WrongKind};
 ghost use Rattle.bt_style.specs.declared.builtin.Builtin.TheVariants as builtin;
 ghost use Rattle.bt_style.specs.declared.style.Target.TheVariants as target;
 ghost use Rattle.bt_stack.specs.Assigning.{value_given};
@@ -27,6 +28,36 @@ fn refuse_value(state: &mut State, complaint: Complaint) -> Result<(), AllocErro
     Ok(())
 }
 
+/// Reports that a variable's values are of another kind, and removes the value.
+#[cold]
+fn refuse_kind(state: &mut State) -> Result<(), AllocError>
+    requires { 0 < length state.old.stack.items }
+    ensures { OnOk result (world_of state.new
+        ≡ with_stack (drop 1 (world_of state.old).stack) (say (WrongKind builtin.Assign) (world_of state.old))) }
+{
+    refuse_value(state, Complaint::WrongKind(Builtin::Assign))
+}
+
+/// Reports that there is no entry whose variable could get the value, and removes the value.
+#[cold]
+fn refuse_without_entry(state: &mut State) -> Result<(), AllocError>
+    requires { 0 < length state.old.stack.items }
+    ensures { OnOk result (world_of state.new
+        ≡ with_stack (drop 1 (world_of state.old).stack) (say NoEntry (world_of state.old))) }
+{
+    refuse_value(state, Complaint::NoEntry)
+}
+
+/// Reports that a name isn't a variable's, and removes the value.
+#[cold]
+fn refuse_name(state: &mut State) -> Result<(), AllocError>
+    requires { 0 < length state.old.stack.items }
+    ensures { OnOk result (world_of state.new
+        ≡ with_stack (drop 1 (world_of state.old).stack) (say NotVariable (world_of state.old))) }
+{
+    refuse_value(state, Complaint::NotVariable)
+}
+
 /// A number variable of the style gets the topmost value.
 fn assign_global_number(state: &mut State, n: usize) -> Result<(), AllocError>
     requires { 0 < length state.old.stack.items }
@@ -36,7 +67,7 @@ fn assign_global_number(state: &mut State, n: usize) -> Result<(), AllocError>
         state.stack.drop_tops(1);
         Ok(())
     } else {
-        refuse_value(state, Complaint::WrongKind(Builtin::Assign))
+        refuse_kind(state)
     }
 }
 
@@ -49,7 +80,7 @@ fn assign_global_text(state: &mut State, n: usize) -> Result<(), AllocError>
         state.stack.drop_tops(1);
         Ok(())
     } else {
-        refuse_value(state, Complaint::WrongKind(Builtin::Assign))
+        refuse_kind(state)
     }
 }
 
@@ -59,12 +90,12 @@ fn assign_entry_number(state: &mut State, n: usize) -> Result<(), AllocError>
     ensures { OnOk result (world_of state.new ≡ value_given (target.EntryNumber n) (world_of state.old)) }
 {
     if state.entry.is_none() {
-        refuse_value(state, Complaint::NoEntry)
+        refuse_without_entry(state)
     } else if state.stack.set_own_number(n, 0)? {
         state.stack.drop_tops(1);
         Ok(())
     } else {
-        refuse_value(state, Complaint::WrongKind(Builtin::Assign))
+        refuse_kind(state)
     }
 }
 
@@ -74,12 +105,12 @@ fn assign_entry_text(state: &mut State, n: usize) -> Result<(), AllocError>
     ensures { OnOk result (world_of state.new ≡ value_given (target.EntryText n) (world_of state.old)) }
 {
     if state.entry.is_none() {
-        refuse_value(state, Complaint::NoEntry)
+        refuse_without_entry(state)
     } else if state.stack.set_own_text(n, 0)? {
         state.stack.drop_tops(1);
         Ok(())
     } else {
-        refuse_value(state, Complaint::WrongKind(Builtin::Assign))
+        refuse_kind(state)
     }
 }
 
@@ -93,9 +124,7 @@ pub fn assign_value(state: &mut State, target: Target) -> Result<(), AllocError>
         Target::EntryText(n) => assign_entry_text(state, n),
         Target::GlobalNumber(n) => assign_global_number(state, n),
         Target::GlobalText(n) => assign_global_text(state, n),
-        Target::Builtin(_) | Target::Field(_) | Target::Function(_) => {
-            refuse_value(state, Complaint::NotVariable)
-        }
+        Target::Builtin(_) | Target::Field(_) | Target::Function(_) => refuse_name(state),
     }
 }
 

@@ -1,6 +1,7 @@
 //! What fields and variables, the key, the type and the preamble push, and the functions that use only the stack.
 
 ghost use Rattle.std.specs.Prelude.{◌≡◌, IfOk};
+ghost use Rattle.bt_actions.specs.declared.complaint.Complaint.TheVariants.{NoEntry};
 ghost use Rattle.bt_actions.specs.Item.{Txt};
 ghost use Rattle.bt_actions.specs.World.{Goes};
 ghost use Rattle.bt_actions.specs.State.{popped, pushed, pushed_in_error};
@@ -13,13 +14,13 @@ use crate::state::State;
 use bt_actions::{Complaint, Entry, Flow, STACK_LIMIT};
 use std::alloc::AllocError;
 
-/// Reports an error and pushes 0, unless the stack is full.
+/// Reports that there is no entry and pushes 0, unless the stack is full.
 #[cold]
-fn push_zero_in_error(state: &mut State, complaint: Complaint) -> Result<Flow, AllocError>
-    ensures { IfOk result (Acts (pushed_in_error complaint zero_item) state.old state.new) }
+fn push_zero_without_entry(state: &mut State) -> Result<Flow, AllocError>
+    ensures { IfOk result (Acts (pushed_in_error NoEntry zero_item) state.old state.new) }
 {
     if state.stack.len() < STACK_LIMIT {
-        state.tell(complaint)?;
+        state.tell(Complaint::NoEntry)?;
     }
     state.push_number(0)
 }
@@ -35,12 +36,20 @@ pub fn push_empty_in_error(state: &mut State, complaint: Complaint) -> Result<Fl
     state.push_given(b"")
 }
 
+/// Reports that there is no entry and pushes the empty text, unless the stack is full.
+#[cold]
+fn push_empty_without_entry(state: &mut State) -> Result<Flow, AllocError>
+    ensures { IfOk result (Acts (pushed_in_error NoEntry empty_item) state.old state.new) }
+{
+    push_empty_in_error(state, Complaint::NoEntry)
+}
+
 /// Pushes a field of the step's entry, which may be missing.
 pub fn call_field(state: &mut State, n: usize) -> Result<Flow, AllocError>
     ensures { IfOk result (Acts (of_entry (field_at n) empty_item) state.old state.new) }
 {
     match state.entry {
-        None => push_empty_in_error(state, Complaint::NoEntry),
+        None => push_empty_without_entry(state),
         Some(entry) => match entry.fields.get(n) {
             None => state.push_missing(n),
             Some(text) => state.push_given(text.as_slice()),
@@ -53,7 +62,7 @@ pub fn call_entry_number(state: &mut State, n: usize) -> Result<Flow, AllocError
     ensures { IfOk result (Acts (of_entry (number_at n) zero_item) state.old state.new) }
 {
     match state.entry {
-        None => push_zero_in_error(state, Complaint::NoEntry),
+        None => push_zero_without_entry(state),
         Some(_) => {
             let number = state.stack.own_number(n);
             state.push_number(number)
@@ -66,7 +75,7 @@ pub fn call_entry_text(state: &mut State, n: usize) -> Result<Flow, AllocError>
     ensures { IfOk result (Acts (of_entry (text_at n) empty_item) state.old state.new) }
 {
     match state.entry {
-        None => push_empty_in_error(state, Complaint::NoEntry),
+        None => push_empty_without_entry(state),
         Some(_) => {
             if state.stack.len() < STACK_LIMIT && state.stack.push_own_text(n)? {
                 Ok(Flow::Go)
@@ -111,7 +120,7 @@ pub fn cite(state: &mut State) -> Result<Flow, AllocError>
     ensures { IfOk result (Acts (of_entry key_item empty_item) state.old state.new) }
 {
     match state.entry {
-        None => push_empty_in_error(state, Complaint::NoEntry),
+        None => push_empty_without_entry(state),
         Some(entry) => state.push_given(entry.key.as_slice()),
     }
 }
@@ -121,7 +130,7 @@ pub fn entry_type(state: &mut State) -> Result<Flow, AllocError>
     ensures { IfOk result (Acts (of_entry kind_item empty_item) state.old state.new) }
 {
     match state.entry {
-        None => push_empty_in_error(state, Complaint::NoEntry),
+        None => push_empty_without_entry(state),
         Some(entry) => state.push_given(kind_shown(entry)),
     }
 }
@@ -142,7 +151,7 @@ pub fn duplicate(state: &mut State) -> Result<Flow, AllocError>
         return state.pass_text_limit();
     }
     if state.stack.len() == 0 {
-        state.tell(Complaint::EmptyStack)?;
+        state.tell_empty()?;
     } else {
         state.stack.duplicate()?;
     }
@@ -162,7 +171,7 @@ pub fn swap(state: &mut State) -> Result<Flow, AllocError>
     ensures { IfOk result (Acts (λ world. Goes (swapped world.stack world)) state.old state.new) }
 {
     if state.stack.len() < 2 {
-        state.tell(Complaint::EmptyStack)?;
+        state.tell_empty()?;
     } else {
         state.stack.swap();
     }

@@ -25,6 +25,7 @@ impl<'a> State<'a> {
     ghost use Rattle.bt_actions.specs.World.{Stops, say};
     ghost use Rattle.bt_actions.specs.State.{popped, pushed, limit_passed};
     ghost use Rattle.bt_actions.specs.Arguments.{judged};
+    ghost use Rattle.bt_actions.specs.declared.complaint.Complaint.TheVariants.{EmptyStack, StackPassed};
     ghost use Rattle.bt_stack.specs.View.{world_of, Acts};
 
     /// Adds a complaint.
@@ -46,16 +47,33 @@ impl<'a> State<'a> {
         Ok(Flow::Stop)
     }
 
+    /// Reports that the stack has too few values. Callers that made the complaint themselves would set its bytes to 0 at
+    /// each call.
+    #[cold]
+    pub fn tell_empty(&mut self) -> Result<(), AllocError>
+        ensures { OnOk result (world_of self.new ≡ say EmptyStack (world_of self.old)) }
+    {
+        self.tell(Complaint::EmptyStack)
+    }
+
     /// Removes the topmost value, or reports that there is none.
     pub fn drop_top(&mut self) -> Result<(), AllocError>
         ensures { OnOk result (world_of self.new ≡ (popped (world_of self.old)).1) }
     {
         if self.stack.len() == 0 {
-            self.tell(Complaint::EmptyStack)
+            self.tell_empty()
         } else {
             self.stack.drop_tops(1);
             Ok(())
         }
+    }
+
+    /// Reports that the stack is full, and stops the run.
+    #[cold]
+    fn pass_stack_limit(&mut self) -> Result<Flow, AllocError>
+        ensures { IfOk result (Acts (λ world. Stops (say StackPassed world)) self.old self.new) }
+    {
+        self.stop(Complaint::StackPassed)
     }
 
     /// Reports that a text is too long for the stack, or that the stack is full, and stops the run.
@@ -78,7 +96,7 @@ impl<'a> State<'a> {
             self.stack.push_number(number)?;
             Ok(Flow::Go)
         } else {
-            self.stop(Complaint::StackPassed)
+            self.pass_stack_limit()
         }
     }
 
@@ -101,7 +119,7 @@ impl<'a> State<'a> {
             self.stack.push_name(name)?;
             Ok(Flow::Go)
         } else {
-            self.stop(Complaint::StackPassed)
+            self.pass_stack_limit()
         }
     }
 
@@ -113,7 +131,7 @@ impl<'a> State<'a> {
             self.stack.push_block(ops)?;
             Ok(Flow::Go)
         } else {
-            self.stop(Complaint::StackPassed)
+            self.pass_stack_limit()
         }
     }
 
@@ -125,7 +143,7 @@ impl<'a> State<'a> {
             self.stack.push_missing(field)?;
             Ok(Flow::Go)
         } else {
-            self.stop(Complaint::StackPassed)
+            self.pass_stack_limit()
         }
     }
 

@@ -17,7 +17,7 @@ returns-then-tally-eq0-clause-stops c =
     let k = counts c.args.tally.now in
     let w = world_of c.args.state.now in
     let due = call_left c.args.name c.args.rest.now c.args.control.now.items in
-    no_tick_leads p (Called c.args.name) due (whole c.args.rest.now c.args.control.now.items) w (world_of c.tell.new.self) k (left p due w k) refl (λ p w k. refl) c.if-tally-eq0.true c.in_ok-tell.ensures
+    no_tick_leads p (Called c.args.name) due (whole c.args.rest.now c.args.control.now.items) w (world_of c.tell_no_tick.new.state) k (left p due w k) refl (λ p w k. refl) c.if-tally-eq0.true c.in_ok-tell_no_tick.ensures
 
 pub returns-in-Go-clause-goes : goal.returns-in-Go-clause-goes
 returns-in-Go-clause-goes c =

@@ -62,7 +62,7 @@ returns-then-tally-eq0 c =
     let left_now = whole c.in-Some.after.now c.work.control.items in
     let element = element_of c.in-Some.op.now in
     let is_due = due_element c.in-Some.op.now c.work.rest.now c.in-Some.after.now c.work.control.items c.in-Some.ensures.cases.0 in
-    no_tick_leads p element left_before left_now (world_of c.work.state) (world_of c.tell.new.self) (counts c.work.tally) end c.work.invariant is_due c.if-tally-eq0.true c.in_ok-tell-in-Some.ensures
+    no_tick_leads p element left_before left_now (world_of c.work.state) (world_of c.tell_no_tick.new.state) (counts c.work.tally) end c.work.invariant is_due c.if-tally-eq0.true c.in_ok-tell_no_tick-in-Some.ensures
 
 pub work-preserved-in-Go : goal.work-preserved-in-Go
 work-preserved-in-Go c =
