@@ -172,6 +172,11 @@ pub no_choice_leads : (p : Program) (fs : List Frame) (w w' : World) (k : Counts
 no_choice_leads p fs w w' k took = choice_runs p None fs w w' k took
 
 -- a body was put before what is left
+-- a function without elements
+pub nothing_leads : (p : Program) (ops : List Op) (body : Body) (fs : List Frame) (w : World) (k : Counts) → length ops ≡ 0 → ops_body ops ≡ body → then_go (Done w k) (left p fs) ≡ then_go (eval p body w k) (left p fs)
+nothing_leads p [] body fs w k none is_body = ap (λ o. then_go o (left p fs)) (sym (eval-end p w k) ∙ ap (λ b. eval p b w k) is_body)
+nothing_leads p (op ∷ ops) body fs w k none is_body = absurd (omega (arith, none))
+
 pub body_leads : (p : Program) (b b' : Body) (fs gs : List Frame) (w : World) (k : Counts) → b ≡ b' → SameLeft gs fs → left p (Run (Block b) ∷ gs) w k ≡ then_go (eval p b' w k) (left p fs)
 body_leads p b b' fs gs w k is_body same =
     same_under (Run (Block b)) gs fs same p w k ∙ ap (λ b. then_go (eval p b w k) (left p fs)) is_body

@@ -55,7 +55,7 @@ fn function_body(style: &Style, n: usize) -> &[Op]
     }
 }
 
-/// Enters the function of a number.
+/// Enters the function of a number, unless it has no elements.
 fn enter<'a>(
     control: &mut Vec<Frame<'a>>,
     style: &'a Style,
@@ -66,8 +66,12 @@ fn enter<'a>(
         Means p (eval p (function_body p.functions n)) rest.now control.old.items next control.new.items) }
     ensures more { OnOk result (length control.new.items ≤ length control.old.items + 4) }
 {
+    let body = function_body(style, n);
+    if body.is_empty() {
+        return Ok(Next::Flow(Flow::Go));
+    }
     keep(control, rest)?;
-    Ok(Next::Body(function_body(style, n)))
+    Ok(Next::Body(body))
 }
 
 /// `call.type$`.
