@@ -106,7 +106,8 @@ let s:steps = [
 \   'Messages() ==# [] && Shows("\\newblock One and no more.") == 0 && match(Shown(), "newblock One") >= 0'],
 \ ['a style with a fault has its error',
 \   'edit labels.bst | call Type("ggOFOO\<Esc>")',
-\   'Messages() ==# ["E:labels.bst:1:This isn''t a command"] && Shown()[0] =~# "is empty"'],
+\   'Messages() ==# ["E:labels.bst:1:This isn''t a command"]'
+\     . ' && Shows("\\newblock {\\em The {\\TeX}book again}.") && bibtex_live#StatusLine(bufnr("bibliography of")) =~# "last good"'],
 \ ['and none once it is mended',
 \   'call Type("u")',
 \   'Messages() ==# [] && Shows("\\newblock {\\em The {\\TeX}book again}.")'],

@@ -4,6 +4,10 @@
 " A paper is a dictionary. At most one command of it is in flight (`asked`); when its answer is there, `s:Pump` compares
 " the texts as they are now with those that the program has, and sends the next difference. So the newest text wins, and
 " what was typed in between is never sent by itself.
+"
+" Comparing a megabyte after each letter takes a quarter of a second, so the editor says which lines changed (a record):
+" the text and the change that is sent are made of these lines alone. Each text has a number. A change starts from the
+" text of one number (`base`), and is sent only if the program has that text.
 
 let s:cpo_save = &cpo
 set cpo&vim
@@ -11,6 +15,8 @@ set cpo&vim
 let s:papers = {}       " by the path of the .aux file
 let s:latest = {}       " the paper that was started last
 let s:resolved = {}     " paths without links, by path
+let s:records = {}      " what changed in a buffer since its text was read, by its number
+let s:count = 0         " the number of the latest text
 let s:most_bytes = 1048576
 let s:reasons = {
       \ 1: 'its name may have only 1 to 64 of the characters A-Z a-z 0-9 . - _ + /',
@@ -54,7 +60,7 @@ function! bibtex_live#Start(argument) abort
     let s:papers[aux] = {'aux': aux, 'title': title, 'name': name, 'names': [name . '.aux'], 'texts': {},
           \ 'places': {name . '.aux': aux},
           \ 'folders': [fnamemodify(aux, ':h'), getcwd()], 'unknown': {}, 'job': v:null, 'ends': [],
-          \ 'bbl': '', 'blg': '', 'key': '', 'view': s:Option('view', 'all'), 'messages': [], 'items': [], 'list': 0,
+          \ 'bbl': '', 'blg': '', 'old': 0, 'moved': 1, 'key': '', 'view': s:Option('view', 'all'), 'messages': [], 'items': [], 'list': 0,
           \ 'refusals': {}}
   endif
   let s:latest = s:papers[aux]
@@ -64,15 +70,55 @@ function! bibtex_live#Start(argument) abort
   call s:Pump(s:latest)
 endfunction
 
-" The .aux file of the present buffer: its own, that of its name, or the only one of its folder that names databases.
+" The .aux file of the present buffer: that of its `% !TEX root`, its own, that of its name, or the newest one that names
+" databases: in its folder, in an output folder of that, or in the folder above.
 function! s:Guess() abort
   let path = expand('%:p')
-  if path =~# '\.\%(aux\|tex\)$' && filereadable(fnamemodify(path, ':r') . '.aux')
-    return fnamemodify(path, ':r') . '.aux'
-  endif
   let folder = path ==# '' ? getcwd() : fnamemodify(path, ':h')
-  let found = filter(glob(folder . '/*.aux', 1, 1), 'match(readfile(v:val), "^\\\\bibdata{") >= 0')
-  return len(found) == 1 ? found[0] : ''
+  for line in getline(1, 20)
+    let root = matchstr(line, '\c^\s*%\s*!\s*tex\s\+root\s*=\s*\zs.\{-}\ze\s*$')
+    if root !=# ''
+      let path = resolve(fnamemodify((root[0] ==# '/' ? '' : folder . '/') . substitute(root, '\c\.tex$', '', '') . '.tex', ':p'))
+      let folder = fnamemodify(path, ':h')
+      break
+    endif
+  endfor
+  if path =~# '\.\%(aux\|tex\)$'
+    for place in [folder] + s:Outputs(folder)
+      let aux = place . '/' . fnamemodify(path, ':t:r') . '.aux'
+      if filereadable(aux) && s:NamesDatabases(aux)
+        return aux
+      endif
+    endfor
+  endif
+  for place in [folder, fnamemodify(folder, ':h')]
+    let found = []
+    for inner in [place] + s:Outputs(place)
+      let found += filter(glob(inner . '/*.aux', 1, 1), 's:NamesDatabases(v:val)')
+    endfor
+    if !empty(found)
+      return sort(found, {a, b -> getftime(b) - getftime(a)})[0]
+    endif
+  endfor
+  return ''
+endfunction
+
+" The folders in which LaTeX may write the files of a folder: that of its latexmkrc, and the usual ones.
+function! s:Outputs(folder) abort
+  let names = ['build', 'out', 'output', 'aux', '.aux', 'tmp']
+  for rc in ['latexmkrc', '.latexmkrc']
+    if filereadable(a:folder . '/' . rc)
+      for line in readfile(a:folder . '/' . rc, '', 200)
+        let name = matchstr(line, '^\s*\$\%(aux\|out\)_dir\s*=\s*["'']\zs[^"'']\+\ze["'']')
+        let names = name ==# '' ? names : [name] + names
+      endfor
+    endif
+  endfor
+  return filter(map(names, 'v:val[0] ==# "/" ? v:val : a:folder . "/" . v:val'), 'isdirectory(v:val)')
+endfunction
+
+function! s:NamesDatabases(aux) abort
+  return match(readfile(a:aux), '^\\bibdata{') >= 0
 endfunction
 
 function! bibtex_live#Views(lead, line, at) abort
@@ -107,11 +153,12 @@ function! bibtex_live#Stop() abort
   call s:Drop(paper)
 endfunction
 
-" The paper that the present buffer belongs to: it uses its file, or its folder is the nearest; else the latest one.
+" The paper that the present buffer belongs to: it uses its file, or its folder is the nearest; else the latest one. Of
+" several that use it, the one that was started or whose window was entered last.
 function! s:Here() abort
-  let path = resolve(expand('%:p'))
+  let path = s:Resolved(expand('%:p'))
   let [found, longest] = [s:latest, 0]
-  for paper in values(s:papers)
+  for paper in (empty(s:latest) ? [] : [s:latest]) + values(s:papers)
     let folder = paper.folders[0] . '/'
     if index(values(paper.places), path) >= 0 || bufnr('%') == get(paper, 'buffer', -1)
       return paper
@@ -130,6 +177,8 @@ function! s:Watch() abort
       autocmd TextChangedP *.aux,*.bib,*.bst call s:Changed()
     endif
     autocmd FocusGained * call s:Changed()
+    autocmd BufReadPost,BufUnload *.aux,*.bib,*.bst call s:Forget(str2nr(expand('<abuf>')))
+    autocmd BufEnter \[bibliography\ of\ *\] call s:Enter()
     autocmd CursorMoved,CursorMovedI,BufEnter *.aux,*.bib,*.bst,*.tex call s:Follow()
     autocmd VimLeavePre * call s:Leave()
   augroup END
@@ -140,7 +189,21 @@ function! s:Watch() abort
 endfunction
 
 function! s:Tick() abort
-  call map(values(s:papers), 's:Pump(v:val)')
+  if !exists('s:soon')
+    for paper in values(s:papers)
+      call s:Check(paper)
+      call s:Pump(paper)
+    endfor
+  endif
+endfunction
+
+" The window of a paper is entered: commands are about this paper from now on.
+function! s:Enter() abort
+  for paper in values(s:papers)
+    if bufnr('%') == get(paper, 'buffer', -1)
+      let s:latest = paper
+    endif
+  endfor
 endfunction
 
 " The editor ends: so do the programs, and none is started again.
@@ -150,18 +213,26 @@ function! s:Leave() abort
   call map(papers, 's:Drop(v:val)')
 endfunction
 
+" A text has changed. What is to be done waits until the editor has shown it.
 function! s:Changed() abort
   for paper in values(s:papers)
     let paper.resting = 0
-    call s:Pump(paper)
   endfor
+  if !exists('s:soon')
+    let s:soon = timer_start(1, {-> s:Catch()})
+  endif
+endfunction
+
+function! s:Catch() abort
+  unlet s:soon
+  call map(values(s:papers), 's:Pump(v:val)')
   call s:Follow()
 endfunction
 
 " --- The program ---
 
 function! s:Launch(paper) abort
-  call extend(a:paper, {'sent': {}, 'asked': '', 'input': '', 'wanted': -1, 'stale': '', 'said': '', 'began': reltime()})
+  call extend(a:paper, {'sent': {}, 'numbers': {}, 'asked': '', 'input': '', 'wanted': -1, 'stale': '', 'said': '', 'began': reltime()})
   let words = [s:Option('program', 'bibtex'), '--resident'] + s:Option('arguments', []) + [a:paper.name]
   if has('nvim')
     let options = {'cwd': a:paper.folders[0],
@@ -225,7 +296,11 @@ endfunction
 
 function! s:Ended(paper, channel) abort
   if a:paper.job isnot v:null && a:paper.channel == a:channel
-    call s:Again(a:paper, 'the program has ended' . (a:paper.said ==# '' ? '' : ' (' . a:paper.said . ')'))
+    let words = a:paper.said ==# '' ? '' : ' (' . a:paper.said . ')'
+    if words =~# 'resident'
+      let words .= ': this isn''t Dulshenko''s bibtex but TeX Live''s. Set g:bibtex_live_program'
+    endif
+    call s:Again(a:paper, 'the program has ended' . words)
   endif
 endfunction
 
@@ -268,32 +343,39 @@ endfunction
 function! s:Edit(paper) abort
   for kind in ['\.aux$', '\.bib$', '\%(\.aux\|\.bib\)\@<!$']
     for name in filter(copy(a:paper.names), 'v:val =~# kind')
-      let text = s:Present(a:paper, name)
+      let kept = s:Present(a:paper, name)
+      let text = kept.text
       let known = has_key(a:paper.sent, name)
+      let number = get(a:paper.numbers, name, -1)
       if text is v:null
         let line = known ? 'remove ' . name : ''
         let bytes = ''
-      elseif known && s:Same(text, a:paper.sent[name])
+        let a:paper.moved = 1
+      elseif known && (number == kept.number || (number != kept.base && s:Same(text, a:paper.sent[name])))
+        let a:paper.numbers[name] = kept.number
         let line = ''
         if has_key(a:paper.refusals, name)
           call remove(a:paper.refusals, name)
-          let a:paper.stale = 'blg'
+          let [a:paper.stale, a:paper.moved] = ['blg', 1]
         endif
       elseif has_key(a:paper.refusals, name) && s:Same(text, a:paper.refusals[name].text)
         let line = ''
       elseif len(text) > s:most_bytes || !s:IsName(name)
         let line = ''
         let a:paper.refusals[name] = {'text': text, 'code': s:IsName(name) ? 4 : 1}
-        let a:paper.stale = 'blg'
+        let [a:paper.stale, a:paper.moved] = ['blg', 1]
       elseif known && type(text) == type('') && type(a:paper.sent[name]) == type('')
-        let [start, end, bytes] = s:Change(a:paper.sent[name], text)
+        let change = number == kept.base ? kept.change : s:Change(a:paper.sent[name], text) + [1]
+        let [start, end, bytes] = change[:2]
+        let a:paper.moved = a:paper.moved || change[3]
         let line = printf('splice %s %d %d %d', name, start, end, len(bytes))
       else
         let bytes = text
         let line = printf('write %s %d', name, len(bytes))
+        let a:paper.moved = 1
       endif
       if line !=# ''
-        let a:paper.edited = {'name': name, 'text': text}
+        let a:paper.edited = {'name': name, 'text': text, 'number': kept.number}
         call s:Say(a:paper, 'edit', line, bytes)
         return 1
       endif
@@ -368,6 +450,7 @@ function! s:Answered(paper, line) abort
       call remove(a:paper.sent, edited.name)
     else
       let a:paper.sent[edited.name] = edited.text
+      let a:paper.numbers[edited.name] = edited.number
     endif
     let a:paper.stale = 'blg'
     call s:Next(a:paper)
@@ -379,7 +462,7 @@ function! s:Answered(paper, line) abort
     else
       let a:paper.refusals[edited.name] = {'text': edited.text, 'code': code}
     endif
-    let a:paper.stale = 'blg'
+    let [a:paper.stale, a:paper.moved] = ['blg', 1]
     call s:Next(a:paper)
   elseif (asked ==# 'bbl' || asked ==# 'blg') && a:line =~# '^' . asked . ' \d\{1,15}$'
     let a:paper.wanted = str2nr(strpart(a:line, 4))
@@ -388,20 +471,26 @@ function! s:Answered(paper, line) abort
   endif
 endfunction
 
-" The bytes of an answer.
+" The bytes of an answer. If there is no bibliography, as while a style is being written, the last one stays.
 function! s:Taken(paper, bytes) abort
   if a:paper.asked ==# 'blg'
-    let a:paper.blg = a:bytes
+    if a:paper.blg !=# a:bytes
+      let a:paper.blg = a:bytes
+      let a:paper.moved = 1
+      call s:Read(a:paper)
+    endif
     let a:paper.stale = 'bbl'
-    call s:Read(a:paper)
-    call s:Next(a:paper)
   else
-    let a:paper.bbl = a:bytes
+    let a:paper.old = a:bytes ==# '' && a:paper.bbl !=# ''
+    let a:paper.bbl = a:paper.old ? a:paper.bbl : a:bytes
     let a:paper.stale = ''
     call s:Show(a:paper)
-    call s:List(a:paper)
-    call s:Next(a:paper)
+    if a:paper.moved
+      call timer_stop(get(a:paper, 'listing', -1))
+      let a:paper.listing = timer_start(s:Option('rest', 200), {-> s:List(a:paper)})
+    endif
   endif
+  call s:Next(a:paper)
 endfunction
 
 function! s:Next(paper) abort
@@ -412,23 +501,145 @@ endfunction
 
 " --- Texts ---
 
-" The text of a name as it is now: of the buffer where it has changes that aren't saved, else of the file.
+" The text of a name as it is now, with its number: of the buffer where it has changes that aren't saved, else of the
+" file. `change` makes it of the text of the number `base`.
 function! s:Present(paper, name) abort
   let path = s:Place(a:paper, a:name)
   if path ==# ''
-    return v:null
+    return {'text': v:null, 'number': -1, 'base': -2}
   endif
   let number = s:Buffer(path)
-  let mark = number > 0 && (getbufvar(number, '&modified') || !filereadable(path))
-        \ ? join(['buffer', getbufvar(number, 'changedtick'), getbufvar(number, '&fileformat'), getbufvar(number, '&fileencoding')])
-        \ : 'file ' . getftime(path) . ' ' . getfsize(path)
+  let edited = number > 0 && (getbufvar(number, '&modified') || !filereadable(path))
+  let form = number > 0 ? join([number, getbufvar(number, '&fileformat'), getbufvar(number, '&fileencoding')]) : ''
+  let mark = edited ? 'buffer ' . getbufvar(number, 'changedtick') : 'file ' . getftime(path) . ' ' . getfsize(path)
   let kept = get(a:paper.texts, a:name, {})
-  if get(kept, 'mark', '') !=# mark || kept.path !=# path
-    let kept = {'mark': mark, 'path': path, 'text': mark[0] ==# 'b' ? s:BufferText(number) : s:FileText(path)}
-    let a:paper.texts[a:name] = kept
+  if get(kept, 'mark', '') ==# mark && kept.path ==# path
+    return kept
   endif
-  return kept.text
+  let change = edited && get(kept, 'form', '') ==# form ? s:Recorded(number, kept.text) : []
+  let s:count += 1
+  let new = {'mark': mark, 'form': form, 'path': path, 'number': s:count, 'base': -2, 'time': reltime()}
+  if empty(change)
+    let new.text = edited ? s:BufferText(number) : s:FileText(path)
+  else
+    let [new.base, new.change] = [kept.number, change]
+    let new.text = strpart(kept.text, 0, change[0]) . change[2] . strpart(kept.text, change[1])
+  endif
+  " The buffer's changes are those of its file's text only if the two are the same.
+  if edited || (number > 0 && s:Same(new.text, s:BufferText(number)))
+    call s:Record(number)
+  else
+    let new.form = 'none'
+  endif
+  let a:paper.texts[a:name] = new
+  return new
 endfunction
+
+" --- Records ---
+
+" Begins to record what changes in a buffer. The first `front` lines and the last `back` lines are those of its text.
+function! s:Record(number) abort
+  let record = get(s:records, a:number, {})
+  if empty(record)
+    if has('nvim')
+      call luaeval('vim.api.nvim_buf_attach(_A, false, {on_lines = function(_, number, _, first, last, new) '
+            \ . 'vim.fn["bibtex_live#Hear"](number, first + 1, last + 1, new - last) end, '
+            \ . 'on_reload = function(_, number) vim.fn["bibtex_live#Lose"](number) end})', a:number)
+    elseif exists('*listener_add')
+      let record.listener = listener_add(function('s:Listen'), a:number)
+    else
+      return
+    endif
+    let s:records[a:number] = record
+  endif
+  let lines = s:LineCount(a:number)
+  call extend(record, {'lines': lines, 'front': lines, 'back': lines, 'lost': 0})
+endfunction
+
+function! s:Listen(number, start, end, added, changes) abort
+  for change in a:changes
+    call bibtex_live#Hear(a:number, change.lnum, change.end, change.added)
+  endfor
+endfunction
+
+" The lines from `start` up to before `end` have changed, and so many were added.
+function! bibtex_live#Hear(number, start, end, added) abort
+  let record = get(s:records, a:number, {})
+  if !empty(record)
+    let record.front = min([record.front, a:start - 1])
+    let record.back = min([record.back, record.lines - (a:end - 1)])
+    let record.lines += a:added
+  endif
+endfunction
+
+" What changed in a buffer is unknown.
+function! bibtex_live#Lose(number) abort
+  if has_key(s:records, a:number)
+    let s:records[a:number].lost = 1
+  endif
+endfunction
+
+" A buffer was read again, or its text is gone.
+function! s:Forget(number) abort
+  let record = get(s:records, a:number, {})
+  if !empty(record)
+    if has_key(record, 'listener')
+      call listener_remove(record.listener)
+      call remove(s:records, a:number)
+    else
+      let record.lost = 1
+    endif
+  endif
+endfunction
+
+function! s:LineCount(number) abort
+  return a:number == bufnr('%') ? line('$') : getbufinfo(a:number)[0].linecount
+endfunction
+
+" The change that makes the present text of a buffer of the one when its record began: the bytes from start up to end become
+" `bytes`, and whether lines move. Empty if it isn't known: line2byte() counts only in the present buffer, and in the
+" editor's own encoding.
+function! s:Recorded(number, old) abort
+  let record = get(s:records, a:number, {})
+  if !has('nvim') && !empty(record)
+    call listener_flush(a:number)
+  endif
+  if empty(record) || record.lost || a:number != bufnr('%') || record.lines != line('$') || type(a:old) != type('')
+        \ || &bomb || (&fileencoding !=# '' && &fileencoding !=? &encoding)
+    return []
+  endif
+  let last = record.lines - record.back
+  let lines = getline(record.front + 1, last)
+  let [start, end, all] = map([record.front, last, record.lines], 'line2byte(v:val + 1) - 1')
+  let old_end = len(a:old) - (all - end)
+  let ending = get({'dos': "\r\n", 'mac': "\r"}, &fileformat, "\n")
+  let closed = record.back > 0 || &eol || (&fixeol && !&binary)
+  let bytes = empty(lines) ? '' : join(lines, ending) . (closed ? ending : '')
+  if start < 0 || old_end < start || len(bytes) != end - start || match(lines, "\n") >= 0
+    return []
+  endif
+  let was = strpart(a:old, start, old_end - start)
+  let [from, to, new] = s:Change(was, bytes)
+  return [start + from, start + to, new, stridx(strpart(was, from, to - from) . new, "\n") >= 0]
+endfunction
+
+" Compares the text of each buffer, once it rests, with the one that was made of its changes.
+function! s:Check(paper) abort
+  for kept in values(a:paper.texts)
+    if kept.base >= 0 && !has_key(kept, 'checked') && reltimefloat(reltime(kept.time)) > 2
+      let number = str2nr(kept.form)
+      if kept.mark ==# 'buffer ' . getbufvar(number, 'changedtick')
+        let kept.checked = 1
+        if !s:Same(kept.text, s:BufferText(number))
+          let kept.mark = ''
+          call bibtex_live#Lose(number)
+        endif
+      endif
+    endif
+  endfor
+endfunction
+
+" --- Files and buffers ---
 
 " Where the file of a name is, or '': in the paper's folder, in that where the command was given, in those of
 " g:bibtex_live_folders, or where kpsewhich finds it.
@@ -570,22 +781,38 @@ function! s:Where(paper, words) abort
   if key ==# ''
     let key = substitute(matchstr(a:words, '\%("[^" ]\+"\|\S\+\)$'), '"', '', 'g')
   endif
-  let wanted = '\V' . escape(key, '\') . '\m'
-  for [ending, pattern] in [['\.bib$', '\c@\_s*[^ \t\n@{(]\+\_s*[{(]\_s*\zs' . wanted . '\_s*[,})]'],
-        \ ['\.aux$', '\\citation{\%([^}]*,\)\=\zs' . wanted . '[,}]']]
+  for [ending, before, behind] in [['\.bib$', '@\_s*[^ \t\n@{(]\+\_s*[{(]\_s*$', '^\_s*[,})]'],
+        \ ['\.aux$', '\\citation{\%([^}]*,\)\=$', '^[,}]']]
     for name in filter(keys(a:paper.sent), 'v:val =~# ending')
       let text = a:paper.sent[name]
-      let at = key ==# '' || type(text) != type('') ? -1 : match(text, pattern)
+      let at = key ==# '' || type(text) != type('') ? -1 : s:Find(text, key, before, behind)
       if at >= 0
-        return ['', len(split(strpart(text, 0, at), "\n", 1)), name]
+        return ['', count(strpart(text, 0, at), "\n") + 1, name]
       endif
     endfor
   endfor
   return []
 endfunction
 
+" Where a key stands in a text, in any case, before and behind which the text matches these patterns, or -1.
+function! s:Find(text, key, before, behind) abort
+  for lower in [0, 1]
+    let [text, key] = lower ? [tolower(a:text), tolower(a:key)] : [a:text, a:key]
+    let at = stridx(text, key)
+    while at >= 0
+      let first = max([0, at - 200])
+      if strpart(text, first, at - first) =~# a:before && strpart(text, at + len(key), 80) =~# a:behind
+        return at
+      endif
+      let at = stridx(text, key, at + 1)
+    endwhile
+  endfor
+  return -1
+endfunction
+
 " Puts the messages into a quickfix list of this paper.
 function! s:List(paper) abort
+  let a:paper.moved = 0
   let items = []
   let left = 25     " messages without a line that are looked up
   for [name, refusal] in items(a:paper.refusals)
@@ -640,10 +867,13 @@ endfunction
 
 function! bibtex_live#StatusLine(buffer) abort
   for paper in values(s:papers)
-    if get(paper, 'buffer', -1) == a:buffer
+    if get(paper, 'buffer', -1) == a:buffer && paper.job isnot v:null && has_key(paper, 'old')
       let errors = len(filter(copy(paper.messages), 'v:val.type ==# "E"'))
       let warnings = len(filter(copy(paper.messages), 'v:val.type ==# "W"'))
       return printf('%d error%s, %d warning%s', errors, errors == 1 ? '' : 's', warnings, warnings == 1 ? '' : 's')
+            \ . (paper.old ? '  (the last good bibliography)' : '')
+    elseif get(paper, 'buffer', -1) == a:buffer && paper.job isnot v:null
+      return 'starting'
     endif
   endfor
   return 'stopped'
@@ -670,7 +900,11 @@ endfunction
 " The bytes of the bibliography at which the \bibitem of a key begins and ends, or -1 twice.
 function! s:Item(paper, key) abort
   let bbl = a:paper.bbl
-  let at = a:key ==# '' ? -1 : match(bbl, '\c{\V' . escape(a:key, '\') . '}')
+  if a:key ==# ''
+    return [-1, -1]
+  endif
+  let [sought, key] = stridx(bbl, '{' . a:key . '}') >= 0 ? [bbl, '{' . a:key . '}'] : [tolower(bbl), '{' . tolower(a:key) . '}']
+  let at = stridx(sought, key)
   while at >= 0
     let begin = strridx(bbl, '\bibitem', at)
     let between = begin < 0 ? 'none' : substitute(strpart(bbl, begin + 8, at - begin - 8), '%\n\|\n\|\s', '', 'g')
@@ -681,21 +915,26 @@ function! s:Item(paper, key) abort
       let end = match(bbl, '\n\s*\\\%(bibitem\|end{thebibliography}\)', begin)
       return [begin, end < 0 ? len(bbl) : end]
     endif
-    let at = match(bbl, '\c{\V' . escape(a:key, '\') . '}', at + 1)
+    let at = stridx(sought, key, at + 1)
   endwhile
   return [-1, -1]
 endfunction
 
 " Bytes of the program as lines of this Vim, in the encoding of the first database that is edited here.
 function! s:Lines(paper, bytes) abort
-  let text = substitute(a:bytes, '\n\+$', '', '')
+  let text = a:bytes
   for name in filter(copy(a:paper.names), 'v:val =~# "\\.bib$"')
     let encoding = getbufvar(s:Buffer(get(a:paper.places, name, '')), '&fileencoding')
     if encoding !=# ''
-      return split(encoding ==? &encoding ? text : iconv(text, encoding, &encoding), "\n", 1)
+      let text = encoding ==? &encoding ? text : iconv(text, encoding, &encoding)
+      break
     endif
   endfor
-  return split(text, "\n", 1)
+  let lines = split(text, "\n", 1)
+  while len(lines) > 1 && lines[-1] ==# ''
+    call remove(lines, -1)
+  endwhile
+  return lines
 endfunction
 
 function! s:Show(paper) abort
@@ -723,17 +962,40 @@ function! s:Show(paper) abort
   endif
 endfunction
 
+" Fills a window: only the lines that differ are set.
 function! s:Fill(buffer, lines) abort
   let present = getbufline(a:buffer, 1, '$')
-  if present ==# a:lines
+  let front = s:Common(present, a:lines)
+  if front == len(present) && front == len(a:lines)
     return
   endif
+  let back = s:Common(reverse(present[front :]), reverse(a:lines[front :]))
+  let [olds, news] = [len(present) - front - back, a:lines[front : len(a:lines) - back - 1]]
   call setbufvar(a:buffer, '&modifiable', 1)
-  call setbufline(a:buffer, 1, a:lines)
-  if len(present) > len(a:lines)
-    silent call deletebufline(a:buffer, len(a:lines) + 1, '$')
+  let same = min([olds, len(news)])
+  if same > 0
+    call setbufline(a:buffer, front + 1, news[: same - 1])
+  endif
+  if len(news) > same
+    call appendbufline(a:buffer, front + same, news[same :])
+  elseif olds > same
+    silent call deletebufline(a:buffer, front + same + 1, front + olds)
   endif
   call setbufvar(a:buffer, '&modifiable', 0)
+endfunction
+
+" How many lines two lists have in common at their beginnings.
+function! s:Common(old, new) abort
+  let [same, high] = [0, min([len(a:old), len(a:new)])]
+  while same < high
+    let half = (same + high + 1) / 2
+    if a:old[same : half - 1] ==# a:new[same : half - 1]
+      let same = half
+    else
+      let high = half - 1
+    endif
+  endwhile
+  return same
 endfunction
 
 " Shows the entry under the cursor, where it is another one.
