@@ -1,14 +1,12 @@
 -- A whole run, from its beginning to its counts.
 use Rattle.std.specs.Prelude.{unwrap_or, bytes_eq, Bool, true, false, if◌then◌else◌, ◌-◌, Result}
 use Rattle.std.specs.Option.{ForSome}
-use Rattle.std.proofs.Common.{All, ◌≡◌, refl, sym, ap, ◌∙◌, ℕ, List, [], ◌∷◌, ◌++◌, Option, Some, None, Ok, Err, ◌≤◌, length, subst, arith}
+use Rattle.std.proofs.Common.{All, ◌<◌, ◌≡◌, refl, sym, ap, ◌∙◌, ℕ, List, [], ◌∷◌, ◌++◌, Option, Some, None, Ok, Err, ◌≤◌, length, subst, arith}
 use Rattle.std.proofs.lemmas.Slice.Eq.{bytes_eq-Decides}
 use Rattle.bt_style.specs.declared.fault.StyleFault.{StyleFault}
 use Rattle.bt_style.specs.declared.style.Style.{Style}
 use Rattle.bt_style.specs.Program.{Program, program_of}
 use Rattle.bt_style.specs.Reader.{style_of}
-use Rattle.bt_actions.specs.declared.entry.Variables.{Variables}
-use Rattle.bt_actions.specs.World.{no_variables}
 use Rattle.bt_job.specs.declared.files.File.{File}
 use Rattle.bt_job.specs.declared.citations.Citations.{Citations}
 use Rattle.bt_log.specs.declared.message.Message.{Message}
@@ -20,37 +18,43 @@ use Rattle.bt_run.specs.declared.answers.Report.{Report}
 use Rattle.bt_run.specs.declared.course.Course.{Course}
 use Rattle.bt_run.specs.declared.course.Step.{Step}
 use Rattle.bt_run.specs.declared.earlier.Earlier.{Earlier}
+use Rattle.bt_run.specs.declared.kept_steps.KeptSteps.{KeptSteps}
 use Rattle.bt_run.specs.declared.reuse.Reuse.{Reuse}
+use Rattle.bt_actions.specs.declared.entry.Entry.{Entry}
+use Rattle.bt_actions.specs.World.{no_variables}
+use Rattle.bt_run.specs.Course.{Recorded}
+use Rattle.bt_run.specs.inner.Course.{recorded}
+use Rattle.bt_run.proofs.CountLemmas.{counted_alike}
 use Rattle.bt_run.specs.Work.{total_cost, work_under, IsStep}
-use Rattle.bt_run.specs.inner.Work.{IsConsistent}
+use Rattle.bt_run.specs.inner.Work.{IsBegun, IsConsistent}
 use Rattle.bt_run.specs.Steps.{StepsAre, styled_work, work_after}
-use Rattle.bt_run.specs.inner.Steps.{steps_under, IsTaken}
+use Rattle.bt_run.specs.inner.Steps.{run_shown, calls_in, steps_under, IsTaken}
+use Rattle.bt_run.specs.inner.Earlier.{ArePlaced}
 use Rattle.bt_run.specs.Kept.{named_text, style_text, run_work, report_after}
 use Rattle.bt_run.proofs.WorkLemmas.{work_none, work_first}
 use Rattle.bt_run.proofs.EarlierLemmas.{nothing_placed, same_none}
 use Rattle.bt_run.specs.ReadCommand.{Job}
 use Rattle.bt_run.specs.Commands.{commands_from}
-use Rattle.bt_run.specs.Counts.{with_counts}
-use Rattle.bt_run.specs.Meaning.{run_begun, first_globals, style_run, job_for, fault_told, styled, run_with, run_of, Meaning, course_shown, meaning, trace}
+use Rattle.bt_run.specs.Counts.{calls_at, counts_told}
+use Rattle.bt_run.specs.Meaning.{run_begun, first_globals, style_run, job_for, fault_told, styled, run_with, run_of, Meaning, meaning, trace}
 
-pub begun_consistent : (p : Program) (earlier : Earlier) (globals : Variables) (log : List Message) (r : Course) (reuse : Reuse) → r ≡ run_begun globals log → reuse.meter ≡ 0 → reuse.ran ≡ 0 → reuse.known ≡ [] → reuse.lookup.index ≡ None → reuse.places ≡ [] → reuse.same ≡ [] → IsConsistent p earlier r reuse
-begun_consistent p earlier globals log r reuse is ticks ran none unmade unplaced unmarked =
-    rw is (record {
-      ran = ran ∙ ap length (sym (work_none p earlier.steps.now));
-      ticks = ticks ∙ ap total_cost (sym (work_none p earlier.steps.now));
-      fewer = omega (arith, ran);
-      bounded = omega (arith, ticks);
-      steps = λ k d h. absurd (omega (arith, h));
-      known = rw none (λ k d h. absurd (omega (arith, h)));
-      indexed = rw unmade (λ x e. absurd cc);
-      ordered = λ k d h. absurd (omega (arith, h));
-      counted = ap length unplaced;
-      placed = nothing_placed [] [] reuse.places refl;
-      same = same_none earlier.entries.now [] reuse.same unmarked;
-    })
-
-pub counted_consistent : (p : Program) (earlier : Earlier) (r next : Course) (reuse : Reuse) → next ≡ with_counts r → IsConsistent p earlier r reuse → IsConsistent p earlier next reuse
-counted_consistent p earlier r next reuse is h = rw is (record { ran = h.ran; ticks = h.ticks; fewer = h.fewer; bounded = h.bounded; steps = h.steps; known = h.known; indexed = h.indexed; ordered = h.ordered; counted = h.counted; placed = h.placed; same = h.same })
+pub begun_consistent : (p : Program) (earlier : Earlier) (s : KeptSteps) → IsBegun s → IsConsistent p earlier [] s
+begun_consistent p earlier s h =
+    let none = h.0 in
+    let work : work_under p earlier.steps.now s.steps ≡ [] = ap (work_under p earlier.steps.now) none ∙ work_none p earlier.steps.now in
+    let count : length s.steps ≡ 0 = ap length none in
+    record {
+      ran = h.3 ∙ ap length (sym work);
+      ticks = h.4 ∙ ap total_cost (sym work);
+      fewer = omega (arith, h.3);
+      bounded = omega (arith, h.4);
+      steps = λ k d lt. absurd (omega (arith, lt, count));
+      known = rw h.5 (λ k d lt. absurd (omega (arith, lt)));
+      indexed = rw h.6 (λ x e. absurd cc);
+      counted = ap length h.1 ∙ sym count;
+      placed = nothing_placed [] s.steps s.places none;
+      same = same_none earlier.entries.now [] s.same h.2;
+    }
 
 -- What was carried out
 
@@ -69,14 +73,17 @@ no_work None earlier (Some text) = refl
 no_work (Some own) earlier (Some text) = no_work_if (bytes_eq own text) (styled_work (style_of text) earlier []) (no_styled_work (style_of text) earlier)
 
 -- where no step ran
-pub nothing_taken : (own : Option (List ℕ)) (earlier : List Step) (text : Option (List ℕ)) (globals : Variables) (log : List Message) (r : Course) (reuse : Reuse) → r ≡ run_begun globals log → reuse.meter ≡ 0 → reuse.ran ≡ 0 → IsTaken own earlier text r.trace reuse
-nothing_taken own earlier text globals log r reuse is ticks ran =
-    rw is (record {
-      ran = ran ∙ ap length (sym (no_work own earlier text));
-      ticks = ticks ∙ ap total_cost (sym (no_work own earlier text));
-      fewer = omega (arith, ran);
-      true_steps = λ t p named read k d h. absurd (omega (arith, h));
+pub nothing_taken : (own : Option (List ℕ)) (earlier : List Step) (text : Option (List ℕ)) (s : KeptSteps) → IsBegun s → IsTaken own earlier text s.steps s.reuse
+nothing_taken own earlier text s h =
+    rw h.0 (record {
+      ran = h.3 ∙ ap length (sym (no_work own earlier text));
+      ticks = h.4 ∙ ap total_cost (sym (no_work own earlier text));
+      fewer = omega (arith, h.3);
+      true_steps = λ t p named read k d lt. absurd (omega (arith, lt));
     })
+
+pub begun_placed : (entries : List Entry) (s : KeptSteps) → IsBegun s → ArePlaced entries s.steps s.places
+begun_placed entries s h = nothing_placed entries s.steps s.places h.0
 
 work_if : (p : Program) (b : Bool) (earlier steps : List Step) → work_under p (if b then earlier else []) steps ≡ (if b then work_under p earlier steps else steps)
 work_if p true earlier steps = refl
@@ -95,14 +102,14 @@ true_steps p text steps read h = λ t q named again.
     let program : p ≡ q = cc in
     subst (λ (o : Program). All (IsStep o) steps) program h
 
-pub run_taken : (p : Program) (own : Option (List ℕ)) (before : List Step) (text : List ℕ) (earlier : Earlier) (r : Course) (reuse : Reuse) → style_of text ≡ Ok p → earlier.steps.now ≡ steps_under own before text → IsConsistent p earlier r reuse → IsTaken own before (Some text) r.trace reuse
-run_taken p own before text earlier r reuse read is h =
-    let work = ap (λ es. work_under p es r.trace) is ∙ work_read p own before text r.trace read in
+pub run_taken : (p : Program) (own : Option (List ℕ)) (before : List Step) (text : List ℕ) (earlier : Earlier) (entries : List Entry) (s : KeptSteps) → style_of text ≡ Ok p → earlier.steps.now ≡ steps_under own before text → IsConsistent p earlier entries s → IsTaken own before (Some text) s.steps s.reuse
+run_taken p own before text earlier entries s read is h =
+    let work = ap (λ es. work_under p es s.steps) is ∙ work_read p own before text s.steps read in
     record {
       ran = h.ran ∙ ap length work;
       ticks = h.ticks ∙ ap total_cost work;
       fewer = h.fewer;
-      true_steps = true_steps p text r.trace read h.steps;
+      true_steps = true_steps p text s.steps read h.steps;
     }
 
 all_under : {A : Type 0} (P : A → Type 0) (b : Bool) (xs : List A) → (b ≡ true → All P xs) → All P (if b then xs else [])
@@ -118,12 +125,20 @@ pub earlier_steps : (p : Program) (text : List ℕ) (own : Option (List ℕ)) (s
 earlier_steps p text own steps earlier h read is = subst (λ (es : List Step). All (IsStep p) es) (sym is) (earlier_under p text own steps h read)
 
 -- the commands of a style after the beginning of its run, and the counts
-pub carried_by : (job : Job) (log : List Message) (globals : Variables) (first r next : Course) → globals ≡ first_globals job.program → first ≡ run_begun globals log → r ≡ commands_from job 0 job.program.commands first → next ≡ with_counts r → next ≡ style_run job log
-carried_by job log globals first r next are is_first is_r is = rw (is, is_r, is_first, are) refl
+pub carried_by : (job : Job) (log told : List Message) (course : Course) (none steps : List Step) (calls : List ℕ) → none ≡ [] → recorded course steps ≡ commands_from (λ ss s. ss ++ s ∷ []) job 0 job.program.commands (recorded (run_begun (first_globals job.program) log).course none) → ((place : ℕ) → place < 37 → calls_in calls place ≡ calls_at steps place) → told ≡ course.log ++ counts_told (calls_in calls) → recorded (record course { log = told }) steps ≡ style_run job log
+carried_by job log told course none steps calls empty is are_calls is_told =
+    let all = is ∙ ap (λ ss. commands_from (λ ts s. ts ++ s ∷ []) job 0 job.program.commands (recorded (run_begun (first_globals job.program) log).course ss)) empty in
+    let log_is = is_told ∙ ap (λ more. course.log ++ more) (counted_alike (calls_in calls) (calls_at steps) are_calls) in
+    ap (λ l. recorded (record course { log = l }) steps) log_is
+    ∙ ap (λ (r : Recorded (List Step)). record r { course = record r.course { log = r.course.log ++ counts_told (calls_at r.seen) } }) all
+
+-- without steps
+pub idle_run : (log : List Message) (rc course : Course) (s : KeptSteps) → rc ≡ course → course ≡ (run_begun no_variables log).course → IsBegun s → recorded rc s.steps ≡ run_begun no_variables log
+idle_run log rc course s same is h = λ j. recorded ((same ∙ is) j) (h.0 j)
 
 -- without a style
-pub no_style : (files : List File) (c : Citations) (min : ℕ) (globals : Variables) (r : Course) → r ≡ run_begun globals c.log → globals ≡ no_variables → c.style ≡ None → r ≡ run_with files c min c.style
-no_style files c min globals r is none named = is ∙ ap (λ g. run_begun g c.log) none ∙ ap (run_with files c min) (sym named)
+pub no_style : (files : List File) (c : Citations) (min : ℕ) (rc course : Course) (s : KeptSteps) → rc ≡ course → course ≡ (run_begun no_variables c.log).course → IsBegun s → c.style ≡ None → recorded rc s.steps ≡ run_with files c min c.style
+no_style files c min rc course s same is h named = idle_run c.log rc course s same is h ∙ ap (run_with files c min) (sym named)
 
 -- a style that is lent by its owner
 pub lent_style : (text : List ℕ) (own lent : Style) → style_of text ≡ Ok (program_of own) → lent ≡ own → style_of text ≡ Ok (program_of lent)
@@ -132,19 +147,26 @@ lent_style text own lent read is =
     read ∙ ap again (sym is)
 
 -- a style that could be read
-pub style_ran : (files : List File) (c : Citations) (min : ℕ) (style s1 s2 text : List ℕ) (databases : List (List ℕ)) (p : Program) (r : Course) → r ≡ style_run (record { files = files; cites = record { keys = c.keys; star = c.star }; databases = databases; min = min; style = s2; program = p }) c.log → c.style ≡ Some style → databases ≡ c.databases → s2 ≡ style → style_of text ≡ Ok p → text ≡ unwrap_or (text_of files s1) [] → s1 ≡ style → r ≡ run_with files c min c.style
-style_ran files c min style s1 s2 text databases p r is named same_databases same2 read is_text same1 =
-    let ran : r ≡ style_run (job_for files c min style p) c.log = is ∙ (λ j. style_run (record { files = files; cites = record { keys = c.keys; star = c.star }; databases = same_databases j; min = min; style = same2 j; program = p }) c.log) in
+pub style_read : (files : List File) (c : Citations) (min : ℕ) (style s1 s2 text : List ℕ) (databases : List (List ℕ)) (p : Program) → c.style ≡ Some style → databases ≡ c.databases → s2 ≡ style → style_of text ≡ Ok p → text ≡ unwrap_or (text_of files s1) [] → s1 ≡ style → style_run (record { files = files; cites = record { keys = c.keys; star = c.star }; databases = databases; min = min; style = s2; program = p }) c.log ≡ run_with files c min c.style
+style_read files c min style s1 s2 text databases p named same_databases same2 read is_text same1 =
+    let ran : style_run (record { files = files; cites = record { keys = c.keys; star = c.star }; databases = databases; min = min; style = s2; program = p }) c.log ≡ style_run (job_for files c min style p) c.log = λ j. style_run (record { files = files; cites = record { keys = c.keys; star = c.star }; databases = same_databases j; min = min; style = same2 j; program = p }) c.log in
     let whole : style_of (unwrap_or (text_of files style) []) ≡ Ok p = ap (λ s. style_of (unwrap_or (text_of files s) [])) (sym same1) ∙ ap style_of (sym is_text) ∙ read in
     ran ∙ ap (styled files c min style) (sym whole) ∙ ap (run_with files c min) (sym named)
 
+pub style_ran : (files : List File) (c : Citations) (min : ℕ) (style s1 s2 text : List ℕ) (databases : List (List ℕ)) (p : Program) (rc course : Course) (steps : List Step) → rc ≡ course → recorded course steps ≡ style_run (record { files = files; cites = record { keys = c.keys; star = c.star }; databases = databases; min = min; style = s2; program = p }) c.log → c.style ≡ Some style → databases ≡ c.databases → s2 ≡ style → style_of text ≡ Ok p → text ≡ unwrap_or (text_of files s1) [] → s1 ≡ style → recorded rc steps ≡ run_with files c min c.style
+style_ran files c min style s1 s2 text databases p rc course steps same is named same_databases same2 read is_text same1 =
+    ap (λ x. recorded x steps) same ∙ is ∙ style_read files c min style s1 s2 text databases p named same_databases same2 read is_text same1
+
 -- a style that could not
-pub style_refused : (files : List File) (c : Citations) (min : ℕ) (style s1 s2 text : List ℕ) (fault : StyleFault) (globals : Variables) (message : Message) (log : List Message) (r : Course) → r ≡ run_begun globals log → globals ≡ no_variables → log ≡ c.log ++ message ∷ [] → message ≡ fault_told s2 fault → c.style ≡ Some style → s2 ≡ style → style_of text ≡ Err fault → text ≡ unwrap_or (text_of files s1) [] → s1 ≡ style → r ≡ run_with files c min c.style
-style_refused files c min style s1 s2 text fault globals message log r is none is_log is_message named same2 read is_text same1 =
-    let told : message ≡ fault_told style fault = is_message ∙ ap (λ s. fault_told s fault) same2 in
-    let ran : r ≡ run_begun no_variables (c.log ++ fault_told style fault ∷ []) = is ∙ ap (λ g. run_begun g log) none ∙ ap (run_begun no_variables) (is_log ∙ ap (λ m. c.log ++ m ∷ []) told) in
+pub style_faulty : (files : List File) (c : Citations) (min : ℕ) (style s1 s2 text : List ℕ) (fault : StyleFault) (log : List Message) → log ≡ c.log ++ fault_told s2 fault ∷ [] → c.style ≡ Some style → s2 ≡ style → style_of text ≡ Err fault → text ≡ unwrap_or (text_of files s1) [] → s1 ≡ style → run_begun no_variables log ≡ run_with files c min c.style
+style_faulty files c min style s1 s2 text fault log is_log named same2 read is_text same1 =
+    let ran : run_begun no_variables log ≡ run_begun no_variables (c.log ++ fault_told style fault ∷ []) = ap (run_begun no_variables) (is_log ∙ ap (λ s. c.log ++ fault_told s fault ∷ []) same2) in
     let whole : style_of (unwrap_or (text_of files style) []) ≡ Err fault = ap (λ s. style_of (unwrap_or (text_of files s) [])) (sym same1) ∙ ap style_of (sym is_text) ∙ read in
     ran ∙ ap (styled files c min style) (sym whole) ∙ ap (run_with files c min) (sym named)
+
+pub style_refused : (files : List File) (c : Citations) (min : ℕ) (style s1 s2 text : List ℕ) (fault : StyleFault) (log : List Message) (rc course : Course) (s : KeptSteps) → rc ≡ course → course ≡ (run_begun no_variables log).course → IsBegun s → log ≡ c.log ++ fault_told s2 fault ∷ [] → c.style ≡ Some style → s2 ≡ style → style_of text ≡ Err fault → text ≡ unwrap_or (text_of files s1) [] → s1 ≡ style → recorded rc s.steps ≡ run_with files c min c.style
+style_refused files c min style s1 s2 text fault log rc course s same is h is_log named same2 read is_text same1 =
+    idle_run log rc course s same is h ∙ style_faulty files c min style s1 s2 text fault log is_log named same2 read is_text same1
 
 -- the place of `*` is among the keys
 within : (s : Option ℕ) (n : ℕ) → IsWithin s n → ForSome s (λ before. before ≤ n)
@@ -154,10 +176,10 @@ pub star_within : (files : List File) (c : Citations) → IsFit files c → ForS
 star_within files c fit = within c.star (length c.keys) fit.star
 
 -- what is shown is what the files mean
-pub meant : (files : List File) (root : List ℕ) (min : ℕ) (c : Citations) (r : Course) (wanted : List (List ℕ)) (m : Meaning) → m ≡ course_shown r wanted → r ≡ run_with files c min c.style → wanted ≡ c.wanted → c ≡ citations files root → m ≡ meaning files root min
+pub meant : (files : List File) (root : List ℕ) (min : ℕ) (c : Citations) (r : Recorded (List Step)) (wanted : List (List ℕ)) (m : Meaning) → m ≡ run_shown r wanted → r ≡ run_with files c min c.style → wanted ≡ c.wanted → c ≡ citations files root → m ≡ meaning files root min
 unfolding meaning run_of
 meant files root min c r wanted m is is_run are_wanted is_cited =
-    is ∙ (λ j. course_shown (is_run j) (are_wanted j)) ∙ ap (λ d. course_shown (run_with files d min d.style) d.wanted) is_cited
+    is ∙ (λ j. run_shown (is_run j) (are_wanted j)) ∙ ap (λ d. run_shown (run_with files d min d.style) d.wanted) is_cited
 
 -- The log is what the messages are in words.
 pub log_spelled : (files : List File) (root : List ℕ) (min : ℕ) → (meaning files root min).blg ≡ log_bytes (meaning files root min).messages
@@ -170,9 +192,9 @@ pub kept_text : (files : List File) (root : List ℕ) (c : Citations) (text : Op
 unfolding style_text
 kept_text files root c text is is_cited = is ∙ ap (λ (d : Citations). named_text files d.style) is_cited
 
-pub kept_steps : (files : List File) (root : List ℕ) (min : ℕ) (c : Citations) (r : Course) → r ≡ run_with files c min c.style → c ≡ citations files root → r.trace ≡ trace files root min
+pub kept_steps : (files : List File) (root : List ℕ) (min : ℕ) (c : Citations) (r : Recorded (List Step)) → r ≡ run_with files c min c.style → c ≡ citations files root → r.seen ≡ trace files root min
 unfolding trace run_of
-kept_steps files root min c r is is_cited = ap (λ (s : Course). s.trace) (is ∙ ap (λ (d : Citations). run_with files d min d.style) is_cited)
+kept_steps files root min c r is is_cited = ap (λ (s : Recorded (List Step)). s.seen) (is ∙ ap (λ (d : Citations). run_with files d min d.style) is_cited)
 
 pub reported : (files : List File) (root : List ℕ) (min : ℕ) (own : Option (List ℕ)) (earlier : List Step) (text : Option (List ℕ)) (steps : List Step) (reuse : Reuse) (r : Report) → r.status ≡ (meaning files root min).status → text ≡ style_text files root → steps ≡ trace files root min → IsTaken own earlier text steps reuse → r.ran ≡ reuse.ran → r.reused ≡ length steps - reuse.ran → r.ticks ≡ reuse.meter → r ≡ report_after own earlier files root min
 reported files root min own earlier text steps reuse r is_status is_text are_steps h is_ran is_reused is_ticks =

@@ -1,26 +1,35 @@
 -- The counts, function by function.
-use Rattle.std.proofs.Common.{◌≡◌, refl, ap, ◌∙◌, ℕ, List, [], ◌∷◌, ◌++◌, map}
+use Rattle.std.proofs.Common.{◌≡◌, refl, ap, ◌∙◌, ℕ, ◌<◌, List, [], ◌∷◌, ◌++◌, map}
+use Rattle.std.specs.Prelude.{sum_by, codes, decimal}
 use Rattle.std.proofs.lemmas.List.{append_assoc}
+use Rattle.std.proofs.lemmas.Option.{slice_get_within}
 use Rattle.bt_style.specs.declared.builtin.Builtin.{Builtin}
-use Rattle.bt_style.specs.Builtins.{table}
+use Rattle.bt_style.specs.Builtins.{Row, table, place_of}
 use Rattle.bt_log.specs.declared.message.Message.{Message}
-use Rattle.bt_run.specs.declared.course.Course.{Course}
-use Rattle.bt_run.specs.declared.course.Step.{Step}
 use Rattle.bt_style.specs.Names.{row_of}
-use Rattle.bt_run.specs.Counts.{all_calls, total_line, function_line, counts_told, with_counts}
+use Rattle.bt_style.proofs.laws.BuiltinLemmas.{stands_in_its_place}
+use Rattle.bt_run.specs.Counts.{all_calls, total_line, function_line, count_message, counts_told}
 
-rows_told : (trace : List Step) (bs : List Builtin) → map (λ b. function_line trace (row_of b)) bs ≡ map (function_line trace) (map row_of bs)
-rows_told trace [] = refl
-rows_told trace (b ∷ bs) = ap (λ ms. function_line trace (row_of b) ∷ ms) (rows_told trace bs)
+rows_told : (calls : ℕ → ℕ) (bs : List Builtin) → map (λ b. function_line calls (row_of b)) bs ≡ map (function_line calls) (map row_of bs)
+rows_told calls [] = refl
+rows_told calls (b ∷ bs) = ap (λ ms. function_line calls (row_of b) ∷ ms) (rows_told calls bs)
 
 -- the counts after the messages of a run, piece by piece
-pub counted_behind : (r : Course) (t1 t2 : List Step) (bs : List Builtin) (count : ℕ) (head : Message) (log1 log2 : List Message) → t1 ≡ r.trace → t2 ≡ r.trace → map row_of bs ≡ table → count ≡ all_calls t1 → head ≡ total_line count → log1 ≡ r.log ++ head ∷ [] → log2 ≡ log1 ++ map (λ b. function_line t2 (row_of b)) bs → record r { log = log2 } ≡ with_counts r
+pub counted_behind : (calls : ℕ → ℕ) (bs : List Builtin) (count : ℕ) (head : Message) (log log1 log2 : List Message) → map row_of bs ≡ table → count ≡ all_calls calls → head ≡ total_line count → log1 ≡ log ++ head ∷ [] → log2 ≡ log1 ++ map (λ b. function_line calls (row_of b)) bs → log2 ≡ log ++ counts_told calls
 unfolding counts_told
-counted_behind r t1 t2 bs count head log1 log2 same1 same2 rows is_count is_head is1 is2 =
-    let first : head ≡ total_line (all_calls r.trace) = is_head ∙ ap total_line (is_count ∙ ap all_calls same1) in
-    let others : map (λ b. function_line t2 (row_of b)) bs ≡ map (function_line r.trace) table =
-    ap (λ t. map (λ b. function_line t (row_of b)) bs) same2 ∙ rows_told r.trace bs ∙ ap (map (function_line r.trace)) rows in
-    let whole : log2 ≡ r.log ++ counts_told r.trace =
-    is2 ∙ ap (λ l. l ++ map (λ b. function_line t2 (row_of b)) bs) is1 ∙ append_assoc r.log (head ∷ []) (map (λ b. function_line t2 (row_of b)) bs)
-    ∙ ap (λ m. r.log ++ m ∷ map (λ b. function_line t2 (row_of b)) bs) first ∙ ap (λ ms. r.log ++ total_line (all_calls r.trace) ∷ ms) others in
-    ap (λ l. record r { log = l }) whole
+counted_behind calls bs count head log log1 log2 rows is_count is_head is1 is2 =
+    let first : head ≡ total_line (all_calls calls) = is_head ∙ ap total_line is_count in
+    let others : map (λ b. function_line calls (row_of b)) bs ≡ map (function_line calls) table = rows_told calls bs ∙ ap (map (function_line calls)) rows in
+    is2 ∙ ap (λ l. l ++ map (λ b. function_line calls (row_of b)) bs) is1 ∙ append_assoc log (head ∷ []) (map (λ b. function_line calls (row_of b)) bs)
+    ∙ ap (λ m. log ++ m ∷ map (λ b. function_line calls (row_of b)) bs) first ∙ ap (λ ms. log ++ total_line (all_calls calls) ∷ ms) others
+
+within : (b : Builtin) → place_of b < 37
+unfolding table
+within b = slice_get_within table (place_of b) (row_of b) (stands_in_its_place b)
+
+-- Only the places of the table are counted.
+pub counted_alike : (f g : ℕ → ℕ) → ((place : ℕ) → place < 37 → f place ≡ g place) → counts_told f ≡ counts_told g
+unfolding counts_told all_calls
+counted_alike f g same =
+    let e : (row : Row) → f (place_of row.builtin) ≡ g (place_of row.builtin) = λ row. same (place_of row.builtin) (within row.builtin) in
+    λ j. total_line (sum_by (λ (row : Row). e row j) table) ∷ map (λ (row : Row). count_message (row.name ++ codes " -- " ++ decimal (e row j))) table

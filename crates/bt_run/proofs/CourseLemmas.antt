@@ -1,7 +1,6 @@
 -- A step in the world of all entries, by its outcome on its input alone.
 use Rattle.std.specs.Prelude.{slice_index_or}
 use Rattle.std.proofs.Common.{zero, suc, ◌≡◌, refl, ℕ, ◌+◌, ◌<◌, List, [], ◌∷◌, ◌++◌, length, All, Option, Some, None, sym, ap, ◌∙◌, subst, arith}
-use Rattle.std.proofs.Math.Seq.{drop-append_seam}
 use Rattle.std.proofs.lemmas.List.{get_or-set_same, length-set, length-append}
 use Rattle.std.proofs.lemmas.List.Elements.{All-append}
 use Rattle.std.proofs.lemmas.List.Sums.{sum_by-append}
@@ -11,6 +10,7 @@ use Rattle.bt_actions.specs.declared.entry.Entry.{Entry}
 use Rattle.bt_actions.specs.declared.entry.Variables.{Variables}
 use Rattle.bt_actions.specs.World.{World, no_entry}
 use Rattle.bt_machine.specs.declared.input.Input.{Input}
+use Rattle.bt_machine.specs.declared.outcome.Outcome.{Outcome}
 use Rattle.bt_machine.specs.Step.{Finish, step, step_in, first_variables, outcome_of, Own, own}
 use Rattle.bt_machine.specs.OwnEntry.{IsPlace, DependsOnInput, alone, cut, finish_back}
 use Rattle.bt_log.specs.declared.message.Message.{Message}
@@ -18,8 +18,9 @@ use Rattle.bt_run.specs.declared.course.Course.{Course}
 use Rattle.bt_run.specs.declared.course.Step.{Step}
 use Rattle.bt_run.specs.declared.course.CommandPlace.{CommandPlace}
 use Rattle.bt_run.specs.declared.earlier.Earlier.{Earlier}
-use Rattle.bt_run.specs.Course.{course_world, input_at, step_kept, left_by, stepped, all_told}
-use Rattle.bt_run.specs.inner.Course.{with_variables, variables_back, put_back}
+use Rattle.bt_run.specs.declared.kept_steps.KeptSteps.{KeptSteps}
+use Rattle.bt_run.specs.Course.{Recorded, course_world, input_at, step_kept, left_by, stepped, all_told}
+use Rattle.bt_run.specs.inner.Course.{recorded, IsOrdered, with_variables, variables_back, put_back}
 use Rattle.bt_run.specs.declared.reuse.Reuse.{Reuse}
 use Rattle.bt_run.specs.Work.{key_in, total_cost, work_under, IsStep}
 use Rattle.bt_run.specs.inner.Earlier.{AreSame}
@@ -36,12 +37,9 @@ abbrev own_left : Finish → Own
 own_left f = record { outcome = outcome_of f; cost = f.cost }
 
 -- what is left where the outcome of a step is put back
-abbrev left_back : CommandPlace → Target → Option ℕ → Course → Finish → Course
-left_back site t x r f =
-    record (put_back x (outcome_of f) r) {
-      log = r.log ++ all_told site.line site.style f.world.messages;
-      trace = r.trace ++ step_kept site.command (input_at t x (course_world r)) (own_left f) ∷ [];
-    }
+abbrev left_back : {S : Type 0} → (S → Step → S) → CommandPlace → Target → Option ℕ → Recorded S → Finish → Recorded S
+left_back note site t x r f =
+    recorded (put_back site x (outcome_of f) r.course) (note r.seen (step_kept site.command (input_at t x (course_world r.course)) (own_left f)))
 
 -- the variables of the entry that stands alone
 one_entry : (p : Program) → DependsOnInput p → (t : Target) (n : ℕ) (w : World) → first_variables (step p (Some 0) t (cut (Some n) w)).world.entries ≡ Some (slice_index_or (step p (Some 0) t (cut (Some n) w)).world.entries 0 no_entry).variables
@@ -57,47 +55,46 @@ own_back p law t n r h =
     let f = alone_left p t (Some n) r in
     let e : Entry = record (slice_index_or r.entries n no_entry) { variables = (slice_index_or f.world.entries 0 no_entry).variables } in
     let variables = ap (λ (d : Entry). Some d.variables) (get_or-set_same r.entries n e no_entry h) ∙ sym (one_entry p law t n (course_world r)) in
-    let lines = drop-append_seam r.lines f.world.lines in
-    λ j. record { outcome = record { globals = f.world.globals; variables = variables j; held = f.world.held; lines = lines j; messages = f.world.messages; stop = f.stopped; calls = f.calls }; cost = f.cost }
+    λ j. record { outcome = record { globals = f.world.globals; variables = variables j; held = f.world.held; lines = f.world.lines; messages = f.world.messages; stop = f.stopped; calls = f.calls }; cost = f.cost }
 
 -- the same of a step without an entry
 own_back_alone : (p : Program) → DependsOnInput p → (t : Target) (r : Course) → own None (course_world r) (finish_back None (course_world r) (alone_left p t None r)) ≡ own_left (alone_left p t None r)
 own_back_alone p law t r =
     let f = alone_left p t None r in
     let variables = sym (no_variables_left p law t (course_world r)) in
-    let lines = drop-append_seam r.lines f.world.lines in
-    λ j. record { outcome = record { globals = f.world.globals; variables = variables j; held = f.world.held; lines = lines j; messages = f.world.messages; stop = f.stopped; calls = f.calls }; cost = f.cost }
+    λ j. record { outcome = record { globals = f.world.globals; variables = variables j; held = f.world.held; lines = f.world.lines; messages = f.world.messages; stop = f.stopped; calls = f.calls }; cost = f.cost }
 
--- a step in the world of all entries puts back what it leaves on its input
-pub step_back : (p : Program) → DependsOnInput p → (site : CommandPlace) (t : Target) (x : Option ℕ) (r : Course) → IsPlace x (course_world r) → stepped p site t x r ≡ left_back site t x r (step_in p (input_at t x (course_world r)))
-step_back p law site t None r h =
-    let w = course_world r in
-    let f = alone_left p t None r in
-    let back : stepped p site t None r ≡ left_by site t None r (finish_back None w f) = ap (left_by site t None r) (law None t w h) in
-    let own_part = own_back_alone p law t r in
-    back ∙ (λ j. record { entries = r.entries; order = r.order; globals = f.world.globals; preamble = r.preamble; held = f.world.held; lines = r.lines ++ f.world.lines; log = r.log ++ all_told site.line site.style f.world.messages; trace = r.trace ++ step_kept site.command (input_at t None w) (own_part j) ∷ []; stopped = f.stopped })
-step_back p law site t (Some n) r h =
-    let w = course_world r in
-    let f = alone_left p t (Some n) r in
-    let back : stepped p site t (Some n) r ≡ left_by site t (Some n) r (finish_back (Some n) w f) = ap (left_by site t (Some n) r) (law (Some n) t w h) in
-    let entries = sym (one_entry p law t n w) in
-    let own_part = own_back p law t n r h in
-    back ∙ (λ j. record { entries = variables_back (Some n) (entries j) r.entries; order = r.order; globals = f.world.globals; preamble = r.preamble; held = f.world.held; lines = r.lines ++ f.world.lines; log = r.log ++ all_told site.line site.style f.world.messages; trace = r.trace ++ step_kept site.command (input_at t (Some n) w) (own_part j) ∷ []; stopped = f.stopped })
+module _ {S : Type 0} (note : S → Step → S) (p : Program) (law : DependsOnInput p) (site : CommandPlace) (t : Target) where
+  -- a step in the world of all entries puts back what it leaves on its input
+  step_back : (x : Option ℕ) (r : Recorded S) → IsPlace x (course_world r.course) → stepped note p site t x r ≡ left_back note site t x r (step_in p (input_at t x (course_world r.course)))
+  step_back None r h =
+      let w = course_world r.course in
+      let f = alone_left p t None r.course in
+      let back : stepped note p site t None r ≡ left_by note site t None r (finish_back None w f) = ap (left_by note site t None r) (law None t w h) in
+      let own_part = own_back_alone p law t r.course in
+      back ∙ (λ j. recorded (record { entries = r.course.entries; order = r.course.order; globals = f.world.globals; preamble = r.course.preamble; held = f.world.held; log = r.course.log ++ all_told site.line site.style f.world.messages; stopped = f.stopped }) (note r.seen (step_kept site.command (input_at t None w) (own_part j))))
+  step_back (Some n) r h =
+      let w = course_world r.course in
+      let f = alone_left p t (Some n) r.course in
+      let back : stepped note p site t (Some n) r ≡ left_by note site t (Some n) r (finish_back (Some n) w f) = ap (left_by note site t (Some n) r) (law (Some n) t w h) in
+      let entries = sym (one_entry p law t n w) in
+      let own_part = own_back p law t n r.course h in
+      back ∙ (λ j. recorded (record { entries = variables_back (Some n) (entries j) r.course.entries; order = r.course.order; globals = f.world.globals; preamble = r.course.preamble; held = f.world.held; log = r.course.log ++ all_told site.line site.style f.world.messages; stopped = f.stopped }) (note r.seen (step_kept site.command (input_at t (Some n) w) (own_part j))))
 
--- The same for a run's own way of putting an outcome back, piece by piece.
-pub step_taken : (p : Program) → DependsOnInput p → (site : CommandPlace) (t : Target) (x : Option ℕ) (r back : Course) (s : Step) (messages log : List Message) (steps : List Step) → IsPlace x (course_world r) → s.command ≡ site.command → s.input ≡ input_at t x (course_world r) → IsStep p s → back ≡ put_back x s.outcome r → messages ≡ all_told site.line site.style s.outcome.messages → log ≡ back.log ++ messages → steps ≡ back.trace ++ s ∷ [] → record back { log = log; trace = steps } ≡ stepped p site t x r
-step_taken p law site t x r back s messages log steps h is_command is_input own is_back are_told is_log are_steps =
-    let i = input_at t x (course_world r) in
-    let is_outcome = own.outcome ∙ ap (λ (j : Input). outcome_of (step_in p j)) is_input in
-    let is_step : s ≡ step_kept site.command i (own_left (step_in p i)) =
-    λ j. record {
-      command = is_command j;
-      key = (own.key ∙ ap key_in is_input) j;
-      input = is_input j;
-      outcome = is_outcome j;
-      cost = (own.cost ∙ ap (λ (k : Input). (step_in p k).cost) is_input) j;
-    } in
-    rw (is_log, are_steps, are_told, is_back, is_step) (sym (step_back p law site t x r h))
+  -- The same for a step that was made or reused, with what was noted of it.
+  pub step_taken : (x : Option ℕ) (r : Course) (seen after : S) (back : Course) (s : Step) → IsPlace x (course_world r) → s.command ≡ site.command → s.input ≡ input_at t x (course_world r) → IsStep p s → back ≡ put_back site x s.outcome r → after ≡ note seen s → recorded back after ≡ stepped note p site t x (recorded r seen)
+  step_taken x r seen after back s h is_command is_input own is_back is_after =
+      let i = input_at t x (course_world r) in
+      let is_outcome = own.outcome ∙ ap (λ (j : Input). outcome_of (step_in p j)) is_input in
+      let is_step : s ≡ step_kept site.command i (own_left (step_in p i)) =
+      λ j. record {
+        command = is_command j;
+        key = (own.key ∙ ap key_in is_input) j;
+        input = is_input j;
+        outcome = is_outcome j;
+        cost = (own.cost ∙ ap (λ (k : Input). (step_in p k).cost) is_input) j;
+      } in
+      (λ j. recorded (is_back j) (is_after j)) ∙ ap (λ (u : Step). recorded (put_back site x u.outcome r) (note seen u)) is_step ∙ sym (step_back x (recorded r seen) h)
 
 -- What a step leaves of what a run keeps to
 
@@ -105,6 +102,12 @@ step_taken p law site t x r back s messages log steps h is_command is_input own 
 pub length-variables_back : (x : Option ℕ) (v : Option Variables) (entries : List Entry) → length (variables_back x v entries) ≡ length entries
 length-variables_back None v entries = refl
 length-variables_back (Some n) v entries = length-set entries n (with_variables v (slice_index_or entries n no_entry))
+
+pub length_back : (site : CommandPlace) (x : Option ℕ) (o : Outcome) (r back : Course) → back ≡ put_back site x o r → length back.entries ≡ length r.entries
+length_back site x o r back is = ap (λ (c : Course). length c.entries) is ∙ length-variables_back x o.variables r.entries
+
+pub ordered_back : (site : CommandPlace) (x : Option ℕ) (o : Outcome) (r back : Course) → back ≡ put_back site x o r → IsOrdered r → IsOrdered back
+ordered_back site x o r back is h = rw is (λ k d lt. omega (arith, length-variables_back x o.variables r.entries, h k d lt))
 
 -- one more step of the style
 all_one : {A : Type 0} (P : A → Type 0) (y : A) → P y → All P (y ∷ [])
@@ -115,23 +118,25 @@ pub all_behind : {A : Type 0} (P : A → Type 0) (xs : List A) (y : A) → All P
 all_behind P xs y h g = All-append P xs (y ∷ []) h (all_one P y g)
 
 -- a step keeps what a run keeps to
-pub consistent_behind : (p : Program) (earlier : Earlier) (t : Target) (x : Option ℕ) (r back : Course) (s : Step) (log : List Message) (steps : List Step) (places : List (Option ℕ)) (before after : Reuse) → IsConsistent p earlier r before → s.input ≡ input_at t x (course_world r) → back ≡ put_back x s.outcome r → steps ≡ back.trace ++ s ∷ [] → places ≡ after.places ++ x ∷ [] → IsNext p earlier.steps.now s before after → IsConsistent p earlier (record back { log = log; trace = steps }) (record after { places = places })
-consistent_behind p earlier t x r back s log steps places before after h is_input is_back are_steps are_places next =
+pub consistent_behind : (p : Program) (earlier : Earlier) (site : CommandPlace) (t : Target) (x : Option ℕ) (r back : Course) (s : Step) (before next : KeptSteps) (steps : List Step) (places : List (Option ℕ)) → IsConsistent p earlier r.entries before → s.input ≡ input_at t x (course_world r) → back ≡ put_back site x s.outcome r → next ≡ record before { reuse = next.reuse } → steps ≡ next.steps ++ s ∷ [] → places ≡ next.places ++ x ∷ [] → IsNext p earlier.steps.now s before.reuse next.reuse → IsConsistent p earlier back.entries (record next { steps = steps; places = places })
+consistent_behind p earlier site t x r back s before next steps places h is_input is_back is_rest are_steps are_places is_next =
     let cost : Step → ℕ = λ (u : Step). u.cost in
-    let so_far = work_under p earlier.steps.now r.trace in
+    let so_far = work_under p earlier.steps.now before.steps in
     let more = work_under p earlier.steps.now (s ∷ []) in
-    let works = work_append p earlier.steps.now r.trace (s ∷ []) in
+    let works = work_append p earlier.steps.now before.steps (s ∷ []) in
     let own = ap (λ (i : Input). i.entry) is_input in
-    rw (are_places, next.places, are_steps, is_back) (record {
-      ran = next.counted.ran ∙ ap (λ n. n + length more) h.ran ∙ sym (ap length works ∙ length-append so_far more);
-      ticks = next.counted.ticks ∙ ap (λ n. n + total_cost more) h.ticks ∙ sym (ap total_cost works ∙ sum_by-append cost so_far more);
-      fewer = omega (arith, length-append r.trace (s ∷ []), h.fewer, next.counted.ran, work_fewer p earlier.steps.now (s ∷ []));
-      bounded = omega (arith, length-append r.trace (s ∷ []), h.bounded, next.within);
-      steps = all_behind (IsStep p) r.trace s h.steps next.step;
-      known = next.known;
-      indexed = next.indexed;
-      ordered = λ k d lt. omega (arith, length-variables_back x s.outcome.variables r.entries, h.ordered k d lt);
-      counted = omega (arith, length-append r.trace (s ∷ []), length-append before.places (x ∷ []), h.counted);
-      placed = placed_more r.entries r.trace before.places s x s.outcome.variables h.counted h.placed own;
-      same = subst (AreSame earlier.entries.now (variables_back x s.outcome.variables r.entries)) (sym next.same) (same_back earlier.entries.now r.entries before.same x s.outcome.variables h.same);
+    let kept_steps : steps ≡ before.steps ++ s ∷ [] = are_steps ∙ ap (λ (k : KeptSteps). k.steps ++ s ∷ []) is_rest in
+    let kept_places : places ≡ before.places ++ x ∷ [] = are_places ∙ ap (λ (k : KeptSteps). k.places ++ x ∷ []) is_rest in
+    let kept_same = ap (λ (k : KeptSteps). k.same) is_rest in
+    rw (kept_places, kept_steps, is_back) (record {
+      ran = is_next.counted.ran ∙ ap (λ n. n + length more) h.ran ∙ sym (ap length works ∙ length-append so_far more);
+      ticks = is_next.counted.ticks ∙ ap (λ n. n + total_cost more) h.ticks ∙ sym (ap total_cost works ∙ sum_by-append cost so_far more);
+      fewer = omega (arith, length-append before.steps (s ∷ []), h.fewer, is_next.counted.ran, work_fewer p earlier.steps.now (s ∷ []));
+      bounded = omega (arith, length-append before.steps (s ∷ []), h.bounded, is_next.within);
+      steps = all_behind (IsStep p) before.steps s h.steps is_next.step;
+      known = is_next.known;
+      indexed = is_next.indexed;
+      counted = omega (arith, length-append before.steps (s ∷ []), length-append before.places (x ∷ []), h.counted);
+      placed = placed_more r.entries before.steps before.places s x s.outcome.variables h.counted h.placed own;
+      same = subst (AreSame earlier.entries.now (variables_back x s.outcome.variables r.entries)) (sym kept_same) (same_back earlier.entries.now r.entries before.same x s.outcome.variables h.same);
     })

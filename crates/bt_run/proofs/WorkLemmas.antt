@@ -191,8 +191,6 @@ met_again p earlier s before after all among known indexed is =
       within = omega arith;
       known = known;
       indexed = indexed;
-      places = refl;
-      same = refl;
     })
 
 -- what was worked out is the footprint of an input

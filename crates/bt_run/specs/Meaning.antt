@@ -1,5 +1,5 @@
 -- What files mean: a run over them from scratch, which knows no edit and no earlier run.
-use Rattle.std.specs.Prelude.{ℕ, ℤ, pos, List, [], ◌∷◌, ◌++◌, map, codes, Option, Some, None, unwrap_or, false, Result, Ok, Err, bytes_eq, if◌then◌else◌}
+use Rattle.std.specs.Prelude.{ℕ, ℤ, pos, List, [], ◌∷◌, ◌++◌, map, flat_map, codes, Option, Some, None, unwrap_or, false, Result, Ok, Err, bytes_eq, if◌then◌else◌}
 use Rattle.bt_style.specs.declared.fault.StyleFault.{StyleFault}
 use Rattle.bt_style.specs.Program.{Program}
 use Rattle.bt_style.specs.Fault.{words_of}
@@ -15,8 +15,8 @@ use Rattle.bt_job.specs.declared.citations.Citations.{Citations}
 use Rattle.bt_job.specs.FileNames.{text_of}
 use Rattle.bt_job.specs.Citations.{citations}
 use Rattle.bt_log.specs.Log.{status_of, log_bytes, terse_bytes, lines_bytes}
-use Rattle.bt_run.specs.declared.course.Course.{Course}
 use Rattle.bt_run.specs.declared.course.Step.{Step}
+use Rattle.bt_run.specs.Course.{Recorded}
 use Rattle.bt_run.specs.ReadCommand.{Job}
 use Rattle.bt_run.specs.Commands.{commands_from}
 use Rattle.bt_run.specs.Counts.{with_counts}
@@ -34,20 +34,20 @@ first_number name =
 abbrev pub first_globals : Program → Variables
 first_globals p = record { numbers = map first_number p.global_numbers; texts = map (λ name. []) p.global_texts }
 
--- a run that has logged this, before the style's commands
-abbrev pub run_begun : Variables → List Message → Course
-run_begun globals log =
-    record {
-      entries = [];
-      order = [];
-      globals = globals;
-      preamble = [];
-      held = [];
-      lines = [];
-      log = log;
-      trace = [];
-      stopped = false;
-    }
+-- a run that has logged this, before any step
+abbrev pub run_begun : Variables → List Message → Recorded (List Step)
+run_begun globals log = record {
+  course = record {
+    entries = [];
+    order = [];
+    globals = globals;
+    preamble = [];
+    held = [];
+    log = log;
+    stopped = false;
+  };
+  seen = [];
+}
 
 -- the error of a style's fault
 abbrev pub fault_told : List ℕ → StyleFault → Message
@@ -64,28 +64,26 @@ job_for files c min style p = record {
   program = p;
 }
 
--- the commands of a style in order after a log, then the counts
-abbrev pub style_run : Job → List Message → Course
-style_run job log = with_counts (commands_from job 0 job.program.commands (run_begun (first_globals job.program) log))
+-- the commands of a style in order after a log, each step after those before it, then the counts
+abbrev pub style_run : Job → List Message → Recorded (List Step)
+style_run job log =
+    let begun = run_begun (first_globals job.program) log in
+    with_counts (commands_from (λ steps s. steps ++ s ∷ []) job 0 job.program.commands begun)
 
--- a run under a style of this name with a fault, which goes to the end of a log and ends the run
-abbrev pub faulty_run : List ℕ → StyleFault → List Message → Course
-faulty_run style fault log = run_begun no_variables (log ++ fault_told style fault ∷ [])
-
--- what a style that can be read does, or its first fault
-abbrev pub styled : List File → Citations → ℕ → List ℕ → Result Program StyleFault → Course
-styled files c min style (Err fault) = faulty_run style fault c.log
+-- what a style that can be read does; its first fault goes to the end of the log, and ends the run
+abbrev pub styled : List File → Citations → ℕ → List ℕ → Result Program StyleFault → Recorded (List Step)
+styled files c min style (Err fault) = run_begun no_variables (c.log ++ fault_told style fault ∷ [])
 styled files c min style (Ok p) = style_run (job_for files c min style p) c.log
 
 -- without a style the run ends after the .aux files
-abbrev pub run_with : List File → Citations → ℕ → Option (List ℕ) → Course
+abbrev pub run_with : List File → Citations → ℕ → Option (List ℕ) → Recorded (List Step)
 run_with files c min None = run_begun no_variables c.log
 run_with files c min (Some style) = styled files c min style (style_of (unwrap_or (text_of files style) []))
 
 -- Runs
 
 -- the whole run over these files from this root, with this min-crossrefs
-unfoldable pub run_of : List File → List ℕ → ℕ → Course
+unfoldable pub run_of : List File → List ℕ → ℕ → Recorded (List Step)
 run_of files root min = run_with files (citations files root) min (citations files root).style
 
 -- what a run shows
@@ -97,11 +95,15 @@ pub record Meaning : Type 0 where
   pub status : ℕ
   pub wanted : List (List ℕ)
 
--- what these lines, this log and these wanted names show
-abbrev pub shown_of : List (List ℕ) → List Message → List (List ℕ) → Meaning
-shown_of lines log wanted =
+-- the bibliography: the lines of the steps
+abbrev pub bbl_of : List Step → List ℕ
+bbl_of steps = flat_map (λ (s : Step). lines_bytes s.outcome.lines) steps
+
+-- what this bibliography, this log and these wanted names show
+abbrev pub shown_of : List ℕ → List Message → List (List ℕ) → Meaning
+shown_of bbl log wanted =
     record {
-      bbl = lines_bytes lines;
+      bbl = bbl;
       blg = log_bytes log;
       terse = terse_bytes log;
       messages = log;
@@ -109,13 +111,11 @@ shown_of lines log wanted =
       wanted = wanted;
     }
 
-abbrev pub course_shown : Course → List (List ℕ) → Meaning
-course_shown r wanted = shown_of r.lines r.log wanted
-
 -- what files mean from this root, with this min-crossrefs
 unfoldable pub meaning : List File → List ℕ → ℕ → Meaning
-meaning files root min = course_shown (run_of files root min) (citations files root).wanted
+meaning files root min =
+    let r = run_of files root min in shown_of (bbl_of r.seen) r.course.log (citations files root).wanted
 
 -- the steps of that run
 unfoldable pub trace : List File → List ℕ → ℕ → List Step
-trace files root min = (run_of files root min).trace
+trace files root min = (run_of files root min).seen

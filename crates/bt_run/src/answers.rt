@@ -1,32 +1,32 @@
 //! What the files mean, with the steps of an earlier run taken over.
 
-ghost use Rattle.std.specs.Prelude.{◌≡◌, ◌≤◌, ◌-◌, [], None, length, IfOk};
+ghost use Rattle.std.specs.Prelude.{◌≡◌, ◌≤◌, ◌-◌, length, IfOk};
 ghost use Rattle.std.specs.Option.{ForSome};
 ghost use Rattle.bt_style.specs.Program.{program_of};
 ghost use Rattle.bt_run.specs.inner.Earlier.{ArePlaced};
-ghost use Rattle.bt_run.specs.inner.Work.{IsConsistent};
+ghost use Rattle.bt_run.specs.inner.Course.{recorded};
+ghost use Rattle.bt_run.specs.inner.Work.{IsBegun, IsConsistent};
 ghost use Rattle.bt_run.specs.inner.Steps.{IsTaken};
 ghost use Rattle.bt_run.specs.Kept.{named_text, style_text, report_after};
-ghost use Rattle.bt_actions.specs.World.{no_variables};
-ghost use Rattle.bt_log.specs.Log.{lines_bytes, log_bytes, terse_bytes};
-ghost use Rattle.bt_run.specs.Meaning.{style_run, faulty_run, run_with, shown_of, meaning, trace};
+ghost use Rattle.bt_run.specs.Meaning.{style_run, run_with, shown_of, meaning, trace};
 ghost use Rattle.bt_run.specs.inner.JobView.{job_of};
 ghost use Rattle.bt_run.specs.Shown.{meaning_of};
 
-use crate::commands::run_commands;
-use crate::counts::tell_counts;
+use crate::bibliography::bbl_of;
+use crate::commands::run_style;
+use crate::counts::{count_calls, tell_counts};
 use crate::course::{Course, Step};
 use crate::job::{Job, shared_text};
 use crate::kept::{Kept, earlier_under};
+use crate::kept_steps::KeptSteps;
 use crate::readings::Readings;
 use crate::reuse::Reuse;
-use crate::start::{begin, fault_told, first_globals};
-use bt_actions::Variables;
+use crate::start::{idle, with_fault};
 use bt_job::{Citations, File, read_citations};
-use bt_log::{Message, lines_bytes, log_bytes, status, terse_bytes};
+use bt_log::{Message, log_bytes, status, terse_bytes};
 use bt_resolve::Cites;
 use bt_style::{StyleFault, StyleRefusal, fields_are_apart};
-use bt_text::{Bytes, Sequence, Shared, Values};
+use bt_text::{Bytes, Sequence, Shared};
 use std::alloc::{AllocError, Global};
 
 /// What a run shows.
@@ -76,52 +76,23 @@ impl Report {
     }
 }
 
-fn no_variables(alloc: Global) -> Variables
-    ensures { result ≡ no_variables }
-{
-    Variables {
-        numbers: Values::new(alloc),
-        texts: Values::new(alloc),
-    }
-}
-
 /// Carries out the commands of a style after a log, and logs the counts.
-#[tactic(auto, using(crate::proofs::AnswerLemmas::begun_consistent, crate::proofs::AnswerLemmas::counted_consistent, crate::proofs::AnswerLemmas::carried_by))]
+#[tactic(auto, using(crate::proofs::AnswerLemmas::begun_consistent, crate::proofs::AnswerLemmas::carried_by))]
 fn carry_out_style(
     alloc: Global,
     job: Job<'_>,
     log: Sequence<Message>,
-    reuse: &mut Reuse,
+    steps: &mut KeptSteps,
 ) -> Result<Course, AllocError>
-    requires meter { reuse.old.meter ≡ 0 }
-    requires ran { reuse.old.ran ≡ 0 }
-    requires known { reuse.old.known ≡ [] }
-    requires index { reuse.old.lookup.index ≡ None }
-    ensures run { IfOk result (λ course. course ≡ style_run (job_of job.entry) log) }
-    ensures consistent { IfOk result
-        (λ course. IsConsistent (program_of job.entry.style.now) job.entry.earlier course reuse.new) }
+    requires { IsBegun steps.old }
+    ensures run { IfOk result (λ course. recorded course steps.new.steps ≡ style_run (job_of job.entry) log) }
+    ensures consistent { IfOk result (λ course.
+        IsConsistent (program_of job.entry.style.now) job.entry.earlier course.entries steps.new) }
 {
-    let globals = first_globals(alloc, job.style)?;
-    let mut course = begin(alloc, globals, log)?;
-    reuse.places = Sequence::new(alloc);
-    reuse.same = Sequence::new(alloc);
-    run_commands(alloc, job, &mut course, reuse)?;
-    tell_counts(alloc, &mut course)?;
+    let mut course = run_style(alloc, job, log, steps)?;
+    let calls = count_calls(steps.steps.as_slice())?;
+    tell_counts(alloc, &mut course.log, &calls)?;
     Ok(course)
-}
-
-/// A run under a style with a fault: the fault goes to the end of a log, and ends the run.
-fn refuse_style(
-    alloc: Global,
-    name: &[u8],
-    fault: StyleFault,
-    log: Sequence<Message>,
-) -> Result<Course, AllocError>
-    ensures { IfOk result (λ course. course ≡ faulty_run name.now fault log) }
-{
-    let mut log = log;
-    log.push(fault_told(alloc, name, fault)?)?;
-    begin(alloc, no_variables(alloc), log)
 }
 
 /// A run as far as its log, the names that it looked for and did not find, and the text of its style.
@@ -146,25 +117,23 @@ impl StyleRun {
 }
 
 /// Runs what the `.aux` files ask for.
-#[tactic(auto, using(crate::proofs::AnswerLemmas::begun_consistent, crate::proofs::AnswerLemmas::no_style, crate::proofs::AnswerLemmas::lent_style, crate::proofs::AnswerLemmas::style_ran, crate::proofs::AnswerLemmas::style_refused, crate::proofs::AnswerLemmas::nothing_taken, crate::proofs::AnswerLemmas::run_taken, crate::proofs::AnswerLemmas::earlier_steps))]
+#[tactic(auto, using(crate::proofs::AnswerLemmas::no_style, crate::proofs::AnswerLemmas::lent_style, crate::proofs::AnswerLemmas::style_ran, crate::proofs::AnswerLemmas::style_refused, crate::proofs::AnswerLemmas::nothing_taken, crate::proofs::AnswerLemmas::begun_placed, crate::proofs::AnswerLemmas::run_taken, crate::proofs::AnswerLemmas::earlier_steps))]
 fn run_with(
     alloc: Global,
     files: &[File],
     citations: Citations,
     min: u32,
     kept: &Kept,
-    reuse: &mut Reuse,
+    steps: &mut KeptSteps,
 ) -> Result<StyleRun, AllocError>
-    requires meter { reuse.old.meter ≡ 0 }
-    requires ran { reuse.old.ran ≡ 0 }
-    requires known { reuse.old.known ≡ [] }
-    requires index { reuse.old.lookup.index ≡ None }
+    requires begun { IsBegun steps.old }
     requires star { ForSome citations.star (λ before. before ≤ length citations.keys) }
-    ensures run { IfOk result (λ r. r.course ≡ run_with files.now citations min citations.style) }
+    ensures run { IfOk result (λ r. recorded r.course steps.new.steps
+        ≡ run_with files.now citations min citations.style) }
     ensures wanted { IfOk result (λ r. r.wanted ≡ citations.wanted) }
     ensures text { IfOk result (λ r. r.text ≡ named_text files.now citations.style) }
-    ensures taken { IfOk result (λ r. IsTaken kept.now.text kept.now.steps r.text r.course.trace reuse.new) }
-    ensures placed { IfOk result (λ r. ArePlaced r.course.entries r.course.trace reuse.new.places) }
+    ensures taken { IfOk result (λ r. IsTaken kept.now.text kept.now.steps r.text steps.new.steps steps.new.reuse) }
+    ensures placed { IfOk result (λ r. ArePlaced r.course.entries steps.new.steps steps.new.places) }
 {
     let Citations {
         keys,
@@ -175,7 +144,7 @@ fn run_with(
         wanted,
     } = citations;
     let Some(name) = style else {
-        let course = begin(alloc, no_variables(alloc), log)?;
+        let course = idle(alloc, log)?;
         return Ok(StyleRun::new(course, wanted, None));
     };
     let name = name.as_slice();
@@ -185,7 +154,7 @@ fn run_with(
     let cites = Cites { keys, star };
     let text = shared_text(alloc, files, name)?;
     let bytes = text.as_slice();
-    match reuse.readings.style(alloc, &text) {
+    match steps.readings.style(alloc, &text) {
         Ok(style) => {
             let earlier = earlier_under(kept, bytes);
             let job = Job {
@@ -197,44 +166,29 @@ fn run_with(
                 style: &style,
                 earlier,
             };
-            let course = carry_out_style(alloc, job, log, reuse)?;
+            let course = carry_out_style(alloc, job, log, steps)?;
             Ok(StyleRun::new(course, wanted, Some(text)))
         }
         Err(StyleRefusal::Fault { kind, line }) => {
-            let course = refuse_style(alloc, name, StyleFault { kind, line }, log)?;
+            let log = with_fault(alloc, name, StyleFault { kind, line }, log)?;
+            let course = idle(alloc, log)?;
             Ok(StyleRun::new(course, wanted, Some(text)))
         }
         Err(StyleRefusal::OutOfMemory) => Err(AllocError),
     }
 }
 
-struct Printed {
-    bbl: Bytes,
-    blg: Bytes,
-    terse: Bytes,
-}
-
-fn print(alloc: Global, lines: &[Shared<Bytes>], log: &[Message]) -> Result<Printed, AllocError>
-    ensures bbl { IfOk result (λ printed. printed.bbl ≡ lines_bytes lines.now) }
-    ensures blg { IfOk result (λ printed. printed.blg ≡ log_bytes log.now) }
-    ensures terse { IfOk result (λ printed. printed.terse ≡ terse_bytes log.now) }
-{
-    Ok(Printed {
-        bbl: lines_bytes(alloc, lines)?,
-        blg: log_bytes(alloc, log)?,
-        terse: terse_bytes(alloc, log)?,
-    })
-}
-
-fn show(
+/// What a bibliography, a log and the names of missing files show.
+pub fn show(
     alloc: Global,
-    lines: &Sequence<Shared<Bytes>>,
+    bbl: Bytes,
     log: Sequence<Message>,
     wanted: Sequence<Bytes>,
 ) -> Result<Answers, AllocError>
-    ensures { IfOk result (λ answers. meaning_of answers ≡ shown_of lines.now log wanted) }
+    ensures { IfOk result (λ answers. meaning_of answers ≡ shown_of bbl log wanted) }
 {
-    let Printed { bbl, blg, terse } = print(alloc, lines.as_slice(), log.as_slice())?;
+    let blg = log_bytes(alloc, log.as_slice())?;
+    let terse = terse_bytes(alloc, log.as_slice())?;
     Ok(Answers {
         bbl,
         blg,
@@ -275,27 +229,22 @@ pub fn answers_after(
 {
     let mut readings = readings;
     let citations = read_citations(alloc, files, root, &mut readings.aux_texts)?;
-    let mut reuse = Reuse::begun(alloc, readings);
-    let ran = run_with(alloc, files, citations, min, kept, &mut reuse)?;
+    let mut steps = KeptSteps::begun(alloc, readings);
+    let ran = run_with(alloc, files, citations, min, kept, &mut steps)?;
     let StyleRun {
         course,
         wanted,
         text,
     } = ran;
-    let Course {
-        entries,
-        lines,
-        log,
-        trace,
-        ..
-    } = course;
-    let answers = show(alloc, &lines, log, wanted)?;
-    let report = Report::of(answers.status, trace.as_slice(), &reuse);
-    let readings = reuse.readings.present(alloc, files)?;
+    let Course { entries, log, .. } = course;
+    let bbl = bbl_of(alloc, steps.steps.as_slice())?;
+    let answers = show(alloc, bbl, log, wanted)?;
+    let report = Report::of(answers.status, steps.steps.as_slice(), &steps.reuse);
+    let readings = steps.readings.present(alloc, files)?;
     let kept = Kept {
         text,
-        steps: trace,
-        places: reuse.places,
+        steps: steps.steps,
+        places: steps.places,
         entries,
     };
     Ok(Run {

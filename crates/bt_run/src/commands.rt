@@ -1,48 +1,27 @@
 //! The commands of a style in order.
 
-ghost use Rattle.std.specs.Prelude.{◌≡◌, OnOk, IfOk};
+ghost use Rattle.std.specs.Prelude.{◌≡◌, [], OnOk, IfOk};
 ghost use Rattle.bt_style.specs.Program.{program_of};
-ghost use Rattle.bt_run.specs.inner.Work.{IsConsistent};
-ghost use Rattle.bt_run.specs.ReadCommand.{read};
+ghost use Rattle.bt_run.specs.inner.Course.{recorded, IsOrdered};
 ghost use Rattle.bt_run.specs.Commands.{sorted_run, site_of, command as command_done, commands_from};
+ghost use Rattle.bt_run.specs.Meaning.{first_globals, run_begun};
 ghost use Rattle.bt_run.specs.inner.JobView.{job_of};
 
 use crate::course::{CommandPlace, Course};
-use crate::earlier::{no_places, same_entries};
 use crate::job::Job;
-use crate::read_command::read;
-use crate::reuse::Reuse;
+use crate::recorder::Recorder;
 use crate::sort_command::sorted_places;
+use crate::start::{begin, first_globals};
 use crate::step_command::StepCommand;
+use bt_log::Message;
 use bt_style::{Action, Command};
-use bt_text::{Bytes, Shared};
+use bt_text::{Bytes, Sequence, Shared};
 use std::alloc::{AllocError, Global};
 
 fn sort(alloc: Global, course: &mut Course) -> Result<(), AllocError>
     ensures { OnOk result (course.new ≡ sorted_run course.old) }
 {
     course.order = sorted_places(alloc, course.entries.as_slice())?;
-    Ok(())
-}
-
-/// Reads the databases, and finds which entries the earlier run has at the same place. (What ran before has no entry.)
-fn read_beside(
-    alloc: Global,
-    job: Job<'_>,
-    number: usize,
-    course: &mut Course,
-    reuse: &mut Reuse,
-) -> Result<(), AllocError>
-    requires { IsConsistent (program_of job.style.now) job.earlier course.old reuse.old }
-    ensures run { OnOk result (course.new ≡ read (job_of job.entry) number course.old) }
-    ensures consistent { OnOk result
-        (IsConsistent (program_of job.entry.style.now) job.entry.earlier course.new reuse.new) }
-{
-    read(alloc, job, number, course, &mut reuse.readings.databases)?;
-    let places = no_places(alloc, course.trace.as_slice())?;
-    let same = same_entries(alloc, job.earlier.entries, course.entries.as_slice())?;
-    reuse.places = places;
-    reuse.same = same;
     Ok(())
 }
 
@@ -61,19 +40,20 @@ fn site_of(
     })
 }
 
-#[tactic(auto, using(crate::proofs::CommandLemmas::sorted_consistent))]
-fn carry_out(
+fn carry_out<R: Recorder>(
     alloc: Global,
     job: Job<'_>,
     number: usize,
     command: Command,
     course: &mut Course,
-    reuse: &mut Reuse,
+    recorder: &mut R,
 ) -> Result<(), AllocError>
-    requires { IsConsistent (program_of job.style.now) job.earlier course.old reuse.old }
-    ensures run { OnOk result (course.new ≡ command_done (job_of job.entry) number command course.old) }
-    ensures consistent { OnOk result
-        (IsConsistent (program_of job.entry.style.now) job.entry.earlier course.new reuse.new) }
+    requires ordered { IsOrdered course.old }
+    requires ready { R.ready recorder.old job course.old.entries }
+    ensures run { OnOk result (recorded course.new (R.seen recorder.new)
+        ≡ command_done R.note (job_of job.entry) number command (recorded course.old (R.seen recorder.old))) }
+    ensures ordered { OnOk result (IsOrdered course.new) }
+    ensures ready { OnOk result (R.ready recorder.new job.entry course.new.entries) }
 {
     if course.stopped {
         return Ok(());
@@ -86,18 +66,18 @@ fn carry_out(
         | Action::Strings => Ok(()),
         Action::Execute(target) => {
             let site = &site_of(alloc, job, number, command.line)?;
-            StepCommand { alloc, job, site }.take_step(target, None, course, reuse)
+            recorder.take_step(StepCommand { alloc, job, site }, target, None, course)
         }
         Action::Iterate(target) => {
             let site = &site_of(alloc, job, number, command.line)?;
-            StepCommand { alloc, job, site }.iterate(target, course, reuse)
+            StepCommand { alloc, job, site }.iterate(target, course, recorder)
         }
         Action::Reverse(target) => {
             let site = &site_of(alloc, job, number, command.line)?;
-            StepCommand { alloc, job, site }.reverse(target, course, reuse)
+            StepCommand { alloc, job, site }.reverse(target, course, recorder)
         }
         Action::Read => {
-            read_beside(alloc, job, number, course, reuse)?;
+            recorder.read(alloc, job, number, course)?;
             Ok(())
         }
         Action::Sort => {
@@ -109,20 +89,40 @@ fn carry_out(
 
 /// Carries out a style's commands in order, up to a step that stops the run. After out of memory the course is that of
 /// the commands and steps before it, with perhaps a part of the next one; `answers_after` drops it.
-pub fn run_commands(
+pub fn run_commands<R: Recorder>(
     alloc: Global,
     job: Job<'_>,
     course: &mut Course,
-    reuse: &mut Reuse,
+    recorder: &mut R,
 ) -> Result<(), AllocError>
-    requires { IsConsistent (program_of job.style.now) job.earlier course.old reuse.old }
-    ensures run { OnOk result
-        (course.new ≡ commands_from (job_of job.entry) 0 job.entry.style.now.commands course.old) }
-    ensures consistent { OnOk result
-        (IsConsistent (program_of job.entry.style.now) job.entry.earlier course.new reuse.new) }
+    requires ordered { IsOrdered course.old }
+    requires ready { R.ready recorder.old job course.old.entries }
+    ensures run { OnOk result (recorded course.new (R.seen recorder.new) ≡ commands_from R.note
+        (job_of job.entry) 0 job.entry.style.now.commands (recorded course.old (R.seen recorder.old))) }
+    ensures ordered { OnOk result (IsOrdered course.new) }
+    ensures ready { OnOk result (R.ready recorder.new job.entry course.new.entries) }
 {
     'commands: for (number, command) in job.style.commands.as_slice().iter().enumerate() {
-        carry_out(alloc, job, number, *command, course, reuse)?;
+        carry_out(alloc, job, number, *command, course, recorder)?;
     }
     Ok(())
+}
+
+/// Carries out a style's commands after a log.
+pub fn run_style<R: Recorder>(
+    alloc: Global,
+    job: Job<'_>,
+    log: Sequence<Message>,
+    recorder: &mut R,
+) -> Result<Course, AllocError>
+    requires { R.ready recorder.old job [] }
+    ensures run { IfOk result (λ course. recorded course (R.seen recorder.new) ≡ commands_from R.note
+        (job_of job.entry) 0 job.entry.style.now.commands
+        (recorded (run_begun (first_globals (program_of job.entry.style.now)) log).course (R.seen recorder.old))) }
+    ensures ready { IfOk result (λ course. R.ready recorder.new job.entry course.entries) }
+{
+    let globals = first_globals(alloc, job.style)?;
+    let mut course = begin(alloc, globals, log)?;
+    run_commands(alloc, job, &mut course, recorder)?;
+    Ok(course)
 }

@@ -1,77 +1,66 @@
 //! How often each built-in function was called in a run, and the lines of the log that tell it.
+//!
+//! A sum that doesn't fit 64 bits counts as out of memory: no run lives to see it.
 
-ghost use Rattle.std.specs.Prelude.{◌≡◌, ℕ, ◌+◌, ◌++◌, ◌≤◌, ◌<◌, ◌^◌, length, map, sum_by, slice_index_or, codes, decimal, IfOk, OnOk};
+ghost use Rattle.std.specs.Prelude.{◌≡◌, ℕ, ◌+◌, ◌++◌, ◌<◌, map, sum_by, slice_index_or, codes, decimal, IfOk, OnOk};
 ghost use Rattle.bt_style.specs.Builtins.{place_of, name_of};
 ghost use Rattle.bt_style.specs.Names.{row_of};
-ghost use Rattle.bt_run.specs.Counts.{calls_at, all_calls, count_message, total_line, function_line, with_counts};
+ghost use Rattle.bt_run.specs.Counts.{calls_at, all_calls, count_message, total_line, function_line, counts_told};
+ghost use Rattle.bt_run.specs.inner.Steps.{calls_in};
 
-use crate::course::{Course, Step};
+use crate::course::Step;
 use bt_log::{Message, Rank};
 use bt_style::{BUILTIN_COUNT, Builtin};
 use bt_text::{Sequence, Shared};
 use itoa::Buffer;
 use std::alloc::{AllocError, Global};
 
-/// Some steps, with how often each built-in function was called in all of them together.
-#[derive(Clone, Copy)]
-struct Tally<'a> {
-    steps: &'a [Shared<Step>],
-    /// By the function's place in the table.
-    calls: [u128; BUILTIN_COUNT],
-    ghost counted: { (place : ℕ) → place < 37 → slice_index_or calls place 0 ≡ calls_at steps.now place },
-    ghost bounded: { (place : ℕ) → place < 37 → slice_index_or calls place 0 < 2 ^ 96 },
-}
+/// How often each built-in function was called in some steps together, by its place in the table.
+pub type Calls = [u64; BUILTIN_COUNT];
 
-fn add_calls(sums: &mut [u128; BUILTIN_COUNT], calls: &[u32; BUILTIN_COUNT])
-    requires { (place : ℕ) → place < 37 → slice_index_or sums.old place 0 < 2 ^ 96 }
-    ensures added { (place : ℕ) → place < 37 →
-        slice_index_or sums.new place 0 ≡ slice_index_or sums.old place 0 + slice_index_or calls.now place 0 }
-    ensures bounded { (place : ℕ) → place < 37 →
-        slice_index_or sums.new place 0 ≤ slice_index_or sums.old place 0 + 4294967295 }
+/// Adds how often a step called each.
+pub fn add_calls(sums: &mut Calls, calls: &[u32; BUILTIN_COUNT]) -> Result<(), AllocError>
+    ensures { OnOk result ((place : ℕ) → place < 37 →
+        slice_index_or sums.new place 0 ≡ slice_index_or sums.old place 0 + slice_index_or calls.now place 0) }
 {
     'places: for place in 0..BUILTIN_COUNT {
-        sums[place] += u128::from(calls[place]);
+        let sum = sums[place].checked_add(u64::from(calls[place]));
+        sums[place] = sum.ok_or(AllocError)?;
     }
+    Ok(())
 }
 
-fn count_calls(steps: &[Shared<Step>]) -> Tally<'_>
-    ensures { result.steps.now ≡ steps.now }
+pub fn count_calls(steps: &[Shared<Step>]) -> Result<Calls, AllocError>
+    ensures { IfOk result (λ calls. (place : ℕ) → place < 37 →
+        slice_index_or calls place 0 ≡ calls_at steps.now place) }
 {
     let mut calls = [0; BUILTIN_COUNT];
     'steps: for step in steps {
-        add_calls(&mut calls, &step.outcome.calls);
+        add_calls(&mut calls, &step.outcome.calls)?;
     }
-    Tally { steps, calls }
+    Ok(calls)
 }
 
-fn calls_at(tally: &Tally<'_>, place: usize) -> u128
-    requires { place < 37 }
-    ensures calls { result ≡ calls_at tally.now.steps.now place }
-    ensures bounded { result < 2 ^ 96 }
+fn sum_of_calls(calls: &Calls, builtins: &[Builtin]) -> Result<u64, AllocError>
+    ensures { IfOk result (λ sum. sum ≡ sum_by (λ b. calls_in calls.now (place_of b)) builtins.now) }
 {
-    tally.calls[place]
-}
-
-fn sum_of_calls(tally: &Tally<'_>, builtins: &[Builtin]) -> u128
-    requires { length builtins.now ≤ 37 }
-    ensures { result ≡ sum_by (λ b. calls_at tally.now.steps.now (place_of b)) builtins.now }
-{
-    let mut sum = 0;
+    let mut sum: u64 = 0;
     'builtins: for builtin in builtins {
-        sum += calls_at(tally, builtin.place());
+        sum = sum.checked_add(calls[builtin.place()]).ok_or(AllocError)?;
     }
-    sum
+    Ok(sum)
 }
 
 #[tactic(auto, unfolding(crate::specs::Counts::all_calls, bt_style::specs::Builtins::table))]
-fn all_calls(tally: &Tally<'_>) -> u128
-    ensures { result ≡ all_calls tally.now.steps.now }
+fn all_calls(calls: &Calls) -> Result<u64, AllocError>
+    ensures { IfOk result (λ count. count ≡ all_calls (calls_in calls.now)) }
 {
-    sum_of_calls(tally, Builtin::ALL.as_slice())
+    let count = sum_of_calls(calls, Builtin::ALL.as_slice())?;
+    Ok(count)
 }
 
 /// The line before the counts.
-fn total_told(alloc: Global, count: u128) -> Result<Message, AllocError>
+fn total_told(alloc: Global, count: u64) -> Result<Message, AllocError>
     ensures { IfOk result (λ message. message ≡ total_line count) }
 {
     let mut buffer = Buffer::new();
@@ -87,7 +76,7 @@ fn total_told(alloc: Global, count: u128) -> Result<Message, AllocError>
     )
 }
 
-fn count_line(alloc: Global, name: &[u8], count: u128) -> Result<Message, AllocError>
+fn count_line(alloc: Global, name: &[u8], count: u64) -> Result<Message, AllocError>
     ensures { IfOk result (λ message. message ≡ count_message (name.now ++ codes " -- " ++ decimal count)) }
 {
     let mut buffer = Buffer::new();
@@ -95,7 +84,7 @@ fn count_line(alloc: Global, name: &[u8], count: u128) -> Result<Message, AllocE
     Message::of(alloc, Rank::CallCount, &[name, b" -- ", count])
 }
 
-fn row_told(alloc: Global, builtin: Builtin, count: u128) -> Result<Message, AllocError>
+fn row_told(alloc: Global, builtin: Builtin, count: u64) -> Result<Message, AllocError>
     ensures { IfOk result (λ message. message ≡ count_message (name_of builtin ++ codes " -- " ++ decimal count)) }
 {
     count_line(alloc, builtin.name(), count)
@@ -104,26 +93,29 @@ fn row_told(alloc: Global, builtin: Builtin, count: u128) -> Result<Message, All
 fn tell_rows(
     alloc: Global,
     log: &mut Sequence<Message>,
-    tally: &Tally<'_>,
+    calls: &Calls,
     builtins: &[Builtin],
 ) -> Result<(), AllocError>
-    ensures { OnOk result (log.new ≡ log.old ++ map (λ b. function_line tally.now.steps.now (row_of b)) builtins.now) }
+    ensures { OnOk result (log.new ≡ log.old ++ map (λ b. function_line (calls_in calls.now) (row_of b)) builtins.now) }
 {
     'builtins: for builtin in builtins {
-        let count = calls_at(tally, builtin.place());
+        let count = calls[builtin.place()];
         log.push(row_told(alloc, *builtin, count)?)?;
     }
     Ok(())
 }
 
-/// Logs the counts of a run after its messages, function by function in the order of the table. After out of memory
-/// some of these lines may be there.
-pub fn tell_counts(alloc: Global, course: &mut Course) -> Result<(), AllocError>
-    ensures { OnOk result (course.new ≡ with_counts course.old) }
+/// Logs the counts of calls, function by function in the order of the table. After out of memory some of these lines may
+/// be there.
+pub fn tell_counts(
+    alloc: Global,
+    log: &mut Sequence<Message>,
+    calls: &Calls,
+) -> Result<(), AllocError>
+    ensures { OnOk result (log.new ≡ log.old ++ counts_told (calls_in calls.now)) }
 {
-    let tally = count_calls(course.trace.as_slice());
-    let count = all_calls(&tally);
-    course.log.push(total_told(alloc, count)?)?;
-    tell_rows(alloc, &mut course.log, &tally, Builtin::ALL.as_slice())?;
+    let count = all_calls(calls)?;
+    log.push(total_told(alloc, count)?)?;
+    tell_rows(alloc, log, calls, Builtin::ALL.as_slice())?;
     Ok(())
 }

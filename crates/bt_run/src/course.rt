@@ -1,4 +1,4 @@
-//! How far a run has come: the world of all entries in the program's form, the log, and the steps so far.
+//! How far a run has come: the world of all entries in the program's form, and the log; and what a step is.
 
 use bt_actions::{Entry, Variables};
 use bt_log::Message;
@@ -30,10 +30,7 @@ pub struct Course {
     pub preamble: Shared<Bytes>,
     /// The line that `write$` appends to.
     pub held: Held,
-    pub lines: Sequence<Shared<Bytes>>,
     pub log: Sequence<Message>,
-    /// The steps so far; those that were taken over whole are shared with the run before.
-    pub trace: Sequence<Shared<Step>>,
     /// Whether a step stopped the run.
     pub stopped: bool,
 }

@@ -1,6 +1,6 @@
 //! What a run goes over of an earlier one.
 
-ghost use Rattle.std.specs.Prelude.{◌≡◌, None, map, IfOk};
+ghost use Rattle.std.specs.Prelude.{◌≡◌, None, [], map, IfOk};
 ghost use Rattle.bt_run.specs.inner.Earlier.{ArePlaced, AreSame};
 
 use crate::course::Step;
@@ -16,6 +16,19 @@ pub struct Earlier<'a> {
     pub places: &'a [Option<usize>],
     pub entries: &'a [Entry],
     ghost placed: { ArePlaced entries.now steps.now places.now },
+}
+
+impl<'a> Earlier<'a> {
+    /// No run before this one.
+    pub fn none() -> Earlier<'a>
+        ensures { result.steps.now ≡ [] }
+    {
+        Earlier {
+            steps: &[],
+            places: &[],
+            entries: &[],
+        }
+    }
 }
 
 /// No place for each step.

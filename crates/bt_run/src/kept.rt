@@ -51,9 +51,5 @@ pub fn earlier_under<'a>(kept: &'a Kept, text: &[u8]) -> Earlier<'a>
             entries: kept.entries.as_slice(),
         };
     }
-    Earlier {
-        steps: &[],
-        places: &[],
-        entries: &[],
-    }
+    Earlier::none()
 }

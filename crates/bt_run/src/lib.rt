@@ -3,6 +3,7 @@
 #![tactic(auto)]
 
 mod answers;
+mod bibliography;
 mod commands;
 mod counts;
 mod course;
@@ -13,8 +14,10 @@ mod earlier;
 mod index;
 mod job;
 mod kept;
+mod kept_steps;
 mod read_command;
 mod readings;
+mod recorder;
 mod reuse;
 mod reused_step;
 mod same_input;
@@ -29,5 +32,4 @@ pub use course::{CommandPlace, Course, Step};
 pub use database::{Database, database_of};
 pub use kept::Kept;
 pub use readings::Readings;
-pub use reuse::Reuse;
 pub use styles::ReadStyle;

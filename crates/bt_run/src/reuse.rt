@@ -3,7 +3,6 @@
 ghost use Rattle.std.specs.Prelude.{◌≡◌, None, []};
 
 use crate::index::Index;
-use crate::readings::Readings;
 use bt_machine::Meter;
 use bt_style::{Reach, Target};
 use bt_text::{Sequence, Shared};
@@ -35,20 +34,14 @@ pub struct Reuse {
     pub ran: u128,
     /// The place after that of the earlier step that was met last.
     pub next: usize,
-    /// The place in the list of each step's entry, if it has one.
-    pub places: Sequence<Option<usize>>,
-    /// Whether the earlier run's entry at a place is the one there, but for its variables.
-    pub same: Sequence<bool>,
     pub lookup: Lookup,
     /// What was worked out of the style so far, each once.
     pub known: Sequence<KnownReach>,
-    /// What was read, by earlier runs and this one.
-    pub readings: Readings,
 }
 
 impl Reuse {
     /// At the beginning of a run: no step was carried out, and nothing is known of the style.
-    pub fn begun(alloc: Global, readings: Readings) -> Reuse
+    pub fn begun(alloc: Global) -> Reuse
         ensures meter { result.meter ≡ 0 }
         ensures ran { result.ran ≡ 0 }
         ensures known { result.known ≡ [] }
@@ -58,14 +51,11 @@ impl Reuse {
             meter: Meter::new(),
             ran: 0,
             next: 0,
-            places: Sequence::new(alloc),
-            same: Sequence::new(alloc),
             lookup: Lookup {
                 scans: 0,
                 index: None,
             },
             known: Sequence::new(alloc),
-            readings,
         }
     }
 }

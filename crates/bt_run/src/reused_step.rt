@@ -256,8 +256,6 @@ fn carry_out_step(
         (reuse.new.meter ≡ reuse.old.meter + (step_in (program_of style.now) input.now).cost) }
     ensures known { OnOk result (reuse.new.known ≡ reuse.old.known) }
     ensures lookup { OnOk result (reuse.new.lookup ≡ reuse.old.lookup) }
-    ensures places { OnOk result (reuse.new.places ≡ reuse.old.places) }
-    ensures same { OnOk result (reuse.new.same ≡ reuse.old.same) }
 {
     let before = reuse.meter.value();
     let outcome = activate(alloc, style, input, &mut reuse.meter)?;
@@ -285,8 +283,6 @@ pub fn take_over_or_carry_out(
     ensures known { OnOk result (All (IsKnown (program_of style.now)) reuse.new.known) }
     ensures indexed { OnOk result (ForSome reuse.new.lookup.index (IsIndex earlier.now)) }
     ensures within { OnOk result (reuse.new.meter ≤ reuse.old.meter + 1000000) }
-    ensures places { OnOk result (reuse.new.places ≡ reuse.old.places) }
-    ensures same { OnOk result (reuse.new.same ≡ reuse.old.same) }
     ensures counted { IfOk result (λ d. IsCounted (program_of style.now) earlier.now
         (step_now command input.now d.outcome d.cost) reuse.old reuse.new) }
 {

@@ -1,7 +1,8 @@
 //! The beginning of a run, and a style that can't be carried out.
 
-ghost use Rattle.std.specs.Prelude.{◌≡◌, map, IfOk};
+ghost use Rattle.std.specs.Prelude.{◌≡◌, ◌++◌, ◌∷◌, [], map, IfOk};
 ghost use Rattle.bt_style.specs.Program.{program_of};
+ghost use Rattle.bt_actions.specs.World.{no_variables};
 ghost use Rattle.bt_run.specs.Meaning.{first_number, first_globals, run_begun, fault_told};
 
 use crate::course::Course;
@@ -50,7 +51,7 @@ pub fn begin(
     globals: Variables,
     log: Sequence<Message>,
 ) -> Result<Course, AllocError>
-    ensures { IfOk result (λ course. course ≡ run_begun globals log) }
+    ensures { IfOk result (λ course. course ≡ (run_begun globals log).course) }
 {
     Ok(Course {
         entries: Sequence::new(alloc),
@@ -58,15 +59,24 @@ pub fn begin(
         globals: Shared::new(alloc, globals)?,
         preamble: Shared::new(alloc, Bytes::new(alloc))?,
         held: Held::new(alloc),
-        lines: Sequence::new(alloc),
         log,
-        trace: Sequence::new(alloc),
         stopped: false,
     })
 }
 
+/// A run that does nothing but log.
+pub fn idle(alloc: Global, log: Sequence<Message>) -> Result<Course, AllocError>
+    ensures { IfOk result (λ course. course ≡ (run_begun no_variables log).course) }
+{
+    let globals = Variables {
+        numbers: Values::new(alloc),
+        texts: Values::new(alloc),
+    };
+    begin(alloc, globals, log)
+}
+
 /// The error of a style's fault.
-pub fn fault_told(alloc: Global, file: &[u8], fault: StyleFault) -> Result<Message, AllocError>
+fn fault_told(alloc: Global, file: &[u8], fault: StyleFault) -> Result<Message, AllocError>
     ensures { IfOk result (λ message. message ≡ fault_told file.now fault) }
 {
     let place = Place::Line {
@@ -81,4 +91,18 @@ pub fn fault_told(alloc: Global, file: &[u8], fault: StyleFault) -> Result<Messa
         place: Some(place),
         second: None,
     })
+}
+
+/// A log with a style's fault, which ends the run.
+pub fn with_fault(
+    alloc: Global,
+    file: &[u8],
+    fault: StyleFault,
+    log: Sequence<Message>,
+) -> Result<Sequence<Message>, AllocError>
+    ensures { IfOk result (λ told. told ≡ log ++ fault_told file.now fault ∷ []) }
+{
+    let mut told = log;
+    told.push(fault_told(alloc, file, fault)?)?;
+    Ok(told)
 }

@@ -1,6 +1,6 @@
 //! A step of a run: its input is cut out of the run, and its outcome put back.
 
-ghost use Rattle.std.specs.Prelude.{◌≡◌, ◌<◌, ◌++◌, Some, length, IfOk, OnOk};
+ghost use Rattle.std.specs.Prelude.{◌≡◌, ◌<◌, Some, length, IfOk, OnOk};
 ghost use Rattle.std.specs.Option.{option_map, ForSome};
 ghost use Rattle.bt_actions.specs.declared.entry.Entry.{Entry as EntrySeen};
 ghost use Rattle.bt_actions.specs.World.{entry_in};
@@ -11,6 +11,7 @@ ghost use Rattle.bt_run.specs.Course.{course_world, input_at, all_told};
 ghost use Rattle.bt_run.specs.inner.Course.{variables_back, put_back};
 
 use crate::course::{CommandPlace, Course};
+use crate::step_command::StepCommand;
 use bt_actions::{Entry, Variables};
 use bt_log::{Message, Place};
 use bt_machine::{Input, Outcome};
@@ -59,7 +60,7 @@ fn told(message: &Message, site: &CommandPlace) -> Result<Message, AllocError>
 }
 
 /// A step's messages as the log has them.
-pub fn all_told(
+fn all_told(
     alloc: Global,
     messages: &[Message],
     site: &CommandPlace,
@@ -114,30 +115,22 @@ fn put_held(alloc: Global, held: &mut Held, left: &Held) -> Result<(), AllocErro
     Ok(())
 }
 
-/// Puts lines after others, shared with those who have them.
-fn push_lines(lines: &mut Sequence<Shared<Bytes>>, more: &[Shared<Bytes>]) -> Result<(), AllocError>
-    ensures { OnOk result (lines.new ≡ lines.old ++ more.now) }
-{
-    'more: for line in more {
-        lines.push(line.share()?)?;
-    }
-    Ok(())
-}
-
-/// Puts what a step left back into the run.
+/// Puts what a step of a command left back into the run, and its messages into the log.
 pub fn put_back(
-    alloc: Global,
+    command: StepCommand<'_>,
     course: &mut Course,
     place: Option<usize>,
     outcome: &Outcome,
 ) -> Result<(), AllocError>
     requires { IsPlace place (course_world course.old) }
-    ensures { OnOk result (course.new ≡ put_back place outcome.now course.old) }
+    ensures { OnOk result (course.new ≡ put_back command.entry.site.now place outcome.now course.old) }
 {
+    let StepCommand { alloc, site, .. } = command;
     put_variables_back(alloc, &mut course.entries, place, &outcome.variables)?;
     course.globals = outcome.globals.share()?;
     put_held(alloc, &mut course.held, &outcome.held)?;
-    push_lines(&mut course.lines, outcome.lines.as_slice())?;
+    let messages = all_told(alloc, outcome.messages.as_slice(), site)?;
+    course.log.append(messages)?;
     course.stopped = outcome.stop;
     Ok(())
 }

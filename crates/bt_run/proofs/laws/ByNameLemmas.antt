@@ -1,5 +1,5 @@
 -- What texts mean, and the steps of their run, depend on the text of each name alone.
-use Rattle.std.proofs.Common.{◌≡◌, ◌∙◌, ap, refl, ℕ, suc, List, [], ◌∷◌, map, Option, Some, None, Result, Ok, Err}
+use Rattle.std.proofs.Common.{◌≡◌, ◌∙◌, ap, refl, ℕ, suc, List, [], ◌∷◌, ◌++◌, map, Option, Some, None, Result, Ok, Err}
 use Rattle.std.specs.Prelude.{unwrap_or}
 use Rattle.bt_style.specs.declared.fault.StyleFault.{StyleFault}
 use Rattle.bt_style.specs.declared.style.Command.{Command}
@@ -14,11 +14,13 @@ use Rattle.bt_job.specs.declared.files.File.{File}
 use Rattle.bt_job.specs.declared.citations.Citations.{Citations}
 use Rattle.bt_job.specs.FileNames.{text_of}
 use Rattle.bt_job.specs.Citations.{citations}
-use Rattle.bt_run.specs.declared.course.Course.{Course}
+use Rattle.bt_run.specs.declared.course.Step.{Step}
+use Rattle.bt_run.specs.Course.{Recorded}
 use Rattle.bt_run.specs.ReadCommand.{Job, declared_before, items_in, found_for, read_in}
 use Rattle.bt_run.specs.Commands.{unless_stopped, carried_out, commands_from, command}
 use Rattle.bt_run.specs.Counts.{with_counts}
-use Rattle.bt_run.specs.Meaning.{run_begun, first_globals, job_for, styled, run_with, run_of, course_shown, meaning, trace}
+use Rattle.bt_run.specs.Meaning.{run_begun, first_globals, job_for, styled, run_with, run_of, meaning, trace}
+use Rattle.bt_run.specs.inner.Steps.{run_shown}
 use Rattle.bt_run.specs.Kept.{named_text, style_text}
 use Rattle.bt_run.specs.laws.ByName.{HaveSameTexts}
 use Rattle.bt_run.proofs.laws.LookupLemmas.{cited_alike}
@@ -41,25 +43,25 @@ found_same files others same job number =
 
 -- Commands
 
-carried_same : (files others : List File) → HaveSameTexts files others → (job : Job) (number line : ℕ) (a : Action) (r : Course) →
-    carried_out (with_files files job) number line a r ≡ carried_out (with_files others job) number line a r
-carried_same files others same job number line Entry r = refl
-carried_same files others same job number line (Execute t) r = refl
-carried_same files others same job number line (Function n) r = refl
-carried_same files others same job number line Integers r = refl
-carried_same files others same job number line (Iterate t) r = refl
-carried_same files others same job number line (Macro n) r = refl
-carried_same files others same job number line Read r = ap (λ f. read_in job.program job.databases f r) (found_same files others same job number)
-carried_same files others same job number line (Reverse t) r = refl
-carried_same files others same job number line Sort r = refl
-carried_same files others same job number line Strings r = refl
+carried_same : {S : Type 0} (note : S → Step → S) (files others : List File) → HaveSameTexts files others → (job : Job) (number line : ℕ) (a : Action) (r : Recorded S) →
+    carried_out note (with_files files job) number line a r ≡ carried_out note (with_files others job) number line a r
+carried_same note files others same job number line Entry r = refl
+carried_same note files others same job number line (Execute t) r = refl
+carried_same note files others same job number line (Function n) r = refl
+carried_same note files others same job number line Integers r = refl
+carried_same note files others same job number line (Iterate t) r = refl
+carried_same note files others same job number line (Macro n) r = refl
+carried_same note files others same job number line Read r = ap (λ f. record r { course = read_in job.program job.databases f r.course }) (found_same files others same job number)
+carried_same note files others same job number line (Reverse t) r = refl
+carried_same note files others same job number line Sort r = refl
+carried_same note files others same job number line Strings r = refl
 
-commands_same : (files others : List File) → HaveSameTexts files others → (job : Job) (number : ℕ) (cs : List Command) (r : Course) →
-    commands_from (with_files files job) number cs r ≡ commands_from (with_files others job) number cs r
-commands_same files others same job number [] r = refl
-commands_same files others same job number (c ∷ cs) r =
-    ap (λ next. commands_from (with_files files job) (suc number) cs (unless_stopped r.stopped r next)) (carried_same files others same job number c.line c.action r)
-    ∙ commands_same files others same job (suc number) cs (command (with_files others job) number c r)
+commands_same : {S : Type 0} (note : S → Step → S) (files others : List File) → HaveSameTexts files others → (job : Job) (number : ℕ) (cs : List Command) (r : Recorded S) →
+    commands_from note (with_files files job) number cs r ≡ commands_from note (with_files others job) number cs r
+commands_same note files others same job number [] r = refl
+commands_same note files others same job number (c ∷ cs) r =
+    ap (λ next. commands_from note (with_files files job) (suc number) cs (unless_stopped r.course.stopped r next)) (carried_same note files others same job number c.line c.action r)
+    ∙ commands_same note files others same job (suc number) cs (command note (with_files others job) number c r)
 
 -- Runs
 
@@ -67,7 +69,7 @@ styled_same : (files others : List File) → HaveSameTexts files others → (c :
     styled files c min style read ≡ styled others c min style read
 styled_same files others same c min style (Err fault) = refl
 styled_same files others same c min style (Ok p) =
-    ap with_counts (commands_same files others same (job_for files c min style p) 0 p.commands (run_begun (first_globals p) c.log))
+    ap with_counts (commands_same (λ steps s. steps ++ s ∷ []) files others same (job_for files c min style p) 0 p.commands (run_begun (first_globals p) c.log))
 
 run_same : (files others : List File) → HaveSameTexts files others → (c : Citations) (min : ℕ) (style : Option (List ℕ)) →
     run_with files c min style ≡ run_with others c min style
@@ -85,12 +87,12 @@ whole_run_same files others same root min =
 pub meaning_same : (files others : List File) → HaveSameTexts files others → (root : List ℕ) (min : ℕ) → meaning files root min ≡ meaning others root min
 unfolding meaning
 meaning_same files others same root min =
-    ap (λ (r : Course). course_shown r (citations files root).wanted) (whole_run_same files others same root min)
-    ∙ ap (λ (c : Citations). course_shown (run_of others root min) c.wanted) (cited_alike files others root same)
+    ap (λ (r : Recorded (List Step)). run_shown r (citations files root).wanted) (whole_run_same files others same root min)
+    ∙ ap (λ (c : Citations). run_shown (run_of others root min) c.wanted) (cited_alike files others root same)
 
 pub trace_same : (files others : List File) → HaveSameTexts files others → (root : List ℕ) (min : ℕ) → trace files root min ≡ trace others root min
 unfolding trace
-trace_same files others same root min = ap (λ (r : Course). r.trace) (whole_run_same files others same root min)
+trace_same files others same root min = ap (λ (r : Recorded (List Step)). r.seen) (whole_run_same files others same root min)
 
 named_text_same : (files others : List File) → HaveSameTexts files others → (style : Option (List ℕ)) → named_text files style ≡ named_text others style
 named_text_same files others same None = refl

@@ -18,7 +18,7 @@ use Rattle.bt_log.specs.Message.{plain, at, skipping}
 use Rattle.bt_log.specs.Wording.{spelled}
 use Rattle.bt_run.specs.SortCommand.{put_among, sorted}
 use Rattle.bt_run.specs.ReadCommand.{is_definition, functions_before, all_read}
-use Rattle.bt_run.specs.Counts.{all_calls, counts_told}
+use Rattle.bt_run.specs.Counts.{calls_at, all_calls, counts_told}
 use Rattle.bt_run.specs.Meaning.{first_globals, fault_told}
 
 -- a message in words, with its rank
@@ -94,10 +94,10 @@ refused = refl
 
 -- The counts
 
-no_calls : in_words (take 2 (counts_told [])) ≡ message CallCount (codes "The built-in function-call counts, 0 in all, are:") ∷ message CallCount (codes "> -- 0") ∷ []
+no_calls : in_words (take 2 (counts_told (calls_at []))) ≡ message CallCount (codes "The built-in function-call counts, 0 in all, are:") ∷ message CallCount (codes "> -- 0") ∷ []
 unfolding counts_told all_calls table digits
 no_calls = refl
 
-all_lines : length (counts_told []) ≡ 38
+all_lines : length (counts_told (calls_at [])) ≡ 38
 unfolding counts_told table
 all_lines = refl

@@ -1,10 +1,19 @@
 -- What is put back into a run after a step.
-use Rattle.std.specs.Prelude.{ℕ, List, ◌++◌, slice_set, slice_index_or, Option, Some, None}
+use Rattle.std.specs.Prelude.{ℕ, ◌<◌, List, ◌++◌, All, length, slice_set, slice_index_or, Option, Some, None}
 use Rattle.bt_actions.specs.declared.entry.Variables.{Variables}
 use Rattle.bt_actions.specs.declared.entry.Entry.{Entry}
 use Rattle.bt_actions.specs.World.{no_entry}
 use Rattle.bt_machine.specs.declared.outcome.Outcome.{Outcome}
 use Rattle.bt_run.specs.declared.course.Course.{Course}
+use Rattle.bt_run.specs.declared.course.CommandPlace.{CommandPlace}
+use Rattle.bt_run.specs.Course.{Recorded, all_told}
+
+abbrev pub recorded : {S : Type 0} → Course → S → Recorded S
+recorded r seen = record { course = r; seen = seen }
+
+-- The order names entries alone.
+abbrev pub IsOrdered : Course → Type 0
+IsOrdered r = All (λ n. n < length r.entries) r.order
 
 -- What the code does with an outcome, which is no part of the meaning
 
@@ -16,14 +25,13 @@ abbrev pub variables_back : Option ℕ → Option Variables → List Entry → L
 variables_back None v entries = entries
 variables_back (Some n) v entries = slice_set entries n (with_variables v (slice_index_or entries n no_entry))
 
--- What an outcome leaves of a run: the entry's variables are replaced, and its lines go to the end. The log and the
--- trace are not touched.
-abbrev pub put_back : Option ℕ → Outcome → Course → Course
-put_back x o r =
+-- What an outcome leaves of a run: the entry's variables are replaced, and its messages go to the end of the log.
+abbrev pub put_back : CommandPlace → Option ℕ → Outcome → Course → Course
+put_back site x o r =
     record r {
       entries = variables_back x o.variables r.entries;
       globals = o.globals;
       held = o.held;
-      lines = r.lines ++ o.lines;
+      log = r.log ++ all_told site.line site.style o.messages;
       stopped = o.stop;
     }

@@ -1,14 +1,15 @@
 -- What a run over earlier steps knows and keeps to.
-use Rattle.std.specs.Prelude.{◌≡◌, ◌↔◌, ◌<◌, ◌≤◌, ◌+◌, ◌*◌, ℕ, List, [], ◌∷◌, Some, All, Contains, length, slice_get}
+use Rattle.std.specs.Prelude.{◌≡◌, ◌↔◌, ◌<◌, ◌≤◌, ◌+◌, ◌*◌, ℕ, List, [], ◌∷◌, Some, None, All, Contains, length, slice_get}
 use Rattle.std.specs.Option.{ForSome}
 use Rattle.bt_style.specs.declared.style.Target.{Target}
 use Rattle.bt_style.specs.Program.{Program}
+use Rattle.bt_actions.specs.declared.entry.Entry.{Entry}
 use Rattle.bt_machine.specs.declared.input.Input.{Input}
 use Rattle.bt_machine.specs.declared.outcome.Outcome.{Outcome}
 use Rattle.bt_style.specs.Reach.{Reaches, is_among}
 use Rattle.bt_machine.specs.AgreementLaws.{Agree}
 use Rattle.bt_run.specs.declared.course.Step.{Step}
-use Rattle.bt_run.specs.declared.course.Course.{Course}
+use Rattle.bt_run.specs.declared.kept_steps.KeptSteps.{KeptSteps}
 use Rattle.bt_run.specs.declared.earlier.Earlier.{Earlier}
 use Rattle.bt_run.specs.declared.reuse.KnownReach.{KnownReach}
 use Rattle.bt_run.specs.declared.reuse.Reuse.{Reuse}
@@ -63,22 +64,24 @@ pub record IsNext (p : Program) (earlier : List Step) (t : Step) (before after :
   pub within : after.meter ≤ before.meter + 1000000
   pub known : All (IsKnown p) after.known
   pub indexed : ForSome after.lookup.index (IsIndex earlier)
-  pub places : after.places ≡ before.places
-  pub same : after.same ≡ before.same
 
--- What a run over earlier steps keeps to: what was carried out is the work of its trace, and costs at most a million
--- ticks for each step of it; its steps are those of the style; what it worked out of the style is so; its index, if
--- there is one, is that of the earlier steps; its order names entries alone; and what it knows of entries without
--- comparing them is so.
-pub record IsConsistent (p : Program) (earlier : Earlier) (r : Course) (reuse : Reuse) : Type 0 where
-  pub ran : reuse.ran ≡ length (work_under p earlier.steps.now r.trace)
-  pub ticks : reuse.meter ≡ total_cost (work_under p earlier.steps.now r.trace)
-  pub fewer : reuse.ran ≤ length r.trace
-  pub bounded : reuse.meter ≤ 1000000 * length r.trace
-  pub steps : All (IsStep p) r.trace
-  pub known : All (IsKnown p) reuse.known
-  pub indexed : ForSome reuse.lookup.index (IsIndex earlier.steps.now)
-  pub ordered : All (λ n. n < length r.entries) r.order
-  pub counted : length reuse.places ≡ length r.trace
-  pub placed : ArePlaced r.entries r.trace reuse.places
-  pub same : AreSame earlier.entries.now r.entries reuse.same
+-- What the steps of a run over earlier ones keep to: what was carried out is the work of them, and costs at most a
+-- million ticks for each; they are steps of the style; what was worked out of the style is so; the index, if there is
+-- one, is that of the earlier steps; and what is known of entries without comparing them is so.
+pub record IsConsistent (p : Program) (earlier : Earlier) (entries : List Entry) (s : KeptSteps) : Type 0 where
+  pub ran : s.reuse.ran ≡ length (work_under p earlier.steps.now s.steps)
+  pub ticks : s.reuse.meter ≡ total_cost (work_under p earlier.steps.now s.steps)
+  pub fewer : s.reuse.ran ≤ length s.steps
+  pub bounded : s.reuse.meter ≤ 1000000 * length s.steps
+  pub steps : All (IsStep p) s.steps
+  pub known : All (IsKnown p) s.reuse.known
+  pub indexed : ForSome s.reuse.lookup.index (IsIndex earlier.steps.now)
+  pub counted : length s.places ≡ length s.steps
+  pub placed : ArePlaced entries s.steps s.places
+  pub same : AreSame earlier.entries.now entries s.same
+
+-- No step was taken, and nothing is known.
+abbrev pub IsBegun : KeptSteps → Type 0
+IsBegun s =
+    (s.steps ≡ []) × (s.places ≡ []) × (s.same ≡ []) × (s.reuse.ran ≡ 0) × (s.reuse.meter ≡ 0) × (s.reuse.known ≡ [])
+    × (s.reuse.lookup.index ≡ None)

@@ -1,4 +1,4 @@
-use Rattle.std.proofs.Common.{◌∙◌, ap, Some}
+use Rattle.std.proofs.Common.{◌∙◌, ap}
 use Rattle.bt_style.specs.Program.{program_of}
 use Rattle.bt_run.specs.inner.Steps.{steps_under}
 use Rattle.bt_run.proofs.AnswerLemmas.{lent_style, earlier_steps, nothing_taken, run_taken}
@@ -24,13 +24,9 @@ returns-in-Ok-clause-taken c =
     let style = c.deref-in-Ok.result.now in
     let read = lent_style c.in_ok-text.text c.in-Ok.style style c.in-Ok.ensures c.deref-in-Ok.ensures in
     let is = c.as_slice-bytes.ensures ∙ c.deref.ensures in
-    rw (c.new-in-Ok.ensures.text, c.new-in-Ok.ensures.course)
-    (run_taken (program_of style) k.text k.steps c.in_ok-text.text c.earlier_under-earlier.result c.in_ok-course-in-Ok.course c.carry_out_style.new.reuse
+    rw c.new-in-Ok.ensures.text
+    (run_taken (program_of style) k.text k.steps c.in_ok-text.text c.earlier_under-earlier.result c.in_ok-course-in-Ok.course.entries c.carry_out_style.new.steps
     read (c.earlier_under-earlier.ensures ∙ ap (steps_under k.text k.steps) is) c.in_ok-course-in-Ok.ensures.consistent)
 
 pub returns-in-Err-Fault-clause-taken : goal.returns-in-Err-Fault-clause-taken
-returns-in-Err-Fault-clause-taken c =
-    let k = c.args.kept.now in
-    let refused = c.in_ok-course-in-Err-Fault in
-    rw (c.new-in-Err-Fault.ensures.text, c.new-in-Err-Fault.ensures.course)
-    (nothing_taken k.text k.steps (Some c.in_ok-text.text) _ _ refused.course (record c.args.reuse.now { readings = c.style.new.self }) refused.ensures c.requires.meter c.requires.ran)
+returns-in-Err-Fault-clause-taken c = nothing_taken c.args.kept.now.text c.args.kept.now.steps c.new-in-Err-Fault.result.text c.args.steps.now c.requires.begun

@@ -1,6 +1,9 @@
-use Rattle.bt_style.specs.Program.{program_of}
-use Rattle.bt_run.proofs.CommandLemmas.{sorted_consistent}
+use Rattle.bt_run.specs.inner.JobView.{job_of}
+use Rattle.bt_run.proofs.CommandLemmas.{read_ordered, sorted_ordered}
 use Rattle.bt_run.proofs.commands.carry_out.Goals as goal
 
-pub returns-in_ok-sort-in-Sort-clause-consistent : goal.returns-in_ok-sort-in-Sort-clause-consistent
-returns-in_ok-sort-in-Sort-clause-consistent c = sorted_consistent (program_of c.args.job.style.now) c.args.job.earlier c.args.course.now c.sort.new.course c.args.reuse.now c.in_ok-sort-in-Sort.ensures c.requires
+pub returns-in_ok-read-in-Read-clause-ordered : goal.returns-in_ok-read-in-Read-clause-ordered
+returns-in_ok-read-in-Read-clause-ordered g c = read_ordered (job_of c.args.job) c.args.number c.args.course.now c.read.new.course c.in_ok-read-in-Read.ensures.run
+
+pub returns-in_ok-sort-in-Sort-clause-ordered : goal.returns-in_ok-sort-in-Sort-clause-ordered
+returns-in_ok-sort-in-Sort-clause-ordered g c = sorted_ordered c.args.course.now c.sort.new.course c.in_ok-sort-in-Sort.ensures

@@ -3,15 +3,15 @@ use Rattle.bt_style.specs.Program.{program_of}
 use Rattle.bt_actions.specs.declared.entry.Entry.{Entry}
 use Rattle.bt_run.specs.declared.course.Step.{Step}
 use Rattle.bt_run.specs.inner.Earlier.{AreSame}
-use Rattle.bt_run.specs.inner.JobView.{job_of}
 use Rattle.bt_run.proofs.CommandLemmas.{read_consistent}
-use Rattle.bt_run.proofs.commands.read_beside.Goals as goal
+use Rattle.bt_run.proofs.kept_steps.KeptStepsRecorder.read.Goals as goal
 
-pub returns-clause-consistent : goal.returns-clause-consistent
-returns-clause-consistent c =
+pub returns-clause-ready : goal.returns-clause-ready
+returns-clause-ready c =
     let job = c.args.job in
+    let s = c.args.self.now in
     let same = c.in_ok-same.same in
     let are_none = c.in_ok-places.ensures ∙ ap (map (λ (s : Step). None)) c.as_slice.ensures in
     let are_same = subst (λ (es : List Entry). AreSame job.earlier.entries.now es same) c.as_slice-2.ensures c.in_ok-same.ensures in
-    read_consistent (program_of job.style.now) job.earlier (job_of job) c.args.number c.args.course.now c.read.new.course c.args.reuse.now
-    (record c.args.reuse.now.readings { databases = c.read.new.databases }) c.in_ok-places.places same c.in_ok-read.ensures are_none are_same c.requires
+    read_consistent (program_of job.style.now) job.earlier c.args.course.now.entries c.read.new.course.entries s
+    (record s.readings { databases = c.read.new.databases }) c.in_ok-places.places same are_none are_same c.requires

@@ -1,0 +1,6 @@
+use Rattle.std.proofs.Common.{◌≡◌, ◌++◌, drop}
+use Rattle.bt_run.specs.Meaning.{bbl_of}
+use Rattle.bt_run.proofs.bibliography.bbl_of.Given as goal
+
+abbrev pub invariant-steps : goal.invariant-steps
+invariant-steps l = l.bbl ++ bbl_of (drop l.step-index l.steps) ≡ bbl_of l.steps

@@ -1,0 +1,37 @@
+//! The bibliography, which steps write line by line.
+
+ghost use Rattle.std.specs.Prelude.{◌≡◌, ◌++◌, [], ◌∷◌, IfOk, OnOk};
+ghost use Rattle.bt_log.specs.Log.{lines_bytes};
+ghost use Rattle.bt_run.specs.Meaning.{bbl_of};
+
+use crate::course::Step;
+use bt_text::{Bytes, Shared};
+use std::alloc::{AllocError, Global};
+
+fn write_line(text: &mut Bytes, line: &[u8]) -> Result<(), AllocError>
+    ensures { OnOk result (text.new ≡ text.old ++ line.now ++ 10 ∷ []) }
+{
+    text.append(line)?;
+    text.append(b"\n")
+}
+
+/// Puts lines after a text, each with a line feed.
+pub fn write_lines(text: &mut Bytes, lines: &[Shared<Bytes>]) -> Result<(), AllocError>
+    ensures { OnOk result (text.new ≡ text.old ++ lines_bytes lines.now) }
+{
+    'lines: for line in lines {
+        write_line(text, line.as_slice())?;
+    }
+    Ok(())
+}
+
+/// What steps have written.
+pub fn bbl_of(alloc: Global, steps: &[Shared<Step>]) -> Result<Bytes, AllocError>
+    ensures { IfOk result (λ bbl. bbl ≡ bbl_of steps.now) }
+{
+    let mut bbl = Bytes::new(alloc);
+    'steps: for step in steps {
+        write_lines(&mut bbl, step.outcome.lines.as_slice())?;
+    }
+    Ok(bbl)
+}

@@ -1,0 +1,229 @@
+//! The recorder of a session: it keeps each step, and reuses steps of the run before.
+
+ghost use Rattle.std.specs.Prelude.{◌≡◌, ◌<◌, true, Some, Contains, IfOk, IfSome, IsSome, IsTrue, OnOk, length, slice_get};
+ghost use Rattle.bt_style.specs.Program.{program_of};
+ghost use Rattle.bt_machine.specs.OwnEntry.{IsPlace};
+ghost use Rattle.bt_run.specs.Course.{course_world, input_at};
+ghost use Rattle.bt_run.specs.inner.Earlier.{AreSame, IsMarked};
+ghost use Rattle.bt_run.specs.inner.Work.{IsBegun, IsConsistent, IsNext};
+
+use crate::course::{Course, Step};
+use crate::earlier::{no_places, same_entries};
+use crate::job::Job;
+use crate::read_command::read;
+use crate::readings::Readings;
+use crate::recorder::Recorder;
+use crate::reuse::Reuse;
+use crate::reused_step::{Done, take_over_or_carry_out};
+use crate::same_input::is_input;
+use crate::step::{cut_out, key_of, put_back};
+use crate::step_command::StepCommand;
+use bt_machine::{Input, step_depends_on_its_input};
+use bt_style::Target;
+use bt_text::{Sequence, Shared};
+use std::alloc::{AllocError, Global};
+
+/// The steps of a run so far, and what the run keeps to reuse steps of an earlier one.
+#[derive(Drop)]
+pub struct KeptSteps {
+    /// Those that were taken over whole are shared with the run before.
+    pub steps: Sequence<Shared<Step>>,
+    /// The place in the list of each step's entry, if it has one.
+    pub places: Sequence<Option<usize>>,
+    /// Whether the earlier run's entry at a place is the one there, but for its variables.
+    pub same: Sequence<bool>,
+    pub reuse: Reuse,
+    /// What was read, by earlier runs and this one.
+    pub readings: Readings,
+}
+
+fn place_of(places: &[Option<usize>], step: usize) -> Option<usize>
+    ensures { IfSome result (λ n. slice_get places.now step ≡ Some (Some n)) }
+{
+    match places.get(step) {
+        None => None,
+        Some(place) => *place,
+    }
+}
+
+fn is_marked(marks: &[bool], place: usize) -> bool
+    ensures { IsTrue result → slice_get marks.now place ≡ Some true }
+{
+    match marks.get(place) {
+        None => false,
+        Some(mark) => *mark,
+    }
+}
+
+/// Whether the entry at a place is known to be that of an earlier step, but for its variables.
+fn is_same_entry(places: &[Option<usize>], step: usize, place: Option<usize>, same: &[bool]) -> bool
+    ensures { IsTrue result → IsMarked places.now same.now step place }
+{
+    match (place, place_of(places, step)) {
+        (Some(place), Some(own)) => own == place && is_marked(same, place),
+        _ => false,
+    }
+}
+
+impl KeptSteps {
+    /// No step, over what earlier runs have read.
+    pub fn begun(alloc: Global, readings: Readings) -> KeptSteps
+        ensures { IsBegun result }
+    {
+        KeptSteps {
+            steps: Sequence::new(alloc),
+            places: Sequence::new(alloc),
+            same: Sequence::new(alloc),
+            reuse: Reuse::begun(alloc),
+            readings,
+        }
+    }
+
+    /// The earlier step to try next, if it is one of this command and was given what a step for the entry at this
+    /// place, or for none, is given now.
+    fn given_again<'a>(
+        &self,
+        command: StepCommand<'a>,
+        target: Target,
+        place: Option<usize>,
+        course: &Course,
+    ) -> Option<&'a Shared<Step>>
+        requires placed { IsPlace place (course_world course.now) }
+        requires same { AreSame command.job.earlier.entries.now course.now.entries self.now.same }
+        ensures within { IsSome result → self.now.reuse.next < length command.entry.job.earlier.steps.now }
+        ensures among { IfSome result (λ s. Contains command.entry.job.earlier.steps.now s.now) }
+        ensures command { IfSome result (λ s. s.now.command ≡ command.entry.site.now.command) }
+        ensures input { IfSome result (λ s. s.now.input ≡ input_at target place (course_world course.now)) }
+    {
+        let earlier = command.job.earlier;
+        let next = self.reuse.next;
+        if next < earlier.steps.len() {
+            let step = &earlier.steps[next];
+            let same = is_same_entry(earlier.places, next, place, self.same.as_slice());
+            if step.command == command.site.command
+                && is_input(&step.input, course, target, place, same)
+            {
+                return Some(step);
+            }
+        }
+        None
+    }
+
+    /// The step of an input, taken over or carried out.
+    fn make_step(
+        &mut self,
+        command: StepCommand<'_>,
+        input: Input,
+        course: &Course,
+    ) -> Result<Shared<Step>, AllocError>
+        requires { IsConsistent (program_of command.job.style.now) command.job.earlier course.now.entries self.old }
+        ensures command { IfOk result (λ s. s.command ≡ command.entry.site.now.command) }
+        ensures input { IfOk result (λ s. s.input ≡ input) }
+        ensures next { IfOk result (λ s. IsNext (program_of command.entry.job.style.now)
+            command.entry.job.earlier.steps.now s self.old.reuse self.new.reuse) }
+        ensures rest { OnOk result (self.new ≡ record self.old { reuse = self.new.reuse }) }
+    {
+        let StepCommand { alloc, job, site } = command;
+        // Read for the proof alone: its length fits 64 bits, so that the count of the steps that were carried out can't
+        // overflow.
+        let _steps = self.steps.len();
+        let key = key_of(&input)?;
+        let Done { outcome, cost } = take_over_or_carry_out(
+            alloc,
+            job.style,
+            site.command,
+            &input,
+            job.earlier.steps,
+            &mut self.reuse,
+        )?;
+        let step = Shared::new(
+            alloc,
+            Step {
+                command: site.command,
+                key,
+                input,
+                outcome,
+                cost,
+            },
+        )?;
+        Ok(step)
+    }
+
+    /// The step that a run comes to. Where the earlier step to try next was given the same, it is shared whole.
+    fn next_step(
+        &mut self,
+        command: StepCommand<'_>,
+        target: Target,
+        place: Option<usize>,
+        course: &Course,
+    ) -> Result<Shared<Step>, AllocError>
+        requires placed { IsPlace place (course_world course.now) }
+        requires consistent { IsConsistent (program_of command.job.style.now) command.job.earlier course.now.entries self.old }
+        ensures command { IfOk result (λ s. s.command ≡ command.entry.site.now.command) }
+        ensures input { IfOk result (λ s. s.input ≡ input_at target place (course_world course.now)) }
+        ensures next { IfOk result (λ s. IsNext (program_of command.entry.job.style.now)
+            command.entry.job.earlier.steps.now s self.old.reuse self.new.reuse) }
+        ensures rest { OnOk result (self.new ≡ record self.old { reuse = self.new.reuse }) }
+    {
+        match self.given_again(command, target, place, course) {
+            Some(step) => {
+                self.reuse.next += 1;
+                let same = step.share()?;
+                Ok(same)
+            }
+            None => {
+                let input = cut_out(command.alloc, course, target, place)?;
+                let made = self.make_step(command, input, course)?;
+                Ok(made)
+            }
+        }
+    }
+}
+
+impl Recorder for KeptSteps {
+    ghost use Rattle.std.specs.Prelude.{◌++◌, [], ◌∷◌, List};
+    ghost use Rattle.bt_style.specs.Program.{program_of};
+    ghost use Rattle.bt_run.specs.declared.course.Step.{Step};
+    ghost use Rattle.bt_run.specs.inner.Work.{IsConsistent};
+
+    ghost Seen = { List Step };
+
+    ghost seen = { λ s. s.steps };
+
+    ghost note = { λ steps step. steps ++ step ∷ [] };
+
+    ghost ready = { λ s job entries. IsConsistent (program_of job.style.now) job.earlier entries s };
+
+    /// Finds, too, which entries the earlier run has at the same place. (What ran before has no entry.)
+    fn read(
+        &mut self,
+        alloc: Global,
+        job: Job<'_>,
+        number: usize,
+        course: &mut Course,
+    ) -> Result<(), AllocError> {
+        read(alloc, job, number, course, &mut self.readings.databases)?;
+        let places = no_places(alloc, self.steps.as_slice())?;
+        let same = same_entries(alloc, job.earlier.entries, course.entries.as_slice())?;
+        self.places = places;
+        self.same = same;
+        Ok(())
+    }
+
+    /// The step's cost is added to the meter where it is carried out, and not where it is taken over.
+    fn take_step(
+        &mut self,
+        command: StepCommand<'_>,
+        target: Target,
+        place: Option<usize>,
+        course: &mut Course,
+    ) -> Result<(), AllocError> {
+        // A law of the machine, for the proof alone: the call does nothing.
+        step_depends_on_its_input();
+        let step = self.next_step(command, target, place, course)?;
+        put_back(command, course, place, &step.outcome)?;
+        self.steps.push(step)?;
+        self.places.push(place)?;
+        Ok(())
+    }
+}
