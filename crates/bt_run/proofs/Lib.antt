@@ -1,4 +1,6 @@
 pub mod CourseLemmas
+pub mod OverLemmas
+pub mod WrittenLemmas
 pub mod OrderLemmas
 pub mod SortingLemmas
 pub mod CommandLemmas

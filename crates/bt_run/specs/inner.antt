@@ -6,3 +6,4 @@ pub mod Work
 pub mod BodySet
 pub mod JobView
 pub mod Steps
+pub mod Written
