@@ -12,8 +12,8 @@ use bt_text::{Bytes, Sequence, Shared};
 use std::alloc::{AllocError, Global};
 use std::marker::Model;
 
-/// A present state that isn't run yet: the texts by name, the root name and min-crossrefs. `Session::of` runs it, once
-/// for all its edits.
+/// A present state that isn't run yet: the texts by name, the root name and min-crossrefs. `Session::of` or
+/// `Snapshot::of` runs it, once for all its edits.
 #[derive(Drop)]
 pub struct Draft {
     pub(crate) alloc: Global,

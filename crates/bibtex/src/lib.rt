@@ -10,6 +10,7 @@ mod files;
 mod refusal;
 mod reread;
 mod session;
+mod snapshot;
 mod state;
 
 pub use bt_log::{FileKind, FileNote, Message, Place, Rank, Said};
@@ -20,3 +21,4 @@ pub use edit::{Edit, Refusal};
 pub use edits::edit_all;
 pub use refusal::{FILE_BYTES, FILE_LIMIT, code_of, is_root_name};
 pub use session::Session;
+pub use snapshot::Snapshot;

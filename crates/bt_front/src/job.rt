@@ -14,7 +14,7 @@ use bt_bib::{AuxItem, Command, read_aux};
 use bt_files::{Names, all_put_back, is_own_name, written};
 use bt_job::{File, file_name_of};
 use bt_log::{log_bytes, terse_bytes};
-use bt_run::{Answers, Kept, Readings, Run, answers_after};
+use bt_run::{Answers, OneRun, run_once};
 use bt_text::{Bytes, Sequence, Shared};
 use std::alloc::{AllocError, Global};
 
@@ -216,29 +216,19 @@ fn told_under(alloc: Global, names: &Names, shown: Answers) -> Result<Answers, A
 }
 
 /// What a job's files mean, of any size and number and under any names. `root` is the name of the job's first `.aux` file
-/// without its ending. The only error is out of memory. What the run kept, and what it read of the texts, is under the
-/// session's names; a program that ends with the job may forget it.
+/// without its ending. The only error is out of memory. The run's databases are read of the texts under the session's names.
+/// A program that ends with the job may forget them.
 #[tactic(auto, unfolding(crate::specs::Job::job_meaning))]
-pub fn run(alloc: Global, files: &[File], root: &[u8], min: u32) -> Result<Run, AllocError>
+pub fn run(alloc: Global, files: &[File], root: &[u8], min: u32) -> Result<OneRun, AllocError>
     ensures { IfOk result (λ run. meaning_of run.answers ≡ job_meaning files.now root.now min) }
 {
     let names = table_of(alloc, files, root)?;
     let under = files_under(alloc, &names, files)?;
     let root = root_under(alloc, root)?;
-    let (kept, readings) = (Kept::nothing(alloc), Readings::nothing(alloc));
-    let run = answers_after(
-        alloc,
-        under.as_slice(),
-        root.as_slice(),
-        min,
-        &kept,
-        readings,
-    )?;
+    let run = run_once(alloc, under.as_slice(), root.as_slice(), min)?;
     let told = told_under(alloc, &names, run.answers)?;
-    Ok(Run {
+    Ok(OneRun {
         answers: told,
-        kept: run.kept,
-        readings: run.readings,
-        report: run.report,
+        databases: run.databases,
     })
 }

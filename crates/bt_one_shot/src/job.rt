@@ -9,7 +9,7 @@ ghost use Rattle.bt_one_shot.specs.inner.Progress.{EndsAfter};
 use crate::folder::Folder;
 use crate::job_files::{load, tell};
 use crate::options::Options;
-use bibtex::Session;
+use bibtex::Snapshot;
 use bt_streams::{Sink, say};
 use bt_text::Bytes;
 use std::alloc::{AllocError, Global};
@@ -25,13 +25,13 @@ fn exit_status(status: u8) -> u8
     if status <= 1 { 0 } else { status }
 }
 
-fn printed_log(session: &Session, terse: bool) -> &[u8]
-    ensures { result.now ≡ printed_log terse session.now }
+fn printed_log(snapshot: &Snapshot, terse: bool) -> &[u8]
+    ensures { result.now ≡ printed_log terse snapshot.now }
 {
     if terse {
-        session.terse()
+        snapshot.terse()
     } else {
-        session.blg()
+        snapshot.blg()
     }
 }
 
@@ -44,10 +44,10 @@ fn print_log<O: Sink>(out: &mut O, log: &[u8])
     let _ = say(out, &[log]);
 }
 
-/// What a run writes: the two files of its session by their names, and the log that is printed.
+/// What a run writes: the two files of its state by their names, and the log that is printed.
 #[derive(Drop)]
 struct Outputs<'a> {
-    session: &'a Session,
+    snapshot: &'a Snapshot,
     bbl: &'a [u8],
     blg: &'a [u8],
     log: &'a [u8],
@@ -61,30 +61,30 @@ fn write_out<F: Folder, O: Sink, E: Sink>(
     err: &mut E,
     failures_before: u64,
 ) -> u8
-    requires bbl { outputs.now.bbl.now ≡ outputs.now.session.now.root ++ codes ".bbl" }
-    requires blg { outputs.now.blg.now ≡ outputs.now.session.now.root ++ codes ".blg" }
+    requires bbl { outputs.now.bbl.now ≡ outputs.now.snapshot.now.root ++ codes ".bbl" }
+    requires blg { outputs.now.blg.now ≡ outputs.now.snapshot.now.root ++ codes ".blg" }
     requires folder { (F.seen folder.old).failures < 2 ^ 64 - 1 }
     requires out { (O.seen out.old).failures < 2 ^ 64 - 1 }
     requires err { failures_before < 2 ^ 64 - 1 }
-    ensures { EndsAfter failures_before outputs.now.session.now outputs.now.log.now (F.seen folder.old)
+    ensures { EndsAfter failures_before outputs.now.snapshot.now outputs.now.log.now (F.seen folder.old)
         (F.seen folder.new) (O.seen out.old) (O.seen out.new) (E.seen err.old) (E.seen err.new) result }
 {
     let Outputs {
-        session,
+        snapshot,
         bbl,
         blg,
         log,
     } = *outputs;
-    if !folder.write(bbl, session.bbl()) {
+    if !folder.write(bbl, snapshot.bbl()) {
         tell(err, failures_before, &[b"bibtex: can't write ", bbl, b"\n"]);
         return UNWRITTEN;
     }
-    if !folder.write(blg, session.blg()) {
+    if !folder.write(blg, snapshot.blg()) {
         tell(err, failures_before, &[b"bibtex: can't write ", blg, b"\n"]);
         return UNWRITTEN;
     }
     print_log(out, log);
-    exit_status(session.status())
+    exit_status(snapshot.status())
 }
 
 /// Runs a job once: looks up each file that it wants, once each and in the order in which its run looks for them, then
@@ -117,15 +117,15 @@ pub fn one_shot<F: Folder, O: Sink, E: Sink>(
     let bbl = Bytes::of(alloc, &[root, b".bbl"])?;
     let blg = Bytes::of(alloc, &[root, b".blg"])?;
     let failures_before = err.failures();
-    let session = load(alloc, root, options.min, folder, err, failures_before)?;
+    let snapshot = load(alloc, root, options.min, folder, err, failures_before)?;
     let outputs = Outputs {
-        session: &session,
+        snapshot: &snapshot,
         bbl: bbl.as_slice(),
         blg: blg.as_slice(),
-        log: printed_log(&session, options.terse),
+        log: printed_log(&snapshot, options.terse),
     };
     let status = write_out(&outputs, folder, out, err, failures_before);
-    // A program that has run its job ends: what the session kept goes with it, at once.
-    forget(session);
+    // A program that has run its job ends: its texts go with it, at once.
+    forget(snapshot);
     Ok(status)
 }

@@ -9,7 +9,7 @@ ghost use Rattle.bt_one_shot.specs.inner.Progress.{TakesIn, LooksUpName, Goes, L
 
 use crate::folder::{Folder, Found};
 use crate::met_names::NamesMet;
-use bibtex::{Draft, Edit, Refusal, Session, code_of};
+use bibtex::{Draft, Edit, Refusal, Snapshot, code_of};
 use bt_streams::{Sink, say};
 use bt_text::Bytes;
 use itoa::Buffer;
@@ -128,7 +128,7 @@ fn load_all<F: Folder, E: Sink>(
     Ok(())
 }
 
-/// The session of a job with the files that it wants, looked up once each and in the order in which its run looks for
+/// What a job means with the files that it wants, looked up once each and in the order in which its run looks for
 /// them. A file that is refused is reported on `err`, and counts as missing. The one error is out of memory.
 pub fn load<F: Folder, E: Sink>(
     alloc: Global,
@@ -137,10 +137,10 @@ pub fn load<F: Folder, E: Sink>(
     folder: &mut F,
     err: &mut E,
     failures_before: u64,
-) -> Result<Session, AllocError>
+) -> Result<Snapshot, AllocError>
     requires root { is_root_name root.now ≡ true }
     requires failures { failures_before < 2 ^ 64 - 1 }
-    ensures ok { IfOk result (λ session. LoadsAll failures_before root.now min session (F.seen folder.old)
+    ensures ok { IfOk result (λ snapshot. LoadsAll failures_before root.now min snapshot (F.seen folder.old)
         (F.seen folder.new)
         (E.seen err.old) (E.seen err.new)) }
     ensures err { OnErr result (LoadsSome failures_before root.now min (F.seen folder.old) (F.seen folder.new)
@@ -151,6 +151,6 @@ pub fn load<F: Folder, E: Sink>(
     };
     let mut met = NamesMet::new(alloc);
     load_all(alloc, &mut draft, &mut met, folder, err, failures_before)?;
-    let session = Session::of(draft)?;
-    Ok(session)
+    let snapshot = Snapshot::of(draft)?;
+    Ok(snapshot)
 }

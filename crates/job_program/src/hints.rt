@@ -7,7 +7,7 @@ mod source_lines;
 use crate::report::complain;
 use bt_job::File;
 use bt_log::{Message, Said};
-use bt_run::Run;
+use bt_run::OneRun;
 use std::alloc::{AllocError, Global};
 use std::fs;
 
@@ -40,7 +40,7 @@ impl Hints<'_> {
 pub struct Job<'a> {
     pub name: &'a str,
     pub files: &'a [File],
-    pub run: &'a Run,
+    pub run: &'a OneRun,
 }
 
 impl<'a> Job<'a> {

@@ -21,7 +21,7 @@ use crate::search::Search;
 use crate::version::VERSION;
 use bt_job::File;
 use bt_log::{Message, log_bytes};
-use bt_run::{Answers, Run};
+use bt_run::{Answers, OneRun};
 use bt_text::Bytes;
 use std::alloc::{AllocError, Global};
 use std::io::ErrorKind;
@@ -160,7 +160,7 @@ fn finish(
 }
 
 /// Prints hints, as far as memory suffices: the files are written by then.
-fn hint(rt: &HostRuntime, options: &Options<'_>, files: &[File], run: &Run, status: u8) {
+fn hint(rt: &HostRuntime, options: &Options<'_>, files: &[File], run: &OneRun, status: u8) {
     if options.quiet || status == NOT_WRITTEN {
         return;
     }

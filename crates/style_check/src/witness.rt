@@ -6,7 +6,7 @@ use bt_check::{Fault, FaultKind};
 use bt_front::run;
 use bt_job::File;
 use bt_log::{Message, Rank, Said};
-use bt_run::Run;
+use bt_run::OneRun;
 use bt_style::{Builtin, Style};
 use bt_text::{Bytes, Shared};
 use std::alloc::{AllocError, Global};
@@ -250,7 +250,7 @@ impl<'a> Hunt<'a> {
         Ok(files)
     }
 
-    fn run(&self) -> Result<Run, AllocError> {
+    fn run(&self) -> Result<OneRun, AllocError> {
         let files = self.files()?;
         run(self.alloc, files.as_slice(), b"j", 2)
     }

@@ -274,7 +274,7 @@ pub fn hint(alloc: Global, hints: &mut Hints<'_>, job: Job<'_>) -> Result<(), Al
     if hints.is_full() {
         return Ok(());
     }
-    let databases = job.run.readings.databases.as_slice();
+    let databases = job.run.databases.as_slice();
     let keys = cited(alloc, job.files)?;
     let entries = entries_of(alloc, &keys, databases)?;
     hint_at_all_names(alloc, hints, entries.as_slice())?;
