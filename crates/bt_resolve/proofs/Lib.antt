@@ -7,5 +7,11 @@ pub mod InheritingLemmas
 pub mod PlacingLemmas
 pub mod SparseValueLemmas
 pub mod ValueLemmas
+pub mod SkeletonLemmas
+pub mod SpanLemmas
+pub mod HeirLemmas
+pub mod MovedItemLemmas
+pub mod EditedLemmas
+pub mod PartLemmas
 pub mod laws
 mod rows

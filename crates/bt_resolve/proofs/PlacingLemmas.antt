@@ -80,7 +80,7 @@ for_each-append {A} f before (item ∷ rest) those =
     ∙ sym (append_assoc (f before item) (for_each f (item ∷ before) rest) (for_each f (reverse rest ++ item ∷ before) those))
     ∙ ap (λ (behind : List PlacedItem). (f before item ++ for_each f (item ∷ before) rest) ++ for_each f behind those) (sym (behind_next item rest before))
 
-behind_both : (these those before : List PlacedItem) → reverse those ++ (reverse these ++ before) ≡ reverse (these ++ those) ++ before
+pub behind_both : (these those before : List PlacedItem) → reverse those ++ (reverse these ++ before) ≡ reverse (these ++ those) ++ before
 behind_both these those before = sym (append_assoc (reverse those) (reverse these) before) ∙ ap (λ (is : List PlacedItem). is ++ before) (sym (reverse-append these those))
 
 pub databases_add : (a : Asked) (ms : List Macro) (number : ℕ) (before : List PlacedItem) (r : State) (databases : List (List PlacedItem)) → StandsBehind a ms before r →

@@ -10,3 +10,4 @@ pub mod Family
 pub mod Databases
 pub mod Cases
 pub mod Readers
+pub mod Skeletons

@@ -26,7 +26,7 @@ use bt_text::{ByName, Bytes, Sequence, Shared, to_ascii_lowercase};
 use std::alloc::{AllocError, Global};
 
 /// The type of an entry, as written.
-fn kind_of(entry: &Entry) -> &[u8]
+pub fn kind_of(entry: &Entry) -> &[u8]
     ensures { result.now ≡ kind_of entry.now }
 {
     match &entry.kind {

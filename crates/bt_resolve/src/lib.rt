@@ -22,6 +22,7 @@ mod reading;
 mod references;
 mod resolution;
 mod seen_values;
+mod skeleton;
 mod store;
 mod stored;
 mod values;

@@ -1,0 +1,83 @@
+-- What an edit of values makes of what a style sees of the databases.
+use Rattle.std.specs.Prelude.{◌≡◌, ℕ, ◌+◌, false, List, ◌∷◌, ◌++◌, length, map, reverse, Some, slice_get}
+use Rattle.bt_bib.specs.declared.spot.Spot.{Spot}
+use Rattle.bt_bib.specs.Items.{PlacedItem}
+use Rattle.bt_log.specs.declared.message.Message.{Message}
+use Rattle.bt_resolve.specs.declared.asked.Asked.{Asked}
+use Rattle.bt_resolve.specs.declared.declared.Macro.{Macro}
+use Rattle.bt_resolve.specs.declared.stored.Stored.{Stored}
+use Rattle.bt_resolve.specs.Messages.{for_each}
+use Rattle.bt_resolve.specs.Listed.{listed}
+use Rattle.bt_resolve.specs.Inherited.{entries_seen}
+use Rattle.bt_resolve.specs.Resolved.{all_items, stored_entries, preamble, messages}
+use Rattle.bt_resolve.specs.inner.Cases.{messages_at}
+use Rattle.bt_resolve.specs.Skeletons.{AreAlike, AreInPlace, added_at, placed_from, moved_message, is_heir, is_within, shown}
+
+-- An edit of a database: which databases and which items stand before, what was read again, as it was and as it is, the
+-- items behind, by where they stood and where they stand, and the databases behind.
+pub record Edit : Type 0 where
+  pub databases : List (List PlacedItem)
+  pub before : List PlacedItem
+  pub old : List PlacedItem
+  pub new : List PlacedItem
+  pub behind : List PlacedItem
+  pub stood : Spot
+  pub stand : Spot
+  pub others : List (List PlacedItem)
+
+-- all databases with these items in their place, and those behind moved so far
+abbrev pub databases_with : Edit → List PlacedItem → Spot → List (List PlacedItem)
+databases_with e items m =
+    e.databases ++ (e.before ++ items ++ map (placed_from m) e.behind) ∷ e.others
+
+abbrev pub databases_before : Edit → List (List PlacedItem)
+databases_before e = databases_with e e.old e.stood
+
+abbrev pub databases_after : Edit → List (List PlacedItem)
+databases_after e = databases_with e e.new e.stand
+
+-- all items before those that were read again, from the last one back
+abbrev pub items_before : Edit → List PlacedItem
+items_before e = reverse e.before ++ reverse (all_items e.databases)
+
+-- the number of the database
+abbrev pub number_of : Edit → ℕ
+number_of e = 1 + length e.databases
+
+-- the entries that some items in that place store, and their messages
+abbrev pub stored_by : Asked → List Macro → Edit → List PlacedItem → List Stored
+stored_by a macros e items = for_each (added_at a macros) (items_before e) items
+
+abbrev pub told_by : Asked → List Macro → Edit → List PlacedItem → List Message
+told_by a macros e items = for_each (messages_at a macros (number_of e)) (items_before e) items
+
+-- Before and after an edit of values: what is stored, told and seen is the same but for the part of the items that were
+-- read again, and for the heirs of what they store.
+pub record IsPatched (a : Asked) (macros : List Macro) (min : ℕ) (e : Edit) : Type 0 where
+  -- the stored entries before the edit's and behind them
+  pub front : List Stored
+  pub rest : List Stored
+  pub stored_before : stored_entries a macros (databases_before e) ≡ front ++ stored_by a macros e e.old ++ rest
+  pub stored_after : stored_entries a macros (databases_after e) ≡ front ++ stored_by a macros e e.new ++ rest
+  pub alike : AreAlike (stored_by a macros e e.old) (stored_by a macros e e.new)
+  pub said : preamble macros (databases_before e) ≡ preamble macros (databases_after e)
+  -- the messages of the items before, of those behind in their database, and all others
+  pub first : List Message
+  pub next : List Message
+  pub last : List Message
+  pub told_before : messages a macros (databases_before e)
+      ≡ first ++ told_by a macros e e.old ++ map (moved_message e.stood) next ++ last
+  pub told_after : messages a macros (databases_after e)
+      ≡ first ++ told_by a macros e e.new ++ map (moved_message e.stand) next ++ last
+  -- the places that are shown, and at which of them the same entry is seen
+  pub places : shown a min (stored_entries a macros (databases_before e)) ≡ shown a min (stored_entries a macros (databases_after e))
+  pub seen : (k p : ℕ) → slice_get (shown a min (stored_entries a macros (databases_before e))) k ≡ Some p →
+      is_heir (stored_entries a macros (databases_before e)) (is_within (length front) (length (stored_by a macros e e.old)))
+      (reverse (listed a (stored_entries a macros (databases_before e)))) p ≡ false →
+      slice_get (entries_seen a min (stored_entries a macros (databases_before e))) k
+      ≡ slice_get (entries_seen a min (stored_entries a macros (databases_after e))) k
+
+-- An edit that puts items of the same skeletons in the place of others patches what is resolved.
+abbrev pub EditIsPatched : Type 0
+EditIsPatched = (a : Asked) (macros : List Macro) (min : ℕ) (e : Edit) → AreInPlace macros (items_before e) e.old e.new →
+    IsPatched a macros min e
