@@ -21,7 +21,7 @@ use Rattle.bt_resolve.specs.inner.Cases.{values_of, messages_at, preamble_of, pr
 use Rattle.bt_resolve.specs.References.{list_messages}
 use Rattle.bt_resolve.specs.Resolved.{all_items, stored_entries, preamble, messages}
 use Rattle.bt_resolve.specs.Skeletons.{is_entry, AreAlike, IsLike, AreInPlace, added_at, placed_from, AreOneBefore, skeleton, moved_message, DifferAt, is_heir, is_within, shown, seen_at}
-use Rattle.bt_resolve.specs.Edited.{Edit, databases_with, databases_before, databases_after, items_before, number_of, stored_by, told_by, EditIsPatched}
+use Rattle.bt_resolve.specs.Edited.{Edit, databases_with, databases_before, databases_after, items_before, number_of, before_others, stored_by, told_by, told_first, told_next, told_last, EditIsPatched}
 use Rattle.bt_resolve.proofs.SkeletonLemmas.{one_list}
 use Rattle.bt_resolve.proofs.PlacingLemmas.{for_each-append, behind_both}
 use Rattle.bt_resolve.proofs.SpanLemmas.{stored_in_parts, give_the_same, later_the_same, one_next}
@@ -88,14 +88,11 @@ databases_same a ms number before others (e ∷ es) one =
 
 -- ---- one side of an edit: these items in the place, those behind moved so far
 
-abbrev before_rest : Edit → List PlacedItem
-before_rest e = reverse e.behind ++ (reverse e.old ++ items_before e)
-
 abbrev front_of : {A : Type 0} → (List PlacedItem → PlacedItem → List A) → Edit → List A
 front_of f e = for_each f [] (all_items e.databases) ++ for_each f (reverse (all_items e.databases)) e.before
 
 abbrev rest_of : {A : Type 0} → (List PlacedItem → PlacedItem → List A) → Edit → List A
-rest_of f e = for_each f (reverse e.old ++ items_before e) e.behind ++ for_each f (before_rest e) (all_items e.others)
+rest_of f e = for_each f (reverse e.old ++ items_before e) e.behind ++ for_each f (before_others e) (all_items e.others)
 
 side_stored : (a : Asked) (ms : List Macro) (e : Edit) (zs : List PlacedItem) (k : Spot) → AreOneBefore a ms (reverse zs ++ items_before e) (reverse e.old ++ items_before e) →
     stored_entries a ms (databases_with e zs k) ≡ front_of (added_at a ms) e ++ stored_by a ms e zs ++ rest_of (added_at a ms) e
@@ -103,7 +100,7 @@ side_stored a ms e zs k one =
     let f = added_at a ms in
     let b = items_before e in
     let moving = moved_the_same a ms k (reverse zs ++ b) (reverse e.old ++ b) e.behind one in
-    let give = give_the_same a ms (reverse (map (placed_from k) e.behind) ++ (reverse zs ++ b)) (before_rest e) (all_items e.others) moving.after in
+    let give = give_the_same a ms (reverse (map (placed_from k) e.behind) ++ (reverse zs ++ b)) (before_others e) (all_items e.others) moving.after in
     stored_each a ms (databases_with e zs k)
     ∙ ap (for_each f []) (items_split e.databases e.others (e.before ++ zs ++ map (placed_from k) e.behind))
     ∙ each_five f (all_items e.databases) e.before zs (map (placed_from k) e.behind) (all_items e.others)
@@ -116,7 +113,7 @@ side_said a ms e zs k one =
     let f = preamble_at ms in
     let b = items_before e in
     let moving = moved_the_same a ms k (reverse zs ++ b) (reverse e.old ++ b) e.behind one in
-    let give = give_the_same a ms (reverse (map (placed_from k) e.behind) ++ (reverse zs ++ b)) (before_rest e) (all_items e.others) moving.after in
+    let give = give_the_same a ms (reverse (map (placed_from k) e.behind) ++ (reverse zs ++ b)) (before_others e) (all_items e.others) moving.after in
     ap (for_each f []) (items_split e.databases e.others (e.before ++ zs ++ map (placed_from k) e.behind))
     ∙ each_five f (all_items e.databases) e.before zs (map (placed_from k) e.behind) (all_items e.others)
     ∙ (λ j. front_of f e ++ for_each f b zs ++ (moving.saying j ++ give.saying j))
@@ -129,18 +126,9 @@ regrouped t p z q s l =
     ∙ sym (append_assoc (t ++ p) z (q ++ (s ++ l)))
     ∙ sym (append_assoc ((t ++ p) ++ z) q (s ++ l))
 
-abbrev first_told : Asked → List Macro → Edit → List Message
-first_told a ms e = database_messages a ms 1 [] e.databases ++ for_each (messages_at a ms (number_of e)) (reverse (all_items e.databases)) e.before
-
-abbrev next_told : Asked → List Macro → Edit → List Message
-next_told a ms e = for_each (messages_at a ms (number_of e)) (reverse e.old ++ items_before e) e.behind
-
-abbrev last_told : Asked → List Macro → Edit → List Message
-last_told a ms e = database_messages a ms (number_of e + 1) (before_rest e) e.others ++ list_messages a (stored_entries a ms (databases_before e))
-
 side_told : (a : Asked) (ms : List Macro) (e : Edit) (zs : List PlacedItem) (k : Spot) → AreOneBefore a ms (reverse zs ++ items_before e) (reverse e.old ++ items_before e) →
     list_messages a (stored_entries a ms (databases_with e zs k)) ≡ list_messages a (stored_entries a ms (databases_before e)) →
-    messages a ms (databases_with e zs k) ≡ first_told a ms e ++ told_by a ms e zs ++ map (moved_message k) (next_told a ms e) ++ last_told a ms e
+    messages a ms (databases_with e zs k) ≡ told_first a ms e ++ told_by a ms e zs ++ map (moved_message k) (told_next a ms e) ++ told_last a ms e
 unfolding messages
 side_told a ms e zs k one listed_same =
     let n = number_of e in
@@ -151,15 +139,15 @@ side_told a ms e zs k one listed_same =
     let d = e.before ++ zs ++ post in
     let told = database_messages a ms 1 [] e.databases in
     let moving = moved_the_same a ms k (reverse zs ++ b) (reverse e.old ++ b) e.behind one in
-    let later = databases_same a ms (n + 1) (reverse post ++ (reverse zs ++ b)) (before_rest e) e.others moving.after in
+    let later = databases_same a ms (n + 1) (reverse post ++ (reverse zs ++ b)) (before_others e) e.others moving.after in
     let onto = reversed_onto (e.before ++ zs) post r ∙ ap (λ (is : List PlacedItem). reverse post ++ is) (reversed_onto e.before zs r) in
     ap (λ (ts : List Message). ts ++ list_messages a (stored_entries a ms (databases_with e zs k)))
     (databases_append a ms 1 [] e.databases (d ∷ e.others)
     ∙ (λ j. told ++ database_messages a ms n (append-nil r j) (d ∷ e.others))
     ∙ (λ j. told ++ (each_three f r e.before zs post j ++ database_messages a ms (n + 1) (onto j) e.others))
     ∙ (λ j. told ++ ((for_each f r e.before ++ for_each f b zs ++ moving.telling n j) ++ later j)))
-    ∙ (λ j. (told ++ ((for_each f r e.before ++ for_each f b zs ++ map (moved_message k) (next_told a ms e)) ++ database_messages a ms (n + 1) (before_rest e) e.others)) ++ listed_same j)
-    ∙ regrouped told (for_each f r e.before) (for_each f b zs) (map (moved_message k) (next_told a ms e)) (database_messages a ms (n + 1) (before_rest e) e.others) (list_messages a (stored_entries a ms (databases_before e)))
+    ∙ (λ j. (told ++ ((for_each f r e.before ++ for_each f b zs ++ map (moved_message k) (told_next a ms e)) ++ database_messages a ms (n + 1) (before_others e) e.others)) ++ listed_same j)
+    ∙ regrouped told (for_each f r e.before) (for_each f b zs) (map (moved_message k) (told_next a ms e)) (database_messages a ms (n + 1) (before_others e) e.others) (list_messages a (stored_entries a ms (databases_before e)))
 
 -- ---- both sides
 
@@ -211,8 +199,6 @@ edit_is_patched a ms min e in_place =
     λ p out. ap (λ (ss : List Stored). values_of (slice_get ss p)) was ∙ differ.1 p out ∙ sym (ap (λ (ss : List Stored). values_of (slice_get ss p)) is) in
     let one = one_list a min (stored_entries a ms (databases_before e)) (stored_entries a ms (databases_after e)) alike in
     record {
-      front = front_of f e;
-      rest = rest_of f e;
       stored_before = was;
       stored_after = is;
       alike = span.0;
@@ -220,9 +206,6 @@ edit_is_patched a ms min e in_place =
           side_said a ms e e.old e.stood self
           ∙ ap (λ (t : List ℕ). front_of (preamble_at ms) e ++ t ++ rest_of (preamble_at ms) e) (said_same a ms b b e.old e.new start in_place)
           ∙ sym (side_said a ms e e.new e.stand other);
-      first = first_told a ms e;
-      next = next_told a ms e;
-      last = last_told a ms e;
       told_before = side_told a ms e e.old e.stood self refl;
       told_after = side_told a ms e e.new e.stand other (sym one.told);
       places = (heirs_alone a min (is_within (length (front_of f e)) (length (stored_by a ms e e.old))) (stored_entries a ms (databases_before e)) (stored_entries a ms (databases_after e)) alike apart).places;

@@ -1,12 +1,13 @@
 -- What an edit of values makes of what a style sees of the databases.
-use Rattle.std.specs.Prelude.{◌≡◌, ℕ, ◌+◌, false, List, ◌∷◌, ◌++◌, length, map, reverse, Some, slice_get}
+use Rattle.std.specs.Prelude.{◌≡◌, ℕ, ◌+◌, false, List, [], ◌∷◌, ◌++◌, length, map, reverse, Some, slice_get}
 use Rattle.bt_bib.specs.declared.spot.Spot.{Spot}
 use Rattle.bt_bib.specs.Items.{PlacedItem}
 use Rattle.bt_log.specs.declared.message.Message.{Message}
 use Rattle.bt_resolve.specs.declared.asked.Asked.{Asked}
 use Rattle.bt_resolve.specs.declared.declared.Macro.{Macro}
 use Rattle.bt_resolve.specs.declared.stored.Stored.{Stored}
-use Rattle.bt_resolve.specs.Messages.{for_each}
+use Rattle.bt_resolve.specs.Messages.{for_each, database_messages}
+use Rattle.bt_resolve.specs.References.{list_messages}
 use Rattle.bt_resolve.specs.Listed.{listed}
 use Rattle.bt_resolve.specs.Inherited.{entries_seen}
 use Rattle.bt_resolve.specs.Resolved.{all_items, stored_entries, preamble, messages}
@@ -51,28 +52,56 @@ stored_by a macros e items = for_each (added_at a macros) (items_before e) items
 abbrev pub told_by : Asked → List Macro → Edit → List PlacedItem → List Message
 told_by a macros e items = for_each (messages_at a macros (number_of e)) (items_before e) items
 
+-- all items before those behind the database, from the last one back
+abbrev pub before_others : Edit → List PlacedItem
+before_others e = reverse e.behind ++ (reverse e.old ++ items_before e)
+
+-- the entries that the items before that place store, and those that the items behind it store
+abbrev pub stored_first : Asked → List Macro → Edit → List Stored
+stored_first a macros e =
+    for_each (added_at a macros) [] (all_items e.databases)
+    ++ for_each (added_at a macros) (reverse (all_items e.databases)) e.before
+
+abbrev pub stored_last : Asked → List Macro → Edit → List Stored
+stored_last a macros e =
+    for_each (added_at a macros) (reverse e.old ++ items_before e) e.behind
+    ++ for_each (added_at a macros) (before_others e) (all_items e.others)
+
+-- the messages of the items before, of those behind in their database, and all others
+abbrev pub told_first : Asked → List Macro → Edit → List Message
+told_first a macros e =
+    database_messages a macros 1 [] e.databases
+    ++ for_each (messages_at a macros (number_of e)) (reverse (all_items e.databases)) e.before
+
+abbrev pub told_next : Asked → List Macro → Edit → List Message
+told_next a macros e = for_each (messages_at a macros (number_of e)) (reverse e.old ++ items_before e) e.behind
+
+abbrev pub told_last : Asked → List Macro → Edit → List Message
+told_last a macros e =
+    database_messages a macros (number_of e + 1) (before_others e) e.others
+    ++ list_messages a (stored_entries a macros (databases_before e))
+
 -- Before and after an edit of values: what is stored, told and seen is the same but for the part of the items that were
 -- read again, and for the heirs of what they store.
 pub record IsPatched (a : Asked) (macros : List Macro) (min : ℕ) (e : Edit) : Type 0 where
-  -- the stored entries before the edit's and behind them
-  pub front : List Stored
-  pub rest : List Stored
-  pub stored_before : stored_entries a macros (databases_before e) ≡ front ++ stored_by a macros e e.old ++ rest
-  pub stored_after : stored_entries a macros (databases_after e) ≡ front ++ stored_by a macros e e.new ++ rest
+  pub stored_before : stored_entries a macros (databases_before e)
+      ≡ stored_first a macros e ++ stored_by a macros e e.old ++ stored_last a macros e
+  pub stored_after : stored_entries a macros (databases_after e)
+      ≡ stored_first a macros e ++ stored_by a macros e e.new ++ stored_last a macros e
   pub alike : AreAlike (stored_by a macros e e.old) (stored_by a macros e e.new)
   pub said : preamble macros (databases_before e) ≡ preamble macros (databases_after e)
-  -- the messages of the items before, of those behind in their database, and all others
-  pub first : List Message
-  pub next : List Message
-  pub last : List Message
   pub told_before : messages a macros (databases_before e)
-      ≡ first ++ told_by a macros e e.old ++ map (moved_message e.stood) next ++ last
+      ≡ told_first a macros e ++ told_by a macros e e.old ++ map (moved_message e.stood) (told_next a macros e)
+      ++ told_last a macros e
   pub told_after : messages a macros (databases_after e)
-      ≡ first ++ told_by a macros e e.new ++ map (moved_message e.stand) next ++ last
+      ≡ told_first a macros e ++ told_by a macros e e.new ++ map (moved_message e.stand) (told_next a macros e)
+      ++ told_last a macros e
   -- the places that are shown, and at which of them the same entry is seen
-  pub places : shown a min (stored_entries a macros (databases_before e)) ≡ shown a min (stored_entries a macros (databases_after e))
+  pub places : shown a min (stored_entries a macros (databases_before e))
+      ≡ shown a min (stored_entries a macros (databases_after e))
   pub seen : (k p : ℕ) → slice_get (shown a min (stored_entries a macros (databases_before e))) k ≡ Some p →
-      is_heir (stored_entries a macros (databases_before e)) (is_within (length front) (length (stored_by a macros e e.old)))
+      is_heir (stored_entries a macros (databases_before e))
+      (is_within (length (stored_first a macros e)) (length (stored_by a macros e e.old)))
       (reverse (listed a (stored_entries a macros (databases_before e)))) p ≡ false →
       slice_get (entries_seen a min (stored_entries a macros (databases_before e))) k
       ≡ slice_get (entries_seen a min (stored_entries a macros (databases_after e))) k
