@@ -12,6 +12,7 @@ pub mod SpanLemmas
 pub mod HeirLemmas
 pub mod MovedItemLemmas
 pub mod EditedLemmas
+pub mod ReadingLemmas
 pub mod PartLemmas
 pub mod laws
 mod rows

@@ -11,3 +11,4 @@ pub mod Databases
 pub mod Cases
 pub mod Readers
 pub mod Skeletons
+pub mod Reaches

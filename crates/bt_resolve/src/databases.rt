@@ -9,6 +9,7 @@ ghost use Rattle.std.specs.Prelude.{◌≡◌, ◌∷◌, [], IfOk, IsTrue, OnOk
 ghost use Rattle.bt_bib.specs.Items.{items_of};
 ghost use Rattle.bt_text.specs.NameList.{are_apart};
 ghost use Rattle.bt_resolve.specs.inner.Databases.{after_content, after_databases, after_item, after_items, nothing_read, state_of};
+ghost use Rattle.bt_resolve.specs.inner.Reaches.{database_reaches, reaches};
 
 use crate::asked::Asked;
 use crate::declared::Macro;
@@ -16,7 +17,7 @@ use crate::faults::tell_fault;
 use crate::macros::style_macros;
 use crate::place::Origin;
 use crate::reader::Reader;
-use crate::reading::Reading;
+use crate::reading::{Reach, Reading};
 use crate::store::Store;
 use bt_bib::{Content, Item, Items, Piece, PlacedPiece, Spot};
 use bt_text::{Bytes, Sequence};
@@ -85,21 +86,26 @@ fn read_piece(
     }
 }
 
+/// Reads the pieces of a database. It says how far the reading was before each, and how far it is after the last one.
 fn read_pieces(
     alloc: Global,
     asked: &Asked<'_>,
     database: usize,
     pieces: &[PlacedPiece],
     reading: &mut Reading,
-) -> Result<(), AllocError>
+) -> Result<Sequence<Reach>, AllocError>
     requires { IsTrue (are_apart asked.now.fields) }
-    ensures { OnOk result (state_of reading.new
+    ensures read { OnOk result (state_of reading.new
         ≡ after_items asked.now database (state_of reading.old) (items_of pieces.now)) }
+    ensures reaches { IfOk result (λ all. all ≡ reaches asked.now database (state_of reading.old) pieces.now) }
 {
+    let mut all = Sequence::new(alloc);
     'pieces: for piece in pieces {
+        all.push(reading.so_far())?;
         read_piece(alloc, asked, database, piece, reading)?;
     }
-    Ok(())
+    all.push(reading.so_far())?;
+    Ok(all)
 }
 
 /// What is known before the first item.
@@ -114,18 +120,24 @@ pub fn nothing_read(alloc: Global, macros: &[Macro]) -> Result<Reading, AllocErr
     })
 }
 
+/// Reads the databases in their order. It says of each how far the reading was.
 pub fn read_databases(
     alloc: Global,
     asked: &Asked<'_>,
     databases: &[&Items],
     reading: &mut Reading,
-) -> Result<(), AllocError>
+) -> Result<Sequence<Sequence<Reach>>, AllocError>
     requires { IsTrue (are_apart asked.now.fields) }
-    ensures { OnOk result (state_of reading.new ≡ after_databases asked.now 1 (state_of reading.old)
+    ensures read { OnOk result (state_of reading.new ≡ after_databases asked.now 1 (state_of reading.old)
         (map (λ d. items_of d.now) databases.now)) }
+    ensures reaches { IfOk result (λ all. all
+        ≡ database_reaches asked.now 1 (state_of reading.old) (map (λ d. d.now) databases.now)) }
 {
+    let mut all = Sequence::new(alloc);
     'databases: for i in 0..databases.len() {
-        read_pieces(alloc, asked, i + 1, databases[i].pieces(), reading)?;
+        let database = databases[i];
+        let reaches = read_pieces(alloc, asked, i + 1, database.pieces(), reading)?;
+        all.push(reaches)?;
     }
-    Ok(())
+    Ok(all)
 }

@@ -5,8 +5,8 @@
 
 ghost use Rattle.std.specs.Prelude.{◌≡◌, ◌≤◌, ◌++◌, length, map, IfOk, IfSome, IsTrue, OnOk};
 ghost use Rattle.bt_bib.specs.Items.{items_of};
-ghost use Rattle.bt_resolve.specs.Inherited.{entries_seen};
 ghost use Rattle.bt_resolve.specs.inner.Databases.{resolved_of};
+ghost use Rattle.bt_resolve.specs.inner.Inheritance.{seen_of};
 ghost use Rattle.bt_text.specs.NameList.{are_apart};
 ghost use Rattle.bt_resolve.specs.References.{list_messages};
 ghost use Rattle.bt_resolve.specs.Resolved.{resolved};
@@ -14,27 +14,28 @@ ghost use Rattle.bt_resolve.specs.Resolved.{resolved};
 use crate::asked::Asked;
 use crate::databases::{nothing_read, read_databases};
 use crate::declared::{Cites, Declared};
-use crate::entry::{Entry, Resolved};
+use crate::entry::Resolved;
 use crate::family::Family;
 use crate::list::listed;
 use crate::reading::Reading;
 use crate::store::Store;
-use crate::view::View;
+use crate::view::{Seen, View};
 use bt_bib::Items;
 use bt_log::Message;
 use bt_text::{Bytes, Sequence, Shared};
 use std::alloc::{AllocError, Global};
 use std::mem;
 
-fn resolve_list(
+/// The list, once all is read: the entries that the style sees, and the list's messages after the others.
+pub fn resolve_list(
     alloc: Global,
     asked: &Asked<'_>,
     min: u32,
     store: &Store,
     messages: &mut Sequence<Message>,
-) -> Result<Sequence<Entry>, AllocError>
+) -> Result<Seen, AllocError>
     requires { IfSome asked.now.star (λ before. before ≤ length asked.now.keys) }
-    ensures entries { IfOk result (λ entries. entries ≡ entries_seen asked.now min store.now) }
+    ensures seen { IfOk result (λ seen. seen ≡ seen_of asked.now min store.now) }
     ensures messages { OnOk result (messages.new ≡ messages.old ++ list_messages asked.now store.now) }
 {
     let family = Family::new(alloc, store)?;
@@ -46,7 +47,7 @@ fn resolve_list(
         family: &family,
     };
     view.tell_list(places.as_slice(), messages)?;
-    view.entries_of_list(places.as_slice())
+    view.seen_of_list(places.as_slice())
 }
 
 /// Moves the preamble and the messages out of `read`.
@@ -60,7 +61,7 @@ fn resolve_read(
     ensures { IfOk result (λ all. all
         ≡ resolved_of asked.now min read.old.store read.old.preamble read.old.messages) }
 {
-    let entries = resolve_list(alloc, asked, min, &read.store, &mut read.messages)?;
+    let Seen { entries, .. } = resolve_list(alloc, asked, min, &read.store, &mut read.messages)?;
     let preamble = mem::replace(&mut read.preamble, Bytes::new(alloc));
     let messages = mem::replace(&mut read.messages, Sequence::new(alloc));
     Ok(Resolved {

@@ -1,11 +1,11 @@
 //! The entries that the style sees.
 
 ghost use Rattle.std.specs.Prelude.{◌≡◌, ◌++◌, ◌∷◌, [], IfOk, OnOk};
-ghost use Rattle.bt_resolve.specs.Inherited.{entries_seen, entry_seen, final_crossref, is_left_out};
+ghost use Rattle.bt_resolve.specs.Inherited.{entry_seen, final_crossref, is_left_out};
 ghost use Rattle.bt_resolve.specs.inner.Cases.{entry_at, with_crossref};
 ghost use Rattle.bt_resolve.specs.Names.{crossref, place_of_name};
 ghost use Rattle.bt_resolve.specs.Listed.{listed};
-ghost use Rattle.bt_resolve.specs.inner.Inheritance.{entries_with};
+ghost use Rattle.bt_resolve.specs.inner.Inheritance.{entries_at, seen_of, shown_among};
 
 use crate::asked::Asked;
 use crate::entry::Entry;
@@ -18,6 +18,13 @@ use crate::seen_values::{put_crossref, shared_at};
 use crate::stored::{FieldValues, Stored};
 use bt_text::{Bytes, Sequence, Shared};
 use std::alloc::{AllocError, Global};
+
+/// The entries that the style sees, and their places among the stored ones.
+#[derive(Drop)]
+pub struct Seen {
+    pub places: Sequence<usize>,
+    pub entries: Sequence<Entry>,
+}
 
 /// The stored entries, for a style with these citations.
 #[derive(Clone, Copy, Drop)]
@@ -109,17 +116,35 @@ impl View<'_> {
         }
     }
 
+    fn add_shown(&self, place: usize, shown: &mut Sequence<usize>) -> Result<(), AllocError>
+        ensures { OnOk result (shown.new ≡ shown.old ++ shown_among self.now (place ∷ [])) }
+    {
+        if self.is_left_out(place)? {
+            return Ok(());
+        }
+        shown.push(place)?;
+        Ok(())
+    }
+
+    /// Those of the places whose entries aren't left out.
+    fn shown_among(&self, places: &[usize]) -> Result<Sequence<usize>, AllocError>
+        ensures { IfOk result (λ shown. shown ≡ shown_among self.now places.now) }
+    {
+        let mut shown = Sequence::new(self.alloc);
+        'places: for place in places {
+            self.add_shown(*place, &mut shown)?;
+        }
+        Ok(shown)
+    }
+
     fn add_entry(
         &self,
         values: &[Shared<FieldValues>],
         place: usize,
         entries: &mut Sequence<Entry>,
     ) -> Result<(), AllocError>
-        ensures { OnOk result (entries.new ≡ entries.old ++ entries_with self.now values.now (place ∷ [])) }
+        ensures { OnOk result (entries.new ≡ entries.old ++ entries_at self.now values.now (place ∷ [])) }
     {
-        if self.is_left_out(place)? {
-            return Ok(());
-        }
         let values = shared_at(self.alloc, values, place)?;
         match self.entry_at(values, place)? {
             None => Ok(()),
@@ -130,12 +155,12 @@ impl View<'_> {
         }
     }
 
-    fn entries_by(
+    fn entries_at(
         &self,
         values: &[Shared<FieldValues>],
         places: &[usize],
     ) -> Result<Sequence<Entry>, AllocError>
-        ensures { IfOk result (λ entries. entries ≡ entries_with self.now values.now places.now) }
+        ensures { IfOk result (λ entries. entries ≡ entries_at self.now values.now places.now) }
     {
         let mut entries = Sequence::new(self.alloc);
         'places: for place in places {
@@ -145,13 +170,17 @@ impl View<'_> {
     }
 
     /// The entries that the style sees, of the list of entries at these places.
-    pub fn entries_of_list(&self, places: &[usize]) -> Result<Sequence<Entry>, AllocError>
+    pub fn seen_of_list(&self, places: &[usize]) -> Result<Seen, AllocError>
         requires { places.now ≡ listed self.now.asked.now self.now.family.now }
-        ensures { IfOk result (λ entries. entries
-            ≡ entries_seen self.now.asked.now self.now.min self.now.family.now) }
+        ensures { IfOk result (λ seen. seen ≡ seen_of self.now.asked.now self.now.min self.now.family.now) }
     {
         let mut values = values_read(self.alloc, self.family.entries())?;
         all_inherit(self.alloc, self.family, places, &mut values)?;
-        self.entries_by(values.as_slice(), places)
+        let shown = self.shown_among(places)?;
+        let entries = self.entries_at(values.as_slice(), shown.as_slice())?;
+        Ok(Seen {
+            places: shown,
+            entries,
+        })
     }
 }

@@ -1,22 +1,28 @@
-use Rattle.std.proofs.Common.{◌≡◌, ◌+◌, ◌∷◌, List, drop, sym, ap, ◌∙◌}
-use Rattle.std.proofs.lemmas.List.{drop_more}
+use Rattle.std.proofs.Common.{◌≡◌, ◌+◌, ◌∷◌, drop, sym, ap, ◌∙◌}
+use Rattle.std.proofs.lemmas.List.{drop_more, drop_all}
 use Rattle.bt_bib.specs.declared.placed_pieces.PlacedPiece.{PlacedPiece}
-use Rattle.bt_bib.specs.Items.{items_of}
-use Rattle.bt_resolve.specs.inner.Databases.{State, after_items, state_of}
-use Rattle.bt_resolve.proofs.PlacingLemmas.{items_more}
+use Rattle.bt_resolve.proofs.ReadingLemmas.{pieces_begun, pieces_next, pieces_done}
 use Rattle.bt_resolve.proofs.databases.read_pieces.Goals as goal
+
+pub pieces-init : goal.pieces-init
+pieces-init c = pieces_begun c.args.asked.now c.args.database _ c.args.pieces.now c.new-all.result c.new-all.ensures
 
 pub pieces-preserved : goal.pieces-preserved
 pieces-preserved c =
-    let a = c.args.asked.now in
-    let number = c.args.database in
     let ps = c.args.pieces.now in
     let i = c.pieces.piece-index in
     let p = c.piece-item.result in
-    let rest = drop (i + 1) ps in
-    let now = state_of c.pieces.reading in
-    let here : drop i ps ≡ p ∷ rest = drop_more ps i p c.pieces-test.true ∙ ap (λ (x : PlacedPiece). x ∷ rest) (sym c.piece-item.is) in
-    ap (λ (s : State). after_items a number s (items_of rest)) c.in_ok-read_piece.ensures
-    ∙ items_more a number now p rest
-    ∙ ap (λ (l : List PlacedPiece). after_items a number now (items_of l)) (sym here)
-    ∙ c.pieces.invariant
+    let here : drop i ps ≡ p ∷ drop (i + 1) ps = drop_more ps i p c.pieces-test.true ∙ ap (λ (x : PlacedPiece). x ∷ drop (i + 1) ps) (sym c.piece-item.is) in
+    pieces_next c.args.asked.now c.args.database _ ps _ _ _ _ _ p (drop i ps) (drop (i + 1) ps) here c.so_far.ensures c.in_ok-push.ensures.ok c.in_ok-read_piece.ensures c.pieces.invariant
+
+pub returns-clause-read : goal.returns-clause-read
+returns-clause-read c =
+    let ps = c.args.pieces.now in
+    let i = c.pieces.piece-index in
+    (pieces_done c.args.asked.now c.args.database _ ps _ _ _ _ (drop i ps) (drop_all i ps c.pieces-test.false) c.so_far-2.ensures c.in_ok-push-2.ensures.ok c.pieces.invariant).0
+
+pub returns-clause-reaches : goal.returns-clause-reaches
+returns-clause-reaches c =
+    let ps = c.args.pieces.now in
+    let i = c.pieces.piece-index in
+    (pieces_done c.args.asked.now c.args.database _ ps _ _ _ _ (drop i ps) (drop_all i ps c.pieces-test.false) c.so_far-2.ensures c.in_ok-push-2.ensures.ok c.pieces.invariant).1

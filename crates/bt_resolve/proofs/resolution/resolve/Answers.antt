@@ -11,4 +11,4 @@ pub returns : goal.returns
 returns c =
     let databases = map (λ d. items_of d.now) c.args.databases.now in
     if_ok _ _ c.resolve_read.result (λ (all : Resolved) is.
-    resolved_is c.args.declared.now c.args.cites.now c.args.min databases _ _ _ all c.in_ok-asked.ensures (c.in_ok-read.ensures ∙ ap (λ (ms : List Macro). nothing_read ms) c.as_slice.ensures) c.in_ok-read_databases.ensures is) c.resolve_read.ensures
+    resolved_is c.args.declared.now c.args.cites.now c.args.min databases _ _ _ all c.in_ok-asked.ensures (c.in_ok-read.ensures ∙ ap (λ (ms : List Macro). nothing_read ms) c.as_slice.ensures) c.in_ok-read_databases.ensures.read is) c.resolve_read.ensures
