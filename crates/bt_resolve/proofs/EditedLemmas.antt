@@ -59,10 +59,10 @@ module _ {A : Type 0} (f : List PlacedItem → PlacedItem → List A) where
       ∙ sym (append_assoc first p (z ++ (q ++ s)))
       ∙ sym (append_assoc (first ++ p) z (q ++ s))
 
-items_split : (ds es : List (List PlacedItem)) (d : List PlacedItem) → all_items (ds ++ d ∷ es) ≡ all_items ds ++ (d ++ all_items es)
+pub items_split : (ds es : List (List PlacedItem)) (d : List PlacedItem) → all_items (ds ++ d ∷ es) ≡ all_items ds ++ (d ++ all_items es)
 items_split ds es d = flat_map-append (λ (these : List PlacedItem). these) ds (d ∷ es)
 
-stored_each : (a : Asked) (ms : List Macro) (databases : List (List PlacedItem)) → stored_entries a ms databases ≡ for_each (added_at a ms) [] (all_items databases)
+pub stored_each : (a : Asked) (ms : List Macro) (databases : List (List PlacedItem)) → stored_entries a ms databases ≡ for_each (added_at a ms) [] (all_items databases)
 unfolding stored_entries stored_among
 stored_each a ms databases =
     ap (stored_among a ms) (sym (append-nil (reverse (all_items databases)))) ∙ stored_in_parts a ms [] (all_items databases)

@@ -114,7 +114,7 @@ get_behind [] ys p k is = ap (slice_get ys) (omega (arith, is))
 get_behind (x ∷ xs) ys zero k is = absurd (omega (arith, is))
 get_behind (x ∷ xs) ys (suc p) k is = get_behind xs ys p k (omega (arith, is))
 
-lt_or_le : (k n : ℕ) → (k < n) ⊎ (n ≤ k)
+pub lt_or_le : (k n : ℕ) → (k < n) ⊎ (n ≤ k)
 lt_or_le k zero = inr (omega arith)
 lt_or_le zero (suc n) = inl (omega arith)
 lt_or_le (suc k) (suc n) = elim (lt_or_le k n) [ inl less ↦ inl (omega arith) | inr more ↦ inr (omega arith) ]
@@ -122,7 +122,7 @@ lt_or_le (suc k) (suc n) = elim (lt_or_le k n) [ inl less ↦ inl (omega arith) 
 within_is : (begin count p : ℕ) → begin ≤ p → p < begin + count → is_within begin count p ≡ true
 within_is begin count p h k = grind (arith, nat_tests)
 
-alike_length : (mine theirs : List Stored) → AreAlike mine theirs → length mine ≡ length theirs
+pub alike_length : (mine theirs : List Stored) → AreAlike mine theirs → length mine ≡ length theirs
 alike_length mine theirs alike = sym (length-map mine skeleton) ∙ ap length alike ∙ length-map theirs skeleton
 
 outside_span : (front mine theirs rest : List Stored) → length mine ≡ length theirs → (p : ℕ) → is_within (length front) (length mine) p ≡ false → slice_get (front ++ (mine ++ rest)) p ≡ slice_get (front ++ (theirs ++ rest)) p

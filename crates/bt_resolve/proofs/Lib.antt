@@ -12,7 +12,17 @@ pub mod SpanLemmas
 pub mod HeirLemmas
 pub mod MovedItemLemmas
 pub mod EditedLemmas
+pub mod AloneLemmas
+pub mod EntryPatchLemmas
+pub mod ItemsEditLemmas
 pub mod ReadingLemmas
+pub mod ReachLemmas
+pub mod MarkLemmas
+pub mod PatchLemmas
+pub mod PlainLemmas
+pub mod SeenEditLemmas
+pub mod KeptParts
+pub mod KeptLemmas
 pub mod PartLemmas
 pub mod laws
 mod rows

@@ -137,7 +137,7 @@ fault_told : (m : Spot) (database : ℕ) (end : Spot) (c : Content) (close : Opt
 fault_told m database end c close None = refl
 fault_told m database end c close (Some fault) = refl
 
-item_moved : (a : Asked) (ms : List Macro) (m : Spot) (number : ℕ) (before : List PlacedItem) (x : PlacedItem) → messages_at a ms number before (placed_from m x) ≡ map (moved_message m) (messages_at a ms number before x)
+pub item_moved : (a : Asked) (ms : List Macro) (m : Spot) (number : ℕ) (before : List PlacedItem) (x : PlacedItem) → messages_at a ms number before (placed_from m x) ≡ map (moved_message m) (messages_at a ms number before x)
 unfolding item_messages
 item_moved a ms m number before x =
     let macros = macro_before ms before in

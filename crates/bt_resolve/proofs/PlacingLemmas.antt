@@ -47,7 +47,7 @@ stands_next a ms database before s item at = record {
 preamble_next : (a : Asked) (ms : List Macro) (database : ℕ) (before : List PlacedItem) (s : State) (item : PlacedItem) → StandsBehind a ms before s → (after_placed a database item s).preamble ≡ s.preamble ++ preamble_at ms before item
 preamble_next a ms database before s item at = ap (λ (macros : MacroTexts). s.preamble ++ preamble_of macros item.item.fault item.item.content) at.macros
 
-messages_next : (a : Asked) (ms : List Macro) (database : ℕ) (before : List PlacedItem) (s : State) (item : PlacedItem) → StandsBehind a ms before s → (after_placed a database item s).messages ≡ s.messages ++ messages_at a ms database before item
+pub messages_next : (a : Asked) (ms : List Macro) (database : ℕ) (before : List PlacedItem) (s : State) (item : PlacedItem) → StandsBehind a ms before s → (after_placed a database item s).messages ≡ s.messages ++ messages_at a ms database before item
 messages_next a ms database before s item at =
     ap (λ (macros : MacroTexts). s.messages ++ item_messages a macros s.stored (origin_of database item) item.end item.item) at.macros
     ∙ ap (λ (stored : List Stored). s.messages ++ item_messages a (macro_before ms before) stored (origin_of database item) item.end item.item) at.stored
@@ -104,7 +104,7 @@ all_add a ms databases =
       messages = all.messages;
     }
 
-stored_is : (a : Asked) (ms : List Macro) (databases : List (List PlacedItem)) → (after_databases a 1 (nothing_read ms) databases).stored ≡ stored_entries a ms databases
+pub stored_is : (a : Asked) (ms : List Macro) (databases : List (List PlacedItem)) → (after_databases a 1 (nothing_read ms) databases).stored ≡ stored_entries a ms databases
 unfolding stored_entries
 stored_is a ms databases = (all_add a ms databases).stands.stored
 

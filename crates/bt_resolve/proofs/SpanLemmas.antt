@@ -121,7 +121,7 @@ one_next a ms before others x y one like fault = record {
 }
 
 -- an item is like itself
-itself : (macros : MacroTexts) (c : Content) → IsLike macros c c
+pub itself : (macros : MacroTexts) (c : Content) → IsLike macros c c
 itself macros (contents.Entry e) = record { key = refl; kind = refl; reference = refl }
 itself macros (contents.Define d) = refl
 itself macros (contents.Preamble parts) = refl

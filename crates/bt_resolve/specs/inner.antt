@@ -11,4 +11,7 @@ pub mod Databases
 pub mod Cases
 pub mod Readers
 pub mod Skeletons
+pub mod Spans
 pub mod Reaches
+pub mod Patches
+pub mod Kept

@@ -139,8 +139,9 @@ impl Reader<'_> {
         reader.fields(entry.fields.as_slice(), messages)
     }
 
+    /// What is stored of an entry of this key.
     #[tactic(auto, unfolding(crate::specs::Stored::stored_of, crate::specs::Messages::stored_messages))]
-    fn stored(
+    pub fn stored(
         &self,
         line: usize,
         entry: &Entry,

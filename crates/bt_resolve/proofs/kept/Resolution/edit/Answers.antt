@@ -1,0 +1,16 @@
+use Rattle.std.proofs.Common.{◌∙◌}
+use Rattle.bt_resolve.proofs.KeptLemmas.{edit_fits, edited_there}
+use Rattle.bt_resolve.proofs.kept.Resolution.edit.Goals as goal
+
+pub is_short-requires-clause-order : goal.is_short-requires-clause-order
+is_short-requires-clause-order c =
+    (edit_fits c.self.inside.question c.args.self.now c.args.number c.args.items.now c.args.edit.now c.as_slice-databases.result.now c.index-databases-number.result c.pieces-old.result.now c.requires c.self.view_is c.as_slice-databases.ensures c.if-number-databases.false c.index-databases-number.is (c.pieces-old.ensures ∙ c.deref.ensures)).0
+
+pub is_short-requires-clause-inside : goal.is_short-requires-clause-inside
+is_short-requires-clause-inside c =
+    (edit_fits c.self.inside.question c.args.self.now c.args.number c.args.items.now c.args.edit.now c.as_slice-databases.result.now c.index-databases-number.result c.pieces-old.result.now c.requires c.self.view_is c.as_slice-databases.ensures c.if-number-databases.false c.index-databases-number.is (c.pieces-old.ensures ∙ c.deref.ensures)).1
+
+pub returns : goal.returns
+returns c =
+    edited_there c.self.inside.question c.args.self.now c.args.number c.args.items.now c.args.edit.now c.self.inside.found c.as_slice-databases.result.now c.index-databases-number.result c.pieces-old.result.now c.as_slice-reaches.result.now c.index-reaches-number.result _ c.in_ok-asked.asked c.in-Some.around c.in_ok-made.made c.requires c.self.view_is c.self.invariant
+    c.as_slice-databases.ensures c.if-number-databases.false c.index-databases-number.is (c.pieces-old.ensures ∙ c.deref.ensures) c.as_slice-reaches.ensures c.if-number-reaches.false c.index-reaches-number.is c.as_slice.ensures c.in_ok-asked.ensures (c.is_short.ensures c.if-not-is_short.false) c.in-Some.ensures c.in_ok-made.ensures

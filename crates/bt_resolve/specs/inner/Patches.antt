@@ -1,0 +1,23 @@
+-- How messages change by an edit of values.
+use Rattle.std.specs.Prelude.{ℕ, ◌+◌, ◌-◌, List, ◌++◌, map, take, drop, Option, Some, None, option_map}
+use Rattle.bt_bib.specs.declared.spot.Spot.{Spot}
+use Rattle.bt_log.specs.declared.message.Message.{Message}
+use Rattle.bt_log.specs.declared.message.Place.{Place}
+use Rattle.bt_log.specs.declared.message.Place.TheVariants.{Line, DatabaseLine, WholeFile, Step}
+
+-- a place of a database, where the text from `stood` on stands from `stand` on
+abbrev pub rebased_place : Spot → Spot → Option Place → Option Place
+rebased_place stood stand None = None
+rebased_place stood stand (Some (DatabaseLine database line byte)) =
+    Some (DatabaseLine database (line - stood.line + stand.line) (option_map (λ b. b - stood.place + stand.place) byte))
+rebased_place stood stand (Some (Line file line byte)) = Some (Line file line byte)
+rebased_place stood stand (Some (WholeFile file)) = Some (WholeFile file)
+rebased_place stood stand (Some (Step style line)) = Some (Step style line)
+
+abbrev pub rebased_message : Spot → Spot → Message → Message
+rebased_message stood stand m = record m { place = rebased_place stood stand m.place }
+
+-- all messages, with new ones in the place of those from `first` up to `past`, those up to `last` rebased, and the others
+abbrev pub patched : List Message → ℕ → ℕ → ℕ → List Message → Spot → Spot → List Message
+patched all first past last new stood stand =
+    take first all ++ new ++ map (rebased_message stood stand) (take (last - past) (drop past all)) ++ drop last all

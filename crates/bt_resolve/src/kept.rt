@@ -1,0 +1,290 @@
+//! A resolution that is kept, and what a small edit changes of it.
+//!
+//! Which entries are stored and listed, in what order, under which key, and who refers to whom: all that depends on keys,
+//! types and `crossref` fields. So an edit in any other field leaves it as it was. If the changed entry refers to none,
+//! and none refers to it, then only this entry is seen differently, and only its messages are new; those behind it move.
+//! Any other edit is resolved anew.
+//!
+//! What is kept beside the answer isn't touched by such an edit, so it needn't be patched: how far the reading was before
+//! each piece, the macros, and the stored entries. The latter may have older values, but their keys, types and references
+//! are right, and nothing else of them is asked for.
+
+ghost use Rattle.std.specs.Prelude.{◌≡◌, ◌+◌, ◌^◌, ◌<◌, ◌≤◌, length, map, IfOk, IfSome, IsTrue};
+ghost use Rattle.bt_bib.specs.Items.{items_of};
+ghost use Rattle.bt_text.specs.NameList.{are_apart};
+ghost use Rattle.bt_resolve.specs.inner.Patches.{patched};
+ghost use Rattle.bt_resolve.specs.inner.Kept.{IsAround, IsEditOf, IsFound, IsResolvedEdit, IsSpanEdit, found_of, mark_of, resolved_for, with_database};
+
+use crate::asked::Asked;
+use crate::databases::{nothing_read, read_databases};
+use crate::entry::{Entry, Resolved};
+use crate::macro_text::MacroText;
+use crate::moved_messages::patched;
+use crate::question::Question;
+use crate::reading::{Reach, Reading};
+use crate::resolution::resolve_list;
+use crate::seen_edit::{SeenEdit, put_seen, seen_edit};
+use crate::short_edit::is_short;
+use crate::span::{Mark, read_span};
+use crate::store::Store;
+use crate::view::Seen;
+use bt_bib::{Items, ItemsEdit};
+use bt_log::Message;
+use bt_text::{ByName, Bytes, Sequence, Shared};
+use std::alloc::{AllocError, Global};
+use std::marker::Model;
+
+/// What was found for a question, with what an edit needs.
+#[derive(Drop)]
+pub struct Found {
+    /// What macros stand for behind all items.
+    pub macros: ByName<MacroText>,
+    /// The stored entries, but perhaps with older values.
+    pub store: Store,
+    /// How far the reading was before each piece of each database, and at its end.
+    pub reaches: Sequence<Sequence<Reach>>,
+    /// The places of the entries that are seen, among the stored ones.
+    pub places: Sequence<usize>,
+    pub all: Resolved,
+}
+
+/// What the style sees of some databases, kept for edits. Contracts see what is resolved.
+#[derive(Drop)]
+pub struct Resolution {
+    question: Question,
+    found: Found,
+}
+
+impl Model for Resolution {
+    ghost use Rattle.bt_resolve.specs.declared.question.Question.{Question};
+
+    ghost Value = { Question };
+
+    ghost use Rattle.bt_resolve.specs.inner.Kept.{IsFound};
+
+    ghost view = { λ r. r.question };
+
+    ghost invariant = { λ r. IsFound r.question r.found };
+}
+
+/// What an edit changes of a resolution.
+#[derive(Drop)]
+pub struct ResolvedEdit {
+    /// Which entry is seen differently.
+    pub seen: SeenEdit,
+    /// All messages after the edit.
+    pub messages: Sequence<Message>,
+}
+
+/// How far the reading was before a span of pieces, behind it, and at the end of its database.
+#[derive(Clone, Copy)]
+pub struct Around {
+    pub first: Reach,
+    pub past: Reach,
+    pub last: Reach,
+}
+
+fn reach_around(reaches: &[Reach], before: usize, upto: usize) -> Option<Around>
+    ensures { IfSome result (λ r. IsAround reaches.now before upto r) }
+{
+    let count = reaches.len();
+    if before >= count || upto >= count {
+        return None;
+    }
+    let first = &reaches[before];
+    let past = &reaches[upto];
+    let last = &reaches[count - 1];
+    Some(Around {
+        first: *first,
+        past: *past,
+        last: *last,
+    })
+}
+
+/// What the items of the span gave.
+fn mark_of(around: Around) -> Mark
+    ensures { result ≡ mark_of around }
+{
+    Mark {
+        stored: around.first.stored < around.past.stored,
+        told: around.past.told.saturating_sub(around.first.told),
+    }
+}
+
+/// All messages after an edit whose span gives these.
+fn all_patched(
+    alloc: Global,
+    all: &[Message],
+    told: &[Message],
+    around: Around,
+    edit: &ItemsEdit,
+) -> Result<Option<Sequence<Message>>, AllocError>
+    ensures { IfOk result (λ made. IfSome made (λ messages. messages ≡ patched all.now around.first.told
+        around.past.told around.last.told told.now edit.now.stood edit.now.stand)) }
+{
+    let (first, past, last) = (around.first.told, around.past.told, around.last.told);
+    patched(alloc, all, first, past, last, told, edit.stood, edit.stand)
+}
+
+/// What an edit changes that brings at most one entry, if it is one of which is known whether it is stored.
+fn span_edit(
+    alloc: Global,
+    asked: &Asked<'_>,
+    found: &Found,
+    number: usize,
+    edit: &ItemsEdit,
+    around: Around,
+) -> Result<Option<ResolvedEdit>, AllocError>
+    requires few { length edit.now.new ≤ 1 }
+    requires number { number + 1 < 2 ^ 64 }
+    requires fields { IsTrue (are_apart asked.now.fields) }
+    ensures { IfOk result (λ made. IfSome made (λ e. IsSpanEdit asked.now found.now number edit.now around e)) }
+{
+    let mark = mark_of(around);
+    let new = edit.new.pieces();
+    let Some(span) = read_span(alloc, asked, number + 1, mark, new, &found.macros)? else {
+        return Ok(None);
+    };
+    if span.messages.len() != mark.told {
+        return Ok(None);
+    }
+    let places = found.places.as_slice();
+    let entries = found.all.entries.as_slice();
+    let stored = span.stored.as_slice();
+    let place = around.first.stored;
+    let Some(seen) = seen_edit(alloc, asked, place, places, &found.store, entries, stored)? else {
+        return Ok(None);
+    };
+    let all = found.all.messages.as_slice();
+    let told = span.messages.as_slice();
+    let Some(messages) = all_patched(alloc, all, told, around, edit)? else {
+        return Ok(None);
+    };
+    Ok(Some(ResolvedEdit { seen, messages }))
+}
+
+fn found_of(
+    alloc: Global,
+    read: Reading,
+    reaches: Sequence<Sequence<Reach>>,
+    seen: Seen,
+) -> Result<Found, AllocError>
+    ensures { IfOk result (λ found. found ≡ found_of read reaches seen) }
+{
+    let Reading {
+        macros,
+        store,
+        preamble,
+        messages,
+    } = read;
+    let Seen { places, entries } = seen;
+    let preamble = Shared::new(alloc, preamble)?;
+    let all = Resolved {
+        entries,
+        preamble,
+        messages,
+    };
+    Ok(Found {
+        macros,
+        store,
+        reaches,
+        places,
+        all,
+    })
+}
+
+fn all_lent<'a>(alloc: Global, databases: &'a [Shared<Items>]) -> Result<Vec<&'a Items>, AllocError>
+    ensures pieces { IfOk result (λ lent. map (λ d. d.now) lent.items ≡ databases.now) }
+    ensures items { IfOk result (λ lent. map (λ d. items_of d.now) lent.items ≡ map items_of databases.now) }
+{
+    let mut lent = Vec::new(alloc);
+    'databases: for database in databases {
+        lent.push(&**database)?;
+    }
+    Ok(lent)
+}
+
+fn find(alloc: Global, question: &Question) -> Result<Found, AllocError>
+    requires fields { IsTrue (are_apart question.now.declared.fields) }
+    requires star { IfSome question.now.cites.star (λ before. before ≤ length question.now.cites.keys) }
+    ensures { IfOk result (λ found. IsFound question.now found) }
+{
+    let asked = Asked::new(alloc, &question.declared, &question.cites)?;
+    let mut read = nothing_read(alloc, question.declared.macros.as_slice())?;
+    let databases = all_lent(alloc, question.databases.as_slice())?;
+    let reaches = read_databases(alloc, &asked, databases.as_slice(), &mut read)?;
+    let seen = resolve_list(alloc, &asked, question.min, &read.store, &mut read.messages)?;
+    let found = found_of(alloc, read, reaches, seen)?;
+    Ok(found)
+}
+
+impl Resolution {
+    /// What the style sees of some databases.
+    pub fn of(alloc: Global, question: Question) -> Result<Resolution, AllocError>
+        requires fields { IsTrue (are_apart question.declared.fields) }
+        requires star { IfSome question.cites.star (λ before. before ≤ length question.cites.keys) }
+        ensures { IfOk result (λ kept. kept ≡ question) }
+    {
+        let found = find(alloc, &question)?;
+        Ok(Resolution { question, found })
+    }
+
+    /// What is resolved.
+    pub fn question(&self) -> &Question
+        ensures { result.now ≡ self.now }
+    {
+        &self.question
+    }
+
+    /// What the style sees.
+    pub fn resolved(&self) -> &Resolved
+        ensures { result.now ≡ resolved_for self.now }
+    {
+        &self.found.all
+    }
+
+    /// What an edit of a database changes that has these items after it. None where it is more than one entry: then all
+    /// has to be resolved anew. The only error is out of memory.
+    pub fn edit(
+        &self,
+        alloc: Global,
+        number: usize,
+        items: &Items,
+        edit: &ItemsEdit,
+    ) -> Result<Option<ResolvedEdit>, AllocError>
+        requires { IsEditOf self.now number items.now edit.now }
+        ensures { IfOk result (λ made. IfSome made (λ e. IsResolvedEdit self.now number items.now e)) }
+    {
+        let databases = self.question.databases.as_slice();
+        if number >= databases.len() {
+            return Ok(None);
+        }
+        let reaches = self.found.reaches.as_slice();
+        if number >= reaches.len() {
+            return Ok(None);
+        }
+        let database = &databases[number];
+        let old = database.pieces();
+        if !is_short(old, &databases[number + 1..], edit) {
+            return Ok(None);
+        }
+        let passed = &reaches[number];
+        let Some(around) = reach_around(passed.as_slice(), edit.before, edit.upto) else {
+            return Ok(None);
+        };
+        let asked = Asked::new(alloc, &self.question.declared, &self.question.cites)?;
+        let made = span_edit(alloc, &asked, &self.found, number, edit, around)?;
+        Ok(made)
+    }
+
+    /// Puts an edit of a database in place, which has these items after it.
+    pub fn put(&mut self, number: usize, items: Shared<Items>, edit: ResolvedEdit)
+        requires { IsResolvedEdit self.old number items edit }
+        ensures { self.new ≡ with_database number items self.old }
+    {
+        let ResolvedEdit { seen, messages } = edit;
+        put_seen(&mut self.found.all.entries, seen);
+        self.found.all.messages = messages;
+        self.question.databases.set(number, items);
+    }
+}

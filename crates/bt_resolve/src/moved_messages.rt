@@ -1,0 +1,122 @@
+//! The messages after an edit, from those before it.
+//!
+//! Messages of items behind the edit stay, but for their lines and places. A line or place that would overflow isn't
+//! moved: then there is no answer, and the caller resolves anew. So no bound on lines has to be known here.
+
+ghost use Rattle.std.specs.Prelude.{◌≡◌, ◌++◌, ◌+◌, ◌-◌, ◌≤◌, map, take, drop, length, option_map, IfOk, IfSome, IsTrue, OnOk};
+ghost use Rattle.bt_resolve.specs.inner.Patches.{patched, rebased_message};
+
+use bt_bib::Spot;
+use bt_log::{Message, Place};
+use bt_text::Sequence;
+use std::alloc::{AllocError, Global};
+
+fn moved_line(line: u128, stood: usize, stand: usize) -> Option<u128>
+    ensures { IfSome result (λ moved. moved ≡ line - stood + stand) }
+{
+    line.saturating_sub(stood as u128)
+        .checked_add(stand as u128)
+}
+
+fn moved_byte(byte: Option<usize>, stood: usize, stand: usize) -> Option<Option<usize>>
+    ensures { IfSome result (λ moved. moved ≡ option_map (λ b. b - stood + stand) byte) }
+{
+    match byte {
+        None => Some(None),
+        Some(byte) => {
+            let moved = byte.saturating_sub(stood).checked_add(stand)?;
+            Some(Some(moved))
+        }
+    }
+}
+
+/// A message, where the text from `stood` on stands from `stand` on.
+fn rebased_message(
+    message: &Message,
+    stood: Spot,
+    stand: Spot,
+) -> Result<Option<Message>, AllocError>
+    ensures { IfOk result (λ moved. IfSome moved (λ m. m ≡ rebased_message stood stand message.now)) }
+{
+    let Some(
+        Place::DatabaseLine {
+            database,
+            line,
+            byte,
+        },
+    ) = &message.place
+    else {
+        let same = message.share()?;
+        return Ok(Some(same));
+    };
+    let Some(line) = moved_line(*line, stood.line, stand.line) else {
+        return Ok(None);
+    };
+    let Some(byte) = moved_byte(*byte, stood.place, stand.place) else {
+        return Ok(None);
+    };
+    let database = *database;
+    let moved = message.at(Place::DatabaseLine {
+        database,
+        line,
+        byte,
+    })?;
+    Ok(Some(moved))
+}
+
+/// Puts these messages after others, each for one more owner.
+fn add_shared(messages: &mut Sequence<Message>, more: &[Message]) -> Result<(), AllocError>
+    ensures { OnOk result (messages.new ≡ messages.old ++ more.now) }
+{
+    'more: for message in more {
+        messages.push(message.share()?)?;
+    }
+    Ok(())
+}
+
+/// Puts these messages after others, where the text from `stood` on stands from `stand` on. It says whether all fit.
+fn add_rebased(
+    messages: &mut Sequence<Message>,
+    more: &[Message],
+    stood: Spot,
+    stand: Spot,
+) -> Result<bool, AllocError>
+    ensures { IfOk result (λ fit. IsTrue fit → messages.new
+        ≡ messages.old ++ map (rebased_message stood stand) more.now) }
+{
+    'more: for message in more {
+        let Some(moved) = rebased_message(message, stood, stand)? else {
+            return Ok(false);
+        };
+        messages.push(moved)?;
+    }
+    Ok(true)
+}
+
+/// All messages, with new ones in the place of those from `first` up to `past`. The text of those behind them, up to
+/// `last`, stood at `stood` and stands at `stand`. None where a line or place would overflow.
+pub fn patched(
+    alloc: Global,
+    all: &[Message],
+    first: usize,
+    past: usize,
+    last: usize,
+    new: &[Message],
+    stood: Spot,
+    stand: Spot,
+) -> Result<Option<Sequence<Message>>, AllocError>
+    ensures { IfOk result (λ made. IfSome made (λ messages. messages
+        ≡ patched all.now first past last new.now stood stand)) }
+{
+    if first > past || past > last || last > all.len() {
+        return Ok(None);
+    }
+    let mut messages = Sequence::new(alloc);
+    add_shared(&mut messages, &all[..first])?;
+    add_shared(&mut messages, new)?;
+    if !add_rebased(&mut messages, &all[past..last], stood, stand)? {
+        return Ok(None);
+    }
+    add_shared(&mut messages, &all[last..])?;
+    Ok(Some(messages))
+}

@@ -1,0 +1,173 @@
+//! The entry that an edit brings, read in the place of another.
+//!
+//! Whether an entry is stored depends on the keys and `crossref` fields of those before it. An entry of the same skeleton
+//! in the same place is stored exactly if the old one was. So what the old one gave tells, and nothing is looked up among
+//! the stored entries, which by now have those behind it too.
+
+ghost use Rattle.std.specs.Prelude.{◌≡◌, ◌≤◌, ◌++◌, ◌∷◌, [], length, IfOk, IfSome, IsTrue, OnOk};
+ghost use Rattle.bt_bib.specs.Items.{items_of};
+ghost use Rattle.bt_text.specs.ByName.{known};
+ghost use Rattle.bt_text.specs.NameList.{are_apart};
+ghost use Rattle.bt_resolve.specs.inner.Spans.{is_entry_item, nothing, span_of, stored_if, tells, tells_of, told_if, with_item_by};
+
+use crate::asked::Asked;
+use crate::faults::tell_fault;
+use crate::macro_text::MacroText;
+use crate::place::Origin;
+use crate::reader::Reader;
+use crate::stored::Stored;
+use bt_bib::{Content, Entry, Item, Piece, PlacedPiece, Spot};
+use bt_log::Message;
+use bt_text::{ByName, Sequence};
+use std::alloc::{AllocError, Global};
+
+/// What an item gave when it was read: whether it is an entry that was stored, and how many messages came.
+#[derive(Clone, Copy)]
+pub struct Mark {
+    pub stored: bool,
+    pub told: usize,
+}
+
+/// What items give: the entries that they store, and their messages.
+#[derive(Drop)]
+pub struct Span {
+    pub stored: Sequence<Stored>,
+    pub messages: Sequence<Message>,
+}
+
+fn nothing(alloc: Global) -> Span
+    ensures { result ≡ nothing }
+{
+    Span {
+        stored: Sequence::new(alloc),
+        messages: Sequence::new(alloc),
+    }
+}
+
+/// Whether it is known of the entry with this mark if it is wanted. One that isn't stored but gave messages may be a
+/// repeated one, or have a fault.
+fn tells(mark: Mark) -> bool
+    ensures { result ≡ tells mark }
+{
+    mark.stored || mark.told == 0
+}
+
+impl Reader<'_> {
+    fn entry_by(
+        &self,
+        is_stored: bool,
+        line: usize,
+        entry: &Entry,
+        macros: &ByName<MacroText>,
+        span: &mut Span,
+    ) -> Result<(), AllocError>
+        requires { IsTrue (are_apart self.now.asked.now.fields) }
+        ensures stored { OnOk result (span.new.stored ≡ span.old.stored
+            ++ stored_if self.now.asked.now (known macros.now) is_stored entry.now entry.now.key) }
+        ensures messages { OnOk result (span.new.messages ≡ span.old.messages
+            ++ told_if self.now.asked.now (known macros.now) is_stored self.now.origin line entry.now entry.now.key) }
+    {
+        let Some(key) = &entry.key else {
+            return Ok(());
+        };
+        if !is_stored {
+            return Ok(());
+        }
+        let stored = self.stored(line, entry, key, macros, &mut span.messages)?;
+        span.stored.push(stored)?;
+        Ok(())
+    }
+
+    /// Reads an entry in the place of one with this mark.
+    fn item_by(
+        &self,
+        mark: Mark,
+        item: &Item,
+        end: Spot,
+        macros: &ByName<MacroText>,
+        span: &mut Span,
+    ) -> Result<(), AllocError>
+        requires { IsTrue (are_apart self.now.asked.now.fields) }
+        ensures { OnOk result (span.new
+            ≡ with_item_by self.now.asked.now (known macros.now) mark self.now.origin end item.now span.old) }
+    {
+        let Content::Entry(entry) = &item.content else {
+            return Ok(());
+        };
+        self.entry_by(mark.stored, item.line, entry, macros, span)?;
+        tell_fault(
+            self.alloc,
+            self.origin.database,
+            end,
+            item,
+            &mut span.messages,
+        )
+    }
+}
+
+fn is_entry_item(item: &Item) -> bool
+    ensures { result ≡ is_entry_item item.now }
+{
+    match &item.content {
+        Content::Entry(_) => true,
+        Content::Define(_) => false,
+        Content::Preamble(_) => false,
+    }
+}
+
+/// Reads a piece in the place of one with this mark. None where it is no entry of which the mark tells.
+fn piece_by(
+    alloc: Global,
+    asked: &Asked<'_>,
+    database: usize,
+    mark: Mark,
+    piece: &PlacedPiece,
+    macros: &ByName<MacroText>,
+) -> Result<Option<Span>, AllocError>
+    requires { IsTrue (are_apart asked.now.fields) }
+    ensures told { IfOk result (λ read. IfSome read (λ span. IsTrue (tells_of mark (items_of (piece.now ∷ []))))) }
+    ensures span { IfOk result (λ read. IfSome read (λ span. span
+        ≡ span_of asked.now (known macros.now) database mark (items_of (piece.now ∷ [])))) }
+{
+    let mut span = nothing(alloc);
+    let Piece::Item(item) = &*piece.piece else {
+        return Ok(Some(span));
+    };
+    if !is_entry_item(item) || !tells(mark) {
+        return Ok(None);
+    }
+    let reader = Reader {
+        alloc,
+        asked: &*asked,
+        origin: Origin {
+            database,
+            line: piece.start.line,
+        },
+    };
+    reader.item_by(mark, item, piece.end, macros, &mut span)?;
+    Ok(Some(span))
+}
+
+/// Reads at most one piece of a database in the place of one with this mark. None where it is no entry of which the mark
+/// tells.
+pub fn read_span(
+    alloc: Global,
+    asked: &Asked<'_>,
+    database: usize,
+    mark: Mark,
+    pieces: &[PlacedPiece],
+    macros: &ByName<MacroText>,
+) -> Result<Option<Span>, AllocError>
+    requires few { length pieces.now ≤ 1 }
+    requires fields { IsTrue (are_apart asked.now.fields) }
+    ensures told { IfOk result (λ read. IfSome read (λ span. IsTrue (tells_of mark (items_of pieces.now)))) }
+    ensures span { IfOk result (λ read. IfSome read (λ span. span
+        ≡ span_of asked.now (known macros.now) database mark (items_of pieces.now))) }
+{
+    if pieces.len() == 0 {
+        return Ok(Some(nothing(alloc)));
+    }
+    let piece = &pieces[0];
+    let read = piece_by(alloc, asked, database, mark, piece, macros)?;
+    Ok(read)
+}
