@@ -81,6 +81,11 @@ all_first P (x ∷ xs) ys h = (h.0, all_first P xs ys h.1)
 pub first_ones_fit : (text : List ℕ) (front back : List PlacedPiece) (a b : Spot) → length text + 1 < 2 ^ 64 → map (rebased_piece a b) front ≡ front → pieces_of text ≡ front ++ back → All (FitsPiece a b) front
 first_ones_fit text front back a b lt still is = All-from_recursion (FitsPiece a b) front (fits text a b front lt (subst (AllByRecursion (LiesIn text)) (sym still) (all_first (LiesIn text) front back (subst (AllByRecursion (LiesIn text)) is (pieces_lie text)))))
 
+pub middle_ones_fit : (text : List ℕ) (front middle back : List PlacedPiece) (a b : Spot) → length text + 1 < 2 ^ 64 → map (rebased_piece a b) middle ≡ middle → pieces_of text ≡ (front ++ middle) ++ back → All (FitsPiece a b) middle
+middle_ones_fit text front middle back a b lt still is =
+    let all = all_first (LiesIn text) (front ++ middle) back (subst (AllByRecursion (LiesIn text)) is (pieces_lie text)) in
+    All-from_recursion (FitsPiece a b) middle (fits text a b middle lt (subst (AllByRecursion (LiesIn text)) (sym still) (all_last (LiesIn text) front middle all)))
+
 -- a piece that is read from its `@` on
 pub record ReadApart (text : List ℕ) (s e : Spot) (p : Piece) : Type 0 where
   pub shown : placed s (piece (drop s.place text)) ≡ (record { start = s; end = spot_from s e; piece = p }, here text (spot_from s e))

@@ -51,15 +51,6 @@ impl Items {
         self.pieces.push(piece)
     }
 
-    /// These items, followed by `others`.
-    pub(crate) fn with_all(self, others: Items) -> Result<Items, AllocError>
-        ensures { IfOk result (λ all. all ≡ self ++ others) }
-    {
-        let mut items = self;
-        items.pieces.append(others.pieces)?;
-        Ok(items)
-    }
-
     /// These items, followed by `others`, which are shared and take their places after the text from `a` on has moved
     /// to `b`.
     pub(crate) fn with_rebased(

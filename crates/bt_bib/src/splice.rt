@@ -100,29 +100,22 @@ impl Items {
         }
     }
 
-    /// These items after an edit. Those that stay or move are shared. The only error is out of memory.
+    /// These items after an edit. All pieces are shared. The only error is out of memory.
     pub fn edited(
         &self,
         alloc: Global,
         new_text: &[u8],
-        edit: ItemsEdit,
+        edit: &ItemsEdit,
     ) -> Result<Items, AllocError>
-        requires { IsItemsEdit self.now (pieces_of new_text.now) edit }
+        requires { IsItemsEdit self.now (pieces_of new_text.now) edit.now }
         ensures { IfOk result (λ items. items ≡ pieces_of new_text.now) }
     {
         let old = self.pieces();
-        let ItemsEdit {
-            before,
-            upto,
-            new,
-            stood,
-            stand,
-            read: _,
-        } = edit;
+        let new = edit.new.pieces();
         let front = Items::new(alloc);
-        let items = front.with_rebased(&old[..before], Spot::ITEM_START, Spot::ITEM_START)?;
-        let items = items.with_all(new)?;
-        let items = items.with_rebased(&old[upto..], stood, stand)?;
+        let items = front.with_rebased(&old[..edit.before], Spot::ITEM_START, Spot::ITEM_START)?;
+        let items = items.with_rebased(new, Spot::ITEM_START, Spot::ITEM_START)?;
+        let items = items.with_rebased(&old[edit.upto..], edit.stood, edit.stand)?;
         Ok(items)
     }
 
@@ -148,7 +141,7 @@ impl Items {
     {
         let edit = self.edit(alloc, old_text, new_text, start, end, inserted)?;
         let read = edit.read;
-        let items = self.edited(alloc, new_text, edit)?;
+        let items = self.edited(alloc, new_text, &edit)?;
         meter.raise(read);
         Ok(items)
     }
