@@ -1,10 +1,9 @@
 //! What an edit reads again of what a session has read.
 
-ghost use Rattle.std.specs.Prelude.{◌≡◌, ◌+◌, ◌<◌, ◌^◌, length};
 ghost use Rattle.bt_bib.specs.Splice.{IsSplice};
 
-use bt_bib::{ReadMeter, Splice};
-use bt_run::{Database, Readings, database_of};
+use bt_bib::Splice;
+use bt_run::{DatabaseEdit, Readings, database_of};
 use bt_text::{Bytes, Shared};
 use std::alloc::{AllocError, Global};
 
@@ -13,22 +12,17 @@ use std::alloc::{AllocError, Global};
 pub struct Reread<'a> {
     pub alloc: Global,
     pub known: &'a Readings,
-    /// The database of the text that the edit spliced, if that text was known as a database.
-    pub spliced: Option<Database>,
-    /// The bytes that were read again.
-    pub meter: ReadMeter,
+    /// How the edit changed a database, if it spliced a text that was known as one.
+    pub edit: Option<DatabaseEdit>,
 }
 
 impl<'a> Reread<'a> {
     /// What was read is known, and nothing is read again yet.
-    pub fn of(alloc: Global, known: &'a Readings) -> Reread<'a>
-        ensures { result.meter ≡ 0 }
-    {
+    pub fn of(alloc: Global, known: &'a Readings) -> Reread<'a> {
         Reread {
             alloc,
             known,
-            spliced: None,
-            meter: ReadMeter::new(),
+            edit: None,
         }
     }
 
@@ -40,12 +34,11 @@ impl<'a> Reread<'a> {
         text: &Shared<Bytes>,
         splice: Splice,
     ) -> Result<(), AllocError>
-        requires splice { IsSplice old.now text.now splice.begin splice.end splice.inserted }
-        requires meter { self.old.meter + length text.now < 2 ^ 128 }
+        requires { IsSplice old.now text.now splice.begin splice.end splice.inserted }
     {
         if let Some(database) = database_of(self.known.databases.as_slice(), old) {
             let text = text.share()?;
-            self.spliced = Some(database.spliced(self.alloc, text, splice, &mut self.meter)?);
+            self.edit = Some(database.spliced(self.alloc, text, splice)?);
         }
         Ok(())
     }
@@ -53,8 +46,9 @@ impl<'a> Reread<'a> {
     /// What is known after the edit.
     pub fn readings(self) -> Result<Readings, AllocError> {
         let mut readings = self.known.share(self.alloc)?;
-        if let Some(database) = self.spliced {
-            readings.databases.push(database)?;
+        if let Some(edit) = self.edit {
+            readings.databases.push(edit.new.share()?)?;
+            readings.edit = Some(edit);
         }
         Ok(readings)
     }

@@ -14,6 +14,7 @@ use bt_run::{Answers, Kept, Readings, Report, Run, answers_after};
 use bt_text::Bytes;
 use std::alloc::{AllocError, Global};
 use std::marker::Model;
+use std::mem;
 
 /// A session over the texts of `.aux`, `.bib` and `.bst` files. Contracts see its present state: the texts by name, the
 /// root name and min-crossrefs. What else it keeps is what these mean, the steps of their run, and what its
@@ -96,7 +97,8 @@ impl Session {
     }
 
     /// Goes over to a state, over what was read before: all that it means is made beside what is kept, which is
-    /// then replaced.
+    /// then replaced. Only the resolution isn't kept twice: the run edits it in place. It is right about its own
+    /// question, so after out of memory it may be left out.
     fn go_to(&mut self, state: State, readings: Readings) -> Result<Report, Refusal>
         requires { EachOnce state.texts }
         ensures ok { IfOk result (λ _. self.new ≡ state) }
@@ -104,6 +106,8 @@ impl Session {
         ensures refused { IfErr result (λ refusal. refusal ≡ Refusal.OutOfMemory) }
         ensures err { OnErr result (self.new ≡ self.old) }
     {
+        let mut readings = readings;
+        readings.resolution = mem::replace(&mut self.readings.resolution, None);
         let Run {
             answers,
             kept,

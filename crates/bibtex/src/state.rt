@@ -58,7 +58,6 @@ impl State {
         bytes: &[u8],
         reread: &mut Reread<'_>,
     ) -> Result<State, AllocError>
-        requires meter { reread.old.meter ≡ 0 }
         requires right { splice_refusal self.now.texts name.now start end (length bytes.now) ≡ None }
         ensures { IfOk result (λ state. state ≡ changed (splice name.now start end bytes.now) self.now) }
     {
@@ -77,7 +76,6 @@ impl State {
 
     /// The state after an edit that there is no reason to refuse.
     fn changed(&self, edit: Edit<'_>, reread: &mut Reread<'_>) -> Result<State, AllocError>
-        requires meter { reread.old.meter ≡ 0 }
         requires right { refusal_of (edit_of edit) (length (bytes_of (edit_of edit))) self.now ≡ None }
         ensures { IfOk result (λ state. state ≡ changed (edit_of edit.entry) self.now) }
     {
@@ -106,7 +104,6 @@ impl State {
     /// The state after an edit, made beside this one, with which it shares all that the edit leaves. Refusals are
     /// tested in the order of their cases, out of memory last. A known database that is spliced is read again.
     pub fn after(&self, edit: Edit<'_>, reread: &mut Reread<'_>) -> Result<State, Refusal>
-        requires meter { reread.old.meter ≡ 0 }
         ensures ok { IfOk result (λ state. applied (edit_of edit.entry) self.now ≡ Ok state) }
         ensures refused { IsAnswer (applied (edit_of edit.entry) self.now) result }
     {

@@ -10,6 +10,8 @@ pub mod AnswerLemmas
 pub mod ReachedLemmas
 pub mod WorkLemmas
 pub mod EarlierLemmas
+pub mod EditLemmas
+pub mod FindingLemmas
 pub mod IndexLemmas
 pub mod laws
 mod rows

@@ -2,6 +2,9 @@
 pub mod Course
 pub mod Index
 pub mod Earlier
+pub mod Edits
+pub mod Asked
+pub mod Found
 pub mod Work
 pub mod BodySet
 pub mod JobView

@@ -1,13 +1,11 @@
 //! Databases as they were read, which outlast the run that read them.
 
-ghost use Rattle.std.specs.Prelude.{◌≡◌, ◌+◌, ◌<◌, ◌^◌, length, map, IfOk, IfSome};
-ghost use Rattle.bt_bib.specs.Items.{items_of};
+ghost use Rattle.std.specs.Prelude.{◌≡◌, map, IfOk, IfSome};
 ghost use Rattle.bt_bib.specs.BibText.{pieces_of};
 ghost use Rattle.bt_bib.specs.Splice.{IsSplice};
-ghost use Rattle.bt_run.specs.ReadCommand.{text_in};
+ghost use Rattle.bt_run.specs.inner.Edits.{IsSplicedBy};
 
-use crate::job::shared_text;
-use bt_bib::{Items, ReadMeter, Splice, read_bib};
+use bt_bib::{Items, ItemsEdit, Splice, read_bib};
 use bt_job::File;
 use bt_text::{Bytes, Sequence, Shared};
 use std::alloc::{AllocError, Global};
@@ -39,31 +37,43 @@ impl Database {
         })
     }
 
-    /// The database of a text that is this one's with a splice. Only what the splice can have changed is read, from the
-    /// boundary before it to the first one after it that both texts have, and its bytes are counted.
+    /// How a splice that gives this text changes the database. Only the part that the splice can have changed is read:
+    /// from the boundary before it to the first one after it that both texts have.
     pub fn spliced(
         &self,
         alloc: Global,
         text: Shared<Bytes>,
         splice: Splice,
-        meter: &mut ReadMeter,
-    ) -> Result<Database, AllocError>
-        requires splice { IsSplice self.now.text text splice.begin splice.end splice.inserted }
-        requires meter { meter.old + length text < 2 ^ 128 }
-        ensures { IfOk result (λ database. database.text ≡ text) }
+    ) -> Result<DatabaseEdit, AllocError>
+        requires { IsSplice self.now.text text splice.begin splice.end splice.inserted }
+        ensures old { IfOk result (λ made. made.old ≡ self.now.text) }
+        ensures new { IfOk result (λ made. made.new.text ≡ text) }
     {
-        let old = self.text.as_slice();
+        let old = self.text.share()?;
         let Splice {
             begin,
             end,
             inserted,
         } = splice;
-        let items = self
-            .items
-            .respliced(alloc, old, text.as_slice(), begin, end, inserted, meter)?;
-        let items = Shared::new(alloc, items)?;
-        Ok(Database { text, items })
+        let (before, after) = (self.text.as_slice(), text.as_slice());
+        let edit = self.items.edit(alloc, before, after, begin, end, inserted)?;
+        let items = Shared::new(alloc, self.items.edited(alloc, after, &edit)?)?;
+        let new = Database { text, items };
+        let made = DatabaseEdit { old, new, edit };
+        Ok(made)
     }
+}
+
+/// How a splice changed a database.
+#[derive(Drop)]
+pub struct DatabaseEdit {
+    /// Its text before the splice.
+    pub old: Shared<Bytes>,
+    /// The database after it.
+    pub new: Database,
+    /// How the items differ.
+    pub edit: ItemsEdit,
+    ghost edited: { IsSplicedBy (pieces_of old) (pieces_of new.text) edit },
 }
 
 /// The database of a text among some, if it was read.
@@ -91,34 +101,21 @@ fn known_or_read(
     Ok(database)
 }
 
-/// The databases of these names, in order. Those that weren't read before are read, and put after those that were;
-/// after out of memory these have what was read so far.
-pub fn databases_in(
+/// The items of databases with these texts, in order. Those that weren't read before are read, and put after those that
+/// were; after out of memory these have what was read so far.
+pub fn all_items(
     alloc: Global,
-    files: &[File],
-    names: &[Bytes],
+    texts: &[Shared<Bytes>],
     databases: &mut Sequence<Database>,
-) -> Result<Sequence<Database>, AllocError>
-    ensures { IfOk result (λ all. map (λ database. database.text) all ≡ map (text_in files.now) names.now) }
+) -> Result<Sequence<Shared<Items>>, AllocError>
+    ensures { IfOk result (λ all. all ≡ map pieces_of texts.now) }
 {
     let mut all = Sequence::new(alloc);
-    'names: for name in names {
-        let text = shared_text(alloc, files, name.as_slice())?;
-        all.push(known_or_read(alloc, databases, text)?)?;
+    'texts: for text in texts {
+        let database = known_or_read(alloc, databases, text.share()?)?;
+        all.push(database.items)?;
     }
     Ok(all)
-}
-
-/// The items of databases, as they are kept.
-pub fn all_items<'a>(alloc: Global, databases: &'a [Database]) -> Result<Vec<&'a Items>, AllocError>
-    ensures { IfOk result (λ items. map (λ kept. items_of kept.now) items.items
-        ≡ map (λ database. items_of (pieces_of database.text)) databases.now) }
-{
-    let mut items = Vec::new(alloc);
-    'databases: for database in databases {
-        items.push(&*database.items)?;
-    }
-    Ok(items)
 }
 
 /// Those databases whose text is still one of these files'.

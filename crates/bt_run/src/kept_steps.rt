@@ -202,7 +202,7 @@ impl Recorder for KeptSteps {
         number: usize,
         course: &mut Course,
     ) -> Result<(), AllocError> {
-        read(alloc, job, number, course, &mut self.readings.databases)?;
+        read(alloc, job, number, course, &mut self.readings)?;
         let places = no_places(alloc, self.steps.as_slice())?;
         let same = same_entries(alloc, job.earlier.entries, course.entries.as_slice())?;
         self.places = places;

@@ -3,6 +3,7 @@
 #![tactic(auto)]
 
 mod answers;
+mod asking;
 mod bibliography;
 mod commands;
 mod counts;
@@ -11,9 +12,11 @@ mod database;
 mod database_messages;
 mod declarations;
 mod earlier;
+mod finding;
 mod index;
 mod job;
 mod kept;
+mod kept_resolution;
 mod kept_steps;
 mod once;
 mod read_command;
@@ -31,7 +34,7 @@ mod written_steps;
 
 pub use answers::{Answers, Report, Run, answers_after};
 pub use course::{CommandPlace, Course, Step};
-pub use database::{Database, database_of};
+pub use database::{Database, DatabaseEdit, database_of};
 pub use kept::Kept;
 pub use once::{OneRun, run_once};
 pub use readings::Readings;

@@ -2,57 +2,60 @@
 
 ghost use Rattle.std.specs.Prelude.{◌≡◌, map, IfOk, OnOk};
 ghost use Rattle.bt_style.specs.Program.{program_of};
-ghost use Rattle.bt_run.specs.ReadCommand.{found_for, with_blank_variables, list_order, read};
+ghost use Rattle.bt_run.specs.ReadCommand.{with_blank_variables, list_order, read, read_in};
+ghost use Rattle.bt_run.specs.inner.Asked.{question_for};
+ghost use Rattle.bt_run.specs.inner.Found.{IsKept};
 ghost use Rattle.bt_run.specs.inner.JobView.{job_of};
 
+use crate::asking::Asking;
 use crate::course::Course;
-use crate::database::{Database, all_items, databases_in};
 use crate::database_messages::tell_databases;
-use crate::declarations::{blank, declared_before};
+use crate::declarations::blank;
+use crate::finding::find;
 use crate::job::Job;
+use crate::readings::Readings;
 use bt_actions::{Entry, Variables};
-use bt_resolve::{Resolved, resolve};
+use bt_resolve::Resolved;
 use bt_style::Style;
 use bt_text::{Sequence, Shared};
 use std::alloc::{AllocError, Global};
 
-/// What the databases give for the citations, at the command of this number. Those that weren't read before are read.
-fn found(
+/// Finds what the databases give for the citations, at the command of this number, and keeps it. Databases that weren't
+/// read before are read.
+fn find_for(
     alloc: Global,
     job: Job<'_>,
     number: usize,
-    databases: &mut Sequence<Database>,
-) -> Result<Resolved, AllocError>
-    ensures { IfOk result (λ all. all ≡ found_for (job_of job.entry) number) }
+    readings: &mut Readings,
+) -> Result<(), AllocError>
+    ensures { OnOk result (IsKept readings.new.resolution (question_for (job_of job.entry) number)) }
 {
-    let declared = declared_before(alloc, job.style, number)?;
-    let read = databases_in(alloc, job.files, job.databases, databases)?;
-    let items = all_items(alloc, read.as_slice())?;
-    let all = resolve(alloc, &declared, job.cites, items.as_slice(), job.min)?;
-    Ok(all)
+    let asking = Asking::at(alloc, job, number)?;
+    let Readings {
+        databases,
+        edit,
+        resolution,
+        ..
+    } = readings;
+    find(alloc, asking, resolution, edit, databases)?;
+    Ok(())
 }
 
-fn entered(entry: bt_resolve::Entry, first: &Shared<Variables>) -> Result<Entry, AllocError>
+fn entered(entry: &bt_resolve::Entry, first: &Shared<Variables>) -> Result<Entry, AllocError>
     ensures { IfOk result (λ e. e
         ≡ record {
-          key = entry.key;
-          kind = entry.kind;
-          function = entry.function;
-          fields = entry.fields;
+          key = entry.now.key;
+          kind = entry.now.kind;
+          function = entry.now.function;
+          fields = entry.now.fields;
           variables = first.now;
         }) }
 {
-    let bt_resolve::Entry {
-        key,
-        kind,
-        function,
-        fields,
-    } = entry;
     Ok(Entry {
-        key,
-        kind,
-        function,
-        fields,
+        key: entry.key.share()?,
+        kind: entry.kind.share()?,
+        function: entry.function,
+        fields: entry.fields.share()?,
         variables: first.share()?,
     })
 }
@@ -60,15 +63,15 @@ fn entered(entry: bt_resolve::Entry, first: &Shared<Variables>) -> Result<Entry,
 fn all_entered(
     alloc: Global,
     style: &Style,
-    entries: Sequence<bt_resolve::Entry>,
+    entries: &[bt_resolve::Entry],
 ) -> Result<Sequence<Entry>, AllocError>
-    ensures { IfOk result (λ all. all ≡ map (with_blank_variables (program_of style.now)) entries) }
+    ensures { IfOk result (λ all. all ≡ map (with_blank_variables (program_of style.now)) entries.now) }
 {
     let numbers = style.entry_numbers.as_slice();
     let texts = style.entry_texts.as_slice();
     let first = Shared::new(alloc, blank(alloc, numbers, texts)?)?;
     let mut all = Sequence::new(alloc);
-    'entries: for entry in entries.into_vec() {
+    'entries: for entry in entries {
         all.push(entered(entry, &first)?)?;
     }
     Ok(all)
@@ -85,26 +88,43 @@ fn list_order(alloc: Global, entries: &[Entry]) -> Result<Sequence<usize>, Alloc
     Ok(order)
 }
 
-/// Reads the databases: the entries with their variables, the list order, the preamble, and what is reported. Of these
-/// databases only those are read that weren't before; they are put after those that were.
+/// Puts into a run what the databases give: the entries with their variables, the list order, the preamble, and what is
+/// reported.
+fn enter(
+    alloc: Global,
+    job: Job<'_>,
+    found: &Resolved,
+    course: &mut Course,
+) -> Result<(), AllocError>
+    ensures { OnOk result (course.new
+        ≡ read_in (program_of job.entry.style.now) job.entry.databases.now found.now course.old) }
+{
+    let messages = found.messages.as_slice();
+    tell_databases(alloc, &mut course.log, job.databases, messages)?;
+    let entries = all_entered(alloc, job.style, found.entries.as_slice())?;
+    let preamble = found.preamble.share()?;
+    course.order = list_order(alloc, entries.as_slice())?;
+    course.entries = entries;
+    course.preamble = preamble;
+    Ok(())
+}
+
+/// Reads the databases. What they give is kept.
 pub fn read(
     alloc: Global,
     job: Job<'_>,
     number: usize,
     course: &mut Course,
-    databases: &mut Sequence<Database>,
+    readings: &mut Readings,
 ) -> Result<(), AllocError>
     ensures { OnOk result (course.new ≡ read (job_of job.entry) number course.old) }
 {
-    let Resolved {
-        entries,
-        preamble,
-        messages,
-    } = found(alloc, job, number, databases)?;
-    tell_databases(alloc, &mut course.log, job.databases, messages.as_slice())?;
-    let entries = all_entered(alloc, job.style, entries)?;
-    course.order = list_order(alloc, entries.as_slice())?;
-    course.entries = entries;
-    course.preamble = preamble;
-    Ok(())
+    find_for(alloc, job, number, readings)?;
+    match &readings.resolution {
+        None => Ok(()),
+        Some(kept) => {
+            enter(alloc, job, kept.resolution.resolved(), course)?;
+            Ok(())
+        }
+    }
 }

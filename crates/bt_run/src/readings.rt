@@ -4,7 +4,8 @@ ghost use Rattle.bt_style.specs.Fault.{Gives};
 ghost use Rattle.bt_style.specs.Program.{program_of};
 ghost use Rattle.bt_style.specs.Reader.{style_of};
 
-use crate::database::{Database, present as present_databases};
+use crate::database::{Database, DatabaseEdit, present as present_databases};
+use crate::kept_resolution::KeptResolution;
 use crate::styles::{ReadStyle, known_or_read, present as present_styles};
 use bt_job::{AuxTexts, File};
 use bt_style::{Style, StyleRefusal};
@@ -17,6 +18,10 @@ pub struct Readings {
     pub aux_texts: AuxTexts,
     pub styles: Sequence<ReadStyle>,
     pub databases: Sequence<Database>,
+    /// How the session's last splice changed a database. Only the run after it needs this.
+    pub edit: Option<DatabaseEdit>,
+    /// What the last READ found.
+    pub resolution: Option<KeptResolution>,
 }
 
 impl Readings {
@@ -26,10 +31,12 @@ impl Readings {
             aux_texts: AuxTexts::new(alloc),
             styles: Sequence::new(alloc),
             databases: Sequence::new(alloc),
+            edit: None,
+            resolution: None,
         }
     }
 
-    /// The readings for one more owner; no text or reading is copied.
+    /// The readings for one more owner, without the edit and the resolution; no text or reading is copied.
     pub fn share(&self, alloc: Global) -> Result<Readings, AllocError> {
         let mut styles = Sequence::new(alloc);
         'styles: for style in self.styles.as_slice() {
@@ -43,6 +50,8 @@ impl Readings {
             aux_texts: self.aux_texts.share(alloc)?,
             styles,
             databases,
+            edit: None,
+            resolution: None,
         })
     }
 
@@ -59,12 +68,14 @@ impl Readings {
         known.style()
     }
 
-    /// Those readings whose text is still one of these files'.
-    pub fn present(&self, alloc: Global, files: &[File]) -> Result<Readings, AllocError> {
+    /// Those readings whose text is still one of these files', and the resolution.
+    pub fn present(self, alloc: Global, files: &[File]) -> Result<Readings, AllocError> {
         Ok(Readings {
             aux_texts: self.aux_texts.present(alloc, files)?,
             styles: present_styles(alloc, files, self.styles.as_slice())?,
             databases: present_databases(alloc, files, self.databases.as_slice())?,
+            edit: None,
+            resolution: self.resolution,
         })
     }
 }

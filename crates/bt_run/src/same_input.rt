@@ -16,7 +16,7 @@ use bt_style::Target;
 /// The longest preamble that is compared at each step.
 const PREAMBLE_BYTES: usize = 4096;
 
-fn equal_bytes(old: &[u8], new: &[u8]) -> bool
+pub fn equal_bytes(old: &[u8], new: &[u8]) -> bool
     ensures { IsTrue result → old.now ≡ new.now }
 {
     old == new

@@ -14,4 +14,4 @@ returns-clause-ready c =
     let are_none = c.in_ok-places.ensures ∙ ap (map (λ (s : Step). None)) c.as_slice.ensures in
     let are_same = subst (λ (es : List Entry). AreSame job.earlier.entries.now es same) c.as_slice-2.ensures c.in_ok-same.ensures in
     read_consistent (program_of job.style.now) job.earlier c.args.course.now.entries c.read.new.course.entries s
-    (record s.readings { databases = c.read.new.databases }) c.in_ok-places.places same are_none are_same c.requires
+    c.read.new.readings c.in_ok-places.places same are_none are_same c.requires

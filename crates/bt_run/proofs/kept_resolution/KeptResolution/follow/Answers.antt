@@ -1,0 +1,23 @@
+use Rattle.std.proofs.Common.{◌≡◌, ◌∙◌, ap, sym, subst, ℕ, List, Some, map}
+use Rattle.std.specs.Prelude.{slice_get, slice_set}
+use Rattle.bt_bib.specs.BibText.{pieces_of}
+use Rattle.bt_run.specs.inner.Asked.{with_databases}
+use Rattle.bt_run.proofs.FindingLemmas.{texts_kept}
+use Rattle.bt_run.proofs.kept_resolution.KeptResolution.follow.Goals as goal
+
+pub returns-then-are_same : goal.returns-then-are_same
+returns-then-are_same c = λ go.
+    let kept = c.args.self.now in
+    texts_kept kept.resolution kept.texts c.args.texts.now kept.read (sym c.as_slice-kept.ensures ∙ c.are_same.ensures c.if-are_same.true)
+
+pub edit_at-requires : goal.edit_at-requires
+edit_at-requires c =
+    subst (λ (ts : List (List ℕ)). slice_get ts c.same_first-number.result ≡ Some c.in-Some.edit.old) c.as_slice-kept.ensures (c.is_edited_at.ensures.old c.if-not-is_edited_at.false)
+
+pub returns : goal.returns
+returns c = λ go.
+    let kept = c.args.self.now in
+    let n = c.same_first-number.result in
+    let text = c.in-Some.edit.new.text in
+    let texts = c.is_edited_at.ensures.new c.if-not-is_edited_at.false ∙ ap (λ (ts : List (List ℕ)). slice_set ts n text) c.as_slice-kept.ensures in
+    c.in_ok-done.ensures go ∙ ap (λ (ts : List (List ℕ)). with_databases (map pieces_of ts) kept.resolution) (sym texts)

@@ -1,0 +1,131 @@
+//! What READ asks of the databases.
+
+ghost use Rattle.std.specs.Prelude.{◌≡◌, IfOk, IsTrue, map};
+ghost use Rattle.bt_run.specs.ReadCommand.{text_in};
+ghost use Rattle.bt_run.specs.inner.JobView.{job_of};
+ghost use Rattle.bt_run.specs.inner.Asked.{question_for, question_of, with_databases};
+
+use crate::declarations::declared_before;
+use crate::job::{Job, shared_text};
+use crate::same_input::equal_bytes;
+use bt_job::File;
+use bt_resolve::{Cites, Declared, Macro, Question};
+use bt_text::{Bytes, Sequence, Shared};
+use std::alloc::{AllocError, Global};
+
+/// What READ asks of the databases with these texts.
+#[derive(Drop)]
+pub struct Asking {
+    pub declared: Declared,
+    pub cites: Cites,
+    pub texts: Sequence<Shared<Bytes>>,
+    pub min: u32,
+}
+
+fn texts_in(
+    alloc: Global,
+    files: &[File],
+    names: &[Bytes],
+) -> Result<Sequence<Shared<Bytes>>, AllocError>
+    ensures { IfOk result (λ texts. texts ≡ map (text_in files.now) names.now) }
+{
+    let mut texts = Sequence::new(alloc);
+    'names: for name in names {
+        texts.push(shared_text(alloc, files, name.as_slice())?)?;
+    }
+    Ok(texts)
+}
+
+fn shared_cites(cites: &Cites) -> Result<Cites, AllocError>
+    ensures { IfOk result (λ same. same ≡ cites.now) }
+{
+    Ok(Cites {
+        keys: cites.keys.share()?,
+        star: cites.star,
+    })
+}
+
+impl Asking {
+    /// What READ asks at the command of this number.
+    pub fn at(alloc: Global, job: Job<'_>, number: usize) -> Result<Asking, AllocError>
+        ensures { IfOk result (λ asking. question_of asking ≡ question_for (job_of job.entry) number) }
+    {
+        let declared = declared_before(alloc, job.style, number)?;
+        let texts = texts_in(alloc, job.files, job.databases)?;
+        Ok(Asking {
+            declared,
+            cites: shared_cites(job.cites)?,
+            texts,
+            min: job.min,
+        })
+    }
+
+    /// Whether a question is the same, but perhaps about other databases.
+    #[tactic(auto, using(crate::proofs::FindingLemmas::same_question))]
+    pub fn is_like(&self, question: &Question) -> bool
+        ensures { IsTrue result → question.now ≡ with_databases question.now.databases (question_of self.now) }
+    {
+        self.min == question.min
+            && is_same_declared(&self.declared, &question.declared)
+            && is_same_cites(&self.cites, &question.cites)
+    }
+}
+
+fn are_same(names: &[Bytes], others: &[Bytes]) -> bool
+    ensures { IsTrue result → names.now ≡ others.now }
+{
+    if names.len() != others.len() {
+        return false;
+    }
+    'names: for place in 0..names.len() {
+        if names[place].as_slice() != others[place].as_slice() {
+            return false;
+        }
+    }
+    true
+}
+
+fn is_same_macro(known: &Macro, other: &Macro) -> bool
+    ensures { IsTrue result → known.now ≡ other.now }
+{
+    equal_bytes(known.name.as_slice(), other.name.as_slice())
+        && equal_bytes(known.value.as_slice(), other.value.as_slice())
+}
+
+fn are_same_macros(macros: &[Macro], others: &[Macro]) -> bool
+    ensures { IsTrue result → macros.now ≡ others.now }
+{
+    if macros.len() != others.len() {
+        return false;
+    }
+    'macros: for place in 0..macros.len() {
+        if !is_same_macro(&macros[place], &others[place]) {
+            return false;
+        }
+    }
+    true
+}
+
+fn is_same_declared(declared: &Declared, other: &Declared) -> bool
+    ensures { IsTrue result → declared.now ≡ other.now }
+{
+    are_same(declared.fields.as_slice(), other.fields.as_slice())
+        && are_same(declared.types.as_slice(), other.types.as_slice())
+        && are_same_macros(declared.macros.as_slice(), other.macros.as_slice())
+}
+
+fn is_same_star(star: Option<usize>, other: Option<usize>) -> bool
+    ensures { IsTrue result → star ≡ other }
+{
+    match (star, other) {
+        (None, None) => true,
+        (Some(before), Some(others)) => before == others,
+        _ => false,
+    }
+}
+
+fn is_same_cites(cites: &Cites, other: &Cites) -> bool
+    ensures { IsTrue result → cites.now ≡ other.now }
+{
+    is_same_star(cites.star, other.star) && are_same(cites.keys.as_slice(), other.keys.as_slice())
+}

@@ -1,0 +1,158 @@
+//! What READ found, kept for the next run.
+//!
+//! From one run to the next READ mostly asks the same, or one of its databases has a splice. In the first case what is
+//! kept is the answer. In the second it mostly becomes the answer by an edit, which reads at most one entry. Otherwise
+//! the question is resolved anew.
+//!
+//! What is kept is right about its own question, whatever the session's state is. So an edit that fails may leave it out
+//! or leave one about another state: the next run compares the questions.
+
+ghost use Rattle.std.specs.Prelude.{◌≡◌, ◌≤◌, Some, length, map, take, slice_get, slice_set, IfOk, IfSome, IsTrue};
+ghost use Rattle.bt_bib.specs.BibText.{pieces_of};
+ghost use Rattle.bt_text.specs.NameList.{are_apart};
+ghost use Rattle.bt_resolve.specs.inner.Kept.{IsResolvedEdit};
+ghost use Rattle.bt_run.specs.inner.Asked.{question_of, with_databases};
+
+use crate::asking::Asking;
+use crate::database::{Database, DatabaseEdit, all_items};
+use crate::same_input::equal_bytes;
+use bt_bib::Items;
+use bt_resolve::{Question, Resolution, ResolvedEdit};
+use bt_text::{Bytes, Element, Sequence, Shared};
+use std::alloc::{AllocError, Global};
+
+/// What READ found, with the texts of its databases.
+#[derive(Drop)]
+pub struct KeptResolution {
+    pub resolution: Resolution,
+    pub texts: Sequence<Shared<Bytes>>,
+    ghost read: { resolution.databases ≡ map pieces_of texts },
+}
+
+/// How many of the first texts are the same.
+fn same_first(texts: &[Shared<Bytes>], others: &[Shared<Bytes>]) -> usize
+    ensures { take result texts.now ≡ take result others.now }
+{
+    let count = texts.len().min(others.len());
+    'texts: for place in 0..count {
+        if texts[place].as_slice() != others[place].as_slice() {
+            return place;
+        }
+    }
+    count
+}
+
+/// Whether an edit of the database of this number makes these texts of those that are kept.
+fn is_edited_at(
+    kept: &[Shared<Bytes>],
+    texts: &[Shared<Bytes>],
+    number: usize,
+    edit: &DatabaseEdit,
+) -> bool
+    requires { take number kept.now ≡ take number texts.now }
+    ensures old { IsTrue result → slice_get kept.now number ≡ Some edit.now.old }
+    ensures new { IsTrue result → texts.now ≡ slice_set kept.now number edit.now.new.text }
+{
+    if number >= kept.len() {
+        return false;
+    }
+    if number >= texts.len() {
+        return false;
+    }
+    let old = &kept[number];
+    if !equal_bytes(old.as_slice(), edit.old.as_slice()) {
+        return false;
+    }
+    let new = &texts[number];
+    if !equal_bytes(new.as_slice(), edit.new.text.as_slice()) {
+        return false;
+    }
+    Element::are_same(&kept[number + 1..], &texts[number + 1..])
+}
+
+impl KeptResolution {
+    /// What is found anew.
+    pub fn anew(
+        alloc: Global,
+        asking: Asking,
+        databases: &mut Sequence<Database>,
+    ) -> Result<KeptResolution, AllocError>
+        requires fields { IsTrue (are_apart asking.declared.fields) }
+        requires star { IfSome asking.cites.star (λ before. before ≤ length asking.cites.keys) }
+        ensures { IfOk result (λ kept. kept.resolution ≡ question_of asking) }
+    {
+        let Asking {
+            declared,
+            cites,
+            texts,
+            min,
+        } = asking;
+        let databases = all_items(alloc, texts.as_slice(), databases)?;
+        let question = Question {
+            declared,
+            cites,
+            databases,
+            min,
+        };
+        let resolution = Resolution::of(alloc, question)?;
+        let kept = KeptResolution { resolution, texts };
+        Ok(kept)
+    }
+
+    /// Puts an edit in place: the database of this number has this text and these items now.
+    fn put(&mut self, number: usize, text: Shared<Bytes>, items: Shared<Items>, made: ResolvedEdit)
+        requires edit { IsResolvedEdit self.old.resolution number items made }
+        requires items { items ≡ pieces_of text }
+        ensures { self.new.resolution
+            ≡ with_databases (map pieces_of (slice_set self.old.texts number text)) self.old.resolution }
+    {
+        self.resolution.put(number, items, made);
+        self.texts.set(number, text);
+    }
+
+    /// Edits the database of this number. It says whether that was done: not if the edit may change more than one entry.
+    fn edit_at(
+        &mut self,
+        alloc: Global,
+        number: usize,
+        edit: &DatabaseEdit,
+    ) -> Result<bool, AllocError>
+        requires { slice_get self.old.texts number ≡ Some edit.now.old }
+        ensures { IfOk result (λ done. IsTrue done → self.new.resolution
+            ≡ with_databases (map pieces_of (slice_set self.old.texts number edit.now.new.text)) self.old.resolution) }
+    {
+        let new = &edit.new;
+        let Some(made) = self.resolution.edit(alloc, number, &new.items, &edit.edit)? else {
+            return Ok(false);
+        };
+        let text = new.text.share()?;
+        let items = new.items.share()?;
+        self.put(number, text, items, made);
+        Ok(true)
+    }
+
+    /// Goes over to these texts. It says whether that was done: not if more than one entry may change.
+    pub fn follow(
+        &mut self,
+        alloc: Global,
+        texts: &[Shared<Bytes>],
+        edit: &Option<DatabaseEdit>,
+    ) -> Result<bool, AllocError>
+        ensures { IfOk result (λ done. IsTrue done → self.new.resolution
+            ≡ with_databases (map pieces_of texts.now) self.old.resolution) }
+    {
+        let kept = self.texts.as_slice();
+        if Element::are_same(kept, texts) {
+            return Ok(true);
+        }
+        let number = same_first(kept, texts);
+        let Some(edit) = edit else {
+            return Ok(false);
+        };
+        if !is_edited_at(kept, texts, number, edit) {
+            return Ok(false);
+        }
+        let done = self.edit_at(alloc, number, edit)?;
+        Ok(done)
+    }
+}
