@@ -13,7 +13,6 @@ use Rattle.bt_machine.specs.declared.input.Input.{Input}
 use Rattle.bt_machine.specs.declared.outcome.Outcome.{Outcome}
 use Rattle.bt_machine.specs.Step.{Finish, step, step_in, first_variables, outcome_of, Own, own}
 use Rattle.bt_machine.specs.OwnEntry.{IsPlace, DependsOnInput, alone, cut, finish_back}
-use Rattle.bt_log.specs.declared.message.Message.{Message}
 use Rattle.bt_run.specs.declared.course.Course.{Course}
 use Rattle.bt_run.specs.declared.course.Step.{Step}
 use Rattle.bt_run.specs.declared.course.CommandPlace.{CommandPlace}
@@ -21,7 +20,6 @@ use Rattle.bt_run.specs.declared.earlier.Earlier.{Earlier}
 use Rattle.bt_run.specs.declared.kept_steps.KeptSteps.{KeptSteps}
 use Rattle.bt_run.specs.Course.{Recorded, course_world, input_at, step_kept, left_by, stepped, all_told}
 use Rattle.bt_run.specs.inner.Course.{recorded, IsOrdered, with_variables, variables_back, put_back}
-use Rattle.bt_run.specs.declared.reuse.Reuse.{Reuse}
 use Rattle.bt_run.specs.Work.{key_in, total_cost, work_under, IsStep}
 use Rattle.bt_run.specs.inner.Earlier.{AreSame}
 use Rattle.bt_run.specs.inner.Work.{IsNext, IsConsistent}

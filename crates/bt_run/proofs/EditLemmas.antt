@@ -1,5 +1,5 @@
 -- An edit of a database, as it is made and as it is kept.
-use Rattle.std.proofs.Common.{◌≡◌, ◌∙◌, ap, sym, refl, List, [], ◌∷◌, ◌++◌, drop, map, take, arith}
+use Rattle.std.proofs.Common.{◌≡◌, ◌∙◌, ap, sym, refl, List, [], ◌∷◌, ◌++◌, map, take, arith}
 use Rattle.bt_bib.specs.Boundaries.{moved_piece}
 use Rattle.bt_bib.specs.Spot.{spot_from}
 use Rattle.bt_bib.specs.Splice.{IsItemsEdit}

@@ -1,9 +1,10 @@
 -- What READ finds: the question that is kept, and a database that an edit changes.
-use Rattle.std.specs.Prelude.{IfSome, slice_get, slice_set}
+use Rattle.std.specs.Prelude.{IfSome, IsTrue, slice_get, slice_set}
 use Rattle.std.specs.Option.{ForSome, option_map}
 use Rattle.std.proofs.Common.{◌≡◌, ◌∙◌, ap, sym, refl, subst, ℕ, zero, suc, ◌+◌, ◌<◌, ◌≤◌, List, [], ◌∷◌, ◌++◌, length, take, drop, map, Option, Some, None, arith}
 use Rattle.std.proofs.lemmas.List.{length-map, map-set}
-use Rattle.std.proofs.lemmas.Option.{slice_get-map, slice_get_within}
+use Rattle.std.proofs.lemmas.Option.{slice_get-map}
+use Rattle.bt_text.specs.NameList.{are_apart}
 use Rattle.bt_bib.specs.BibText.{pieces_of}
 use Rattle.bt_bib.specs.Items.{PlacedItem, items_of}
 use Rattle.bt_bib.specs.Splice.{IsItemsEdit}
@@ -91,6 +92,15 @@ resolved_is job number =
     ap (λ (ds : List (List PlacedItem)). resolved (declared_before number job.program) job.cites ds job.min)
     (sym (maps items_of (λ (name : List ℕ). pieces_of (text_in job.files name)) job.databases))
 
-pub star_before : (star : Option ℕ) (n : ℕ) → ForSome star (λ before. before ≤ n) → IfSome star (λ before. before ≤ n)
+-- what READ asks declares names that are apart, and its `*` is among its citations
+pub fields_apart : (a : Asking) (q : Question) → question_of a ≡ q → IsTrue (are_apart q.declared.fields) → IsTrue (are_apart a.declared.fields)
+fields_apart a q is apart = subst (λ (r : Question). IsTrue (are_apart r.declared.fields)) (sym is) apart
+
+star_before : (star : Option ℕ) (n : ℕ) → ForSome star (λ before. before ≤ n) → IfSome star (λ before. before ≤ n)
 star_before None n within = tt
 star_before (Some before) n within = within before refl
+
+pub star_within : (a : Asking) (q : Question) → question_of a ≡ q → ForSome q.cites.star (λ before. before ≤ length q.cites.keys) → IfSome a.cites.star (λ before. before ≤ length a.cites.keys)
+star_within a q is within =
+    subst (λ (r : Question). IfSome r.cites.star (λ before. before ≤ length r.cites.keys)) (sym is)
+    (star_before q.cites.star (length q.cites.keys) within)

@@ -1,6 +1,6 @@
 -- What a run writes that keeps no steps.
-use Rattle.std.proofs.Common.{◌≡◌, ◌∙◌, ap, refl, sym, ℕ, ◌+◌, ◌<◌, List, [], ◌∷◌, ◌++◌, None, arith}
-use Rattle.std.specs.Prelude.{flat_map, slice_index_or, unwrap_or, Ok, Err, Some}
+use Rattle.std.proofs.Common.{◌≡◌, ◌∙◌, ap, sym, ℕ, ◌+◌, ◌<◌, List, [], ◌∷◌, ◌++◌, None, arith}
+use Rattle.std.specs.Prelude.{slice_index_or, unwrap_or, Ok, Err, Some}
 use Rattle.std.proofs.lemmas.List.{append_assoc, append-nil}
 use Rattle.std.proofs.lemmas.List.Sums.{sum_by-append}
 use Rattle.bt_log.specs.Log.{lines_bytes}

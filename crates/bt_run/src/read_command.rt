@@ -2,16 +2,17 @@
 
 ghost use Rattle.std.specs.Prelude.{◌≡◌, map, IfOk, OnOk};
 ghost use Rattle.bt_style.specs.Program.{program_of};
-ghost use Rattle.bt_run.specs.ReadCommand.{with_blank_variables, list_order, read, read_in};
+ghost use Rattle.bt_run.specs.ReadCommand.{found_for, with_blank_variables, list_order, read, read_in};
 ghost use Rattle.bt_run.specs.inner.Asked.{question_for};
 ghost use Rattle.bt_run.specs.inner.Found.{IsKept};
 ghost use Rattle.bt_run.specs.inner.JobView.{job_of};
 
 use crate::asking::Asking;
 use crate::course::Course;
+use crate::database::Database;
 use crate::database_messages::tell_databases;
 use crate::declarations::blank;
-use crate::finding::find;
+use crate::finding::{find, resolve_asked};
 use crate::job::Job;
 use crate::readings::Readings;
 use bt_actions::{Entry, Variables};
@@ -39,6 +40,20 @@ fn find_for(
     } = readings;
     find(alloc, asking, resolution, edit, databases)?;
     Ok(())
+}
+
+/// What the databases give for the citations, at the command of this number. Databases that weren't read before are read.
+fn found(
+    alloc: Global,
+    job: Job<'_>,
+    number: usize,
+    databases: &mut Sequence<Database>,
+) -> Result<Resolved, AllocError>
+    ensures { IfOk result (λ all. all ≡ found_for (job_of job.entry) number) }
+{
+    let asking = Asking::at(alloc, job, number)?;
+    let all = resolve_asked(alloc, &asking, databases)?;
+    Ok(all)
 }
 
 fn entered(entry: &bt_resolve::Entry, first: &Shared<Variables>) -> Result<Entry, AllocError>
@@ -127,4 +142,19 @@ pub fn read(
             Ok(())
         }
     }
+}
+
+/// Reads the databases for a run that keeps nothing of what they give.
+pub fn read_once(
+    alloc: Global,
+    job: Job<'_>,
+    number: usize,
+    course: &mut Course,
+    databases: &mut Sequence<Database>,
+) -> Result<(), AllocError>
+    ensures { OnOk result (course.new ≡ read (job_of job.entry) number course.old) }
+{
+    let all = found(alloc, job, number, databases)?;
+    enter(alloc, job, &all, course)?;
+    Ok(())
 }

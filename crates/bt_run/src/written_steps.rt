@@ -7,7 +7,7 @@ use crate::counts::{Calls, add_calls};
 use crate::course::Course;
 use crate::database::Database;
 use crate::job::Job;
-use crate::read_command::read;
+use crate::read_command::read_once;
 use crate::recorder::Recorder;
 use crate::step::{cut_out, put_back};
 use crate::step_command::StepCommand;
@@ -57,7 +57,7 @@ impl Recorder for WrittenSteps {
         number: usize,
         course: &mut Course,
     ) -> Result<(), AllocError> {
-        read(alloc, job, number, course, &mut self.databases)
+        read_once(alloc, job, number, course, &mut self.databases)
     }
 
     fn take_step(

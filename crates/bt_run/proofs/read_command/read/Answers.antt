@@ -1,4 +1,4 @@
-use Rattle.std.proofs.Common.{◌≡◌, ◌∙◌, ap, subst, Option}
+use Rattle.std.proofs.Common.{◌∙◌, ap, subst, Option}
 use Rattle.bt_resolve.specs.declared.entry.Resolved.{Resolved}
 use Rattle.bt_resolve.specs.inner.Kept.{resolved_for}
 use Rattle.bt_run.specs.declared.kept_resolution.KeptResolution.{KeptResolution}

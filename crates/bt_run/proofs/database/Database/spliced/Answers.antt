@@ -1,4 +1,4 @@
-use Rattle.std.proofs.Common.{◌≡◌, ◌∙◌, subst, sym, ℕ, List}
+use Rattle.std.proofs.Common.{◌∙◌, subst, sym, ℕ, List}
 use Rattle.bt_bib.specs.BibText.{pieces_of}
 use Rattle.bt_bib.specs.Splice.{IsItemsEdit}
 use Rattle.bt_bib.specs.declared.placed_pieces.PlacedPiece.{PlacedPiece}

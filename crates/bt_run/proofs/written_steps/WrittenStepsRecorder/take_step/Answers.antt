@@ -1,10 +1,8 @@
-use Rattle.std.proofs.Common.{◌≡◌, ap, ◌∙◌, ◌++◌, refl}
+use Rattle.std.proofs.Common.{ap, ◌∙◌, ◌++◌, refl}
 use Rattle.bt_style.specs.Program.{program_of}
-use Rattle.bt_machine.specs.declared.input.Input.{Input}
 use Rattle.bt_machine.specs.Step.{step_in}
 use Rattle.bt_log.specs.Log.{lines_bytes}
 use Rattle.bt_run.specs.declared.course.Step.{Step}
-use Rattle.bt_run.specs.inner.Course.{put_back}
 use Rattle.bt_run.specs.inner.Work.{step_now}
 use Rattle.bt_run.specs.inner.Written.{written, with_step}
 use Rattle.bt_run.proofs.CourseLemmas.{step_taken, length_back, ordered_back}
