@@ -1,4 +1,4 @@
 pub mod SessionLemmas
-mod TextLemmas
+pub mod TextLemmas
 mod OrderLemmas
 pub mod laws

@@ -12,7 +12,7 @@ use Rattle.bibtex.specs.Present.{EachOnce, place_of_file, put_at, with_text, wit
 -- Names
 
 -- names that are equal to one name
-same_name : (a b : List ℕ) → bytes_eq a b ≡ true → a ≡ b
+pub same_name : (a b : List ℕ) → bytes_eq a b ≡ true → a ≡ b
 same_name a b h = (bytes_eq-Decides a b).0 h
 
 pub flipped : (a b : List ℕ) → bytes_eq a b ≡ bytes_eq b a

@@ -2,7 +2,7 @@
 use Rattle.std.proofs.Common.{◌≡◌, ◌∙◌, ap, sym, refl, subst, ℕ, Bool, true, false, List, [], ◌∷◌, ◌++◌, Option, Some, None, true≢false}
 use Rattle.std.specs.Prelude.{if◌then◌else◌, bytes_eq}
 use Rattle.std.proofs.lemmas.Slice.Eq.{bytes_eq-Decides}
-use Rattle.bt_paper.proofs.StateLemmas.{same_name}
+use Rattle.bibtex.proofs.TextLemmas.{same_name}
 use Rattle.bt_paper.specs.declared.known.Known.{Known}
 use Rattle.bt_paper.specs.Known.{name_at, uri_named, is_uri, name_if_first, name_of}
 

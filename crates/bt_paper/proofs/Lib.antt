@@ -1,4 +1,3 @@
-pub mod StateLemmas
 pub mod KnownLemmas
 pub mod TextLemmas
 pub mod FollowLemmas

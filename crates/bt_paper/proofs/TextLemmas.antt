@@ -7,7 +7,7 @@ use Rattle.bibtex.specs.declared.state.State.{State}
 use Rattle.bibtex.specs.declared.edit.Refusal.{Refusal}
 use Rattle.bibtex.specs.Edit.{write, remove}
 use Rattle.bibtex.specs.Applied.{applied, unless_refused, refusal_of, changed}
-use Rattle.bt_paper.proofs.StateLemmas.{same_name, flipped, put_is, text_of_put, text_of_without}
+use Rattle.bibtex.proofs.TextLemmas.{same_name, flipped, put_is, text_of_put, text_of_without}
 use Rattle.bt_paper.specs.declared.known.Known.{Known}
 use Rattle.bt_paper.specs.Known.{name_of}
 use Rattle.bt_paper.specs.Paper.{text_under, text_at, GivesText, OthersStay, KeepsTexts, KeepsOthers}
