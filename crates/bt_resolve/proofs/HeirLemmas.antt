@@ -11,7 +11,7 @@ use Rattle.bt_resolve.specs.Inherited.{inherited, values_after, is_left_out, ent
 use Rattle.bt_resolve.specs.inner.Cases.{values_of, parent_at, inherits, entry_at}
 use Rattle.bt_resolve.specs.Skeletons.{skeleton, AreAlike, heir_if, is_heir, DifferAt, Heir, Changed, Inherits, HeirsInherit, shown, SeenAsShown, HeirsAloneChange, is_within, SpanDiffers, has_parent, OthersInheritNothing}
 use Rattle.bt_resolve.proofs.FieldLemmas.{or_false}
-use Rattle.bt_resolve.proofs.laws.LawLemmas.{listed_stored}
+use Rattle.bt_resolve.proofs.BelowLemmas.{listed_stored}
 use Rattle.bt_resolve.proofs.SkeletonLemmas.{one_list, same_parent}
 use Rattle.bt_resolve.proofs.SpanLemmas.{alike_append}
 

@@ -9,6 +9,7 @@ pub mod SparseValueLemmas
 pub mod ValueLemmas
 pub mod SkeletonLemmas
 pub mod SpanLemmas
+pub mod BelowLemmas
 pub mod HeirLemmas
 pub mod MovedItemLemmas
 pub mod EditedLemmas

@@ -1,5 +1,6 @@
 -- The crate's laws. No code needs them; `specs/laws` states them.
 use Rattle.bt_resolve.specs.laws.Laws.{MessagesForEachMin, ListedAreStored, StoredAreWanted, StoredKeysApart, NothingInherited, EntriesApart}
+use Rattle.bt_resolve.proofs.BelowLemmas
 use Rattle.bt_resolve.proofs.laws.LawLemmas
 use Rattle.bt_resolve.proofs.laws.ApartLemmas
 
@@ -7,7 +8,7 @@ pub messages_for_each_min : MessagesForEachMin
 messages_for_each_min = LawLemmas.same_messages
 
 pub listed_are_stored : ListedAreStored
-listed_are_stored = LawLemmas.listed_stored
+listed_are_stored = BelowLemmas.listed_stored
 
 pub stored_are_wanted : StoredAreWanted
 stored_are_wanted = LawLemmas.stored_wanted
