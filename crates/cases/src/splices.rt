@@ -8,7 +8,7 @@ use crate::Done;
 use crate::answer::{Answer, Raw, Spelled, put};
 use crate::databases::spelled_items;
 use crate::words::Words;
-use bt_bib::{Items, ReadMeter, read_bib};
+use bt_bib::{Items, read_bib};
 use bt_text::Bytes;
 use std::alloc::{AllocError, Global};
 
@@ -30,7 +30,7 @@ fn spliced(
 struct Reread {
     text: Bytes,
     items: Items,
-    read: u128,
+    read: usize,
 }
 
 fn respliced(
@@ -44,14 +44,13 @@ fn respliced(
     requires inside { end ≤ length text.now }
 {
     let new = spliced(alloc, text, begin, end, bytes)?;
-    let mut meter = ReadMeter::new();
     let old = read_bib(alloc, text)?;
-    let count = bytes.len();
-    let items = old.respliced(alloc, text, new.as_slice(), begin, end, count, &mut meter)?;
+    let edit = old.edit(alloc, text, new.as_slice(), begin, end, bytes.len())?;
+    let items = old.edited(alloc, new.as_slice(), &edit)?;
     Ok(Reread {
         text: new,
         items,
-        read: meter.value(),
+        read: edit.read,
     })
 }
 

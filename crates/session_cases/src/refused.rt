@@ -25,7 +25,7 @@ const CASES: &[(&str, &str)] = &[
     ),
     ("databases", "splice"),
     ("steps", "activate reach"),
-    ("free", "texts names full-line meters agreement refusing"),
+    ("free", "texts names full-line meter agreement refusing"),
 ];
 
 /// What comes of a case.

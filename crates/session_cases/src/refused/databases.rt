@@ -5,7 +5,7 @@ ghost use Rattle.bt_bib.specs.BibText.{pieces_of};
 ghost use Rattle.bt_bib.specs.Splice.{IsSplice};
 
 use crate::refused::attempt::Case;
-use bt_bib::{Items, ReadMeter, read_bib};
+use bt_bib::{Items, ItemsEdit, read_bib};
 use bt_text::Bytes;
 use std::alloc::{AllocError, Global};
 
@@ -18,12 +18,12 @@ const BEGIN: usize = 66;
 /// The bytes that come in its place.
 const INSERTED: &[u8] = b"Q, R";
 
-/// A database as it was read, its text, a meter of what is read again, and what came of that.
+/// A database as it was read, its text, how the splice changes its items, and the items after it.
 #[derive(Drop)]
 pub struct Rereading {
     items: Items,
     text: Bytes,
-    meter: ReadMeter,
+    edit: Option<ItemsEdit>,
     again: Option<Items>,
     ghost read: { items ≡ pieces_of text },
 }
@@ -48,26 +48,27 @@ impl Case for Rereading {
         Ok(Rereading {
             items,
             text,
-            meter: ReadMeter::new(),
+            edit: None,
             again: None,
         })
     }
 
     fn call(&mut self, alloc: Global, _name: &str) -> Result<(), AllocError> {
         let (old, begin, end) = (self.text.as_slice(), BEGIN, BEGIN + 1);
-        if self.meter.value() > 1_000_000 || old.len() < end {
+        if old.len() < end {
             return Err(AllocError);
         }
         let new = with_inserted(alloc, old, begin, INSERTED)?;
-        let inserted = INSERTED.len();
-        let (items, new, meter) = (&self.items, new.as_slice(), &mut self.meter);
-        let again = items.respliced(alloc, old, new, begin, end, inserted, meter)?;
+        let (items, new) = (&self.items, new.as_slice());
+        let edit = items.edit(alloc, old, new, begin, end, INSERTED.len())?;
+        let again = items.edited(alloc, new, &edit)?;
+        self.edit = Some(edit);
         self.again = Some(again);
         Ok(())
     }
 
     fn seen(&self, alloc: Global) -> Result<Bytes, AllocError> {
-        let (items, count, again) = (&self.items, self.meter.value(), &self.again);
-        Ok(Bytes::from_vec(format!(in alloc; "{items:?} {count} {again:?}")?.into_bytes()))
+        let (items, edit, again) = (&self.items, &self.edit, &self.again);
+        Ok(Bytes::from_vec(format!(in alloc; "{items:?} {edit:?} {again:?}")?.into_bytes()))
     }
 }

@@ -4,7 +4,6 @@
 use crate::inputs::{input, reach, style};
 use crate::refused::attempt::{Part, Verdict};
 use crate::refused::refusing::is_refusing;
-use bt_bib::ReadMeter;
 use bt_machine::{Input, Meter, agrees};
 use bt_names::{FormatFault, NameFault, count, format, parts};
 use bt_style::{Reach, Style};
@@ -130,7 +129,7 @@ fn is_right(alloc: Global, name: &str, part: Part) -> Result<bool, AllocError> {
         "texts" => Ok(part == Part::Setup || are_texts_right()),
         "names" => Ok(part == Part::Setup || are_names_right(alloc)),
         "full-line" => is_full_line_right(alloc, part),
-        "meters" => Ok(Meter::new().value() == 0 && ReadMeter::new().value() == 0),
+        "meter" => Ok(Meter::new().value() == 0),
         "agreement" => is_agreement_right(alloc, part),
         "refusing" => is_refusing(alloc, part),
         _ => Ok(false),
