@@ -5,8 +5,9 @@ use Rattle.bt_job.specs.FileNames.{text_of}
 use Rattle.bibtex.specs.declared.edit.Refusal.{Refusal}
 use Rattle.bibtex.specs.declared.state.State.{State}
 use Rattle.bibtex.specs.Edit.{Edit, bytes_of, write, splice, remove, root_name, min_crossrefs}
-use Rattle.bibtex.specs.Present.{EachOnce, replaced}
-use Rattle.bibtex.specs.Applied.{refusal_of, changed, unless_refused, applied}
+use Rattle.bibtex.specs.Present.{EachOnce}
+use Rattle.bibtex.specs.inner.Cases.{replaced, unless_refused}
+use Rattle.bibtex.specs.Applied.{refusal_of, changed, applied}
 use Rattle.bibtex.proofs.TextLemmas.{once_with, once_without}
 
 -- Each name stands once

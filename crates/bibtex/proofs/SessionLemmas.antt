@@ -8,7 +8,8 @@ use Rattle.bt_job.specs.Citations.{citations}
 use Rattle.bt_run.specs.Meaning.{meaning}
 use Rattle.bt_run.proofs.AnswerLemmas.{log_spelled}
 use Rattle.bibtex.specs.declared.state.State.{State}
-use Rattle.bibtex.specs.Present.{replaced, shown}
+use Rattle.bibtex.specs.Present.{shown}
+use Rattle.bibtex.specs.inner.Cases.{replaced}
 
 -- The log is what the messages are in words.
 pub log_in_words : (s : State) (messages : List Message) → messages ≡ (shown s).messages → (shown s).blg ≡ log_bytes messages

@@ -7,7 +7,8 @@ use Rattle.std.proofs.lemmas.Cmp.{nat_list_eq_equiv}
 use Rattle.std.proofs.lemmas.Slice.Eq.{bytes_eq-Decides}
 use Rattle.bt_job.specs.declared.files.File.{File}
 use Rattle.bt_job.specs.FileNames.{text_of}
-use Rattle.bibtex.specs.Present.{EachOnce, place_of_file, put_at, with_text, without}
+use Rattle.bibtex.specs.Present.{EachOnce, place_of_file, with_text}
+use Rattle.bibtex.specs.inner.Cases.{without, put_at}
 
 -- Names
 

@@ -1,5 +1,5 @@
 -- What an edit makes of the present state, or the first reason that refuses it.
-use Rattle.std.specs.Prelude.{ℕ, ◌+◌, ◌-◌, List, [], length, Bool, not, true, false, ◌≡◌, ◌&&◌, ◌||◌, nat_lt, nat_le, IfErr, IsErr, Option, Some, None, Result, Ok, Err, if◌then◌else◌, unwrap_or}
+use Rattle.std.specs.Prelude.{ℕ, ◌+◌, ◌-◌, List, [], length, Bool, not, true, false, ◌≡◌, ◌&&◌, ◌||◌, nat_lt, nat_le, IfErr, IsErr, Option, Some, None, Result, Ok, Err, if◌then◌else◌, unwrap_or, ◌++◌, take, drop, filter, bytes_eq}
 use Rattle.std.specs.Option.{is_none}
 use Rattle.bibtex.specs.declared.edit.Refusal.{Refusal}
 use Rattle.bibtex.specs.declared.edit.Refusal.TheVariants.{BadName, NoSuchFile, RangeOutside, FileTooLarge, TooManyFiles, OutOfMemory}
@@ -7,7 +7,7 @@ use Rattle.bt_job.specs.declared.files.File.{File}
 use Rattle.bt_job.specs.FileNames.{is_file_name, text_of}
 use Rattle.bibtex.specs.Edit.{Edit, write, splice, remove, root_name, min_crossrefs, bytes_of}
 use Rattle.bibtex.specs.declared.state.State.{State}
-use Rattle.bibtex.specs.Present.{place_of_file, with_text, without, replaced, is_root_name}
+use Rattle.bibtex.specs.Present.{place_of_file, with_text, is_root_name}
 
 -- how many bytes a text may have
 abbrev pub file_size_limit : ℕ
@@ -34,34 +34,21 @@ range_refusal text start end size =
     else if nat_lt file_size_limit (start + (length text - end) + size) then Some FileTooLarge
     else None
 
--- the same, where this text was found
-abbrev pub found_refusal : Option (List ℕ) → ℕ → ℕ → ℕ → Option Refusal
-found_refusal None start end size = Some NoSuchFile
-found_refusal (Some text) start end size = range_refusal text start end size
-
--- the same of the text of a name
+-- the same for the text of a name
 abbrev pub splice_refusal : List File → List ℕ → ℕ → ℕ → ℕ → Option Refusal
 splice_refusal files name start end size =
     if not (is_file_name name) then Some BadName
-    else found_refusal (text_of files name) start end size
-
--- against the removal of a file
-abbrev pub remove_refusal : List File → List ℕ → Option Refusal
-remove_refusal files name =
-    if not (is_file_name name) then Some BadName
-    else if is_none (text_of files name) then Some NoSuchFile
-    else None
-
--- against a root name
-abbrev pub root_refusal : List ℕ → Option Refusal
-root_refusal root = if is_root_name root then None else Some BadName
+    else elim (text_of files name) [ None ↦ Some NoSuchFile | Some text ↦ range_refusal text start end size ]
 
 -- the reason to refuse an edit that brings this number of bytes, whatever they are
 abbrev pub refusal_of : Edit → ℕ → State → Option Refusal
 refusal_of (write name bytes) size s = write_refusal s.texts name size
 refusal_of (splice name start end bytes) size s = splice_refusal s.texts name start end size
-refusal_of (remove name) size s = remove_refusal s.texts name
-refusal_of (root_name name) size s = root_refusal name
+refusal_of (remove name) size s =
+    if not (is_file_name name) then Some BadName
+    else if is_none (text_of s.texts name) then Some NoSuchFile
+    else None
+refusal_of (root_name name) size s = if is_root_name name then None else Some BadName
 refusal_of (min_crossrefs n) size s = None
 
 -- What becomes of the state
@@ -70,19 +57,15 @@ refusal_of (min_crossrefs n) size s = None
 abbrev pub changed : Edit → State → State
 changed (write name bytes) s = record s { texts = with_text name bytes s.texts }
 changed (splice name start end bytes) s =
-    record s { texts = with_text name (replaced start end bytes (unwrap_or (text_of s.texts name) [])) s.texts }
-changed (remove name) s = record s { texts = without name s.texts }
+    let text = unwrap_or (text_of s.texts name) [] in
+    record s { texts = with_text name (take start text ++ bytes ++ drop end text) s.texts }
+changed (remove name) s = record s { texts = filter (λ f. not (bytes_eq f.name name)) s.texts }
 changed (root_name name) s = record s { root = name }
 changed (min_crossrefs n) s = record s { min = n }
 
--- this state, unless there is a refusal
-abbrev pub unless_refused : Option Refusal → State → Result State Refusal
-unless_refused None s = Ok s
-unless_refused (Some refusal) s = Err refusal
-
 -- the state after an edit, or the first refusal whose condition holds
 abbrev pub applied : Edit → State → Result State Refusal
-applied e s = unless_refused (refusal_of e (length (bytes_of e)) s) (changed e s)
+applied e s = elim (refusal_of e (length (bytes_of e)) s) [ None ↦ Ok (changed e s) | Some refusal ↦ Err refusal ]
 
 -- What answers an edit of which this is applied: each refusal where it is that refusal, and out of memory only where
 -- there is no other.

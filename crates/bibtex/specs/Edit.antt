@@ -24,18 +24,14 @@ edit_of (Remove name) = remove name.now
 edit_of (Root name) = root_name name.now
 edit_of (MinCrossrefs n) = min_crossrefs n
 
--- the bytes that an edit brings
+-- the bytes that an edit brings, if it brings any
 abbrev pub bytes_of : Edit → List ℕ
 bytes_of (write name bytes) = bytes
 bytes_of (splice name start end bytes) = bytes
-bytes_of (remove name) = []
-bytes_of (root_name name) = []
-bytes_of (min_crossrefs n) = []
+bytes_of _ = []
 
 -- the same edit, which brings these bytes instead of its own where it brings any
 abbrev pub with_bytes : List ℕ → Edit → Edit
 with_bytes bytes (write name old) = write name bytes
 with_bytes bytes (splice name start end old) = splice name start end bytes
-with_bytes bytes (remove name) = remove name
-with_bytes bytes (root_name name) = root_name name
-with_bytes bytes (min_crossrefs n) = min_crossrefs n
+with_bytes bytes edit = edit

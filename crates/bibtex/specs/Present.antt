@@ -1,5 +1,5 @@
 -- What a session is about: the present texts by name, the root name, and min-crossrefs; and what that means.
-use Rattle.std.specs.Prelude.{◌≡◌, ℕ, Bool, not, ◌&&◌, nat_le, length, List, [], ◌∷◌, ◌++◌, map, take, drop, filter, Option, Some, None, position, slice_set}
+use Rattle.std.specs.Prelude.{◌≡◌, ℕ, Bool, ◌&&◌, nat_le, length, List, [], ◌∷◌, ◌++◌, map, Option, Some, None, position, slice_set}
 use Rattle.std.specs.List.{IsDistinct}
 use Rattle.std.specs.Str.{bytes_eq}
 use Rattle.bt_job.specs.declared.files.File.{File}
@@ -18,22 +18,11 @@ EachOnce files = IsDistinct bytes_eq (map (λ (f : File). f.name) files)
 abbrev pub place_of_file : List ℕ → List File → Option ℕ
 place_of_file name files = position (λ f. bytes_eq f.name name) files
 
--- the texts with a file at a place, or after the others
-abbrev pub put_at : Option ℕ → File → List File → List File
-put_at None file files = files ++ file ∷ []
-put_at (Some n) file files = slice_set files n file
-
 -- the texts with one in the place of that of its name, or after the others where none has it
 abbrev pub with_text : List ℕ → List ℕ → List File → List File
-with_text name text files = put_at (place_of_file name files) (record { name = name; text = text }) files
-
--- the texts but that of a name
-abbrev pub without : List ℕ → List File → List File
-without name files = filter (λ f. not (bytes_eq f.name name)) files
-
--- a text with other bytes in the place of its bytes from one place up to another
-abbrev pub replaced : ℕ → ℕ → List ℕ → List ℕ → List ℕ
-replaced start end bytes text = take start text ++ bytes ++ drop end text
+with_text name text files =
+    let file : File = record { name = name; text = text } in
+    elim (place_of_file name files) [ None ↦ files ++ file ∷ [] | Some n ↦ slice_set files n file ]
 
 -- a root name: with .aux after it it is a file's name
 abbrev pub is_root_name : List ℕ → Bool

@@ -1,7 +1,8 @@
 //! Texts and files with a part of them changed, beside those that are there.
 
 ghost use Rattle.std.specs.Prelude.{◌≡◌, ◌<◌, ◌≤◌, length, IfOk, IfSome};
-ghost use Rattle.bibtex.specs.Present.{place_of_file, with_text, without, replaced};
+ghost use Rattle.bibtex.specs.Present.{place_of_file, with_text};
+ghost use Rattle.bibtex.specs.inner.Cases.{without, replaced};
 
 use bt_job::File;
 use bt_text::{Bytes, Sequence, Shared};

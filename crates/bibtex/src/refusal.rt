@@ -2,7 +2,8 @@
 
 ghost use Rattle.std.specs.Prelude.{◌≡◌};
 ghost use Rattle.bibtex.specs.Present.{is_root_name};
-ghost use Rattle.bibtex.specs.Applied.{write_refusal, range_refusal, splice_refusal, remove_refusal, root_refusal, code_of};
+ghost use Rattle.bibtex.specs.Applied.{write_refusal, range_refusal, splice_refusal, code_of};
+ghost use Rattle.bibtex.specs.inner.Cases.{remove_refusal, root_refusal};
 
 use crate::edit::Refusal;
 use crate::files::place_of;

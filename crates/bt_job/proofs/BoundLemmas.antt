@@ -1,5 +1,5 @@
--- No file is opened twice, so the bound on the lines doesn't matter.
-use Rattle.std.specs.Prelude.{not, eqb, codes, flat_map}
+-- No file is opened twice, so the bound on the lines doesn't matter, and the queue of lines gives the lines of the job.
+use Rattle.std.specs.Prelude.{not, eqb, codes, flat_map, fold}
 use Rattle.std.specs.List.{ends_with}
 use Rattle.std.specs.Option.{is_some, option_or, option_map}
 use Rattle.std.specs.Str.{bytes_eq}
@@ -17,8 +17,10 @@ use Rattle.bt_job.specs.declared.files.File.{File}
 use Rattle.bt_text.specs.NameList.{is_among}
 use Rattle.bt_job.specs.FileNames.{is_file_name, text_of}
 use Rattle.bt_job.specs.Faults.{LineFault, WrongFile, IllEnded, input_fault, first_fault}
-use Rattle.bt_job.specs.Lines.{JobLine, lines_of, has_command, input_names, line_fault, opened_by, read_on, line_count, unopened}
+use Rattle.bt_job.specs.Lines.{JobLine, lines_of, has_command, input_names, line_fault, opened_by, job_lines, with_line}
+use Rattle.bt_job.specs.inner.Queue.{read_on, line_count, unopened, read_all, AnyBoundServes, NestedInPlace, QueueIsNesting}
 use Rattle.bt_job.specs.inner.Cases.{lines_in, lines_opened}
+use Rattle.bt_job.proofs.NestLemmas.{IsQueue, Lowers, nested, nests}
 use Rattle.bt_job.proofs.NameLemmas.{is_among-append, same_bytes, name_itself}
 use Rattle.bt_job.proofs.PartLemmas.{first_wrong, first_more}
 use Rattle.bt_job.proofs.LineLemmas.{line_at, same_inputs, more_inputs, fault_of_line}
@@ -182,3 +184,96 @@ unopened_all [] names = omega arith
 unopened_all (f ∷ fs) names =
     let here : cond (is_among names f.name) 0 (count f.text) ≤ count f.text = elim (is_among names f.name) as (λ b. cond b 0 (count f.text) ≤ count f.text) [ true ↦ omega arith | false ↦ omega arith ] in
     omega (arith, here, unopened_all fs names, sum_by-cons (λ (g : File). count g.text) f fs)
+
+pub any_bound_serves : AnyBoundServes
+any_bound_serves m n files root before [] a b = read_end m files root before ∙ sym (read_end n files root before)
+any_bound_serves zero n files root before (line ∷ later) a b = let one : length (line ∷ later) ≡ suc (length later) = refl in absurd (omega (arith, one, a))
+any_bound_serves (suc m) zero files root before (line ∷ later) a b = let one : length (line ∷ later) ≡ suc (length later) = refl in absurd (omega (arith, one, b))
+any_bound_serves (suc m) (suc n) files root before (line ∷ later) a b =
+    read_more m files root before line later
+    ∙ any_bound_serves m n files root (before ++ line ∷ []) (opened_by files root before line ++ later) (left_less files root before line later m a) (left_less files root before line later n b)
+    ∙ sym (read_more n files root before line later)
+
+pub nested_in_place : NestedInPlace
+nested_in_place files root before line later =
+    let all = line_count files in
+    let one : length (line ∷ later) + all ≡ suc (length later + all) = let is : length (line ∷ later) ≡ suc (length later) = refl in omega (arith, is) in
+    let behind = opened_by files root before line ++ later in
+    let fits : length (line ∷ later) + unopened files (root ∷ input_names before) ≤ suc (length later + all) = omega (arith, one, unopened_all files (root ∷ input_names before)) in
+    ap (λ n. read_on n files root before (line ∷ later)) one
+    ∙ read_more (length later + all) files root before line later
+    ∙ any_bound_serves (length later + all) (length behind + all) files root (before ++ line ∷ []) behind
+    (left_less files root before line later (length later + all) fits)
+    (omega (arith, unopened_all files (root ∷ input_names (before ++ line ∷ []))))
+
+-- Nesting
+
+abbrev one : List ℕ → ℕ
+one text = 1
+
+fewer_names : (files : List File) (before : List (List ℕ)) (p : List ℕ) (ps : List (List ℕ)) → first_fault (input_fault files) before (p ∷ ps) ≡ None
+    → suc (weight one files (before ++ p ∷ ps)) ≤ weight one files before
+fewer_names files before p ps none = go (input_fault files before p) refl
+  where
+    go : (o : Option LineFault) → input_fault files before p ≡ o → suc (weight one files (before ++ p ∷ ps)) ≤ weight one files before
+    go None e =
+        let new = new_by files before p (ends_with eqb p (codes ".aux")) (is_file_name p) (is_among before p) (text_of files p) refl refl e in
+        let same : weight one files (before ++ p ∷ [] ++ ps) ≡ weight one files (before ++ p ∷ ps) = ap (weight one files) (append_assoc before (p ∷ []) ps) in
+        omega (
+          arith,
+          same,
+          weight_opens one files before p new.text new.new new.there,
+          weight_more one files (before ++ p ∷ []) (before ++ p ∷ [] ++ ps) (within_some (before ++ p ∷ []) ps),
+        )
+    go (Some f) e = let wrong : Some f ≡ None = sym (first_wrong (input_fault files) before p ps f e) ∙ none in cc
+
+line_lowers : (files : List File) (root : List ℕ) (lines : List JobLine) (level : ℕ) (file : List ℕ) (n : ℕ) (c : Command) (parts : List (List ℕ)) (end : Option AuxFault) (o : Option LineFault)
+    → (let line = line_at level file n c parts end in line_fault files root lines line ≡ o → (first : JobLine) (others : List JobLine) → lines_opened files line o ≡ first ∷ others
+    → suc (weight one files (root ∷ input_names (lines ++ line ∷ []))) ≤ weight one files (root ∷ input_names lines))
+line_lowers files root lines level file n c parts end (Some f) e first others is = cc
+line_lowers files root lines level file n Citation parts end None e first others is = cc
+line_lowers files root lines level file n Database parts end None e first others is = cc
+line_lowers files root lines level file n Style parts end None e first others is = cc
+line_lowers files root lines level file n Nested [] end None e first others is = cc
+line_lowers files root lines level file n Nested (p ∷ ps) end None e first others is =
+    let line = line_at level file n Nested (p ∷ ps) end in
+    let none : first_fault (input_fault files) (root ∷ input_names lines) (p ∷ ps) ≡ None = no_or _ (option_map IllEnded end) (sym (fault_of_line files root lines line) ∙ e) in
+    let same : weight one files (root ∷ input_names (lines ++ line ∷ [])) ≡ weight one files (root ∷ input_names lines ++ p ∷ ps) = ap (λ ns. weight one files (root ∷ ns)) (more_inputs lines line refl) in
+    omega (arith, same, fewer_names files (root ∷ input_names lines) p ps none)
+
+abbrev room : List File → List ℕ → List JobLine → ℕ
+room files root lines = weight one files (root ∷ input_names lines)
+
+lowers : (files : List File) (root : List ℕ) → Lowers (opened_by files root) (room files root)
+lowers files root = record {
+  no_more = λ lines line. weight_line one files root lines line;
+  fewer = λ lines line first others is.
+      line_lowers files root lines line.level line.file line.item.line line.item.command line.item.parts line.item.fault (line_fault files root lines line) refl first others is;
+}
+
+is_queue : (files : List File) (root : List ℕ) → IsQueue (opened_by files root) (read_all files root)
+is_queue files root = record {
+  at_end = λ before. read_end (length {A = JobLine} [] + line_count files) files root before;
+  in_place = nested_in_place files root;
+}
+
+with_line_is : (files : List File) (root : List ℕ) (deep : ℕ) → with_line files root deep ≡ nested (opened_by files root) deep
+unfolding with_line nested
+with_line_is files root zero = refl
+with_line_is files root (suc deep) = λ i before line. fold (with_line_is files root deep i) (before ++ line ∷ []) (opened_by files root before line)
+
+-- with a bound on the depth that is no smaller than the number of files
+pub queue_at : (files : List File) (root : List ℕ) (deep : ℕ) → length files ≤ deep → read_all files root [] (lines_of files 0 root) ≡ fold (with_line files root deep) [] (lines_of files 0 root)
+queue_at files root deep h =
+    let first = lines_of files 0 root in
+    let padded : read_all files root [] first ≡ read_all files root [] (first ++ []) = ap (read_all files root []) (sym (append-nil first)) in
+    let all : ℕ → List JobLine = λ d. fold (nested (opened_by files root) d) [] first in
+    let fits : room files root [] ≤ length files = weight_all files (root ∷ []) in
+    padded
+    ∙ nests (opened_by files root) (read_all files root) (room files root) (is_queue files root) (lowers files root) deep first [] [] (omega (arith, h, fits))
+    ∙ (is_queue files root).at_end (all deep)
+    ∙ sym (ap (λ step. fold step [] first) (with_line_is files root deep))
+
+pub job_lines_queue : QueueIsNesting
+unfolding job_lines
+job_lines_queue files root = queue_at files root (length files) (omega arith)

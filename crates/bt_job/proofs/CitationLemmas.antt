@@ -12,8 +12,9 @@ use Rattle.bt_job.specs.declared.citations.Citations.{Citations}
 use Rattle.bt_job.specs.declared.progress.Progress.{Progress}
 use Rattle.bt_text.specs.NameList.{is_among}
 use Rattle.bt_job.specs.FileNames.{text_of, with_name}
-use Rattle.bt_job.specs.Lines.{JobLine, lines_of, first_with, cited, read_on, line_count, read_all, job_lines}
-use Rattle.bt_job.specs.Citations.{is_star, keys_of, star_of, databases, styles, messages, file_line, missing_of, lacks, told_missing, asked_by, citations}
+use Rattle.bt_job.specs.Lines.{JobLine, lines_of, first_with, cited, job_lines}
+use Rattle.bt_job.specs.inner.Queue.{read_on, line_count, read_all}
+use Rattle.bt_job.specs.Citations.{is_star, keys_of, star_of, databases, styles, messages, file_line, missing_of, lacks, asked_by, citations, told_missing}
 use Rattle.bt_job.specs.inner.Cases.{asked_from, lines_in}
 use Rattle.bt_job.specs.inner.LineEffects.{told, meeting}
 use Rattle.bt_job.specs.inner.NestedFiles.{file_taken, nothing_met, is_empty, missing_one, ended, rooted, asked_for}
@@ -21,7 +22,7 @@ use Rattle.bt_job.proofs.NameLemmas.{bytes_differ}
 use Rattle.bt_job.proofs.EndingLemmas.{aux_ends, aux_not_base}
 use Rattle.bt_job.proofs.FileLemmas.{is_base, is_aux}
 use Rattle.bt_job.proofs.LineLemmas.{Holds}
-use Rattle.bt_job.proofs.BoundLemmas.{weight_all, unopened_all, read_end}
+use Rattle.bt_job.proofs.BoundLemmas.{job_lines_queue, weight_all, unopened_all, read_end}
 use Rattle.bt_job.proofs.ReadLemmas.{file_reaches}
 
 -- The start
@@ -48,7 +49,6 @@ holds_first files root ends = record {
 
 -- what the code has read of the root holds of all lines
 read_holds : (files : List File) (root text : List ℕ) → is_aux root ≡ true → text_of files root ≡ Some text → Holds files root (job_lines files root) (file_taken (length files + 1) files 0 root (meeting Nested root nothing_met))
-unfolding job_lines
 read_holds files root text ends there =
     let first = lines_in 0 root (Some text) in
     let bound = length first + line_count files in
@@ -58,7 +58,7 @@ read_holds files root text ends there =
     let opened : read_all files root [] (lines_of files 0 root) ≡ read_on bound files root [] first = ap (λ o. read_all files root [] (lines_in 0 root o)) there in
     let padded : read_on bound files root [] first ≡ read_on bound files root [] (first ++ []) = sym (ap (read_on bound files root []) next) in
     let read : read_on bound files root [] (first ++ []) ≡ h.lines = h.same ∙ read_end h.left files root h.lines in
-    let all : job_lines files root ≡ h.lines = opened ∙ padded ∙ read in
+    let all : job_lines files root ≡ h.lines = sym (job_lines_queue files root) ∙ opened ∙ padded ∙ read in
     subst (λ ls. Holds files root ls (file_taken (length files + 1) files 0 root (meeting Nested root nothing_met))) (sym all) h.holds
 
 -- The end

@@ -8,6 +8,7 @@ pub mod FitLemmas
 pub mod LineLemmas
 pub mod NameLemmas
 pub mod NameTableLemmas
+pub mod NestLemmas
 pub mod NestingLemmas
 pub mod PartLemmas
 pub mod ReadLemmas

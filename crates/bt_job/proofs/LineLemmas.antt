@@ -17,8 +17,8 @@ use Rattle.bt_job.specs.declared.progress.Outcome.TheVariants.{Taken, Wrong, Ope
 use Rattle.bt_text.specs.NameList.{is_among}
 use Rattle.bt_job.specs.FileNames.{text_of, with_name, each_once}
 use Rattle.bt_job.specs.Faults.{LineFault, SecondStar, OtherSpelling, IllEnded, key_fault, right_parts}
-use Rattle.bt_job.specs.inner.Cases.{spelling_fault, lines_opened}
-use Rattle.bt_job.specs.Lines.{JobLine, lines_of, has_command, first_with, cited, input_names, argument_fault, command_fault, line_fault, opened_by}
+use Rattle.bt_job.specs.inner.Cases.{spelling_fault, lines_opened, command_fault}
+use Rattle.bt_job.specs.Lines.{JobLine, lines_of, has_command, first_with, cited, input_names, argument_fault, line_fault, opened_by}
 use Rattle.bt_job.specs.Citations.{keys_of, star_of, databases, styles, missed, along, wanted, file_line, line_messages, messages}
 use Rattle.bt_job.specs.inner.LineEffects.{told, logged_at}
 use Rattle.bt_job.proofs.PartLemmas.{first_wrong, first_more}

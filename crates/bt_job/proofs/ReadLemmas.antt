@@ -7,7 +7,8 @@ use Rattle.bt_job.specs.declared.progress.Progress.{Progress}
 use Rattle.bt_job.specs.declared.progress.Outcome.{Outcome}
 use Rattle.bt_job.specs.declared.progress.Outcome.TheVariants.{Taken, Wrong, Opens}
 use Rattle.bt_job.specs.FileNames.{text_of}
-use Rattle.bt_job.specs.Lines.{JobLine, input_names, opened_by, read_on, unopened}
+use Rattle.bt_job.specs.Lines.{JobLine, input_names, opened_by}
+use Rattle.bt_job.specs.inner.Queue.{read_on, unopened}
 use Rattle.bt_job.specs.inner.Cases.{lines_in}
 use Rattle.bt_job.specs.Citations.{file_line}
 use Rattle.bt_job.specs.inner.LineEffects.{told, logged_at, item_taken}

@@ -1,3 +1,2 @@
 -- Only laws need these.
-pub mod BoundLemmas
 pub mod Laws

@@ -2,7 +2,6 @@
 use Rattle.std.specs.Prelude.{ℕ, ◌+◌, ◌==◌, Bool, not, List, [], ◌∷◌, ◌++◌, length, map, filter, codes, Option, Some, None, slice_get, if◌then◌else◌}
 use Rattle.std.specs.List.{before_first}
 use Rattle.std.specs.Str.{bytes_eq}
-use Rattle.bt_bib.specs.declared.aux_line.Command.{Command}
 use Rattle.bt_bib.specs.declared.aux_line.Command.TheVariants.{Citation, Database, Style, Nested}
 use Rattle.bt_log.specs.declared.message.Message.{Message}
 use Rattle.bt_log.specs.declared.message.Rank.TheVariants.{FileLine, Error, Fatal}
@@ -68,18 +67,15 @@ wanted files root lines =
 abbrev pub file_line : ℕ → List ℕ → Message
 file_line level file = of_file FileLine (if level == 0 then RootAux else NestedAux level) file
 
--- what the log says about a command without a fault, in a file of this level
-abbrev pub file_lines_of : ℕ → Command → List (List ℕ) → List Message
-file_lines_of level Citation parts = []
-file_lines_of level Database parts = []
-file_lines_of level Style parts = map (of_file FileLine StyleFile) (style_names parts)
-file_lines_of level Nested parts = map (file_line (level + 1)) parts
-
--- the messages of a line that has this fault
+-- The messages of a line that has this fault, or none. Without a fault the log names the files that it opens.
 abbrev pub line_messages : JobLine → Option LineFault → List Message
 line_messages line (Some fault) =
     skipping (said fault) (Line line.file line.item.line None) (codes "command") ∷ []
-line_messages line None = file_lines_of line.level line.item.command line.item.parts
+line_messages line None = elim line.item.command [
+  | Style ↦ map (of_file FileLine StyleFile) (style_names line.item.parts)
+  | Nested ↦ map (file_line (line.level + 1)) line.item.parts
+  | _ ↦ []
+]
 
 -- the messages of all lines, under that of the root file
 abbrev pub messages : List File → List ℕ → List JobLine → List Message

@@ -1,5 +1,5 @@
 -- What can be wrong with a line of an .aux file that counts, and what the log says about it.
-use Rattle.std.specs.Prelude.{ℕ, Bool, not, eqb, List, [], ◌∷◌, ◌++◌, codes, Option, Some, None, if◌then◌else◌}
+use Rattle.std.specs.Prelude.{ℕ, not, eqb, List, [], ◌∷◌, ◌++◌, codes, Option, Some, None, if◌then◌else◌}
 use Rattle.std.specs.List.{ends_with}
 use Rattle.std.specs.Option.{is_some}
 use Rattle.std.specs.Str.{bytes_eq}
@@ -51,23 +51,19 @@ key_fault before part =
       | Some first ↦ if bytes_eq first part then None else Some (OtherSpelling part first)
     ]
 
--- whether a file of this name is there
-abbrev pub is_there : List File → List ℕ → Bool
-is_there files name = is_some (text_of files name)
-
 -- a name of \bibdata
 abbrev pub database_fault : List File → PartFault
 database_fault files before name =
     if not (is_file_name name) then Some (WrongFile BadFileName name)
     else if is_among before name then Some (WrongFile DatabaseTwice name)
-    else if not (is_there files name) then Some (WrongFile (NotOpened Bib) name)
+    else if not (is_some (text_of files name)) then Some (WrongFile (NotOpened Bib) name)
     else None
 
 -- the name of \bibstyle
 abbrev pub style_fault : List File → PartFault
 style_fault files before name =
     if not (is_file_name name) then Some (WrongFile BadFileName name)
-    else if not (is_there files name) then Some (WrongFile (NotOpened Bst) name)
+    else if not (is_some (text_of files name)) then Some (WrongFile (NotOpened Bst) name)
     else None
 
 -- the name of \@input
@@ -76,7 +72,7 @@ input_fault files before name =
     if not (ends_with eqb name (codes ".aux")) then Some (WrongFile WrongExtension name)
     else if not (is_file_name name) then Some (WrongFile BadFileName name)
     else if is_among before name then Some (WrongFile AuxTwice name)
-    else if not (is_there files name) then Some (WrongFile (NotOpened Aux) name)
+    else if not (is_some (text_of files name)) then Some (WrongFile (NotOpened Aux) name)
     else None
 
 -- The first fault ends a command.

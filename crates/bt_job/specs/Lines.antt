@@ -1,5 +1,5 @@
 -- The lines of a job that count: those of its root file, with the lines of each file that one of them opens after it.
-use Rattle.std.specs.Prelude.{ℕ, zero, suc, ◌+◌, Bool, true, false, List, [], ◌∷◌, ◌++◌, length, map, fold, filter, find, flat_map, sum_by, codes, Option, Some, None, if◌then◌else◌}
+use Rattle.std.specs.Prelude.{ℕ, zero, suc, ◌+◌, Bool, true, false, List, [], ◌∷◌, ◌++◌, length, map, fold, filter, find, flat_map, codes, Option, Some, None, if◌then◌else◌}
 use Rattle.std.specs.Option.{option_or, option_map}
 use Rattle.bt_bib.specs.declared.aux_line.Command.{Command}
 use Rattle.bt_bib.specs.declared.aux_line.Command.TheVariants.{Citation, Database, Style, Nested}
@@ -7,7 +7,6 @@ use Rattle.bt_bib.specs.declared.aux_argument.AuxFault.{AuxFault}
 use Rattle.bt_bib.specs.declared.aux_line.AuxItem.{AuxItem}
 use Rattle.bt_bib.specs.AuxLine.{aux_lines}
 use Rattle.bt_job.specs.declared.files.File.{File}
-use Rattle.bt_text.specs.NameList.{is_among}
 use Rattle.bt_job.specs.FileNames.{text_of, with_ending}
 use Rattle.bt_job.specs.Faults.{LineFault, SecondCommand, IllEnded, PartFault, key_fault, database_fault, style_fault, input_fault, right_parts, first_fault}
 
@@ -69,22 +68,21 @@ abbrev pub unless_second : List ℕ → Option JobLine → Option LineFault → 
 unless_second command None fault = fault
 unless_second command (Some line) fault = Some (SecondCommand command)
 
--- What is wrong with a line of a command, if anything, given the lines before it.
-abbrev pub command_fault :
-    List File → List ℕ → List JobLine → Command → List (List ℕ) → Option AuxFault → Option LineFault
-command_fault files root before Citation parts end = argument_fault key_fault (cited before) parts end
-command_fault files root before Database parts end =
-    unless_second (codes "\\bibdata") (first_with Database before)
-    (argument_fault (database_fault files) [] (database_names parts) end)
-command_fault files root before Style parts end =
-    unless_second (codes "\\bibstyle") (first_with Style before)
-    (argument_fault (style_fault files) [] (style_names parts) end)
-command_fault files root before Nested parts end =
-    argument_fault (input_fault files) (root ∷ input_names before) parts end
-
--- the same for a line
+-- what is wrong with a line, if anything, given the lines before it
 unfoldable pub line_fault : List File → List ℕ → List JobLine → JobLine → Option LineFault
-line_fault files root before line = command_fault files root before line.item.command line.item.parts line.item.fault
+line_fault files root before line =
+    let parts = line.item.parts in
+    let end = line.item.fault in
+    elim line.item.command [
+      | Citation ↦ argument_fault key_fault (cited before) parts end
+      | Database ↦
+          unless_second (codes "\\bibdata") (first_with Database before)
+          (argument_fault (database_fault files) [] (database_names parts) end)
+      | Style ↦
+          unless_second (codes "\\bibstyle") (first_with Style before)
+          (argument_fault (style_fault files) [] (style_names parts) end)
+      | Nested ↦ argument_fault (input_fault files) (root ∷ input_names before) parts end
+    ]
 
 -- All lines
 
@@ -95,29 +93,13 @@ opened_by files root before line = elim (line_fault files root before line) [
   | None ↦ if has_command Nested line then flat_map (lines_of files (line.level + 1)) line.item.parts else []
 ]
 
--- Some lines, followed by the next ones, each with the lines of the file that it opens after it, and at most `bound`
--- lines more. The exact bound doesn't matter if it is large enough (AnyBoundServes).
-unfoldable pub read_on : ℕ → List File → List ℕ → List JobLine → List JobLine → List JobLine
-read_on zero files root before next = before
-read_on (suc bound) files root before [] = before
-read_on (suc bound) files root before (line ∷ later) =
-    read_on bound files root (before ++ line ∷ []) (opened_by files root before line ++ later)
+-- A line after some others, followed by the lines of the file that it opens, each with what it opens in turn. Files nest
+-- at most `deep` levels below it.
+unfoldable pub with_line : List File → List ℕ → ℕ → List JobLine → JobLine → List JobLine
+with_line files root zero before line = before ++ line ∷ []
+with_line files root (suc deep) before line =
+    fold (with_line files root deep) (before ++ line ∷ []) (opened_by files root before line)
 
--- how many lines the files have
-abbrev pub line_count : List File → ℕ
-line_count files = sum_by (λ f. length (aux_lines f.text)) files
-
--- The same with a bound that is large enough: no file is opened twice.
-abbrev pub read_all : List File → List ℕ → List JobLine → List JobLine → List JobLine
-read_all files root before next = read_on (length next + line_count files) files root before next
-
--- all lines of a job with this root file
+-- All lines of a job with this root file. No file is opened twice, so files nest no deeper than there are files.
 unfoldable pub job_lines : List File → List ℕ → List JobLine
-job_lines files root = read_all files root [] (lines_of files 0 root)
-
--- Laws
-
--- how many lines the files have that no line has opened
-abbrev pub unopened : List File → List (List ℕ) → ℕ
-unopened [] names = 0
-unopened (f ∷ fs) names = (if is_among names f.name then 0 else length (aux_lines f.text)) + unopened fs names
+job_lines files root = fold (with_line files root (length files)) [] (lines_of files 0 root)

@@ -4,3 +4,4 @@ pub mod NameTable
 pub mod FileNames
 pub mod LineEffects
 pub mod NestedFiles
+pub mod Queue

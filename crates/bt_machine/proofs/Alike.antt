@@ -17,8 +17,8 @@ use Rattle.bt_actions.specs.Given.{zero_item, empty_item}
 use Rattle.bt_actions.specs.Operands.{of_entry, field_at, number_at, text_at}
 use Rattle.bt_actions.specs.Actions.{basic}
 use Rattle.bt_machine.specs.Eval.{Counts, Ending, Done, Stopped, Runner, then_go, acted, code_body, default_type, function_body, run_type, by_sign, turn, turns, looped, run_with, built_in, act, calls_after, eval_within}
-use Rattle.bt_machine.specs.Step.{tick_limit, checked, Finish, finished_at}
-use Rattle.bt_machine.specs.inner.Cases.{rested, finish_of}
+use Rattle.bt_machine.specs.Step.{tick_limit, Finish, finished_at}
+use Rattle.bt_machine.specs.inner.Cases.{checked, rested, finish_of}
 use Rattle.bt_machine.proofs.Places.{Part, Place, embed, WorldsAlike, ActsAlike, same_part, on_alike, on_pairs, say_alike, taken_alike, taken_two_alike, taken_three_alike, by_entry, of_entry_alike, pushed_alike, basic_alike}
 
 module _ (e : Option Entry) (pre : List ℕ) (P P' : Place e) where

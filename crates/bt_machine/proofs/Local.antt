@@ -8,8 +8,8 @@ use Rattle.bt_style.specs.Tree.{Called, End, Then}
 use Rattle.bt_style.specs.Program.{Program}
 use Rattle.bt_actions.specs.World.{World, no_variables, no_entry, entry_in}
 use Rattle.bt_machine.specs.Eval.{eval}
-use Rattle.bt_machine.specs.Step.{tick_limit, counts_begun, step_begun, Finish, step}
-use Rattle.bt_machine.specs.inner.Cases.{rested, finish_of}
+use Rattle.bt_machine.specs.Step.{tick_limit, Finish, step}
+use Rattle.bt_machine.specs.inner.Cases.{counts_begun, step_begun, rested, finish_of}
 use Rattle.bt_actions.specs.View.{entries_in}
 use Rattle.bt_machine.specs.OwnEntry.{IsPlace, cut, alone, with_variables, put_back, finish_back, DependsOnInput}
 use Rattle.bt_machine.proofs.Places.{Part, Place, varied, embed}

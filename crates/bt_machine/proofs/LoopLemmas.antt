@@ -20,9 +20,9 @@ use Rattle.bt_actions.specs.World.{World, say}
 use Rattle.bt_actions.specs.Arguments.{as_number, as_code, taken, taken_two, taken_three}
 use Rattle.bt_machine.specs.declared.control.Frame.{Frame as HeldFrame}
 use Rattle.bt_stack.specs.Choice.{chosen_of}
-use Rattle.bt_machine.specs.Eval.{Counts, Ending, Done, Stopped, then_go, code_body, function_body, no_definition, run_with, by_sign, turn, looped, built_in, act, calls_after, eval}
-use Rattle.bt_machine.specs.inner.Cases.{finish_of}
-use Rattle.bt_machine.specs.Step.{counts_begun, step_begun, finished_at, step}
+use Rattle.bt_machine.specs.Eval.{Counts, Ending, Done, Stopped, then_go, code_body, function_body, run_with, by_sign, turn, looped, built_in, act, calls_after, eval}
+use Rattle.bt_machine.specs.inner.Cases.{no_definition, finish_of, counts_begun, step_begun}
+use Rattle.bt_machine.specs.Step.{finished_at, step}
 use Rattle.bt_machine.specs.inner.Loop.{Frame, Run, Test, frame_seen, meant, left, run_ended, is_above, kept, whole, SameLeft, is_stop, checked_at}
 use Rattle.bt_machine.proofs.Equations.{eval-end, eval-no_tick, eval-then, looped-turn}
 

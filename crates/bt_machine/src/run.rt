@@ -17,7 +17,7 @@ ghost use Rattle.bt_actions.specs.Arguments.{as_number, taken};
 ghost use Rattle.bt_actions.specs.World.{say};
 ghost use Rattle.bt_stack.specs.View.{world_of};
 ghost use Rattle.bt_machine.specs.Eval.{Stopped, eval, act};
-ghost use Rattle.bt_machine.specs.Step.{counts_begun};
+ghost use Rattle.bt_machine.specs.inner.Cases.{counts_begun};
 ghost use Rattle.bt_machine.specs.inner.Loop.{counts, run_ended, ComesTo, is_above, left, whole, call_left};
 
 use crate::calls::{Next, call, call_quoted};

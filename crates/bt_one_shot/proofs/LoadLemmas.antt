@@ -7,7 +7,8 @@ use Rattle.bibtex.specs.declared.state.State.{State}
 use Rattle.bibtex.specs.declared.edit.Refusal.{Refusal}
 use Rattle.bibtex.specs.Present.{no_texts, shown}
 use Rattle.bibtex.specs.Edit.{write}
-use Rattle.bibtex.specs.Applied.{refusal_of, changed, unless_refused, state_or, unless_out_of_memory}
+use Rattle.bibtex.specs.Applied.{refusal_of, changed, state_or, unless_out_of_memory}
+use Rattle.bibtex.specs.inner.Cases.{unless_refused}
 use Rattle.bt_one_shot.specs.declared.folder.Found.{Found}
 use Rattle.bt_one_shot.specs.declared.folder.Found.TheVariants as found
 use Rattle.bt_one_shot.specs.Folders.{Contents, Seen, Gains, LooksUp, looked_up}

@@ -6,7 +6,8 @@ use Rattle.bt_job.specs.FileNames.{text_of}
 use Rattle.bibtex.specs.declared.state.State.{State}
 use Rattle.bibtex.specs.declared.edit.Refusal.{Refusal}
 use Rattle.bibtex.specs.Edit.{write, remove}
-use Rattle.bibtex.specs.Applied.{applied, unless_refused, refusal_of, changed}
+use Rattle.bibtex.specs.Applied.{applied, refusal_of, changed}
+use Rattle.bibtex.specs.inner.Cases.{unless_refused}
 use Rattle.bibtex.proofs.TextLemmas.{same_name, flipped, put_is, text_of_put, text_of_without}
 use Rattle.bt_paper.specs.declared.known.Known.{Known}
 use Rattle.bt_paper.specs.Known.{name_of}

@@ -6,8 +6,8 @@ use Rattle.bt_text.specs.CaseFolding.{is_same_folded}
 use Rattle.bt_resolve.specs.declared.asked.Asked.{Asked}
 use Rattle.bt_resolve.specs.declared.stored.Stored.{Stored}
 use Rattle.bt_text.specs.ByName.{first_place}
-use Rattle.bt_resolve.specs.Listed.{place_of_key, parent_of, is_cited_at, is_among, firsts, cited_places, uncited_parents, listed}
-use Rattle.bt_resolve.specs.inner.Cases.{parents, listed_by}
+use Rattle.bt_resolve.specs.Listed.{place_of_key, parent_of, is_cited_at, is_among, firsts, uncited_parents, listed}
+use Rattle.bt_resolve.specs.inner.Cases.{cited_places, parents, listed_by}
 
 abbrev Below : ℕ → List ℕ → Type 0
 Below n ps = AllByRecursion (λ p. p < n) ps

@@ -22,10 +22,10 @@ use Rattle.bt_resolve.specs.declared.stored.Stored.{Stored}
 use Rattle.bt_resolve.specs.Values.{MacroTexts}
 use Rattle.bt_resolve.specs.Macros.{macro_before}
 use Rattle.bt_resolve.specs.Stored.{stored_of, is_wanted, is_stored, stored_among}
-use Rattle.bt_resolve.specs.Warnings.{origin_of, line_at}
+use Rattle.bt_resolve.specs.Warnings.{line_at}
+use Rattle.bt_resolve.specs.inner.Cases.{origin_of, with_content, with_entry, with_item, key_messages, fault_messages, messages_at}
 use Rattle.bt_resolve.specs.Faults.{repeated}
 use Rattle.bt_resolve.specs.Messages.{stored_messages, item_messages, for_each}
-use Rattle.bt_resolve.specs.inner.Cases.{with_content, with_entry, with_item, key_messages, fault_messages, messages_at}
 use Rattle.bt_resolve.specs.inner.Kept.{NoStrings}
 use Rattle.bt_resolve.specs.inner.Spans.{tells, stored_if, told_if, nothing, with_item_by, is_entry_item, span_of, tells_of}
 use Rattle.bt_resolve.specs.Skeletons.{AreAlike, is_string, IsLike, AreInPlace, entry_added, added, added_at}

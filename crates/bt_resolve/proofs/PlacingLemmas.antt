@@ -21,9 +21,9 @@ use Rattle.bt_log.specs.declared.message.Message.{Message}
 use Rattle.bt_resolve.specs.declared.stored.Stored.{Stored}
 use Rattle.bt_resolve.specs.Values.{MacroTexts}
 use Rattle.bt_resolve.specs.Macros.{macro_before}
-use Rattle.bt_resolve.specs.inner.Cases.{type_messages, with_content, preamble_at, preamble_of, messages_at, with_item, asked}
+use Rattle.bt_resolve.specs.inner.Cases.{type_messages, with_content, preamble_at, preamble_of, messages_at, with_item, asked, origin_of}
 use Rattle.bt_resolve.specs.Stored.{kind_of, stored_among}
-use Rattle.bt_resolve.specs.Warnings.{origin_of, line_at}
+use Rattle.bt_resolve.specs.Warnings.{line_at}
 use Rattle.bt_resolve.specs.Messages.{for_each, stored_messages, item_messages, database_messages}
 use Rattle.bt_resolve.specs.inner.Databases.{State, resolved_of, after_placed, after_items, after_databases, nothing_read}
 use Rattle.bt_resolve.specs.Resolved.{all_items, stored_entries, preamble, messages, resolved}

@@ -12,10 +12,10 @@ use Rattle.bt_resolve.specs.declared.stored.Stored.{Stored}
 use Rattle.bt_resolve.specs.Names.{crossref, place_of_name}
 use Rattle.bt_resolve.specs.Values.{is_named}
 use Rattle.bt_resolve.specs.Stored.{is_wanted, is_stored}
-use Rattle.bt_resolve.specs.Listed.{place_of_key, parent_of, is_cited_at, is_among, firsts, cited_places, uncited_parents, listed}
-use Rattle.bt_resolve.specs.Inherited.{children, is_left_out, final_crossref, key_spelled, entry_seen}
+use Rattle.bt_resolve.specs.Listed.{place_of_key, parent_of, is_cited_at, is_among, firsts, uncited_parents, listed}
+use Rattle.bt_resolve.specs.inner.Cases.{cited_places, children, is_referred_to, is_cited, parents, others_than, listed_by, parent_at, is_place, with_crossref, entry_at, parent_messages, entry_messages}
+use Rattle.bt_resolve.specs.Inherited.{is_left_out, final_crossref, key_spelled, entry_seen}
 use Rattle.bt_resolve.specs.References.{no_entry, reference_messages, missing_messages, list_messages}
-use Rattle.bt_resolve.specs.inner.Cases.{is_referred_to, is_cited, parents, others_than, listed_by, parent_at, is_place, with_crossref, entry_at, parent_messages, entry_messages}
 use Rattle.bt_resolve.specs.Skeletons.{skeleton, AreAlike, ListDependsOnSkeletons}
 
 -- ---- lists

@@ -16,10 +16,10 @@ use Rattle.bt_resolve.specs.Names.{place_of_name}
 use Rattle.bt_resolve.specs.Values.{MacroTexts}
 use Rattle.bt_resolve.specs.Macros.{macro_before}
 use Rattle.bt_resolve.specs.Stored.{stored_of, is_wanted, is_stored, stored_among}
-use Rattle.bt_resolve.specs.Warnings.{origin_of, line_at}
+use Rattle.bt_resolve.specs.Warnings.{line_at}
+use Rattle.bt_resolve.specs.inner.Cases.{origin_of, with_content, with_entry, with_item, fault_messages, key_messages, content_messages, messages_at, preamble_of, preamble_at}
 use Rattle.bt_resolve.specs.Faults.{repeated}
 use Rattle.bt_resolve.specs.Messages.{stored_messages, item_messages, for_each}
-use Rattle.bt_resolve.specs.inner.Cases.{with_content, with_entry, with_item, fault_messages, key_messages, content_messages, messages_at, preamble_of, preamble_at}
 use Rattle.bt_resolve.specs.Skeletons.{is_entry, is_string, MacrosAreOfStrings, skeleton, AreAlike, HaveOneSkeleton, IsLike, AreInPlace, entry_added, added, added_at, AreOneBefore, GiveTheSame, StoredInParts, LaterItemsAreTheSame}
 use Rattle.std.proofs.lemmas.List.{map-append}
 use Rattle.bt_resolve.proofs.PlacingLemmas.{behind_next}

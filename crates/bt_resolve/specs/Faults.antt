@@ -5,7 +5,7 @@ use Rattle.bt_bib.specs.declared.fault.ItemFault.TheVariants.{EndOfFile, Missing
 use Rattle.bt_bib.specs.declared.fault.NameRole.{NameRole}
 use Rattle.bt_bib.specs.declared.fault.NameRole.TheVariants.{EntryType, StringName, FieldName, FieldPart}
 use Rattle.bt_bib.specs.declared.item.Closing.{Closing}
-use Rattle.bt_bib.specs.declared.item.Closing.TheVariants.{Brace, Parenthesis}
+use Rattle.bt_bib.specs.declared.item.Closing.TheVariants.{Parenthesis}
 use Rattle.bt_bib.specs.declared.item.Content.{Content}
 use Rattle.bt_bib.specs.declared.item.Content.TheVariants as contents
 use Rattle.bt_bib.specs.declared.spot.Spot.{Spot}
@@ -18,19 +18,13 @@ use Rattle.bt_resolve.specs.declared.place.BibLine.{BibLine}
 -- what is skipped after a fault
 abbrev pub dropped_name : Content → List ℕ
 dropped_name (contents.Entry e) = codes "entry"
-dropped_name (contents.Define d) = codes "command"
-dropped_name (contents.Preamble parts) = codes "command"
+dropped_name _ = codes "command"
 
 abbrev pub what_name : NameRole → List ℕ
 what_name EntryType = codes "an entry type"
 what_name StringName = codes "a string name"
 what_name FieldName = codes "a field name"
 what_name FieldPart = codes "a field part"
-
-abbrev pub sign_of : Option Closing → ℕ
-sign_of None = 125
-sign_of (Some Brace) = 125
-sign_of (Some Parenthesis) = 41
 
 -- an unclosed entry, and an unclosed command of this name
 unfoldable pub unclosed_entry : List ℕ → List ℕ
@@ -46,7 +40,7 @@ fault_words content close (BadNameEnd what byte) =
     codes "\"" ++ (byte ∷ []) ++ codes "\" immediately follows " ++ what_name what
 fault_words content close ExpectedOpen = codes "I was expecting a `{' or a `('"
 fault_words content close ExpectedCommaOrClose =
-    (let sign = sign_of close ∷ [] in
+    (let sign : List ℕ = elim close [ Some Parenthesis ↦ 41 | _ ↦ 125 ] ∷ [] in
     elim content [
       | contents.Entry e ↦ unclosed_entry sign
       | contents.Define d ↦ unclosed_command (codes "string") sign

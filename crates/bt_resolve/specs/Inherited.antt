@@ -27,13 +27,11 @@ values_after stored (q ∷ before) p =
       ]
     ]
 
--- how many stored entries refer to an entry
-abbrev pub children : List Stored → ℕ → ℕ
-children stored p = count_by (λ s. elim (parent_of stored s) [ None ↦ false | Some q ↦ q == p ]) stored
-
 -- an entry that isn't cited, and to which fewer than min entries refer, is left out of the list; with `*` none is
 unfoldable pub is_left_out : Asked → ℕ → List Stored → ℕ → Bool
-is_left_out a min stored p = is_none a.star && not (is_cited_at a.keys stored p) && nat_lt (children stored p) min
+is_left_out a min stored p =
+    let children = count_by (λ s. elim (parent_of stored s) [ None ↦ false | Some q ↦ q == p ]) stored in
+    is_none a.star && not (is_cited_at a.keys stored p) && nat_lt children min
 
 -- the final field `crossref`: missing if no entry has that key, or if that entry was left out
 unfoldable pub final_crossref : Asked → ℕ → List Stored → Stored → Option (List ℕ)

@@ -26,10 +26,6 @@ abbrev pub firsts : List ℕ → List ℕ → List ℕ
 firsts seen [] = []
 firsts seen (p ∷ ps) = if is_among seen p then firsts seen ps else p ∷ firsts (seen ++ p ∷ []) ps
 
--- the entries of the keys that have one
-abbrev pub cited_places : List (List ℕ) → List Stored → List ℕ
-cited_places keys stored = filter_map (place_of_key stored) keys
-
 -- the uncited entries that stored ones refer to, in the order of the first references to them
 abbrev pub uncited_parents : List (List ℕ) → List Stored → List ℕ
 uncited_parents keys stored =
@@ -39,8 +35,8 @@ uncited_parents keys stored =
 -- With `*`: the keys before it, then all others in the order of the databases.
 unfoldable pub listed : Asked → List Stored → List ℕ
 listed a stored = elim a.star [
-  | None ↦ cited_places a.keys stored ++ uncited_parents a.keys stored
+  | None ↦ filter_map (place_of_key stored) a.keys ++ uncited_parents a.keys stored
   | Some before ↦
-      (let cited = cited_places (take before a.keys) stored in
+      (let cited = filter_map (place_of_key stored) (take before a.keys) in
       cited ++ filter (λ p. not (is_among cited p)) (range_with_len 0 (length stored)))
 ]

@@ -1,8 +1,7 @@
 -- The messages of the items, in their order.
-use Rattle.std.specs.Prelude.{ℕ, ◌+◌, List, [], ◌∷◌, ◌++◌, reverse, codes, Option, Some, None, if◌then◌else◌}
+use Rattle.std.specs.Prelude.{ℕ, ◌+◌, List, [], ◌∷◌, ◌++◌, reverse, codes, Some, None, if◌then◌else◌}
 use Rattle.bt_bib.specs.declared.spot.Spot.{Spot}
 use Rattle.bt_bib.specs.declared.item.Item.{Item}
-use Rattle.bt_bib.specs.declared.item.Part.{Part}
 use Rattle.bt_bib.specs.declared.item.Content.TheVariants as contents
 use Rattle.bt_bib.specs.declared.item.Entry.{Entry}
 use Rattle.bt_bib.specs.Items.{PlacedItem}
@@ -14,7 +13,7 @@ use Rattle.bt_resolve.specs.declared.place.Origin.{Origin}
 use Rattle.bt_resolve.specs.Names.{place_of_name}
 use Rattle.bt_resolve.specs.Values.{MacroTexts, value_warnings}
 use Rattle.bt_resolve.specs.Macros.{faultless, macro_before}
-use Rattle.bt_resolve.specs.Warnings.{origin_of, line_at, no_function}
+use Rattle.bt_resolve.specs.Warnings.{line_at, no_function}
 use Rattle.bt_resolve.specs.Faults.{repeated, fault_error}
 use Rattle.bt_resolve.specs.Fields.{fields_messages}
 use Rattle.bt_resolve.specs.Stored.{kind_of, is_wanted, is_stored, stored_among}
@@ -24,15 +23,6 @@ unfoldable pub stored_messages : Asked → MacroTexts → Origin → ℕ → Ent
 stored_messages a macros origin line e key =
     (elim (place_of_name a.types (kind_of e)) [ None ↦ no_function (line_at origin line) key ∷ [] | Some function ↦ [] ])
     ++ fields_messages a.fields macros origin key [] e.fields
-
-abbrev pub string_messages : MacroTexts → Origin → ℕ → Option (List ℕ) → Option (List Part) → List Message
-string_messages macros origin line None parts = []
-string_messages macros origin line (Some name) None = []
-string_messages macros origin line (Some name) (Some parts) = value_warnings (Some name) macros origin line name parts
-
-abbrev pub preamble_messages : MacroTexts → Origin → ℕ → Option (List Part) → List Message
-preamble_messages macros origin line None = []
-preamble_messages macros origin line (Some parts) = value_warnings None macros origin line (codes "preamble") parts
 
 -- the messages of an item that extends from its place up to another, given the macros before it and the entries that
 -- are stored before it; the message about its fault comes last
@@ -46,8 +36,17 @@ item_messages a macros stored origin end item =
             then (if is_stored stored key then repeated (line_at origin item.line) key ∷ [] else stored_messages a macros origin item.line e key)
             else []
       ]
-      | contents.Define d ↦ string_messages macros origin item.line d.name (faultless item.fault d.value)
-      | contents.Preamble parts ↦ preamble_messages macros origin item.line (faultless item.fault parts)
+      | contents.Define d ↦ elim d.name [
+        | None ↦ []
+        | Some name ↦ elim (faultless item.fault d.value) [
+          | None ↦ []
+          | Some parts ↦ value_warnings (Some name) macros origin item.line name parts
+        ]
+      ]
+      | contents.Preamble parts ↦ elim (faultless item.fault parts) [
+        | None ↦ []
+        | Some these ↦ value_warnings None macros origin item.line (codes "preamble") these
+      ]
     ])
     ++ elim item.fault [
       | None ↦ []
@@ -64,5 +63,5 @@ abbrev pub database_messages : Asked → List Macro → ℕ → List PlacedItem 
 database_messages a macros number before [] = []
 database_messages a macros number before (these ∷ databases) =
     for_each (λ earlier placed. item_messages a (macro_before macros earlier) (stored_among a macros earlier)
-    (origin_of number placed) placed.end placed.item) before these
+    (record { database = number; line = placed.start.line }) placed.end placed.item) before these
     ++ database_messages a macros (number + 1) (reverse these ++ before) databases

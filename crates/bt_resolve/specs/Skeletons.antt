@@ -21,8 +21,8 @@ use Rattle.bt_resolve.specs.Macros.{macro_before}
 use Rattle.bt_resolve.specs.Fields.{given_value}
 use Rattle.bt_resolve.specs.Stored.{kind_of, stored_of, is_wanted, is_stored, stored_among}
 use Rattle.bt_resolve.specs.Listed.{listed}
-use Rattle.bt_resolve.specs.Inherited.{values_after, children, is_left_out, entries_seen}
-use Rattle.bt_resolve.specs.inner.Cases.{values_of, parent_at, entry_at, messages_at, preamble_at}
+use Rattle.bt_resolve.specs.Inherited.{values_after, is_left_out, entries_seen}
+use Rattle.bt_resolve.specs.inner.Cases.{children, values_of, parent_at, entry_at, messages_at, preamble_at}
 use Rattle.bt_resolve.specs.Messages.{for_each}
 use Rattle.bt_resolve.specs.References.{list_messages}
 

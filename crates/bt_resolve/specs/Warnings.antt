@@ -5,13 +5,8 @@ use Rattle.bt_log.specs.declared.message.Rank.TheVariants.{Warning}
 use Rattle.bt_log.specs.declared.message.Said.TheVariants.{Words}
 use Rattle.bt_log.specs.declared.message.Place.TheVariants.{DatabaseLine}
 use Rattle.bt_log.specs.declared.message.Message.{Message}
-use Rattle.bt_bib.specs.Items.{PlacedItem}
 use Rattle.bt_resolve.specs.declared.place.BibLine.{BibLine}
 use Rattle.bt_resolve.specs.declared.place.Origin.{Origin}
-
--- the place of an item of a database, given the database's number
-abbrev pub origin_of : ℕ → PlacedItem → Origin
-origin_of database placed = record { database = database; line = placed.start.line }
 
 -- a line of an item, relative to that of its `@`, as a line of the database
 abbrev pub line_at : Origin → ℕ → BibLine

@@ -5,8 +5,7 @@
 
 ghost use Rattle.std.specs.Prelude.{◌≡◌, ◌+◌, ◌-◌, ◌^◌, ◌<◌, ℕ, count_by, if◌then◌else◌, map, IfOk, OnOk};
 ghost use Rattle.bt_resolve.specs.inner.Family.{count_at};
-ghost use Rattle.bt_resolve.specs.Inherited.{children};
-ghost use Rattle.bt_resolve.specs.inner.Cases.{is_place, parent_at};
+ghost use Rattle.bt_resolve.specs.inner.Cases.{children, is_place, parent_at};
 ghost use Rattle.bt_resolve.specs.Listed.{parent_of, place_of_key};
 ghost use Rattle.bt_resolve.specs.Stored.{is_stored};
 

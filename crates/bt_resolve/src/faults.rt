@@ -1,8 +1,8 @@
 //! The wording of errors in items.
 
 ghost use Rattle.std.specs.Prelude.{◌≡◌, ◌++◌, IfOk, OnOk, codes};
-ghost use Rattle.bt_resolve.specs.Faults.{dropped_name, fault_error, fault_words, repeated, sign_of, unclosed_command, unclosed_entry, what_name};
-ghost use Rattle.bt_resolve.specs.inner.Cases.{fault_messages, key_of, unclosed};
+ghost use Rattle.bt_resolve.specs.Faults.{fault_error, fault_words, repeated, unclosed_command, unclosed_entry, what_name, dropped_name};
+ghost use Rattle.bt_resolve.specs.inner.Cases.{sign_of, fault_messages, key_of, unclosed};
 
 use crate::messages::add_message;
 use bt_bib::{Closing, Content, Item, ItemFault, NameRole, Spot};

@@ -6,8 +6,8 @@
 ghost use Rattle.std.specs.Prelude.{◌≡◌, ◌≤◌, ◌==◌, ◌++◌, ◌∷◌, [], ℕ, true, cond, filter, if◌then◌else◌, length, nat_eq, not, IfOk, IfSome, OnOk};
 ghost use Rattle.std.specs.HashSet.{contains};
 ghost use Rattle.std.specs.List.{filter_map};
-ghost use Rattle.bt_resolve.specs.Listed.{cited_places, firsts, is_among, is_cited_at, listed, uncited_parents};
-ghost use Rattle.bt_resolve.specs.inner.Cases.{others_than, parents};
+ghost use Rattle.bt_resolve.specs.Listed.{firsts, is_among, is_cited_at, listed, uncited_parents};
+ghost use Rattle.bt_resolve.specs.inner.Cases.{cited_places, others_than, parents};
 
 use crate::asked::Asked;
 use crate::family::Family;

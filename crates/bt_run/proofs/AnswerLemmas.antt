@@ -36,7 +36,8 @@ use Rattle.bt_run.proofs.EarlierLemmas.{nothing_placed, same_none}
 use Rattle.bt_run.specs.ReadCommand.{Job}
 use Rattle.bt_run.specs.Commands.{commands_from}
 use Rattle.bt_run.specs.Counts.{calls_at, counts_told}
-use Rattle.bt_run.specs.Meaning.{run_begun, first_globals, style_run, job_for, fault_told, styled, run_with, run_of, Meaning, meaning, trace}
+use Rattle.bt_run.specs.Meaning.{run_begun, first_globals, style_run, run_of, Meaning, meaning, trace}
+use Rattle.bt_run.specs.inner.Cases.{job_for, fault_told, styled, run_with}
 
 pub begun_consistent : (p : Program) (earlier : Earlier) (s : KeptSteps) → IsBegun s → IsConsistent p earlier [] s
 begun_consistent p earlier s h =

@@ -13,7 +13,7 @@ use Rattle.bt_run.specs.inner.Earlier.{AreSame}
 use Rattle.bt_run.specs.inner.Work.{IsConsistent}
 use Rattle.bt_run.specs.SortCommand.{key_at}
 use Rattle.bt_run.specs.ReadCommand.{Job, list_order, read}
-use Rattle.bt_run.specs.Commands.{sorted_run}
+use Rattle.bt_run.specs.inner.Cases.{sorted_run}
 use Rattle.bt_run.proofs.EarlierLemmas.{none_placed}
 use Rattle.bt_run.proofs.OrderLemmas.{places_below}
 use Rattle.bt_run.proofs.SortingLemmas.{sorted_all}

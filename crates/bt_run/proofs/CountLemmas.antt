@@ -8,7 +8,8 @@ use Rattle.bt_style.specs.Builtins.{Row, table, place_of}
 use Rattle.bt_log.specs.declared.message.Message.{Message}
 use Rattle.bt_style.specs.Names.{row_of}
 use Rattle.bt_style.proofs.laws.BuiltinLemmas.{stands_in_its_place}
-use Rattle.bt_run.specs.Counts.{all_calls, total_line, function_line, count_message, counts_told}
+use Rattle.bt_run.specs.Counts.{all_calls, counts_told, total_line, function_line}
+use Rattle.bt_run.specs.inner.Cases.{count_message}
 
 rows_told : (calls : ℕ → ℕ) (bs : List Builtin) → map (λ b. function_line calls (row_of b)) bs ≡ map (function_line calls) (map row_of bs)
 rows_told calls [] = refl

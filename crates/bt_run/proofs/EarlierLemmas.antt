@@ -1,15 +1,14 @@
 -- What is known of entries without comparing them stays so from step to step.
 use Rattle.std.specs.Prelude.{slice_get, slice_index_or, slice_set, true, ◌⊎◌}
 use Rattle.std.specs.Option.{option_map}
-use Rattle.std.proofs.Common.{◌≡◌, refl, sym, ap, ◌∙◌, subst, inl, inr, ℕ, zero, suc, Bool, List, [], ◌∷◌, ◌++◌, length, map, Option, Some, None, arith}
+use Rattle.std.proofs.Common.{◌≡◌, refl, sym, ap, ◌∙◌, inl, inr, ℕ, zero, suc, Bool, List, [], ◌∷◌, ◌++◌, length, map, Option, Some, None, arith}
 use Rattle.std.proofs.lemmas.Option.{slice_get_within, slice_get-map}
 use Rattle.bt_actions.specs.declared.entry.Entry.{Entry}
 use Rattle.bt_actions.specs.declared.entry.Variables.{Variables}
 use Rattle.bt_actions.specs.World.{no_entry, entry_in}
 use Rattle.bt_run.specs.declared.course.Step.{Step}
-use Rattle.bt_run.specs.declared.earlier.Earlier.{Earlier}
 use Rattle.bt_run.specs.inner.Course.{with_variables, variables_back}
-use Rattle.bt_run.specs.inner.Earlier.{fixed, fixed_at, ArePlaced, AreSame, IsMarked}
+use Rattle.bt_run.specs.inner.Earlier.{fixed, fixed_at, ArePlaced, AreSame}
 
 -- variables are all that a step puts back into an entry
 
@@ -72,20 +71,7 @@ nothing_placed entries steps places is = λ k n s at here.
     let none : slice_get [] k ≡ Some s = ap (λ (ts : List Step). slice_get ts k) (sym is) ∙ here in
     absurd (omega (arith, slice_get_within [] k s none))
 
--- one place more that is known to be the same, or not
-same_or : (others entries : List Entry) (same : List Bool) (b : Bool) (k n : ℕ) → length same ≡ n → AreSame others entries same → (b ≡ true → fixed_at others n ≡ fixed_at entries n) → (slice_get same k ≡ Some true) ⊎ ((k ≡ length same) × (b ≡ true)) → fixed_at others k ≡ fixed_at entries k
-same_or others entries same b k n counted h own (inl at) = h k at
-same_or others entries same b k n counted h own (inr last) = subst (λ m. fixed_at others m ≡ fixed_at entries m) (sym (last.0 ∙ counted)) (own last.1)
-
-pub same_more : (others entries : List Entry) (same next : List Bool) (b : Bool) (n : ℕ) → length same ≡ n → AreSame others entries same → next ≡ same ++ b ∷ [] → (b ≡ true → fixed_at others n ≡ fixed_at entries n) → AreSame others entries next
-same_more others entries same next b n counted h is own = rw is (λ k e. same_or others entries same b k n counted h own (last_or same b true k e))
-
 pub same_none : (others entries : List Entry) (same : List Bool) → same ≡ [] → AreSame others entries same
 same_none others entries same is = λ n e.
     let none : slice_get [] n ≡ Some true = ap (λ (bs : List Bool). slice_get bs n) (sym is) ∙ e in
     absurd (omega (arith, slice_get_within [] n true none))
-
--- an entry at a marked place is that of the earlier step, but for its variables
-pub marked_same : (earlier : Earlier) (entries : List Entry) (same : List Bool) (step : ℕ) (place : Option ℕ) (s : Step) → AreSame earlier.entries.now entries same → slice_get earlier.steps.now step ≡ Some s → IsMarked earlier.places.now same step place → option_map fixed s.input.entry ≡ option_map fixed (entry_in entries place)
-marked_same earlier entries same step None s h is m = absurd m
-marked_same earlier entries same step (Some n) s h is m = earlier.placed step n s m.0 is ∙ ap Some (h n m.1)

@@ -13,7 +13,8 @@ use Rattle.bt_bib.specs.declared.splice.ItemsEdit.{ItemsEdit}
 use Rattle.bt_resolve.specs.declared.question.Question.{Question}
 use Rattle.bt_resolve.specs.Resolved.{resolved}
 use Rattle.bt_resolve.specs.inner.Kept.{IsEditOf, resolved_for, with_database}
-use Rattle.bt_run.specs.ReadCommand.{Job, declared_before, found_for, text_in}
+use Rattle.bt_run.specs.ReadCommand.{Job, declared_before, found_for}
+use Rattle.bt_run.specs.inner.Cases.{text_in}
 use Rattle.bt_run.specs.declared.asking.Asking.{Asking}
 use Rattle.bt_run.specs.inner.Asked.{question_for, question_of, with_databases}
 use Rattle.bt_run.specs.inner.Edits.{IsSplicedBy}

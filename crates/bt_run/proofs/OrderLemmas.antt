@@ -6,7 +6,8 @@ use Rattle.std.proofs.lemmas.List.Elements.{All-push, All-nil, All-cons}
 use Rattle.std.proofs.lemmas.List.{map-append, get_or_default}
 use Rattle.bt_actions.specs.declared.entry.Entry.{Entry}
 use Rattle.bt_actions.specs.World.{no_entry}
-use Rattle.bt_run.specs.SortCommand.{sort_key, key_at}
+use Rattle.bt_run.specs.SortCommand.{key_at}
+use Rattle.bt_run.specs.inner.Cases.{sort_key}
 
 range_suc : (a n : ℕ) → range_with_len a (suc n) ≡ range_with_len a n ++ (a + n) ∷ []
 range_suc a zero = ap (λ k. k ∷ []) (omega arith)

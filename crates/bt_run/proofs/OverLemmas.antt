@@ -11,7 +11,8 @@ use Rattle.bt_run.specs.declared.course.CommandPlace.{CommandPlace}
 use Rattle.bt_run.specs.declared.course.Step.{Step}
 use Rattle.bt_run.specs.Course.{Recorded, course_world, input_at, step_kept, stepped}
 use Rattle.bt_run.specs.ReadCommand.{Job}
-use Rattle.bt_run.specs.Commands.{unless_stopped, iterated, site_of, carried_out, command, commands_from}
+use Rattle.bt_run.specs.Commands.{iterated, carried_out, commands_from}
+use Rattle.bt_run.specs.inner.Cases.{site_of, unless_stopped, command}
 use Rattle.bt_run.specs.inner.Course.{recorded}
 
 module _ {S T : Type 0} (f : S → Step → S) (g : T → Step → T) (h : T → S) (step_over : (t : T) (s : Step) → f (h t) s ≡ h (g t s)) where

@@ -8,7 +8,8 @@ use Rattle.bt_style.specs.declared.style.Style.{Style}
 use Rattle.bt_style.specs.Program.{Definition, definition_of, definitions_of, program_of}
 use Rattle.bt_resolve.specs.declared.declared.Macro.{Macro}
 use Rattle.bt_log.specs.declared.message.Message.{Message}
-use Rattle.bt_run.specs.ReadCommand.{is_definition, known_macro, declared_before}
+use Rattle.bt_run.specs.ReadCommand.{is_definition, declared_before}
+use Rattle.bt_run.specs.inner.Cases.{known_macro}
 
 abbrev name_of : Definition → List ℕ
 name_of d = d.name

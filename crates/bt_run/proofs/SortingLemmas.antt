@@ -13,7 +13,8 @@ use Rattle.std.proofs.lemmas.List.MinMax.{ranks_by}
 use Rattle.std.proofs.lemmas.List.Sorted.{sorted_far, IsPermutation-map, All-permutation, sum_by-IsPermutation}
 use Rattle.std.proofs.lemmas.List.Sums.{sum_by-cons}
 use Rattle.std.proofs.lemmas.Bool.Decides.{nat_tests}
-use Rattle.bt_run.specs.SortCommand.{is_upto, put_among, sorted}
+use Rattle.bt_run.specs.SortCommand.{put_among, sorted}
+use Rattle.bt_run.specs.inner.Cases.{is_upto}
 
 -- The order of places: by their keys, and by themselves where those are equal.
 

@@ -24,7 +24,6 @@ use Rattle.bt_machine.proofs.Agreeing.{itself}
 use Rattle.bt_machine.proofs.Comparing.{compared_tells}
 use Rattle.bt_run.specs.declared.course.Step.{Step}
 use Rattle.bt_run.specs.declared.reuse.Reuse.{Reuse}
-use Rattle.bt_run.specs.declared.reuse.KnownReach.{KnownReach}
 use Rattle.bt_run.specs.Reached.{names_in}
 use Rattle.bt_run.specs.inner.Index.{IsIndex}
 use Rattle.bt_run.specs.Work.{key_in, IsStep, same_key, agrees_with, was_done, work_under}
@@ -192,12 +191,6 @@ met_again p earlier s before after all among known indexed is =
       known = known;
       indexed = indexed;
     })
-
--- what was worked out is the footprint of an input
-pub footprint_known : (p : Program) (i : Input) (k : KnownReach) (names : List Target) → IsKnown p k → k.target ≡ i.target → k.function ≡ function_of i.entry → names ≡ k.reach.targets → IsFootprint p i names
-footprint_known p i k names h target function is =
-    let Reached : List Target → Option ℕ → Target → Type 0 = λ ts f start. (t : Target) → Contains ts t ↔ Reaches p f start t in
-    subst (λ ts. Reached ts (function_of i.entry) i.target) (sym is) (subst (λ f. Reached k.reach.targets f i.target) function (subst (λ start. Reached k.reach.targets k.function start) target h))
 
 pub footprint_of : (p : Program) (i : Input) (names : List Target) (f : Option ℕ) → f ≡ function_of i.entry → ((t : Target) → Contains names t ↔ Reaches p f i.target t) → IsFootprint p i names
 footprint_of p i names f e h = subst (λ (g : Option ℕ). (t : Target) → Contains names t ↔ Reaches p g i.target t) e h

@@ -18,7 +18,8 @@ use Rattle.bt_run.specs.declared.course.Step.{Step}
 use Rattle.bt_run.specs.Course.{Recorded}
 use Rattle.bt_run.specs.Commands.{commands_from}
 use Rattle.bt_run.specs.Counts.{calls_at, counts_told}
-use Rattle.bt_run.specs.Meaning.{Meaning, bbl_of, shown_of, run_begun, first_globals, style_run, fault_told, run_with}
+use Rattle.bt_run.specs.Meaning.{Meaning, run_begun, first_globals, style_run}
+use Rattle.bt_run.specs.inner.Cases.{bbl_of, shown_of, fault_told, run_with}
 use Rattle.bt_run.specs.ReadCommand.{Job}
 use Rattle.bt_run.specs.inner.Course.{recorded}
 use Rattle.bt_run.specs.inner.Steps.{run_shown, calls_in}

@@ -5,7 +5,6 @@ use Rattle.bt_log.specs.declared.message.Message.{Message}
 use Rattle.bt_log.specs.declared.message.Rank.TheVariants.{CallCount}
 use Rattle.bt_log.specs.Message.{plain}
 use Rattle.bt_run.specs.declared.course.Step.{Step}
-use Rattle.bt_run.specs.Course.{Recorded}
 
 -- how often the function at a place in the table was called, in all steps together
 abbrev pub calls_at : List Step → ℕ → ℕ
@@ -15,21 +14,15 @@ calls_at trace place = sum_by (λ (s : Step). slice_index_or s.outcome.calls pla
 unfoldable pub all_calls : (ℕ → ℕ) → ℕ
 all_calls calls = sum_by (λ (row : Row). calls (place_of row.builtin)) table
 
-abbrev pub count_message : List ℕ → Message
-count_message words = plain CallCount words
-
 -- the line of a function
 abbrev pub function_line : (ℕ → ℕ) → Row → Message
-function_line calls row = count_message (row.name ++ codes " -- " ++ decimal (calls (place_of row.builtin)))
+function_line calls row = plain CallCount (row.name ++ codes " -- " ++ decimal (calls (place_of row.builtin)))
 
 -- the line before them
 abbrev pub total_line : ℕ → Message
-total_line count = count_message (codes "The built-in function-call counts, " ++ decimal count ++ codes " in all, are:")
+total_line count =
+    plain CallCount (codes "The built-in function-call counts, " ++ decimal count ++ codes " in all, are:")
 
 -- the counts of calls, function by function in the order of the table
 unfoldable pub counts_told : (ℕ → ℕ) → List Message
 counts_told calls = total_line (all_calls calls) ∷ map (function_line calls) table
-
--- a run with the counts of its calls after its messages
-abbrev pub with_counts : Recorded (List Step) → Recorded (List Step)
-with_counts r = record r { course = record r.course { log = r.course.log ++ counts_told (calls_at r.seen) } }

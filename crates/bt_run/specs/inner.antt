@@ -10,3 +10,4 @@ pub mod BodySet
 pub mod JobView
 pub mod Steps
 pub mod Written
+pub mod Cases

@@ -8,7 +8,8 @@ ghost use Rattle.bt_run.specs.inner.Course.{recorded};
 ghost use Rattle.bt_run.specs.inner.Work.{IsBegun, IsConsistent};
 ghost use Rattle.bt_run.specs.inner.Steps.{IsTaken};
 ghost use Rattle.bt_run.specs.Kept.{named_text, style_text, report_after};
-ghost use Rattle.bt_run.specs.Meaning.{style_run, run_with, shown_of, meaning, trace};
+ghost use Rattle.bt_run.specs.Meaning.{style_run, meaning, trace};
+ghost use Rattle.bt_run.specs.inner.Cases.{run_with, shown_of};
 ghost use Rattle.bt_run.specs.inner.JobView.{job_of};
 ghost use Rattle.bt_run.specs.Shown.{meaning_of};
 

@@ -1,7 +1,7 @@
 //! What READ asks of the databases.
 
 ghost use Rattle.std.specs.Prelude.{◌≡◌, IfOk, IsTrue, map};
-ghost use Rattle.bt_run.specs.ReadCommand.{text_in};
+ghost use Rattle.bt_run.specs.inner.Cases.{text_in};
 ghost use Rattle.bt_run.specs.inner.JobView.{job_of};
 ghost use Rattle.bt_run.specs.inner.Asked.{question_for, question_of, with_databases};
 

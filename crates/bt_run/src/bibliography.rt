@@ -2,7 +2,7 @@
 
 ghost use Rattle.std.specs.Prelude.{◌≡◌, ◌++◌, [], ◌∷◌, IfOk, OnOk};
 ghost use Rattle.bt_log.specs.Log.{lines_bytes};
-ghost use Rattle.bt_run.specs.Meaning.{bbl_of};
+ghost use Rattle.bt_run.specs.inner.Cases.{bbl_of};
 
 use crate::course::Step;
 use bt_text::{Bytes, Shared};

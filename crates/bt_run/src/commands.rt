@@ -3,7 +3,8 @@
 ghost use Rattle.std.specs.Prelude.{◌≡◌, [], OnOk, IfOk};
 ghost use Rattle.bt_style.specs.Program.{program_of};
 ghost use Rattle.bt_run.specs.inner.Course.{recorded, IsOrdered};
-ghost use Rattle.bt_run.specs.Commands.{sorted_run, site_of, command as command_done, commands_from};
+ghost use Rattle.bt_run.specs.Commands.{commands_from};
+ghost use Rattle.bt_run.specs.inner.Cases.{site_of, sorted_run, command as command_done};
 ghost use Rattle.bt_run.specs.Meaning.{first_globals, run_begun};
 ghost use Rattle.bt_run.specs.inner.JobView.{job_of};
 

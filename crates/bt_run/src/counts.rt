@@ -5,7 +5,8 @@
 ghost use Rattle.std.specs.Prelude.{◌≡◌, ℕ, ◌+◌, ◌++◌, ◌<◌, map, sum_by, slice_index_or, codes, decimal, IfOk, OnOk};
 ghost use Rattle.bt_style.specs.Builtins.{place_of, name_of};
 ghost use Rattle.bt_style.specs.Names.{row_of};
-ghost use Rattle.bt_run.specs.Counts.{calls_at, all_calls, count_message, total_line, function_line, counts_told};
+ghost use Rattle.bt_run.specs.Counts.{calls_at, all_calls, counts_told, total_line, function_line};
+ghost use Rattle.bt_run.specs.inner.Cases.{count_message};
 ghost use Rattle.bt_run.specs.inner.Steps.{calls_in};
 
 use crate::course::Step;

@@ -2,7 +2,8 @@
 
 ghost use Rattle.std.specs.Prelude.{◌≡◌, ◌++◌, ◌∷◌, [], map, filter, IfOk, OnOk};
 ghost use Rattle.bt_log.specs.declared.message.Message.{Message as MessageSeen};
-ghost use Rattle.bt_run.specs.ReadCommand.{in_its_file, is_about, is_general, file_line, database_told, all_read};
+ghost use Rattle.bt_run.specs.ReadCommand.{is_about, is_general};
+ghost use Rattle.bt_run.specs.inner.Cases.{in_its_file, file_line, database_told, all_read};
 
 use bt_log::{FileNote, Message, Place, Rank};
 use bt_text::{Bytes, Sequence, Shared};

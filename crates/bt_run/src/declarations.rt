@@ -3,7 +3,8 @@
 ghost use Rattle.std.specs.Prelude.{◌≡◌, [], pos, map, take, count_by, IfOk};
 ghost use Rattle.bt_style.specs.declared.style.Command.{Command as CommandSeen};
 ghost use Rattle.bt_style.specs.Program.{Definition, definitions_of, program_of};
-ghost use Rattle.bt_run.specs.ReadCommand.{is_definition, known_macro, declared_before, blank};
+ghost use Rattle.bt_run.specs.ReadCommand.{is_definition, declared_before};
+ghost use Rattle.bt_run.specs.inner.Cases.{known_macro, blank};
 
 use bt_actions::Variables;
 use bt_resolve::{Declared, Macro};

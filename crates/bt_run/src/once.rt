@@ -2,7 +2,8 @@
 
 ghost use Rattle.std.specs.Prelude.{◌≡◌, ◌≤◌, length, IfOk};
 ghost use Rattle.std.specs.Option.{ForSome};
-ghost use Rattle.bt_run.specs.Meaning.{style_run, run_with, meaning};
+ghost use Rattle.bt_run.specs.Meaning.{style_run, meaning};
+ghost use Rattle.bt_run.specs.inner.Cases.{run_with};
 ghost use Rattle.bt_run.specs.inner.Steps.{run_shown};
 ghost use Rattle.bt_run.specs.Shown.{meaning_of};
 ghost use Rattle.bt_run.specs.inner.JobView.{job_of};

@@ -2,7 +2,8 @@
 
 ghost use Rattle.std.specs.Prelude.{◌≡◌, map, IfOk, OnOk};
 ghost use Rattle.bt_style.specs.Program.{program_of};
-ghost use Rattle.bt_run.specs.ReadCommand.{found_for, with_blank_variables, list_order, read, read_in};
+ghost use Rattle.bt_run.specs.ReadCommand.{found_for, with_blank_variables, list_order, read};
+ghost use Rattle.bt_run.specs.inner.Cases.{read_in};
 ghost use Rattle.bt_run.specs.inner.Asked.{question_for};
 ghost use Rattle.bt_run.specs.inner.Found.{IsKept};
 ghost use Rattle.bt_run.specs.inner.JobView.{job_of};

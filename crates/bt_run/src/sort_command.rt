@@ -1,7 +1,8 @@
 //! SORT: the entries in the order of their sort keys.
 
 ghost use Rattle.std.specs.Prelude.{◌≡◌, All, map, IfOk};
-ghost use Rattle.bt_run.specs.SortCommand.{sort_key, key_at, sorted};
+ghost use Rattle.bt_run.specs.SortCommand.{key_at, sorted};
+ghost use Rattle.bt_run.specs.inner.Cases.{sort_key};
 ghost use Rattle.bt_run.specs.ReadCommand.{list_order};
 
 use bt_actions::Entry;

@@ -3,7 +3,8 @@
 ghost use Rattle.std.specs.Prelude.{◌≡◌, ◌++◌, ◌∷◌, [], map, IfOk};
 ghost use Rattle.bt_style.specs.Program.{program_of};
 ghost use Rattle.bt_actions.specs.World.{no_variables};
-ghost use Rattle.bt_run.specs.Meaning.{first_number, first_globals, run_begun, fault_told};
+ghost use Rattle.bt_run.specs.Meaning.{first_globals, run_begun, first_number};
+ghost use Rattle.bt_run.specs.inner.Cases.{fault_told};
 
 use crate::course::Course;
 use crate::declarations::empty_texts;

@@ -7,7 +7,8 @@ ghost use Rattle.bt_actions.specs.World.{entry_in};
 ghost use Rattle.bt_machine.specs.OwnEntry.{IsPlace};
 ghost use Rattle.bt_log.specs.declared.message.Place.TheVariants as places;
 ghost use Rattle.bt_log.specs.Message.{at};
-ghost use Rattle.bt_run.specs.Course.{course_world, input_at, all_told};
+ghost use Rattle.bt_run.specs.Course.{course_world, input_at};
+ghost use Rattle.bt_run.specs.inner.Cases.{all_told};
 ghost use Rattle.bt_run.specs.inner.Course.{variables_back, put_back};
 
 use crate::course::{CommandPlace, Course};

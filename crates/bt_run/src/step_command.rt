@@ -3,7 +3,8 @@
 ghost use Rattle.std.specs.Prelude.{◌≡◌, ◌<◌, Some, All, OnOk, length, reverse};
 ghost use Rattle.bt_style.specs.Program.{program_of};
 ghost use Rattle.bt_run.specs.Course.{stepped};
-ghost use Rattle.bt_run.specs.Commands.{iterated, unless_stopped};
+ghost use Rattle.bt_run.specs.Commands.{iterated};
+ghost use Rattle.bt_run.specs.inner.Cases.{unless_stopped};
 ghost use Rattle.bt_run.specs.inner.Course.{recorded, IsOrdered};
 
 use crate::course::{CommandPlace, Course};

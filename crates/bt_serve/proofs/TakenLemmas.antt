@@ -5,7 +5,8 @@ use Rattle.bibtex.specs.declared.edit.Refusal.{Refusal}
 use Rattle.bibtex.specs.declared.edit.Refusal.TheVariants.{OutOfMemory}
 use Rattle.bibtex.specs.declared.state.State.{State}
 use Rattle.bibtex.specs.Edit.{Edit, write, splice, remove, root_name, min_crossrefs, bytes_of, with_bytes}
-use Rattle.bibtex.specs.Applied.{applied, refusal_of, changed, unless_refused, IsAnswer, state_or, unless_out_of_memory}
+use Rattle.bibtex.specs.Applied.{applied, refusal_of, changed, IsAnswer, state_or, unless_out_of_memory}
+use Rattle.bibtex.specs.inner.Cases.{unless_refused}
 use Rattle.bt_serve.specs.Commands.{edit, edit_answer, accepted, refused}
 use Rattle.bt_serve.specs.inner.Serves.{Takes, Does, taken_text}
 

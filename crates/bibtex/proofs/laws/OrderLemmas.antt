@@ -10,8 +10,9 @@ use Rattle.bibtex.specs.declared.edit.Refusal.{Refusal}
 use Rattle.bibtex.specs.declared.edit.Refusal.TheVariants.{BadName, NoSuchFile, FileTooLarge, TooManyFiles}
 use Rattle.bibtex.specs.declared.state.State.{State}
 use Rattle.bibtex.specs.Edit.{Edit, bytes_of, write, splice, remove, root_name, min_crossrefs}
-use Rattle.bibtex.specs.Present.{EachOnce, place_of_file, with_text, replaced, shown, reported}
-use Rattle.bibtex.specs.Applied.{file_size_limit, file_count_limit, found_refusal, refusal_of, changed, unless_refused, applied, IsAnswer}
+use Rattle.bibtex.specs.Present.{EachOnce, place_of_file, with_text, shown, reported}
+use Rattle.bibtex.specs.inner.Cases.{replaced, found_refusal, unless_refused}
+use Rattle.bibtex.specs.Applied.{file_size_limit, file_count_limit, refusal_of, changed, applied, IsAnswer}
 use Rattle.bibtex.specs.Headline.{after_answer, AnswersInTurn, ReportsInTurn, after_answers}
 use Rattle.bibtex.specs.laws.Order.{AreAlike, ComeToTheSame}
 use Rattle.bt_run.proofs.laws.ByNameLemmas.{meaning_same, trace_same, style_text_same}

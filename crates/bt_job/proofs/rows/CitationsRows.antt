@@ -13,7 +13,7 @@ use Rattle.bt_bib.specs.AuxLine.{aux_lines}
 use Rattle.bt_log.specs.Message.{of_file}
 use Rattle.bt_log.specs.Wording.{spelled}
 use Rattle.bt_log.specs.Log.{status_of, log_bytes}
-use Rattle.bt_job.specs.Lines.{cited, line_fault, read_on, job_lines}
+use Rattle.bt_job.specs.Lines.{cited, line_fault, with_line, job_lines}
 use Rattle.bt_job.specs.Citations.{citations}
 
 -- a file of this name and text
@@ -66,16 +66,16 @@ two_spellings : log (asked_by (codes "\\citation{Foo}\n\\citation{foo}\n\\bibdat
     ≡ top
     ∷ (Error, codes "Case mismatch error between cite keys foo and Foo---line 2 of file job.aux\nI'm skipping whatever remains of this command")
     ∷ style ∷ []
-unfolding digits aux_lines cited line_fault read_on job_lines citations
+unfolding digits aux_lines cited line_fault with_line job_lines citations
 two_spellings = refl
 
 first_spelling : (asked_by (codes "\\citation{Foo}\n\\citation{foo}\n\\bibdata{x}\n\\bibstyle{s}\n")).keys ≡ codes "Foo" ∷ []
-unfolding digits aux_lines cited line_fault read_on job_lines citations
+unfolding digits aux_lines cited line_fault with_line job_lines citations
 first_spelling = refl
 
 two_spellings_bytes : log_bytes (asked_by (codes "\\citation{Foo}\n\\citation{foo}\n\\bibdata{x}\n\\bibstyle{s}\n")).log
     ≡ codes "The top-level auxiliary file: job.aux\nCase mismatch error between cite keys foo and Foo---line 2 of file job.aux\nI'm skipping whatever remains of this command\nThe style file: s.bst\n(There was 1 error message)\n"
-unfolding digits aux_lines cited line_fault read_on job_lines citations
+unfolding digits aux_lines cited line_fault with_line job_lines citations
 two_spellings_bytes = refl
 
 -- what is asked for
@@ -92,7 +92,7 @@ nested = citations
     (codes "job")
 
 nested_asks : asked nested ≡ (codes "a" ∷ codes "b" ∷ codes "c" ∷ codes "d" ∷ [], Some 3, codes "x.bib" ∷ [], Some (codes "s.bst"), [])
-unfolding digits aux_lines cited line_fault read_on job_lines citations
+unfolding digits aux_lines cited line_fault with_line job_lines citations
 nested_asks = refl
 
 nested_log : log nested
@@ -101,7 +101,7 @@ nested_log : log nested
     ∷ (FileLine, codes "A level-2 auxiliary file: m.aux")
     ∷ (Error, codes "Case mismatch error between cite keys A and a---line 3 of file job.aux\nI'm skipping whatever remains of this command")
     ∷ style ∷ []
-unfolding digits aux_lines cited line_fault read_on job_lines citations
+unfolding digits aux_lines cited line_fault with_line job_lines citations
 nested_log = refl
 
 -- A file that names itself, and one that is named twice.
@@ -109,7 +109,7 @@ names_itself : log (asked_by (codes "\\@input{job.aux}\n\\citation{a}\n\\bibdata
     ≡ top
     ∷ (Error, codes "Already encountered file job.aux---line 1 of file job.aux\nI'm skipping whatever remains of this command")
     ∷ style ∷ []
-unfolding digits aux_lines cited line_fault read_on job_lines citations
+unfolding digits aux_lines cited line_fault with_line job_lines citations
 names_itself = refl
 
 -- two files that name each other
@@ -121,7 +121,7 @@ ring_log : log ring
     ∷ (FileLine, codes "A level-1 auxiliary file: n.aux")
     ∷ (Error, codes "Already encountered file job.aux---line 2 of file n.aux\nI'm skipping whatever remains of this command")
     ∷ style ∷ []
-unfolding digits aux_lines cited line_fault read_on job_lines citations
+unfolding digits aux_lines cited line_fault with_line job_lines citations
 ring_log = refl
 
 -- A nested file that isn't there is met and wanted once; what follows is read.
@@ -129,7 +129,7 @@ abbrev gone : Citations
 gone = asked_by (codes "\\citation{a}\n\\@input{n.aux}\n\\@input{n.aux}\n\\bibdata{x}\n\\bibstyle{s}\n")
 
 gone_asks : asked gone ≡ (codes "a" ∷ [], None, codes "x.bib" ∷ [], Some (codes "s.bst"), codes "n.aux" ∷ [])
-unfolding digits aux_lines cited line_fault read_on job_lines citations
+unfolding digits aux_lines cited line_fault with_line job_lines citations
 gone_asks = refl
 
 gone_log : log gone
@@ -137,7 +137,7 @@ gone_log : log gone
     ∷ (Error, codes "I couldn't open auxiliary file n.aux---line 2 of file job.aux\nI'm skipping whatever remains of this command")
     ∷ (Error, codes "Already encountered file n.aux---line 3 of file job.aux\nI'm skipping whatever remains of this command")
     ∷ style ∷ []
-unfolding digits aux_lines cited line_fault read_on job_lines citations
+unfolding digits aux_lines cited line_fault with_line job_lines citations
 gone_log = refl
 
 -- The names of files stay apart from the words.
@@ -146,7 +146,7 @@ gone_said : map (λ m. m.said) gone.log
     ∷ OfFile (NotOpened Aux) (codes "n.aux")
     ∷ OfFile AuxTwice (codes "n.aux")
     ∷ OfFile StyleFile (codes "s.bst") ∷ []
-unfolding digits aux_lines cited line_fault read_on job_lines citations
+unfolding digits aux_lines cited line_fault with_line job_lines citations
 gone_said = refl
 
 -- A database that is named twice: the rest of the command isn't read.
@@ -154,7 +154,7 @@ abbrev twice : Citations
 twice = asked_by (codes "\\citation{*}\n\\bibdata{x,x.bib,no}\n\\bibdata{y}\n\\bibstyle{s}\n")
 
 twice_asks : asked twice ≡ ([], Some 0, codes "x.bib" ∷ [], Some (codes "s.bst"), [])
-unfolding digits aux_lines cited line_fault read_on job_lines citations
+unfolding digits aux_lines cited line_fault with_line job_lines citations
 twice_asks = refl
 
 twice_log : log twice
@@ -162,7 +162,7 @@ twice_log : log twice
     ∷ (Error, codes "This database file appears more than once: x.bib---line 2 of file job.aux\nI'm skipping whatever remains of this command")
     ∷ (Error, codes "Illegal, another \\bibdata command---line 3 of file job.aux\nI'm skipping whatever remains of this command")
     ∷ style ∷ []
-unfolding digits aux_lines cited line_fault read_on job_lines citations
+unfolding digits aux_lines cited line_fault with_line job_lines citations
 twice_log = refl
 
 -- Names outside the profile, wrong endings, names that aren't there; and what is missing at the end.
@@ -176,5 +176,5 @@ ill_named : log (asked_by (codes "\\@input{n.AUX}\n\\bibdata{no,x}\n\\bibstyle{a
     ∷ (Error, codes "I found no database files---while reading file job.aux")
     ∷ (Error, codes "I found no style file---while reading file job.aux")
     ∷ []
-unfolding digits aux_lines cited line_fault read_on job_lines citations
+unfolding digits aux_lines cited line_fault with_line job_lines citations
 ill_named = refl

@@ -6,7 +6,6 @@ use Rattle.bt_text.specs.NameList.{same_name}
 use Rattle.bt_bib.specs.declared.aux_line.Command.{Command}
 use Rattle.bt_bib.specs.declared.aux_line.Command.TheVariants.{Citation, Database, Style, Nested}
 use Rattle.bt_bib.specs.declared.aux_argument.AuxFault.{AuxFault}
-use Rattle.bt_bib.specs.declared.aux_argument.AuxFault.TheVariants.{NoBrace, WhiteSpace, StuffAfter}
 use Rattle.bt_bib.specs.declared.aux_line.AuxItem.{AuxItem}
 use Rattle.bt_job.specs.declared.files.File.{File}
 use Rattle.bt_log.specs.declared.message.Rank.TheVariants.{FileLine}
@@ -22,8 +21,8 @@ use Rattle.bt_log.specs.Message.{of_file, skipping}
 use Rattle.bt_job.specs.declared.progress.Progress.{Progress}
 use Rattle.bt_job.specs.declared.progress.Outcome.{Outcome}
 use Rattle.bt_job.specs.declared.progress.Outcome.TheVariants.{Taken, Wrong, Opens}
-use Rattle.bt_job.specs.FileNames.{with_name, text_of}
-use Rattle.bt_job.specs.FileNames.{file_name_of}
+use Rattle.bt_job.specs.FileNames.{with_name, text_of, file_name_of}
+use Rattle.bt_job.specs.Faults.{said, SecondCommand, SecondStar, OtherSpelling, IllEnded}
 use Rattle.bt_job.specs.inner.FileNames.{name_fault}
 
 -- with a message after the others
@@ -39,14 +38,14 @@ logged_at file line said r = told (skipping said (Line file line None) (codes "c
 -- the part `*`, which may occur once
 abbrev pub cited_all : Option ℕ → Progress → Progress × Outcome
 cited_all None r = (record r { star = Some (length r.keys) }, Taken)
-cited_all (Some n) r = (r, Wrong (Words (codes "Multiple inclusions of entire database")))
+cited_all (Some n) r = (r, Wrong (said SecondStar))
 
 -- a key, given how it was spelled before, if it was
 abbrev pub cited_key : List ℕ → Option (List ℕ) → Progress → Progress × Outcome
 cited_key key None r = (record r { keys = r.keys ++ key ∷ [] }, Taken)
 cited_key key (Some old) r =
     if bytes_eq old key then (r, Taken)
-    else (r, Wrong (Words (codes "Case mismatch error between cite keys " ++ key ++ codes " and " ++ old)))
+    else (r, Wrong (said (OtherSpelling key old)))
 
 -- a part of \citation
 unfoldable pub cited_part : List ℕ → Progress → Progress × Outcome
@@ -102,11 +101,14 @@ part_taken files Database part r = named files Database (file_name_of Database p
 part_taken files Style part r = named files Style (file_name_of Style part) r
 part_taken files Nested part r = named files Nested (file_name_of Nested part) r
 
+-- the words of a message that is about no file
+abbrev pub words_in : Said → List ℕ
+words_in (Words words) = words
+words_in (OfFile note name) = []
+
 -- what a message says about a fault
 abbrev pub argument_words : AuxFault → List ℕ
-argument_words NoBrace = codes "No \"}\""
-argument_words WhiteSpace = codes "White space in argument"
-argument_words StuffAfter = codes "Stuff after \"}\""
+argument_words fault = words_in (said (IllEnded fault))
 
 -- the effect of the end of an argument
 abbrev pub fault_outcome : Option AuxFault → Outcome
@@ -133,8 +135,8 @@ is_second Nested r = false
 
 -- what a message says about such a command
 abbrev pub second_words : Command → List ℕ
-second_words Database = codes "Illegal, another \\bibdata command"
-second_words Style = codes "Illegal, another \\bibstyle command"
+second_words Database = words_in (said (SecondCommand (codes "\\bibdata")))
+second_words Style = words_in (said (SecondCommand (codes "\\bibstyle")))
 second_words Citation = []
 second_words Nested = []
 

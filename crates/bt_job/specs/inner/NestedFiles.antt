@@ -1,21 +1,20 @@
 -- The state after the root file, with the lines of each nested file in its place, step by step as in the code.
-use Rattle.std.specs.Prelude.{ℕ, zero, suc, ◌+◌, Bool, false, not, ◌==◌, ◌&&◌, List, [], ◌∷◌, ◌++◌, length, codes, Option, Some, None, if◌then◌else◌}
+use Rattle.std.specs.Prelude.{ℕ, zero, suc, ◌+◌, Bool, false, not, ◌==◌, ◌&&◌, List, [], ◌∷◌, length, codes, Option, Some, None, if◌then◌else◌}
 use Rattle.std.specs.Option.{is_none}
 use Rattle.bt_bib.specs.declared.aux_line.Command.TheVariants.{Nested}
 use Rattle.bt_bib.specs.declared.aux_line.AuxItem.{AuxItem}
 use Rattle.bt_job.specs.declared.files.File.{File}
-use Rattle.bt_log.specs.declared.message.Rank.TheVariants.{Error, Fatal}
+use Rattle.bt_log.specs.declared.message.Rank.TheVariants.{Fatal}
 use Rattle.bt_log.specs.declared.message.FileKind.TheVariants.{Aux}
 use Rattle.bt_log.specs.declared.message.FileNote.TheVariants.{NotOpened}
-use Rattle.bt_log.specs.declared.message.Place.TheVariants.{WholeFile}
-use Rattle.bt_log.specs.Message.{plain, of_file, at}
+use Rattle.bt_log.specs.Message.{of_file}
 use Rattle.bt_job.specs.declared.progress.Progress.{Progress}
 use Rattle.bt_job.specs.declared.citations.Citations.{Citations}
 use Rattle.bt_job.specs.declared.progress.Outcome.{Outcome}
 use Rattle.bt_job.specs.declared.progress.Outcome.TheVariants.{Taken, Wrong, Opens}
 use Rattle.bt_bib.specs.AuxLine.{aux_lines}
 use Rattle.bt_job.specs.FileNames.{text_of}
-use Rattle.bt_job.specs.Citations.{file_line}
+use Rattle.bt_job.specs.Citations.{file_line, told_missing}
 use Rattle.bt_job.specs.inner.LineEffects.{told, logged_at, meeting, wanting, item_taken}
 
 -- Files in their places
@@ -64,7 +63,7 @@ nothing_met = record {
 
 -- with an error for something missing in the root's files
 abbrev pub missing : List ℕ → List ℕ → Progress → Progress
-missing what file r = told (at (WholeFile file) (plain Error (codes "I found no " ++ what))) r
+missing what file r = told (told_missing file what) r
 
 -- whether a list has no element
 abbrev pub is_empty : {A : Type 0} → List A → Bool

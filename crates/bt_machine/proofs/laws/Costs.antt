@@ -3,8 +3,8 @@ use Rattle.std.proofs.Common.{◌≤◌, arith}
 use Rattle.bt_style.specs.Program.{Program}
 use Rattle.bt_style.specs.Tree.{End, Then, Called}
 use Rattle.bt_machine.specs.Eval.{Ending, Done, Stopped, eval}
-use Rattle.bt_machine.specs.Step.{tick_limit, counts_begun, step_begun}
-use Rattle.bt_machine.specs.inner.Cases.{finish_of}
+use Rattle.bt_machine.specs.Step.{tick_limit}
+use Rattle.bt_machine.specs.inner.Cases.{counts_begun, step_begun, finish_of}
 use Rattle.bt_machine.specs.laws.Step.{CostsWithin}
 
 -- at an ending

@@ -12,8 +12,8 @@ use Rattle.bt_actions.specs.World.{World, no_entry}
 use Rattle.bt_actions.specs.Assignment.{with_number, with_text, with_globals, put_if_right, own_changed, assigned}
 use Rattle.bt_actions.specs.View.{entries_in}
 use Rattle.bt_machine.specs.Eval.{Ending, Done, Stopped, eval}
-use Rattle.bt_machine.specs.Step.{tick_limit, counts_begun, step_begun, step, first_variables, world_in}
-use Rattle.bt_machine.specs.inner.Cases.{finish_of}
+use Rattle.bt_machine.specs.Step.{tick_limit, step, first_variables, world_in}
+use Rattle.bt_machine.specs.inner.Cases.{counts_begun, step_begun, finish_of}
 use Rattle.bt_machine.specs.laws.Fits.{Count, Fits, OwnFit, ValuesFitAgain}
 use Rattle.bt_machine.proofs.Keeping.{Kept}
 use Rattle.bt_machine.proofs.laws.KeepingEval.{EndKept, eval_kept, checked_kept}

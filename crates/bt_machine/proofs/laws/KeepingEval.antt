@@ -16,7 +16,7 @@ use Rattle.bt_actions.specs.Given.{zero_item, empty_item}
 use Rattle.bt_actions.specs.Operands.{of_entry, field_at, number_at, text_at}
 use Rattle.bt_actions.specs.Actions.{basic}
 use Rattle.bt_machine.specs.Eval.{Counts, Ending, Done, Stopped, Runner, then_go, acted, code_body, default_type, function_body, run_type, by_sign, turn, turns, run_with, built_in, act, calls_after, eval_within}
-use Rattle.bt_machine.specs.Step.{checked}
+use Rattle.bt_machine.specs.inner.Cases.{checked}
 use Rattle.bt_machine.proofs.Keeping.{Kept, IsKept, ActKept, pushed_kept, taken_kept, taken_two_kept, taken_three_kept, of_entry_kept, field_kept, basic_kept}
 
 module _ (kept : Kept) (codes : (c : Code) → kept.Pushed (Fun c)) where

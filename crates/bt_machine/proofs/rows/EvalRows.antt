@@ -11,7 +11,8 @@ use Rattle.bt_log.specs.declared.message.Message.{Message}
 use Rattle.bt_actions.specs.Item.{Num}
 use Rattle.bt_actions.specs.World.{World, no_variables, told_message}
 use Rattle.bt_machine.specs.Eval.{eval_within, eval, Done, Stopped}
-use Rattle.bt_machine.specs.Step.{Finish, step_begun, step}
+use Rattle.bt_machine.specs.Step.{Finish, step}
+use Rattle.bt_machine.specs.inner.Cases.{step_begun}
 
 -- a style of these functions
 abbrev style : List Definition → Program

@@ -21,7 +21,7 @@ use Rattle.bt_machine.specs.declared.control.Due.{Due}
 use Rattle.bt_machine.specs.declared.control.Due.TheVariants as due
 use Rattle.bt_machine.specs.declared.control.Frame.TheVariants as held
 use Rattle.bt_machine.specs.Eval.{Counts, Ending, Done, Stopped, then_go, code_body, turn, eval, looped}
-use Rattle.bt_machine.specs.Step.{checked}
+use Rattle.bt_machine.specs.inner.Cases.{checked}
 
 -- one thing that is left to do
 pub data Frame : Type 0 where

@@ -12,9 +12,9 @@ use Rattle.bt_resolve.specs.declared.entry.Entry.{Entry}
 use Rattle.bt_resolve.specs.declared.stored.Stored.{Stored}
 use Rattle.bt_text.specs.NameList.{has_name, are_apart}
 use Rattle.bt_resolve.specs.Names.{place_of_name}
-use Rattle.bt_resolve.specs.Listed.{place_of_key, is_cited_at, is_among, firsts, cited_places, uncited_parents, listed}
+use Rattle.bt_resolve.specs.Listed.{place_of_key, is_cited_at, is_among, firsts, uncited_parents, listed}
+use Rattle.bt_resolve.specs.inner.Cases.{cited_places, entry_at, parents, is_cited, others_than, listed_by, asked}
 use Rattle.bt_resolve.specs.Inherited.{key_spelled, entry_seen, entries_seen, is_left_out, values_after}
-use Rattle.bt_resolve.specs.inner.Cases.{entry_at, parents, is_cited, others_than, listed_by, asked}
 use Rattle.bt_resolve.specs.laws.Laws.{KeysApart, EntriesApart}
 use Rattle.bt_resolve.specs.Resolved.{resolved, stored_entries}
 use Rattle.bt_resolve.proofs.FieldLemmas.{same_at, same_back, has_alike, some_zero, some_suc, before_suc, value_or, or_false, and_true}

@@ -1,5 +1,5 @@
 -- Parts of rules, for the functions and lemmas that are about them.
-use Rattle.std.specs.Prelude.{ℕ, Bool, true, false, ◌||◌, not, ◌&&◌, ◌==◌, nat_lt, List, [], ◌∷◌, ◌++◌, length, map, filter, filter_map, slice_get, slice_set, codes, Option, Some, None, is_some, option_map, option_and_then, unwrap_or, if◌then◌else◌, take}
+use Rattle.std.specs.Prelude.{ℕ, Bool, true, false, ◌||◌, not, ◌&&◌, ◌==◌, nat_lt, List, [], ◌∷◌, ◌++◌, length, map, filter, filter_map, slice_get, slice_set, codes, Option, Some, None, is_some, option_map, option_and_then, unwrap_or, if◌then◌else◌, take, ◌+◌, count_by}
 use Rattle.std.specs.List.{list_any, range_with_len}
 use Rattle.bt_text.specs.ByName.{with_value}
 use Rattle.bt_text.specs.CaseFolding.{is_same_folded}
@@ -25,16 +25,43 @@ use Rattle.bt_resolve.specs.declared.place.BibLine.{BibLine}
 use Rattle.bt_resolve.specs.declared.place.Origin.{Origin}
 use Rattle.bt_resolve.specs.declared.stored.Stored.{Stored}
 use Rattle.bt_resolve.specs.Names.{crossref}
-use Rattle.bt_resolve.specs.Warnings.{origin_of, line_at, undefined_macro, own_macro, too_long, no_function}
-use Rattle.bt_resolve.specs.Faults.{sign_of, unclosed_entry, unclosed_command, fault_error, repeated}
-use Rattle.bt_resolve.specs.Values.{MacroTexts, is_named, others, value}
+use Rattle.bt_resolve.specs.Warnings.{line_at, undefined_macro, own_macro, too_long, no_function}
+use Rattle.bt_resolve.specs.Faults.{unclosed_entry, unclosed_command, fault_error, repeated}
+use Rattle.bt_resolve.specs.Values.{MacroTexts, is_named, others, value, value_warnings}
 use Rattle.bt_resolve.specs.Macros.{faultless, macro_before}
 use Rattle.bt_resolve.specs.Fields.{given_value, field_messages}
 use Rattle.bt_resolve.specs.Stored.{stored_of, is_wanted, is_stored, stored_among}
-use Rattle.bt_resolve.specs.Messages.{stored_messages, string_messages, preamble_messages, item_messages}
-use Rattle.bt_resolve.specs.Listed.{place_of_key, parent_of, is_among, cited_places, uncited_parents}
+use Rattle.bt_resolve.specs.Messages.{stored_messages, item_messages}
+use Rattle.bt_resolve.specs.Listed.{place_of_key, parent_of, is_among, uncited_parents}
 use Rattle.bt_resolve.specs.Inherited.{inherited, is_left_out, key_spelled, entry_seen}
 use Rattle.bt_resolve.specs.References.{bad_reference, nested}
+use Rattle.bt_bib.specs.declared.item.Closing.TheVariants.{Brace, Parenthesis}
+
+abbrev pub string_messages : MacroTexts → Origin → ℕ → Option (List ℕ) → Option (List Part) → List Message
+string_messages macros origin line None parts = []
+string_messages macros origin line (Some name) None = []
+string_messages macros origin line (Some name) (Some parts) = value_warnings (Some name) macros origin line name parts
+
+abbrev pub preamble_messages : MacroTexts → Origin → ℕ → Option (List Part) → List Message
+preamble_messages macros origin line None = []
+preamble_messages macros origin line (Some parts) = value_warnings None macros origin line (codes "preamble") parts
+
+-- the place of an item of a database, given the database's number
+abbrev pub origin_of : ℕ → PlacedItem → Origin
+origin_of database placed = record { database = database; line = placed.start.line }
+
+abbrev pub sign_of : Option Closing → ℕ
+sign_of None = 125
+sign_of (Some Brace) = 125
+sign_of (Some Parenthesis) = 41
+
+-- the entries of the keys that have one
+abbrev pub cited_places : List (List ℕ) → List Stored → List ℕ
+cited_places keys stored = filter_map (place_of_key stored) keys
+
+-- how many stored entries refer to an entry
+abbrev pub children : List Stored → ℕ → ℕ
+children stored p = count_by (λ s. elim (parent_of stored s) [ None ↦ false | Some q ↦ q == p ]) stored
 
 -- Values
 

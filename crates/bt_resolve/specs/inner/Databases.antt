@@ -15,8 +15,7 @@ use Rattle.bt_resolve.specs.Inherited.{entries_seen}
 use Rattle.bt_resolve.specs.References.{list_messages}
 use Rattle.bt_resolve.specs.Values.{MacroTexts}
 use Rattle.bt_resolve.specs.Macros.{style_macro}
-use Rattle.bt_resolve.specs.inner.Cases.{with_content, preamble_of, content_messages, with_item}
-use Rattle.bt_resolve.specs.Warnings.{origin_of}
+use Rattle.bt_resolve.specs.inner.Cases.{with_content, preamble_of, content_messages, with_item, origin_of}
 use Rattle.bt_resolve.specs.Messages.{item_messages}
 
 -- what was read, with the macros as a function

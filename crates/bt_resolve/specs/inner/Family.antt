@@ -3,7 +3,7 @@ use Rattle.std.specs.Prelude.{◌≡◌, ℕ, List, Option, map, nat_eq, unwrap_
 use Rattle.std.specs.HashMap.{HashMap, get}
 use Rattle.bt_resolve.specs.declared.stored.Stored.{Stored}
 use Rattle.bt_resolve.specs.Listed.{parent_of}
-use Rattle.bt_resolve.specs.Inherited.{children}
+use Rattle.bt_resolve.specs.inner.Cases.{children}
 
 abbrev pub count_at : {S : Type 0} → HashMap ℕ ℕ S → ℕ → ℕ
 count_at counts p = unwrap_or (get nat_eq counts p) 0

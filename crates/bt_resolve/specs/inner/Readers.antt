@@ -17,8 +17,8 @@ use Rattle.bt_resolve.specs.declared.values.ValueReader.{ValueReader}
 use Rattle.bt_resolve.specs.Values.{MacroTexts, field_value, is_named, others, part_warnings, value_warnings}
 use Rattle.bt_resolve.specs.Macros.{faultless}
 use Rattle.bt_resolve.specs.Fields.{fields_messages}
-use Rattle.bt_resolve.specs.Messages.{preamble_messages, stored_messages, string_messages}
-use Rattle.bt_resolve.specs.inner.Cases.{key_messages, macro_warnings}
+use Rattle.bt_resolve.specs.Messages.{stored_messages}
+use Rattle.bt_resolve.specs.inner.Cases.{preamble_messages, string_messages, key_messages, macro_warnings}
 use Rattle.bt_resolve.specs.inner.Slots.{slot_messages}
 use Rattle.bt_resolve.specs.Warnings.{line_at}
 

@@ -14,8 +14,7 @@ use Rattle.bt_resolve.specs.declared.stored.Stored.{Stored}
 use Rattle.bt_resolve.specs.Values.{MacroTexts}
 use Rattle.bt_resolve.specs.Stored.{stored_of}
 use Rattle.bt_resolve.specs.Messages.{stored_messages}
-use Rattle.bt_resolve.specs.Warnings.{origin_of}
-use Rattle.bt_resolve.specs.inner.Cases.{fault_messages}
+use Rattle.bt_resolve.specs.inner.Cases.{origin_of, fault_messages}
 
 -- A mark tells of its entry whether it is wanted: one that isn't stored is unwanted if it gave no message.
 abbrev pub tells : Mark → Bool

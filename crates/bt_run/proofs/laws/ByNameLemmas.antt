@@ -16,10 +16,10 @@ use Rattle.bt_job.specs.FileNames.{text_of}
 use Rattle.bt_job.specs.Citations.{citations}
 use Rattle.bt_run.specs.declared.course.Step.{Step}
 use Rattle.bt_run.specs.Course.{Recorded}
-use Rattle.bt_run.specs.ReadCommand.{Job, declared_before, items_in, found_for, read_in}
-use Rattle.bt_run.specs.Commands.{unless_stopped, carried_out, commands_from, command}
-use Rattle.bt_run.specs.Counts.{with_counts}
-use Rattle.bt_run.specs.Meaning.{run_begun, first_globals, job_for, styled, run_with, run_of, meaning, trace}
+use Rattle.bt_run.specs.ReadCommand.{Job, declared_before, found_for}
+use Rattle.bt_run.specs.inner.Cases.{items_in, read_in, unless_stopped, command, with_counts, job_for, styled, run_with}
+use Rattle.bt_run.specs.Commands.{carried_out, commands_from}
+use Rattle.bt_run.specs.Meaning.{run_begun, first_globals, run_of, meaning, trace}
 use Rattle.bt_run.specs.inner.Steps.{run_shown}
 use Rattle.bt_run.specs.Kept.{named_text, style_text}
 use Rattle.bt_run.specs.laws.ByName.{HaveSameTexts}

@@ -15,11 +15,11 @@ use Rattle.bt_job.specs.declared.citations.Citations.{Citations}
 use Rattle.bt_text.specs.NameList.{is_among}
 use Rattle.bt_job.specs.FileNames.{is_file_name, text_of, each_once}
 use Rattle.bt_job.specs.Faults.{LineFault, PartFault, WrongFile, IllEnded, database_fault, style_fault, input_fault, right_parts, first_fault}
-use Rattle.bt_job.specs.Lines.{JobLine, lines_of, has_command, first_with, cited, database_names, style_names, input_names, unless_second, command_fault, line_fault, opened_by, read_on, line_count, job_lines}
-use Rattle.bt_job.specs.Citations.{keys_of, star_of, databases, styles, missed, along, line_messages, file_line, missing_of, told_missing, asked_by, citations}
-use Rattle.bt_job.specs.inner.Cases.{asked_from, lines_in, line_parts, lines_opened}
-use Rattle.bt_job.proofs.BoundLemmas.{read_end, read_more, unopened_all}
-use Rattle.bt_job.proofs.laws.BoundLemmas.{any_bound_serves}
+use Rattle.bt_job.specs.Lines.{JobLine, lines_of, has_command, first_with, cited, database_names, style_names, input_names, unless_second, line_fault, opened_by, with_line, job_lines}
+use Rattle.bt_job.specs.inner.Cases.{command_fault, asked_from, lines_in, line_parts, lines_opened}
+use Rattle.bt_job.specs.inner.Queue.{read_on, line_count}
+use Rattle.bt_job.specs.Citations.{keys_of, star_of, databases, styles, missed, along, line_messages, file_line, missing_of, asked_by, citations, told_missing}
+use Rattle.bt_job.proofs.BoundLemmas.{any_bound_serves, job_lines_queue, read_end, read_more, unopened_all}
 use Rattle.bt_run.specs.laws.ByName.{HaveSameTexts}
 
 -- Parts
@@ -105,15 +105,16 @@ read_same (suc bound) files others same root before (line ∷ later) =
     ∙ sym (read_more bound others root before line later)
 
 job_lines_same : (files others : List File) → HaveSameTexts files others → (root : List ℕ) → job_lines files root ≡ job_lines others root
-unfolding job_lines
 job_lines_same files others same root =
     let next = lines_of files 0 root in
     let also = lines_of others 0 root in
     let both = length next + length also + line_count files + line_count others in
-    any_bound_serves (length next + line_count files) both files root [] next (omega (arith, unopened_all files (root ∷ input_names []))) (omega (arith, unopened_all files (root ∷ input_names [])))
+    sym (job_lines_queue files root)
+    ∙ any_bound_serves (length next + line_count files) both files root [] next (omega (arith, unopened_all files (root ∷ input_names []))) (omega (arith, unopened_all files (root ∷ input_names [])))
     ∙ read_same both files others same root [] next
     ∙ ap (read_on both others root []) (lines_same files others same 0 root)
     ∙ any_bound_serves both (length also + line_count others) others root [] also (omega (arith, unopened_all others (root ∷ input_names []))) (omega (arith, unopened_all others (root ∷ input_names [])))
+    ∙ job_lines_queue others root
 
 -- What they ask for
 
@@ -169,9 +170,9 @@ style : File
 style = record { name = codes "s.bst"; text = [] }
 
 in_either_order : citations (root ∷ style ∷ []) (codes "job") ≡ citations (style ∷ root ∷ []) (codes "job")
-unfolding root style aux_lines citations job_lines read_on line_fault cited
+unfolding root style aux_lines citations job_lines with_line line_fault cited
 in_either_order = refl
 
 its_style : (citations (style ∷ root ∷ []) (codes "job")).style ≡ Some (codes "s.bst")
-unfolding root style aux_lines citations job_lines read_on line_fault cited
+unfolding root style aux_lines citations job_lines with_line line_fault cited
 its_style = refl

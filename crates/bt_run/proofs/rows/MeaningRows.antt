@@ -18,7 +18,7 @@ use Rattle.bt_bib.specs.Pieces.{opening, piece, next_piece}
 use Rattle.bt_bib.specs.BibText.{pieces_of}
 use Rattle.bt_bib.specs.Scan.{sign}
 use Rattle.bt_bib.specs.Values.{part, next_part, value as bib_value}
-use Rattle.bt_job.specs.Lines.{cited, line_fault, read_on, job_lines}
+use Rattle.bt_job.specs.Lines.{cited, line_fault, job_lines, with_line}
 use Rattle.bt_job.specs.Citations.{citations}
 use Rattle.bt_resolve.specs.Faults.{unclosed_entry, unclosed_command, fault_words}
 use Rattle.bt_resolve.specs.Fields.{given_value}
@@ -53,7 +53,7 @@ Run = Meaning × ℕ × ℕ
 
 -- what texts mean and the steps of their run, with all that it is computed by
 unfoldable run : List File → ℕ → Run
-unfolding near_break widths aux_lines enclosed field next_field many word bib_ended name opening piece next_piece pieces_of sign part next_part bib_value cited line_fault read_on job_lines citations unclosed_entry unclosed_command fault_words given_value values_after is_left_out final_crossref entries_seen listed macro_before stored_messages item_messages reference_messages missing_messages list_messages stored_entries preamble messages resolved stored_of stored_among resolve_value field_value value_warnings body_at table arguments_at command_at names_at size_at number_at quoted_at word_element builtin_named style_meaning macro_named commands_at reading style_of literal_piece piece_at tokens_after all_verbs verb_named eval_within all_calls counts_told run_of meaning trace is_definition put_among sorted digits
+unfolding near_break widths aux_lines enclosed field next_field many word bib_ended name opening piece next_piece pieces_of sign part next_part bib_value cited line_fault with_line job_lines citations unclosed_entry unclosed_command fault_words given_value values_after is_left_out final_crossref entries_seen listed macro_before stored_messages item_messages reference_messages missing_messages list_messages stored_entries preamble messages resolved stored_of stored_among resolve_value field_value value_warnings body_at table arguments_at command_at names_at size_at number_at quoted_at word_element builtin_named style_meaning macro_named commands_at reading style_of literal_piece piece_at tokens_after all_verbs verb_named eval_within all_calls counts_told run_of meaning trace is_definition put_among sorted digits
 run files min = (meaning files (codes "job") min, length (trace files (codes "job") min), total_cost (trace files (codes "job") min))
 
 abbrev file : List ℕ → List ℕ → File

@@ -17,9 +17,10 @@ use Rattle.bt_log.specs.declared.message.Place.TheVariants.{DatabaseLine}
 use Rattle.bt_log.specs.Message.{plain, at, skipping}
 use Rattle.bt_log.specs.Wording.{spelled}
 use Rattle.bt_run.specs.SortCommand.{put_among, sorted}
-use Rattle.bt_run.specs.ReadCommand.{is_definition, functions_before, all_read}
+use Rattle.bt_run.specs.ReadCommand.{is_definition}
+use Rattle.bt_run.specs.inner.Cases.{functions_before, all_read, fault_told}
 use Rattle.bt_run.specs.Counts.{calls_at, all_calls, counts_told}
-use Rattle.bt_run.specs.Meaning.{first_globals, fault_told}
+use Rattle.bt_run.specs.Meaning.{first_globals}
 
 -- a message in words, with its rank
 abbrev message : Rank → List ℕ → Rank × List ℕ

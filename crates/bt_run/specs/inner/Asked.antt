@@ -4,7 +4,8 @@ use Rattle.bt_bib.specs.BibText.{pieces_of}
 use Rattle.bt_bib.specs.declared.placed_pieces.PlacedPiece.{PlacedPiece}
 use Rattle.bt_resolve.specs.declared.question.Question.{Question}
 use Rattle.bt_run.specs.declared.asking.Asking.{Asking}
-use Rattle.bt_run.specs.ReadCommand.{Job, declared_before, text_in}
+use Rattle.bt_run.specs.ReadCommand.{Job, declared_before}
+use Rattle.bt_run.specs.inner.Cases.{text_in}
 
 -- what READ asks at the command of this number
 abbrev pub question_for : Job → ℕ → Question

@@ -6,7 +6,8 @@ use Rattle.bt_actions.specs.World.{no_entry}
 use Rattle.bt_machine.specs.declared.outcome.Outcome.{Outcome}
 use Rattle.bt_run.specs.declared.course.Course.{Course}
 use Rattle.bt_run.specs.declared.course.CommandPlace.{CommandPlace}
-use Rattle.bt_run.specs.Course.{Recorded, all_told}
+use Rattle.bt_run.specs.Course.{Recorded}
+use Rattle.bt_run.specs.inner.Cases.{all_told}
 
 abbrev pub recorded : {S : Type 0} → Course → S → Recorded S
 recorded r seen = record { course = r; seen = seen }

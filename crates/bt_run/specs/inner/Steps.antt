@@ -3,7 +3,8 @@ use Rattle.std.specs.Prelude.{◌≡◌, ◌≤◌, ℕ, List, [], Option, Some,
 use Rattle.bt_run.specs.declared.course.Step.{Step}
 use Rattle.bt_run.specs.declared.reuse.Reuse.{Reuse}
 use Rattle.bt_run.specs.Course.{Recorded}
-use Rattle.bt_run.specs.Meaning.{Meaning, bbl_of, shown_of}
+use Rattle.bt_run.specs.Meaning.{Meaning}
+use Rattle.bt_run.specs.inner.Cases.{bbl_of, shown_of}
 use Rattle.bt_run.specs.Work.{total_cost}
 use Rattle.bt_run.specs.Steps.{StepsAre, work_after}
 

@@ -1,5 +1,5 @@
 use Rattle.std.proofs.Common.{◌≡◌, take}
-use Rattle.bibtex.specs.Present.{without}
+use Rattle.bibtex.specs.inner.Cases.{without}
 use Rattle.bibtex.proofs.files.without.Given as goal
 
 abbrev pub invariant-files : goal.invariant-files

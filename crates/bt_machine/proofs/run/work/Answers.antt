@@ -11,7 +11,7 @@ use Rattle.bt_actions.specs.declared.code.Code.TheVariants as code
 use Rattle.bt_machine.specs.declared.calls.Next.{Next}
 use Rattle.bt_machine.specs.declared.calls.Next.TheVariants as next
 use Rattle.bt_machine.specs.Eval.{Ending, eval}
-use Rattle.bt_machine.specs.Step.{counts_begun}
+use Rattle.bt_machine.specs.inner.Cases.{counts_begun}
 use Rattle.bt_machine.specs.inner.Loop.{Run, counts, IsDue, followed, kept, whole}
 use Rattle.bt_machine.proofs.LoopLemmas.{due_element, element_leads, ends_leads, kept_some, no_tick_leads, starts, turn_leads}
 use Rattle.bt_machine.proofs.run.work.Goals as goal

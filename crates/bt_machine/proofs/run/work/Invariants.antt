@@ -3,7 +3,7 @@ use Rattle.bt_style.specs.Program.{program_of}
 use Rattle.bt_style.specs.Tree.{End, Then, Called}
 use Rattle.bt_stack.specs.View.{world_of}
 use Rattle.bt_machine.specs.Eval.{eval}
-use Rattle.bt_machine.specs.Step.{counts_begun}
+use Rattle.bt_machine.specs.inner.Cases.{counts_begun}
 use Rattle.bt_machine.specs.inner.Loop.{counts, left, whole}
 use Rattle.bt_machine.proofs.run.work.Given as goal
 

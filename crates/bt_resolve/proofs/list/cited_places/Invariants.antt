@@ -1,5 +1,5 @@
 use Rattle.std.proofs.Common.{◌≡◌, ◌++◌, drop}
-use Rattle.bt_resolve.specs.Listed.{cited_places}
+use Rattle.bt_resolve.specs.inner.Cases.{cited_places}
 use Rattle.bt_resolve.proofs.list.cited_places.Given as goal
 
 abbrev pub invariant-keys : goal.invariant-keys

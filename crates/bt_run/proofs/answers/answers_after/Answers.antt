@@ -1,7 +1,8 @@
 use Rattle.std.proofs.Common.{◌-◌, List, length, ◌∙◌, ap}
 use Rattle.bt_run.specs.declared.course.Step.{Step}
 use Rattle.bt_run.specs.Shown.{meaning_of}
-use Rattle.bt_run.specs.Meaning.{Meaning, bbl_of, shown_of}
+use Rattle.bt_run.specs.Meaning.{Meaning}
+use Rattle.bt_run.specs.inner.Cases.{bbl_of, shown_of}
 use Rattle.bt_run.specs.inner.Course.{recorded}
 use Rattle.bt_run.proofs.AnswerLemmas.{meant, kept_text, kept_steps, reported}
 use Rattle.bt_run.proofs.answers.answers_after.Goals as goal

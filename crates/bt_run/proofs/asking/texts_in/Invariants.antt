@@ -1,5 +1,5 @@
 use Rattle.std.proofs.Common.{◌≡◌, map, take}
-use Rattle.bt_run.specs.ReadCommand.{text_in}
+use Rattle.bt_run.specs.inner.Cases.{text_in}
 use Rattle.bt_run.proofs.asking.texts_in.Given as goal
 
 abbrev pub invariant-names : goal.invariant-names

@@ -1,5 +1,5 @@
 use Rattle.std.proofs.Common.{◌≡◌, ◌++◌, drop}
-use Rattle.bt_run.specs.Meaning.{bbl_of}
+use Rattle.bt_run.specs.inner.Cases.{bbl_of}
 use Rattle.bt_run.proofs.bibliography.bbl_of.Given as goal
 
 abbrev pub invariant-steps : goal.invariant-steps

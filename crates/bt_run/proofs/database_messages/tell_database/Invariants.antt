@@ -1,6 +1,7 @@
 use Rattle.std.proofs.Common.{◌≡◌, ◌++◌, drop, map, filter}
 use Rattle.bt_log.specs.declared.message.Message.{Message}
-use Rattle.bt_run.specs.ReadCommand.{in_its_file, is_about, database_told}
+use Rattle.bt_run.specs.ReadCommand.{is_about}
+use Rattle.bt_run.specs.inner.Cases.{in_its_file, database_told}
 use Rattle.bt_run.proofs.database_messages.tell_database.Given as goal
 
 abbrev pub invariant-messages : goal.invariant-messages

@@ -1,5 +1,5 @@
 use Rattle.std.proofs.Common.{ap, ◌∙◌, map, take}
-use Rattle.bt_run.specs.ReadCommand.{known_macro}
+use Rattle.bt_run.specs.inner.Cases.{known_macro}
 use Rattle.bt_run.proofs.ReadingLemmas.{declared_by}
 use Rattle.bt_run.proofs.declarations.declared_before.Goals as goal
 

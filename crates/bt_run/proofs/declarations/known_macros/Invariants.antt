@@ -1,5 +1,5 @@
 use Rattle.std.proofs.Common.{◌≡◌, map, take}
-use Rattle.bt_run.specs.ReadCommand.{known_macro}
+use Rattle.bt_run.specs.inner.Cases.{known_macro}
 use Rattle.bt_run.proofs.declarations.known_macros.Given as goal
 
 abbrev pub invariant-macros : goal.invariant-macros

@@ -1,6 +1,6 @@
 use Rattle.std.proofs.Common.{refl}
 use Rattle.bt_run.specs.Shown.{meaning_of}
-use Rattle.bt_run.specs.Meaning.{run_with}
+use Rattle.bt_run.specs.inner.Cases.{run_with}
 use Rattle.bt_run.proofs.AnswerLemmas.{meant}
 use Rattle.bt_run.proofs.once.run_once.Goals as goal
 

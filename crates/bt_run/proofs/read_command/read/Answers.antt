@@ -2,7 +2,7 @@ use Rattle.std.proofs.Common.{◌∙◌, ap, subst, Option}
 use Rattle.bt_resolve.specs.declared.entry.Resolved.{Resolved}
 use Rattle.bt_resolve.specs.inner.Kept.{resolved_for}
 use Rattle.bt_run.specs.declared.kept_resolution.KeptResolution.{KeptResolution}
-use Rattle.bt_run.specs.ReadCommand.{read_in}
+use Rattle.bt_run.specs.inner.Cases.{read_in}
 use Rattle.bt_run.specs.inner.Asked.{question_for}
 use Rattle.bt_run.specs.inner.Found.{IsKept}
 use Rattle.bt_run.specs.inner.JobView.{job_of}

@@ -1,5 +1,5 @@
 use Rattle.std.proofs.Common.{◌≡◌, take}
-use Rattle.bt_run.specs.Course.{all_told}
+use Rattle.bt_run.specs.inner.Cases.{all_told}
 use Rattle.bt_run.proofs.step.all_told.Given as goal
 
 abbrev pub invariant-loop-message : goal.invariant-loop-message
