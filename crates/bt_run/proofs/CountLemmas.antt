@@ -1,13 +1,12 @@
 -- The counts, function by function.
-use Rattle.std.proofs.Common.{◌≡◌, refl, ap, ◌∙◌, ℕ, ◌<◌, List, [], ◌∷◌, ◌++◌, map}
+use Rattle.std.proofs.Common.{◌≡◌, refl, ap, ◌∙◌, ℕ, ◌<◌, List, [], ◌∷◌, ◌++◌, map, arith}
 use Rattle.std.specs.Prelude.{sum_by, codes, decimal}
 use Rattle.std.proofs.lemmas.List.{append_assoc}
-use Rattle.std.proofs.lemmas.Option.{slice_get_within}
 use Rattle.bt_style.specs.declared.builtin.Builtin.{Builtin}
+use Rattle.bt_style.specs.declared.builtin.Builtin.TheVariants as builtins
 use Rattle.bt_style.specs.Builtins.{Row, table, place_of}
 use Rattle.bt_log.specs.declared.message.Message.{Message}
 use Rattle.bt_style.specs.Names.{row_of}
-use Rattle.bt_style.proofs.laws.BuiltinLemmas.{stands_in_its_place}
 use Rattle.bt_run.specs.Counts.{all_calls, counts_told, total_line, function_line}
 use Rattle.bt_run.specs.inner.Cases.{count_message}
 
@@ -25,8 +24,43 @@ counted_behind calls bs count head log log1 log2 rows is_count is_head is1 is2 =
     ∙ ap (λ m. log ++ m ∷ map (λ b. function_line calls (row_of b)) bs) first ∙ ap (λ ms. log ++ total_line (all_calls calls) ∷ ms) others
 
 within : (b : Builtin) → place_of b < 37
-unfolding table
-within b = slice_get_within table (place_of b) (row_of b) (stands_in_its_place b)
+within builtins.Greater = omega arith
+within builtins.Less = omega arith
+within builtins.Equals = omega arith
+within builtins.Plus = omega arith
+within builtins.Minus = omega arith
+within builtins.Join = omega arith
+within builtins.Assign = omega arith
+within builtins.AddPeriod = omega arith
+within builtins.CallType = omega arith
+within builtins.ChangeCase = omega arith
+within builtins.ChrToInt = omega arith
+within builtins.Cite = omega arith
+within builtins.Duplicate = omega arith
+within builtins.Empty = omega arith
+within builtins.FormatName = omega arith
+within builtins.If = omega arith
+within builtins.IntToChr = omega arith
+within builtins.IntToStr = omega arith
+within builtins.Missing = omega arith
+within builtins.Newline = omega arith
+within builtins.NumNames = omega arith
+within builtins.Pop = omega arith
+within builtins.Preamble = omega arith
+within builtins.Purify = omega arith
+within builtins.Quote = omega arith
+within builtins.Skip = omega arith
+within builtins.Stack = omega arith
+within builtins.Substring = omega arith
+within builtins.Swap = omega arith
+within builtins.TextLength = omega arith
+within builtins.TextPrefix = omega arith
+within builtins.Top = omega arith
+within builtins.Type = omega arith
+within builtins.Warning = omega arith
+within builtins.While = omega arith
+within builtins.Width = omega arith
+within builtins.Write = omega arith
 
 -- Only the places of the table are counted.
 pub counted_alike : (f g : ℕ → ℕ) → ((place : ℕ) → place < 37 → f place ≡ g place) → counts_told f ≡ counts_told g
