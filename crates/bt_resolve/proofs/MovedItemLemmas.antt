@@ -31,7 +31,7 @@ use Rattle.bt_resolve.specs.Faults.{repeated}
 use Rattle.bt_resolve.specs.Messages.{stored_messages, item_messages, for_each}
 use Rattle.bt_resolve.specs.Skeletons.{AreOneBefore, added_at, placed_from, moved_message, MovedItemsAreTheSame}
 use Rattle.bt_resolve.proofs.PlacingLemmas.{behind_next}
-use Rattle.bt_resolve.proofs.SpanLemmas.{item_added, item_told, item_said, one_more}
+use Rattle.bt_resolve.proofs.SpanLemmas.{item_added, item_told, item_said, messages_are, one_more}
 
 -- ---- messages
 
@@ -138,13 +138,14 @@ fault_told m database end c close None = refl
 fault_told m database end c close (Some fault) = refl
 
 pub item_moved : (a : Asked) (ms : List Macro) (m : Spot) (number : ℕ) (before : List PlacedItem) (x : PlacedItem) → messages_at a ms number before (placed_from m x) ≡ map (moved_message m) (messages_at a ms number before x)
-unfolding item_messages
 item_moved a ms m number before x =
     let macros = macro_before ms before in
     let stored = stored_among a ms before in
     let o = origin_of number x in
-    (λ j. content_told a macros stored m o x.item.line x.item.fault x.item.content j ++ fault_told m number x.end x.item.content x.item.close x.item.fault j)
+    messages_are a macros stored (moved_origin m o) (spot_from m x.end) x.item
+    ∙ (λ j. content_told a macros stored m o x.item.line x.item.fault x.item.content j ++ fault_told m number x.end x.item.content x.item.close x.item.fault j)
     ∙ sym (map-append (moved_message m) (content_messages a macros stored o x.item.line x.item.fault x.item.content) (fault_messages number x.end x.item.content x.item.close x.item.fault))
+    ∙ ap (map (moved_message m)) (sym (messages_are a macros stored o x.end x.item))
 
 -- ---- items one after another
 

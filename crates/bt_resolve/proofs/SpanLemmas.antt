@@ -1,9 +1,13 @@
 -- Items in the place of others with the same skeletons.
 use Rattle.std.proofs.Common.{◌≡◌, ◌∙◌, ap, sym, refl, subst, append_assoc, append-nil, ℕ, Bool, true, false, List, [], ◌∷◌, ◌++◌, reverse, map, Option, Some, None}
-use Rattle.std.specs.Prelude.{◌&&◌, not, cond, filter, if◌then◌else◌}
+use Rattle.std.specs.Prelude.{◌&&◌, not, codes, cond, filter, if◌then◌else◌}
 use Rattle.bt_text.specs.CaseFolding.{folded}
 use Rattle.bt_bib.specs.declared.fault.ItemFault.{ItemFault}
 use Rattle.bt_bib.specs.Items.{PlacedItem}
+use Rattle.bt_bib.specs.declared.spot.Spot.{Spot}
+use Rattle.bt_bib.specs.declared.item.Closing.{Closing}
+use Rattle.bt_bib.specs.declared.item.Part.{Part}
+use Rattle.bt_bib.specs.declared.item.Item.{Item}
 use Rattle.bt_bib.specs.declared.item.Content.{Content}
 use Rattle.bt_bib.specs.declared.item.Content.TheVariants as contents
 use Rattle.bt_bib.specs.declared.item.Entry.{Entry}
@@ -13,12 +17,12 @@ use Rattle.bt_resolve.specs.declared.declared.Macro.{Macro}
 use Rattle.bt_resolve.specs.declared.stored.Stored.{Stored}
 use Rattle.bt_resolve.specs.declared.place.Origin.{Origin}
 use Rattle.bt_resolve.specs.Names.{place_of_name}
-use Rattle.bt_resolve.specs.Values.{MacroTexts}
-use Rattle.bt_resolve.specs.Macros.{macro_before}
+use Rattle.bt_resolve.specs.Values.{MacroTexts, value_warnings}
+use Rattle.bt_resolve.specs.Macros.{faultless, macro_before}
 use Rattle.bt_resolve.specs.Stored.{stored_of, is_wanted, is_stored, stored_among}
 use Rattle.bt_resolve.specs.Warnings.{line_at}
-use Rattle.bt_resolve.specs.inner.Cases.{origin_of, with_content, with_entry, with_item, fault_messages, key_messages, content_messages, messages_at, preamble_of, preamble_at}
-use Rattle.bt_resolve.specs.Faults.{repeated}
+use Rattle.bt_resolve.specs.inner.Cases.{origin_of, string_messages, preamble_messages, with_content, with_entry, with_item, fault_messages, key_messages, content_messages, messages_at, preamble_of, preamble_at}
+use Rattle.bt_resolve.specs.Faults.{fault_error, repeated}
 use Rattle.bt_resolve.specs.Messages.{stored_messages, item_messages, for_each}
 use Rattle.bt_resolve.specs.Skeletons.{is_entry, is_string, MacrosAreOfStrings, skeleton, AreAlike, HaveOneSkeleton, IsLike, AreInPlace, entry_added, added, added_at, AreOneBefore, GiveTheSame, StoredInParts, LaterItemsAreTheSame}
 use Rattle.std.proofs.lemmas.List.{map-append}
@@ -129,6 +133,38 @@ itself macros (contents.Preamble parts) = refl
 pub one_more : (a : Asked) (ms : List Macro) (before others : List PlacedItem) (x : PlacedItem) → AreOneBefore a ms before others → AreOneBefore a ms (x ∷ before) (x ∷ others)
 one_more a ms before others x one = one_next a ms before others x x one (itself (macro_before ms before) x.item.content) (λ other. refl)
 
+-- ---- an item's messages, by what it holds
+
+key_given : (a : Asked) (macros : MacroTexts) (stored : List Stored) (o : Origin) (line : ℕ) (e : Entry) (key : Option (List ℕ)) →
+    (let told : List Message = elim key [ None ↦ [] | Some k ↦ if is_wanted a stored k then (if is_stored stored k then repeated (line_at o line) k ∷ [] else stored_messages a macros o line e k) else [] ] in told ≡ key_messages a macros stored o line e key)
+key_given a macros stored o line e None = refl
+key_given a macros stored o line e (Some k) = refl
+
+string_given : (macros : MacroTexts) (o : Origin) (line : ℕ) (name : Option (List ℕ)) (parts : Option (List Part)) →
+    (let told : List Message = elim name [ None ↦ [] | Some n ↦ elim parts [ None ↦ [] | Some these ↦ value_warnings (Some n) macros o line n these ] ] in told ≡ string_messages macros o line name parts)
+string_given macros o line None parts = refl
+string_given macros o line (Some n) None = refl
+string_given macros o line (Some n) (Some these) = refl
+
+preamble_given : (macros : MacroTexts) (o : Origin) (line : ℕ) (parts : Option (List Part)) →
+    (let told : List Message = elim parts [ None ↦ [] | Some these ↦ value_warnings None macros o line (codes "preamble") these ] in told ≡ preamble_messages macros o line parts)
+preamble_given macros o line None = refl
+preamble_given macros o line (Some these) = refl
+
+fault_given : (number : ℕ) (end : Spot) (c : Content) (close : Option Closing) (fault : Option ItemFault) →
+    (let told : List Message = elim fault [ None ↦ [] | Some f ↦ fault_error number end c close f ∷ [] ] in told ≡ fault_messages number end c close fault)
+fault_given number end c close None = refl
+fault_given number end c close (Some f) = refl
+
+messages_given : (a : Asked) (macros : MacroTexts) (stored : List Stored) (o : Origin) (end : Spot) (line : ℕ) (c : Content) (close : Option Closing) (fault : Option ItemFault) → item_messages a macros stored o end (record { line = line; content = c; close = close; fault = fault }) ≡ content_messages a macros stored o line fault c ++ fault_messages o.database end c close fault
+unfolding item_messages
+messages_given a macros stored o end line (contents.Entry e) close fault = λ j. key_given a macros stored o line e e.key j ++ fault_given o.database end (contents.Entry e) close fault j
+messages_given a macros stored o end line (contents.Define d) close fault = λ j. string_given macros o line d.name (faultless fault d.value) j ++ fault_given o.database end (contents.Define d) close fault j
+messages_given a macros stored o end line (contents.Preamble parts) close fault = λ j. preamble_given macros o line (faultless fault parts) j ++ fault_given o.database end (contents.Preamble parts) close fault j
+
+pub messages_are : (a : Asked) (macros : MacroTexts) (stored : List Stored) (o : Origin) (end : Spot) (item : Item) → item_messages a macros stored o end item ≡ content_messages a macros stored o item.line item.fault item.content ++ fault_messages o.database end item.content item.close item.fault
+messages_are a macros stored o end item = messages_given a macros stored o end item.line item.content item.close item.fault
+
 -- ---- what later items give
 
 key_told : (a : Asked) (macros : MacroTexts) (stored others : List Stored) (o : Origin) (line : ℕ) (e : Entry) (key : Option (List ℕ)) → AreAlike stored others → key_messages a macros stored o line e key ≡ key_messages a macros others o line e key
@@ -142,12 +178,13 @@ content_told a macros stored others o line fault (contents.Define d) alike = ref
 content_told a macros stored others o line fault (contents.Preamble parts) alike = refl
 
 pub item_told : (a : Asked) (ms : List Macro) (before others : List PlacedItem) (number : ℕ) (x : PlacedItem) → AreOneBefore a ms before others → messages_at a ms number before x ≡ messages_at a ms number others x
-unfolding item_messages
 item_told a ms before others number x one =
     let o = origin_of number x in
     let last = fault_messages number x.end x.item.content x.item.close x.item.fault in
-    (λ j. content_messages a (one.defined j) (stored_among a ms before) o x.item.line x.item.fault x.item.content ++ last)
+    messages_are a (macro_before ms before) (stored_among a ms before) o x.end x.item
+    ∙ (λ j. content_messages a (one.defined j) (stored_among a ms before) o x.item.line x.item.fault x.item.content ++ last)
     ∙ ap (λ (told : List Message). told ++ last) (content_told a (macro_before ms others) (stored_among a ms before) (stored_among a ms others) o x.item.line x.item.fault x.item.content one.stored)
+    ∙ sym (messages_are a (macro_before ms others) (stored_among a ms others) o x.end x.item)
 
 pub item_added : (a : Asked) (ms : List Macro) (before others : List PlacedItem) (item : PlacedItem) → AreOneBefore a ms before others → added_at a ms before item ≡ added_at a ms others item
 item_added a ms before others item one =

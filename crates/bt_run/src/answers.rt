@@ -1,11 +1,12 @@
 //! What the files mean, with the steps of an earlier run taken over.
 
-ghost use Rattle.std.specs.Prelude.{◌≡◌, ◌≤◌, ◌-◌, length, IfOk};
+ghost use Rattle.std.specs.Prelude.{◌≡◌, ◌≤◌, ◌-◌, length, IfOk, OnOk};
 ghost use Rattle.std.specs.Option.{ForSome};
 ghost use Rattle.bt_style.specs.Program.{program_of};
 ghost use Rattle.bt_run.specs.inner.Earlier.{ArePlaced};
 ghost use Rattle.bt_run.specs.inner.Course.{recorded};
 ghost use Rattle.bt_run.specs.inner.Work.{IsBegun, IsConsistent};
+ghost use Rattle.bt_run.specs.Steps.{StepsAre};
 ghost use Rattle.bt_run.specs.inner.Steps.{IsTaken};
 ghost use Rattle.bt_run.specs.Kept.{named_text, style_text, report_after};
 ghost use Rattle.bt_run.specs.Meaning.{style_run, meaning, trace};
@@ -23,6 +24,7 @@ use crate::kept_steps::KeptSteps;
 use crate::readings::Readings;
 use crate::reuse::Reuse;
 use crate::start::{idle, with_fault};
+use bt_actions::Entry;
 use bt_job::{Citations, File, read_citations};
 use bt_log::{Message, log_bytes, status, terse_bytes};
 use bt_resolve::Cites;
@@ -210,10 +212,94 @@ pub struct Run {
     pub report: Report,
 }
 
+/// What a run gives, but for its steps.
+struct Ran {
+    answers: Answers,
+    report: Report,
+    text: Option<Shared<Bytes>>,
+    entries: Sequence<Entry>,
+}
+
+/// Runs what the files ask for from this root. All that fails does so here, where the steps are lent: to drop them would
+/// take long to prove.
+#[tactic(auto, using(crate::proofs::AnswerLemmas::star_within))]
+fn run_from(
+    alloc: Global,
+    files: &[File],
+    root: &[u8],
+    min: u32,
+    kept: &Kept,
+    steps: &mut KeptSteps,
+) -> Result<Ran, AllocError>
+    requires { IsBegun steps.old }
+    ensures shown { IfOk result (λ ran. meaning_of ran.answers ≡ meaning files.now root.now min) }
+    ensures report { IfOk result (λ ran. ran.report
+        ≡ report_after kept.now.text kept.now.steps files.now root.now min) }
+    ensures text { IfOk result (λ ran. ran.text ≡ style_text files.now root.now) }
+    ensures steps { OnOk result (steps.new.steps ≡ trace files.now root.now min) }
+    ensures true_steps { IfOk result (λ ran. StepsAre ran.text steps.new.steps) }
+    ensures placed { IfOk result (λ ran. ArePlaced ran.entries steps.new.steps steps.new.places) }
+{
+    let citations = read_citations(alloc, files, root, &mut steps.readings.aux_texts)?;
+    let ran = run_with(alloc, files, citations, min, kept, steps)?;
+    let StyleRun {
+        course,
+        wanted,
+        text,
+    } = ran;
+    let Course { entries, log, .. } = course;
+    let bbl = bbl_of(alloc, steps.steps.as_slice())?;
+    let answers = show(alloc, bbl, log, wanted)?;
+    let report = Report::of(answers.status, steps.steps.as_slice(), &steps.reuse);
+    steps.readings.keep_present(alloc, files)?;
+    Ok(Ran {
+        answers,
+        report,
+        text,
+        entries,
+    })
+}
+
+impl Ran {
+    /// What the run gives, with its steps.
+    fn with_steps(self, steps: KeptSteps) -> Run
+        requires true_steps { StepsAre self.text steps.steps }
+        requires placed { ArePlaced self.entries steps.steps steps.places }
+        ensures answers { result.answers ≡ self.answers }
+        ensures report { result.report ≡ self.report }
+        ensures text { result.kept.text ≡ self.text }
+        ensures steps { result.kept.steps ≡ steps.steps }
+    {
+        let Ran {
+            answers,
+            report,
+            text,
+            entries,
+        } = self;
+        let KeptSteps {
+            steps,
+            places,
+            readings,
+            ..
+        } = steps;
+        let kept = Kept {
+            text,
+            steps,
+            places,
+            entries,
+        };
+        Run {
+            answers,
+            kept,
+            readings,
+            report,
+        }
+    }
+}
+
 /// What the files mean from this root, the name of its file without `.aux`, with this min-crossrefs. Of the steps that
 /// are kept of an earlier run, those that agree are taken over where its style has the same text; all others are
 /// carried out, and reported. Texts that were read before aren't read again.
-#[tactic(auto, using(crate::proofs::AnswerLemmas::star_within))]
 pub fn answers_after(
     alloc: Global,
     files: &[File],
@@ -228,30 +314,7 @@ pub fn answers_after(
     ensures text { IfOk result (λ run. run.kept.text ≡ style_text files.now root.now) }
     ensures steps { IfOk result (λ run. run.kept.steps ≡ trace files.now root.now min) }
 {
-    let mut readings = readings;
-    let citations = read_citations(alloc, files, root, &mut readings.aux_texts)?;
     let mut steps = KeptSteps::begun(alloc, readings);
-    let ran = run_with(alloc, files, citations, min, kept, &mut steps)?;
-    let StyleRun {
-        course,
-        wanted,
-        text,
-    } = ran;
-    let Course { entries, log, .. } = course;
-    let bbl = bbl_of(alloc, steps.steps.as_slice())?;
-    let answers = show(alloc, bbl, log, wanted)?;
-    let report = Report::of(answers.status, steps.steps.as_slice(), &steps.reuse);
-    let readings = steps.readings.present(alloc, files)?;
-    let kept = Kept {
-        text,
-        steps: steps.steps,
-        places: steps.places,
-        entries,
-    };
-    Ok(Run {
-        answers,
-        kept,
-        readings,
-        report,
-    })
+    let ran = run_from(alloc, files, root, min, kept, &mut steps)?;
+    Ok(ran.with_steps(steps))
 }

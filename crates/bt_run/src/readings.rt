@@ -68,14 +68,16 @@ impl Readings {
         known.style()
     }
 
-    /// Those readings whose text is still one of these files', and the resolution.
-    pub fn present(self, alloc: Global, files: &[File]) -> Result<Readings, AllocError> {
-        Ok(Readings {
-            aux_texts: self.aux_texts.present(alloc, files)?,
-            styles: present_styles(alloc, files, self.styles.as_slice())?,
-            databases: present_databases(alloc, files, self.databases.as_slice())?,
-            edit: None,
-            resolution: self.resolution,
-        })
+    /// Keeps those readings whose text is still one of these files', and the resolution. After out of memory they are
+    /// as before.
+    pub fn keep_present(&mut self, alloc: Global, files: &[File]) -> Result<(), AllocError> {
+        let aux_texts = self.aux_texts.present(alloc, files)?;
+        let styles = present_styles(alloc, files, self.styles.as_slice())?;
+        let databases = present_databases(alloc, files, self.databases.as_slice())?;
+        self.aux_texts = aux_texts;
+        self.styles = styles;
+        self.databases = databases;
+        self.edit = None;
+        Ok(())
     }
 }

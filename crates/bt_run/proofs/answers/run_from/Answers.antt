@@ -5,7 +5,7 @@ use Rattle.bt_run.specs.Meaning.{Meaning}
 use Rattle.bt_run.specs.inner.Cases.{bbl_of, shown_of}
 use Rattle.bt_run.specs.inner.Course.{recorded}
 use Rattle.bt_run.proofs.AnswerLemmas.{meant, kept_text, kept_steps, reported}
-use Rattle.bt_run.proofs.answers.answers_after.Goals as goal
+use Rattle.bt_run.proofs.answers.run_from.Goals as goal
 
 pub returns-clause-shown : goal.returns-clause-shown
 returns-clause-shown c =
