@@ -2,5 +2,4 @@ pub mod PlainLemmas
 pub mod FileLemmas
 pub mod MoreLemmas
 pub mod WordLemmas
-pub mod PlaceLemmas
 pub mod TakenLemmas

@@ -6,7 +6,6 @@ use Rattle.serde_json.specs.Written.{has_float, items_have_float}
 use Rattle.serde_json.specs.Data.{Data, null, boolean, number, string, array, object}
 use Rattle.serde_json.specs.View.{view, items_of}
 use Rattle.serde_json.specs.declared.value.Value.{Value}
-use Rattle.bt_log.specs.declared.message.Message.{Message}
 use Rattle.bt_bib.specs.BibText.{pieces_of}
 use Rattle.bt_bib.specs.declared.placed_pieces.PlacedPiece.{PlacedPiece}
 use Rattle.bt_positions.specs.Positions.{position_of, offset_of}
@@ -20,19 +19,27 @@ use Rattle.bt_diagnostics.specs.declared.diagnostic.Diagnostic.{Diagnostic}
 use Rattle.bt_lsp.specs.declared.methods.Notice.{Notice}
 use Rattle.bt_lsp.specs.declared.methods.Notice.TheVariants.{Opened, Changed, Closed, Saved, Exit, Other}
 use Rattle.bt_lsp.specs.declared.methods.Request.{Request}
-use Rattle.bt_lsp.specs.declared.methods.Request.TheVariants.{Initialize, Shutdown, Hover, Definition, Completion, Outline, Bibliography, Log, Unknown}
+use Rattle.bt_lsp.specs.declared.methods.Request.TheVariants.{Initialize, Shutdown, AtCursor, OfDocument, OfPaper, Unknown}
+use Rattle.bt_lsp.specs.declared.methods.CursorQuery.{CursorQuery}
+use Rattle.bt_lsp.specs.declared.methods.CursorQuery.TheVariants.{Hover, Definition, Completion}
+use Rattle.bt_lsp.specs.declared.methods.DocumentQuery.{DocumentQuery}
+use Rattle.bt_lsp.specs.declared.methods.DocumentQuery.TheVariants.{Outline}
+use Rattle.bt_lsp.specs.declared.methods.PaperQuery.{PaperQuery}
+use Rattle.bt_lsp.specs.declared.methods.PaperQuery.TheVariants.{Bibliography, Log}
 use Rattle.bt_lsp.specs.declared.server.Phase.{Phase}
 use Rattle.bt_lsp.specs.declared.server.Phase.TheVariants.{New, Ready, ShutDown}
 use Rattle.bt_lsp.specs.declared.server.Server.{Server}
+use Rattle.bt_lsp.specs.Shown.{Shown}
 use Rattle.bt_lsp.specs.Shapes.{diagnostic, published}
 use Rattle.bt_lsp.specs.News.{news, shown_of, published_of, warned, cleared, cleared_at}
-use Rattle.bt_lsp.specs.Parameters.{document_of, cursor_of, at_place}
+use Rattle.bt_lsp.specs.Parameters.{document_of, place_of}
 use Rattle.bt_lsp.specs.Entries.{key_of, kind_of, is_database}
 use Rattle.bt_lsp.specs.Hover.{key_at, word_of, hover_lines, hover_at}
 use Rattle.bt_lsp.specs.Finding.{place_in, location, location_in, or_else, found_in, found_at}
 use Rattle.bt_lsp.specs.Citing.{candidate_of, candidates_of, candidates_from, candidates_in, is_citing, completion_at}
-use Rattle.bt_lsp.specs.Outline.{symbol_at, symbol_of, symbols_in, symbols_at}
-use Rattle.bt_lsp.specs.Desk.{answered_query, IsOutcome, Tells, Carried}
+use Rattle.bt_lsp.specs.Outline.{symbol_at, symbol_of, symbols_in, symbols_of}
+use Rattle.bt_lsp.specs.Answering.{answer_at, answer_of, paper_answer, at_place, at_document, answered}
+use Rattle.bt_lsp.specs.Desk.{IsOutcome, Tells, Carried}
 
 -- ---- lists of values without floats
 
@@ -61,10 +68,9 @@ diagnostics_plain (d ∷ ds) = diagnostics_plain ds
 pub published_note : (uri : List ℕ) (ds : List Diagnostic) → IsNote (published uri ds)
 published_note uri ds = (refl, rw (diagnostics_plain ds) refl)
 
-news_notes : {P : Type 0} (name : P → List ℕ → Option (List ℕ)) (messages : P → List Message) (paper : P) (docs : List Document) →
-    AllByRecursion IsNote (news name messages paper docs)
-news_notes name messages paper [] = tt
-news_notes name messages paper (d ∷ ds) = (published_note d.name (shown_of name messages paper d), news_notes name messages paper ds)
+news_notes : (shown : Shown) (docs : List Document) → AllByRecursion IsNote (news shown docs)
+news_notes shown [] = tt
+news_notes shown (d ∷ ds) = (published_note d.name (shown_of shown d), news_notes shown ds)
 
 warned_notes : (lost : Bool) → AllByRecursion IsNote (warned lost)
 warned_notes true = ((refl, refl), tt)
@@ -82,20 +88,19 @@ cleared_notes Saved m = tt
 cleared_notes Exit m = tt
 cleared_notes Other m = tt
 
-told_notes : {P : Type 0} (name : P → List ℕ → Option (List ℕ)) (messages : P → List Message) (lost : Bool) (notice : Notice) (m : Data) (paper : P) (docs : List Document) →
-    AllByRecursion IsNote (warned lost ++ cleared notice m ++ news name messages paper docs)
-told_notes name messages lost notice m paper docs =
-    all_both IsNote (warned lost ++ cleared notice m) _ (all_both IsNote (warned lost) _ (warned_notes lost) (cleared_notes notice m)) (news_notes name messages paper docs)
+told_notes : (shown : Shown) (lost : Bool) (notice : Notice) (m : Data) (docs : List Document) → AllByRecursion IsNote (warned lost ++ cleared notice m ++ news shown docs)
+told_notes shown lost notice m docs =
+    all_both IsNote (warned lost ++ cleared notice m) _ (all_both IsNote (warned lost) _ (warned_notes lost) (cleared_notes notice m)) (news_notes shown docs)
 
-tells_notes : {P : Type 0} (name : P → List ℕ → Option (List ℕ)) (messages : P → List Message) (lost : Bool) (notice : Notice) (m : Data) (told : List Data) (e : Server P) →
-    Tells name messages lost notice m told e → AllByRecursion IsNote told
-tells_notes name messages lost notice m told e (inl h) = subst (AllByRecursion IsNote) (sym h.0) (told_notes name messages lost notice m e.paper e.documents)
-tells_notes name messages lost notice m told e (inr h) = subst (AllByRecursion IsNote) (sym h.0) tt
+tells_notes : {P : Type 0} (shown : P → Shown) (lost : Bool) (notice : Notice) (m : Data) (told : List Data) (e : Server P) →
+    Tells shown lost notice m told e → AllByRecursion IsNote told
+tells_notes shown lost notice m told e (inl h) = subst (AllByRecursion IsNote) (sym h.0) (told_notes (shown e.paper) lost notice m e.documents)
+tells_notes shown lost notice m told e (inr h) = subst (AllByRecursion IsNote) (sym h.0) tt
 
 -- what is said to a notification that the desk takes
-pub carried_notes : {P : Type 0} (text : P → List ℕ → Option (List ℕ)) (name : P → List ℕ → Option (List ℕ)) (messages : P → List Message) (d : Server P) (notice : Notice) (m : Data)
-    (told : List Data) (e : Server P) → Carried text name messages d notice m told e → AllByRecursion IsNote told
-carried_notes text name messages d notice m told e h = tells_notes name messages h.lost notice m told e h.says
+pub carried_notes : {P : Type 0} (text : P → List ℕ → Option (List ℕ)) (shown : P → Shown) (d : Server P) (notice : Notice) (m : Data) (told : List Data) (e : Server P) →
+    Carried text shown d notice m told e → AllByRecursion IsNote told
+carried_notes text shown d notice m told e h = tells_notes shown h.lost notice m told e h.says
 
 -- ---- outcomes
 
@@ -107,20 +112,15 @@ hover_lines_plain : (lines : List ℕ) → has_float (hover_lines lines) ≡ fal
 hover_lines_plain [] = refl
 hover_lines_plain (b ∷ t) = refl
 
-at_plain : (f : Document → Position → Data) → ((d : Document) (at : Position) → has_float (f d at) ≡ false) → (o : Option Document) (p : Option Position) → IsPlainData (at_place f o p)
-at_plain f plain (Some d) (Some at) = plain d at
-at_plain f plain (Some d) None = tt
-at_plain f plain None p = tt
-
-place_plain : (o : Option ℕ) (f : ℕ → Data) → ((n : ℕ) → has_float (f n) ≡ false) → has_float (elim o [ None ↦ null | Some place ↦ f place ]) ≡ false
-place_plain None f p = refl
-place_plain (Some n) f p = p n
+found_plain : (o : Option ℕ) (f : ℕ → Data) → ((n : ℕ) → has_float (f n) ≡ false) → has_float (elim o [ None ↦ null | Some place ↦ f place ]) ≡ false
+found_plain None f p = refl
+found_plain (Some n) f p = p n
 
 location_in_plain : (c : Counting) (key uri words : List ℕ) → has_float (location_in c key uri words) ≡ false
 location_in_plain c key uri words =
     none_or (not (is_database uri) || nat_lt 1073741824 (length words))
     (elim (place_in key (pieces_of words)) [ None ↦ null | Some place ↦ location uri (position_of c (min place (length words)) words) ])
-    (place_plain (place_in key (pieces_of words)) (λ place. location uri (position_of c (min place (length words)) words)) (λ n. refl))
+    (found_plain (place_in key (pieces_of words)) (λ place. location uri (position_of c (min place (length words)) words)) (λ n. refl))
 
 or_else_plain : (d e : Data) → has_float d ≡ false → has_float e ≡ false → has_float (or_else d e) ≡ false
 or_else_plain null e p q = q
@@ -168,51 +168,57 @@ symbols_in_plain c words [] = tt
 symbols_in_plain c words (p ∷ ps) =
     more_plain (symbol_of c words p) _ (symbol_plain c words p.start.place p.end.place (key_of p.piece)) (symbols_in_plain c words ps)
 
-symbols_plain : (d : Option Document) → IsPlainData (symbols_at d)
-symbols_plain None = tt
-symbols_plain (Some d) =
+symbols_plain : (d : Document) → has_float (symbols_of d) ≡ false
+symbols_plain d =
     none_or (nat_lt 1073741824 (length d.text)) (array (items_of (symbols_in d.counting d.text (pieces_of d.text))))
     (items_plain (symbols_in d.counting d.text (pieces_of d.text)) (symbols_in_plain d.counting d.text (pieces_of d.text)))
 
+at_plain : (shown : Shown) (query : CursorQuery) (d : Document) (at : Position) → has_float (answer_at shown query d at) ≡ false
+at_plain shown Hover d at = hover_lines_plain (shown.entry_text (key_at d at))
+at_plain shown Definition d at = found_in_plain d.counting (word_of d at) shown.files
+at_plain shown Completion d at = completion_plain shown.files d at
+
+place_plain : (shown : Shown) (query : CursorQuery) (place : Option (Document × Position)) → IsPlainData (at_place shown query place)
+place_plain shown query None = tt
+place_plain shown query (Some place) = at_plain shown query place.0 place.1
+
+of_plain : (query : DocumentQuery) (d : Document) → has_float (answer_of query d) ≡ false
+of_plain Outline d = symbols_plain d
+
+document_plain : (query : DocumentQuery) (d : Option Document) → IsPlainData (at_document query d)
+document_plain query None = tt
+document_plain query (Some d) = of_plain query d
+
+paper_plain : (shown : Shown) (query : PaperQuery) → has_float (paper_answer shown query) ≡ false
+paper_plain shown Bibliography = refl
+paper_plain shown Log = refl
+
 -- the outcome of a request that changes nothing
-pub query_plain : {P : Type 0} (files : P → List (List ℕ × List ℕ)) (entry_text : P → List ℕ → List ℕ) (bibliography : P → List ℕ) (log : P → List ℕ) (status : P → ℕ) (paper : P) (docs : List Document)
-    (request : Request) (m : Data) → IsPlainData (answered_query files entry_text bibliography log status paper docs request m)
-query_plain files entry_text bibliography log status paper docs Hover m =
-    at_plain (hover_at entry_text paper) (λ d at. hover_lines_plain (entry_text paper (key_at d at))) (document_of docs m) (cursor_of m)
-query_plain files entry_text bibliography log status paper docs Definition m =
-    at_plain (found_at (files paper)) (λ d at. found_in_plain d.counting (word_of d at) (files paper)) (document_of docs m) (cursor_of m)
-query_plain files entry_text bibliography log status paper docs Completion m =
-    at_plain (completion_at (files paper)) (completion_plain (files paper)) (document_of docs m) (cursor_of m)
-query_plain files entry_text bibliography log status paper docs Outline m = symbols_plain (document_of docs m)
-query_plain files entry_text bibliography log status paper docs Bibliography m = refl
-query_plain files entry_text bibliography log status paper docs Log m = refl
-query_plain files entry_text bibliography log status paper docs Initialize m = tt
-query_plain files entry_text bibliography log status paper docs Shutdown m = tt
-query_plain files entry_text bibliography log status paper docs Unknown m = tt
+pub answered_plain : (shown : Shown) (docs : List Document) (request : Request) (m : Data) → IsPlainData (answered shown docs request m)
+answered_plain shown docs Initialize m = tt
+answered_plain shown docs Shutdown m = tt
+answered_plain shown docs (AtCursor query) m = place_plain shown query (place_of docs m)
+answered_plain shown docs (OfDocument query) m = document_plain query (document_of docs m)
+answered_plain shown docs (OfPaper query) m = paper_plain shown query
+answered_plain shown docs Unknown m = tt
 
 plain_from : (q : Result Data RpcError) (o : Result Value RpcError) → outcome_of o ≡ q → IsPlainData q → IsPlain o
 plain_from q (Ok v) e p = subst IsPlainData (sym e) p
 plain_from q (Err r) e p = tt
 
 -- the outcome of a request
-pub outcome_plain : {P : Type 0} (query : Result Data RpcError) (phase : Phase) (request : Request) (d e : Server P) (o : Result Value RpcError) → IsPlainData query →
-    IsOutcome query phase request d (outcome_of o) e → IsPlain o
+pub outcome_plain : {P : Type 0} (query : Request → Result Data RpcError) (phase : Phase) (request : Request) (d e : Server P) (o : Result Value RpcError) →
+    ((r : Request) → IsPlainData (query r)) → IsOutcome query phase request d (outcome_of o) e → IsPlain o
 outcome_plain query New Initialize d e o p h = plain_from _ o h.answer refl
 outcome_plain query New Shutdown d e o p h = plain_from _ o h.0 tt
-outcome_plain query New Hover d e o p h = plain_from _ o h.0 tt
-outcome_plain query New Definition d e o p h = plain_from _ o h.0 tt
-outcome_plain query New Completion d e o p h = plain_from _ o h.0 tt
-outcome_plain query New Outline d e o p h = plain_from _ o h.0 tt
-outcome_plain query New Bibliography d e o p h = plain_from _ o h.0 tt
-outcome_plain query New Log d e o p h = plain_from _ o h.0 tt
+outcome_plain query New (AtCursor q) d e o p h = plain_from _ o h.0 tt
+outcome_plain query New (OfDocument q) d e o p h = plain_from _ o h.0 tt
+outcome_plain query New (OfPaper q) d e o p h = plain_from _ o h.0 tt
 outcome_plain query New Unknown d e o p h = plain_from _ o h.0 tt
 outcome_plain query ShutDown request d e o p h = plain_from _ o h.0 tt
 outcome_plain query Ready Shutdown d e o p h = plain_from _ o h.0 refl
-outcome_plain query Ready Initialize d e o p h = plain_from query o h.0 p
-outcome_plain query Ready Hover d e o p h = plain_from query o h.0 p
-outcome_plain query Ready Definition d e o p h = plain_from query o h.0 p
-outcome_plain query Ready Completion d e o p h = plain_from query o h.0 p
-outcome_plain query Ready Outline d e o p h = plain_from query o h.0 p
-outcome_plain query Ready Bibliography d e o p h = plain_from query o h.0 p
-outcome_plain query Ready Log d e o p h = plain_from query o h.0 p
-outcome_plain query Ready Unknown d e o p h = plain_from query o h.0 p
+outcome_plain query Ready Initialize d e o p h = plain_from _ o h.0 (p Initialize)
+outcome_plain query Ready (AtCursor q) d e o p h = plain_from _ o h.0 (p (AtCursor q))
+outcome_plain query Ready (OfDocument q) d e o p h = plain_from _ o h.0 (p (OfDocument q))
+outcome_plain query Ready (OfPaper q) d e o p h = plain_from _ o h.0 (p (OfPaper q))
+outcome_plain query Ready Unknown d e o p h = plain_from _ o h.0 (p Unknown)

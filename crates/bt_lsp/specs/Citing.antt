@@ -1,5 +1,5 @@
 -- Completes the keys of citations.
-use Rattle.std.specs.Prelude.{ℕ, ◌==◌, ◌&&◌, nat_le, Bool, true, false, if◌then◌else◌, List, [], ◌∷◌, ◌++◌, take, codes, Result}
+use Rattle.std.specs.Prelude.{ℕ, ◌==◌, ◌&&◌, nat_le, Bool, true, false, if◌then◌else◌, List, [], ◌∷◌, ◌++◌, take, codes}
 use Rattle.std.specs.List.{fold}
 use Rattle.std.specs.Char.{to_ascii_lowercase}
 use Rattle.serde_json.specs.Data.{Data, null, number, unsigned, array, object, member, no_members}
@@ -8,11 +8,9 @@ use Rattle.bt_bib.specs.BibText.{pieces_of}
 use Rattle.bt_bib.specs.declared.placed_pieces.PlacedPiece.{PlacedPiece}
 use Rattle.bt_positions.specs.Positions.{offset_of}
 use Rattle.bt_positions.specs.declared.indexed_text.Position.{Position}
-use Rattle.bt_rpc.specs.declared.answers.RpcError.{RpcError}
 use Rattle.bt_documents.specs.declared.document.Document.{Document}
 use Rattle.bt_lsp.specs.declared.citing.Citing.{Citing}
 use Rattle.bt_lsp.specs.declared.citing.Citing.TheVariants.{Outside, Name, Option as InOption, Keys}
-use Rattle.bt_lsp.specs.Parameters.{document_of, cursor_of, at_place}
 use Rattle.bt_lsp.specs.Entries.{key_of, kind_of, is_database}
 use Rattle.bt_lsp.specs.Shapes.{text}
 
@@ -81,7 +79,3 @@ candidates_in (f ∷ fs) = candidates_from f.0 f.1 ++ candidates_in fs
 abbrev pub completion_at : List (List ℕ × List ℕ) → Document → Position → Data
 completion_at files d at =
     if is_citing (take (offset_of d.counting at d.text) d.text) then array (items_of (candidates_in files)) else null
-
--- the answer to a completion
-abbrev pub completion_answer : List (List ℕ × List ℕ) → List Document → Data → Result Data RpcError
-completion_answer files docs m = at_place (completion_at files) (document_of docs m) (cursor_of m)

@@ -1,13 +1,12 @@
 -- What the desk does with messages.
 use Rattle.std.specs.Prelude.{◌≡◌, ◌⊎◌, ℕ, Bool, true, false, if◌then◌else◌, List, [], ◌∷◌, ◌++◌, Option, Some, Result, Ok, Err}
 use Rattle.serde_json.specs.Data.{Data, null}
-use Rattle.bt_log.specs.declared.message.Message.{Message}
 use Rattle.bt_rpc.specs.declared.answers.RpcError.{RpcError}
-use Rattle.bt_rpc.specs.declared.answers.RpcError.TheVariants.{InvalidRequest, MethodNotFound, ServerNotInitialized}
+use Rattle.bt_rpc.specs.declared.answers.RpcError.TheVariants.{InvalidRequest, ServerNotInitialized}
 use Rattle.bt_documents.specs.declared.document.Document.{Document}
 use Rattle.bt_documents.specs.Documents.{Follows}
 use Rattle.bt_lsp.specs.declared.methods.Request.{Request}
-use Rattle.bt_lsp.specs.declared.methods.Request.TheVariants.{Initialize, Shutdown, Hover, Definition, Completion, Outline, Bibliography, Log, Unknown}
+use Rattle.bt_lsp.specs.declared.methods.Request.TheVariants.{Initialize, Shutdown, AtCursor, OfDocument, OfPaper, Unknown}
 use Rattle.bt_lsp.specs.declared.methods.Notice.{Notice}
 use Rattle.bt_lsp.specs.declared.methods.Notice.TheVariants.{Opened, Changed, Closed, Saved, Exit, Other}
 use Rattle.bt_lsp.specs.declared.server.Phase.{Phase}
@@ -16,12 +15,9 @@ use Rattle.bt_lsp.specs.declared.server.Duty.{Duty}
 use Rattle.bt_lsp.specs.declared.server.Duty.TheVariants.{End, Pass, Carry}
 use Rattle.bt_lsp.specs.declared.server.Server.{Server}
 use Rattle.bt_lsp.specs.Methods.{request_of, notice_of}
-use Rattle.bt_lsp.specs.Shapes.{shown_text, capabilities}
+use Rattle.bt_lsp.specs.Shown.{Shown}
+use Rattle.bt_lsp.specs.Shapes.{capabilities}
 use Rattle.bt_lsp.specs.News.{news, warned, cleared}
-use Rattle.bt_lsp.specs.Hover.{hover_answer}
-use Rattle.bt_lsp.specs.Outline.{symbols_answer}
-use Rattle.bt_lsp.specs.Finding.{definition_answer}
-use Rattle.bt_lsp.specs.Citing.{completion_answer}
 use Rattle.bt_lsp.specs.Taken.{Taken}
 
 -- what the desk does with a notification: `exit` ends it; before `initialize` and after `shutdown` the others pass, and so
@@ -44,85 +40,61 @@ duty_of ShutDown pending Changed = Pass
 duty_of ShutDown pending Closed = Pass
 duty_of ShutDown pending Saved = Pass
 
--- the outcome of a request that changes nothing
-abbrev pub answered_query : {P : Type 0} → (P → List (List ℕ × List ℕ)) → (P → List ℕ → List ℕ) → (P → List ℕ) → (P → List ℕ) → (P → ℕ) → P →
-    List Document → Request → Data → Result Data RpcError
-answered_query files entry_text bibliography log status paper docs Hover m = hover_answer entry_text paper docs m
-answered_query files entry_text bibliography log status paper docs Definition m =
-    definition_answer (files paper) docs m
-answered_query files entry_text bibliography log status paper docs Completion m =
-    completion_answer (files paper) docs m
-answered_query files entry_text bibliography log status paper docs Outline m = symbols_answer docs m
-answered_query files entry_text bibliography log status paper docs Bibliography m =
-    Ok (shown_text (bibliography paper) (status paper))
-answered_query files entry_text bibliography log status paper docs Log m = Ok (shown_text (log paper) (status paper))
-answered_query files entry_text bibliography log status paper docs Initialize m = Err InvalidRequest
-answered_query files entry_text bibliography log status paper docs Shutdown m = Err InvalidRequest
-answered_query files entry_text bibliography log status paper docs Unknown m = Err MethodNotFound
-
 -- the answer to `initialize` says how positions count, and no document is open after it
 pub record IsBegun {P : Type 0} (d : Server P) (outcome : Result Data RpcError) (e : Server P) : Type 0 where
   pub phase : e.phase ≡ Ready
   pub documents : e.documents ≡ []
   pub answer : outcome ≡ Ok (capabilities e.counts_bytes)
 
--- The outcome of a request and the desk after it. `query` is the outcome if the request changes nothing.
-abbrev pub IsOutcome : {P : Type 0} → Result Data RpcError → Phase → Request → Server P → Result Data RpcError → Server P →
-    Type 0
+-- The outcome of a request and the desk after it. `query` is the outcome of a request that changes nothing.
+abbrev pub IsOutcome : {P : Type 0} → (Request → Result Data RpcError) → Phase → Request → Server P → Result Data RpcError →
+    Server P → Type 0
 IsOutcome query New Initialize d outcome e = IsBegun d outcome e
 IsOutcome query New Shutdown d outcome e = (outcome ≡ Err ServerNotInitialized) × (e ≡ d)
-IsOutcome query New Hover d outcome e = (outcome ≡ Err ServerNotInitialized) × (e ≡ d)
-IsOutcome query New Definition d outcome e = (outcome ≡ Err ServerNotInitialized) × (e ≡ d)
-IsOutcome query New Completion d outcome e = (outcome ≡ Err ServerNotInitialized) × (e ≡ d)
-IsOutcome query New Outline d outcome e = (outcome ≡ Err ServerNotInitialized) × (e ≡ d)
-IsOutcome query New Bibliography d outcome e = (outcome ≡ Err ServerNotInitialized) × (e ≡ d)
-IsOutcome query New Log d outcome e = (outcome ≡ Err ServerNotInitialized) × (e ≡ d)
+IsOutcome query New (AtCursor q) d outcome e = (outcome ≡ Err ServerNotInitialized) × (e ≡ d)
+IsOutcome query New (OfDocument q) d outcome e = (outcome ≡ Err ServerNotInitialized) × (e ≡ d)
+IsOutcome query New (OfPaper q) d outcome e = (outcome ≡ Err ServerNotInitialized) × (e ≡ d)
 IsOutcome query New Unknown d outcome e = (outcome ≡ Err ServerNotInitialized) × (e ≡ d)
 IsOutcome query ShutDown request d outcome e = (outcome ≡ Err InvalidRequest) × (e ≡ d)
 IsOutcome query Ready Shutdown d outcome e = (outcome ≡ Ok null) × (e ≡ record d { phase = ShutDown })
-IsOutcome query Ready Initialize d outcome e = (outcome ≡ query) × (e ≡ d)
-IsOutcome query Ready Hover d outcome e = (outcome ≡ query) × (e ≡ d)
-IsOutcome query Ready Definition d outcome e = (outcome ≡ query) × (e ≡ d)
-IsOutcome query Ready Completion d outcome e = (outcome ≡ query) × (e ≡ d)
-IsOutcome query Ready Outline d outcome e = (outcome ≡ query) × (e ≡ d)
-IsOutcome query Ready Bibliography d outcome e = (outcome ≡ query) × (e ≡ d)
-IsOutcome query Ready Log d outcome e = (outcome ≡ query) × (e ≡ d)
-IsOutcome query Ready Unknown d outcome e = (outcome ≡ query) × (e ≡ d)
+IsOutcome query Ready Initialize d outcome e = (outcome ≡ query Initialize) × (e ≡ d)
+IsOutcome query Ready (AtCursor q) d outcome e = (outcome ≡ query (AtCursor q)) × (e ≡ d)
+IsOutcome query Ready (OfDocument q) d outcome e = (outcome ≡ query (OfDocument q)) × (e ≡ d)
+IsOutcome query Ready (OfPaper q) d outcome e = (outcome ≡ query (OfPaper q)) × (e ≡ d)
+IsOutcome query Ready Unknown d outcome e = (outcome ≡ query Unknown) × (e ≡ d)
 
 -- What the editor is told: a warning if a message was lost, and the diagnostics of each open document as the run has them
 -- now. If memory runs out it is told nothing, and the desk knows that it owes the news.
-abbrev pub Tells : {P : Type 0} → (P → List ℕ → Option (List ℕ)) → (P → List Message) → Bool → Notice → Data → List Data →
-    Server P → Type 0
-Tells name messages lost notice m told e =
-    ((told ≡ warned lost ++ cleared notice m ++ news name messages e.paper e.documents) × (e.lost ≡ false) ×
+abbrev pub Tells : {P : Type 0} → (P → Shown) → Bool → Notice → Data → List Data → Server P → Type 0
+Tells shown lost notice m told e =
+    ((told ≡ warned lost ++ cleared notice m ++ news (shown e.paper) e.documents) × (e.lost ≡ false) ×
     (e.pending ≡ false)) ⊎ ((told ≡ []) × (e.lost ≡ lost) × (e.pending ≡ true))
 
 -- A notification that the desk takes: the documents change as it says, or they stay and the desk knows that it is lost.
 -- If the paper had the texts of the documents, it has their new ones.
-pub record Carried {P : Type 0} (text : P → List ℕ → Option (List ℕ)) (name : P → List ℕ → Option (List ℕ))
-    (messages : P → List Message) (d : Server P) (notice : Notice) (m : Data) (told : List Data) (e : Server P) :
-    Type 0 where
+pub record Carried {P : Type 0} (text : P → List ℕ → Option (List ℕ)) (shown : P → Shown) (d : Server P) (notice : Notice)
+    (m : Data) (told : List Data) (e : Server P) : Type 0 where
   pub lost : Bool
   pub stays_lost : d.lost ≡ true → lost ≡ true
   pub taken : Taken notice m d.documents e.documents ⊎ ((e.documents ≡ d.documents) × (lost ≡ true))
   pub follows : Follows (text d.paper) d.documents → Follows (text e.paper) e.documents
-  pub says : Tells name messages lost notice m told e
+  pub says : Tells shown lost notice m told e
   pub phase : e.phase ≡ d.phase
   pub counts_bytes : e.counts_bytes ≡ d.counts_bytes
   pub over : e.over ≡ d.over
 
 -- a notification by what the desk does with it
-abbrev pub ByDuty : {P : Type 0} → (P → List ℕ → Option (List ℕ)) → (P → List ℕ → Option (List ℕ)) → (P → List Message) →
-    Duty → Server P → Notice → Data → List Data → Server P → Type 0
-ByDuty text name messages End d notice m told e = (told ≡ []) × (e ≡ record d { over = true })
-ByDuty text name messages Pass d notice m told e = (told ≡ []) × (e ≡ d)
-ByDuty text name messages Carry d notice m told e = Carried text name messages d notice m told e
+abbrev pub ByDuty : {P : Type 0} → (P → List ℕ → Option (List ℕ)) → (P → Shown) → Duty → Server P → Notice → Data →
+    List Data → Server P → Type 0
+ByDuty text shown End d notice m told e = (told ≡ []) × (e ≡ record d { over = true })
+ByDuty text shown Pass d notice m told e = (told ≡ []) × (e ≡ d)
+ByDuty text shown Carry d notice m told e = Carried text shown d notice m told e
 
 -- a notification
-abbrev pub Noted : {P : Type 0} → (P → List ℕ → Option (List ℕ)) → (P → List ℕ → Option (List ℕ)) → (P → List Message) →
-    Server P → List ℕ → Data → List Data → Server P → Type 0
-Noted text name messages d method m told e =
-    ByDuty text name messages (duty_of d.phase d.pending (notice_of method)) d (notice_of method) m told e
+abbrev pub Noted : {P : Type 0} → (P → List ℕ → Option (List ℕ)) → (P → Shown) → Server P → List ℕ → Data → List Data →
+    Server P → Type 0
+Noted text shown d method m told e =
+    ByDuty text shown (duty_of d.phase d.pending (notice_of method)) d (notice_of method) m told e
 
 -- a lost message: the desk will warn of it
 abbrev pub IsLost : {P : Type 0} → Server P → Server P → Type 0

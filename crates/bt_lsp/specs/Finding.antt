@@ -1,5 +1,5 @@
 -- The entry of a key in the paper's databases.
-use Rattle.std.specs.Prelude.{ℕ, min, nat_lt, not, ◌||◌, if◌then◌else◌, List, [], ◌∷◌, length, codes, Option, Some, None, Result}
+use Rattle.std.specs.Prelude.{ℕ, min, nat_lt, not, ◌||◌, if◌then◌else◌, List, [], ◌∷◌, length, codes, Option, Some, None}
 use Rattle.serde_json.specs.Data.{Data, null, boolean, number, string, array, object, member, no_members}
 use Rattle.bt_text.specs.CaseFolding.{is_same_folded}
 use Rattle.bt_bib.specs.BibText.{pieces_of}
@@ -7,9 +7,7 @@ use Rattle.bt_bib.specs.declared.placed_pieces.PlacedPiece.{PlacedPiece}
 use Rattle.bt_positions.specs.Positions.{position_of}
 use Rattle.bt_positions.specs.declared.counting.Counting.{Counting}
 use Rattle.bt_positions.specs.declared.indexed_text.Position.{Position}
-use Rattle.bt_rpc.specs.declared.answers.RpcError.{RpcError}
 use Rattle.bt_documents.specs.declared.document.Document.{Document}
-use Rattle.bt_lsp.specs.Parameters.{document_of, cursor_of, at_place}
 use Rattle.bt_lsp.specs.Entries.{key_of, is_database}
 use Rattle.bt_lsp.specs.Hover.{word_of}
 use Rattle.bt_lsp.specs.Shapes.{text, range}
@@ -49,7 +47,3 @@ found_in c key (f ∷ fs) = or_else (location_in c key f.0 f.1) (found_in c key 
 -- where the entry of the key at a position of a document begins
 abbrev pub found_at : List (List ℕ × List ℕ) → Document → Position → Data
 found_at files d at = found_in d.counting (word_of d at) files
-
--- the answer to a request for the definition of the key under the cursor
-abbrev pub definition_answer : List (List ℕ × List ℕ) → List Document → Data → Result Data RpcError
-definition_answer files docs m = at_place (found_at files) (document_of docs m) (cursor_of m)

@@ -1,11 +1,9 @@
 -- What an entry prints, for the key under the cursor.
-use Rattle.std.specs.Prelude.{ℕ, suc, ◌+◌, ◌-◌, ◌==◌, nat_lt, ◌&&◌, not, Bool, if◌then◌else◌, List, [], ◌∷◌, take, drop, Result}
+use Rattle.std.specs.Prelude.{ℕ, suc, ◌+◌, ◌-◌, ◌==◌, nat_lt, ◌&&◌, not, Bool, if◌then◌else◌, List, [], ◌∷◌, take, drop}
 use Rattle.serde_json.specs.Data.{Data, null}
-use Rattle.bt_rpc.specs.declared.answers.RpcError.{RpcError}
 use Rattle.bt_positions.specs.declared.indexed_text.Position.{Position}
 use Rattle.bt_positions.specs.Positions.{offset_of}
 use Rattle.bt_documents.specs.declared.document.Document.{Document}
-use Rattle.bt_lsp.specs.Parameters.{document_of, cursor_of, at_place}
 use Rattle.bt_bib.specs.BibText.{pieces_of}
 use Rattle.bt_lsp.specs.Entries.{key_in, is_database}
 use Rattle.bt_lsp.specs.Shapes.{hover}
@@ -47,14 +45,10 @@ abbrev pub hover_lines : List ℕ → Data
 hover_lines [] = null
 hover_lines (b ∷ t) = hover (b ∷ t)
 
--- what a hover shows for a key
-abbrev pub hover_of : {P : Type 0} → (P → List ℕ → List ℕ) → P → List ℕ → Data
-hover_of entry_text paper key = hover_lines (entry_text paper key)
+-- what a hover shows for a key, from what each key's entry prints
+abbrev pub hover_of : (List ℕ → List ℕ) → List ℕ → Data
+hover_of entry_text key = hover_lines (entry_text key)
 
 -- what a hover shows at a position of a document
-abbrev pub hover_at : {P : Type 0} → (P → List ℕ → List ℕ) → P → Document → Position → Data
-hover_at entry_text paper d at = hover_of entry_text paper (key_at d at)
-
--- the answer to a hover
-abbrev pub hover_answer : {P : Type 0} → (P → List ℕ → List ℕ) → P → List Document → Data → Result Data RpcError
-hover_answer entry_text paper docs m = at_place (hover_at entry_text paper) (document_of docs m) (cursor_of m)
+abbrev pub hover_at : (List ℕ → List ℕ) → Document → Position → Data
+hover_at entry_text d at = hover_of entry_text (key_at d at)

@@ -3,6 +3,7 @@ pub mod Parameters
 pub mod Words
 pub mod Changes
 pub mod Shapes
+pub mod Shown
 pub mod Entries
 pub mod News
 pub mod Hover
@@ -10,4 +11,5 @@ pub mod Outline
 pub mod Finding
 pub mod Citing
 pub mod Taken
+pub mod Answering
 pub mod Desk

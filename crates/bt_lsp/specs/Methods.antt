@@ -1,7 +1,10 @@
 -- The methods that the desk knows.
 use Rattle.std.specs.Prelude.{ℕ, List, codes, bytes_eq, if◌then◌else◌}
 use Rattle.bt_lsp.specs.declared.methods.Request.{Request}
-use Rattle.bt_lsp.specs.declared.methods.Request.TheVariants.{Initialize, Shutdown, Hover, Definition, Completion, Outline, Bibliography, Log, Unknown}
+use Rattle.bt_lsp.specs.declared.methods.Request.TheVariants.{Initialize, Shutdown, AtCursor, OfDocument, OfPaper, Unknown}
+use Rattle.bt_lsp.specs.declared.methods.CursorQuery.TheVariants.{Hover, Definition, Completion}
+use Rattle.bt_lsp.specs.declared.methods.DocumentQuery.TheVariants.{Outline}
+use Rattle.bt_lsp.specs.declared.methods.PaperQuery.TheVariants.{Bibliography, Log}
 use Rattle.bt_lsp.specs.declared.methods.Notice.{Notice}
 use Rattle.bt_lsp.specs.declared.methods.Notice.TheVariants.{Opened, Changed, Closed, Saved, Exit, Other}
 
@@ -10,12 +13,12 @@ abbrev pub request_of : List ℕ → Request
 request_of method =
     if bytes_eq method (codes "initialize") then Initialize else
     (if bytes_eq method (codes "shutdown") then Shutdown else
-    (if bytes_eq method (codes "textDocument/hover") then Hover else
-    (if bytes_eq method (codes "textDocument/definition") then Definition else
-    (if bytes_eq method (codes "textDocument/completion") then Completion else
-    (if bytes_eq method (codes "textDocument/documentSymbol") then Outline else
-    (if bytes_eq method (codes "bibtex/bbl") then Bibliography else
-    (if bytes_eq method (codes "bibtex/log") then Log else Unknown)))))))
+    (if bytes_eq method (codes "textDocument/hover") then AtCursor Hover else
+    (if bytes_eq method (codes "textDocument/definition") then AtCursor Definition else
+    (if bytes_eq method (codes "textDocument/completion") then AtCursor Completion else
+    (if bytes_eq method (codes "textDocument/documentSymbol") then OfDocument Outline else
+    (if bytes_eq method (codes "bibtex/bbl") then OfPaper Bibliography else
+    (if bytes_eq method (codes "bibtex/log") then OfPaper Log else Unknown)))))))
 
 -- the notification of a method
 abbrev pub notice_of : List ℕ → Notice

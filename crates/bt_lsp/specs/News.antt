@@ -8,6 +8,7 @@ use Rattle.bt_diagnostics.specs.declared.diagnostic.Diagnostic.{Diagnostic}
 use Rattle.bt_diagnostics.specs.Diagnostics.{diagnostics}
 use Rattle.bt_lsp.specs.declared.methods.Notice.{Notice}
 use Rattle.bt_lsp.specs.declared.methods.Notice.TheVariants.{Opened, Changed, Closed, Saved, Exit, Other}
+use Rattle.bt_lsp.specs.Shown.{Shown}
 use Rattle.bt_lsp.specs.Parameters.{text_at}
 use Rattle.bt_lsp.specs.Shapes.{published}
 
@@ -18,17 +19,17 @@ shown_as (Some name) messages d = diagnostics name d.counting d.text messages
 
 -- The diagnostics of a document: the messages of the run at their places in its text. It has none if the run doesn't have
 -- its text, or if the text has more than 1 GiB.
-abbrev pub shown_of : {P : Type 0} → (P → List ℕ → Option (List ℕ)) → (P → List Message) → P → Document → List Diagnostic
-shown_of name messages paper d =
-    if not d.in_step || nat_lt 1073741824 (length d.text) then [] else shown_as (name paper d.name) (messages paper) d
+abbrev pub shown_of : Shown → Document → List Diagnostic
+shown_of shown d =
+    if not d.in_step || nat_lt 1073741824 (length d.text) then [] else shown_as (shown.name d.name) shown.messages d
 
 -- the notification that publishes them
-abbrev pub published_of : {P : Type 0} → (P → List ℕ → Option (List ℕ)) → (P → List Message) → P → Document → Data
-published_of name messages paper d = published d.name (shown_of name messages paper d)
+abbrev pub published_of : Shown → Document → Data
+published_of shown d = published d.name (shown_of shown d)
 
 -- the diagnostics of each open document
-abbrev pub news : {P : Type 0} → (P → List ℕ → Option (List ℕ)) → (P → List Message) → P → List Document → List Data
-news name messages paper docs = map (published_of name messages paper) docs
+abbrev pub news : Shown → List Document → List Data
+news shown docs = map (published_of shown) docs
 
 -- the parameters of the warning that a message was lost
 abbrev pub warning_params : Data

@@ -1,5 +1,5 @@
 -- The entries of a database as an editor's outline.
-use Rattle.std.specs.Prelude.{ℕ, min, nat_lt, if◌then◌else◌, List, [], ◌∷◌, length, filter_map, codes, Option, Some, None, Result, Ok, Err}
+use Rattle.std.specs.Prelude.{ℕ, min, nat_lt, if◌then◌else◌, List, [], ◌∷◌, length, filter_map, codes, Option, Some, None}
 use Rattle.serde_json.specs.Data.{Data, null, number, unsigned, array, object, member, no_members}
 use Rattle.serde_json.specs.View.{items_of}
 use Rattle.bt_bib.specs.BibText.{pieces_of}
@@ -7,10 +7,7 @@ use Rattle.bt_bib.specs.declared.placed_pieces.PlacedPiece.{PlacedPiece}
 use Rattle.bt_positions.specs.Positions.{position_of}
 use Rattle.bt_positions.specs.declared.counting.Counting.{Counting}
 use Rattle.bt_positions.specs.declared.indexed_text.Position.{Position}
-use Rattle.bt_rpc.specs.declared.answers.RpcError.{RpcError}
-use Rattle.bt_rpc.specs.declared.answers.RpcError.TheVariants.{InvalidParams}
 use Rattle.bt_documents.specs.declared.document.Document.{Document}
-use Rattle.bt_lsp.specs.Parameters.{document_of}
 use Rattle.bt_lsp.specs.Entries.{key_of}
 use Rattle.bt_lsp.specs.Shapes.{text, range}
 
@@ -39,11 +36,3 @@ abbrev pub symbols_of : Document → Data
 symbols_of d =
     if nat_lt 1073741824 (length d.text) then null
     else array (items_of (symbols_in d.counting d.text (pieces_of d.text)))
-
--- the answer to a request for the outline of a document
-abbrev pub symbols_at : Option Document → Result Data RpcError
-symbols_at None = Err InvalidParams
-symbols_at (Some d) = Ok (symbols_of d)
-
-abbrev pub symbols_answer : List Document → Data → Result Data RpcError
-symbols_answer docs m = symbols_at (document_of docs m)

@@ -1,11 +1,9 @@
 -- Parameters of messages.
-use Rattle.std.specs.Prelude.{ℕ, ℤ, pos, List, codes, bytes_eq, find, Option, Some, None, option_and_then, unwrap_or, Result, Ok, Err}
+use Rattle.std.specs.Prelude.{ℕ, ℤ, pos, List, codes, bytes_eq, find, Option, Some, None, option_and_then, unwrap_or}
 use Rattle.serde_json.specs.Data.{Data}
 use Rattle.serde_json.specs.Find.{pointer, as_str, as_number, as_u64, as_i64}
 use Rattle.bt_positions.specs.declared.indexed_text.Position.{Position}
 use Rattle.bt_documents.specs.declared.document.Document.{Document}
-use Rattle.bt_rpc.specs.declared.answers.RpcError.{RpcError}
-use Rattle.bt_rpc.specs.declared.answers.RpcError.TheVariants.{InvalidParams}
 
 -- the text at a pointer
 abbrev pub text_at : List ℕ → Data → Option (List ℕ)
@@ -42,8 +40,12 @@ document_of docs m =
 abbrev pub cursor_of : Data → Option Position
 cursor_of m = position_at (codes "/params/position/line") (codes "/params/position/character") m
 
--- the answer at a position of a document, or that one of them is missing
-abbrev pub at_place : (Document → Position → Data) → Option Document → Option Position → Result Data RpcError
-at_place f (Some d) (Some at) = Ok (f d at)
-at_place f (Some d) None = Err InvalidParams
-at_place f None at = Err InvalidParams
+-- a document and a position, if both are there
+abbrev pub both : Option Document → Option Position → Option (Document × Position)
+both (Some d) (Some at) = Some (d, at)
+both (Some d) None = None
+both None at = None
+
+-- the open document that a message names, and the cursor's position in it
+abbrev pub place_of : List Document → Data → Option (Document × Position)
+place_of docs m = both (document_of docs m) (cursor_of m)

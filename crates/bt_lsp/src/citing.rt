@@ -2,18 +2,15 @@
 
 ghost use Rattle.std.specs.Prelude.{◌≡◌, ◌++◌, map, IfOk};
 ghost use Rattle.serde_json.specs.View.{view};
-ghost use Rattle.bt_talk.specs.Replies.{outcome_of};
 ghost use Rattle.bt_lsp.specs.Entries.{key_of, kind_of};
-ghost use Rattle.bt_lsp.specs.Citing.{citing_after, name_after, is_citing, candidate, candidate_of, candidates_of, candidates_from, candidates_in, completion_at, completion_answer};
+ghost use Rattle.bt_lsp.specs.Citing.{citing_after, name_after, is_citing, candidate, candidate_of, candidates_of, candidates_from, candidates_in, completion_at};
 
 use crate::entries::{is_database, key_of, kind_of};
 use crate::paper::Paper;
-use crate::parameters::{cursor_of, document_of};
 use crate::words::shown;
 use bt_bib::{PlacedPiece, read_bib};
 use bt_documents::Document;
 use bt_positions::Position;
-use bt_rpc::RpcError;
 use serde_json::{Value, json};
 use std::alloc::{AllocError, Global};
 
@@ -30,7 +27,6 @@ pub enum Citing {
     Keys,
 }
 
-/// After one more byte of a command's name.
 fn name_after(found: u8, byte: u8) -> Citing
     ensures { result ≡ name_after found byte }
 {
@@ -49,7 +45,6 @@ fn name_after(found: u8, byte: u8) -> Citing
     }
 }
 
-/// After one more byte.
 fn citing_after(before: Citing, byte: u8) -> Citing
     ensures { result ≡ citing_after before byte }
 {
@@ -84,7 +79,6 @@ fn is_citing(text: &[u8]) -> bool
     state == Citing::Keys
 }
 
-/// What a completion offers: a key, and beside it the type of its entry.
 fn candidate(alloc: Global, key: &[u8], kind: &[u8]) -> Result<Value, AllocError>
     ensures { IfOk result (λ v. view v ≡ candidate key.now kind.now) }
 {
@@ -93,7 +87,6 @@ fn candidate(alloc: Global, key: &[u8], kind: &[u8]) -> Result<Value, AllocError
     json!(in alloc; {"label": key, "kind": 18, "detail": kind})
 }
 
-/// Appends what is offered for a piece.
 fn add_candidate(
     alloc: Global,
     piece: &PlacedPiece,
@@ -111,7 +104,6 @@ fn add_candidate(
     Ok(all)
 }
 
-/// Appends what is offered for the entries among pieces.
 fn add_candidates(
     alloc: Global,
     pieces: &[PlacedPiece],
@@ -126,7 +118,6 @@ fn add_candidates(
     Ok(all)
 }
 
-/// Appends what is offered for the entries of a file, if it is a database.
 fn add_from(
     alloc: Global,
     uri: &[u8],
@@ -144,7 +135,7 @@ fn add_from(
 
 /// What is offered for the entries of the paper's databases.
 fn candidates<P: Paper>(alloc: Global, paper: &P) -> Result<Vec<Value>, AllocError>
-    ensures { IfOk result (λ list. map view list.items ≡ candidates_in (P.files paper.now)) }
+    ensures { IfOk result (λ list. map view list.items ≡ candidates_in (P.shown paper.now).files) }
 {
     let mut list = Vec::new(alloc);
     'files: for n in 0..paper.file_count() {
@@ -155,13 +146,13 @@ fn candidates<P: Paper>(alloc: Global, paper: &P) -> Result<Vec<Value>, AllocErr
 }
 
 /// What is offered at a position of a document: all keys where keys are cited, elsewhere nothing.
-fn completion_at<P: Paper>(
+pub fn completion_at<P: Paper>(
     alloc: Global,
     paper: &P,
     document: &Document,
     at: Position,
 ) -> Result<Value, AllocError>
-    ensures { IfOk result (λ v. view v ≡ completion_at (P.files paper.now) document.now at) }
+    ensures { IfOk result (λ v. view v ≡ completion_at (P.shown paper.now).files document.now at) }
 {
     let place = document.text.offset_of(document.counting, at);
     if !is_citing(document.text.as_slice().split_at(place).0) {
@@ -169,23 +160,4 @@ fn completion_at<P: Paper>(
     }
     let list = candidates(alloc, paper)?;
     Ok(Value::Array(list))
-}
-
-/// The answer to a completion: all keys where keys are cited, elsewhere none.
-pub fn completion_answer<P: Paper>(
-    alloc: Global,
-    paper: &P,
-    documents: &[Document],
-    message: &Value,
-) -> Result<Result<Value, RpcError>, AllocError>
-    ensures { IfOk result (λ outcome. outcome_of outcome ≡
-        completion_answer (P.files paper.now) documents.now (view message.now)) }
-{
-    let Some(document) = document_of(documents, message) else {
-        return Ok(Err(RpcError::InvalidParams));
-    };
-    let Some(at) = cursor_of(message) else {
-        return Ok(Err(RpcError::InvalidParams));
-    };
-    Ok(Ok(completion_at(alloc, paper, document, at)?))
 }

@@ -3,20 +3,17 @@
 ghost use Rattle.std.specs.Prelude.{◌≡◌, ◌<◌, ◌*◌, ◌^◌, length, IfOk};
 ghost use Rattle.serde_json.specs.View.{view};
 ghost use Rattle.bt_bib.specs.BibText.{pieces_of};
-ghost use Rattle.bt_talk.specs.Replies.{outcome_of};
-ghost use Rattle.bt_lsp.specs.Finding.{place_in, location, location_in, found_in, found_at, definition_answer};
+ghost use Rattle.bt_lsp.specs.Finding.{place_in, location, location_in, found_in, found_at};
 
 use crate::entries::{is_database, key_of};
 use crate::hover::word_of;
 use crate::news::SHOWN_BYTES;
 use crate::paper::Paper;
-use crate::parameters::{cursor_of, document_of};
 use crate::shapes::range;
 use crate::words::shown;
 use bt_bib::{PlacedPiece, read_bib};
 use bt_documents::Document;
 use bt_positions::{Counting, IndexedText, Position};
-use bt_rpc::RpcError;
 use bt_text::eq_ignore_ascii_case;
 use serde_json::{Value, json};
 use std::alloc::{AllocError, Global};
@@ -33,7 +30,6 @@ fn place_in(pieces: &[PlacedPiece], key: &[u8]) -> Option<usize>
     None
 }
 
-/// A place of a file.
 fn location(alloc: Global, uri: &[u8], at: Position) -> Result<Value, AllocError>
     ensures { IfOk result (λ v. view v ≡ location uri.now at) }
 {
@@ -76,7 +72,7 @@ fn found_in<P: Paper>(
     counting: Counting,
     key: &[u8],
 ) -> Result<Value, AllocError>
-    ensures { IfOk result (λ v. view v ≡ found_in counting key.now (P.files paper.now)) }
+    ensures { IfOk result (λ v. view v ≡ found_in counting key.now (P.shown paper.now).files) }
 {
     'files: for n in 0..paper.file_count() {
         let (uri, text) = paper.file(n);
@@ -89,33 +85,14 @@ fn found_in<P: Paper>(
 }
 
 /// Where the entry of the key at a position of a document begins.
-fn found_at<P: Paper>(
+pub fn found_at<P: Paper>(
     alloc: Global,
     paper: &P,
     document: &Document,
     at: Position,
 ) -> Result<Value, AllocError>
-    ensures { IfOk result (λ v. view v ≡ found_at (P.files paper.now) document.now at) }
+    ensures { IfOk result (λ v. view v ≡ found_at (P.shown paper.now).files document.now at) }
 {
     let found = found_in(alloc, paper, document.counting, word_of(document, at))?;
     Ok(found)
-}
-
-/// The answer to a request for the definition of the key under the cursor.
-pub fn definition_answer<P: Paper>(
-    alloc: Global,
-    paper: &P,
-    documents: &[Document],
-    message: &Value,
-) -> Result<Result<Value, RpcError>, AllocError>
-    ensures { IfOk result (λ outcome. outcome_of outcome ≡
-        definition_answer (P.files paper.now) documents.now (view message.now)) }
-{
-    let Some(document) = document_of(documents, message) else {
-        return Ok(Err(RpcError::InvalidParams));
-    };
-    let Some(at) = cursor_of(message) else {
-        return Ok(Err(RpcError::InvalidParams));
-    };
-    Ok(Ok(found_at(alloc, paper, document, at)?))
 }

@@ -2,16 +2,13 @@
 
 ghost use Rattle.std.specs.Prelude.{◌≡◌, ◌≤◌, length, IfOk};
 ghost use Rattle.serde_json.specs.View.{view};
-ghost use Rattle.bt_talk.specs.Replies.{outcome_of};
-ghost use Rattle.bt_lsp.specs.Hover.{is_key_byte, key_len, keys_at_end, word_at, word_of, key_at, hover_of, hover_at, hover_answer};
+ghost use Rattle.bt_lsp.specs.Hover.{is_key_byte, key_len, keys_at_end, word_at, word_of, key_at, hover_of, hover_at};
 
 use crate::entries::{is_database, key_around};
 use crate::paper::Paper;
-use crate::parameters::{cursor_of, document_of};
 use crate::shapes::hover;
 use bt_documents::Document;
 use bt_positions::Position;
-use bt_rpc::RpcError;
 use bt_text::Bytes;
 use serde_json::Value;
 use std::alloc::{AllocError, Global};
@@ -30,7 +27,6 @@ fn is_key_byte(byte: u8) -> bool
         && byte != b'}'
 }
 
-/// How many key bytes a text begins with.
 fn key_len(text: &[u8]) -> usize
     ensures value { result ≡ key_len text.now }
     ensures within { result ≤ length text.now }
@@ -47,7 +43,6 @@ fn key_len(text: &[u8]) -> usize
     count
 }
 
-/// How many key bytes a text ends with.
 fn keys_at_end(text: &[u8]) -> usize
     ensures value { result ≡ keys_at_end 0 text.now }
     ensures within { result ≤ length text.now }
@@ -61,7 +56,6 @@ fn keys_at_end(text: &[u8]) -> usize
     count
 }
 
-/// The word of key bytes around a place.
 fn word_at(text: &[u8], place: usize) -> &[u8]
     requires { place ≤ length text.now }
     ensures { result.now ≡ word_at place text.now }
@@ -95,7 +89,7 @@ fn key_at(alloc: Global, document: &Document, at: Position) -> Result<Bytes, All
 
 /// What a hover shows for a key; null if the run prints nothing for it.
 fn hover_of<P: Paper>(alloc: Global, paper: &P, key: &[u8]) -> Result<Value, AllocError>
-    ensures { IfOk result (λ v. view v ≡ hover_of P.entry_text paper.now key.now) }
+    ensures { IfOk result (λ v. view v ≡ hover_of (P.shown paper.now).entry_text key.now) }
 {
     let lines = paper.entry_text(key)?;
     if lines.as_slice().is_empty() {
@@ -106,34 +100,15 @@ fn hover_of<P: Paper>(alloc: Global, paper: &P, key: &[u8]) -> Result<Value, All
 }
 
 /// What a hover shows at a position of a document.
-fn hover_at<P: Paper>(
+pub fn hover_at<P: Paper>(
     alloc: Global,
     paper: &P,
     document: &Document,
     at: Position,
 ) -> Result<Value, AllocError>
-    ensures { IfOk result (λ v. view v ≡ hover_at P.entry_text paper.now document.now at) }
+    ensures { IfOk result (λ v. view v ≡ hover_at (P.shown paper.now).entry_text document.now at) }
 {
     let key = key_at(alloc, document, at)?;
     let shown = hover_of(alloc, paper, key.as_slice())?;
     Ok(shown)
-}
-
-/// The answer to a hover.
-pub fn hover_answer<P: Paper>(
-    alloc: Global,
-    paper: &P,
-    documents: &[Document],
-    message: &Value,
-) -> Result<Result<Value, RpcError>, AllocError>
-    ensures { IfOk result (λ outcome. outcome_of outcome ≡
-        hover_answer P.entry_text paper.now documents.now (view message.now)) }
-{
-    let Some(document) = document_of(documents, message) else {
-        return Ok(Err(RpcError::InvalidParams));
-    };
-    let Some(at) = cursor_of(message) else {
-        return Ok(Err(RpcError::InvalidParams));
-    };
-    Ok(Ok(hover_at(alloc, paper, document, at)?))
 }

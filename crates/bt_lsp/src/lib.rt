@@ -5,6 +5,7 @@
 //! nothing here depends on how a session gets them.
 #![tactic(auto)]
 
+mod answering;
 mod changes;
 mod citing;
 mod entries;

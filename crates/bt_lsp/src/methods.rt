@@ -8,13 +8,31 @@ ghost use Rattle.bt_lsp.specs.Methods.{request_of, notice_of};
 pub enum Request {
     Initialize,
     Shutdown,
+    AtCursor(CursorQuery),
+    OfDocument(DocumentQuery),
+    OfPaper(PaperQuery),
+    Unknown,
+}
+
+/// What is asked of a position of a document.
+#[derive(Clone, Copy, Debug, PartialEq, Eq)]
+pub enum CursorQuery {
     Hover,
     Definition,
     Completion,
+}
+
+/// What is asked of a document.
+#[derive(Clone, Copy, Debug, PartialEq, Eq)]
+pub enum DocumentQuery {
     Outline,
+}
+
+/// What is asked of the paper as a whole.
+#[derive(Clone, Copy, Debug, PartialEq, Eq)]
+pub enum PaperQuery {
     Bibliography,
     Log,
-    Unknown,
 }
 
 /// A notification by its method.
@@ -35,12 +53,12 @@ pub fn request_of(method: &str) -> Request
     match method {
         "initialize" => Request::Initialize,
         "shutdown" => Request::Shutdown,
-        "textDocument/hover" => Request::Hover,
-        "textDocument/definition" => Request::Definition,
-        "textDocument/completion" => Request::Completion,
-        "textDocument/documentSymbol" => Request::Outline,
-        "bibtex/bbl" => Request::Bibliography,
-        "bibtex/log" => Request::Log,
+        "textDocument/hover" => Request::AtCursor(CursorQuery::Hover),
+        "textDocument/definition" => Request::AtCursor(CursorQuery::Definition),
+        "textDocument/completion" => Request::AtCursor(CursorQuery::Completion),
+        "textDocument/documentSymbol" => Request::OfDocument(DocumentQuery::Outline),
+        "bibtex/bbl" => Request::OfPaper(PaperQuery::Bibliography),
+        "bibtex/log" => Request::OfPaper(PaperQuery::Log),
         _ => Request::Unknown,
     }
 }

@@ -25,7 +25,7 @@ fn shown_of<P: Paper>(
     paper: &P,
     document: &Document,
 ) -> Result<Sequence<Diagnostic>, AllocError>
-    ensures { IfOk result (λ shown. shown ≡ shown_of P.name P.messages paper.now document.now) }
+    ensures { IfOk result (λ shown. shown ≡ shown_of (P.shown paper.now) document.now) }
 {
     if !document.in_step || document.text.as_slice().len() > SHOWN_BYTES {
         return Ok(Sequence::new(alloc));
@@ -47,13 +47,12 @@ fn published_of<P: Paper>(
     paper: &P,
     document: &Document,
 ) -> Result<Value, AllocError>
-    ensures { IfOk result (λ v. view v ≡ published_of P.name P.messages paper.now document.now) }
+    ensures { IfOk result (λ v. view v ≡ published_of (P.shown paper.now) document.now) }
 {
     let shown = shown_of(alloc, paper, document)?;
     published(alloc, document.name.as_slice(), shown.as_slice())
 }
 
-/// The parameters of the warning that a message was lost.
 fn warning_params(alloc: Global) -> Result<Value, AllocError>
     ensures { IfOk result (λ v. view v ≡ warning_params) }
 {
@@ -72,7 +71,6 @@ fn warning(alloc: Global) -> Result<Value, AllocError>
     Ok(message)
 }
 
-/// The warning, if a message was lost.
 fn warned(alloc: Global, lost: bool) -> Result<Vec<Value>, AllocError>
     ensures { IfOk result (λ told. map view told.items ≡ warned lost) }
 {
@@ -116,7 +114,7 @@ pub fn news<P: Paper>(
     first: Vec<Value>,
 ) -> Result<Vec<Value>, AllocError>
     ensures { IfOk result (λ told. map view told.items ≡
-        map view first.items ++ news P.name P.messages paper.now documents.now) }
+        map view first.items ++ news (P.shown paper.now) documents.now) }
 {
     let mut told = first;
     'documents: for document in documents {

@@ -4,18 +4,15 @@ ghost use Rattle.std.specs.Prelude.{◌≡◌, ◌<◌, ◌*◌, ◌^◌, ◌++�
 ghost use Rattle.std.specs.List.{cons_option};
 ghost use Rattle.serde_json.specs.View.{view};
 ghost use Rattle.bt_bib.specs.BibText.{pieces_of};
-ghost use Rattle.bt_talk.specs.Replies.{outcome_of};
-ghost use Rattle.bt_lsp.specs.Outline.{symbol, symbol_of, symbols_in, symbols_answer};
+ghost use Rattle.bt_lsp.specs.Outline.{symbol, symbol_of, symbols_in, symbols_of};
 
 use crate::entries::key_of;
 use crate::news::SHOWN_BYTES;
-use crate::parameters::document_of;
 use crate::shapes::range;
 use crate::words::shown;
 use bt_bib::{PlacedPiece, read_bib};
 use bt_documents::Document;
 use bt_positions::{Counting, IndexedText, Position};
-use bt_rpc::RpcError;
 use serde_json::{Value, json};
 use std::alloc::{AllocError, Global};
 
@@ -29,7 +26,6 @@ fn symbol(alloc: Global, key: &[u8], from: Position, to: Position) -> Result<Val
     json!(in alloc; {"name": name, "kind": 20, "range": whole, "selectionRange": head})
 }
 
-/// The symbol of an entry with a key.
 fn symbol_of(
     alloc: Global,
     counting: Counting,
@@ -49,7 +45,6 @@ fn symbol_of(
     Ok(Some(symbol(alloc, key, from, to)?))
 }
 
-/// Appends the symbol of a piece, if it has one.
 fn add_symbol(
     alloc: Global,
     counting: Counting,
@@ -68,7 +63,6 @@ fn add_symbol(
     Ok(all)
 }
 
-/// The symbols of the entries among pieces of a text.
 fn symbols_in(
     alloc: Global,
     counting: Counting,
@@ -85,22 +79,15 @@ fn symbols_in(
     Ok(list)
 }
 
-/// The answer to a request for the outline of a document: that of its database, or nothing if it is none.
-pub fn symbols_answer(
-    alloc: Global,
-    documents: &[Document],
-    message: &Value,
-) -> Result<Result<Value, RpcError>, AllocError>
-    ensures { IfOk result (λ outcome. outcome_of outcome ≡ symbols_answer documents.now (view message.now)) }
+/// The outline of a document.
+pub fn symbols_of(alloc: Global, document: &Document) -> Result<Value, AllocError>
+    ensures { IfOk result (λ v. view v ≡ symbols_of document.now) }
 {
-    let Some(document) = document_of(documents, message) else {
-        return Ok(Err(RpcError::InvalidParams));
-    };
     let text = &document.text;
     if text.as_slice().len() > SHOWN_BYTES {
-        return Ok(Ok(Value::Null));
+        return Ok(Value::Null);
     }
     let items = read_bib(alloc, text.as_slice())?;
     let list = symbols_in(alloc, document.counting, text, items.pieces())?;
-    Ok(Ok(Value::Array(list)))
+    Ok(Value::Array(list))
 }

@@ -2,7 +2,7 @@
 
 ghost use Rattle.std.specs.Prelude.{◌≡◌, option_map};
 ghost use Rattle.serde_json.specs.View.{view};
-ghost use Rattle.bt_lsp.specs.Parameters.{text_at, number_at, version_at, position_at, cursor_of, document_named, document_of};
+ghost use Rattle.bt_lsp.specs.Parameters.{text_at, number_at, version_at, position_at, cursor_of, document_named, document_of, place_of};
 
 use bt_documents::Document;
 use bt_positions::Position;
@@ -72,5 +72,15 @@ pub fn document_of<'a>(documents: &'a [Document], message: &Value) -> Option<&'a
     match text_at(message, "/params/textDocument/uri") {
         Some(uri) => document_named(documents, uri.as_bytes()),
         None => None,
+    }
+}
+
+/// The open document that a message names, and the cursor's position in it.
+pub fn place_of<'a>(documents: &'a [Document], message: &Value) -> Option<(&'a Document, Position)>
+    ensures { option_map (λ p. (p.0.now, p.1)) result ≡ place_of documents.now (view message.now) }
+{
+    match (document_of(documents, message), cursor_of(message)) {
+        (Some(document), Some(at)) => Some((document, at)),
+        _ => None,
     }
 }

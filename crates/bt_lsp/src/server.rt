@@ -3,17 +3,15 @@
 ghost use Rattle.std.specs.Prelude.{◌≡◌, map, IfOk, OnErr};
 ghost use Rattle.serde_json.specs.View.{view};
 ghost use Rattle.bt_talk.specs.Replies.{outcome_of};
-ghost use Rattle.bt_lsp.specs.Desk.{duty_of, answered_query, IsBegun, IsOutcome, Tells, Carried};
+ghost use Rattle.bt_lsp.specs.Desk.{duty_of, IsBegun, IsOutcome, Tells, Carried};
+ghost use Rattle.bt_lsp.specs.Answering.{answered};
 
-use crate::citing::completion_answer;
-use crate::finding::definition_answer;
-use crate::hover::hover_answer;
+use crate::answering::answered;
 use crate::methods::{Notice, Request, notice_of, request_of};
 use crate::news::{first_news, news};
-use crate::outline::symbols_answer;
 use crate::paper::Paper;
 use crate::parameters::text_at;
-use crate::shapes::{capabilities, shown_text};
+use crate::shapes::capabilities;
 use crate::taking::take;
 use bt_documents::Document;
 use bt_rpc::RpcError;
@@ -70,29 +68,6 @@ fn duty_of(phase: Phase, pending: bool, notice: Notice) -> Duty
     }
 }
 
-/// The outcome of a request that changes nothing.
-fn answered_query<P: Paper>(
-    alloc: Global,
-    paper: &P,
-    documents: &[Document],
-    request: Request,
-    message: &Value,
-) -> Result<Result<Value, RpcError>, AllocError>
-    ensures { IfOk result (λ outcome. outcome_of outcome ≡
-        answered_query P.files P.entry_text P.bibliography P.log P.status paper.now documents.now request (view message.now)) }
-{
-    match request {
-        Request::Hover => hover_answer(alloc, paper, documents, message),
-        Request::Definition => definition_answer(alloc, paper, documents, message),
-        Request::Completion => completion_answer(alloc, paper, documents, message),
-        Request::Outline => symbols_answer(alloc, documents, message),
-        Request::Bibliography => Ok(Ok(shown_text(alloc, paper.bibliography(), paper.status())?)),
-        Request::Log => Ok(Ok(shown_text(alloc, paper.log(), paper.status())?)),
-        Request::Initialize | Request::Shutdown => Ok(Err(RpcError::InvalidRequest)),
-        Request::Unknown => Ok(Err(RpcError::MethodNotFound)),
-    }
-}
-
 /// Whether an editor offers to count bytes of UTF-8.
 fn offers_bytes(message: &Value) -> bool {
     match message
@@ -124,7 +99,6 @@ impl<P: Paper> Server<P> {
     }
 }
 
-/// Carries out `initialize`.
 fn begin<P: Paper>(
     alloc: Global,
     server: &mut Server<P>,
@@ -144,7 +118,6 @@ fn begin<P: Paper>(
     Ok(Ok(answer))
 }
 
-/// Carries out a request.
 fn outcome_for<P: Paper>(
     alloc: Global,
     server: &mut Server<P>,
@@ -152,7 +125,7 @@ fn outcome_for<P: Paper>(
     message: &Value,
 ) -> Result<Result<Value, RpcError>, AllocError>
     ensures ok { IfOk result (λ outcome. IsOutcome
-        (answered_query P.files P.entry_text P.bibliography P.log P.status server.old.paper server.old.documents request (view message.now))
+        (λ r. answered (P.shown server.old.paper) server.old.documents r (view message.now))
         server.old.phase request server.old (outcome_of outcome) server.new) }
     ensures err { OnErr result (server.new ≡ server.old) }
 {
@@ -165,7 +138,7 @@ fn outcome_for<P: Paper>(
             Ok(Ok(Value::Null))
         }
         (Phase::Ready, query) => {
-            answered_query(
+            answered(
                 alloc,
                 &server.paper,
                 server.documents.as_slice(),
@@ -183,7 +156,7 @@ fn tell<P: Paper>(
     notice: Notice,
     message: &Value,
 ) -> Vec<Value>
-    ensures told { Tells P.name P.messages server.old.lost notice (view message.now) (map view result.items) server.new }
+    ensures told { Tells P.shown server.old.lost notice (view message.now) (map view result.items) server.new }
     ensures rest { server.new ≡ record server.old { lost = server.new.lost; pending = server.new.pending } }
 {
     let told = match first_news(alloc, server.lost, notice, message) {
@@ -210,7 +183,7 @@ fn carry<P: Paper>(
     notice: Notice,
     message: &Value,
 ) -> Vec<Value>
-    ensures { Carried P.text P.name P.messages server.old notice (view message.now) (map view result.items) server.new }
+    ensures { Carried P.text P.shown server.old notice (view message.now) (map view result.items) server.new }
 {
     let taken = take(
         alloc,
@@ -229,13 +202,14 @@ fn carry<P: Paper>(
 impl<P: Paper + Drop> Desk for Server<P> {
     ghost use Rattle.std.specs.Prelude.{◌≡◌, [], true};
     ghost use Rattle.bt_lsp.specs.Methods.{request_of};
-    ghost use Rattle.bt_lsp.specs.Desk.{answered_query, IsOutcome, Noted, IsLost};
+    ghost use Rattle.bt_lsp.specs.Answering.{answered};
+    ghost use Rattle.bt_lsp.specs.Desk.{IsOutcome, Noted, IsLost};
 
     ghost answers = { λ d method m outcome told e. (told ≡ []) × IsOutcome
-        (answered_query P.files P.entry_text P.bibliography P.log P.status d.paper d.documents (request_of method) m)
+        (λ r. answered (P.shown d.paper) d.documents r m)
         d.phase (request_of method) d outcome e };
 
-    ghost notes = { λ d method m told e. Noted P.text P.name P.messages d method m told e };
+    ghost notes = { λ d method m told e. Noted P.text P.shown d method m told e };
 
     ghost lost = { λ d e. IsLost d e };
 

@@ -35,7 +35,6 @@ fn latin(letter: char) -> u8
     if code < 256 { code as u8 } else { b'?' }
 }
 
-/// The bytes of a text in Latin-1.
 fn latin_bytes(alloc: Global, text: &str) -> Result<Vec<u8>, AllocError>
     ensures { IfOk result (λ bytes. bytes.items ≡ map latin_of (chars text.now)) }
 {

@@ -8,6 +8,7 @@ use Rattle.bibtex.specs.Present.{shown}
 use Rattle.bibtex.specs.EntryText.{entry_text}
 use Rattle.bt_documents.specs.declared.document.Document.{Document}
 use Rattle.bt_paper.specs.declared.known.Known.{Known}
+use Rattle.bt_lsp.specs.Shown.{Shown}
 use Rattle.bt_paper.specs.Known.{name_of}
 
 -- a session's text of a name, if there are a session and a name
@@ -52,6 +53,19 @@ file_of session k = (k.uri, unwrap_or (text_under session (Some k.name)) [])
 -- the files of the run
 abbrev pub files_of : Option State → List Known → List (List ℕ × List ℕ)
 files_of session known = map (file_of session) known
+
+-- what the desk sees
+abbrev pub shown_of : Option State → List Known → Shown
+shown_of session known =
+    record {
+      name = name_of known;
+      messages = messages_of session;
+      files = files_of session known;
+      entry_text = entry_of session;
+      bibliography = bibliography_of session;
+      log = log_of session;
+      status = status_of session;
+    }
 
 -- whether one of the documents has this name
 abbrev pub is_among : List ℕ → List Document → Bool

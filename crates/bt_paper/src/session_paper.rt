@@ -139,22 +139,9 @@ impl<L: Library> Files for SessionPaper<L> {
 }
 
 impl<L: Library> Paper for SessionPaper<L> {
-    ghost use Rattle.bt_paper.specs.Known.{name_of};
-    ghost use Rattle.bt_paper.specs.Paper.{messages_of, files_of, entry_of, bibliography_of, log_of, status_of};
+    ghost use Rattle.bt_paper.specs.Paper.{shown_of};
 
-    ghost name = { λ paper uri. name_of paper.known uri };
-
-    ghost messages = { λ paper. messages_of paper.session };
-
-    ghost files = { λ paper. files_of paper.session paper.known };
-
-    ghost entry_text = { λ paper key. entry_of paper.session key };
-
-    ghost bibliography = { λ paper. bibliography_of paper.session };
-
-    ghost log = { λ paper. log_of paper.session };
-
-    ghost status = { λ paper. status_of paper.session };
+    ghost shown = { λ paper. shown_of paper.session paper.known };
 
     fn name(&self, uri: &[u8]) -> Option<&[u8]> {
         name_of(self.known.as_slice(), uri)

@@ -4,4 +4,4 @@ use Rattle.bt_lsp.proofs.citing.candidates.Goals as goal
 
 pub files-preserved : goal.files-preserved
 files-preserved g c =
-    next_candidates (g.P.Paper.files c.args.paper.now) c.files.n _ _ _ _ _ _ c.file.ensures refl c.files.invariant c.in_ok-list.ensures
+    next_candidates (g.P.Paper.shown c.args.paper.now).files c.files.n _ _ _ _ _ _ c.file.ensures refl c.files.invariant c.in_ok-list.ensures

@@ -5,5 +5,5 @@ use Rattle.bt_lsp.proofs.citing.candidates.Given as goal
 
 abbrev pub invariant-files : goal.invariant-files
 invariant-files g l =
-    let files = g.P.Paper.files l.paper in
+    let files = (g.P.Paper.shown l.paper).files in
     map view l.list.items ++ candidates_in (drop l.n files) ≡ candidates_in files

@@ -7,15 +7,15 @@ use Rattle.bt_lsp.proofs.finding.found_in.Goals as goal
 
 pub returns-then-not-is_null : goal.returns-then-not-is_null
 returns-then-not-is_null g c =
-    found_here c.args.counting c.args.key.now (g.P.Paper.files c.args.paper.now) c.files.n _ _ (view c.in_ok-found.found) _ c.file.ensures c.files.invariant c.in_ok-found.ensures
+    found_here c.args.counting c.args.key.now (g.P.Paper.shown c.args.paper.now).files c.files.n _ _ (view c.in_ok-found.found) _ c.file.ensures c.files.invariant c.in_ok-found.ensures
     (sym c.is_null.ensures ∙ c.if-not-is_null.true)
 
 pub files-preserved : goal.files-preserved
 files-preserved g c =
-    found_later c.args.counting c.args.key.now (g.P.Paper.files c.args.paper.now) c.files.n _ _ _ (view c.in_ok-found.found) _ c.file.ensures refl c.files.invariant c.in_ok-found.ensures
+    found_later c.args.counting c.args.key.now (g.P.Paper.shown c.args.paper.now).files c.files.n _ _ _ (view c.in_ok-found.found) _ c.file.ensures refl c.files.invariant c.in_ok-found.ensures
     (sym c.is_null.ensures ∙ c.if-not-is_null.false)
 
 pub returns : goal.returns
 returns g c =
     let seen : view Null ≡ null = search (rules, the_lemmas) in
-    seen ∙ found_nowhere c.args.counting c.args.key.now (g.P.Paper.files c.args.paper.now) c.files.n c.file_count-n-end.result _ c.file_count-n-end.ensures (omega (arith, c.files-test.false)) c.files.invariant
+    seen ∙ found_nowhere c.args.counting c.args.key.now (g.P.Paper.shown c.args.paper.now).files c.files.n c.file_count-n-end.result _ c.file_count-n-end.ensures (omega (arith, c.files-test.false)) c.files.invariant

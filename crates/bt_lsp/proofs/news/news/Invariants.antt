@@ -5,6 +5,5 @@ use Rattle.bt_lsp.proofs.news.news.Given as goal
 
 abbrev pub invariant-documents : goal.invariant-documents
 invariant-documents g l =
-    let paper = g.P.Paper in
-    map view l.told.items ++ news paper.name paper.messages l.paper (drop l.document-index l.documents) ≡
-    map view l.fn.first.items ++ news paper.name paper.messages l.paper l.documents
+    let shown = g.P.Paper.shown l.paper in
+    map view l.told.items ++ news shown (drop l.document-index l.documents) ≡ map view l.fn.first.items ++ news shown l.documents
