@@ -1,3 +1,5 @@
+pub mod PlainLists
+pub mod FeaturePlain
 pub mod PlainLemmas
 pub mod FileLemmas
 pub mod MoreLemmas

@@ -1,10 +1,9 @@
 -- One element more of a list that a loop builds.
 use Rattle.std.proofs.Common.{◌≡◌, ◌∙◌, ap, sym, refl, ℕ, suc, ◌+◌, ◌<◌, List, [], ◌∷◌, ◌++◌, length, map, drop, get_or, append_assoc, drop-cons, arith, Option, Some, None}
 use Rattle.std.specs.Prelude.{filter_map}
-use Rattle.std.specs.List.{cons_option}
+use Rattle.std.specs.List.{cons_option, fold}
 use Rattle.serde_json.specs.Data.{Data}
 use Rattle.bt_bib.specs.declared.placed_pieces.PlacedPiece.{PlacedPiece}
-use Rattle.bt_lsp.specs.Entries.{key_of, kind_of}
 use Rattle.bt_lsp.specs.Citing.{candidate_of, candidates_of}
 
 next_drop : {A : Type 0} (xs : List A) (i : ℕ) (x : A) → i < length xs → x ≡ get_or xs i x → drop i xs ≡ x ∷ drop (i + 1) xs
@@ -28,10 +27,10 @@ mapped_more show f xs i x old new v whole l is more shows before =
 
 -- of what completions offer
 pub candidates_more : (ps : List PlacedPiece) (i : ℕ) (p : PlacedPiece) (old new whole : List Data) → i < length ps → p ≡ get_or ps i p →
-    new ≡ old ++ candidate_of (key_of p.piece) (kind_of p.piece) → old ++ candidates_of (drop i ps) ≡ whole → new ++ candidates_of (drop (i + 1) ps) ≡ whole
+    new ≡ old ++ candidate_of p.piece → old ++ candidates_of (drop i ps) ≡ whole → new ++ candidates_of (drop (i + 1) ps) ≡ whole
 candidates_more ps i p old new whole l is more before =
     ap (λ n. n ++ candidates_of (drop (i + 1) ps)) more ∙
-    append_assoc old (candidate_of (key_of p.piece) (kind_of p.piece)) (candidates_of (drop (i + 1) ps)) ∙
+    append_assoc old (candidate_of p.piece) (candidates_of (drop (i + 1) ps)) ∙
     ap (λ t. old ++ candidates_of t) (sym (next_drop ps i p l is)) ∙ before
 
 joined : (o : Option Data) (rest : List Data) → cons_option o [] ++ rest ≡ cons_option o rest
@@ -46,3 +45,9 @@ filtered_more f xs i x old new whole l is more before =
     append_assoc old (cons_option (f x) []) (filter_map f (drop (i + 1) xs)) ∙
     ap (λ t. old ++ t) (joined (f x) (filter_map f (drop (i + 1) xs))) ∙
     ap (λ t. old ++ filter_map f t) (sym (next_drop xs i x l is)) ∙ before
+
+-- of a fold
+pub fold_more : {A B : Type 0} (f : B → A → B) (xs : List A) (i : ℕ) (x : A) (old new whole : B) → i < length xs → x ≡ get_or xs i x → new ≡ f old x →
+    fold f old (drop i xs) ≡ whole → fold f new (drop (i + 1) xs) ≡ whole
+fold_more f xs i x old new whole l is more before =
+    ap (λ n. fold f n (drop (i + 1) xs)) more ∙ ap (λ t. fold f old t) (sym (next_drop xs i x l is)) ∙ before

@@ -1,5 +1,5 @@
 -- What the desk says has no floats, and its notes are no answers.
-use Rattle.std.proofs.Common.{◌≡◌, ℕ, min, List, [], ◌∷◌, ◌++◌, map, take, length, refl, ap, sym, subst, ◌∙◌, Bool, true, false, ◌||◌, if◌then◌else◌, Option, Some, None, Result, Ok, Err, ◌⊎◌, inl, inr}
+use Rattle.std.proofs.Common.{◌≡◌, ℕ, codes, List, [], ◌∷◌, ◌++◌, map, take, length, refl, ap, sym, subst, ◌∙◌, Bool, true, false, ◌||◌, if◌then◌else◌, Option, Some, None, Result, Ok, Err, ◌⊎◌, inl, inr}
 use Rattle.std.specs.Prelude.{filter_map, not, nat_lt}
 use Rattle.std.specs.List.{AllByRecursion, cons_option}
 use Rattle.serde_json.specs.Written.{has_float, items_have_float}
@@ -7,8 +7,9 @@ use Rattle.serde_json.specs.Data.{Data, null, boolean, number, string, array, ob
 use Rattle.serde_json.specs.View.{view, items_of}
 use Rattle.serde_json.specs.declared.value.Value.{Value}
 use Rattle.bt_bib.specs.BibText.{pieces_of}
+use Rattle.bt_bib.specs.declared.item.Field.{Field}
 use Rattle.bt_bib.specs.declared.placed_pieces.PlacedPiece.{PlacedPiece}
-use Rattle.bt_positions.specs.Positions.{position_of, offset_of}
+use Rattle.bt_positions.specs.Positions.{offset_of}
 use Rattle.bt_positions.specs.declared.counting.Counting.{Counting}
 use Rattle.bt_positions.specs.declared.indexed_text.Position.{Position}
 use Rattle.bt_rpc.specs.declared.answers.RpcError.{RpcError}
@@ -21,56 +22,51 @@ use Rattle.bt_lsp.specs.declared.methods.Notice.TheVariants.{Opened, Changed, Cl
 use Rattle.bt_lsp.specs.declared.methods.Request.{Request}
 use Rattle.bt_lsp.specs.declared.methods.Request.TheVariants.{Initialize, Shutdown, AtCursor, OfDocument, OfPaper, Unknown}
 use Rattle.bt_lsp.specs.declared.methods.CursorQuery.{CursorQuery}
-use Rattle.bt_lsp.specs.declared.methods.CursorQuery.TheVariants.{Hover, Definition, Completion}
+use Rattle.bt_lsp.specs.declared.methods.CursorQuery.TheVariants.{Hover, Definition, References, Rename, NameRange, Completion}
 use Rattle.bt_lsp.specs.declared.methods.DocumentQuery.{DocumentQuery}
-use Rattle.bt_lsp.specs.declared.methods.DocumentQuery.TheVariants.{Outline}
+use Rattle.bt_lsp.specs.declared.methods.DocumentQuery.TheVariants.{Outline, Folds, Format, Actions}
 use Rattle.bt_lsp.specs.declared.methods.PaperQuery.{PaperQuery}
-use Rattle.bt_lsp.specs.declared.methods.PaperQuery.TheVariants.{Bibliography, Log}
+use Rattle.bt_lsp.specs.declared.methods.PaperQuery.TheVariants.{Bibliography, Log, Symbols}
 use Rattle.bt_lsp.specs.declared.server.Phase.{Phase}
 use Rattle.bt_lsp.specs.declared.server.Phase.TheVariants.{New, Ready, ShutDown}
 use Rattle.bt_lsp.specs.declared.server.Server.{Server}
 use Rattle.bt_lsp.specs.Shown.{Shown}
-use Rattle.bt_lsp.specs.Shapes.{diagnostic, published}
+use Rattle.bt_lsp.specs.Shapes.{range_of, location, diagnostic, published}
+use Rattle.bt_lsp.specs.Hints.{with_hints}
 use Rattle.bt_lsp.specs.News.{news, shown_of, published_of, warned, cleared, cleared_at}
-use Rattle.bt_lsp.specs.Parameters.{document_of, place_of}
-use Rattle.bt_lsp.specs.Entries.{key_of, kind_of, is_database}
+use Rattle.bt_lsp.specs.Parameters.{document_of, place_of, text_at, position_at}
+use Rattle.bt_lsp.specs.Entries.{key_of, kind_of, field_of, name_of, symbol_kind, item_around, is_database}
 use Rattle.bt_lsp.specs.Hover.{key_at, word_of, hover_lines, hover_at}
-use Rattle.bt_lsp.specs.Finding.{place_in, location, location_in, or_else, found_in, found_at}
-use Rattle.bt_lsp.specs.Citing.{candidate_of, candidates_of, candidates_from, candidates_in, is_citing, completion_at}
+use Rattle.bt_lsp.specs.Mentioning.{mention_at}
+use Rattle.bt_lsp.specs.References.{macro_at}
+use Rattle.bt_lsp.specs.Renaming.{mention_range}
+use Rattle.bt_lsp.proofs.PlainLists.{items_plain, all_both, none_or, some_or_null, if_plain}
+use Rattle.bt_lsp.proofs.FeaturePlain.{OptionIsPlain, macro_plain, references_plain, renamed_plain, range_plain, folds_plain, found_symbols_plain, macros_plain, fields_plain, formatted_plain, actions_plain, hints_plain}
+use Rattle.bt_lsp.specs.Finding.{place_in, location_in, or_else, found_in, found_at}
+use Rattle.bt_mentions.specs.Citing.{is_citing}
+use Rattle.bt_lsp.specs.Citing.{candidate_if_any, candidate_of, candidates_of, candidates_from, candidates_in, citation_at}
+use Rattle.bt_lsp.specs.declared.completing.Offer.{Offer}
+use Rattle.bt_lsp.specs.declared.completing.Offer.TheVariants.{Nothing, Fields, Keys, Macros}
+use Rattle.bt_lsp.specs.Fields.{field_candidates}
+use Rattle.bt_mentions.specs.Databases.{part}
+use Rattle.bt_lsp.specs.Completing.{macro_candidates, offer_at, start_or, present_in, offers, offers_around, database_at, completion_at}
 use Rattle.bt_lsp.specs.Outline.{symbol_at, symbol_of, symbols_in, symbols_of}
 use Rattle.bt_lsp.specs.Answering.{answer_at, answer_of, paper_answer, at_place, at_document, answered}
 use Rattle.bt_lsp.specs.Desk.{IsOutcome, Tells, Carried}
 
--- ---- lists of values without floats
-
-items_plain : (ds : List Data) → AllByRecursion HasNoFloat ds → items_have_float (items_of ds) ≡ false
-items_plain [] p = refl
-items_plain (d ∷ ds) p = ap (λ b. b || items_have_float (items_of ds)) p.0 ∙ items_plain ds p.1
-
-all_both : (P : Data → Type 0) (xs ys : List Data) → AllByRecursion P xs → AllByRecursion P ys → AllByRecursion P (xs ++ ys)
-all_both P [] ys p q = q
-all_both P (x ∷ xs) ys p q = (p.0, all_both P xs ys p.1 q)
-
-none_or : (b : Bool) (d : Data) → has_float d ≡ false → has_float (if b then null else d) ≡ false
-none_or true d p = refl
-none_or false d p = p
-
-some_or_null : (b : Bool) (d : Data) → has_float d ≡ false → has_float (if b then d else null) ≡ false
-some_or_null true d p = p
-some_or_null false d p = refl
-
 -- ---- notes
 
-diagnostics_plain : (ds : List Diagnostic) → items_have_float (items_of (map diagnostic ds)) ≡ false
-diagnostics_plain [] = refl
-diagnostics_plain (d ∷ ds) = diagnostics_plain ds
+diagnostics_plain : (ds : List Diagnostic) → AllByRecursion HasNoFloat (map diagnostic ds)
+diagnostics_plain [] = tt
+diagnostics_plain (d ∷ ds) = (refl, diagnostics_plain ds)
 
-pub published_note : (uri : List ℕ) (ds : List Diagnostic) → IsNote (published uri ds)
-published_note uri ds = (refl, rw (diagnostics_plain ds) refl)
+published_note : (uri : List ℕ) (list : List Data) → AllByRecursion HasNoFloat list → IsNote (published uri list)
+published_note uri list p = (refl, rw (items_plain list p) refl)
 
 news_notes : (shown : Shown) (docs : List Document) → AllByRecursion IsNote (news shown docs)
 news_notes shown [] = tt
-news_notes shown (d ∷ ds) = (published_note d.name (shown_of shown d), news_notes shown ds)
+news_notes shown (d ∷ ds) =
+    (published_note d.name (with_hints shown.files d (map diagnostic (shown_of shown d))) (hints_plain shown.files d (map diagnostic (shown_of shown d)) (diagnostics_plain (shown_of shown d))), news_notes shown ds)
 
 warned_notes : (lost : Bool) → AllByRecursion IsNote (warned lost)
 warned_notes true = ((refl, refl), tt)
@@ -78,7 +74,7 @@ warned_notes false = tt
 
 cleared_at_notes : (uri : Option (List ℕ)) → AllByRecursion IsNote (cleared_at uri)
 cleared_at_notes None = tt
-cleared_at_notes (Some uri) = (published_note uri [], tt)
+cleared_at_notes (Some uri) = (published_note uri [] tt, tt)
 
 cleared_notes : (notice : Notice) (m : Data) → AllByRecursion IsNote (cleared notice m)
 cleared_notes Opened m = tt
@@ -119,8 +115,8 @@ found_plain (Some n) f p = p n
 location_in_plain : (c : Counting) (key uri words : List ℕ) → has_float (location_in c key uri words) ≡ false
 location_in_plain c key uri words =
     none_or (not (is_database uri) || nat_lt 1073741824 (length words))
-    (elim (place_in key (pieces_of words)) [ None ↦ null | Some place ↦ location uri (position_of c (min place (length words)) words) ])
-    (found_plain (place_in key (pieces_of words)) (λ place. location uri (position_of c (min place (length words)) words)) (λ n. refl))
+    (elim (place_in key (pieces_of words)) [ None ↦ null | Some place ↦ location uri (range_of c words place place) ])
+    (found_plain (place_in key (pieces_of words)) (λ place. location uri (range_of c words place place)) (λ n. refl))
 
 or_else_plain : (d e : Data) → has_float d ≡ false → has_float e ≡ false → has_float (or_else d e) ≡ false
 or_else_plain null e p q = q
@@ -134,73 +130,98 @@ found_in_plain : (c : Counting) (key : List ℕ) (fs : List (List ℕ × List �
 found_in_plain c key [] = refl
 found_in_plain c key (f ∷ fs) = or_else_plain (location_in c key f.0 f.1) _ (location_in_plain c key f.0 f.1) (found_in_plain c key fs)
 
-candidate_plain : (key kind : List ℕ) → AllByRecursion HasNoFloat (candidate_of key kind)
-candidate_plain [] kind = tt
-candidate_plain (b ∷ key) kind = (refl, tt)
+candidate_plain : (key kind author title : List ℕ) → AllByRecursion HasNoFloat (candidate_if_any key kind author title)
+candidate_plain [] kind author title = tt
+candidate_plain (b ∷ key) kind author title = (refl, tt)
 
 candidates_plain : (ps : List PlacedPiece) → AllByRecursion HasNoFloat (candidates_of ps)
 candidates_plain [] = tt
-candidates_plain (p ∷ ps) = all_both HasNoFloat _ _ (candidate_plain (key_of p.piece) (kind_of p.piece)) (candidates_plain ps)
-
-if_plain : (b : Bool) (ds : List Data) → AllByRecursion HasNoFloat ds → AllByRecursion HasNoFloat (if b then ds else [])
-if_plain true ds p = p
-if_plain false ds p = tt
+candidates_plain (p ∷ ps) = all_both HasNoFloat _ _ (candidate_plain (key_of p.piece) (kind_of p.piece) (field_of (codes "author") p.piece) (field_of (codes "title") p.piece)) (candidates_plain ps)
 
 candidates_in_plain : (fs : List (List ℕ × List ℕ)) → AllByRecursion HasNoFloat (candidates_in fs)
 candidates_in_plain [] = tt
 candidates_in_plain (f ∷ fs) =
     all_both HasNoFloat (candidates_from f.0 f.1) _ (if_plain (is_database f.0) _ (candidates_plain (pieces_of f.1))) (candidates_in_plain fs)
 
+citation_plain : (fs : List (List ℕ × List ℕ)) (d : Document) (at : Position) → has_float (citation_at fs d at) ≡ false
+citation_plain fs d at =
+    some_or_null (is_citing (take (offset_of d.counting at d.text) d.text)) (array (items_of (candidates_in fs))) (items_plain (candidates_in fs) (candidates_in_plain fs))
+
+offers_plain : (fs : List (List ℕ × List ℕ)) (present : List Field) (offer : Offer) → has_float (offers fs present offer) ≡ false
+offers_plain fs present Nothing = refl
+offers_plain fs present Fields = items_plain (field_candidates fs present) (fields_plain fs present)
+offers_plain fs present Keys = items_plain (candidates_in fs) (candidates_in_plain fs)
+offers_plain fs present Macros = items_plain (macro_candidates fs) (macros_plain fs)
+
+around_plain : (fs : List (List ℕ × List ℕ)) (words : List ℕ) (around : Option PlacedPiece) (place : ℕ) → has_float (offers_around fs words around place) ≡ false
+around_plain fs words around place = offers_plain fs (present_in around) (offer_at (part (start_or place around) place words))
+
+one_plain : (b : Bool) (d e : Data) → has_float d ≡ false → has_float e ≡ false → has_float (if b then d else e) ≡ false
+one_plain true d e p q = p
+one_plain false d e p q = q
+
 completion_plain : (fs : List (List ℕ × List ℕ)) (d : Document) (at : Position) → has_float (completion_at fs d at) ≡ false
 completion_plain fs d at =
-    some_or_null (is_citing (take (offset_of d.counting at d.text) d.text)) (array (items_of (candidates_in fs))) (items_plain (candidates_in fs) (candidates_in_plain fs))
+    let place = offset_of d.counting at d.text in
+    one_plain (is_database d.name) (database_at fs d at) (citation_at fs d at) (around_plain fs d.text (item_around place (pieces_of d.text)) place) (citation_plain fs d at)
 
 more_plain : (o : Option Data) (ds : List Data) → AllByRecursion HasNoFloat (cons_option o []) → AllByRecursion HasNoFloat ds → AllByRecursion HasNoFloat (cons_option o ds)
 more_plain None ds p q = q
 more_plain (Some d) ds p q = (p.0, q)
 
-symbol_plain : (c : Counting) (words : List ℕ) (from to : ℕ) (key : List ℕ) → AllByRecursion HasNoFloat (cons_option (symbol_at c words from to key) [])
-symbol_plain c words from to [] = tt
-symbol_plain c words from to (b ∷ key) = (refl, tt)
+symbol_plain : (c : Counting) (words : List ℕ) (kind from to : ℕ) (name : List ℕ) → AllByRecursion HasNoFloat (cons_option (symbol_at c words kind from to name) [])
+symbol_plain c words kind from to [] = tt
+symbol_plain c words kind from to (b ∷ name) = (refl, tt)
 
 symbols_in_plain : (c : Counting) (words : List ℕ) (ps : List PlacedPiece) → AllByRecursion HasNoFloat (filter_map (symbol_of c words) ps)
 symbols_in_plain c words [] = tt
 symbols_in_plain c words (p ∷ ps) =
-    more_plain (symbol_of c words p) _ (symbol_plain c words p.start.place p.end.place (key_of p.piece)) (symbols_in_plain c words ps)
+    more_plain (symbol_of c words p) _ (symbol_plain c words (symbol_kind p.piece) p.start.place p.end.place (name_of p.piece)) (symbols_in_plain c words ps)
 
 symbols_plain : (d : Document) → has_float (symbols_of d) ≡ false
 symbols_plain d =
     none_or (nat_lt 1073741824 (length d.text)) (array (items_of (symbols_in d.counting d.text (pieces_of d.text))))
     (items_plain (symbols_in d.counting d.text (pieces_of d.text)) (symbols_in_plain d.counting d.text (pieces_of d.text)))
 
-at_plain : (shown : Shown) (query : CursorQuery) (d : Document) (at : Position) → has_float (answer_at shown query d at) ≡ false
-at_plain shown Hover d at = hover_lines_plain (shown.entry_text (key_at d at))
-at_plain shown Definition d at = found_in_plain d.counting (word_of d at) shown.files
-at_plain shown Completion d at = completion_plain shown.files d at
+definition_plain : (files : List (List ℕ × List ℕ)) (d : Document) (at : Position) (o : Option Data) → OptionIsPlain o → has_float (elim o [ None ↦ found_at files d at | Some v ↦ v ]) ≡ false
+definition_plain files d at None p = found_in_plain d.counting (word_of d at) files
+definition_plain files d at (Some v) p = p
 
-place_plain : (shown : Shown) (query : CursorQuery) (place : Option (Document × Position)) → IsPlainData (at_place shown query place)
-place_plain shown query None = tt
-place_plain shown query (Some place) = at_plain shown query place.0 place.1
+at_plain : (shown : Shown) (docs : List Document) (query : CursorQuery) (d : Document) (at : Position) (m : Data) → has_float (answer_at shown docs query d at m) ≡ false
+at_plain shown docs Hover d at m = hover_lines_plain (shown.entry_text (key_at d at))
+at_plain shown docs Definition d at m = definition_plain shown.files d at (macro_at shown.files d at) (macro_plain shown.files d (mention_at d at))
+at_plain shown docs References d at m = references_plain shown.files docs d (mention_at d at)
+at_plain shown docs Rename d at m = renamed_plain shown.files docs d (mention_at d at) (text_at (codes "/params/newName") m)
+at_plain shown docs NameRange d at m = none_or (nat_lt 1073741824 (length d.text)) (mention_range d (mention_at d at)) (range_plain d (mention_at d at))
+at_plain shown docs Completion d at m = completion_plain shown.files d at
 
-of_plain : (query : DocumentQuery) (d : Document) → has_float (answer_of query d) ≡ false
-of_plain Outline d = symbols_plain d
+place_plain : (shown : Shown) (docs : List Document) (query : CursorQuery) (m : Data) (place : Option (Document × Position)) → IsPlainData (at_place shown docs query m place)
+place_plain shown docs query m None = tt
+place_plain shown docs query m (Some place) = at_plain shown docs query place.0 place.1 m
 
-document_plain : (query : DocumentQuery) (d : Option Document) → IsPlainData (at_document query d)
-document_plain query None = tt
-document_plain query (Some d) = of_plain query d
+of_plain : (query : DocumentQuery) (d : Document) (m : Data) → has_float (answer_of query d m) ≡ false
+of_plain Outline d m = symbols_plain d
+of_plain Folds d m = folds_plain d
+of_plain Format d m = formatted_plain d
+of_plain Actions d m = actions_plain d (position_at (codes "/params/range/start/line") (codes "/params/range/start/character") m)
 
-paper_plain : (shown : Shown) (query : PaperQuery) → has_float (paper_answer shown query) ≡ false
-paper_plain shown Bibliography = refl
-paper_plain shown Log = refl
+document_plain : (query : DocumentQuery) (m : Data) (d : Option Document) → IsPlainData (at_document query m d)
+document_plain query m None = tt
+document_plain query m (Some d) = of_plain query d m
+
+paper_plain : (c : Counting) (shown : Shown) (query : PaperQuery) (m : Data) → has_float (paper_answer c shown query m) ≡ false
+paper_plain c shown Bibliography m = refl
+paper_plain c shown Log m = refl
+paper_plain c shown Symbols m = found_symbols_plain c shown.files m
 
 -- the outcome of a request that changes nothing
-pub answered_plain : (shown : Shown) (docs : List Document) (request : Request) (m : Data) → IsPlainData (answered shown docs request m)
-answered_plain shown docs Initialize m = tt
-answered_plain shown docs Shutdown m = tt
-answered_plain shown docs (AtCursor query) m = place_plain shown query (place_of docs m)
-answered_plain shown docs (OfDocument query) m = document_plain query (document_of docs m)
-answered_plain shown docs (OfPaper query) m = paper_plain shown query
-answered_plain shown docs Unknown m = tt
+pub answered_plain : (c : Counting) (shown : Shown) (docs : List Document) (request : Request) (m : Data) → IsPlainData (answered c shown docs request m)
+answered_plain c shown docs Initialize m = tt
+answered_plain c shown docs Shutdown m = tt
+answered_plain c shown docs (AtCursor query) m = place_plain shown docs query m (place_of docs m)
+answered_plain c shown docs (OfDocument query) m = document_plain query m (document_of docs m)
+answered_plain c shown docs (OfPaper query) m = paper_plain c shown query m
+answered_plain c shown docs Unknown m = tt
 
 plain_from : (q : Result Data RpcError) (o : Result Value RpcError) → outcome_of o ≡ q → IsPlainData q → IsPlain o
 plain_from q (Ok v) e p = subst IsPlainData (sym e) p

@@ -1,25 +1,21 @@
 -- The entry of a key in the paper's databases.
-use Rattle.std.specs.Prelude.{ℕ, min, nat_lt, not, ◌||◌, if◌then◌else◌, List, [], ◌∷◌, length, codes, Option, Some, None}
-use Rattle.serde_json.specs.Data.{Data, null, boolean, number, string, array, object, member, no_members}
+use Rattle.std.specs.Prelude.{ℕ, nat_lt, not, ◌||◌, if◌then◌else◌, List, [], ◌∷◌, length, Option, Some, None}
+use Rattle.serde_json.specs.Data.{Data, null, boolean, number, string, array, object}
 use Rattle.bt_text.specs.CaseFolding.{is_same_folded}
 use Rattle.bt_bib.specs.BibText.{pieces_of}
 use Rattle.bt_bib.specs.declared.placed_pieces.PlacedPiece.{PlacedPiece}
-use Rattle.bt_positions.specs.Positions.{position_of}
 use Rattle.bt_positions.specs.declared.counting.Counting.{Counting}
 use Rattle.bt_positions.specs.declared.indexed_text.Position.{Position}
 use Rattle.bt_documents.specs.declared.document.Document.{Document}
 use Rattle.bt_lsp.specs.Entries.{key_of, is_database}
 use Rattle.bt_lsp.specs.Hover.{word_of}
-use Rattle.bt_lsp.specs.Shapes.{text, range}
+use Rattle.bt_lsp.specs.Shapes.{range_of, location}
+use Rattle.bt_lsp.specs.References.{macro_at}
 
 -- where the first entry of a key begins; keys are compared without case
 abbrev pub place_in : List ℕ → List PlacedPiece → Option ℕ
 place_in key [] = None
 place_in key (p ∷ ps) = if is_same_folded (key_of p.piece) key then Some p.start.place else place_in key ps
-
--- a place of a file
-abbrev pub location : List ℕ → Position → Data
-location uri at = object (member (codes "range") (range at at) (member (codes "uri") (text uri) no_members))
 
 -- where the entry of a key begins in a file, if it is a database and has at most 1 GiB
 abbrev pub location_in : Counting → List ℕ → List ℕ → List ℕ → Data
@@ -27,7 +23,7 @@ location_in c key uri words =
     if not (is_database uri) || nat_lt 1073741824 (length words) then null
     else elim (place_in key (pieces_of words)) [
       | None ↦ null
-      | Some place ↦ location uri (position_of c (min place (length words)) words)
+      | Some place ↦ location uri (range_of c words place place)
     ]
 
 -- this value, or another if it is null
@@ -47,3 +43,7 @@ found_in c key (f ∷ fs) = or_else (location_in c key f.0 f.1) (found_in c key 
 -- where the entry of the key at a position of a document begins
 abbrev pub found_at : List (List ℕ × List ℕ) → Document → Position → Data
 found_at files d at = found_in d.counting (word_of d at) files
+
+-- where the macro at a position of a document is defined; if there is none, where the entry of the key there begins
+abbrev pub definition_at : List (List ℕ × List ℕ) → Document → Position → Data
+definition_at files d at = elim (macro_at files d at) [ None ↦ found_at files d at | Some v ↦ v ]

@@ -1,18 +1,13 @@
 -- What an entry prints, for the key under the cursor.
-use Rattle.std.specs.Prelude.{ℕ, suc, ◌+◌, ◌-◌, ◌==◌, nat_lt, ◌&&◌, not, Bool, if◌then◌else◌, List, [], ◌∷◌, take, drop}
+use Rattle.std.specs.Prelude.{ℕ, suc, ◌+◌, ◌-◌, if◌then◌else◌, List, [], ◌∷◌, take, drop}
 use Rattle.serde_json.specs.Data.{Data, null}
 use Rattle.bt_positions.specs.declared.indexed_text.Position.{Position}
 use Rattle.bt_positions.specs.Positions.{offset_of}
 use Rattle.bt_documents.specs.declared.document.Document.{Document}
 use Rattle.bt_bib.specs.BibText.{pieces_of}
+use Rattle.bt_mentions.specs.KeyBytes.{is_key_byte}
 use Rattle.bt_lsp.specs.Entries.{key_in, is_database}
 use Rattle.bt_lsp.specs.Shapes.{hover}
-
--- whether a byte can belong to a key in a citation or a database
-abbrev pub is_key_byte : ℕ → Bool
-is_key_byte b =
-    nat_lt 32 b && not (b == 34) && not (b == 37) && not (b == 40) && not (b == 41) && not (b == 44) &&
-    not (b == 123) && not (b == 125)
 
 -- how many key bytes a text begins with
 abbrev pub key_len : List ℕ → ℕ

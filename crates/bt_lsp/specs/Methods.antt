@@ -2,9 +2,9 @@
 use Rattle.std.specs.Prelude.{ℕ, List, codes, bytes_eq, if◌then◌else◌}
 use Rattle.bt_lsp.specs.declared.methods.Request.{Request}
 use Rattle.bt_lsp.specs.declared.methods.Request.TheVariants.{Initialize, Shutdown, AtCursor, OfDocument, OfPaper, Unknown}
-use Rattle.bt_lsp.specs.declared.methods.CursorQuery.TheVariants.{Hover, Definition, Completion}
-use Rattle.bt_lsp.specs.declared.methods.DocumentQuery.TheVariants.{Outline}
-use Rattle.bt_lsp.specs.declared.methods.PaperQuery.TheVariants.{Bibliography, Log}
+use Rattle.bt_lsp.specs.declared.methods.CursorQuery.TheVariants.{Hover, Definition, References, Rename, NameRange, Completion}
+use Rattle.bt_lsp.specs.declared.methods.DocumentQuery.TheVariants.{Outline, Folds, Format, Actions}
+use Rattle.bt_lsp.specs.declared.methods.PaperQuery.TheVariants.{Bibliography, Log, Symbols}
 use Rattle.bt_lsp.specs.declared.methods.Notice.{Notice}
 use Rattle.bt_lsp.specs.declared.methods.Notice.TheVariants.{Opened, Changed, Closed, Saved, Exit, Other}
 
@@ -15,10 +15,17 @@ request_of method =
     (if bytes_eq method (codes "shutdown") then Shutdown else
     (if bytes_eq method (codes "textDocument/hover") then AtCursor Hover else
     (if bytes_eq method (codes "textDocument/definition") then AtCursor Definition else
+    (if bytes_eq method (codes "textDocument/references") then AtCursor References else
+    (if bytes_eq method (codes "textDocument/rename") then AtCursor Rename else
+    (if bytes_eq method (codes "textDocument/prepareRename") then AtCursor NameRange else
     (if bytes_eq method (codes "textDocument/completion") then AtCursor Completion else
     (if bytes_eq method (codes "textDocument/documentSymbol") then OfDocument Outline else
+    (if bytes_eq method (codes "textDocument/foldingRange") then OfDocument Folds else
+    (if bytes_eq method (codes "textDocument/formatting") then OfDocument Format else
+    (if bytes_eq method (codes "textDocument/codeAction") then OfDocument Actions else
     (if bytes_eq method (codes "bibtex/bbl") then OfPaper Bibliography else
-    (if bytes_eq method (codes "bibtex/log") then OfPaper Log else Unknown)))))))
+    (if bytes_eq method (codes "bibtex/log") then OfPaper Log else
+    (if bytes_eq method (codes "workspace/symbol") then OfPaper Symbols else Unknown))))))))))))))
 
 -- the notification of a method
 abbrev pub notice_of : List ℕ → Notice

@@ -1,9 +1,11 @@
 -- Values of the protocol.
-use Rattle.std.specs.Prelude.{ℕ, Bool, true, if◌then◌else◌, List, ◌++◌, map, codes}
+use Rattle.std.specs.Prelude.{ℕ, min, Bool, true, if◌then◌else◌, List, ◌++◌, map, length, codes}
 use Rattle.std.specs.Str.{is_utf8}
 use Rattle.std.specs.Str.Lossy.{utf8_lossy}
 use Rattle.serde_json.specs.Data.{Data, number, unsigned, boolean, string, array, item, no_items, object, member, no_members}
 use Rattle.serde_json.specs.View.{items_of}
+use Rattle.bt_positions.specs.Positions.{position_of}
+use Rattle.bt_positions.specs.declared.counting.Counting.{Counting}
 use Rattle.bt_positions.specs.declared.indexed_text.Position.{Position}
 use Rattle.bt_diagnostics.specs.declared.diagnostic.Diagnostic.{Diagnostic}
 use Rattle.bt_rpc.specs.Messages.{notification}
@@ -18,9 +20,18 @@ position p =
 abbrev pub range : Position → Position → Data
 range from to = object (member (codes "end") (position to) (member (codes "start") (position from) no_members))
 
+-- the range of a part of a text, as far as the text has it
+abbrev pub range_of : Counting → List ℕ → ℕ → ℕ → Data
+range_of c words from to =
+    range (position_of c (min from (length words)) words) (position_of c (min to (length words)) words)
+
 -- bytes as a text, with U+FFFD for what isn't UTF-8
 abbrev pub text : List ℕ → Data
 text bytes = string (utf8_lossy bytes)
+
+-- a part of a file
+abbrev pub location : List ℕ → Data → Data
+location uri range = object (member (codes "range") range (member (codes "uri") (text uri) no_members))
 
 -- a diagnostic
 abbrev pub diagnostic : Diagnostic → Data
@@ -30,14 +41,14 @@ diagnostic d =
     no_members))))
 
 -- its parameters: the diagnostics of a document
-abbrev pub published_params : List ℕ → List Diagnostic → Data
-published_params uri found =
-    object (member (codes "diagnostics") (array (items_of (map diagnostic found)))
+abbrev pub published_params : List ℕ → List Data → Data
+published_params uri list =
+    object (member (codes "diagnostics") (array (items_of list))
     (member (codes "uri") (text uri) no_members))
 
 -- the notification that publishes them
-abbrev pub published : List ℕ → List Diagnostic → Data
-published uri found = notification (codes "textDocument/publishDiagnostics") (published_params uri found)
+abbrev pub published : List ℕ → List Data → Data
+published uri list = notification (codes "textDocument/publishDiagnostics") (published_params uri list)
 
 -- what a hover shows of lines: a block of LaTeX in Markdown
 abbrev pub hover : List ℕ → Data
@@ -51,15 +62,40 @@ shown_text bytes status =
     object (member (codes "exact") (boolean (is_utf8 bytes)) (member (codes "status") (number (unsigned status))
     (member (codes "text") (text bytes) no_members)))
 
+-- how completion works
+abbrev pub completion_options : Data
+completion_options =
+    object (member (codes "triggerCharacters") (array (item (string (codes "{")) (item (string (codes ",")) no_items)))
+    no_members)
+
+-- how renaming works
+abbrev pub rename_options : Data
+rename_options = object (member (codes "prepareProvider") (boolean true) no_members)
+
+-- how texts are sent
+abbrev pub sync_options : Data
+sync_options =
+    object (member (codes "change") (number (unsigned 2)) (member (codes "openClose") (boolean true)
+    (member (codes "save") (boolean true) no_members)))
+
+-- what the server can do
+abbrev pub abilities : List ℕ → Data → Data → Data → Data
+abilities encoding completion rename sync =
+    object (member (codes "codeActionProvider") (boolean true) (member (codes "completionProvider") completion
+    (member (codes "definitionProvider") (boolean true) (member (codes "documentFormattingProvider") (boolean true)
+    (member (codes "documentSymbolProvider") (boolean true) (member (codes "foldingRangeProvider") (boolean true)
+    (member (codes "hoverProvider") (boolean true) (member (codes "positionEncoding") (string encoding)
+    (member (codes "referencesProvider") (boolean true) (member (codes "renameProvider") rename
+    (member (codes "textDocumentSync") sync (member (codes "workspaceSymbolProvider") (boolean true)
+    no_members))))))))))))
+
+-- the units in which positions count
+abbrev pub encoding_of : Bool → List ℕ
+encoding_of counts_bytes = if counts_bytes then codes "utf-8" else codes "utf-16"
+
 -- the answer to `initialize`: how positions count, and what the server can do
 abbrev pub capabilities : Bool → Data
 capabilities counts_bytes =
-    object (member (codes "capabilities") (object (member (codes "completionProvider") (object
-    (member (codes "triggerCharacters") (array (item (string (codes "{")) (item (string (codes ",")) no_items)))
-    no_members)) (member (codes "definitionProvider") (boolean true) (member (codes "documentSymbolProvider") (boolean true)
-    (member (codes "hoverProvider") (boolean true)
-    (member (codes "positionEncoding") (string (if counts_bytes then codes "utf-8" else codes "utf-16"))
-    (member (codes "textDocumentSync") (object (member (codes "change") (number (unsigned 2))
-    (member (codes "openClose") (boolean true) (member (codes "save") (boolean true) no_members))))
-    no_members)))))))
+    object (member (codes "capabilities")
+    (abilities (encoding_of counts_bytes) completion_options rename_options sync_options)
     (member (codes "serverInfo") (object (member (codes "name") (string (codes "bibtex-lsp")) no_members)) no_members))

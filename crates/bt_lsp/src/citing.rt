@@ -1,90 +1,62 @@
 //! Completes the keys of citations.
 
-ghost use Rattle.std.specs.Prelude.{◌≡◌, ◌++◌, map, IfOk};
+ghost use Rattle.std.specs.Prelude.{◌≡◌, ◌++◌, map, IfOk, OnOk};
 ghost use Rattle.serde_json.specs.View.{view};
-ghost use Rattle.bt_lsp.specs.Entries.{key_of, kind_of};
-ghost use Rattle.bt_lsp.specs.Citing.{citing_after, name_after, is_citing, candidate, candidate_of, candidates_of, candidates_from, candidates_in, completion_at};
+ghost use Rattle.bt_lsp.specs.Citing.{after_sign, candidate, candidate_of, candidates_of, candidates_from, candidates_in, citation_at};
 
-use crate::entries::{is_database, key_of, kind_of};
+use crate::entries::{field_of, is_database, key_of, kind_of};
 use crate::paper::Paper;
 use crate::words::shown;
 use bt_bib::{PlacedPiece, read_bib};
 use bt_documents::Document;
+use bt_mentions::is_citing;
 use bt_positions::Position;
+use bt_text::Bytes;
 use serde_json::{Value, json};
 use std::alloc::{AllocError, Global};
 
-/// Where a place lies, as far as the bytes before it say.
-#[derive(Clone, Copy, Debug, PartialEq, Eq)]
-pub enum Citing {
-    /// In no command.
-    Outside,
-    /// In a command's name, whose last bytes are so many of those of `cit`, or which has these already (3).
-    Name(u8),
-    /// In an option of a command whose name has `cit` in it.
-    Option,
-    /// In an argument of one.
-    Keys,
-}
-
-fn name_after(found: u8, byte: u8) -> Citing
-    ensures { result ≡ name_after found byte }
+/// Appends a text after a sign, unless it is empty.
+fn append_after(bytes: &mut Bytes, sign: &[u8], text: &[u8]) -> Result<(), AllocError>
+    ensures { OnOk result (bytes.new ≡ after_sign sign.now text.now bytes.old) }
 {
-    let letter = byte.to_ascii_lowercase();
-    match (found, letter) {
-        (3, b'[') => Citing::Option,
-        (3, b'{') => Citing::Keys,
-        (3, b'*') => Citing::Name(3),
-        (_, b'\\') => Citing::Name(0),
-        (3, b'a'..=b'z') => Citing::Name(3),
-        (1, b'i') => Citing::Name(2),
-        (2, b't') => Citing::Name(3),
-        (_, b'c') => Citing::Name(1),
-        (_, b'a'..=b'z') => Citing::Name(0),
-        _ => Citing::Outside,
+    if text.is_empty() {
+        return Ok(());
     }
+    bytes.append_all(&[sign, text])
 }
 
-fn citing_after(before: Citing, byte: u8) -> Citing
-    ensures { result ≡ citing_after before byte }
+/// A text, and two others after signs, unless these are empty.
+fn joined(
+    alloc: Global,
+    text: &[u8],
+    first: &[u8],
+    author: &[u8],
+    second: &[u8],
+    title: &[u8],
+) -> Result<Bytes, AllocError>
+    ensures { IfOk result (λ bytes. bytes ≡ after_sign second.now title.now (after_sign first.now author.now text.now)) }
 {
-    match before {
-        Citing::Outside => if byte == b'\\' {
-            Citing::Name(0)
-        } else {
-            Citing::Outside
-        },
-        Citing::Name(found) => name_after(found, byte),
-        Citing::Option => if byte == b']' {
-            Citing::Name(3)
-        } else {
-            Citing::Option
-        },
-        Citing::Keys => if byte == b'}' {
-            Citing::Outside
-        } else {
-            Citing::Keys
-        },
-    }
+    let mut bytes = Bytes::copied(alloc, text)?;
+    append_after(&mut bytes, first, author)?;
+    append_after(&mut bytes, second, title)?;
+    Ok(bytes)
 }
 
-/// Whether keys are cited after these bytes.
-fn is_citing(text: &[u8]) -> bool
-    ensures { result ≡ is_citing text.now }
+fn candidate(
+    alloc: Global,
+    key: &[u8],
+    kind: &[u8],
+    author: &[u8],
+    title: &[u8],
+) -> Result<Value, AllocError>
+    ensures { IfOk result (λ v. view v ≡ candidate key.now kind.now author.now title.now) }
 {
-    let mut state = Citing::Outside;
-    'bytes: for byte in text {
-        state = citing_after(state, *byte);
-    }
-    state == Citing::Keys
-}
-
-fn candidate(alloc: Global, key: &[u8], kind: &[u8]) -> Result<Value, AllocError>
-    ensures { IfOk result (λ v. view v ≡ candidate key.now kind.now) }
-{
+    let detail = joined(alloc, kind, b": ", author, b". ", title)?;
+    let filter = joined(alloc, key, b" ", author, b" ", title)?;
     let key = shown(alloc, key)?;
-    let kind = shown(alloc, kind)?;
-    json!(in alloc; {"label": key, "kind": 18, "detail": kind})
+    let detail = shown(alloc, detail.as_slice())?;
+    let filter = shown(alloc, filter.as_slice())?;
+    json!(in alloc; {"label": key, "kind": 18, "detail": detail, "filterText": filter})
 }
 
 fn add_candidate(
@@ -92,15 +64,16 @@ fn add_candidate(
     piece: &PlacedPiece,
     list: Vec<Value>,
 ) -> Result<Vec<Value>, AllocError>
-    ensures { IfOk result (λ all. map view all.items ≡
-        map view list.items ++ candidate_of (key_of piece.now.piece) (kind_of piece.now.piece)) }
+    ensures { IfOk result (λ all. map view all.items ≡ map view list.items ++ candidate_of piece.now.piece) }
 {
     let mut all = list;
     let key = key_of(piece);
     if key.is_empty() {
         return Ok(all);
     }
-    all.push(candidate(alloc, key, kind_of(piece))?)?;
+    let author = field_of(piece, b"author");
+    let title = field_of(piece, b"title");
+    all.push(candidate(alloc, key, kind_of(piece), author, title)?)?;
     Ok(all)
 }
 
@@ -134,7 +107,7 @@ fn add_from(
 }
 
 /// What is offered for the entries of the paper's databases.
-fn candidates<P: Paper>(alloc: Global, paper: &P) -> Result<Vec<Value>, AllocError>
+pub fn candidates<P: Paper>(alloc: Global, paper: &P) -> Result<Vec<Value>, AllocError>
     ensures { IfOk result (λ list. map view list.items ≡ candidates_in (P.shown paper.now).files) }
 {
     let mut list = Vec::new(alloc);
@@ -146,13 +119,13 @@ fn candidates<P: Paper>(alloc: Global, paper: &P) -> Result<Vec<Value>, AllocErr
 }
 
 /// What is offered at a position of a document: all keys where keys are cited, elsewhere nothing.
-pub fn completion_at<P: Paper>(
+pub fn citation_at<P: Paper>(
     alloc: Global,
     paper: &P,
     document: &Document,
     at: Position,
 ) -> Result<Value, AllocError>
-    ensures { IfOk result (λ v. view v ≡ completion_at (P.shown paper.now).files document.now at) }
+    ensures { IfOk result (λ v. view v ≡ citation_at (P.shown paper.now).files document.now at) }
 {
     let place = document.text.offset_of(document.counting, at);
     if !is_citing(document.text.as_slice().split_at(place).0) {

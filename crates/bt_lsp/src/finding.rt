@@ -1,25 +1,25 @@
-//! Finds the entry of a key in the paper's databases.
+//! Finds the entry of a key, or the definition of a macro, in the paper's databases.
 
 ghost use Rattle.std.specs.Prelude.{◌≡◌, ◌<◌, ◌*◌, ◌^◌, length, IfOk};
 ghost use Rattle.serde_json.specs.View.{view};
 ghost use Rattle.bt_bib.specs.BibText.{pieces_of};
-ghost use Rattle.bt_lsp.specs.Finding.{place_in, location, location_in, found_in, found_at};
+ghost use Rattle.bt_lsp.specs.Finding.{place_in, location_in, found_in, found_at, definition_at};
 
 use crate::entries::{is_database, key_of};
 use crate::hover::word_of;
 use crate::news::SHOWN_BYTES;
 use crate::paper::Paper;
-use crate::shapes::range;
-use crate::words::shown;
+use crate::references::macro_at;
+use crate::shapes::{location, range_of};
 use bt_bib::{PlacedPiece, read_bib};
 use bt_documents::Document;
 use bt_positions::{Counting, IndexedText, Position};
 use bt_text::eq_ignore_ascii_case;
-use serde_json::{Value, json};
+use serde_json::Value;
 use std::alloc::{AllocError, Global};
 
 /// Where the first entry of a key begins.
-fn place_in(pieces: &[PlacedPiece], key: &[u8]) -> Option<usize>
+pub fn place_in(pieces: &[PlacedPiece], key: &[u8]) -> Option<usize>
     ensures { result ≡ place_in key.now pieces.now }
 {
     'pieces: for piece in pieces {
@@ -28,14 +28,6 @@ fn place_in(pieces: &[PlacedPiece], key: &[u8]) -> Option<usize>
         }
     }
     None
-}
-
-fn location(alloc: Global, uri: &[u8], at: Position) -> Result<Value, AllocError>
-    ensures { IfOk result (λ v. view v ≡ location uri.now at) }
-{
-    let uri = shown(alloc, uri)?;
-    let range = range(alloc, at, at)?;
-    json!(in alloc; {"uri": uri, "range": range})
 }
 
 /// Where the entry of a key begins in a file; null if it has none, or isn't a database.
@@ -55,11 +47,8 @@ fn location_in(
     match place_in(items.pieces(), key) {
         Some(place) => {
             let indexed = IndexedText::copied(alloc, text)?;
-            location(
-                alloc,
-                uri,
-                indexed.position_of(counting, place.min(text.len())),
-            )
+            let range = range_of(alloc, counting, &indexed, place, place)?;
+            location(alloc, uri, range)
         }
         None => Ok(Value::Null),
     }
@@ -85,7 +74,7 @@ fn found_in<P: Paper>(
 }
 
 /// Where the entry of the key at a position of a document begins.
-pub fn found_at<P: Paper>(
+fn found_at<P: Paper>(
     alloc: Global,
     paper: &P,
     document: &Document,
@@ -95,4 +84,19 @@ pub fn found_at<P: Paper>(
 {
     let found = found_in(alloc, paper, document.counting, word_of(document, at))?;
     Ok(found)
+}
+
+/// Where the macro at a position of a document is defined; if there is none, where the entry of the key there begins.
+pub fn definition_at<P: Paper>(
+    alloc: Global,
+    paper: &P,
+    document: &Document,
+    at: Position,
+) -> Result<Value, AllocError>
+    ensures { IfOk result (λ v. view v ≡ definition_at (P.shown paper.now).files document.now at) }
+{
+    match macro_at(alloc, paper, document, at)? {
+        Some(found) => Ok(found),
+        None => found_at(alloc, paper, document, at),
+    }
 }

@@ -2,30 +2,17 @@
 
 ghost use Rattle.std.specs.Prelude.{◌≡◌, ◌≤◌, length, IfOk};
 ghost use Rattle.serde_json.specs.View.{view};
-ghost use Rattle.bt_lsp.specs.Hover.{is_key_byte, key_len, keys_at_end, word_at, word_of, key_at, hover_of, hover_at};
+ghost use Rattle.bt_lsp.specs.Hover.{key_len, keys_at_end, word_at, word_of, key_at, hover_of, hover_at};
 
 use crate::entries::{is_database, key_around};
 use crate::paper::Paper;
 use crate::shapes::hover;
 use bt_documents::Document;
+use bt_mentions::is_key_byte;
 use bt_positions::Position;
 use bt_text::Bytes;
 use serde_json::Value;
 use std::alloc::{AllocError, Global};
-
-/// Whether a byte can belong to a key in a citation or a database.
-fn is_key_byte(byte: u8) -> bool
-    ensures { result ≡ is_key_byte byte }
-{
-    byte > b' '
-        && byte != b'"'
-        && byte != b'%'
-        && byte != b'('
-        && byte != b')'
-        && byte != b','
-        && byte != b'{'
-        && byte != b'}'
-}
 
 fn key_len(text: &[u8]) -> usize
     ensures value { result ≡ key_len text.now }

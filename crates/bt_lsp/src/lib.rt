@@ -5,20 +5,32 @@
 //! nothing here depends on how a session gets them.
 #![tactic(auto)]
 
+mod actions;
 mod answering;
 mod changes;
 mod citing;
+mod completing;
 mod entries;
+mod fields;
 mod finding;
+mod folding;
+mod formatting;
+mod hints;
 mod hover;
+mod mentioning;
 mod methods;
 mod news;
 mod outline;
 mod paper;
 mod parameters;
+mod picking;
+mod references;
+mod renaming;
 mod server;
 mod shapes;
+mod symbols;
 mod taking;
+mod visiting;
 mod words;
 
 pub use paper::Paper;

@@ -4,7 +4,7 @@ ghost use Rattle.std.specs.Prelude.{◌≡◌};
 ghost use Rattle.bt_lsp.specs.Methods.{request_of, notice_of};
 
 /// A request by its method.
-#[derive(Clone, Copy, Debug, PartialEq, Eq)]
+#[derive(Clone, Copy)]
 pub enum Request {
     Initialize,
     Shutdown,
@@ -15,24 +15,32 @@ pub enum Request {
 }
 
 /// What is asked of a position of a document.
-#[derive(Clone, Copy, Debug, PartialEq, Eq)]
+#[derive(Clone, Copy)]
 pub enum CursorQuery {
     Hover,
     Definition,
+    References,
+    Rename,
+    /// Of what is to be renamed.
+    NameRange,
     Completion,
 }
 
 /// What is asked of a document.
-#[derive(Clone, Copy, Debug, PartialEq, Eq)]
+#[derive(Clone, Copy)]
 pub enum DocumentQuery {
     Outline,
+    Folds,
+    Format,
+    Actions,
 }
 
 /// What is asked of the paper as a whole.
-#[derive(Clone, Copy, Debug, PartialEq, Eq)]
+#[derive(Clone, Copy)]
 pub enum PaperQuery {
     Bibliography,
     Log,
+    Symbols,
 }
 
 /// A notification by its method.
@@ -55,10 +63,17 @@ pub fn request_of(method: &str) -> Request
         "shutdown" => Request::Shutdown,
         "textDocument/hover" => Request::AtCursor(CursorQuery::Hover),
         "textDocument/definition" => Request::AtCursor(CursorQuery::Definition),
+        "textDocument/references" => Request::AtCursor(CursorQuery::References),
+        "textDocument/rename" => Request::AtCursor(CursorQuery::Rename),
+        "textDocument/prepareRename" => Request::AtCursor(CursorQuery::NameRange),
         "textDocument/completion" => Request::AtCursor(CursorQuery::Completion),
         "textDocument/documentSymbol" => Request::OfDocument(DocumentQuery::Outline),
+        "textDocument/foldingRange" => Request::OfDocument(DocumentQuery::Folds),
+        "textDocument/formatting" => Request::OfDocument(DocumentQuery::Format),
+        "textDocument/codeAction" => Request::OfDocument(DocumentQuery::Actions),
         "bibtex/bbl" => Request::OfPaper(PaperQuery::Bibliography),
         "bibtex/log" => Request::OfPaper(PaperQuery::Log),
+        "workspace/symbol" => Request::OfPaper(PaperQuery::Symbols),
         _ => Request::Unknown,
     }
 }

@@ -5,10 +5,11 @@ ghost use Rattle.serde_json.specs.View.{view};
 ghost use Rattle.bt_lsp.specs.News.{shown_of, published_of, warning_params, warning, warned, cleared, news};
 ghost use Rattle.bt_lsp.specs.Shapes.{published};
 
+use crate::hints::with_hints;
 use crate::methods::Notice;
 use crate::paper::Paper;
 use crate::parameters::text_at;
-use crate::shapes::published;
+use crate::shapes::{diagnostic_values, published};
 use bt_diagnostics::{Diagnostic, diagnostics};
 use bt_documents::Document;
 use bt_rpc::notification;
@@ -50,7 +51,9 @@ fn published_of<P: Paper>(
     ensures { IfOk result (λ v. view v ≡ published_of (P.shown paper.now) document.now) }
 {
     let shown = shown_of(alloc, paper, document)?;
-    published(alloc, document.name.as_slice(), shown.as_slice())
+    let list = diagnostic_values(alloc, shown.as_slice())?;
+    let list = with_hints(alloc, paper, document, list)?;
+    published(alloc, document.name.as_slice(), list)
 }
 
 fn warning_params(alloc: Global) -> Result<Value, AllocError>
@@ -85,7 +88,7 @@ fn warned(alloc: Global, lost: bool) -> Result<Vec<Value>, AllocError>
 fn cleared(alloc: Global, uri: &str) -> Result<Value, AllocError>
     ensures { IfOk result (λ v. view v ≡ published uri.now []) }
 {
-    published(alloc, uri.as_bytes(), &[])
+    published(alloc, uri.as_bytes(), Vec::new(alloc))
 }
 
 /// What comes before the diagnostics of the open documents.

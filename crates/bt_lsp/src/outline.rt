@@ -1,4 +1,4 @@
-//! The entries of a database as an editor's outline.
+//! The items of a database as an editor's outline.
 
 ghost use Rattle.std.specs.Prelude.{◌≡◌, ◌<◌, ◌*◌, ◌^◌, ◌++◌, [], length, map, option_map, IfOk};
 ghost use Rattle.std.specs.List.{cons_option};
@@ -6,24 +6,28 @@ ghost use Rattle.serde_json.specs.View.{view};
 ghost use Rattle.bt_bib.specs.BibText.{pieces_of};
 ghost use Rattle.bt_lsp.specs.Outline.{symbol, symbol_of, symbols_in, symbols_of};
 
-use crate::entries::key_of;
+use crate::entries::{name_of, symbol_kind};
 use crate::news::SHOWN_BYTES;
-use crate::shapes::range;
+use crate::shapes::range_of;
 use crate::words::shown;
 use bt_bib::{PlacedPiece, read_bib};
 use bt_documents::Document;
-use bt_positions::{Counting, IndexedText, Position};
+use bt_positions::{Counting, IndexedText};
 use serde_json::{Value, json};
 use std::alloc::{AllocError, Global};
 
-/// A symbol of the outline: a key, and the part of the text that its entry is.
-fn symbol(alloc: Global, key: &[u8], from: Position, to: Position) -> Result<Value, AllocError>
-    ensures { IfOk result (λ v. view v ≡ symbol key.now from to) }
+/// A symbol of the outline: a name, and the part of the text that its item is.
+fn symbol(
+    alloc: Global,
+    name: &[u8],
+    kind: u8,
+    whole: Value,
+    head: Value,
+) -> Result<Value, AllocError>
+    ensures { IfOk result (λ v. view v ≡ symbol name.now kind (view whole) (view head)) }
 {
-    let name = shown(alloc, key)?;
-    let whole = range(alloc, from, to)?;
-    let head = range(alloc, from, from)?;
-    json!(in alloc; {"name": name, "kind": 20, "range": whole, "selectionRange": head})
+    let name = shown(alloc, name)?;
+    json!(in alloc; {"name": name, "kind": kind, "range": whole, "selectionRange": head})
 }
 
 fn symbol_of(
@@ -35,14 +39,13 @@ fn symbol_of(
     requires { 2 * length text.now < 2 ^ 64 }
     ensures { IfOk result (λ found. option_map view found ≡ symbol_of counting text.now piece.now) }
 {
-    let key = key_of(piece);
-    if key.is_empty() {
+    let name = name_of(piece);
+    if name.is_empty() {
         return Ok(None);
     }
-    let end = text.as_slice().len();
-    let from = text.position_of(counting, piece.start.place.min(end));
-    let to = text.position_of(counting, piece.end.place.min(end));
-    Ok(Some(symbol(alloc, key, from, to)?))
+    let whole = range_of(alloc, counting, text, piece.start.place, piece.end.place)?;
+    let head = range_of(alloc, counting, text, piece.start.place, piece.start.place)?;
+    Ok(Some(symbol(alloc, name, symbol_kind(piece), whole, head)?))
 }
 
 fn add_symbol(

@@ -5,6 +5,7 @@ ghost use Rattle.serde_json.specs.View.{view};
 ghost use Rattle.bt_talk.specs.Replies.{outcome_of};
 ghost use Rattle.bt_lsp.specs.Desk.{duty_of, IsBegun, IsOutcome, Tells, Carried};
 ghost use Rattle.bt_lsp.specs.Answering.{answered};
+ghost use Rattle.bt_lsp.specs.Words.{counting_of};
 
 use crate::answering::answered;
 use crate::methods::{Notice, Request, notice_of, request_of};
@@ -13,6 +14,7 @@ use crate::paper::Paper;
 use crate::parameters::text_at;
 use crate::shapes::capabilities;
 use crate::taking::take;
+use crate::words::counting_of;
 use bt_documents::Document;
 use bt_rpc::RpcError;
 use bt_talk::{Desk, Reply};
@@ -125,7 +127,7 @@ fn outcome_for<P: Paper>(
     message: &Value,
 ) -> Result<Result<Value, RpcError>, AllocError>
     ensures ok { IfOk result (λ outcome. IsOutcome
-        (λ r. answered (P.shown server.old.paper) server.old.documents r (view message.now))
+        (λ r. answered (counting_of server.old.counts_bytes) (P.shown server.old.paper) server.old.documents r (view message.now))
         server.old.phase request server.old (outcome_of outcome) server.new) }
     ensures err { OnErr result (server.new ≡ server.old) }
 {
@@ -140,6 +142,7 @@ fn outcome_for<P: Paper>(
         (Phase::Ready, query) => {
             answered(
                 alloc,
+                counting_of(server.counts_bytes),
                 &server.paper,
                 server.documents.as_slice(),
                 query,
@@ -203,10 +206,11 @@ impl<P: Paper + Drop> Desk for Server<P> {
     ghost use Rattle.std.specs.Prelude.{◌≡◌, [], true};
     ghost use Rattle.bt_lsp.specs.Methods.{request_of};
     ghost use Rattle.bt_lsp.specs.Answering.{answered};
+    ghost use Rattle.bt_lsp.specs.Words.{counting_of};
     ghost use Rattle.bt_lsp.specs.Desk.{IsOutcome, Noted, IsLost};
 
     ghost answers = { λ d method m outcome told e. (told ≡ []) × IsOutcome
-        (λ r. answered (P.shown d.paper) d.documents r m)
+        (λ r. answered (counting_of d.counts_bytes) (P.shown d.paper) d.documents r m)
         d.phase (request_of method) d outcome e };
 
     ghost notes = { λ d method m told e. Noted P.text P.shown d method m told e };

@@ -1,12 +1,12 @@
 //! Values of the protocol.
 
-ghost use Rattle.std.specs.Prelude.{◌≡◌, map, IfOk};
+ghost use Rattle.std.specs.Prelude.{◌≡◌, ◌<◌, ◌*◌, ◌^◌, length, map, IfOk};
 ghost use Rattle.serde_json.specs.View.{view, items_of};
-ghost use Rattle.bt_lsp.specs.Shapes.{range, diagnostic, published_params, published, hover, shown_text, capabilities};
+ghost use Rattle.bt_lsp.specs.Shapes.{range, range_of, location, diagnostic, published_params, published, hover, shown_text, completion_options, rename_options, sync_options, abilities, encoding_of, capabilities};
 
 use crate::words::{is_utf8, shown};
 use bt_diagnostics::Diagnostic;
-use bt_positions::Position;
+use bt_positions::{Counting, IndexedText, Position};
 use bt_rpc::notification;
 use serde_json::{Value, json};
 use std::alloc::{AllocError, Global};
@@ -21,6 +21,31 @@ pub fn range(alloc: Global, from: Position, to: Position) -> Result<Value, Alloc
     })
 }
 
+/// The range of a part of a text, as far as the text has it.
+pub fn range_of(
+    alloc: Global,
+    counting: Counting,
+    text: &IndexedText,
+    from: usize,
+    to: usize,
+) -> Result<Value, AllocError>
+    requires { 2 * length text.now < 2 ^ 64 }
+    ensures { IfOk result (λ v. view v ≡ range_of counting text.now from to) }
+{
+    let end = text.as_slice().len();
+    let begin = text.position_of(counting, from.min(end));
+    let end = text.position_of(counting, to.min(end));
+    range(alloc, begin, end)
+}
+
+/// A part of a file.
+pub fn location(alloc: Global, uri: &[u8], range: Value) -> Result<Value, AllocError>
+    ensures { IfOk result (λ v. view v ≡ location uri.now (view range)) }
+{
+    let uri = shown(alloc, uri)?;
+    json!(in alloc; {"uri": uri, "range": range})
+}
+
 fn diagnostic(alloc: Global, found: &Diagnostic) -> Result<Value, AllocError>
     ensures { IfOk result (λ v. view v ≡ diagnostic found.now) }
 {
@@ -30,7 +55,8 @@ fn diagnostic(alloc: Global, found: &Diagnostic) -> Result<Value, AllocError>
     json!(in alloc; {"range": range, "severity": severity, "source": "bibtex", "message": words})
 }
 
-fn diagnostics(alloc: Global, found: &[Diagnostic]) -> Result<Vec<Value>, AllocError>
+/// What an editor shows of diagnostics.
+pub fn diagnostic_values(alloc: Global, found: &[Diagnostic]) -> Result<Vec<Value>, AllocError>
     ensures { IfOk result (λ list. map view list.items ≡ map diagnostic found.now) }
 {
     let mut list = Vec::new(alloc);
@@ -41,19 +67,19 @@ fn diagnostics(alloc: Global, found: &[Diagnostic]) -> Result<Vec<Value>, AllocE
 }
 
 /// The parameters of the notification that publishes the diagnostics of a document.
-fn published_params(alloc: Global, uri: &[u8], found: &[Diagnostic]) -> Result<Value, AllocError>
-    ensures { IfOk result (λ v. view v ≡ published_params uri.now found.now) }
+fn published_params(alloc: Global, uri: &[u8], list: Vec<Value>) -> Result<Value, AllocError>
+    ensures { IfOk result (λ v. view v ≡ published_params uri.now (map view list.items)) }
 {
-    let list = Value::Array(diagnostics(alloc, found)?);
+    let list = Value::Array(list);
     let uri = shown(alloc, uri)?;
     json!(in alloc; {"uri": uri, "diagnostics": list})
 }
 
 /// The notification that publishes the diagnostics of a document.
-pub fn published(alloc: Global, uri: &[u8], found: &[Diagnostic]) -> Result<Value, AllocError>
-    ensures { IfOk result (λ v. view v ≡ published uri.now found.now) }
+pub fn published(alloc: Global, uri: &[u8], list: Vec<Value>) -> Result<Value, AllocError>
+    ensures { IfOk result (λ v. view v ≡ published uri.now (map view list.items)) }
 {
-    let params = published_params(alloc, uri, found)?;
+    let params = published_params(alloc, uri, list)?;
     let message = notification(alloc, "textDocument/publishDiagnostics", &params)?;
     Ok(message)
 }
@@ -76,20 +102,63 @@ pub fn shown_text(alloc: Global, text: &[u8], status: u8) -> Result<Value, Alloc
     json!(in alloc; {"text": words, "exact": exact, "status": status})
 }
 
+fn completion_options(alloc: Global) -> Result<Value, AllocError>
+    ensures { IfOk result (λ v. view v ≡ completion_options) }
+{
+    json!(in alloc; {"triggerCharacters": ["{", ","]})
+}
+
+fn rename_options(alloc: Global) -> Result<Value, AllocError>
+    ensures { IfOk result (λ v. view v ≡ rename_options) }
+{
+    json!(in alloc; {"prepareProvider": true})
+}
+
+fn sync_options(alloc: Global) -> Result<Value, AllocError>
+    ensures { IfOk result (λ v. view v ≡ sync_options) }
+{
+    json!(in alloc; {"openClose": true, "change": 2, "save": true})
+}
+
+/// What the server can do.
+fn abilities(
+    alloc: Global,
+    encoding: &str,
+    completion: Value,
+    rename: Value,
+    sync: Value,
+) -> Result<Value, AllocError>
+    ensures { IfOk result (λ v. view v ≡ abilities encoding.now (view completion) (view rename) (view sync)) }
+{
+    json!(in alloc; {
+        "positionEncoding": encoding,
+        "textDocumentSync": sync,
+        "hoverProvider": true,
+        "completionProvider": completion,
+        "definitionProvider": true,
+        "referencesProvider": true,
+        "renameProvider": rename,
+        "documentSymbolProvider": true,
+        "foldingRangeProvider": true,
+        "documentFormattingProvider": true,
+        "codeActionProvider": true,
+        "workspaceSymbolProvider": true
+    })
+}
+
+fn encoding_of(counts_bytes: bool) -> &'static str
+    ensures { result.now ≡ encoding_of counts_bytes }
+{
+    if counts_bytes { "utf-8" } else { "utf-16" }
+}
+
 /// The answer to `initialize`: how positions count, and what the server can do.
 pub fn capabilities(alloc: Global, counts_bytes: bool) -> Result<Value, AllocError>
     ensures { IfOk result (λ v. view v ≡ capabilities counts_bytes) }
 {
-    let encoding = if counts_bytes { "utf-8" } else { "utf-16" };
-    json!(in alloc; {
-        "capabilities": {
-            "positionEncoding": encoding,
-            "textDocumentSync": {"openClose": true, "change": 2, "save": true},
-            "hoverProvider": true,
-            "definitionProvider": true,
-            "documentSymbolProvider": true,
-            "completionProvider": {"triggerCharacters": ["{", ","]}
-        },
-        "serverInfo": {"name": "bibtex-lsp"}
-    })
+    let completion = completion_options(alloc)?;
+    let rename = rename_options(alloc)?;
+    let sync = sync_options(alloc)?;
+    let able = abilities(alloc, encoding_of(counts_bytes), completion, rename, sync)?;
+    json!(in alloc; {"capabilities": able, "serverInfo": {"name": "bibtex-lsp"}})
 }

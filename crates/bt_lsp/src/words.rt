@@ -4,11 +4,22 @@ ghost use Rattle.std.specs.Prelude.{◌≡◌, map, IfOk};
 ghost use Rattle.std.specs.Str.{chars, is_utf8};
 ghost use Rattle.std.specs.Str.Lossy.{utf8_lossy};
 ghost use Rattle.std.specs.String.{string_bytes};
-ghost use Rattle.bt_lsp.specs.Words.{latin_of, bytes_of};
+ghost use Rattle.bt_lsp.specs.Words.{counting_of, latin_of, bytes_of};
 
 use bt_positions::Counting;
 use bt_text::Bytes;
 use std::alloc::{AllocError, Global};
+
+/// The units of an editor that counts bytes or units of UTF-16, in a text that isn't known to be in Latin-1.
+pub fn counting_of(counts_bytes: bool) -> Counting
+    ensures { result ≡ counting_of counts_bytes }
+{
+    if counts_bytes {
+        Counting::Utf8
+    } else {
+        Counting::Utf16
+    }
+}
 
 /// The text of these bytes. What isn't UTF-8 is shown as U+FFFD.
 pub fn shown(alloc: Global, bytes: &[u8]) -> Result<String, AllocError>

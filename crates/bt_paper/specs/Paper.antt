@@ -8,7 +8,7 @@ use Rattle.bibtex.specs.Present.{shown}
 use Rattle.bibtex.specs.EntryText.{entry_text}
 use Rattle.bt_documents.specs.declared.document.Document.{Document}
 use Rattle.bt_paper.specs.declared.known.Known.{Known}
-use Rattle.bt_lsp.specs.Shown.{Shown}
+use Rattle.bt_lsp.specs.Shown.{Shown as Sight}
 use Rattle.bt_paper.specs.Known.{name_of}
 
 -- a session's text of a name, if there are a session and a name
@@ -55,7 +55,7 @@ abbrev pub files_of : Option State → List Known → List (List ℕ × List ℕ
 files_of session known = map (file_of session) known
 
 -- what the desk sees
-abbrev pub shown_of : Option State → List Known → Shown
+abbrev pub shown_of : Option State → List Known → Sight
 shown_of session known =
     record {
       name = name_of known;

@@ -1,5 +1,6 @@
 use Rattle.serde_json.specs.View.{view}
 use Rattle.bt_lsp.specs.Answering.{answered}
+use Rattle.bt_lsp.specs.Words.{counting_of}
 use Rattle.bt_lsp.proofs.PlainLemmas.{answered_plain, outcome_plain}
 use Rattle.bt_lsp.proofs.server.ServerDesk.answer.Goals as goal
 
@@ -8,5 +9,6 @@ returns-clause-plain g c =
     let d = c.args.self.now in
     let m = view c.args.message.now in
     let shown = g.P.Paper.shown d.paper in
-    outcome_plain (λ r. answered shown d.documents r m) d.phase c.request_of.result d c.outcome_for.new.server c.in_ok-outcome.outcome
-    (λ r. answered_plain shown d.documents r m) c.in_ok-outcome.ensures.ok
+    let units = counting_of d.counts_bytes in
+    outcome_plain (λ r. answered units shown d.documents r m) d.phase c.request_of.result d c.outcome_for.new.server c.in_ok-outcome.outcome
+    (λ r. answered_plain units shown d.documents r m) c.in_ok-outcome.ensures.ok

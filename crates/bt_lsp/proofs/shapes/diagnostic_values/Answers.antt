@@ -2,7 +2,7 @@ use Rattle.std.proofs.Common.{arith}
 use Rattle.serde_json.specs.View.{view}
 use Rattle.bt_lsp.specs.Shapes.{diagnostic}
 use Rattle.bt_lsp.proofs.MoreLemmas.{mapped_more}
-use Rattle.bt_lsp.proofs.shapes.diagnostics.Goals as goal
+use Rattle.bt_lsp.proofs.shapes.diagnostic_values.Goals as goal
 
 pub found-preserved : goal.found-preserved
 found-preserved c =

@@ -1,0 +1,10 @@
+use Rattle.std.proofs.Common.{◌≡◌, drop, map}
+use Rattle.std.specs.List.{fold}
+use Rattle.serde_json.specs.View.{view}
+use Rattle.bt_lsp.specs.Formatting.{with_gaps}
+use Rattle.bt_lsp.proofs.formatting.with_pieces.Given as goal
+
+abbrev pub invariant-pieces : goal.invariant-pieces
+invariant-pieces l =
+    let add = with_gaps l.counting l.text in
+    fold add (map view l.all.items) (drop l.piece-index l.pieces) ≡ fold add (map view l.fn.list.items) l.pieces

@@ -1,0 +1,194 @@
+//! Completes fields, keys and macros in a database, and keys in citations.
+
+ghost use Rattle.std.specs.Prelude.{◌≡◌, ◌++◌, ◌∷◌, [], map, option_map, IfOk};
+ghost use Rattle.serde_json.specs.View.{view};
+ghost use Rattle.bt_lsp.specs.Completing.{has_comma, offer_at, start_or, present_in, macro_candidate, macro_candidates, offers, offers_around, database_at, completion_at};
+
+use crate::citing::{candidates, citation_at};
+use crate::entries::{fields_of, is_database, item_around};
+use crate::fields::field_candidates;
+use crate::paper::Paper;
+use crate::picking::{Pick, with_picked};
+use crate::references::is_definition;
+use crate::visiting::{Visit, with_files, with_value};
+use crate::words::shown;
+use bt_bib::{Field, PlacedPiece, read_bib};
+use bt_documents::Document;
+use bt_mentions::{Inside, Mention, inside_item, part};
+use bt_positions::{IndexedText, Position};
+use serde_json::{Value, json};
+use std::alloc::{AllocError, Global};
+
+/// What is offered at a place of an item.
+#[derive(Clone, Copy)]
+pub enum Offer {
+    Nothing,
+    Fields,
+    Keys,
+    Macros,
+}
+
+/// The macros of the databases.
+#[derive(Clone, Copy)]
+struct MacroNames;
+
+fn has_comma(text: &[u8]) -> bool
+    ensures { result ≡ has_comma text.now }
+{
+    text.iter().any(|byte| *byte == b',')
+}
+
+/// What is offered at the end of the front of an item. Fields stand behind the comma that ends the key.
+fn offer_at(front: &[u8]) -> Offer
+    ensures { result ≡ offer_at front.now }
+{
+    match inside_item(front) {
+        Inside::Name(_) => if has_comma(front) {
+            Offer::Fields
+        } else {
+            Offer::Nothing
+        },
+        Inside::Value(false) => Offer::Macros,
+        Inside::Value(true) | Inside::Braced(true, 0) | Inside::Quoted(true, 0) => Offer::Keys,
+        Inside::Braced(_, _) | Inside::Quoted(_, _) => Offer::Nothing,
+    }
+}
+
+fn start_or(around: Option<&PlacedPiece>, place: usize) -> usize
+    ensures { result ≡ start_or place (option_map (λ p. p.now) around.entry) }
+{
+    match around {
+        Some(piece) => piece.start.place,
+        None => place,
+    }
+}
+
+fn present_in(around: Option<&PlacedPiece>) -> &[Field]
+    ensures { result.now ≡ present_in (option_map (λ p. p.now) around.entry) }
+{
+    match around {
+        Some(piece) => fields_of(piece),
+        None => &[],
+    }
+}
+
+fn macro_candidate(alloc: Global, name: &[u8]) -> Result<Value, AllocError>
+    ensures { IfOk result (λ v. view v ≡ macro_candidate name.now) }
+{
+    let name = shown(alloc, name)?;
+    json!(in alloc; {"label": name, "kind": 21})
+}
+
+fn with_name(alloc: Global, name: &[u8], list: Vec<Value>) -> Result<Vec<Value>, AllocError>
+    ensures { IfOk result (λ all. map view all.items ≡ map view list.items ++ macro_candidate name.now ∷ []) }
+{
+    let candidate = macro_candidate(alloc, name)?;
+    with_value(list, candidate)
+}
+
+impl Pick for MacroNames {
+    ghost use Rattle.bt_lsp.specs.Completing.{with_macro};
+
+    ghost picked = { λ m uri text list one. with_macro text list one };
+
+    fn pick(
+        &self,
+        alloc: Global,
+        uri: &[u8],
+        text: &IndexedText,
+        list: Vec<Value>,
+        one: Mention,
+    ) -> Result<Vec<Value>, AllocError> {
+        let _ = uri;
+        if !is_definition(one.role) {
+            return Ok(list);
+        }
+        with_name(alloc, part(text.as_slice(), one.from, one.to), list)
+    }
+}
+
+impl Visit for MacroNames {
+    ghost use Rattle.bt_lsp.specs.Completing.{with_macros};
+
+    ghost added = { λ m list uri text. with_macros list uri text };
+
+    fn visit(
+        &self,
+        alloc: Global,
+        list: Vec<Value>,
+        uri: &[u8],
+        text: &[u8],
+    ) -> Result<Vec<Value>, AllocError> {
+        with_picked(alloc, self, list, uri, text)
+    }
+}
+
+fn macro_candidates<P: Paper>(alloc: Global, paper: &P) -> Result<Vec<Value>, AllocError>
+    ensures { IfOk result (λ list. map view list.items ≡ macro_candidates (P.shown paper.now).files) }
+{
+    let names = MacroNames;
+    with_files(alloc, paper, &names, Vec::new(alloc))
+}
+
+fn offers<P: Paper>(
+    alloc: Global,
+    paper: &P,
+    present: &[Field],
+    offer: Offer,
+) -> Result<Value, AllocError>
+    ensures { IfOk result (λ v. view v ≡ offers (P.shown paper.now).files present.now offer) }
+{
+    match offer {
+        Offer::Nothing => Ok(Value::Null),
+        Offer::Keys => Ok(Value::Array(candidates(alloc, paper)?)),
+        Offer::Macros => Ok(Value::Array(macro_candidates(alloc, paper)?)),
+        Offer::Fields => Ok(Value::Array(field_candidates(alloc, paper, present)?)),
+    }
+}
+
+fn offers_around<P: Paper>(
+    alloc: Global,
+    paper: &P,
+    text: &[u8],
+    around: Option<&PlacedPiece>,
+    place: usize,
+) -> Result<Value, AllocError>
+    ensures { IfOk result (λ v. view v ≡
+        offers_around (P.shown paper.now).files text.now (option_map (λ p. p.now) around.entry) place) }
+{
+    let offer = offer_at(part(text, start_or(around, place), place));
+    offers(alloc, paper, present_in(around), offer)
+}
+
+fn database_at<P: Paper>(
+    alloc: Global,
+    paper: &P,
+    document: &Document,
+    at: Position,
+) -> Result<Value, AllocError>
+    ensures { IfOk result (λ v. view v ≡ database_at (P.shown paper.now).files document.now at) }
+{
+    let place = document.text.offset_of(document.counting, at);
+    let text = document.text.as_slice();
+    let items = read_bib(alloc, text)?;
+    let around = item_around(items.pieces(), place);
+    let list = offers_around(alloc, paper, text, around, place)?;
+    Ok(list)
+}
+
+/// What is offered at a position of a document: in a database fields, the keys in a `crossref` field, and macros in other
+/// values; elsewhere the keys in a citation.
+pub fn completion_at<P: Paper>(
+    alloc: Global,
+    paper: &P,
+    document: &Document,
+    at: Position,
+) -> Result<Value, AllocError>
+    ensures { IfOk result (λ v. view v ≡ completion_at (P.shown paper.now).files document.now at) }
+{
+    if is_database(document.name.as_slice()) {
+        database_at(alloc, paper, document, at)
+    } else {
+        citation_at(alloc, paper, document, at)
+    }
+}

@@ -1,0 +1,269 @@
+//! Renames a key or a macro in the paper's files and in LaTeX's open texts.
+
+ghost use Rattle.std.specs.Prelude.{◌≡◌, ◌<◌, ◌*◌, ◌^◌, ◌++◌, ◌∷◌, [], length, map, option_map, IfOk};
+ghost use Rattle.std.specs.List.{list_all};
+ghost use Rattle.serde_json.specs.View.{view};
+ghost use Rattle.bt_mentions.specs.KeyBytes.{is_key_byte};
+ghost use Rattle.bt_lsp.specs.Shapes.{range_of};
+ghost use Rattle.bt_lsp.specs.Renaming.{text_edit, file_edit, with_file_edit, workspace_edit, is_new_key, can_be_named, renamed, is_free, renamed_if_free, renamed_at, name_range_at};
+
+use crate::mentioning::mention_at;
+use crate::news::SHOWN_BYTES;
+use crate::paper::Paper;
+use crate::picking::{Pick, with_picked};
+use crate::references::{Search, Wanted, is_mention, is_mentioned, wanted_of};
+use crate::shapes::range_of;
+use crate::visiting::{Visit, is_any, with_files, with_texts, with_value};
+use crate::words::shown;
+use bt_documents::Document;
+use bt_mentions::{Mention, is_key_byte, part};
+use bt_positions::{Counting, IndexedText, Position};
+use bt_text::{eq_ignore_ascii_case, is_name};
+use serde_json::{Value, json};
+use std::alloc::{AllocError, Global};
+
+/// A change of a name to another in all mentions.
+#[derive(Clone, Copy)]
+pub struct Renaming<'a> {
+    counting: Counting,
+    wanted: Wanted,
+    old: &'a [u8],
+    new: &'a [u8],
+}
+
+fn text_edit(alloc: Global, range: Value, new: &[u8]) -> Result<Value, AllocError>
+    ensures { IfOk result (λ v. view v ≡ text_edit (view range) new.now) }
+{
+    let text = shown(alloc, new)?;
+    json!(in alloc; {"range": range, "newText": text})
+}
+
+/// Adds the edit that replaces a part of a text, by its begin and its end.
+pub fn with_text_edit(
+    alloc: Global,
+    counting: Counting,
+    text: &IndexedText,
+    list: Vec<Value>,
+    place: (usize, usize),
+    new: &[u8],
+) -> Result<Vec<Value>, AllocError>
+    requires { 2 * length text.now < 2 ^ 64 }
+    ensures { IfOk result (λ all. map view all.items ≡
+        map view list.items ++ text_edit (range_of counting text.now place.0 place.1) new.now ∷ []) }
+{
+    let range = range_of(alloc, counting, text, place.0, place.1)?;
+    let edit = text_edit(alloc, range, new)?;
+    with_value(list, edit)
+}
+
+impl Pick for Renaming<'_> {
+    ghost use Rattle.bt_lsp.specs.Renaming.{with_edit};
+
+    ghost picked = { λ r uri text list one. with_edit r.counting r.wanted r.old.now r.new.now text list one };
+
+    fn pick(
+        &self,
+        alloc: Global,
+        uri: &[u8],
+        text: &IndexedText,
+        list: Vec<Value>,
+        one: Mention,
+    ) -> Result<Vec<Value>, AllocError> {
+        let _ = uri;
+        if !is_mention(self.wanted, self.old, text.as_slice(), one) {
+            return Ok(list);
+        }
+        with_text_edit(
+            alloc,
+            self.counting,
+            text,
+            list,
+            (one.from, one.to),
+            self.new,
+        )
+    }
+}
+
+/// The edits of a file. The version is null: the client knows its own.
+fn file_edit(alloc: Global, uri: &[u8], edits: Vec<Value>) -> Result<Value, AllocError>
+    ensures { IfOk result (λ v. view v ≡ file_edit uri.now (map view edits.items)) }
+{
+    let uri = shown(alloc, uri)?;
+    let edits = Value::Array(edits);
+    json!(in alloc; {"textDocument": {"uri": uri, "version": null}, "edits": edits})
+}
+
+pub fn with_edits(
+    alloc: Global,
+    list: Vec<Value>,
+    uri: &[u8],
+    edits: Vec<Value>,
+) -> Result<Vec<Value>, AllocError>
+    ensures { IfOk result (λ all. map view all.items ≡
+        map view list.items ++ file_edit uri.now (map view edits.items) ∷ []) }
+{
+    let edit = file_edit(alloc, uri, edits)?;
+    with_value(list, edit)
+}
+
+fn with_file_edit(
+    alloc: Global,
+    list: Vec<Value>,
+    uri: &[u8],
+    edits: Vec<Value>,
+) -> Result<Vec<Value>, AllocError>
+    ensures { IfOk result (λ all. map view all.items ≡ with_file_edit (map view list.items) uri.now (map view edits.items)) }
+{
+    if !is_any(edits.as_slice()) {
+        return Ok(list);
+    }
+    with_edits(alloc, list, uri, edits)
+}
+
+impl Visit for Renaming<'_> {
+    ghost use Rattle.bt_lsp.specs.Renaming.{with_renamed};
+
+    ghost added = { λ r list uri text. with_renamed r.counting r.wanted r.old.now r.new.now list uri text };
+
+    fn visit(
+        &self,
+        alloc: Global,
+        list: Vec<Value>,
+        uri: &[u8],
+        text: &[u8],
+    ) -> Result<Vec<Value>, AllocError> {
+        let edits = with_picked(alloc, self, Vec::new(alloc), uri, text)?;
+        with_file_edit(alloc, list, uri, edits)
+    }
+}
+
+pub fn workspace_edit(alloc: Global, changes: Vec<Value>) -> Result<Value, AllocError>
+    ensures { IfOk result (λ v. view v ≡ workspace_edit (map view changes.items)) }
+{
+    let changes = Value::Array(changes);
+    json!(in alloc; {"documentChanges": changes})
+}
+
+fn has_key_bytes_alone(text: &[u8]) -> bool
+    ensures { result ≡ list_all is_key_byte text.now }
+{
+    text.iter().all(|byte| is_key_byte(*byte))
+}
+
+/// Whether a text can be a key in any entry and citation.
+fn is_new_key(new: &[u8]) -> bool
+    ensures { result ≡ is_new_key new.now }
+{
+    match new {
+        [] => false,
+        [_, ..] => has_key_bytes_alone(new),
+    }
+}
+
+/// Whether a text can be the name of what is looked for.
+fn can_be_named(wanted: Wanted, new: &[u8]) -> bool
+    ensures { result ≡ can_be_named wanted new.now }
+{
+    match wanted {
+        Wanted::Keys => is_new_key(new),
+        Wanted::Macros | Wanted::Definitions => is_name(new),
+    }
+}
+
+/// All edits of a renaming.
+fn renamed<P: Paper>(
+    alloc: Global,
+    paper: &P,
+    documents: &[Document],
+    renaming: &Renaming<'_>,
+) -> Result<Value, AllocError>
+    ensures { IfOk result (λ v. view v ≡ renamed (P.shown paper.now).files documents.now
+        renaming.now.counting renaming.now.wanted renaming.now.old.now renaming.now.new.now) }
+{
+    let changes = with_files(alloc, paper, renaming, Vec::new(alloc))?;
+    let changes = with_texts(alloc, documents, renaming, changes)?;
+    workspace_edit(alloc, changes)
+}
+
+/// Whether a name is free: nothing has it, or it is the old one in another spelling.
+fn is_free<P: Paper>(
+    alloc: Global,
+    paper: &P,
+    documents: &[Document],
+    renaming: &Renaming<'_>,
+) -> Result<bool, AllocError>
+    ensures { IfOk result (λ free. free ≡ is_free (P.shown paper.now).files documents.now
+        renaming.now.counting renaming.now.wanted renaming.now.old.now renaming.now.new.now) }
+{
+    if eq_ignore_ascii_case(renaming.new, renaming.old) {
+        return Ok(true);
+    }
+    let search = Search {
+        counting: renaming.counting,
+        wanted: renaming.wanted,
+        name: renaming.new,
+    };
+    let found = is_mentioned(alloc, paper, documents, &search)?;
+    Ok(!found)
+}
+
+fn renamed_if_free<P: Paper>(
+    alloc: Global,
+    paper: &P,
+    documents: &[Document],
+    renaming: &Renaming<'_>,
+) -> Result<Value, AllocError>
+    ensures { IfOk result (λ v. view v ≡ renamed_if_free (P.shown paper.now).files documents.now
+        renaming.now.counting renaming.now.wanted renaming.now.old.now renaming.now.new.now) }
+{
+    if !can_be_named(renaming.wanted, renaming.new) {
+        return Ok(Value::Null);
+    }
+    let free = is_free(alloc, paper, documents, renaming)?;
+    if !free {
+        return Ok(Value::Null);
+    }
+    renamed(alloc, paper, documents, renaming)
+}
+
+/// The edits that give the key or the macro at a position of a document a new name, in all files; null if there is none, or
+/// if it can't have this name.
+pub fn renamed_at<P: Paper>(
+    alloc: Global,
+    paper: &P,
+    documents: &[Document],
+    document: &Document,
+    at: Position,
+    new: Option<&str>,
+) -> Result<Value, AllocError>
+    ensures { IfOk result (λ v. view v ≡
+        renamed_at (P.shown paper.now).files documents.now document.now at (option_map (λ s. s.now) new.entry)) }
+{
+    let Some(new) = new else {
+        return Ok(Value::Null);
+    };
+    let Some(one) = mention_at(alloc, document, at)? else {
+        return Ok(Value::Null);
+    };
+    let renaming = Renaming {
+        counting: document.counting,
+        wanted: wanted_of(one.role),
+        old: part(document.text.as_slice(), one.from, one.to),
+        new: new.as_bytes(),
+    };
+    let edit = renamed_if_free(alloc, paper, documents, &renaming)?;
+    Ok(edit)
+}
+
+/// The range of the name at a position of a document; null if there is none.
+pub fn name_range_at(alloc: Global, document: &Document, at: Position) -> Result<Value, AllocError>
+    ensures { IfOk result (λ v. view v ≡ name_range_at document.now at) }
+{
+    if document.text.as_slice().len() > SHOWN_BYTES {
+        return Ok(Value::Null);
+    }
+    let Some(one) = mention_at(alloc, document, at)? else {
+        return Ok(Value::Null);
+    };
+    range_of(alloc, document.counting, &document.text, one.from, one.to)
+}

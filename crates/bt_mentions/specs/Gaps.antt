@@ -1,0 +1,90 @@
+-- The white space between the parts of an entry.
+use Rattle.std.specs.Prelude.{ℕ, ◌+◌, ◌-◌, ◌==◌, min, Bool, true, false, if◌then◌else◌, List, [], ◌∷◌, ◌++◌, length, Option, Some, None}
+use Rattle.std.specs.List.{cons_option, fold}
+use Rattle.bt_text.specs.ByteTests.{is_white}
+use Rattle.bt_bib.specs.declared.fault.ItemFault.{ItemFault}
+use Rattle.bt_bib.specs.declared.item.Content.{Content}
+use Rattle.bt_bib.specs.declared.item.Content.TheVariants.{Entry, Define, Preamble}
+use Rattle.bt_bib.specs.declared.item.Item.{Item as ReadItem}
+use Rattle.bt_bib.specs.declared.item.Piece.{Piece}
+use Rattle.bt_bib.specs.declared.item.Piece.TheVariants.{Comment, Item}
+use Rattle.bt_bib.specs.declared.placed_pieces.PlacedPiece.{PlacedPiece}
+use Rattle.bt_mentions.specs.declared.inside.Inside.{Inside}
+use Rattle.bt_mentions.specs.declared.inside.Inside.TheVariants.{Name, Value, Braced, Quoted}
+use Rattle.bt_mentions.specs.declared.layout.Gap.{Gap}
+use Rattle.bt_mentions.specs.declared.layout.Search.{Search}
+use Rattle.bt_mentions.specs.Inside.{inside_after}
+use Rattle.bt_mentions.specs.Databases.{part, head_len}
+
+-- whether a byte at a place of an item is a comma between its parts
+abbrev pub is_separator : Inside → ℕ → Bool
+is_separator (Name found) byte = byte == 44
+is_separator (Value is_crossref) byte = byte == 44
+is_separator (Braced is_crossref depth) byte = false
+is_separator (Quoted is_crossref depth) byte = false
+
+-- the gap that ends before a byte, if one does
+abbrev pub ended : Option ℕ → ℕ → ℕ → Option Gap
+ended None place byte = None
+ended (Some from) place byte =
+    if is_white byte then None else Some (record { from = from; to = place; is_last = false })
+
+-- where the gap begins that the bytes up to this one end with
+abbrev pub reopened : Option ℕ → Inside → ℕ → ℕ → Option ℕ
+reopened begun state place byte =
+    if is_separator state byte then Some (place + 1) else (if is_white byte then begun else None)
+
+-- the place behind the last byte that isn't white space
+abbrev pub dark_after : ℕ → ℕ → ℕ → ℕ
+dark_after dark place byte = if is_white byte then dark else place + 1
+
+-- a search after one more byte
+abbrev pub gaps_after : Search → ℕ → Search
+gaps_after s byte =
+    record {
+      state = inside_after s.state byte;
+      place = s.place + 1;
+      begun = reopened s.begun s.state s.place byte;
+      dark = dark_after s.dark s.place byte;
+      found = s.found ++ cons_option (ended s.begun s.place byte) [];
+    }
+
+-- the gaps, and the last one, which goes up to the place
+abbrev pub all_gaps : Search → List Gap
+all_gaps s = s.found ++ record { from = s.dark; to = s.place; is_last = true } ∷ []
+
+-- the gaps of an entry whose fields are between two places of a text
+abbrev pub gaps_between : List ℕ → ℕ → ℕ → List Gap
+gaps_between text from to =
+    let place = min from (length text) in
+    all_gaps (fold gaps_after (record { state = Name 9; place = place; begun = None; dark = place; found = [] })
+    (part place to text))
+
+-- the gaps behind a key, if there is one
+abbrev pub key_gaps : List ℕ → ℕ → ℕ → Option (List ℕ) → List Gap
+key_gaps text from to None = []
+key_gaps text from to (Some key) = gaps_between text (min from (length text) + length key) to
+
+-- the gaps of an entry whose key begins at a place of a text
+abbrev pub content_gaps : List ℕ → ℕ → ℕ → Content → List Gap
+content_gaps text from to (Entry entry) = key_gaps text from to entry.key
+content_gaps text from to (Define definition) = []
+content_gaps text from to (Preamble value) = []
+
+-- the same, if there is no fault
+abbrev pub faultless_gaps : List ℕ → ℕ → ℕ → Content → Option ItemFault → List Gap
+faultless_gaps text from to content (Some fault) = []
+faultless_gaps text from to content None = content_gaps text from to content
+
+-- the gaps of an item
+abbrev pub item_gaps : List ℕ → ℕ → ℕ → ReadItem → List Gap
+item_gaps text from to i = faultless_gaps text from to i.content i.fault
+
+-- the gaps of a piece that goes from one place up to another
+abbrev pub placed_gaps : List ℕ → ℕ → ℕ → Piece → List Gap
+placed_gaps text start end Comment = []
+placed_gaps text start end (Item i) = item_gaps text (start + head_len (part start end text)) (end - 1) i
+
+-- the gaps of an entry without a fault
+abbrev pub gaps : List ℕ → PlacedPiece → List Gap
+gaps text p = placed_gaps text (min p.start.place (length text)) p.end.place p.piece

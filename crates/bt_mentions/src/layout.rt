@@ -1,0 +1,201 @@
+//! The white space between the parts of an entry: after each comma outside of braces and quotes, and before the closing sign.
+//! It can change without changing what is read.
+
+ghost use Rattle.std.specs.Prelude.{◌≡◌, ◌<◌, ◌+◌, ◌^◌, ◌++◌, ◌∷◌, [], length, IfOk, OnOk};
+ghost use Rattle.std.specs.List.{cons_option, fold};
+ghost use Rattle.bt_mentions.specs.Gaps.{is_separator, ended, reopened, dark_after, gaps_after, all_gaps, gaps_between, content_gaps, item_gaps, gaps};
+
+use crate::databases::{head_len, part};
+use crate::inside::{Inside, inside_after};
+use bt_bib::{Content, Item, Piece, PlacedPiece};
+use bt_text::{Sequence, is_white};
+use std::alloc::{AllocError, Global};
+
+/// White space between the parts of an entry, or the place where there could be some.
+#[derive(Clone, Copy)]
+pub struct Gap {
+    pub from: usize,
+    pub to: usize,
+    /// Whether the closing sign follows.
+    pub is_last: bool,
+}
+
+/// A search for gaps that has come to a place.
+#[derive(Drop)]
+pub struct Search {
+    pub state: Inside,
+    pub place: usize,
+    /// Where the gap begins that the bytes before the place end with, if they do.
+    pub begun: Option<usize>,
+    /// The place behind the last byte that isn't white space.
+    pub dark: usize,
+    pub found: Sequence<Gap>,
+}
+
+fn is_separator(state: Inside, byte: u8) -> bool
+    ensures { result ≡ is_separator state byte }
+{
+    match state {
+        Inside::Name(_) | Inside::Value(_) => byte == b',',
+        Inside::Braced(_, _) | Inside::Quoted(_, _) => false,
+    }
+}
+
+fn ended(begun: Option<usize>, place: usize, byte: u8) -> Option<Gap>
+    ensures { result ≡ ended begun place byte }
+{
+    match begun {
+        Some(from) => if is_white(byte) {
+            None
+        } else {
+            Some(Gap {
+                from,
+                to: place,
+                is_last: false,
+            })
+        },
+        None => None,
+    }
+}
+
+fn reopened(begun: Option<usize>, state: Inside, place: usize, byte: u8) -> Option<usize>
+    requires { place + 1 < 2 ^ 64 }
+    ensures { result ≡ reopened begun state place byte }
+{
+    if is_separator(state, byte) {
+        Some(place + 1)
+    } else if is_white(byte) {
+        begun
+    } else {
+        None
+    }
+}
+
+fn dark_after(dark: usize, place: usize, byte: u8) -> usize
+    requires { place + 1 < 2 ^ 64 }
+    ensures { result ≡ dark_after dark place byte }
+{
+    if is_white(byte) { dark } else { place + 1 }
+}
+
+fn push_if_any(found: &mut Sequence<Gap>, one: Option<Gap>) -> Result<(), AllocError>
+    ensures { OnOk result (found.new ≡ found.old ++ cons_option one []) }
+{
+    if let Some(one) = one {
+        found.push(one)?;
+    }
+    Ok(())
+}
+
+impl Search {
+    fn take(&mut self, byte: u8) -> Result<(), AllocError>
+        requires { self.old.place + 1 < 2 ^ 64 }
+        ensures { OnOk result (self.new ≡ gaps_after self.old byte) }
+    {
+        push_if_any(&mut self.found, ended(self.begun, self.place, byte))?;
+        self.begun = reopened(self.begun, self.state, self.place, byte);
+        self.dark = dark_after(self.dark, self.place, byte);
+        self.state = inside_after(self.state, byte);
+        self.place += 1;
+        Ok(())
+    }
+
+    /// The gaps, and the last one, which goes up to the place.
+    fn into_found(self) -> Result<Sequence<Gap>, AllocError>
+        ensures { IfOk result (λ found. found ≡ all_gaps self) }
+    {
+        let Search {
+            place,
+            dark,
+            found,
+            ..
+        } = self;
+        let mut all = found;
+        all.push(Gap {
+            from: dark,
+            to: place,
+            is_last: true,
+        })?;
+        Ok(all)
+    }
+
+    fn over(self, text: &[u8]) -> Result<Sequence<Gap>, AllocError>
+        requires { self.place + length text.now < 2 ^ 64 }
+        ensures { IfOk result (λ found. found ≡ all_gaps (fold gaps_after self text.now)) }
+    {
+        let mut search = self;
+        'bytes: for byte in text {
+            search.take(*byte)?;
+        }
+        search.into_found()
+    }
+}
+
+/// The gaps of an entry whose fields are between two places of a text.
+fn gaps_between(
+    alloc: Global,
+    text: &[u8],
+    from: usize,
+    to: usize,
+) -> Result<Sequence<Gap>, AllocError>
+    ensures { IfOk result (λ found. found ≡ gaps_between text.now from to) }
+{
+    let place = from.min(text.len());
+    let search = Search {
+        state: Inside::Name(9),
+        place,
+        begun: None,
+        dark: place,
+        found: Sequence::new(alloc),
+    };
+    search.over(part(text, place, to))
+}
+
+fn content_gaps(
+    alloc: Global,
+    text: &[u8],
+    from: usize,
+    to: usize,
+    content: &Content,
+) -> Result<Sequence<Gap>, AllocError>
+    ensures { IfOk result (λ found. found ≡ content_gaps text.now from to content.now) }
+{
+    match content {
+        Content::Entry(entry) => match &entry.key {
+            Some(key) => {
+                let place = from.min(text.len()) + key.as_slice().len();
+                gaps_between(alloc, text, place, to)
+            }
+            None => Ok(Sequence::new(alloc)),
+        },
+        Content::Define(_) | Content::Preamble(_) => Ok(Sequence::new(alloc)),
+    }
+}
+
+fn item_gaps(
+    alloc: Global,
+    text: &[u8],
+    from: usize,
+    to: usize,
+    item: &Item,
+) -> Result<Sequence<Gap>, AllocError>
+    ensures { IfOk result (λ found. found ≡ item_gaps text.now from to item.now) }
+{
+    match &item.fault {
+        Some(_) => Ok(Sequence::new(alloc)),
+        None => content_gaps(alloc, text, from, to, &item.content),
+    }
+}
+
+/// The gaps of an entry without a fault; none of anything else.
+pub fn gaps(alloc: Global, text: &[u8], piece: &PlacedPiece) -> Result<Sequence<Gap>, AllocError>
+    ensures { IfOk result (λ found. found ≡ gaps text.now piece.now) }
+{
+    let start = piece.start.place.min(text.len());
+    let from = start + head_len(part(text, start, piece.end.place));
+    let to = piece.end.place.saturating_sub(1);
+    match &*piece.piece {
+        Piece::Comment => Ok(Sequence::new(alloc)),
+        Piece::Item(item) => item_gaps(alloc, text, from, to, item),
+    }
+}

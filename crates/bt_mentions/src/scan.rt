@@ -1,0 +1,108 @@
+//! The mentions of a text: longest runs of bytes that a scan's state takes for parts of a name.
+
+ghost use Rattle.std.specs.Prelude.{◌≡◌, ◌<◌, ◌+◌, ◌^◌, ◌++◌, [], length, IfOk, OnOk};
+ghost use Rattle.std.specs.List.{cons_option, fold};
+ghost use Rattle.bt_mentions.specs.Scan.{continued, finished, scan_after, all_found, citations};
+
+use crate::citing::Citing;
+use crate::mention::{Mention, Role};
+use crate::state::{State, role_at, state_after};
+use bt_text::Sequence;
+use std::alloc::{AllocError, Global};
+
+/// A scan that has come to a place.
+#[derive(Drop)]
+pub struct Scan {
+    pub state: State,
+    pub place: usize,
+    /// The mention that the bytes before the place end with, if they do.
+    pub current: Option<Mention>,
+    /// The mentions before it.
+    pub found: Sequence<Mention>,
+}
+
+fn continued(role: Option<Role>, place: usize, current: Option<Mention>) -> Option<Mention>
+    requires { place + 1 < 2 ^ 64 }
+    ensures { result ≡ continued role place current }
+{
+    match (role, current) {
+        (None, _) => None,
+        (Some(role), None) => Some(Mention {
+            from: place,
+            to: place + 1,
+            role,
+        }),
+        (Some(_), Some(one)) => Some(Mention {
+            from: one.from,
+            to: place + 1,
+            role: one.role,
+        }),
+    }
+}
+
+fn finished(role: Option<Role>, current: Option<Mention>) -> Option<Mention>
+    ensures { result ≡ finished role current }
+{
+    match role {
+        Some(_) => None,
+        None => current,
+    }
+}
+
+fn push_if_any(found: &mut Sequence<Mention>, one: Option<Mention>) -> Result<(), AllocError>
+    ensures { OnOk result (found.new ≡ found.old ++ cons_option one []) }
+{
+    if let Some(one) = one {
+        found.push(one)?;
+    }
+    Ok(())
+}
+
+impl Scan {
+    fn take(&mut self, byte: u8) -> Result<(), AllocError>
+        requires { self.old.place + 1 < 2 ^ 64 }
+        ensures { OnOk result (self.new ≡ scan_after self.old byte) }
+    {
+        let role = role_at(self.state, byte);
+        push_if_any(&mut self.found, finished(role, self.current))?;
+        self.current = continued(role, self.place, self.current);
+        self.state = state_after(self.state, byte);
+        self.place += 1;
+        Ok(())
+    }
+
+    /// The mentions, and the one that the bytes end with.
+    fn into_found(self) -> Result<Sequence<Mention>, AllocError>
+        ensures { IfOk result (λ found. found ≡ all_found self) }
+    {
+        let Scan { current, found, .. } = self;
+        let mut all = found;
+        push_if_any(&mut all, current)?;
+        Ok(all)
+    }
+
+    /// The mentions up to the end of the bytes that follow.
+    pub fn over(self, text: &[u8]) -> Result<Sequence<Mention>, AllocError>
+        requires { self.place + length text.now < 2 ^ 64 }
+        ensures { IfOk result (λ found. found ≡ all_found (fold scan_after self text.now)) }
+    {
+        let mut scan = self;
+        'bytes: for byte in text {
+            scan.take(*byte)?;
+        }
+        scan.into_found()
+    }
+}
+
+/// The keys that a text cites.
+pub fn citations(alloc: Global, text: &[u8]) -> Result<Sequence<Mention>, AllocError>
+    ensures { IfOk result (λ found. found ≡ citations text.now) }
+{
+    let scan = Scan {
+        state: State::Text(Citing::Outside),
+        place: 0,
+        current: None,
+        found: Sequence::new(alloc),
+    };
+    scan.over(text)
+}
