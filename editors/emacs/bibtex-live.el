@@ -1,5 +1,6 @@
 ;;; bibtex-live.el --- The bibliography of a paper, as it is typed -*- lexical-binding: t -*-
 
+;; Version: 0.9.0
 ;; Package-Requires: ((emacs "26.1"))
 ;; Keywords: bib, tex
 
@@ -197,6 +198,9 @@
 
 (defun bibtex-live--launch (paper)
   "Start the program of PAPER."
+  ;; Emacs reads 4096 bytes at a time otherwise, so a bibliography comes in dozens of pieces.
+  (when (boundp 'read-process-output-max)
+    (setq read-process-output-max (max read-process-output-max 1048576)))
   (setf (bibtex-live--paper-sent paper) nil
         (bibtex-live--paper-asked paper) nil
         (bibtex-live--paper-stale paper) nil

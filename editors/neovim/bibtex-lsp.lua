@@ -4,46 +4,109 @@
 --
 --   dofile(vim.fn.expand('~/.local/share/dulshenko/editors/neovim/bibtex-lsp.lua'))
 --
--- Each folder has one server. Its job is the newest .aux file of the folder that names a database, unless
--- g:bibtex_lsp_job names another. g:bibtex_lsp_program is the program, if it isn't bibtex-lsp on the PATH.
+-- Each paper has one server. A file's paper is that of its `% !TEX root`, else the newest .aux file that names a database:
+-- in the file's folder, in an output folder of it, or in the folder above. g:bibtex_lsp_job names another job, and
+-- g:bibtex_lsp_program is the program, if it isn't bibtex-lsp on the PATH. :BibtexBibliography opens a window with the
+-- bibliography, which follows each change.
 
 local clients = {}
+local windows = {}
 
--- The job of a folder: the name of its .aux file without .aux, or nil.
-local function job_in(folder)
-  local job, newest = vim.g.bibtex_lsp_job, -1
-  if job then return job end
-  for _, path in ipairs(vim.fn.glob(folder .. '/*.aux', false, true)) do
-    local time = vim.fn.getftime(path)
-    if time > newest and table.concat(vim.fn.readfile(path), '\n'):find('\\bibdata{', 1, true) then
-      job, newest = vim.fn.fnamemodify(path, ':t:r'), time
+-- The folders in which LaTeX may write the files of a folder.
+local function outputs(folder)
+  local names = { folder }
+  for _, rc in ipairs({ 'latexmkrc', '.latexmkrc' }) do
+    if vim.fn.filereadable(folder .. '/' .. rc) == 1 then
+      for _, line in ipairs(vim.fn.readfile(folder .. '/' .. rc, '', 200)) do
+        local name = line:match('^%s*%$[auxot]+_dir%s*=%s*["\']([^"\']+)["\']')
+        if name then table.insert(names, name:sub(1, 1) == '/' and name or folder .. '/' .. name) end
+      end
     end
   end
-  return job
+  for _, name in ipairs({ 'build', 'out', 'output', 'aux', '.aux', 'tmp' }) do table.insert(names, folder .. '/' .. name) end
+  return names
 end
 
--- Where TeX looks for styles and databases.
-local function search_options()
-  local options = {}
-  if vim.fn.executable('kpsewhich') == 0 then return options end
-  local folders = vim.fn.system({ 'kpsewhich', '-expand-path=$BSTINPUTS:$BIBINPUTS' })
-  for folder in folders:gmatch('[^:\n]+') do
-    if folder:sub(1, 1) == '/' then table.insert(options, '--search=' .. folder) end
+-- The newest .aux file of a folder or its output folders that names a database, or nil.
+local function newest_aux(folder)
+  local found, newest = nil, -1
+  for _, place in ipairs(outputs(folder)) do
+    for _, path in ipairs(vim.fn.glob(place .. '/*.aux', true, true)) do
+      local time = vim.fn.getftime(path)
+      if time > newest and table.concat(vim.fn.readfile(path), '\n'):find('\\bibdata{', 1, true) then
+        found, newest = path, time
+      end
+    end
   end
-  return options
+  return found
+end
+
+-- The folder, the job and the output folder of the present buffer's paper.
+local function paper()
+  local here = vim.fn.expand('%:p:h')
+  for _, line in ipairs(vim.api.nvim_buf_get_lines(0, 0, 20, false)) do
+    local root = line:match('^%s*%%%s*![Tt][Ee][Xx]%s+[Rr][Oo][Oo][Tt]%s*=%s*(.-)%s*$')
+    if root then
+      local path = vim.fn.simplify(root:sub(1, 1) == '/' and root or here .. '/' .. root)
+      local folder, job = vim.fn.fnamemodify(path, ':h'), vim.fn.fnamemodify(path, ':t'):gsub('%.tex$', '')
+      for _, place in ipairs(outputs(folder)) do
+        if vim.fn.filereadable(place .. '/' .. job .. '.aux') == 1 then return folder, job, place end
+      end
+      return folder, job, folder
+    end
+  end
+  for _, folder in ipairs({ here, vim.fn.fnamemodify(here, ':h') }) do
+    local aux = newest_aux(folder)
+    if aux then return folder, vim.fn.fnamemodify(aux, ':t:r'), vim.fn.fnamemodify(aux, ':h') end
+  end
+  return here, nil, here
+end
+
+-- Fills the window of a client's bibliography.
+local function show(client)
+  local buffer = windows[client.id]
+  if not buffer or not vim.api.nvim_buf_is_valid(buffer) then return end
+  client.request('bibtex/bbl', vim.empty_dict(), function(_, answer)
+    if not answer or not vim.api.nvim_buf_is_valid(buffer) then return end
+    vim.bo[buffer].modifiable = true
+    vim.api.nvim_buf_set_lines(buffer, 0, -1, false, vim.split(answer.text, '\n'))
+    vim.bo[buffer].modifiable = false
+  end)
 end
 
 local function attach()
-  local folder = vim.fn.expand('%:p:h')
-  if not clients[folder] then
+  local folder, job, output = paper()
+  job = vim.g.bibtex_lsp_job or job
+  if not clients[folder] or vim.lsp.client_is_stopped(clients[folder]) then
     clients[folder] = vim.lsp.start_client({
       name = 'bibtex-lsp',
-      cmd = vim.list_extend({ vim.g.bibtex_lsp_program or 'bibtex-lsp' }, search_options()),
+      cmd = vim.list_extend({ vim.g.bibtex_lsp_program or 'bibtex-lsp', '--search=' .. folder, '--search=' .. output }, job and { '--job=' .. job } or {}),
+      cmd_cwd = folder,
       root_dir = folder,
-      init_options = { job = job_in(folder) },
+      init_options = job and { job = job } or vim.empty_dict(),
+      handlers = {
+        ['textDocument/publishDiagnostics'] = function(fault, found, context, settings)
+          vim.lsp.diagnostic.on_publish_diagnostics(fault, found, context, settings)
+          local client = vim.lsp.get_client_by_id(context.client_id)
+          if client then show(client) end
+        end,
+      },
     })
   end
   if clients[folder] then vim.lsp.buf_attach_client(0, clients[folder]) end
 end
 
 vim.api.nvim_create_autocmd('FileType', { pattern = { 'bib', 'bst', 'tex', 'plaintex' }, callback = attach })
+
+vim.api.nvim_create_user_command('BibtexBibliography', function()
+  for _, client in pairs(vim.lsp.buf_get_clients(0)) do
+    if client.name == 'bibtex-lsp' then
+      vim.cmd('botright 15new | wincmd p')
+      windows[client.id] = vim.fn.bufnr('$')
+      vim.bo[windows[client.id]].buftype = 'nofile'
+      vim.bo[windows[client.id]].filetype = 'tex'
+      return show(client)
+    end
+  end
+  vim.notify('bibtex-lsp: open a file of the paper first', vim.log.levels.WARN)
+end, {})

@@ -28,7 +28,7 @@ standard input and output.
 
   --job=NAME        the job, the name of its .aux file without .aux; the editor may name it
                     instead, by initializationOptions.job
-  --search=FOLDER   also look for files there. The editor's folder and the present one come first
+  --search=FOLDER   also look for files there. The editor's folder comes first, the present one last
   --version         print the version
   --help            print this
 

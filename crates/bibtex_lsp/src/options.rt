@@ -17,7 +17,6 @@ pub enum Request {
 pub fn parse(alloc: Global, words: &[String]) -> Result<Request, AllocError> {
     let mut job = String::new(alloc);
     let mut folders = Vec::new(alloc);
-    folders.push(String::from_str(alloc, "./")?)?;
     'words: for word in words.iter().skip(1) {
         let word = word.as_str();
         match word {
@@ -33,6 +32,7 @@ pub fn parse(alloc: Global, words: &[String]) -> Result<Request, AllocError> {
             return Ok(Request::Unknown);
         }
     }
+    folders.push(String::from_str(alloc, "./")?)?;
     Ok(Request::Serve(Options { job, folders }))
 }
 
