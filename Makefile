@@ -48,6 +48,9 @@ test:
 	tests/front $(JOB_PROGRAM) $(PROGRAM)
 	tests/check $(CHECK_PROGRAM)
 	tests/lsp $(LSP_PROGRAM)
+	tests/lsp $(LSP_PROGRAM) --random 40 1
+	tests/lsp $(LSP_PROGRAM) --broken 300 1
+	tests/lsp $(LSP_PROGRAM) --hostile
 	tests/originals
 	tests/random
 	tests/memory
