@@ -14,7 +14,7 @@
 # make hostile    times the worst inputs that we could think of
 # make compare    runs it and TeX Live's bibtex over the TeX tree's styles and databases
 # make try-latex  builds papers with LaTeX's tools by this bibtex and by TeX Live's
-# make try-editors   drives Vim, Neovim and Emacs with the plugins of editors/
+# make try-editors   drives Vim, Neovim, Emacs and the extension of VS Code with the plugins and settings of editors/
 # make try-packages  installs and removes the package and the archive in folders of their own
 
 PREFIX ?= /usr/local
@@ -97,6 +97,7 @@ try-latex:
 # PROGRAM=.. drives another build of the program.
 try-editors:
 	tests/editors/run $(PROGRAM)
+	tests/editors/lsp $(LSP_PROGRAM)
 
 try-packages: built
 	tests/packages $(JOB_PROGRAM) $(PROGRAM) $(CHECK_PROGRAM) $(LSP_PROGRAM)

@@ -189,6 +189,13 @@ class Bibliography {
 
 // --- VS Code ---
 
+// Tells the servers that files have changed on disk, as the .aux file that LaTeX writes.
+function watch() {
+  const watcher = vscode.workspace.createFileSystemWatcher('**/*.{aux,bib,bst}');
+  const tell = type => uri => servers.forEach(server => server.note('workspace/didChangeWatchedFiles', { changes: [{ uri: uri.toString(), type }] }));
+  return [watcher, watcher.onDidCreate(tell(1)), watcher.onDidChange(tell(2)), watcher.onDidDelete(tell(3))];
+}
+
 function activate(context) {
   diagnostics = vscode.languages.createDiagnosticCollection('bibtex');
   shown = new Bibliography();
@@ -214,6 +221,7 @@ function activate(context) {
       server.documents.delete(uri);
       server.note('textDocument/didClose', { textDocument: { uri } });
     })),
+    ...watch(),
     vscode.languages.registerHoverProvider(selector, {
       async provideHover(document, position) {
         const answer = await askAt(document, position, 'textDocument/hover');

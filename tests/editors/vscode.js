@@ -32,6 +32,7 @@ const vscode = {
     getConfiguration: () => ({ get: name => settings[name] }), textDocuments: [],
     registerTextDocumentContentProvider: (_, p) => { providers.bibliography = p; },
     onDidOpenTextDocument: on('open'), onDidChangeTextDocument: on('change'), onDidSaveTextDocument: on('save'), onDidCloseTextDocument: on('close'),
+    createFileSystemWatcher: () => ({ onDidCreate: on('created'), onDidChange: on('changed'), onDidDelete: on('deleted'), dispose() {} }),
     openTextDocument: async uri => uri,
   },
   window: { activeTextEditor: null, showWarningMessage: words => { warnings.push(words); }, showTextDocument: async document => document },

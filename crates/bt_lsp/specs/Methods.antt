@@ -34,4 +34,5 @@ notice_of method =
     (if bytes_eq method (codes "textDocument/didChange") then Changed else
     (if bytes_eq method (codes "textDocument/didClose") then Closed else
     (if bytes_eq method (codes "textDocument/didSave") then Saved else
-    (if bytes_eq method (codes "exit") then Exit else Other))))
+    (if bytes_eq method (codes "workspace/didChangeWatchedFiles") then Saved else
+    (if bytes_eq method (codes "exit") then Exit else Other)))))

@@ -49,6 +49,7 @@ pub enum Notice {
     Opened,
     Changed,
     Closed,
+    /// A file on disk may have changed.
     Saved,
     Exit,
     Other,
@@ -87,6 +88,7 @@ pub fn notice_of(method: &str) -> Notice
         "textDocument/didChange" => Notice::Changed,
         "textDocument/didClose" => Notice::Closed,
         "textDocument/didSave" => Notice::Saved,
+        "workspace/didChangeWatchedFiles" => Notice::Saved,
         "exit" => Notice::Exit,
         _ => Notice::Other,
     }
