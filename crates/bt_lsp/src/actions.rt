@@ -44,13 +44,13 @@ fn removal_at(alloc: Global, document: &Document, piece: &PlacedPiece) -> Result
     requires { 2 * length document.now.text < 2 ^ 64 }
     ensures { IfOk result (λ v. view v ≡ removal_at document.now piece.now) }
 {
-    let place = (piece.start.place, piece.end.place);
     let edits = with_text_edit(
         alloc,
         document.counting,
         &document.text,
         Vec::new(alloc),
-        place,
+        piece.start.place,
+        piece.end.place,
         &[],
     )?;
     let files = with_edits(alloc, Vec::new(alloc), document.name.as_slice(), edits)?;
@@ -84,7 +84,10 @@ pub fn actions(alloc: Global, document: &Document, message: &Value) -> Result<Va
         "/params/range/start/line",
         "/params/range/start/character",
     ) {
-        Some(at) => actions_at(alloc, document, at),
+        Some(at) => {
+            let answer = actions_at(alloc, document, at)?;
+            Ok(answer)
+        }
         None => Ok(Value::Null),
     }
 }

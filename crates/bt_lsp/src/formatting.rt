@@ -40,7 +40,7 @@ fn with_gap(
     if part(text.as_slice(), gap.from, gap.to) == new {
         return Ok(list);
     }
-    with_text_edit(alloc, counting, text, list, (gap.from, gap.to), new)
+    with_text_edit(alloc, counting, text, list, gap.from, gap.to, new)
 }
 
 fn with_each(

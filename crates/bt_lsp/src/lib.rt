@@ -15,7 +15,6 @@ mod fields;
 mod finding;
 mod folding;
 mod formatting;
-mod hints;
 mod hover;
 mod mentioning;
 mod methods;

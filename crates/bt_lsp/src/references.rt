@@ -88,7 +88,8 @@ fn with_place(
 {
     let range = range_of(alloc, counting, text, one.from, one.to)?;
     let place = location(alloc, uri, range)?;
-    with_value(list, place)
+    let all = with_value(list, place)?;
+    Ok(all)
 }
 
 impl Pick for Search<'_> {

@@ -38,22 +38,24 @@ fn text_edit(alloc: Global, range: Value, new: &[u8]) -> Result<Value, AllocErro
     json!(in alloc; {"range": range, "newText": text})
 }
 
-/// Adds the edit that replaces a part of a text, by its begin and its end.
+/// Adds the edit that replaces a part of a text.
 pub fn with_text_edit(
     alloc: Global,
     counting: Counting,
     text: &IndexedText,
     list: Vec<Value>,
-    place: (usize, usize),
+    from: usize,
+    to: usize,
     new: &[u8],
 ) -> Result<Vec<Value>, AllocError>
     requires { 2 * length text.now < 2 ^ 64 }
     ensures { IfOk result (λ all. map view all.items ≡
-        map view list.items ++ text_edit (range_of counting text.now place.0 place.1) new.now ∷ []) }
+        map view list.items ++ text_edit (range_of counting text.now from to) new.now ∷ []) }
 {
-    let range = range_of(alloc, counting, text, place.0, place.1)?;
+    let range = range_of(alloc, counting, text, from, to)?;
     let edit = text_edit(alloc, range, new)?;
-    with_value(list, edit)
+    let all = with_value(list, edit)?;
+    Ok(all)
 }
 
 impl Pick for Renaming<'_> {
@@ -73,14 +75,7 @@ impl Pick for Renaming<'_> {
         if !is_mention(self.wanted, self.old, text.as_slice(), one) {
             return Ok(list);
         }
-        with_text_edit(
-            alloc,
-            self.counting,
-            text,
-            list,
-            (one.from, one.to),
-            self.new,
-        )
+        with_text_edit(alloc, self.counting, text, list, one.from, one.to, self.new)
     }
 }
 
