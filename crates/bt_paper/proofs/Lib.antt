@@ -1,3 +1,4 @@
 pub mod KnownLemmas
 pub mod TextLemmas
 pub mod FollowLemmas
+mod DifferLemmas

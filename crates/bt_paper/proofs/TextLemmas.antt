@@ -1,13 +1,13 @@
 -- What an edit of a session does to the texts of names.
 use Rattle.std.proofs.Common.{◌≡◌, ◌∙◌, ap, sym, refl, subst, ℕ, Bool, true, false, List, [], ◌∷◌, Option, Some, None, Result, Ok, Err, true≢false}
-use Rattle.std.specs.Prelude.{if◌then◌else◌, bytes_eq, IsTrue, IfOk, OnErr}
+use Rattle.std.specs.Prelude.{if◌then◌else◌, bytes_eq, unwrap_or, IsTrue, IfOk, OnErr}
 use Rattle.bt_job.specs.declared.files.File.{File}
 use Rattle.bt_job.specs.FileNames.{text_of}
 use Rattle.bibtex.specs.declared.state.State.{State}
 use Rattle.bibtex.specs.declared.edit.Refusal.{Refusal}
-use Rattle.bibtex.specs.Edit.{write, remove}
+use Rattle.bibtex.specs.Edit.{write, splice, remove}
 use Rattle.bibtex.specs.Applied.{applied, refusal_of, changed}
-use Rattle.bibtex.specs.inner.Cases.{unless_refused}
+use Rattle.bibtex.specs.inner.Cases.{unless_refused, replaced}
 use Rattle.bibtex.proofs.TextLemmas.{same_name, flipped, put_is, text_of_put, text_of_without}
 use Rattle.bt_paper.specs.declared.known.Known.{Known}
 use Rattle.bt_paper.specs.Known.{name_of}
@@ -23,6 +23,15 @@ pub text_written : (name new : List ℕ) (s t : State) → applied (write name n
 text_written name new s t e other =
     ap (λ (x : State). text_of x.texts other) (sym (unless_ok _ (changed (write name new) s) t e)) ∙
     ap (λ fs. text_of fs other) (put_is (record { name = name; text = new }) s.texts) ∙ text_of_put (record { name = name; text = new }) s.texts other
+
+-- a text of which a part was replaced
+pub text_spliced : (name bytes old : List ℕ) (start end : ℕ) (s t : State) → applied (splice name start end bytes) s ≡ Ok t → text_of s.texts name ≡ Some old →
+    GivesText name (replaced start end bytes old) s t
+text_spliced name bytes old start end s t e is other =
+    let file : File = record { name = name; text = replaced start end bytes (unwrap_or (text_of s.texts name) []) } in
+    ap (λ (x : State). text_of x.texts other) (sym (unless_ok _ (changed (splice name start end bytes) s) t e)) ∙
+    ap (λ fs. text_of fs other) (put_is file s.texts) ∙ text_of_put file s.texts other ∙
+    ap (λ o. if bytes_eq name other then Some (replaced start end bytes (unwrap_or o [])) else text_of s.texts other) is
 
 -- a file that was taken away
 pub text_removed : (name : List ℕ) (s t : State) → applied (remove name) s ≡ Ok t → OthersStay name s t

@@ -1,9 +1,12 @@
-//! Gives a session's file a new text.
+//! Gives a session's file a new text: only the part in which it differs from the present one, so that a session reads
+//! again what an editor's change touches.
 
-ghost use Rattle.std.specs.Prelude.{◌≡◌, false, Some, None, IsTrue};
+ghost use Rattle.std.specs.Prelude.{◌≡◌, false, ℕ, List, Some, None, IsTrue};
 ghost use Rattle.bt_job.specs.FileNames.{text_of};
+ghost use Rattle.bibtex.specs.Present.{replaced};
 ghost use Rattle.bt_paper.specs.Paper.{GivesText, OthersStay};
 
+use crate::differing::{Difference, difference_of};
 use bibtex::{Edit, Session};
 use bt_text::Bytes;
 
@@ -27,7 +30,7 @@ pub fn lacks(session: &Session, name: &[u8]) -> bool
     }
 }
 
-/// Gives a session's file a text, and says whether the session took it.
+/// Gives a session's file a whole text, and says whether the session took it.
 fn write(session: &mut Session, name: &[u8], new: &[u8]) -> bool
     ensures kept { result ≡ false → session.new ≡ session.old }
     ensures gives { IsTrue result → GivesText name.now new.now session.old session.new }
@@ -38,6 +41,36 @@ fn write(session: &mut Session, name: &[u8], new: &[u8]) -> bool
     }
 }
 
+/// Puts bytes in the place of the bytes `start..end` of a session's file, and says whether the session took them.
+fn splice(session: &mut Session, name: &[u8], start: usize, end: usize, bytes: &[u8]) -> bool
+    ensures kept { result ≡ false → session.new ≡ session.old }
+    ensures gives { IsTrue result → (old : List ℕ) → text_of session.old.texts name.now ≡ Some old →
+        GivesText name.now (replaced start end bytes.now old) session.old session.new }
+{
+    let Ok(_) = session.edit(Edit::Splice(name, start, end, bytes)) else {
+        return false;
+    };
+    true
+}
+
+/// Gives a session's file a text, and says whether the session took it.
+fn set(session: &mut Session, name: &[u8], new: &[u8]) -> bool
+    ensures kept { result ≡ false → session.new ≡ session.old }
+    ensures gives { IsTrue result → GivesText name.now new.now session.old session.new }
+{
+    let Some(old) = session.file(name) else {
+        return write(session, name, new);
+    };
+    let Difference {
+        start,
+        end,
+        new_end,
+    } = difference_of(old, new);
+    let (_, rest) = new.split_at(start);
+    let (bytes, _) = rest.split_at(new_end - start);
+    splice(session, name, start, end, bytes)
+}
+
 /// Gives a session's file a text that it may have already, and says whether it has it now.
 pub fn give(session: &mut Session, name: &[u8], new: &[u8]) -> bool
     ensures kept { result ≡ false → session.new ≡ session.old }
@@ -46,7 +79,7 @@ pub fn give(session: &mut Session, name: &[u8], new: &[u8]) -> bool
     if has_text(session, name, new) {
         true
     } else {
-        write(session, name, new)
+        set(session, name, new)
     }
 }
 

@@ -6,6 +6,7 @@
 #![tactic(auto)]
 
 mod beginning;
+mod differing;
 mod finding;
 mod folders;
 mod giving;
