@@ -68,8 +68,12 @@ local function show(client)
   if not buffer or not vim.api.nvim_buf_is_valid(buffer) then return end
   client.request('bibtex/bbl', vim.empty_dict(), function(_, answer)
     if not answer or not vim.api.nvim_buf_is_valid(buffer) then return end
+    -- While a style is being written there may be none: the last good one stays, marked.
+    local lines = answer.text ~= '' and vim.split(answer.text, '\n') or vim.api.nvim_buf_get_lines(buffer, 0, -1, false)
+    local mark = '% This is the last good bibliography: the messages of the run say why there is no new one.'
+    if answer.text == '' and lines[1] ~= mark then table.insert(lines, 1, mark) end
     vim.bo[buffer].modifiable = true
-    vim.api.nvim_buf_set_lines(buffer, 0, -1, false, vim.split(answer.text, '\n'))
+    vim.api.nvim_buf_set_lines(buffer, 0, -1, false, lines)
     vim.bo[buffer].modifiable = false
   end)
 end

@@ -182,8 +182,10 @@ class Bibliography {
   async provideTextDocumentContent(uri) {
     const server = [...servers.values()].find(server => this.uri(server).toString() === uri.toString());
     if (!server) return '';
-    const answer = await server.ask('bibtex/bbl', {});
-    return answer.text || '% The bibliography is empty: the messages of the run say why.';
+    const { text } = await server.ask('bibtex/bbl', {});
+    if (text) server.last = text;
+    else if (server.last) return `% This is the last good bibliography: the messages of the run say why there is no new one.\n${server.last}`;
+    return text || '% The bibliography is empty: the messages of the run say why.';
   }
 }
 

@@ -89,6 +89,14 @@ async function wait(holds) {
   const uri = await commands['bibtexLsp.showBibliography']();
   const text = await providers.bibliography.provideTextDocumentContent(uri);
   check('the bibliography', text.includes('\\bibitem[vNM44]{neumann:games}'), [uri, text]);
+  const style = new Document('labels.bst', 'bst');
+  handlers.open(style);
+  await providers.hover.provideHover(style, { line: 0, character: 0 });
+  style.change(0, 0, 'FOO\n');
+  const kept = await providers.bibliography.provideTextDocumentContent(uri);
+  check('the last good bibliography', kept.startsWith('% This is the last good') && kept.endsWith(text), kept);
+  style.change(0, 4, '');
+  check('a new one', await providers.bibliography.provideTextDocumentContent(uri) === text, null);
   fs.writeFileSync('cite.tex', '% !TEX root = paper.tex\n\\cite{neumann:games}\\cite{\n');
   const paper = new Document('cite.tex', 'latex');
   handlers.open(paper);
