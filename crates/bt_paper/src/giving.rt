@@ -3,7 +3,7 @@
 
 ghost use Rattle.std.specs.Prelude.{◌≡◌, false, ℕ, List, Some, None, IsTrue};
 ghost use Rattle.bt_job.specs.FileNames.{text_of};
-ghost use Rattle.bibtex.specs.Present.{replaced};
+ghost use Rattle.bibtex.specs.inner.Cases.{replaced};
 ghost use Rattle.bt_paper.specs.Paper.{GivesText, OthersStay};
 
 use crate::differing::{Difference, difference_of};

@@ -6,7 +6,7 @@ use Rattle.bt_lsp.specs.Actions.{actions_if_any}
 use Rattle.bt_lsp.proofs.actions.actions.Goals as goal
 
 pub returns-in_ok-answer-in-Some : goal.returns-in_ok-answer-in-Some
-returns-in_ok-answer-in-Some c = c.in_ok-answer.ensures ∙ ap (actions_if_any c.args.document.now) c.in-Some.ensures
+returns-in_ok-answer-in-Some c = c.in_ok-answer-in-Some.ensures ∙ ap (actions_if_any c.args.document.now) c.in-Some.ensures
 
 pub returns-in-None : goal.returns-in-None
 returns-in-None c =
