@@ -1,13 +1,14 @@
--- Each name stands once after an edit, if it did before.
-use Rattle.std.proofs.Common.{◌≡◌, subst, [], length, Option, Some, None, Ok}
+-- Each name stands once after an edit, if it did before; and what a refusal answers.
+use Rattle.std.proofs.Common.{◌≡◌, subst, sym, ap, ◌∙◌, [], length, Option, Some, None, Ok, Err, Result, IfErr}
 use Rattle.std.specs.Prelude.{unwrap_or}
 use Rattle.bt_job.specs.FileNames.{text_of}
 use Rattle.bibtex.specs.declared.edit.Refusal.{Refusal}
+use Rattle.bibtex.specs.declared.edit.Refusal.TheVariants.{OutOfMemory}
 use Rattle.bibtex.specs.declared.state.State.{State}
 use Rattle.bibtex.specs.Edit.{Edit, bytes_of, write, splice, remove, root_name, min_crossrefs}
 use Rattle.bibtex.specs.Present.{EachOnce}
 use Rattle.bibtex.specs.inner.Cases.{replaced, unless_refused}
-use Rattle.bibtex.specs.Applied.{refusal_of, changed, applied}
+use Rattle.bibtex.specs.Applied.{refusal_of, changed, applied, IsAnswer}
 use Rattle.bibtex.proofs.TextLemmas.{once_with, once_without}
 
 -- Each name stands once
@@ -25,3 +26,11 @@ once_unless (Some refusal) made t once is = absurd cc
 
 pub once_applied : (e : Edit) (s t : State) → EachOnce s.texts → applied e s ≡ Ok t → EachOnce t.texts
 once_applied e s t once is = once_unless (refusal_of e (length (bytes_of e)) s) (changed e s) t (once_changed e s once) is
+
+-- A refusal
+
+-- the refusal of a state that would be made is that of whatever would be made of the state
+pub refused_alike : {A : Type 0} {B : Type 0} (r : Result State Refusal) (a : Result A Refusal) (b : Result B Refusal) (e : Refusal) → a ≡ Err e → b ≡ Err e → IsAnswer r a → IsAnswer r b
+refused_alike {A = A} {B = B} (Ok s) a b e left right is =
+    subst (λ (x : Result B Refusal). IfErr x (λ f. f ≡ OutOfMemory)) (sym right) (subst (λ (x : Result A Refusal). IfErr x (λ f. f ≡ OutOfMemory)) left is)
+refused_alike (Err f) a b e left right is = let same : e ≡ f = cc in right ∙ ap Err same

@@ -62,7 +62,8 @@ impl Draft {
     {
         let nothing = Readings::nothing(self.alloc);
         let mut reread = Reread::of(self.alloc, &nothing);
-        self.state = self.state.after(edit, &mut reread)?;
+        let state = self.state.after(edit, &mut reread)?;
+        self.state = state;
         Ok(())
     }
 

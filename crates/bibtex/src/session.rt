@@ -96,6 +96,13 @@ impl Session {
         self.state.refusal(edit, size)
     }
 
+    /// Moves what READ found before to other readings. An edit that fails leaves the session without it.
+    fn move_resolution(&mut self, readings: &mut Readings)
+        ensures { self.new ≡ self.old }
+    {
+        readings.resolution = mem::replace(&mut self.readings.resolution, None);
+    }
+
     /// Goes over to a state, over what was read before: all that it means is made beside what is kept, which is
     /// then replaced. Only the resolution isn't kept twice: the run edits it in place. It is right about its own
     /// question, so after out of memory it may be left out.
@@ -107,7 +114,7 @@ impl Session {
         ensures err { OnErr result (self.new ≡ self.old) }
     {
         let mut readings = readings;
-        readings.resolution = mem::replace(&mut self.readings.resolution, None);
+        self.move_resolution(&mut readings);
         let Run {
             answers,
             kept,
