@@ -1,5 +1,5 @@
 -- Each name stands once after an edit, if it did before; and what a refusal answers.
-use Rattle.std.proofs.Common.{◌≡◌, subst, sym, ap, ◌∙◌, [], length, Option, Some, None, Ok, Err, Result, IfErr}
+use Rattle.std.proofs.Common.{◌≡◌, subst, ap, ◌∙◌, [], length, Option, Some, None, Ok, Err, Result, IfErr, IsErrAnd}
 use Rattle.std.specs.Prelude.{unwrap_or}
 use Rattle.bt_job.specs.FileNames.{text_of}
 use Rattle.bibtex.specs.declared.edit.Refusal.{Refusal}
@@ -29,8 +29,10 @@ once_applied e s t once is = once_unless (refusal_of e (length (bytes_of e)) s) 
 
 -- A refusal
 
--- the refusal of a state that would be made is that of whatever would be made of the state
-pub refused_alike : {A : Type 0} {B : Type 0} (r : Result State Refusal) (a : Result A Refusal) (b : Result B Refusal) (e : Refusal) → a ≡ Err e → b ≡ Err e → IsAnswer r a → IsAnswer r b
-refused_alike {A = A} {B = B} (Ok s) a b e left right is =
-    subst (λ (x : Result B Refusal). IfErr x (λ f. f ≡ OutOfMemory)) (sym right) (subst (λ (x : Result A Refusal). IfErr x (λ f. f ≡ OutOfMemory)) left is)
-refused_alike (Err f) a b e left right is = let same : e ≡ f = cc in right ∙ ap Err same
+-- the refusal of an edit is the answer for whatever is made of the state
+pub refused_alike : {A : Type 0} {B : Type 0} (r : Result State Refusal) (a : Result A Refusal) (b : Result B Refusal) (e : Refusal) → IsAnswer r a → a ≡ Err e → IsErrAnd b (λ f. f ≡ e) → IsAnswer r b
+refused_alike (Ok s) a (Ok y) e is left right = absurd right
+refused_alike {A = A} (Ok s) a (Err f) e is left right =
+    let P : Result A Refusal → Type 0 = λ x. IfErr x (λ g. g ≡ OutOfMemory) in right ∙ subst P left is
+refused_alike (Err g) a (Ok y) e is left right = absurd right
+refused_alike (Err g) a (Err f) e is left right = let same : e ≡ g = cc in ap Err (right ∙ same)
