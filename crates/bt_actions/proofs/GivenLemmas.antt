@@ -11,10 +11,11 @@ use Rattle.bt_names.specs.declared.faults.FormatFault.{FormatFault}
 use Rattle.bt_names.specs.declared.faults.FormatFault.TheVariants as fault
 use Rattle.bt_actions.specs.Item.{Item, Num, Txt}
 use Rattle.bt_actions.specs.Given.{Given, Gives, Errs, zero_item, empty_item, fits_number, number_given, truth}
-use Rattle.bt_actions.specs.Numbers.{greater_of, less_of, sum_of, difference_of, byte_number, ascii_text, digits_text}
-use Rattle.bt_actions.specs.Comparison.{equality_of, emptiness_of, missing_of}
-use Rattle.bt_actions.specs.Texts.{join_of, period_of, case_of, case_by, mode_of, purified_of, substring_given, prefix_of, length_of, width_given}
-use Rattle.bt_actions.specs.Names.{names_counted, name_formatted, format_given}
+use Rattle.bt_actions.specs.Numbers.{byte_number, ascii_text}
+use Rattle.bt_actions.specs.inner.Rows.{greater_of, less_of, sum_of, difference_of, digits_text, emptiness_of, missing_of, join_of, period_of, purified_of, substring_given, prefix_of, length_of, width_given, names_counted}
+use Rattle.bt_actions.specs.Comparison.{equality_of}
+use Rattle.bt_actions.specs.Texts.{case_of, case_by, mode_of}
+use Rattle.bt_actions.specs.Names.{name_formatted, format_given}
 
 module _ (P : Item → Type 0) (numbers : (n : ℤ) → P (Num n)) (texts : (t : List ℕ) → P (Txt t)) where
   -- the value that is given

@@ -7,7 +7,8 @@ use Rattle.bt_style.specs.Program.{Program, Definition, definition_of, definitio
 use Rattle.bt_actions.specs.declared.complaint.Complaint.TheVariants.{Shown}
 use Rattle.bt_actions.specs.Item.{Item}
 use Rattle.bt_actions.specs.World.{World, told_message, with_stack}
-use Rattle.bt_actions.specs.LogLines.{shown_value, log_value, log_stack}
+use Rattle.bt_actions.specs.LogLines.{shown_value, log_stack}
+use Rattle.bt_actions.specs.inner.Rows.{log_value}
 
 -- the names of definitions are those of the functions
 pub function_names : (fs : List Function) → map (λ (d : Definition). d.name) (definitions_of fs) ≡ map (λ (f : Function). f.name) fs

@@ -12,30 +12,23 @@ use Rattle.bt_actions.specs.State.{popped}
 -- what a value is, as an argument that must be a number
 abbrev pub as_number : Item → Option ℤ
 as_number (Num n) = Some n
-as_number (Txt t) = None
-as_number (Fun c) = None
-as_number (Missing n) = None
+as_number _ = None
 
 -- a text
 abbrev pub as_text : Item → Option (List ℕ)
-as_text (Num n) = None
 as_text (Txt t) = Some t
-as_text (Fun c) = None
-as_text (Missing n) = None
+as_text _ = None
 
 -- a text, or a field that is missing
 abbrev pub as_field_text : Item → Option (Option (List ℕ))
-as_field_text (Num n) = None
 as_field_text (Txt t) = Some (Some t)
-as_field_text (Fun c) = None
 as_field_text (Missing n) = Some None
+as_field_text _ = None
 
 -- a function
 abbrev pub as_code : Item → Option Code
-as_code (Num n) = None
-as_code (Txt t) = None
 as_code (Fun c) = Some c
-as_code (Missing n) = None
+as_code _ = None
 
 -- a quoted name
 abbrev pub quoted_name : Code → Option Target

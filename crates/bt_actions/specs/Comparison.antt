@@ -1,5 +1,5 @@
 -- What the functions give that look at values of several kinds.
-use Rattle.std.specs.Prelude.{ℕ, Bool, true, false, bytes_eq, List, Option, Some, None}
+use Rattle.std.specs.Prelude.{ℕ, Bool, true, bytes_eq, List, Option, Some, None}
 use Rattle.std.specs.List.{list_all}
 use Rattle.std.specs.Ordering.{int_eq}
 use Rattle.bt_style.specs.declared.builtin.Builtin.TheVariants.{Equals}
@@ -18,13 +18,3 @@ equality_of (v, u) = Errs (WrongKind Equals) zero_item
 abbrev pub is_blank : Option (List ℕ) → Bool
 is_blank None = true
 is_blank (Some t) = list_all is_white t
-
-abbrev pub emptiness_of : Option (List ℕ) → Given
-emptiness_of o = Gives (truth (is_blank o))
-
-abbrev pub is_missing : Option (List ℕ) → Bool
-is_missing None = true
-is_missing (Some t) = false
-
-abbrev pub missing_of : Option (List ℕ) → Given
-missing_of o = Gives (truth (is_missing o))

@@ -15,3 +15,4 @@ pub mod LogLines
 pub mod Stack
 pub mod Actions
 pub mod View
+pub mod inner

@@ -5,9 +5,9 @@ use Rattle.bt_style.specs.declared.style.Target.{Target}
 use Rattle.bt_style.specs.declared.style.Target.TheVariants.{Builtin, Field, EntryNumber, EntryText, GlobalNumber, GlobalText, Function}
 use Rattle.bt_style.specs.Builtins.{name_of}
 use Rattle.bt_style.specs.Program.{Program}
-use Rattle.bt_actions.specs.declared.complaint.Complaint.TheVariants.{Shown, Warned}
+use Rattle.bt_actions.specs.declared.complaint.Complaint.TheVariants.{Shown}
 use Rattle.bt_actions.specs.Item.{Code, Name, Block, Item, Num, Txt, Fun, Missing}
-use Rattle.bt_actions.specs.World.{World, say, told_message}
+use Rattle.bt_actions.specs.World.{World, told_message}
 
 -- the name of a number, or nothing where there is none
 abbrev pub name_or_empty : List (List ℕ) → ℕ → List ℕ
@@ -35,15 +35,7 @@ shown_value p (Txt t) = t
 shown_value p (Fun c) = shown_code p c
 shown_value p (Missing n) = codes "missing " ++ name_or_empty p.fields n
 
--- a value is logged
-abbrev pub log_value : Program → Item → World → World
-log_value p v w = say (Shown (shown_value p v)) w
-
 -- all values are logged, from the top, and the stack is left empty
 abbrev pub log_stack : Program → World → World
 log_stack p w =
     record w { messages = w.messages ++ map (λ v. told_message w (Shown (shown_value p v))) w.stack; stack = [] }
-
--- a warning of the style
-abbrev pub log_warning : List ℕ → World → World
-log_warning t w = say (Warned t) w

@@ -1,17 +1,11 @@
 -- What the functions on lists of names give.
-use Rattle.std.specs.Prelude.{ℕ, ℤ, pos, List, length, Result, Ok, Err}
-use Rattle.bt_style.specs.declared.builtin.Builtin.TheVariants.{NumNames}
+use Rattle.std.specs.Prelude.{ℕ, ℤ, List, Result, Ok, Err}
 use Rattle.bt_names.specs.declared.faults.FormatFault.{FormatFault}
 use Rattle.bt_names.specs.declared.faults.FormatFault.TheVariants as fault
-use Rattle.bt_names.specs.Names.{names_of}
 use Rattle.bt_names.specs.FormattedName.{formatted_name}
 use Rattle.bt_actions.specs.declared.complaint.Complaint.TheVariants.{NoSuchName, TooManyCommas, PatternFault}
 use Rattle.bt_actions.specs.Item.{Txt}
-use Rattle.bt_actions.specs.Given.{Given, Gives, Errs, number_given, empty_item}
-
--- how many names there are
-abbrev pub names_counted : List ℕ → Given
-names_counted t = number_given NumNames (pos (length (names_of t)))
+use Rattle.bt_actions.specs.Given.{Given, Gives, Errs, empty_item}
 
 -- A formatted name, or what is wrong with the names or the pattern. Out of memory is no fault of theirs: no definition
 -- gives it.

@@ -31,10 +31,6 @@ number_at n e = Num (slice_index_or e.variables.numbers n (pos 0))
 abbrev pub text_at : ℕ → Entry → Item
 text_at n e = Txt (slice_index_or e.variables.texts n [])
 
--- its key
-abbrev pub key_item : Entry → Item
-key_item e = Txt e.key
-
 -- the text of a type that has a function; any other is empty
 abbrev pub kind_shown : Option ℕ → List ℕ → List ℕ
 kind_shown None kind = []

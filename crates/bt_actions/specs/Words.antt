@@ -11,23 +11,12 @@ use Rattle.bt_actions.specs.declared.complaint.Complaint.TheVariants.{EmptyStack
 
 -- What a style logs is a note or a warning, and a passed limit stops the run; all else is an error.
 abbrev pub rank_of : Complaint → Rank
-rank_of EmptyStack = Error
-rank_of (WrongKind b) = Error
-rank_of NoEntry = Error
-rank_of (OutOfRange b) = Error
-rank_of (BadCase t) = Error
-rank_of (NotOneCharacter t) = Error
-rank_of (NotAscii n) = Error
-rank_of (NoSuchName n t) = Error
-rank_of (TooManyCommas n t) = Error
-rank_of (PatternFault t n) = Error
-rank_of NotVariable = Error
-rank_of LeftOver = Error
 rank_of (Warned t) = Warning
 rank_of (Shown t) = Note
 rank_of TicksPassed = Fatal
 rank_of StackPassed = Fatal
 rank_of TextPassed = Fatal
+rank_of _ = Error
 
 -- what a complaint says of itself
 abbrev pub complaint_words : Complaint → List ℕ

@@ -20,13 +20,14 @@ use Rattle.bt_actions.specs.World.{World, Act, Goes, Stops, entry_in, entry_of, 
 use Rattle.bt_actions.specs.State.{text_len, pushed, pushed_in_error, popped_from, popped, appended}
 use Rattle.bt_actions.specs.Arguments.{as_number, as_text, as_field_text, as_target, as_any, is_wrong, judged, all_three, taken, taken_two, taken_three}
 use Rattle.bt_actions.specs.Given.{Given, Gives, Errs, answered, valued, zero_item, empty_item}
-use Rattle.bt_actions.specs.Numbers.{greater_of, less_of, sum_of, difference_of, byte_number, ascii_text, digits_text}
-use Rattle.bt_actions.specs.Comparison.{equality_of, emptiness_of, missing_of}
-use Rattle.bt_actions.specs.Texts.{join_of, period_of, case_of, purified_of, substring_given, prefix_of, length_of, width_given, quote}
-use Rattle.bt_actions.specs.Names.{names_counted, name_formatted}
-use Rattle.bt_actions.specs.Operands.{entry_or_error, of_entry, key_item, kind_item}
+use Rattle.bt_actions.specs.Numbers.{byte_number, ascii_text}
+use Rattle.bt_actions.specs.inner.Rows.{greater_of, less_of, sum_of, difference_of, digits_text, emptiness_of, missing_of, join_of, period_of, purified_of, substring_given, prefix_of, length_of, width_given, names_counted, key_item, log_value, log_warning}
+use Rattle.bt_actions.specs.Comparison.{equality_of}
+use Rattle.bt_actions.specs.Texts.{case_of, quote}
+use Rattle.bt_actions.specs.Names.{name_formatted}
+use Rattle.bt_actions.specs.Operands.{entry_or_error, of_entry, kind_item}
 use Rattle.bt_actions.specs.Assignment.{with_number, with_text, with_globals, put_if_right, own_changed, assigned}
-use Rattle.bt_actions.specs.LogLines.{shown_value, log_value, log_stack, log_warning}
+use Rattle.bt_actions.specs.LogLines.{shown_value, log_stack}
 use Rattle.bt_actions.specs.Stack.{duplicated, swapped}
 use Rattle.bt_actions.specs.Actions.{act_with, change_with, basic}
 use Rattle.bt_machine.specs.OwnEntry.{with_variables}

@@ -8,7 +8,7 @@ use Rattle.bt_style.specs.declared.builtin.Builtin.TheVariants as builtin
 use Rattle.bt_actions.specs.Arguments.{as_text, taken_two}
 use Rattle.bt_actions.specs.Given.{valued, empty_item}
 use Rattle.bt_actions.specs.Item.{Item, Num, Txt, Fun, Missing}
-use Rattle.bt_actions.specs.Texts.{join_of}
+use Rattle.bt_actions.specs.inner.Rows.{join_of}
 use Rattle.bt_actions.specs.State.{pushed, text_len}
 use Rattle.bt_actions.specs.World.{World, Goes, Stops, say, with_stack}
 use Rattle.bt_stack.specs.Desk.{Desk, with_items, with_answer}

@@ -10,7 +10,7 @@ use Rattle.bt_actions.specs.Item.{Item, Num, Txt, Fun, Missing}
 use Rattle.bt_actions.specs.World.{World, Act, Goes, with_stack}
 use Rattle.bt_actions.specs.State.{pushed, popped}
 use Rattle.bt_actions.specs.Given.{valued, empty_item}
-use Rattle.bt_actions.specs.Texts.{substring_given, prefix_of}
+use Rattle.bt_actions.specs.inner.Rows.{substring_given, prefix_of}
 use Rattle.bt_stack.specs.Tops.{cut, with_top}
 use Rattle.bt_stack.specs.inner.Part.{IsPart, part_asked, text_of_prefix, prefix_asked}
 use Rattle.bt_stack.proofs.FormLemmas.{pushed_is}

@@ -3,7 +3,8 @@
 ghost use Rattle.std.specs.Prelude.{◌≡◌, ◌≤◌, [], None, length, drop, option_map, IfOk};
 ghost use Rattle.bt_actions.specs.Arguments.{as_number, as_text, taken_three};
 ghost use Rattle.bt_actions.specs.Given.{Errs, valued, answered, empty_item};
-ghost use Rattle.bt_actions.specs.Names.{names_counted, name_formatted};
+ghost use Rattle.bt_actions.specs.Names.{name_formatted};
+ghost use Rattle.bt_actions.specs.inner.Rows.{names_counted};
 ghost use Rattle.bt_actions.specs.World.{World, with_stack};
 ghost use Rattle.bt_names.specs.FormattedName.{formatted_name, IsFormatFault};
 ghost use Rattle.bt_style.specs.declared.builtin.Builtin.TheVariants as builtin;

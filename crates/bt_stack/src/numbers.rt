@@ -3,7 +3,8 @@
 ghost use Rattle.std.specs.Prelude.{◌≡◌};
 ghost use Rattle.bt_actions.specs.Item.{Num};
 ghost use Rattle.bt_actions.specs.Given.{truth};
-ghost use Rattle.bt_actions.specs.Numbers.{sum_of, difference_of, greater_of, less_of, byte_number};
+ghost use Rattle.bt_actions.specs.Numbers.{byte_number};
+ghost use Rattle.bt_actions.specs.inner.Rows.{sum_of, difference_of, greater_of, less_of};
 ghost use Rattle.bt_style.specs.declared.builtin.Builtin.TheVariants as builtin;
 
 use crate::forms::{OfTextToNumber, OfTwoNumbers, fitting};

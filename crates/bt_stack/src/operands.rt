@@ -7,7 +7,8 @@ ghost use Rattle.bt_actions.specs.World.{Goes};
 ghost use Rattle.bt_actions.specs.State.{popped, pushed, pushed_in_error};
 ghost use Rattle.bt_actions.specs.Stack.{duplicated, swapped};
 ghost use Rattle.bt_actions.specs.Given.{zero_item, empty_item};
-ghost use Rattle.bt_actions.specs.Operands.{kind_shown, field_at, number_at, text_at, key_item, kind_item, of_entry, global_number, global_text};
+ghost use Rattle.bt_actions.specs.Operands.{kind_shown, field_at, number_at, text_at, kind_item, of_entry, global_number, global_text};
+ghost use Rattle.bt_actions.specs.inner.Rows.{key_item};
 ghost use Rattle.bt_stack.specs.View.{Acts};
 
 use crate::state::State;

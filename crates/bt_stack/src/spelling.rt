@@ -1,7 +1,8 @@
 //! The functions that write a number as a text.
 
 ghost use Rattle.std.specs.Prelude.{◌≡◌};
-ghost use Rattle.bt_actions.specs.Numbers.{ascii_text, digits_text};
+ghost use Rattle.bt_actions.specs.Numbers.{ascii_text};
+ghost use Rattle.bt_actions.specs.inner.Rows.{digits_text};
 ghost use Rattle.bt_style.specs.declared.builtin.Builtin.TheVariants as builtin;
 
 use crate::forms::OfNumberToText;

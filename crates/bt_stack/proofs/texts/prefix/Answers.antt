@@ -3,7 +3,7 @@ use Rattle.std.proofs.lemmas.Result.{IfOk-weaker}
 use Rattle.bt_style.specs.declared.builtin.Builtin.TheVariants as builtin
 use Rattle.bt_actions.specs.Arguments.{as_number, as_text, taken_two}
 use Rattle.bt_actions.specs.Given.{empty_item, valued}
-use Rattle.bt_actions.specs.Texts.{prefix_of}
+use Rattle.bt_actions.specs.inner.Rows.{prefix_of}
 use Rattle.bt_stack.specs.View.{world_of}
 use Rattle.bt_stack.proofs.PartLemmas.{two_there, prefix_pushed, no_prefix_asked}
 use Rattle.bt_stack.proofs.texts.prefix.Goals as goal
