@@ -2,7 +2,7 @@
 use Rattle.std.specs.Prelude.{ℕ, Option, Some, None, option_map, slice_index_or, slice_set}
 use Rattle.bt_style.specs.declared.builtin.Builtin.TheVariants.{Assign}
 use Rattle.bt_style.specs.declared.style.Target.{Target}
-use Rattle.bt_style.specs.declared.style.Target.TheVariants.{Builtin, Field, EntryNumber, EntryText, GlobalNumber, GlobalText, Function}
+use Rattle.bt_style.specs.declared.style.Target.TheVariants.{EntryNumber, EntryText, GlobalNumber, GlobalText}
 use Rattle.bt_actions.specs.declared.entry.Variables.{Variables}
 use Rattle.bt_actions.specs.declared.complaint.Complaint.TheVariants.{NoEntry, NotVariable, WrongKind}
 use Rattle.bt_actions.specs.Item.{Item}
@@ -36,10 +36,8 @@ own_changed change (Some x) w = put_if_right (with_own x) (change (slice_index_o
 
 -- a name gets a value
 abbrev pub assigned : Item × Target → World → World
-assigned (v, Builtin b) w = say NotVariable w
-assigned (v, Field n) w = say NotVariable w
 assigned (v, EntryNumber n) w = own_changed (with_number n v) w.current w
 assigned (v, EntryText n) w = own_changed (with_text n v) w.current w
 assigned (v, GlobalNumber n) w = put_if_right with_globals (with_number n v w.globals) w
 assigned (v, GlobalText n) w = put_if_right with_globals (with_text n v w.globals) w
-assigned (v, Function n) w = say NotVariable w
+assigned (v, _) w = say NotVariable w

@@ -2,7 +2,7 @@
 use Rattle.std.specs.Prelude.{ℕ, Bool, true, false, ◌==◌, List, [], ◌∷◌, ◌++◌, map, filter, count_by, codes, decimal, if◌then◌else◌}
 use Rattle.std.specs.List.{list_any}
 use Rattle.bt_log.specs.declared.message.Rank.{Rank}
-use Rattle.bt_log.specs.declared.message.Rank.TheVariants.{FileLine, Note, CallCount, Warning, Error, Fatal}
+use Rattle.bt_log.specs.declared.message.Rank.TheVariants.{FileLine, CallCount, Warning, Error, Fatal}
 use Rattle.bt_log.specs.declared.message.Message.{Message}
 use Rattle.bt_log.specs.Wording.{spelled}
 
@@ -10,12 +10,10 @@ use Rattle.bt_log.specs.Wording.{spelled}
 
 -- the status of a log in which all messages have this rank
 abbrev pub rank_status : Rank → ℕ
-rank_status FileLine = 0
-rank_status Note = 0
-rank_status CallCount = 0
 rank_status Warning = 1
 rank_status Error = 2
 rank_status Fatal = 3
+rank_status _ = 0
 
 -- whether a message has the rank of this status
 abbrev pub has_status : ℕ → Message → Bool
@@ -33,10 +31,7 @@ status_of log =
 abbrev pub is_in_terse_log : Rank → Bool
 is_in_terse_log FileLine = false
 is_in_terse_log CallCount = false
-is_in_terse_log Note = true
-is_in_terse_log Warning = true
-is_in_terse_log Error = true
-is_in_terse_log Fatal = true
+is_in_terse_log _ = true
 
 -- The bytes
 

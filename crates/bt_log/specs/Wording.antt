@@ -1,7 +1,7 @@
 -- A message in words: what it says, then where it belongs, then its second line.
 use Rattle.std.specs.Prelude.{ℕ, List, [], ◌∷◌, ◌++◌, codes, decimal, Option, Some, None}
 use Rattle.bt_log.specs.declared.message.Rank.{Rank}
-use Rattle.bt_log.specs.declared.message.Rank.TheVariants.{FileLine, Note, CallCount, Warning, Error, Fatal}
+use Rattle.bt_log.specs.declared.message.Rank.TheVariants.{Warning, Error, Fatal}
 use Rattle.bt_log.specs.declared.message.FileKind.{FileKind}
 use Rattle.bt_log.specs.declared.message.FileKind.TheVariants.{Aux, Bib, Bst}
 use Rattle.bt_log.specs.declared.message.FileNote.{FileNote}
@@ -37,12 +37,8 @@ said_words (OfFile note file) = note_words note file
 
 -- The place of a warning is on a line of its own; that of any other message follows its words.
 abbrev pub before_line : Rank → List ℕ
-before_line FileLine = codes "---line "
-before_line Note = codes "---line "
-before_line CallCount = codes "---line "
 before_line Warning = codes "\n--line "
-before_line Error = codes "---line "
-before_line Fatal = codes "---line "
+before_line _ = codes "---line "
 
 -- the entry of a step
 abbrev pub for_entry : Option (List ℕ) → List ℕ
@@ -59,7 +55,7 @@ place_words rank entry (Some (DatabaseLine number line byte)) =
 place_words rank entry (Some (WholeFile file)) = codes "---while reading file " ++ file
 place_words rank entry (Some (Step style line)) =
     let step = for_entry entry ++ (codes "\nwhile executing---line " ++ decimal line ++ codes " of file " ++ style) in
-    elim rank [ FileLine ↦ [] | Note ↦ [] | CallCount ↦ [] | Warning ↦ [] | Error ↦ step | Fatal ↦ step ]
+    elim rank [ Error ↦ step | Fatal ↦ step | _ ↦ [] ]
 
 -- a message in words
 abbrev pub spelled : Message → List ℕ
