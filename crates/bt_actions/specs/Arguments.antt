@@ -53,10 +53,8 @@ judged b wrong w = if wrong then say (WrongKind b) w else w
 
 -- three values, where all are there
 abbrev pub all_three : {A B C : Type 0} → Option A → Option B → Option C → Option (A × B × C)
-all_three None o p = None
-all_three (Some a) None p = None
-all_three (Some a) (Some b) None = None
 all_three (Some a) (Some b) (Some c) = Some (a, b, c)
+all_three _ _ _ = None
 
 -- one argument of a kind
 abbrev pub taken : {A : Type 0} → Primitive → (Item → Option A) → World → Option A × World

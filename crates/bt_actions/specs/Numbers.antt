@@ -6,9 +6,8 @@ use Rattle.bt_actions.specs.Given.{Given, Gives, Errs, zero_item, empty_item}
 
 -- the number of the one byte of a text
 abbrev pub byte_number : List ℕ → Given
-byte_number [] = Errs (NotOneCharacter []) zero_item
 byte_number (b ∷ []) = Gives (Num (pos b))
-byte_number (b ∷ c ∷ t) = Errs (NotOneCharacter (b ∷ c ∷ t)) zero_item
+byte_number t = Errs (NotOneCharacter t) zero_item
 
 -- the byte of a number, as a text
 abbrev pub ascii_text : ℤ → Given

@@ -12,6 +12,5 @@ duplicated (v ∷ vs) w = pushed v w
 
 -- the two topmost values change places; a stack of fewer stays
 abbrev pub swapped : List Item → World → World
-swapped [] w = say EmptyStack w
-swapped (v ∷ []) w = say EmptyStack w
 swapped (v ∷ u ∷ vs) w = with_stack (u ∷ v ∷ vs) w
+swapped _ w = say EmptyStack w

@@ -3,15 +3,13 @@ use Rattle.std.specs.Prelude.{ℕ, ◌+◌, List, [], ◌∷◌, length, Option,
 use Rattle.bt_text.specs.Held.{written, line_ended}
 use Rattle.bt_actions.specs.declared.complaint.Complaint.{Complaint}
 use Rattle.bt_actions.specs.declared.complaint.Complaint.TheVariants.{EmptyStack, StackPassed, TextPassed}
-use Rattle.bt_actions.specs.Item.{Item, Num, Txt, Fun, Missing}
+use Rattle.bt_actions.specs.Item.{Item, Txt}
 use Rattle.bt_actions.specs.World.{World, Act, Goes, Stops, say, with_stack, with_output}
 
 -- the bytes of a text; any other value has none
 abbrev pub text_len : Item → ℕ
-text_len (Num n) = 0
 text_len (Txt t) = length t
-text_len (Fun c) = 0
-text_len (Missing n) = 0
+text_len _ = 0
 
 -- how many values the stack may hold
 abbrev pub stack_limit : ℕ

@@ -16,9 +16,8 @@ mode_of_byte b =
 
 -- `t`, `l` or `u`, in either case
 abbrev pub mode_of : List ℕ → Option Mode
-mode_of [] = None
 mode_of (b ∷ []) = mode_of_byte b
-mode_of (b ∷ c ∷ t) = None
+mode_of _ = None
 
 -- Where the mode is none the text stays.
 abbrev pub case_by : Option Mode → List ℕ → List ℕ → Given
