@@ -1,6 +1,7 @@
 -- How often each built-in function was called in a run, and the lines of the log that tell it.
 use Rattle.std.specs.Prelude.{ℕ, List, ◌∷◌, ◌++◌, map, sum_by, slice_index_or, codes, decimal}
-use Rattle.bt_style.specs.Builtins.{Row, table, place_of}
+use Rattle.bt_style.specs.declared.builtin.Builtin.{Builtin}
+use Rattle.bt_style.specs.Builtins.{name_of, table, place_of}
 use Rattle.bt_log.specs.declared.message.Message.{Message}
 use Rattle.bt_log.specs.declared.message.Rank.TheVariants.{CallCount}
 use Rattle.bt_log.specs.Message.{plain}
@@ -12,11 +13,11 @@ calls_at trace place = sum_by (λ (s : Step). slice_index_or s.outcome.calls pla
 
 -- how often all of them were called, where the function at a place was called so often
 unfoldable pub all_calls : (ℕ → ℕ) → ℕ
-all_calls calls = sum_by (λ (row : Row). calls (place_of row.builtin)) table
+all_calls calls = sum_by (λ b. calls (place_of b)) table
 
 -- the line of a function
-abbrev pub function_line : (ℕ → ℕ) → Row → Message
-function_line calls row = plain CallCount (row.name ++ codes " -- " ++ decimal (calls (place_of row.builtin)))
+abbrev pub function_line : (ℕ → ℕ) → Builtin → Message
+function_line calls b = plain CallCount (name_of b ++ codes " -- " ++ decimal (calls (place_of b)))
 
 -- the line before them
 abbrev pub total_line : ℕ → Message

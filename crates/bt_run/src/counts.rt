@@ -4,7 +4,6 @@
 
 ghost use Rattle.std.specs.Prelude.{◌≡◌, ℕ, ◌+◌, ◌++◌, ◌<◌, map, sum_by, slice_index_or, codes, decimal, IfOk, OnOk};
 ghost use Rattle.bt_style.specs.Builtins.{place_of, name_of};
-ghost use Rattle.bt_style.specs.Names.{row_of};
 ghost use Rattle.bt_run.specs.Counts.{calls_at, all_calls, counts_told, total_line, function_line};
 ghost use Rattle.bt_run.specs.inner.Cases.{count_message};
 ghost use Rattle.bt_run.specs.inner.Steps.{calls_in};
@@ -97,7 +96,7 @@ fn tell_rows(
     calls: &Calls,
     builtins: &[Builtin],
 ) -> Result<(), AllocError>
-    ensures { OnOk result (log.new ≡ log.old ++ map (λ b. function_line (calls_in calls.now) (row_of b)) builtins.now) }
+    ensures { OnOk result (log.new ≡ log.old ++ map (function_line (calls_in calls.now)) builtins.now) }
 {
     'builtins: for builtin in builtins {
         let count = calls[builtin.place()];

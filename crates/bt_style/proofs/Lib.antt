@@ -3,6 +3,7 @@ pub mod TokenLemmas
 pub mod DecimalLemmas
 pub mod BodyLemmas
 pub mod CommandLemmas
+pub mod PlaceLemmas
 pub mod NameLemmas
 pub mod SpelledLemmas
 pub mod DeclaredLemmas

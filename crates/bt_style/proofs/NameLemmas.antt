@@ -16,19 +16,19 @@ use Rattle.bt_style.specs.declared.style.Macro.{Macro}
 use Rattle.bt_style.specs.declared.names.Names.{Names}
 use Rattle.bt_style.specs.declared.names.Names.TheVariants.{Fields, EntryNumbers, EntryTexts, GlobalNumbers, GlobalTexts}
 use Rattle.bt_style.specs.Tree.{Body}
-use Rattle.bt_style.specs.Builtins.{Row, name_of}
+use Rattle.bt_style.specs.Builtins.{name_of}
 use Rattle.bt_style.specs.Program.{Program, Definition}
-use Rattle.bt_style.specs.Names.{row_of, builtin_among, builtin_named, place_in, first_some, target_named, macro_named}
-use Rattle.bt_style.specs.inner.Names.{Holds}
+use Rattle.bt_style.specs.Names.{builtin_named, place_in, first_some, target_named, macro_named}
+use Rattle.bt_style.specs.inner.Names.{Holds, builtin_among}
 use Rattle.bt_style.specs.Draft.{with_name}
 use Rattle.bt_style.specs.inner.Cases.{bare, with_macro, with_function, function_names, macro_names}
 use Rattle.bt_style.specs.inner.Draft.{next_target}
 
 -- one more built-in function before others
-pub builtin_more : (b : Builtin) (rows : List Row) (name : List ℕ) (old : Option Target) → old ≡ option_map targets.Builtin (builtin_among rows name) →
-    (if bytes_eq (name_of b) name then Some (targets.Builtin b) else old) ≡ option_map targets.Builtin (builtin_among (row_of b ∷ rows) name)
-builtin_more b rows name old h =
-    elim (bytes_eq (name_of b) name) as (λ v. cond v (Some (targets.Builtin b)) old ≡ option_map targets.Builtin (cond v (Some b) (builtin_among rows name))) [
+pub builtin_more : (b : Builtin) (others : List Builtin) (name : List ℕ) (old : Option Target) → old ≡ option_map targets.Builtin (builtin_among others name) →
+    (if bytes_eq (name_of b) name then Some (targets.Builtin b) else old) ≡ option_map targets.Builtin (builtin_among (b ∷ others) name)
+builtin_more b others name old h =
+    elim (bytes_eq (name_of b) name) as (λ v. cond v (Some (targets.Builtin b)) old ≡ option_map targets.Builtin (cond v (Some b) (builtin_among others name))) [
       | true ↦ refl
       | false ↦ h
     ]
@@ -223,11 +223,11 @@ holds_no_macro m p none is key =
 
 -- the built-in functions from one more place on
 pub holds_from : (old new : ByName Target) (bs : List Builtin) (n left : ℕ) → left ≡ suc n → left ≤ length bs →
-    Holds old (λ name. option_map targets.Builtin (builtin_among (map row_of (drop left bs)) name)) →
+    Holds old (λ name. option_map targets.Builtin (builtin_among (drop left bs) name)) →
     ((key : List ℕ) → at_small new key ≡ (if bytes_eq (name_of (get_or bs n Greater)) key then Some (targets.Builtin (get_or bs n Greater)) else at_small old key)) →
-    Holds new (λ name. option_map targets.Builtin (builtin_among (map row_of (drop n bs)) name))
+    Holds new (λ name. option_map targets.Builtin (builtin_among (drop n bs) name))
 holds_from old new bs n left e within holds put key =
     let below : n < length bs = omega arith in
-    let here : at_small old key ≡ option_map targets.Builtin (builtin_among (map row_of (drop (suc n) bs)) key) = rw (← e) (holds key) in
+    let here : at_small old key ≡ option_map targets.Builtin (builtin_among (drop (suc n) bs) key) = rw (← e) (holds key) in
     rw (drop-cons bs n Greater)
-    (put key ∙ builtin_more (get_or bs n Greater) (map row_of (drop (suc n) bs)) key (at_small old key) here)
+    (put key ∙ builtin_more (get_or bs n Greater) (drop (suc n) bs) key (at_small old key) here)

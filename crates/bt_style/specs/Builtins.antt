@@ -1,5 +1,6 @@
 -- The functions that need no definition: their table, with their names and their places in it.
-use Rattle.std.specs.Prelude.{ℕ, List, [], ◌∷◌, map, codes}
+use Rattle.std.specs.Prelude.{ℕ, List, [], ◌∷◌, bytes_eq, codes}
+use Rattle.std.specs.List.{position_or_len}
 use Rattle.bt_style.specs.declared.builtin.Builtin.{Builtin}
 use Rattle.bt_style.specs.declared.builtin.Builtin.TheVariants as builtins
 
@@ -43,54 +44,9 @@ name_of builtins.While = codes "while$"
 name_of builtins.Width = codes "width$"
 name_of builtins.Write = codes "write$"
 
--- the place in the table, from 0
-abbrev pub place_of : Builtin → ℕ
-place_of builtins.Greater = 0
-place_of builtins.Less = 1
-place_of builtins.Equals = 2
-place_of builtins.Plus = 3
-place_of builtins.Minus = 4
-place_of builtins.Join = 5
-place_of builtins.Assign = 6
-place_of builtins.AddPeriod = 7
-place_of builtins.CallType = 8
-place_of builtins.ChangeCase = 9
-place_of builtins.ChrToInt = 10
-place_of builtins.Cite = 11
-place_of builtins.Duplicate = 12
-place_of builtins.Empty = 13
-place_of builtins.FormatName = 14
-place_of builtins.If = 15
-place_of builtins.IntToChr = 16
-place_of builtins.IntToStr = 17
-place_of builtins.Missing = 18
-place_of builtins.Newline = 19
-place_of builtins.NumNames = 20
-place_of builtins.Pop = 21
-place_of builtins.Preamble = 22
-place_of builtins.Purify = 23
-place_of builtins.Quote = 24
-place_of builtins.Skip = 25
-place_of builtins.Stack = 26
-place_of builtins.Substring = 27
-place_of builtins.Swap = 28
-place_of builtins.TextLength = 29
-place_of builtins.TextPrefix = 30
-place_of builtins.Top = 31
-place_of builtins.Type = 32
-place_of builtins.Warning = 33
-place_of builtins.While = 34
-place_of builtins.Width = 35
-place_of builtins.Write = 36
-
--- a built-in function and its name
-pub record Row : Type 0 where
-  pub builtin : Builtin
-  pub name : List ℕ
-
 -- the table, in its order
-unfoldable pub table : List Row
-table = map (λ b. record { builtin = b; name = name_of b }) (
+unfoldable pub table : List Builtin
+table =
     builtins.Greater ∷ builtins.Less ∷ builtins.Equals ∷ builtins.Plus ∷ builtins.Minus ∷ builtins.Join ∷
     builtins.Assign ∷ builtins.AddPeriod ∷ builtins.CallType ∷ builtins.ChangeCase ∷ builtins.ChrToInt ∷
     builtins.Cite ∷ builtins.Duplicate ∷ builtins.Empty ∷ builtins.FormatName ∷ builtins.If ∷
@@ -98,4 +54,7 @@ table = map (λ b. record { builtin = b; name = name_of b }) (
     builtins.Pop ∷ builtins.Preamble ∷ builtins.Purify ∷ builtins.Quote ∷ builtins.Skip ∷ builtins.Stack ∷
     builtins.Substring ∷ builtins.Swap ∷ builtins.TextLength ∷ builtins.TextPrefix ∷ builtins.Top ∷
     builtins.Type ∷ builtins.Warning ∷ builtins.While ∷ builtins.Width ∷ builtins.Write ∷ []
-    )
+
+-- the place of a function's name in the table, from 0
+abbrev pub place_of : Builtin → ℕ
+place_of b = position_or_len (λ other. bytes_eq (name_of other) (name_of b)) table

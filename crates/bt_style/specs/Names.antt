@@ -1,24 +1,16 @@
 -- What names stand for.
 use Rattle.std.specs.Prelude.{ℕ, suc, Bool, if◌then◌else◌, List, [], ◌∷◌, map, Option, Some, None, is_some, bytes_eq}
+use Rattle.std.specs.List.{find}
 use Rattle.std.specs.Option.{option_map}
 use Rattle.bt_style.specs.declared.builtin.Builtin.{Builtin}
 use Rattle.bt_style.specs.declared.style.Target.{Target}
 use Rattle.bt_style.specs.declared.style.Target.TheVariants as targets
-use Rattle.bt_style.specs.Builtins.{Row, name_of, table}
+use Rattle.bt_style.specs.Builtins.{name_of, table}
 use Rattle.bt_style.specs.Program.{Program}
-
--- the row of a built-in function
-abbrev pub row_of : Builtin → Row
-row_of b = record { builtin = b; name = name_of b }
-
--- the built-in function of a name, among rows of the table
-abbrev pub builtin_among : List Row → List ℕ → Option Builtin
-builtin_among [] name = None
-builtin_among (row ∷ rows) name = if bytes_eq row.name name then Some row.builtin else builtin_among rows name
 
 -- the built-in function of a name
 unfoldable pub builtin_named : List ℕ → Option Builtin
-builtin_named name = builtin_among table name
+builtin_named name = find (λ b. bytes_eq (name_of b) name) table
 
 -- the number of a name in a list
 abbrev pub place_in : List (List ℕ) → List ℕ → Option ℕ

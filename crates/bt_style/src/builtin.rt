@@ -129,6 +129,7 @@ impl Builtin {
     ];
 
     /// The function's place in the table, from 0.
+    #[tactic(auto, unfolding(crate::specs::Builtins::table))]
     pub fn place(self) -> usize
         ensures value { result ≡ place_of self }
         ensures within { result < 37 }

@@ -4,8 +4,8 @@ ghost use Rattle.std.specs.Prelude.{◌≡◌, map, ℕ, List, Some, IfOk, OnOk,
 ghost use Rattle.std.specs.Option.{option_map};
 ghost use Rattle.bt_text.specs.ByName.{at_small};
 ghost use Rattle.bt_style.specs.Builtins.{name_of};
-ghost use Rattle.bt_style.specs.Names.{row_of, builtin_among, builtin_named};
-ghost use Rattle.bt_style.specs.inner.Names.{Holds};
+ghost use Rattle.bt_style.specs.Names.{builtin_named};
+ghost use Rattle.bt_style.specs.inner.Names.{Holds, builtin_among};
 
 use crate::builtin::Builtin;
 use crate::style::Target;
@@ -39,7 +39,7 @@ fn put_builtin(
 
 fn put_builtins(alloc: Global, builtins: &[Builtin]) -> Result<ByName<Target>, AllocError>
     ensures { IfOk result (λ targets. Holds targets
-        (λ name. option_map Target.Builtin (builtin_among (map row_of builtins.now) name))) }
+        (λ name. option_map Target.Builtin (builtin_among builtins.now name))) }
 {
     let mut targets = ByName::new(alloc);
     // From the last to the first, as the definition's look-up gives the first of a name.
@@ -53,7 +53,6 @@ fn put_builtins(alloc: Global, builtins: &[Builtin]) -> Result<ByName<Target>, A
 }
 
 /// The functions that need no definition, by their names.
-#[tactic(auto, unfolding(crate::specs::Names::builtin_named, crate::specs::Builtins::table))]
 pub fn builtins(alloc: Global) -> Result<ByName<Target>, AllocError>
     ensures { IfOk result (λ targets. Holds targets (λ name. option_map Target.Builtin (builtin_named name))) }
 {

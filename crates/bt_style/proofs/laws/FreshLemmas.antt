@@ -6,10 +6,12 @@ use Rattle.std.proofs.Common.{◌≡◌, ◌∙◌, ap, refl, ℕ, zero, suc, �
 use Rattle.bt_text.specs.CaseFolding.{folded}
 use Rattle.bt_text.specs.NameBytes.{is_name, is_name_byte}
 use Rattle.bt_style.specs.Token.{Open, Close, Word, Front, ends_word, piece_at, tokens_after}
-use Rattle.bt_style.specs.Builtins.{Row, table}
+use Rattle.bt_style.specs.declared.builtin.Builtin.{Builtin}
+use Rattle.bt_style.specs.Builtins.{name_of, table}
 use Rattle.bt_style.specs.Program.{Program}
-use Rattle.bt_style.specs.Names.{builtin_among, builtin_named, place_in, target_named, is_taken, macro_named, is_macro}
+use Rattle.bt_style.specs.Names.{builtin_named, place_in, target_named, is_taken, macro_named, is_macro}
 use Rattle.bt_style.specs.inner.Cases.{function_names, macro_names}
+use Rattle.bt_style.specs.inner.Names.{builtin_among}
 use Rattle.bt_style.specs.Declares.{new_name}
 use Rattle.bt_style.specs.laws.Laws.{is_byte}
 use Rattle.bt_style.proofs.SeekLemmas.{not_true}
@@ -84,14 +86,14 @@ not_among : (names : List (List ℕ)) (name : List ℕ) → total names < length
 not_among [] name lt = refl
 not_among (first ∷ names) name lt = rw (unlike first name (omega arith), not_among names name (omega arith)) refl
 
-not_builtin : (rows : List Row) (name : List ℕ) → total (map (λ (r : Row). r.name) rows) < length name → builtin_among rows name ≡ None
+not_builtin : (bs : List Builtin) (name : List ℕ) → total (map name_of bs) < length name → builtin_among bs name ≡ None
 not_builtin [] name lt = refl
-not_builtin (row ∷ rows) name lt = rw (unlike row.name name (omega arith), not_builtin rows name (omega arith)) refl
+not_builtin (b ∷ bs) name lt = rw (unlike (name_of b) name (omega arith), not_builtin bs name (omega arith)) refl
 
 -- more letters than all names have
 abbrev pub size : Program → ℕ
 size p =
-    total (map (λ (r : Row). r.name) table) + total p.fields + total p.entry_numbers + total p.entry_texts + total p.global_numbers + total p.global_texts
+    total (map name_of table) + total p.fields + total p.entry_numbers + total p.entry_texts + total p.global_numbers + total p.global_texts
     + total (function_names p) + total (macro_names p)
 
 abbrev pub fresh : Program → List ℕ

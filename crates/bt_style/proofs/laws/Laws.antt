@@ -7,6 +7,7 @@ use Rattle.bt_style.proofs.laws.MeaningLemmas
 use Rattle.bt_style.specs.laws.Uses.{NamesComeFirst}
 use Rattle.bt_style.proofs.laws.UsesLemmas
 use Rattle.bt_style.specs.laws.Builtins.{StandInTheirPlaces}
+use Rattle.bt_style.proofs.PlaceLemmas
 use Rattle.bt_style.proofs.laws.BuiltinLemmas
 use Rattle.bt_style.proofs.laws.FirstLemmas
 use Rattle.bt_style.proofs.laws.TextLemmas
@@ -27,7 +28,7 @@ pub names_come_first : NamesComeFirst
 names_come_first = UsesLemmas.names_come_first
 
 pub builtins_stand_in_their_places : StandInTheirPlaces
-builtins_stand_in_their_places = BuiltinLemmas.stands_in_its_place
+builtins_stand_in_their_places = PlaceLemmas.stands_in_its_place
 
 pub fault_is_first : FaultIsFirst
 fault_is_first = FirstLemmas.fault_is_first

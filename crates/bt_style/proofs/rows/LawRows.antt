@@ -3,7 +3,7 @@
 use Rattle.std.proofs.Common.{◌≡◌, ℕ, List, [], ◌∷◌, ◌++◌, map, Some, None, Err, refl, codes, true, is_ok, Result, Option, Ok}
 use Rattle.std.specs.Option.{option_map}
 use Rattle.bt_style.specs.declared.fault.FaultKind.TheVariants.{UnknownName, UnclosedBrace, StrayByte}
-use Rattle.bt_style.specs.Builtins.{table, place_of}
+use Rattle.bt_style.specs.Builtins.{name_of, table, place_of}
 use Rattle.bt_style.specs.Names.{builtin_named, place_in, target_named}
 use Rattle.bt_style.specs.Token.{Word, Glued, piece_at, literal_piece}
 use Rattle.bt_style.specs.declared.fault.StyleFault.{StyleFault}
@@ -64,15 +64,15 @@ place_of_if : option_map place_of (builtin_named (codes "if$")) ≡ Some 15
 unfolding builtin_named table
 place_of_if = refl
 
-name_of_place : place_in (map (λ row. row.name) table) (codes "if$") ≡ Some 15
+name_of_place : place_in (map name_of table) (codes "if$") ≡ Some 15
 unfolding table
 name_of_place = refl
 
-last_place : place_in (map (λ row. row.name) table) (codes "write$") ≡ Some 36
+last_place : place_in (map name_of table) (codes "write$") ≡ Some 36
 unfolding table
 last_place = refl
 
-no_place : place_in (map (λ row. row.name) table) (codes "entry.max$") ≡ None
+no_place : place_in (map name_of table) (codes "entry.max$") ≡ None
 unfolding table
 no_place = refl
 

@@ -100,8 +100,7 @@ FoundByTheirNames = (b : Builtin) → builtin_named (name_of b) ≡ Some b
 -- `place_of` gives the place in the table: the function of a name has the place at which the name stands there, and a
 -- name that doesn't stand there is that of no function.
 abbrev pub FoundAtTheirPlaces : Type 0
-FoundAtTheirPlaces = (name : List ℕ) →
-    option_map place_of (builtin_named name) ≡ place_in (map (λ row. row.name) table) name
+FoundAtTheirPlaces = (name : List ℕ) → option_map place_of (builtin_named name) ≡ place_in (map name_of table) name
 
 -- The body that is read from tokens is one that they spell, by the grammar of bodies.
 abbrev pub BodiesAreSpelled : Type 0
