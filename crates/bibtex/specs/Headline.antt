@@ -1,5 +1,5 @@
 -- What any list of edits leaves of a session.
-use Rattle.std.specs.Prelude.{◌≡◌, List, [], ◌∷◌, IfOk, Result, Ok, Err}
+use Rattle.std.specs.Prelude.{◌≡◌, List, [], ◌∷◌, IfOk, Result, Ok}
 use Rattle.bibtex.specs.Edit.{Edit}
 use Rattle.bibtex.specs.declared.edit.Refusal.{Refusal}
 use Rattle.bt_run.specs.declared.answers.Report.{Report}
@@ -10,16 +10,14 @@ use Rattle.bibtex.specs.Applied.{applied, IsAnswer}
 -- the state after an edit that was answered: what the edit makes of it where it was accepted, else the state as it was
 abbrev pub after_answer : Result Report Refusal → Result State Refusal → State → State
 after_answer (Ok report) (Ok new) s = new
-after_answer (Ok report) (Err refusal) s = s
-after_answer (Err refusal) made s = s
+after_answer _ _ s = s
 
 -- Each edit in turn is answered as it must be: accepted, or refused for the first reason that holds.
 abbrev pub AnswersInTurn : List Edit → List (Result Report Refusal) → State → Type 0
 AnswersInTurn [] [] s = Unit {0}
-AnswersInTurn [] (a ∷ rest) s = ⊥
-AnswersInTurn (e ∷ es) [] s = ⊥
 AnswersInTurn (e ∷ es) (a ∷ rest) s =
     IsAnswer (applied e s) a × AnswersInTurn es rest (after_answer a (applied e s) s)
+AnswersInTurn _ _ s = ⊥
 
 -- Each edit in turn that is accepted reports its work.
 abbrev pub ReportsInTurn : List Edit → List (Result Report Refusal) → State → Type 0
@@ -31,6 +29,5 @@ ReportsInTurn (e ∷ es) (a ∷ rest) s =
 
 -- the present state is the result of the accepted edits
 abbrev pub after_answers : List Edit → List (Result Report Refusal) → State → State
-after_answers [] answers s = s
-after_answers (e ∷ es) [] s = s
 after_answers (e ∷ es) (a ∷ rest) s = after_answers es rest (after_answer a (applied e s) s)
+after_answers _ _ s = s

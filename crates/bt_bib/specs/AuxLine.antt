@@ -1,7 +1,6 @@
 -- The lines of one .aux text that count.
-use Rattle.std.specs.Prelude.{ℕ, ◌+◌, Bool, List, [], ◌∷◌, length, drop, codes, Option, Some, None, if◌then◌else◌}
-use Rattle.std.specs.List.{slice_split, starts_with}
-use Rattle.std.specs.Prelude.{eqb}
+use Rattle.std.specs.Prelude.{ℕ, ◌+◌, Bool, List, [], ◌∷◌, length, drop, codes, Option, Some, None, eqb}
+use Rattle.std.specs.List.{find, slice_split, starts_with}
 use Rattle.bt_text.specs.ByteTests.{is_line_feed}
 use Rattle.bt_text.specs.White.{trimmed_end}
 use Rattle.bt_bib.specs.declared.aux_line.Command.{Command}
@@ -22,21 +21,15 @@ opening_of Nested = codes "\\@input{"
 abbrev pub begins : Command → List ℕ → Bool
 begins c line = starts_with eqb line (opening_of c)
 
--- the command of a line that counts
+-- the command of a line that counts: the one that it begins with
 abbrev pub command_of : List ℕ → Option Command
-command_of line =
-    if begins Citation line then Some Citation
-    else if begins Database line then Some Database
-    else if begins Style line then Some Style
-    else if begins Nested line then Some Nested
-    else None
+command_of line = find (λ c. begins c line) (Citation ∷ Database ∷ Style ∷ Nested ∷ [])
 
 -- how a command's argument is split
 abbrev pub parting : Command → Parting
 parting Citation = Commas
 parting Database = Commas
-parting Style = Whole
-parting Nested = Whole
+parting _ = Whole
 
 -- a line that counts
 abbrev pub item : ℕ → List ℕ → Command → AuxItem

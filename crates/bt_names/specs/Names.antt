@@ -1,5 +1,5 @@
 -- The names that a text lists.
-use Rattle.std.specs.Prelude.{ℕ, zero, suc, ◌+◌, ◌-◌, nat_lt, ◌==◌, Bool, false, ◌&&◌, ℤ, pos, negsuc, codes, List, [], ◌∷◌, length, drop, filter, slice_get, slice_index, slice_range, Option, None}
+use Rattle.std.specs.Prelude.{ℕ, suc, ◌+◌, ◌-◌, nat_lt, ◌==◌, Bool, false, ◌&&◌, ℤ, pos, codes, List, [], ◌∷◌, length, drop, filter, slice_get, slice_index, slice_range, Option, None}
 use Rattle.std.specs.List.{range_with_len}
 use Rattle.bt_text.specs.ByteTests.{is_white}
 use Rattle.bt_text.specs.Depth.{depth_at}
@@ -34,6 +34,5 @@ names_of (b ∷ t) = texts_between (b ∷ t) 0 (places_of_and (b ∷ t))
 
 -- the n-th name, counted from 1
 abbrev pub name_at : List ℕ → ℤ → Option (List ℕ)
-name_at t (pos zero) = None
 name_at t (pos (suc i)) = slice_get (names_of t) i
-name_at t (negsuc i) = None
+name_at t _ = None

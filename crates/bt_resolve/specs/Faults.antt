@@ -55,7 +55,7 @@ abbrev pub fault_error : ℕ → Spot → Content → Option Closing → ItemFau
 fault_error database end content close fault =
     record (skipping (Words (fault_words content close fault)) (DatabaseLine database end.line (Some end.place))
     (dropped_name content))
-    { entry = elim content [ contents.Entry e ↦ e.key | contents.Define d ↦ None | contents.Preamble parts ↦ None ] }
+    { entry = elim content [ contents.Entry e ↦ e.key | _ ↦ None ] }
 
 abbrev pub repeated : BibLine → List ℕ → Message
 repeated place key =

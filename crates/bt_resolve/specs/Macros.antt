@@ -31,6 +31,5 @@ macro_before macros (placed ∷ before) =
           | Some parts ↦ with_value name (value (others (Some name) known) parts) known
         ]
       ]
-      | contents.Entry e ↦ known
-      | contents.Preamble parts ↦ known
+      | _ ↦ known
     ]

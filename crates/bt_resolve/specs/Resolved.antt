@@ -32,8 +32,7 @@ preamble macros databases =
         | None ↦ []
         | Some these ↦ value (macro_before macros before) these
       ]
-      | contents.Entry e ↦ []
-      | contents.Define d ↦ []
+      | _ ↦ []
     ]) [] (all_items databases)
 
 -- the messages of the databases in turn, then those of the list

@@ -48,6 +48,5 @@ stored_among a macros (placed ∷ before) =
             then stored ++ stored_of a (macro_before macros before) e key ∷ []
             else stored
       ]
-      | contents.Define d ↦ stored
-      | contents.Preamble parts ↦ stored
+      | _ ↦ stored
     ]

@@ -2,9 +2,9 @@
 use Rattle.std.specs.Prelude.{ℕ, ◌+◌, List, ◌++◌, codes, Option, Some, None}
 use Rattle.bt_text.specs.CaseFolding.{folded}
 use Rattle.bt_log.specs.declared.message.Rank.TheVariants.{Warning}
-use Rattle.bt_log.specs.declared.message.Said.TheVariants.{Words}
 use Rattle.bt_log.specs.declared.message.Place.TheVariants.{DatabaseLine}
 use Rattle.bt_log.specs.declared.message.Message.{Message}
+use Rattle.bt_log.specs.Message.{plain, at}
 use Rattle.bt_resolve.specs.declared.place.BibLine.{BibLine}
 use Rattle.bt_resolve.specs.declared.place.Origin.{Origin}
 
@@ -15,13 +15,7 @@ line_at origin line = record { database = origin.database; line = origin.line + 
 -- a warning at a line of a database, about the entry of a key or about none
 abbrev pub warning_at : BibLine → List ℕ → Option (List ℕ) → Message
 warning_at place words entry =
-    record {
-      rank = Warning;
-      said = Words words;
-      entry = entry;
-      place = Some (DatabaseLine place.database place.line None);
-      second = None;
-    }
+    record (at (DatabaseLine place.database place.line None) (plain Warning words)) { entry = entry }
 
 abbrev pub undefined_macro : BibLine → List ℕ → Message
 undefined_macro place name =

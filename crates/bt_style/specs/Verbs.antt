@@ -32,7 +32,7 @@ all_verbs =
 unfoldable pub verb_named : List ℕ → Option Verb
 verb_named word = find (λ verb. is_same_folded word (word_of verb)) all_verbs
 
--- what stands in the way of a command at a stage
+-- What stands in the way of a command at a stage. EXECUTE, ITERATE, REVERSE and SORT, the last two lines, need entries.
 abbrev pub out_of_order : Verb → Stage → Option FaultKind
 out_of_order verbs.Entry BeforeEntry = None
 out_of_order verbs.Entry _ = Some SecondEntry
@@ -41,17 +41,11 @@ out_of_order verbs.Read BeforeRead = None
 out_of_order verbs.Read AfterRead = Some SecondRead
 out_of_order verbs.Macro AfterRead = Some CommandOrder
 out_of_order verbs.Macro _ = None
-out_of_order verbs.Execute AfterRead = None
-out_of_order verbs.Execute _ = Some CommandOrder
-out_of_order verbs.Iterate AfterRead = None
-out_of_order verbs.Iterate _ = Some CommandOrder
-out_of_order verbs.Reverse AfterRead = None
-out_of_order verbs.Reverse _ = Some CommandOrder
-out_of_order verbs.Sort AfterRead = None
-out_of_order verbs.Sort _ = Some CommandOrder
 out_of_order verbs.Function _ = None
 out_of_order verbs.Integers _ = None
 out_of_order verbs.Strings _ = None
+out_of_order _ AfterRead = None
+out_of_order _ _ = Some CommandOrder
 
 abbrev pub stage_after : Verb → Stage → Stage
 stage_after verbs.Entry stage = BeforeRead
