@@ -17,8 +17,8 @@ use Rattle.bt_job.specs.declared.files.File.{File}
 use Rattle.bt_job.specs.declared.citations.Citations.{Citations}
 use Rattle.bt_job.specs.FileNames.{is_file_name, text_of, with_name}
 use Rattle.bt_job.specs.Faults.{LineFault, WrongFile, SecondStar, OtherSpelling, PartFault, key_fault, database_fault, style_fault, right_parts}
-use Rattle.bt_job.specs.inner.Cases.{is_there, asked_from, spelling_fault, line_parts}
-use Rattle.bt_job.specs.Lines.{JobLine, has_command, first_with, cited, database_names, style_names, job_lines}
+use Rattle.bt_job.specs.inner.Cases.{is_there, asked_from, spelling_fault}
+use Rattle.bt_job.specs.Lines.{line_parts, JobLine, has_command, first_with, cited, database_names, style_names, job_lines}
 use Rattle.bt_job.specs.Citations.{is_star, keys_of, star_of, styles, citations}
 use Rattle.bt_job.specs.Fit.{AreDistinct, AreThere, IsWithin, IsThere, IsFit, AlwaysFit}
 use Rattle.bt_job.proofs.NameLemmas.{same_bytes}

@@ -13,9 +13,8 @@ use Rattle.bt_job.specs.declared.progress.Progress.{Progress}
 use Rattle.bt_job.specs.declared.progress.Outcome.TheVariants.{Wrong}
 use Rattle.bt_text.specs.NameList.{is_among}
 use Rattle.bt_job.specs.FileNames.{is_file_name, with_name}
-use Rattle.bt_job.specs.inner.Cases.{line_parts}
+use Rattle.bt_job.specs.Lines.{line_parts, JobLine, has_command, first_with, cited, database_names, style_names, argument_fault, unless_second, line_fault}
 use Rattle.bt_job.specs.Faults.{LineFault, SecondCommand, key_fault, database_fault, style_fault, right_parts}
-use Rattle.bt_job.specs.Lines.{JobLine, has_command, first_with, cited, database_names, style_names, argument_fault, unless_second, line_fault}
 use Rattle.bt_job.specs.Citations.{keys_of, star_of, missed, wanted, line_messages, messages}
 use Rattle.bt_job.specs.inner.LineEffects.{parts_taken, is_second, second_words, command_met, item_taken}
 use Rattle.bt_job.proofs.CitedLemmas.{cited_to, all_cited}

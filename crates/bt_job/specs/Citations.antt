@@ -14,7 +14,7 @@ use Rattle.bt_job.specs.declared.citations.Citations.{Citations}
 use Rattle.bt_text.specs.NameList.{is_among}
 use Rattle.bt_job.specs.FileNames.{text_of, each_once}
 use Rattle.bt_job.specs.Faults.{LineFault, WrongFile, said, database_fault, style_fault, right_parts}
-use Rattle.bt_job.specs.Lines.{JobLine, first_with, cited, database_names, style_names, line_fault, job_lines}
+use Rattle.bt_job.specs.Lines.{JobLine, first_with, line_parts, cited, database_names, style_names, line_fault, job_lines}
 
 -- Keys
 
@@ -35,14 +35,12 @@ star_of parts =
 -- the databases: the names in the first \bibdata, before the first wrong one
 abbrev pub databases : List File → List JobLine → List (List ℕ)
 databases files lines =
-    let parts : List (List ℕ) = elim (first_with Database lines) [ None ↦ [] | Some line ↦ line.item.parts ] in
-    right_parts (database_fault files) [] (database_names parts)
+    right_parts (database_fault files) [] (database_names (line_parts (first_with Database lines)))
 
 -- the style: the name in the first \bibstyle, unless it is wrong
 abbrev pub styles : List File → List JobLine → List (List ℕ)
 styles files lines =
-    let parts : List (List ℕ) = elim (first_with Style lines) [ None ↦ [] | Some line ↦ line.item.parts ] in
-    right_parts (style_fault files) [] (style_names parts)
+    right_parts (style_fault files) [] (style_names (line_parts (first_with Style lines)))
 
 -- a name that was looked up and isn't there
 abbrev pub missed : Option LineFault → List (List ℕ)

@@ -45,6 +45,10 @@ cited lines =
     fold (λ (before : List (List ℕ)) (line : JobLine). before ++ right_parts key_fault before line.item.parts) []
     (filter (has_command Citation) lines)
 
+-- the parts of a line, if there is one
+abbrev pub line_parts : Option JobLine → List (List ℕ)
+line_parts o = elim o [ None ↦ [] | Some line ↦ line.item.parts ]
+
 -- the names of a \bibdata
 abbrev pub database_names : List (List ℕ) → List (List ℕ)
 database_names parts = map (with_ending (codes ".bib")) parts

@@ -24,11 +24,6 @@ lines_in level file None = []
 lines_in level file (Some text) =
     map (λ item. record { level = level; file = file; item = item }) (aux_lines text)
 
--- the parts of a line, if there is one
-abbrev pub line_parts : Option JobLine → List (List ℕ)
-line_parts None = []
-line_parts (Some line) = line.item.parts
-
 -- the lines of the file that a line opens, which has this fault
 abbrev pub lines_opened : List File → JobLine → Option LineFault → List JobLine
 lines_opened files line (Some fault) = []

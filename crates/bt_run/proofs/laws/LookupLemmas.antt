@@ -15,8 +15,8 @@ use Rattle.bt_job.specs.declared.citations.Citations.{Citations}
 use Rattle.bt_text.specs.NameList.{is_among}
 use Rattle.bt_job.specs.FileNames.{is_file_name, text_of, each_once}
 use Rattle.bt_job.specs.Faults.{LineFault, PartFault, WrongFile, IllEnded, database_fault, style_fault, input_fault, right_parts, first_fault}
-use Rattle.bt_job.specs.Lines.{JobLine, lines_of, has_command, first_with, cited, database_names, style_names, input_names, unless_second, line_fault, opened_by, with_line, job_lines}
-use Rattle.bt_job.specs.inner.Cases.{command_fault, asked_from, lines_in, line_parts, lines_opened}
+use Rattle.bt_job.specs.Lines.{JobLine, lines_of, has_command, first_with, cited, database_names, style_names, input_names, unless_second, line_fault, opened_by, with_line, job_lines, line_parts}
+use Rattle.bt_job.specs.inner.Cases.{command_fault, asked_from, lines_in, lines_opened}
 use Rattle.bt_job.specs.inner.Queue.{read_on, line_count}
 use Rattle.bt_job.specs.Citations.{keys_of, star_of, databases, styles, missed, along, line_messages, file_line, missing_of, asked_by, citations, told_missing}
 use Rattle.bt_job.proofs.BoundLemmas.{any_bound_serves, job_lines_queue, read_end, read_more, unopened_all}
