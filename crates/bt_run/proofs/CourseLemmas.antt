@@ -18,10 +18,10 @@ use Rattle.bt_run.specs.declared.course.Step.{Step}
 use Rattle.bt_run.specs.declared.course.CommandPlace.{CommandPlace}
 use Rattle.bt_run.specs.declared.earlier.Earlier.{Earlier}
 use Rattle.bt_run.specs.declared.kept_steps.KeptSteps.{KeptSteps}
-use Rattle.bt_run.specs.Course.{Recorded, course_world, input_at, step_kept, left_by, stepped}
+use Rattle.bt_run.specs.Course.{Recorded, course_world, input_at, step_kept, left_by, stepped, key_in}
 use Rattle.bt_run.specs.inner.Cases.{all_told}
 use Rattle.bt_run.specs.inner.Course.{recorded, IsOrdered, with_variables, variables_back, put_back}
-use Rattle.bt_run.specs.Work.{key_in, total_cost, work_under, IsStep}
+use Rattle.bt_run.specs.Work.{total_cost, work_under, IsStep}
 use Rattle.bt_run.specs.inner.Earlier.{AreSame}
 use Rattle.bt_run.specs.inner.Work.{IsNext, IsConsistent}
 use Rattle.bt_run.proofs.WorkLemmas.{work_append, work_fewer}

@@ -13,7 +13,7 @@ use Rattle.bt_machine.specs.declared.input.Input.{Input}
 use Rattle.bt_run.specs.declared.course.Step.{Step}
 use Rattle.bt_run.specs.declared.index.StepName.{StepName}
 use Rattle.bt_run.specs.declared.index.Index.{Index}
-use Rattle.bt_run.specs.Work.{key_in}
+use Rattle.bt_run.specs.Course.{key_in}
 use Rattle.bt_run.specs.inner.Index.{key_or_none, same_name, step_name, places_at, IsIndex}
 use Rattle.bt_run.specs.inner.Work.{IsLike, IsUnlikeAt}
 use Rattle.bt_run.proofs.WorkLemmas.{key_same}

@@ -26,7 +26,8 @@ use Rattle.bt_run.specs.declared.course.Step.{Step}
 use Rattle.bt_run.specs.declared.reuse.Reuse.{Reuse}
 use Rattle.bt_run.specs.Reached.{names_in}
 use Rattle.bt_run.specs.inner.Index.{IsIndex}
-use Rattle.bt_run.specs.Work.{key_in, IsStep, same_key, agrees_with, was_done, work_under}
+use Rattle.bt_run.specs.Work.{IsStep, same_key, agrees_with, was_done, work_under}
+use Rattle.bt_run.specs.Course.{key_in}
 use Rattle.bt_run.specs.inner.Work.{IsLike, IsKnown, step_now, IsCounted, IsNext}
 use Rattle.bt_run.proofs.ReachedLemmas.{footprint_named}
 

@@ -35,15 +35,7 @@ first_globals p = record { numbers = map first_number p.global_numbers; texts = 
 -- a run that has logged this, before any step
 abbrev pub run_begun : Variables → List Message → Recorded (List Step)
 run_begun globals log = record {
-  course = record {
-    entries = [];
-    order = [];
-    globals = globals;
-    preamble = [];
-    held = [];
-    log = log;
-    stopped = false;
-  };
+  course = record { entries = []; order = []; globals = globals; preamble = []; held = []; log = log; stopped = false };
   seen = [];
 }
 

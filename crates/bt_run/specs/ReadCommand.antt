@@ -60,17 +60,13 @@ found_for job number =
 
 -- an entry with its variables, as many as the style declares: numbers that are 0, and empty texts
 abbrev pub with_blank_variables : Program → FoundEntry → Entry
-with_blank_variables p e =
-    record {
-      key = e.key;
-      kind = e.kind;
-      function = e.function;
-      fields = e.fields;
-      variables = record {
-        numbers = map (λ name. pos 0) p.entry_numbers;
-        texts = map (λ name. []) p.entry_texts;
-      };
-    }
+with_blank_variables p e = record {
+  key = e.key;
+  kind = e.kind;
+  function = e.function;
+  fields = e.fields;
+  variables = record { numbers = map (λ name. pos 0) p.entry_numbers; texts = map (λ name. []) p.entry_texts };
+}
 
 -- Messages
 

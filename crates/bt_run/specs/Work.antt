@@ -1,18 +1,12 @@
 -- What is carried out of a run after an earlier run: the steps that the earlier run does not have.
 use Rattle.std.specs.Prelude.{◌≡◌, ◌==◌, ◌&&◌, not, ℕ, Bool, true, false, List, Option, Some, None, filter, sum_by, bytes_eq}
 use Rattle.std.specs.List.{list_any}
-use Rattle.std.specs.Option.{option_map}
 use Rattle.bt_style.specs.Program.{Program}
-use Rattle.bt_actions.specs.declared.entry.Entry.{Entry}
-use Rattle.bt_machine.specs.declared.input.Input.{Input}
 use Rattle.bt_machine.specs.Step.{step_in, outcome_of}
 use Rattle.bt_machine.specs.Agreement.{reach_by, agreement}
 use Rattle.bt_run.specs.declared.course.Step.{Step}
+use Rattle.bt_run.specs.Course.{key_in}
 use Rattle.bt_run.specs.Reached.{names_in}
-
--- the key of an input's entry
-abbrev pub key_in : Input → Option (List ℕ)
-key_in i = option_map (λ (e : Entry). e.key) i.entry
 
 -- what a step left and cost is what its input gives under a style
 pub record IsStep (p : Program) (s : Step) : Type 0 where

@@ -7,7 +7,7 @@ use Rattle.bt_machine.specs.declared.input.Input.{Input}
 use Rattle.bt_run.specs.declared.course.Step.{Step}
 use Rattle.bt_run.specs.declared.index.StepName.{StepName}
 use Rattle.bt_run.specs.declared.index.Index.{Index}
-use Rattle.bt_run.specs.Work.{key_in}
+use Rattle.bt_run.specs.Course.{key_in}
 
 -- a key; nothing where there is none
 abbrev pub key_or_none : Option (List ℕ) → List ℕ

@@ -17,7 +17,8 @@ use Rattle.bt_run.specs.declared.reused_step.Sought.{Sought}
 use Rattle.bt_run.specs.declared.reused_step.Found.{Found}
 use Rattle.bt_run.specs.inner.Index.{IsIndex}
 use Rattle.bt_run.specs.inner.Earlier.{ArePlaced, AreSame}
-use Rattle.bt_run.specs.Work.{key_in, IsStep, work_under, total_cost}
+use Rattle.bt_run.specs.Work.{IsStep, work_under, total_cost}
+use Rattle.bt_run.specs.Course.{key_in}
 
 -- A run over earlier steps
 
