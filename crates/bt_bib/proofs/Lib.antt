@@ -12,6 +12,7 @@ pub mod SameLemmas
 pub mod SameFieldLemmas
 pub mod SamePieceLemmas
 pub mod BoundaryLemmas
+pub mod CursorLemmas
 pub mod KeptLemmas
 pub mod RiseLemmas
 pub mod PlacedLemmas

@@ -12,6 +12,7 @@ pub mod Fields
 pub mod Keywords
 pub mod Pieces
 pub mod BibText
+pub mod PieceCursor
 pub mod Boundaries
 pub mod Splice
 pub mod Parts
