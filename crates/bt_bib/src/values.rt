@@ -96,8 +96,9 @@ impl Reader<'_> {
         ensures { Gives self.now.text.now from result (value close (here self.now.text.now from)) }
     {
         let (first, end) = self.part(from, close)?;
-        let mut parts = Sequence::new(self.alloc);
+        // Most values have one part, and an empty vector would make room for four.
+        let mut parts = Vec::with_capacity(self.alloc, 1)?;
         parts.push(first)?;
-        self.others(end, close, parts)
+        self.others(end, close, Sequence::from_vec(parts))
     }
 }
