@@ -36,16 +36,13 @@ impl Snapshot {
         ensures { IfOk result (λ snapshot. snapshot ≡ draft) }
     {
         let Draft { alloc, state } = draft;
-        let run = run_once(
+        let answers = run_once(
             alloc,
             state.texts.as_slice(),
             state.root.as_slice(),
             state.min,
         )?;
-        Ok(Snapshot {
-            state,
-            answers: run.answers,
-        })
+        Ok(Snapshot { state, answers })
     }
 
     /// The bytes of the `.bbl` file.

@@ -14,7 +14,7 @@ use bt_bib::{AuxItem, Command, read_aux};
 use bt_files::{Names, all_put_back, is_own_name, written};
 use bt_job::{File, file_name_of};
 use bt_log::{log_bytes, terse_bytes};
-use bt_run::{Answers, OneRun, run_once};
+use bt_run::{Answers, run_once};
 use bt_text::{Bytes, Sequence, Shared};
 use std::alloc::{AllocError, Global};
 
@@ -216,19 +216,15 @@ fn told_under(alloc: Global, names: &Names, shown: Answers) -> Result<Answers, A
 }
 
 /// What a job's files mean, of any size and number and under any names. `root` is the name of the job's first `.aux` file
-/// without its ending. The only error is out of memory. The run's databases are read of the texts under the session's names.
-/// A program that ends with the job may forget them.
+/// without its ending. The only error is out of memory.
 #[tactic(auto, unfolding(crate::specs::Job::job_meaning))]
-pub fn run(alloc: Global, files: &[File], root: &[u8], min: u32) -> Result<OneRun, AllocError>
-    ensures { IfOk result (λ run. meaning_of run.answers ≡ job_meaning files.now root.now min) }
+pub fn run(alloc: Global, files: &[File], root: &[u8], min: u32) -> Result<Answers, AllocError>
+    ensures { IfOk result (λ answers. meaning_of answers ≡ job_meaning files.now root.now min) }
 {
     let names = table_of(alloc, files, root)?;
     let under = files_under(alloc, &names, files)?;
     let root = root_under(alloc, root)?;
-    let run = run_once(alloc, under.as_slice(), root.as_slice(), min)?;
-    let told = told_under(alloc, &names, run.answers)?;
-    Ok(OneRun {
-        answers: told,
-        databases: run.databases,
-    })
+    let shown = run_once(alloc, under.as_slice(), root.as_slice(), min)?;
+    let told = told_under(alloc, &names, shown)?;
+    Ok(told)
 }

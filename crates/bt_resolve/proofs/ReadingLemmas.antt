@@ -1,6 +1,7 @@
 -- One more piece, or database, is read.
 use Rattle.std.proofs.Common.{◌≡◌, ◌∙◌, ap, sym, refl, append_assoc, append-nil, ℕ, ◌+◌, List, [], ◌∷◌, ◌++◌, map}
-use Rattle.bt_bib.specs.Items.{items_of}
+use Rattle.bt_bib.specs.BibText.{pieces_of}
+use Rattle.bt_bib.specs.Items.{PlacedItem, items_of}
 use Rattle.bt_bib.specs.declared.placed_pieces.PlacedPiece.{PlacedPiece}
 use Rattle.bt_resolve.specs.declared.asked.Asked.{Asked}
 use Rattle.bt_resolve.specs.declared.reading.Reach.{Reach}
@@ -72,3 +73,25 @@ databases_done a start ds all n s rest none left = (
   ap (λ (l : List (List PlacedPiece)). after_databases a n s (map items_of l)) (sym none) ∙ left.read,
   sym (append-nil all) ∙ ap (λ (l : List (List PlacedPiece)). all ++ database_reaches a n s l) (sym none) ∙ left.reaches_so,
 )
+
+-- ---- databases that are read from their texts
+
+pub text_next : (a : Asked) (n : ℕ) (s t all : State) (p : PlacedPiece) (left others : List PlacedPiece) → left ≡ p ∷ others → t ≡ after_items a n s (items_of (p ∷ [])) → after_items a n s (items_of left) ≡ all → after_items a n t (items_of others) ≡ all
+text_next a n s t all p left others is is_t so_far =
+    ap (λ (u : State). after_items a n u (items_of others)) is_t
+    ∙ items_more a n s p others
+    ∙ ap (λ (ps : List PlacedPiece). after_items a n s (items_of ps)) (sym is)
+    ∙ so_far
+
+-- the items of texts
+abbrev pub items_in : List (List ℕ) → List (List PlacedItem)
+items_in texts = map (λ (text : List ℕ). items_of (pieces_of text)) texts
+
+pub texts_next : (a : Asked) (n m : ℕ) (s t all : State) (text : List ℕ) (here rest : List (List ℕ)) → here ≡ text ∷ rest → m ≡ n + 1 → t ≡ after_items a n s (items_of (pieces_of text)) → after_databases a n s (items_in here) ≡ all → after_databases a m t (items_in rest) ≡ all
+texts_next a n m s t all text here rest is_here is_m is_t so_far =
+    (λ j. after_databases a (is_m j) (is_t j) (items_in rest))
+    ∙ ap (λ (l : List (List ℕ)). after_databases a n s (items_in l)) (sym is_here)
+    ∙ so_far
+
+pub texts_done : (a : Asked) (n : ℕ) (s all : State) (rest : List (List ℕ)) → rest ≡ [] → after_databases a n s (items_in rest) ≡ all → s ≡ all
+texts_done a n s all rest none so_far = ap (λ (l : List (List ℕ)). after_databases a n s (items_in l)) (sym none) ∙ so_far

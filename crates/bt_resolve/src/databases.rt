@@ -6,6 +6,7 @@
 //! `proofs/PlacingLemmas.antt` proves that this is what the definitions say about an item at its place.
 
 ghost use Rattle.std.specs.Prelude.{◌≡◌, ◌∷◌, [], IfOk, IsTrue, OnOk, map};
+ghost use Rattle.bt_bib.specs.BibText.{pieces_of};
 ghost use Rattle.bt_bib.specs.Items.{items_of};
 ghost use Rattle.bt_text.specs.NameList.{are_apart};
 ghost use Rattle.bt_resolve.specs.inner.Databases.{after_content, after_databases, after_item, after_items, nothing_read, state_of};
@@ -19,8 +20,8 @@ use crate::place::Origin;
 use crate::reader::Reader;
 use crate::reading::{Reach, Reading};
 use crate::store::Store;
-use bt_bib::{Content, Item, Items, Piece, PlacedPiece, Spot};
-use bt_text::{Bytes, Sequence};
+use bt_bib::{Content, Item, Items, Piece, PieceCursor, PlacedPiece, Spot};
+use bt_text::{Bytes, Sequence, Shared};
 use std::alloc::{AllocError, Global};
 
 impl Reader<'_> {
@@ -140,4 +141,43 @@ pub fn read_databases(
         all.push(reaches)?;
     }
     Ok(all)
+}
+
+/// Reads a database from its text. None of its pieces is kept.
+fn read_text(
+    alloc: Global,
+    asked: &Asked<'_>,
+    database: usize,
+    text: &[u8],
+    reading: &mut Reading,
+) -> Result<(), AllocError>
+    requires { IsTrue (are_apart asked.now.fields) }
+    ensures { OnOk result (state_of reading.new
+        ≡ after_items asked.now database (state_of reading.old) (items_of (pieces_of text.now))) }
+{
+    let mut left = PieceCursor::of(alloc, text)?;
+    'pieces: loop {
+        let next = left.next()?;
+        match next {
+            None => return Ok(()),
+            Some(piece) => read_piece(alloc, asked, database, &piece, reading)?,
+        }
+    }
+}
+
+/// Reads databases from their texts, in their order.
+pub fn read_texts(
+    alloc: Global,
+    asked: &Asked<'_>,
+    texts: &[Shared<Bytes>],
+    reading: &mut Reading,
+) -> Result<(), AllocError>
+    requires { IsTrue (are_apart asked.now.fields) }
+    ensures { OnOk result (state_of reading.new ≡ after_databases asked.now 1 (state_of reading.old)
+        (map (λ text. items_of (pieces_of text)) texts.now)) }
+{
+    'texts: for i in 0..texts.len() {
+        read_text(alloc, asked, i + 1, texts[i].as_slice(), reading)?;
+    }
+    Ok(())
 }

@@ -4,6 +4,7 @@
 //! follows each drop, so a single function with all these steps would take many minutes to prove.
 
 ghost use Rattle.std.specs.Prelude.{◌≡◌, ◌≤◌, ◌++◌, length, map, IfOk, IfSome, IsTrue, OnOk};
+ghost use Rattle.bt_bib.specs.BibText.{pieces_of};
 ghost use Rattle.bt_bib.specs.Items.{items_of};
 ghost use Rattle.bt_resolve.specs.inner.Databases.{resolved_of};
 ghost use Rattle.bt_resolve.specs.inner.Inheritance.{seen_of};
@@ -12,7 +13,7 @@ ghost use Rattle.bt_resolve.specs.References.{list_messages};
 ghost use Rattle.bt_resolve.specs.Resolved.{resolved};
 
 use crate::asked::Asked;
-use crate::databases::{nothing_read, read_databases};
+use crate::databases::{nothing_read, read_texts};
 use crate::declared::{Cites, Declared};
 use crate::entry::Resolved;
 use crate::family::Family;
@@ -20,7 +21,6 @@ use crate::list::listed;
 use crate::reading::Reading;
 use crate::store::Store;
 use crate::view::{Seen, View};
-use bt_bib::Items;
 use bt_log::Message;
 use bt_text::{Bytes, Sequence, Shared};
 use std::alloc::{AllocError, Global};
@@ -71,22 +71,23 @@ fn resolve_read(
     })
 }
 
-/// The list of entries that a style sees, the preamble, and all messages, from the items of the databases in their
-/// order. An uncited entry to which fewer than `min` entries refer isn't in the list.
+/// The list of entries that a style sees, the preamble, and all messages, from the texts of the databases in their order.
+/// No item is kept: each is dropped before the next is read. An uncited entry to which fewer than `min` entries refer
+/// isn't in the list.
 pub fn resolve(
     alloc: Global,
     declared: &Declared,
     cites: &Cites,
-    databases: &[&Items],
+    texts: &[Shared<Bytes>],
     min: u32,
 ) -> Result<Resolved, AllocError>
     requires fields { IsTrue (are_apart declared.now.fields) }
     requires star { IfSome cites.now.star (λ before. before ≤ length cites.now.keys) }
     ensures { IfOk result (λ all. all
-        ≡ resolved declared.now cites.now (map (λ d. items_of d.now) databases.now) min) }
+        ≡ resolved declared.now cites.now (map (λ text. items_of (pieces_of text)) texts.now) min) }
 {
     let asked = Asked::new(alloc, declared, cites)?;
     let mut read = nothing_read(alloc, declared.macros.as_slice())?;
-    read_databases(alloc, &asked, databases, &mut read)?;
+    read_texts(alloc, &asked, texts, &mut read)?;
     resolve_read(alloc, &asked, min, &mut read)
 }

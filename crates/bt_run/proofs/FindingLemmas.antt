@@ -64,7 +64,7 @@ within_texts q texts number read less = omega (arith, less, ap length read, leng
 
 -- ---- the question
 
-maps : {A B C : Type 0} (f : B → C) (g : A → B) (xs : List A) → map (λ x. f (g x)) xs ≡ map f (map g xs)
+pub maps : {A B C : Type 0} (f : B → C) (g : A → B) (xs : List A) → map (λ x. f (g x)) xs ≡ map f (map g xs)
 maps f g [] = refl
 maps f g (x ∷ xs) = ap (λ ys. f (g x) ∷ ys) (maps f g xs)
 

@@ -1,18 +1,16 @@
 //! Finds what READ asks: what is kept, an edit of it, or all anew.
 
-ghost use Rattle.std.specs.Prelude.{◌≡◌, ◌≤◌, length, map, IfOk, IfSome, IsTrue, OnOk};
-ghost use Rattle.bt_bib.specs.Items.{items_of};
+ghost use Rattle.std.specs.Prelude.{◌≡◌, ◌≤◌, length, IfOk, IfSome, IsTrue, OnOk};
 ghost use Rattle.bt_text.specs.NameList.{are_apart};
 ghost use Rattle.bt_resolve.specs.inner.Kept.{resolved_for};
 ghost use Rattle.bt_run.specs.inner.Asked.{question_of};
 ghost use Rattle.bt_run.specs.inner.Found.{IsKept};
 
 use crate::asking::Asking;
-use crate::database::{Database, DatabaseEdit, all_items};
+use crate::database::{Database, DatabaseEdit};
 use crate::kept_resolution::KeptResolution;
-use bt_bib::Items;
 use bt_resolve::{Resolved, resolve};
-use bt_text::{Sequence, Shared};
+use bt_text::Sequence;
 use std::alloc::{AllocError, Global};
 
 /// Whether what is kept is the answer now, if need be after an edit.
@@ -55,34 +53,17 @@ pub fn find(
     Ok(())
 }
 
-fn all_lent<'a>(alloc: Global, databases: &'a [Shared<Items>]) -> Result<Vec<&'a Items>, AllocError>
-    ensures { IfOk result (λ lent. map (λ d. items_of d.now) lent.items ≡ map items_of databases.now) }
-{
-    let mut lent = Vec::new(alloc);
-    'databases: for database in databases {
-        lent.push(&**database)?;
-    }
-    Ok(lent)
-}
-
-/// What the style sees of what is asked, which isn't kept. Of the databases, those that weren't read before are read, and
-/// put after those that were.
-pub fn resolve_asked(
-    alloc: Global,
-    asking: &Asking,
-    databases: &mut Sequence<Database>,
-) -> Result<Resolved, AllocError>
+/// What the style sees of what is asked, for a run that keeps nothing of the databases.
+pub fn resolve_asked(alloc: Global, asking: &Asking) -> Result<Resolved, AllocError>
     requires fields { IsTrue (are_apart asking.now.declared.fields) }
     requires star { IfSome asking.now.cites.star (λ before. before ≤ length asking.now.cites.keys) }
     ensures { IfOk result (λ all. all ≡ resolved_for (question_of asking.now)) }
 {
-    let read = all_items(alloc, asking.texts.as_slice(), databases)?;
-    let items = all_lent(alloc, read.as_slice())?;
     let all = resolve(
         alloc,
         &asking.declared,
         &asking.cites,
-        items.as_slice(),
+        asking.texts.as_slice(),
         asking.min,
     )?;
     Ok(all)

@@ -36,6 +36,6 @@ pub use answers::{Answers, Report, Run, answers_after};
 pub use course::{CommandPlace, Course, Step};
 pub use database::{Database, DatabaseEdit, database_of};
 pub use kept::Kept;
-pub use once::{OneRun, run_once};
+pub use once::run_once;
 pub use readings::Readings;
 pub use styles::ReadStyle;

@@ -12,7 +12,6 @@ use crate::answers::{Answers, show};
 use crate::commands::run_style;
 use crate::counts::tell_counts;
 use crate::course::Course;
-use crate::database::Database;
 use crate::earlier::Earlier;
 use crate::job::{Job, shared_text};
 use crate::start::with_fault;
@@ -30,14 +29,12 @@ fn show_style(
     job: Job<'_>,
     log: Sequence<Message>,
     wanted: Sequence<Bytes>,
-    databases: &mut Sequence<Database>,
 ) -> Result<Answers, AllocError>
     ensures { IfOk result (λ answers. meaning_of answers ≡ run_shown (style_run (job_of job.entry) log) wanted) }
 {
     let mut written = WrittenSteps::none(alloc);
     let mut course = run_style(alloc, job, log, &mut written)?;
     tell_counts(alloc, &mut course.log, &written.calls)?;
-    *databases = written.databases;
     let Course { log, .. } = course;
     let answers = show(alloc, written.bbl, log, wanted)?;
     Ok(answers)
@@ -50,7 +47,6 @@ fn show_asked(
     files: &[File],
     citations: Citations,
     min: u32,
-    databases: &mut Sequence<Database>,
 ) -> Result<Answers, AllocError>
     requires { ForSome citations.star (λ before. before ≤ length citations.keys) }
     ensures { IfOk result (λ answers. meaning_of answers
@@ -85,7 +81,7 @@ fn show_asked(
                 style: &style,
                 earlier: Earlier::none(),
             };
-            let answers = show_style(alloc, job, log, wanted, databases)?;
+            let answers = show_style(alloc, job, log, wanted)?;
             Ok(answers)
         }
         Err(StyleRefusal::Fault { kind, line }) => {
@@ -97,21 +93,13 @@ fn show_asked(
     }
 }
 
-/// What a run shows that keeps no steps, and the databases that it has read.
-#[derive(Drop)]
-pub struct OneRun {
-    pub answers: Answers,
-    pub databases: Sequence<Database>,
-}
-
 /// What the files mean from this root, the name of its file without `.aux`, with this min-crossrefs. All is read and
-/// run from scratch, and no step is kept: where no edit follows, this takes less time and memory than `answers_after`.
+/// run from scratch, and nothing is kept: where no edit follows, this takes less time and memory than `answers_after`.
 #[tactic(auto, using(crate::proofs::AnswerLemmas::star_within))]
-pub fn run_once(alloc: Global, files: &[File], root: &[u8], min: u32) -> Result<OneRun, AllocError>
-    ensures { IfOk result (λ run. meaning_of run.answers ≡ meaning files.now root.now min) }
+pub fn run_once(alloc: Global, files: &[File], root: &[u8], min: u32) -> Result<Answers, AllocError>
+    ensures { IfOk result (λ answers. meaning_of answers ≡ meaning files.now root.now min) }
 {
     let citations = read_citations(alloc, files, root, &mut AuxTexts::new(alloc))?;
-    let mut databases = Sequence::new(alloc);
-    let answers = show_asked(alloc, files, citations, min, &mut databases)?;
-    Ok(OneRun { answers, databases })
+    let answers = show_asked(alloc, files, citations, min)?;
+    Ok(answers)
 }

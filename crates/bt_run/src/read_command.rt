@@ -10,7 +10,6 @@ ghost use Rattle.bt_run.specs.inner.JobView.{job_of};
 
 use crate::asking::Asking;
 use crate::course::Course;
-use crate::database::Database;
 use crate::database_messages::tell_databases;
 use crate::declarations::blank;
 use crate::finding::{find, resolve_asked};
@@ -43,17 +42,12 @@ fn find_for(
     Ok(())
 }
 
-/// What the databases give for the citations, at the command of this number. Databases that weren't read before are read.
-fn found(
-    alloc: Global,
-    job: Job<'_>,
-    number: usize,
-    databases: &mut Sequence<Database>,
-) -> Result<Resolved, AllocError>
+/// What the databases give for the citations, at the command of this number.
+fn found(alloc: Global, job: Job<'_>, number: usize) -> Result<Resolved, AllocError>
     ensures { IfOk result (λ all. all ≡ found_for (job_of job.entry) number) }
 {
     let asking = Asking::at(alloc, job, number)?;
-    let all = resolve_asked(alloc, &asking, databases)?;
+    let all = resolve_asked(alloc, &asking)?;
     Ok(all)
 }
 
@@ -151,11 +145,10 @@ pub fn read_once(
     job: Job<'_>,
     number: usize,
     course: &mut Course,
-    databases: &mut Sequence<Database>,
 ) -> Result<(), AllocError>
     ensures { OnOk result (course.new ≡ read (job_of job.entry) number course.old) }
 {
-    let all = found(alloc, job, number, databases)?;
+    let all = found(alloc, job, number)?;
     enter(alloc, job, &all, course)?;
     Ok(())
 }

@@ -5,7 +5,6 @@ ghost use Rattle.std.specs.Prelude.{◌≡◌, [], slice_index_or, ℕ, ◌<◌}
 use crate::bibliography::write_lines;
 use crate::counts::{Calls, add_calls};
 use crate::course::Course;
-use crate::database::Database;
 use crate::job::Job;
 use crate::read_command::read_once;
 use crate::recorder::Recorder;
@@ -13,7 +12,7 @@ use crate::step::{cut_out, put_back};
 use crate::step_command::StepCommand;
 use bt_machine::{Meter, activate, step_depends_on_its_input};
 use bt_style::{BUILTIN_COUNT, Target};
-use bt_text::{Bytes, Sequence};
+use bt_text::Bytes;
 use std::alloc::{AllocError, Global};
 
 /// What the steps of a run have written, and how often they called each built-in function.
@@ -21,8 +20,6 @@ use std::alloc::{AllocError, Global};
 pub struct WrittenSteps {
     pub bbl: Bytes,
     pub calls: Calls,
-    /// The databases that READ has read.
-    pub databases: Sequence<Database>,
 }
 
 impl WrittenSteps {
@@ -34,7 +31,6 @@ impl WrittenSteps {
         WrittenSteps {
             bbl: Bytes::new(alloc),
             calls: [0; BUILTIN_COUNT],
-            databases: Sequence::new(alloc),
         }
     }
 }
@@ -57,7 +53,7 @@ impl Recorder for WrittenSteps {
         number: usize,
         course: &mut Course,
     ) -> Result<(), AllocError> {
-        read_once(alloc, job, number, course, &mut self.databases)
+        read_once(alloc, job, number, course)
     }
 
     fn take_step(

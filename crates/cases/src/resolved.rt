@@ -7,7 +7,6 @@ ghost use Rattle.bt_text.specs.NameList.{are_apart};
 use crate::Done;
 use crate::answer::{Answer, Raw, Spelled, put};
 use crate::words::Words;
-use bt_bib::{Items, read_bib};
 use bt_log::{Message, Place, Rank, Said};
 use bt_resolve::{Cites, Declared, Entry, Macro, Resolved, resolve};
 use bt_text::{Bytes, NameList, Sequence, Shared};
@@ -130,33 +129,33 @@ fn cites_of(alloc: Global, word: &str) -> Result<Cites, AllocError>
     Ok(Cites { keys, star })
 }
 
-/// Puts what the keys give, with these items of two databases.
+/// Puts what the keys give, with these texts of two databases.
 fn push_told(
     words: Words<'_>,
     out: &mut Answer,
     declared: &Declared,
     cites: &Cites,
-    databases: &[&Items],
+    texts: &[Shared<Bytes>],
 ) -> Done
     requires fields { IsTrue (are_apart declared.now.fields) }
     requires star { IfSome cites.now.star (λ before. before ≤ length cites.now.keys) }
 {
     let min = words.count(2).min(65_535) as u32;
-    push_resolved(out, &resolve(words.alloc, declared, cites, databases, min)?);
+    push_resolved(out, &resolve(words.alloc, declared, cites, texts, min)?);
     Ok(())
 }
 
-/// Reads the two databases of a case.
-fn push_read(words: Words<'_>, out: &mut Answer, declared: &Declared, cites: &Cites) -> Done
+/// Resolves the two databases of a case.
+fn push_both(words: Words<'_>, out: &mut Answer, declared: &Declared, cites: &Cites) -> Done
     requires fields { IsTrue (are_apart declared.now.fields) }
     requires star { IfSome cites.now.star (λ before. before ≤ length cites.now.keys) }
 {
-    let first = read_bib(words.alloc, &words.text(3)?)?;
-    let second = read_bib(words.alloc, &words.text(4)?)?;
-    push_told(words, out, declared, cites, &[&first, &second])
+    let first = Shared::<Bytes>::copied(words.alloc, &words.text(3)?)?;
+    let second = Shared::<Bytes>::copied(words.alloc, &words.text(4)?)?;
+    push_told(words, out, declared, cites, &[first, second])
 }
 
 pub fn push_answer(words: Words<'_>, out: &mut Answer) -> Done {
     let cites = cites_of(words.alloc, words.word(1))?;
-    push_read(words, out, &declared(words.alloc)?, &cites)
+    push_both(words, out, &declared(words.alloc)?, &cites)
 }

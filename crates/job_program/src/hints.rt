@@ -2,12 +2,13 @@
 
 mod entries;
 mod missing;
+mod quick_look;
 mod source_lines;
 
 use crate::report::complain;
 use bt_job::File;
 use bt_log::{Message, Said};
-use bt_run::OneRun;
+use bt_run::Answers;
 use std::alloc::{AllocError, Global};
 use std::fs;
 
@@ -40,7 +41,7 @@ impl Hints<'_> {
 pub struct Job<'a> {
     pub name: &'a str,
     pub files: &'a [File],
-    pub run: &'a OneRun,
+    pub run: &'a Answers,
 }
 
 impl<'a> Job<'a> {
@@ -51,7 +52,7 @@ impl<'a> Job<'a> {
     }
 
     fn messages(&self) -> &'a [Message] {
-        self.run.answers.messages.as_slice()
+        self.run.messages.as_slice()
     }
 
     fn says(&self, words: &[u8]) -> bool {

@@ -21,7 +21,7 @@ use crate::search::Search;
 use crate::version::VERSION;
 use bt_job::File;
 use bt_log::{Message, log_bytes};
-use bt_run::{Answers, OneRun};
+use bt_run::Answers;
 use bt_text::Bytes;
 use std::alloc::{AllocError, Global};
 use std::io::ErrorKind;
@@ -160,7 +160,7 @@ fn finish(
 }
 
 /// Prints hints, as far as memory suffices: the files are written by then.
-fn hint(rt: &HostRuntime, options: &Options<'_>, files: &[File], run: &OneRun, status: u8) {
+fn hint(rt: &HostRuntime, options: &Options<'_>, files: &[File], run: &Answers, status: u8) {
     if options.quiet || status == NOT_WRITTEN {
         return;
     }
@@ -187,12 +187,12 @@ fn run_found(
         u32::from(options.min),
     )?;
     if options.may_hand_over
-        && let Some(reason) = reason(rt, script, search, &run.answers)?
+        && let Some(reason) = reason(rt, script, search, &run)?
         && script.ask(rt, reason.as_slice())
     {
         return Ok(HAND_OVER);
     }
-    let status = finish(rt, script, options, &run.answers)?;
+    let status = finish(rt, script, options, &run)?;
     hint(rt, options, files, &run, status);
     // The program ends here: what the run kept goes with it, at once.
     forget(run);

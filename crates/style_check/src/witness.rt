@@ -6,7 +6,7 @@ use bt_check::{Fault, FaultKind};
 use bt_front::run;
 use bt_job::File;
 use bt_log::{Message, Rank, Said};
-use bt_run::OneRun;
+use bt_run::Answers;
 use bt_style::{Builtin, Style};
 use bt_text::{Bytes, Shared};
 use std::alloc::{AllocError, Global};
@@ -250,7 +250,7 @@ impl<'a> Hunt<'a> {
         Ok(files)
     }
 
-    fn run(&self) -> Result<OneRun, AllocError> {
+    fn run(&self) -> Result<Answers, AllocError> {
         let files = self.files()?;
         run(self.alloc, files.as_slice(), b"j", 2)
     }
@@ -297,7 +297,7 @@ impl<'a> Hunt<'a> {
             return Ok(());
         }
         let run = self.run()?;
-        self.note_all(run.answers.messages.as_slice())
+        self.note_all(run.messages.as_slice())
     }
 }
 

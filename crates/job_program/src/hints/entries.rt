@@ -1,9 +1,9 @@
 //! What silently goes wrong in an entry: a name that ends in a comma, and a `crossref` spelled unlike its parent's key.
 
+use crate::hints::quick_look::{is_database, may_be_wrong};
 use crate::hints::{Hints, Job};
-use bt_bib::{Content, Entry, Field, Part, Piece};
+use bt_bib::{Content, Entry, Field, Items, Part, Piece, read_bib};
 use bt_job::File;
-use bt_run::Database;
 use bt_text::{Bytes, eq_ignore_ascii_case};
 use indexmap::{IndexMap, IndexSet};
 use std::alloc::{AllocError, Global};
@@ -11,7 +11,7 @@ use std::alloc::{AllocError, Global};
 /// Keys without regard to case.
 type Keys = IndexSet<Vec<u8>>;
 
-fn folded(alloc: Global, key: &[u8]) -> Result<Vec<u8>, AllocError> {
+pub fn folded(alloc: Global, key: &[u8]) -> Result<Vec<u8>, AllocError> {
     let mut folded = Vec::with_capacity(alloc, key.len())?;
     'letters: for byte in key {
         folded.push(byte.to_ascii_lowercase())?;
@@ -197,10 +197,10 @@ fn hint_at_parent(
 }
 
 /// The first of a key counts.
-fn spellings(alloc: Global, databases: &[Database]) -> Result<Spellings, AllocError> {
+fn spellings(alloc: Global, databases: &[Items]) -> Result<Spellings, AllocError> {
     let mut spellings = IndexMap::new(alloc);
     'databases: for database in databases {
-        'pieces: for placed in database.items.pieces() {
+        'pieces: for placed in database.pieces() {
             if let Some((_, key)) = entry(&placed.piece) {
                 let low = folded(alloc, key)?;
                 if !spellings.contains_key(low.as_slice()) {
@@ -218,12 +218,12 @@ type Keyed<'a> = (&'a Entry, &'a [u8]);
 fn entries_of<'a>(
     alloc: Global,
     keys: &Keys,
-    databases: &'a [Database],
+    databases: &'a [Items],
 ) -> Result<Vec<Keyed<'a>>, AllocError> {
     let all = keys.contains(b"*".as_slice());
     let mut entries = Vec::new(alloc);
     'databases: for database in databases {
-        'pieces: for placed in database.items.pieces() {
+        'pieces: for placed in database.pieces() {
             if let Some((entry, key)) = entry(&placed.piece)
                 && (all || keys.contains(folded(alloc, key)?.as_slice()))
             {
@@ -269,17 +269,29 @@ fn has_parent(entry: &Entry) -> bool {
         .any(|field| is_named(field, b"crossref"))
 }
 
-/// Hints at the entries that the document cites, as the run read them.
+/// The databases of a job, as they are read.
+fn read_all(alloc: Global, files: &[File]) -> Result<Vec<Items>, AllocError> {
+    let mut databases = Vec::new(alloc);
+    'files: for file in files {
+        if is_database(file) {
+            databases.push(read_bib(alloc, file.text.as_slice())?)?;
+        }
+    }
+    Ok(databases)
+}
+
+/// Hints at the entries that the document cites. The run keeps none of them, so the databases are read once more, but
+/// only if a quick look at their texts says that there may be something to hint at.
 pub fn hint(alloc: Global, hints: &mut Hints<'_>, job: Job<'_>) -> Result<(), AllocError> {
-    if hints.is_full() {
+    if hints.is_full() || !may_be_wrong(alloc, job.files)? {
         return Ok(());
     }
-    let databases = job.run.databases.as_slice();
+    let databases = read_all(alloc, job.files)?;
     let keys = cited(alloc, job.files)?;
-    let entries = entries_of(alloc, &keys, databases)?;
+    let entries = entries_of(alloc, &keys, databases.as_slice())?;
     hint_at_all_names(alloc, hints, entries.as_slice())?;
     if entries.iter().any(|(entry, _)| has_parent(entry)) {
-        let spellings = spellings(alloc, databases)?;
+        let spellings = spellings(alloc, databases.as_slice())?;
         hint_at_all_parents(alloc, hints, entries.as_slice(), &spellings)?;
     }
     Ok(())

@@ -8,9 +8,9 @@ use Rattle.bt_front.proofs.job.run.Goals as goal
 pub returns : goal.returns
 returns c =
     job_told c.in_ok-names.names c.args.files.now c.in_ok-under.under c.args.root.now c.in_ok-root.root c.args.min
-    (meaning_of c.in_ok-run.run'.answers) (meaning_of c.in_ok-told.told)
+    (meaning_of c.in_ok-shown.shown) (meaning_of c.in_ok-told.told)
     c.in_ok-names.ensures c.in_ok-under.ensures c.in_ok-root.ensures
-    (c.in_ok-run.ensures
+    (c.in_ok-shown.ensures
     ∙ ap (λ (fs : List File). meaning fs c.as_slice-2.result.now c.args.min) c.as_slice.ensures
     ∙ ap (λ (r : List ℕ). meaning c.in_ok-under.under r c.args.min) c.as_slice-2.ensures)
     c.in_ok-told.ensures

@@ -1,4 +1,5 @@
-use Rattle.std.proofs.Common.{◌∙◌, ap, map, List}
+use Rattle.std.proofs.Common.{◌∙◌, ap, map, List, ℕ}
+use Rattle.bt_bib.specs.BibText.{pieces_of}
 use Rattle.bt_bib.specs.Items.{items_of}
 use Rattle.bt_text.proofs.NameLemmas.{if_ok}
 use Rattle.bt_resolve.specs.declared.declared.Macro.{Macro}
@@ -9,6 +10,6 @@ use Rattle.bt_resolve.proofs.resolution.resolve.Goals as goal
 
 pub returns : goal.returns
 returns c =
-    let databases = map (λ d. items_of d.now) c.args.databases.now in
+    let databases = map (λ (text : List ℕ). items_of (pieces_of text)) c.args.texts.now in
     if_ok _ _ c.resolve_read.result (λ (all : Resolved) is.
-    resolved_is c.args.declared.now c.args.cites.now c.args.min databases _ _ _ all c.in_ok-asked.ensures (c.in_ok-read.ensures ∙ ap (λ (ms : List Macro). nothing_read ms) c.as_slice.ensures) c.in_ok-read_databases.ensures.read is) c.resolve_read.ensures
+    resolved_is c.args.declared.now c.args.cites.now c.args.min databases _ _ _ all c.in_ok-asked.ensures (c.in_ok-read.ensures ∙ ap (λ (ms : List Macro). nothing_read ms) c.as_slice.ensures) c.in_ok-read_texts.ensures is) c.resolve_read.ensures

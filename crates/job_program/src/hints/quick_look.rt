@@ -1,0 +1,162 @@
+//! Whether the texts of a job's databases may have what `entries` hints at. Reading them again would take a fifth of the
+//! run's time, and mostly for nothing.
+//!
+//! A quick look goes from sign to sign and never far from it, so its time is linear: to each `=` for the parents that
+//! entries name and for names that end in a comma, and to each `@` for keys. It may take other text for a field or a
+//! key. Then the databases are read, and there is nothing to hint at.
+
+use crate::hints::entries::folded;
+use bt_job::File;
+use indexmap::IndexMap;
+use memchr::{memchr_iter, memchr2, memchr3};
+use std::alloc::{AllocError, Global};
+
+/// The names of parents as entries spell them, by their lower-case forms.
+type Parents<'a> = IndexMap<Vec<u8>, &'a [u8]>;
+
+pub fn is_database(file: &File) -> bool {
+    file.name.as_slice().ends_with(b".bib")
+}
+
+fn before(text: &[u8], place: usize) -> &[u8] {
+    text.get(..place).unwrap_or(b"").trim_ascii_end()
+}
+
+fn after(text: &[u8], place: usize) -> &[u8] {
+    text.get(place.saturating_add(1)..)
+        .unwrap_or(b"")
+        .trim_ascii_start()
+}
+
+fn ends_word(byte: u8) -> bool {
+    byte == b',' || byte == b'=' || byte.is_ascii_whitespace()
+}
+
+/// The field whose `=` is at this place: a word after a comma. The `=` of an accent or a formula has none.
+fn field(text: &[u8], place: usize) -> Option<&[u8]> {
+    let text = before(text, place);
+    let name = text.rsplit(|byte| ends_word(*byte)).next()?;
+    let front = text.get(..text.len().saturating_sub(name.len()))?;
+    if front.trim_ascii_end().ends_with(b",") {
+        Some(name)
+    } else {
+        None
+    }
+}
+
+fn is_of_names(name: &[u8]) -> bool {
+    name.eq_ignore_ascii_case(b"author") || name.eq_ignore_ascii_case(b"editor")
+}
+
+fn begins_with_and(rest: &[u8]) -> bool {
+    let is_longer = rest.get(3).is_some_and(|byte| byte.is_ascii_alphabetic());
+    !is_longer
+        && rest
+            .get(..3)
+            .is_some_and(|word| word.eq_ignore_ascii_case(b"and"))
+}
+
+/// Whether a name may end before this text: at `and`, or at the end of the value.
+fn ends_name(rest: &[u8]) -> bool {
+    rest.starts_with(b"}") || rest.starts_with(b"\"") || begins_with_and(rest)
+}
+
+/// Whether a name may end in a comma.
+fn has_last_comma(names: &[u8]) -> bool {
+    memchr_iter(b',', names).any(|place| ends_name(after(names, place)))
+}
+
+/// The value that begins here, if it is one text without braces inside.
+fn value(rest: &[u8]) -> Option<&[u8]> {
+    if !rest.starts_with(b"{") && !rest.starts_with(b"\"") {
+        return None;
+    }
+    let inside = rest.get(1..)?;
+    let end = memchr3(b'}', b'"', b'=', inside)?;
+    inside.get(..end)
+}
+
+/// Whether the parent after this `=` was spelled otherwise before.
+fn is_spelled_otherwise<'a>(
+    alloc: Global,
+    text: &'a [u8],
+    place: usize,
+    parents: &mut Parents<'a>,
+) -> Result<bool, AllocError> {
+    if let Some(parent) = value(after(text, place))
+        && let Some(other) = parents.insert(folded(alloc, parent)?, parent)?
+    {
+        return Ok(other != parent);
+    }
+    Ok(false)
+}
+
+/// The text from the `=` of a field of names up to the next field.
+fn names_before(text: &[u8], from: Option<usize>, place: usize) -> &[u8] {
+    match from {
+        Some(from) => text.get(from..place).unwrap_or(b""),
+        None => b"",
+    }
+}
+
+/// Whether a name may end in a comma, or some of the parents so far have two spellings.
+fn has_wrong_field<'a>(
+    alloc: Global,
+    text: &'a [u8],
+    parents: &mut Parents<'a>,
+) -> Result<bool, AllocError> {
+    let mut names_from = None;
+    'fields: for place in memchr_iter(b'=', text) {
+        if let Some(name) = field(text, place) {
+            if has_last_comma(names_before(text, names_from, place)) {
+                return Ok(true);
+            }
+            names_from = if is_of_names(name) { Some(place) } else { None };
+            if name.eq_ignore_ascii_case(b"crossref")
+                && is_spelled_otherwise(alloc, text, place, parents)?
+            {
+                return Ok(true);
+            }
+        }
+    }
+    Ok(has_last_comma(names_before(text, names_from, text.len())))
+}
+
+/// The key of an item whose `@` is before this text.
+fn key(item: &[u8]) -> Option<&[u8]> {
+    let open = memchr2(b'{', b'(', item)?;
+    let rest = after(item, open);
+    rest.split(|byte| *byte == b'}' || ends_word(*byte)).next()
+}
+
+/// Whether a parent's key may be spelled otherwise.
+fn has_other_key(alloc: Global, text: &[u8], parents: &Parents<'_>) -> Result<bool, AllocError> {
+    'items: for place in memchr_iter(b'@', text) {
+        if let Some(found) = key(after(text, place))
+            && let Some(parent) = parents.get(folded(alloc, found)?.as_slice())
+            && *parent != found
+        {
+            return Ok(true);
+        }
+    }
+    Ok(false)
+}
+
+/// Whether the databases may have what is hinted at. The one error is out of memory.
+pub fn may_be_wrong(alloc: Global, files: &[File]) -> Result<bool, AllocError> {
+    let mut parents = IndexMap::new(alloc);
+    'fields: for file in files {
+        if is_database(file) && has_wrong_field(alloc, file.text.as_slice(), &mut parents)? {
+            return Ok(true);
+        }
+    }
+    if parents.is_empty() {
+        return Ok(false);
+    }
+    'keys: for file in files {
+        if is_database(file) && has_other_key(alloc, file.text.as_slice(), &parents)? {
+            return Ok(true);
+        }
+    }
+    Ok(false)
+}
