@@ -1,4 +1,4 @@
--- What an edit of values makes of what a style sees of the databases.
+-- How an edit of values changes what a style sees of the databases.
 use Rattle.std.specs.Prelude.{◌≡◌, ℕ, ◌+◌, false, List, [], ◌∷◌, ◌++◌, length, map, reverse, Some, slice_get}
 use Rattle.bt_bib.specs.declared.spot.Spot.{Spot}
 use Rattle.bt_bib.specs.Items.{PlacedItem}
@@ -14,8 +14,8 @@ use Rattle.bt_resolve.specs.Resolved.{all_items, stored_entries, preamble, messa
 use Rattle.bt_resolve.specs.inner.Cases.{messages_at}
 use Rattle.bt_resolve.specs.Skeletons.{AreAlike, AreInPlace, added_at, placed_from, moved_message, is_heir, is_within, shown}
 
--- An edit of a database: which databases and which items stand before, what was read again, as it was and as it is, the
--- items behind, by where they stood and where they stand, and the databases behind.
+-- An edit of a database: the databases and items before, the old and the new items of the re-read part, the items after
+-- them with their old and new spot, and the later databases.
 pub record Edit : Type 0 where
   pub databases : List (List PlacedItem)
   pub before : List PlacedItem
@@ -26,7 +26,7 @@ pub record Edit : Type 0 where
   pub stand : Spot
   pub others : List (List PlacedItem)
 
--- all databases with these items in their place, and those behind moved so far
+-- all databases with these items in the re-read part, and the items after them moved to this spot
 abbrev pub databases_with : Edit → List PlacedItem → Spot → List (List PlacedItem)
 databases_with e items m =
     e.databases ++ (e.before ++ items ++ map (placed_from m) e.behind) ∷ e.others
@@ -37,7 +37,7 @@ databases_before e = databases_with e e.old e.stood
 abbrev pub databases_after : Edit → List (List PlacedItem)
 databases_after e = databases_with e e.new e.stand
 
--- all items before those that were read again, from the last one back
+-- all items before the re-read part, from the last one back
 abbrev pub items_before : Edit → List PlacedItem
 items_before e = reverse e.before ++ reverse (all_items e.databases)
 
@@ -45,18 +45,18 @@ items_before e = reverse e.before ++ reverse (all_items e.databases)
 abbrev pub number_of : Edit → ℕ
 number_of e = 1 + length e.databases
 
--- the entries that some items in that place store, and their messages
+-- the entries that some items in the re-read part store, and their messages
 abbrev pub stored_by : Asked → List Macro → Edit → List PlacedItem → List Stored
 stored_by a macros e items = for_each (added_at a macros) (items_before e) items
 
 abbrev pub told_by : Asked → List Macro → Edit → List PlacedItem → List Message
 told_by a macros e items = for_each (messages_at a macros (number_of e)) (items_before e) items
 
--- all items before those behind the database, from the last one back
+-- all items before the later databases, from the last one back
 abbrev pub before_others : Edit → List PlacedItem
 before_others e = reverse e.behind ++ (reverse e.old ++ items_before e)
 
--- the entries that the items before that place store, and those that the items behind it store
+-- the entries that the items before the re-read part store, and those that the items after it store
 abbrev pub stored_first : Asked → List Macro → Edit → List Stored
 stored_first a macros e =
     for_each (added_at a macros) [] (all_items e.databases)
@@ -67,7 +67,7 @@ stored_last a macros e =
     for_each (added_at a macros) (reverse e.old ++ items_before e) e.behind
     ++ for_each (added_at a macros) (before_others e) (all_items e.others)
 
--- the messages of the items before, of those behind in their database, and all others
+-- the messages of the items before, of the items after in the same database, and all others
 abbrev pub told_first : Asked → List Macro → Edit → List Message
 told_first a macros e =
     database_messages a macros 1 [] e.databases
@@ -81,8 +81,8 @@ told_last a macros e =
     database_messages a macros (number_of e + 1) (before_others e) e.others
     ++ list_messages a (stored_entries a macros (databases_before e))
 
--- Before and after an edit of values: what is stored, told and seen is the same but for the part of the items that were
--- read again, and for the heirs of what they store.
+-- Before and after an edit of values, the same is stored, reported and seen, apart from the re-read items and the heirs of
+-- what they store.
 pub record IsPatched (a : Asked) (macros : List Macro) (min : ℕ) (e : Edit) : Type 0 where
   pub stored_before : stored_entries a macros (databases_before e)
       ≡ stored_first a macros e ++ stored_by a macros e e.old ++ stored_last a macros e
@@ -106,7 +106,7 @@ pub record IsPatched (a : Asked) (macros : List Macro) (min : ℕ) (e : Edit) : 
       slice_get (entries_seen a min (stored_entries a macros (databases_before e))) k
       ≡ slice_get (entries_seen a min (stored_entries a macros (databases_after e))) k
 
--- An edit that puts items of the same skeletons in the place of others patches what is resolved.
+-- An edit that replaces items by others of the same skeletons patches what is resolved.
 abbrev pub EditIsPatched : Type 0
 EditIsPatched = (a : Asked) (macros : List Macro) (min : ℕ) (e : Edit) → AreInPlace macros (items_before e) e.old e.new →
     IsPatched a macros min e

@@ -1,4 +1,4 @@
--- What an edit of values leaves as it was: all that depends on skeletons alone.
+-- What an edit of values leaves as it was: everything that depends only on skeletons.
 use Rattle.std.specs.Prelude.{◌≡◌, ℕ, ◌+◌, nat_le, nat_lt, length, Bool, true, false, not, ◌&&◌, ◌||◌, ◌==◌, List, [], ◌∷◌, ◌++◌, map, filter, reverse, slice_get, Option, Some, None, is_some, option_map, option_and_then, if◌then◌else◌, ⊤}
 use Rattle.bt_bib.specs.Items.{PlacedItem, items_of}
 use Rattle.bt_bib.specs.declared.item.Item.{Item}
@@ -47,8 +47,8 @@ pub record HaveOneList (a : Asked) (min : ℕ) (stored others : List Stored) : T
   pub told : list_messages a stored ≡ list_messages a others
   pub seen : (values : List (Option (List ℕ))) (p : ℕ) → entry_at a min stored (λ q. values) p ≡ entry_at a min others (λ q. values) p
 
--- (A1) The list, the parents, who is left out, the list's messages, and what is seen of an entry beside its values
--- depend on skeletons alone.
+-- The list, the parents, which entries are left out, the list's messages, and what is seen of an entry apart from its
+-- values depend only on skeletons.
 abbrev pub ListDependsOnSkeletons : Type 0
 ListDependsOnSkeletons = (a : Asked) (min : ℕ) (stored others : List Stored) → AreAlike stored others →
     HaveOneList a min stored others
@@ -61,7 +61,7 @@ pub record HaveOneSkeleton (macros : MacroTexts) (e f : EntryRead) : Type 0 wher
   pub kind : kind_of e ≡ kind_of f
   pub reference : given_value macros e.fields crossref ≡ given_value macros f.fields crossref
 
--- an entry for an entry of the same skeleton, and any other thing for itself
+-- an entry replaces an entry of the same skeleton, and anything else only itself
 abbrev pub IsLike : MacroTexts → Content → Content → Type 0
 IsLike macros (contents.Entry e) (contents.Entry f) = HaveOneSkeleton macros e f
 IsLike macros (contents.Entry e) (contents.Define d) = ⊥
@@ -74,7 +74,7 @@ is_entry (contents.Entry e) = true
 is_entry (contents.Define d) = false
 is_entry (contents.Preamble parts) = false
 
--- items one by one for others after the same items, of which the last comes first; entries may have other faults
+-- items replace others one by one, after the same items (the last one first); entries may have other faults
 abbrev pub AreInPlace : List Macro → List PlacedItem → List PlacedItem → List PlacedItem → Type 0
 AreInPlace macros before [] [] = ⊤
 AreInPlace macros before [] (y ∷ ys) = ⊥
@@ -83,12 +83,12 @@ AreInPlace macros before (x ∷ xs) (y ∷ ys) =
     IsLike (macro_before macros before) x.item.content y.item.content × (is_entry x.item.content ≡ false → x.item.fault ≡ y.item.fault)
     × AreInPlace macros (x ∷ before) xs ys
 
--- an item in the place of another, whatever the macros before it
+-- an item replaces another, whatever the macros before it
 abbrev pub IsItemLike : Item → Item → Type 0
 IsItemLike x y = (macros : MacroTexts) →
     IsLike macros x.content y.content × (is_entry x.content ≡ false → x.fault ≡ y.fault)
 
--- pieces that pair off, whatever items stand before them
+-- pieces pair off, whatever items precede them
 abbrev pub PairOff : List PlacedPiece → List PlacedPiece → Type 0
 PairOff old new = (macros : List Macro) (before : List PlacedItem) →
     AreInPlace macros before (items_of old) (items_of new)
@@ -108,8 +108,8 @@ added a macros stored (contents.Preamble parts) = []
 abbrev pub added_at : Asked → List Macro → List PlacedItem → PlacedItem → List Stored
 added_at a macros before item = added a (macro_before macros before) (stored_among a macros before) item.item.content
 
--- Items that no later item can tell apart: the macros after them are the same, and the entries that are stored, but
--- for their values.
+-- Items that no later item can tell apart: the macros after them are the same, and so are the stored entries, apart from
+-- their values.
 pub record AreOneBefore (a : Asked) (macros : List Macro) (before others : List PlacedItem) : Type 0 where
   pub defined : macro_before macros before ≡ macro_before macros others
   pub stored : AreAlike (stored_among a macros before) (stored_among a macros others)
@@ -121,13 +121,13 @@ pub record GiveTheSame (a : Asked) (macros : List Macro) (before others items : 
   pub saying : for_each (preamble_at macros) before items ≡ for_each (preamble_at macros) others items
   pub after : AreOneBefore a macros (reverse items ++ before) (reverse items ++ others)
 
--- (A2) The stored entries are those of the items before, what the items of a span add, and what those after them add.
+-- The stored entries are those of the items before a span, and then what the items of the span add.
 abbrev pub StoredInParts : Type 0
 StoredInParts = (a : Asked) (macros : List Macro) (before items : List PlacedItem) →
     stored_among a macros (reverse items ++ before) ≡ stored_among a macros before ++ for_each (added_at a macros) before items
 
--- (A2, A4) Items in the place of others add entries of the same skeletons, and all items after them store and tell
--- the same as before.
+-- Items that replace others add entries of the same skeletons, and all items after them store and report the same as
+-- before.
 abbrev pub LaterItemsAreTheSame : Type 0
 LaterItemsAreTheSame = (a : Asked) (macros : List Macro) (before xs ys items : List PlacedItem) → AreInPlace macros before xs ys →
     AreAlike (for_each (added_at a macros) before xs) (for_each (added_at a macros) before ys)
@@ -141,8 +141,8 @@ heir_if false parent now p = now p
 heir_if true None now p = now p
 heir_if true (Some parent) now p = now p || now parent
 
--- The entries whose values an edit may change, once some entries have inherited (from the last one back): those that
--- were changed, and those that inherited from one whose values may then have been others.
+-- The entries whose values an edit may change, once some entries have inherited (from the last one back): the changed
+-- ones, and those that inherited from one whose values may have changed by then.
 abbrev pub is_heir : List Stored → (ℕ → Bool) → List ℕ → ℕ → Bool
 is_heir stored changed [] p = changed p
 is_heir stored changed (q ∷ before) p = heir_if (q == p) (parent_at stored p) (is_heir stored changed before) p
@@ -157,7 +157,7 @@ pub data Heir (stored : List Stored) (changed : ℕ → Bool) : ℕ → Type 0 w
   Changed : (p : ℕ) → changed p ≡ true → Heir stored changed p
   Inherits : (p q : ℕ) → parent_at stored p ≡ Some q → Heir stored changed q → Heir stored changed p
 
--- (A3) Heirs are what was changed, and what refers to heirs, directly or through a chain.
+-- Heirs are the changed entries, and those that refer to heirs, directly or through a chain.
 abbrev pub HeirsInherit : Type 0
 HeirsInherit = (stored : List Stored) (changed : ℕ → Bool) (places : List ℕ) (p : ℕ) →
     is_heir stored changed places p ≡ true → Heir stored changed p
@@ -170,12 +170,12 @@ shown a min stored = filter (λ p. not (is_left_out a min stored p)) (listed a s
 abbrev pub seen_at : Asked → ℕ → List Stored → ℕ → Option Entry
 seen_at a min stored p = entry_at a min stored (values_after stored (reverse (listed a stored))) p
 
--- (A3) The entries that are seen stand as the places that are shown.
+-- The entries that are seen are those at the places that are shown, in the same order.
 abbrev pub SeenAsShown : Type 0
 SeenAsShown = (a : Asked) (min : ℕ) (stored : List Stored) (k : ℕ) →
     slice_get (entries_seen a min stored) k ≡ option_and_then (seen_at a min stored) (slice_get (shown a min stored) k)
 
--- (A3) Where values change, the same places are shown in the same order, and what is seen changes at heirs alone.
+-- If values change, the same places are shown in the same order, and only heirs are seen differently.
 pub record IsSeenAlike (a : Asked) (min : ℕ) (changed : ℕ → Bool) (stored others : List Stored) : Type 0 where
   pub places : shown a min stored ≡ shown a min others
   pub unchanged : (p : ℕ) → is_heir stored changed (reverse (listed a stored)) p ≡ false →
@@ -189,15 +189,15 @@ HeirsAloneChange = (a : Asked) (min : ℕ) (changed : ℕ → Bool) (stored othe
 abbrev pub is_within : ℕ → ℕ → ℕ → Bool
 is_within begin count p = nat_le begin p && nat_lt p (begin + count)
 
--- (A2) Stored entries that differ in the values of a span differ at its places alone.
+-- Stored entries that differ in the values of a span differ only at its places.
 abbrev pub SpanDiffers : Type 0
 SpanDiffers = (front mine theirs rest : List Stored) → AreAlike mine theirs →
     AreAlike (front ++ mine ++ rest) (front ++ theirs ++ rest)
     × DifferAt (is_within (length front) (length mine)) (front ++ mine ++ rest) (front ++ theirs ++ rest)
 
--- ---- items that stand elsewhere
+-- ---- items at other places
 
--- an item whose places count from a spot, as one of the text. What was read of it stays as it is.
+-- an item whose places count from a spot, as an item of the text; what was read stays as it is
 abbrev pub placed_from : Spot → PlacedItem → PlacedItem
 placed_from m p = record { start = spot_from m p.start; end = spot_from m p.end; item = p.item }
 
@@ -213,7 +213,7 @@ moved_place m (Some (Step style line)) = Some (Step style line)
 abbrev pub moved_message : Spot → Message → Message
 moved_message m told = record told { place = moved_place m told.place }
 
--- what items give that stand elsewhere: the same but for the places of their messages
+-- what moved items give: the same, apart from the places of their messages
 pub record GiveTheSameMoved (a : Asked) (macros : List Macro) (m : Spot) (before others items : List PlacedItem) : Type 0 where
   pub storing : for_each (added_at a macros) before (map (placed_from m) items) ≡ for_each (added_at a macros) others items
   pub telling : (number : ℕ) → for_each (messages_at a macros number) before (map (placed_from m) items)
@@ -221,7 +221,7 @@ pub record GiveTheSameMoved (a : Asked) (macros : List Macro) (m : Spot) (before
   pub saying : for_each (preamble_at macros) before (map (placed_from m) items) ≡ for_each (preamble_at macros) others items
   pub after : AreOneBefore a macros (reverse (map (placed_from m) items) ++ before) (reverse items ++ others)
 
--- (A4) Items that stand elsewhere store the same, and their messages move with them.
+-- Moved items store the same, and their messages move with them.
 abbrev pub MovedItemsAreTheSame : Type 0
 MovedItemsAreTheSame = (a : Asked) (macros : List Macro) (m : Spot) (before others items : List PlacedItem) →
     AreOneBefore a macros before others → GiveTheSameMoved a macros m before others items
@@ -233,7 +233,7 @@ is_string (contents.Entry e) = false
 is_string (contents.Define d) = true
 is_string (contents.Preamble parts) = false
 
--- The macros before an item are those of the strings before it.
+-- The macros before an item depend only on the strings before it.
 abbrev pub MacrosAreOfStrings : Type 0
 MacrosAreOfStrings = (macros : List Macro) (before : List PlacedItem) →
     macro_before macros before ≡ macro_before macros (filter (λ (i : PlacedItem). is_string i.item.content) before)
@@ -243,7 +243,7 @@ MacrosAreOfStrings = (macros : List Macro) (before : List PlacedItem) →
 abbrev pub has_parent : List Stored → ℕ → Bool
 has_parent stored p = is_some (parent_at stored p)
 
--- Only entries that refer to one inherit: the others of the list may be passed over.
+-- Only entries that refer to another one inherit: the others of the list may be skipped.
 abbrev pub OthersInheritNothing : Type 0
 OthersInheritNothing = (stored : List Stored) (changed : ℕ → Bool) (places : List ℕ) (p : ℕ) →
     (values_after stored (filter (has_parent stored) places) p ≡ values_after stored places p)

@@ -87,7 +87,7 @@ fn read_piece(
     }
 }
 
-/// Reads the pieces of a database. It says how far the reading was before each, and how far it is after the last one.
+/// Reads the pieces of a database, and returns how far the reading was before each one and after the last.
 fn read_pieces(
     alloc: Global,
     asked: &Asked<'_>,

@@ -101,7 +101,6 @@ fn reach_around(reaches: &[Reach], before: usize, upto: usize) -> Option<Around>
     })
 }
 
-/// What the items of the span gave.
 fn mark_of(around: Around) -> Mark
     ensures { result ≡ mark_of around }
 {
@@ -111,7 +110,6 @@ fn mark_of(around: Around) -> Mark
     }
 }
 
-/// All messages after an edit whose span gives these.
 fn all_patched(
     alloc: Global,
     all: &[Message],
@@ -126,7 +124,7 @@ fn all_patched(
     patched(alloc, all, first, past, last, told, edit.stood, edit.stand)
 }
 
-/// What an edit changes that brings at most one entry, if it is one of which is known whether it is stored.
+/// What an edit of at most one entry changes, if it is known whether this entry is stored.
 fn span_edit(
     alloc: Global,
     asked: &Asked<'_>,

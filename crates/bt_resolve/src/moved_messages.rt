@@ -30,7 +30,7 @@ fn moved_byte(byte: Option<usize>, stood: usize, stand: usize) -> Option<Option<
     }
 }
 
-/// A message, where the text from `stood` on stands from `stand` on.
+/// A message about a text that has moved from `stood` to `stand`. None if its line or place overflows.
 fn rebased_message(
     message: &Message,
     stood: Spot,
@@ -64,7 +64,6 @@ fn rebased_message(
     Ok(Some(moved))
 }
 
-/// Puts these messages after others, each for one more owner.
 fn add_shared(messages: &mut Sequence<Message>, more: &[Message]) -> Result<(), AllocError>
     ensures { OnOk result (messages.new ≡ messages.old ++ more.now) }
 {
@@ -74,7 +73,7 @@ fn add_shared(messages: &mut Sequence<Message>, more: &[Message]) -> Result<(), 
     Ok(())
 }
 
-/// Puts these messages after others, where the text from `stood` on stands from `stand` on. It says whether all fit.
+/// Appends messages about a text that has moved from `stood` to `stand`. Returns whether all lines and places fit.
 fn add_rebased(
     messages: &mut Sequence<Message>,
     more: &[Message],

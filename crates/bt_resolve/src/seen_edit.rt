@@ -31,7 +31,6 @@ pub enum Only {
     Often,
 }
 
-/// Once the next number of the list is known to be the one that is looked for, or another.
 fn next_only(only: Only, index: usize, here: bool) -> Only
     ensures { result ≡ next_only only index here }
 {
@@ -45,7 +44,6 @@ fn next_only(only: Only, index: usize, here: bool) -> Only
     }
 }
 
-/// Where a place stands among some.
 fn only_in(places: &[usize], place: usize) -> Only
     ensures { IsOnly places.now place result }
 {
@@ -71,7 +69,7 @@ fn without_crossref(
     }
 }
 
-/// An entry that is seen, with other values of its own, which refers to none.
+/// An entry that is seen, with other values of its own and no `crossref`.
 fn with_own(
     alloc: Global,
     asked: &Asked<'_>,
@@ -89,7 +87,7 @@ fn with_own(
     })
 }
 
-/// What becomes of the entry that is stored at this place and gets these values. None where it stands in the list twice.
+/// How the style sees the entry that is stored at this place, with these values. None if the list has it twice.
 fn entry_edit(
     alloc: Global,
     asked: &Asked<'_>,

@@ -9,7 +9,6 @@ use crate::skeleton::pair_off;
 use bt_bib::{Content, Items, ItemsEdit, Piece, PlacedPiece};
 use bt_text::Shared;
 
-/// Whether a piece is a string.
 fn is_define(piece: &Piece) -> bool
     ensures { result ≡ is_define piece.now }
 {
@@ -23,7 +22,6 @@ fn is_define(piece: &Piece) -> bool
     }
 }
 
-/// Whether none of the pieces is a string.
 fn is_plain(pieces: &[PlacedPiece]) -> bool
     ensures { IsTrue result → NoStrings (items_of pieces.now) }
 {
@@ -36,7 +34,6 @@ fn is_plain(pieces: &[PlacedPiece]) -> bool
     true
 }
 
-/// Whether none of the databases has a string.
 fn are_plain(databases: &[Shared<Items>]) -> bool
     ensures { IsTrue result → NoStrings (all_items (map items_of databases.now)) }
 {

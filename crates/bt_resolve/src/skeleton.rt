@@ -18,14 +18,13 @@ use crate::fields::CROSSREF;
 use bt_bib::{Content, Entry, Field, Item, Part, Piece, PlacedPiece};
 use bt_text::{Bytes, Shared, eq_ignore_ascii_case};
 
-/// Whether two texts are equal.
 fn equal_bytes(old: &[u8], new: &[u8]) -> bool
     ensures { IsTrue result → old.now ≡ new.now }
 {
     old == new
 }
 
-/// Whether two parts are the same, wherever they stand.
+/// Whether two parts are the same, whatever their lines.
 fn is_same_part(old: &Part, new: &Part) -> bool
     ensures { IsTrue result → (m : MacroTexts) → part_text m old.now ≡ part_text m new.now }
 {
@@ -38,7 +37,6 @@ fn is_same_part(old: &Part, new: &Part) -> bool
     }
 }
 
-/// Whether two values have the same parts.
 fn is_same_value(old: &[Part], new: &[Part]) -> bool
     ensures { IsTrue result → (m : MacroTexts) → joined_parts m old.now ≡ joined_parts m new.now }
 {
@@ -65,7 +63,7 @@ fn crossref_of(fields: &[Field]) -> Option<&Field>
     None
 }
 
-/// Whether two fields, or none, have the same parts.
+/// Whether two fields have the same parts, or both are missing.
 fn is_same_field(old: Option<&Field>, new: Option<&Field>) -> bool
     ensures { IsTrue result → (m : MacroTexts) →
         option_map (λ (f : FieldSeen). field_value m f.value) (option_copied old.entry)
@@ -78,7 +76,7 @@ fn is_same_field(old: Option<&Field>, new: Option<&Field>) -> bool
     }
 }
 
-/// Whether two keys are equal, or none is there.
+/// Whether two keys are equal, or both are missing.
 fn is_same_key(old: &Option<Shared<Bytes>>, new: &Option<Shared<Bytes>>) -> bool
     ensures { IsTrue result → old.now ≡ new.now }
 {
@@ -89,7 +87,7 @@ fn is_same_key(old: &Option<Shared<Bytes>>, new: &Option<Shared<Bytes>>) -> bool
     }
 }
 
-/// Whether two entries have one skeleton, whatever macros there are: one key, one type, and the same parts of `crossref`.
+/// Whether two entries have one skeleton, whatever the macros: one key, one type, and the same parts of `crossref`.
 fn is_same_skeleton(old: &Entry, new: &Entry) -> bool
     ensures { IsTrue result → (m : MacroTexts) → HaveOneSkeleton m old.now new.now }
 {

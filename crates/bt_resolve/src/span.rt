@@ -44,8 +44,8 @@ fn nothing(alloc: Global) -> Span
     }
 }
 
-/// Whether it is known of the entry with this mark if it is wanted. One that isn't stored but gave messages may be a
-/// repeated one, or have a fault.
+/// Whether the mark tells if the entry is wanted. An entry that isn't stored but gave messages may be a repeated one, or
+/// have a fault.
 fn tells(mark: Mark) -> bool
     ensures { result ≡ tells mark }
 {
@@ -78,7 +78,6 @@ impl Reader<'_> {
         Ok(())
     }
 
-    /// Reads an entry in the place of one with this mark.
     fn item_by(
         &self,
         mark: Mark,
@@ -115,7 +114,8 @@ fn is_entry_item(item: &Item) -> bool
     }
 }
 
-/// Reads a piece in the place of one with this mark. None where it is no entry of which the mark tells.
+/// Reads the piece that replaces one with this mark. None if it isn't an entry, or the mark doesn't tell whether it is
+/// wanted.
 fn piece_by(
     alloc: Global,
     asked: &Asked<'_>,

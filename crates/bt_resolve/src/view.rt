@@ -126,7 +126,6 @@ impl View<'_> {
         Ok(())
     }
 
-    /// Those of the places whose entries aren't left out.
     fn shown_among(&self, places: &[usize]) -> Result<Sequence<usize>, AllocError>
         ensures { IfOk result (λ shown. shown ≡ shown_among self.now places.now) }
     {

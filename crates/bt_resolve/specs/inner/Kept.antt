@@ -1,4 +1,4 @@
--- What a kept resolution is about, what it has, and what an edit makes of it.
+-- What a kept resolution is about, what it has, and how an edit changes it.
 use Rattle.std.specs.Prelude.{◌≡◌, ◌≢◌, ℕ, ◌+◌, ◌-◌, ◌<◌, ◌≤◌, nat_lt, Bool, true, false, IsTrue, ⊤, List, [], ◌∷◌, length, map, take, drop, reverse, slice_get, slice_set, Option, Some, None}
 use Rattle.std.specs.List.{AllByRecursion}
 use Rattle.bt_bib.specs.Items.{PlacedItem, items_of}
@@ -49,7 +49,7 @@ items_in q = map items_of q.databases
 abbrev pub resolved_for : Question → Resolved
 resolved_for q = resolved q.declared q.cites (items_in q) q.min
 
--- the macros behind all items, the stored entries, how far the reading is, and the places that are shown
+-- the macros after all items, the stored entries, how far the reading is, and the places that are shown
 abbrev pub macros_behind : Question → MacroTexts
 macros_behind q = macro_before q.declared.macros (reverse (all_items (items_in q)))
 
@@ -103,7 +103,7 @@ is_define (pieces.Item item) = is_string item.content
 abbrev pub NoStrings : List PlacedItem → Type 0
 NoStrings items = AllByRecursion (λ (x : PlacedItem). is_string x.item.content ≡ false) items
 
--- At most one entry comes in the place of another of its skeleton, and no string stands behind it.
+-- At most one entry is replaced, by one of the same skeleton, and no string follows it.
 pub record IsShort (old : List PlacedPiece) (later : List (List PlacedPiece)) (e : ItemsEdit) : Type 0 where
   pub few : length e.new ≤ 1
   pub even : length (replaced old e) ≡ length e.new
@@ -111,7 +111,7 @@ pub record IsShort (old : List PlacedPiece) (later : List (List PlacedPiece)) (e
   pub plain : NoStrings (items_of (drop e.before old))
   pub plain_later : NoStrings (all_items (map items_of later))
 
--- how far the reading was before the span, behind it, and at the end of the database
+-- how far the reading was before the span, after it, and at the end of the database
 pub record IsAround (reaches : List Reach) (before upto : ℕ) (r : Around) : Type 0 where
   pub at_first : slice_get reaches before ≡ Some r.first
   pub at_past : slice_get reaches upto ≡ Some r.past
@@ -131,7 +131,7 @@ abbrev pub IsWithin : SeenEdit → ℕ → Type 0
 IsWithin Same n = ⊤
 IsWithin (Other k e) n = k < n
 
--- an entry that is seen, with other values of its own, which refers to none
+-- an entry that is seen, with other values of its own and no `crossref`
 abbrev pub with_own : Asked → List (Option (List ℕ)) → Entry → Entry
 with_own a values e = record e { fields = with_crossref (place_of_name a.fields crossref) None values }
 
@@ -141,7 +141,7 @@ next_only Nowhere k true = At k
 next_only (At j) k true = Often
 next_only Often k true = Often
 
--- where a place stands among the first n of some
+-- where a place is among the first n of some places
 pub record IsOnlyAt (places : List ℕ) (place n k : ℕ) : Type 0 where
   pub less : k < n
   pub at : slice_get places k ≡ Some place

@@ -1,11 +1,11 @@
--- How messages change by an edit of values.
+-- How an edit of values changes messages.
 use Rattle.std.specs.Prelude.{ℕ, ◌+◌, ◌-◌, List, ◌++◌, map, take, drop, Option, Some, None, option_map}
 use Rattle.bt_bib.specs.declared.spot.Spot.{Spot}
 use Rattle.bt_log.specs.declared.message.Message.{Message}
 use Rattle.bt_log.specs.declared.message.Place.{Place}
 use Rattle.bt_log.specs.declared.message.Place.TheVariants.{Line, DatabaseLine, WholeFile, Step}
 
--- a place of a database, where the text from `stood` on stands from `stand` on
+-- a place of a database whose text has moved from `stood` to `stand`
 abbrev pub rebased_place : Spot → Spot → Option Place → Option Place
 rebased_place stood stand None = None
 rebased_place stood stand (Some (DatabaseLine database line byte)) =
@@ -17,7 +17,7 @@ rebased_place stood stand (Some (Step style line)) = Some (Step style line)
 abbrev pub rebased_message : Spot → Spot → Message → Message
 rebased_message stood stand m = record m { place = rebased_place stood stand m.place }
 
--- all messages, with new ones in the place of those from `first` up to `past`, those up to `last` rebased, and the others
+-- all messages: new ones replace those from `first` up to `past`, and those from there up to `last` move
 abbrev pub patched : List Message → ℕ → ℕ → ℕ → List Message → Spot → Spot → List Message
 patched all first past last new stood stand =
     take first all ++ new ++ map (rebased_message stood stand) (take (last - past) (drop past all)) ++ drop last all

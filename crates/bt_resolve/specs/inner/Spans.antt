@@ -1,4 +1,4 @@
--- What an entry gives in the place of another, when it is known whether it is stored.
+-- What an entry gives that replaces another, if it is known whether it is stored.
 use Rattle.std.specs.Prelude.{ℕ, ◌==◌, Bool, true, false, ◌||◌, ◌&&◌, List, [], ◌∷◌, ◌++◌, Option, Some, None, if◌then◌else◌}
 use Rattle.bt_bib.specs.Items.{PlacedItem}
 use Rattle.bt_bib.specs.declared.item.Content.TheVariants as contents
@@ -16,7 +16,7 @@ use Rattle.bt_resolve.specs.Stored.{stored_of}
 use Rattle.bt_resolve.specs.Messages.{stored_messages}
 use Rattle.bt_resolve.specs.inner.Cases.{origin_of, fault_messages}
 
--- A mark tells of its entry whether it is wanted: one that isn't stored is unwanted if it gave no message.
+-- A mark tells whether its entry is wanted: an entry that isn't stored is unwanted if it gave no message.
 abbrev pub tells : Mark → Bool
 tells m = m.stored || m.told == 0
 
@@ -55,12 +55,12 @@ is_entry_item item = elim item.content [
   | contents.Preamble parts ↦ false
 ]
 
--- what an item of a database gives, by the mark of the one in whose place it stands
+-- what an item of a database gives, by the mark of the one that it replaces
 abbrev pub span_of : Asked → MacroTexts → ℕ → Mark → List PlacedItem → Span
 span_of a macros number m [] = nothing
 span_of a macros number m (x ∷ items) = with_item_by a macros m (origin_of number x) x.end x.item nothing
 
--- it is an entry of which the mark tells
+-- it is an entry, and the mark tells whether it is wanted
 abbrev pub tells_of : Mark → List PlacedItem → Bool
 tells_of m [] = true
 tells_of m (x ∷ items) = is_entry_item x.item && tells m
