@@ -212,7 +212,7 @@ pub struct Run {
     pub report: Report,
 }
 
-/// What a run gives, but for its steps.
+/// What a run gives, without its steps.
 struct Ran {
     answers: Answers,
     report: Report,
@@ -261,7 +261,6 @@ fn run_from(
 }
 
 impl Ran {
-    /// What the run gives, with its steps.
     fn with_steps(self, steps: KeptSteps) -> Run
         requires true_steps { StepsAre self.text steps.steps }
         requires placed { ArePlaced self.entries steps.steps steps.places }

@@ -13,7 +13,7 @@ use bt_resolve::{Resolved, resolve};
 use bt_text::Sequence;
 use std::alloc::{AllocError, Global};
 
-/// Whether what is kept is the answer now, if need be after an edit.
+/// Whether what is kept answers the question, as it is or after the edit, which is then made.
 fn is_kept(
     alloc: Global,
     kept: &mut Option<KeptResolution>,

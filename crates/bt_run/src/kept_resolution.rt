@@ -29,7 +29,6 @@ pub struct KeptResolution {
     ghost read: { resolution.databases ≡ map pieces_of texts },
 }
 
-/// How many of the first texts are the same.
 fn same_first(texts: &[Shared<Bytes>], others: &[Shared<Bytes>]) -> usize
     ensures { take result texts.now ≡ take result others.now }
 {
@@ -99,7 +98,6 @@ impl KeptResolution {
         Ok(kept)
     }
 
-    /// Puts an edit in place: the database of this number has this text and these items now.
     fn put(&mut self, number: usize, text: Shared<Bytes>, items: Shared<Items>, made: ResolvedEdit)
         requires edit { IsResolvedEdit self.old.resolution number items made }
         requires items { items ≡ pieces_of text }
@@ -110,7 +108,7 @@ impl KeptResolution {
         self.texts.set(number, text);
     }
 
-    /// Edits the database of this number. It says whether that was done: not if the edit may change more than one entry.
+    /// Edits the database of this number. Returns false if more than one entry may change.
     fn edit_at(
         &mut self,
         alloc: Global,

@@ -109,7 +109,6 @@ impl KeptSteps {
         None
     }
 
-    /// The step of an input, taken over or carried out.
     fn make_step(
         &mut self,
         command: StepCommand<'_>,
@@ -149,7 +148,7 @@ impl KeptSteps {
         Ok(step)
     }
 
-    /// The step that a run comes to. Where the earlier step to try next was given the same, it is shared whole.
+    /// The next step of the run. If the earlier step to try next had the same input, it is shared whole.
     fn next_step(
         &mut self,
         command: StepCommand<'_>,
@@ -194,7 +193,7 @@ impl Recorder for KeptSteps {
 
     ghost ready = { λ s job entries. IsConsistent (program_of job.style.now) job.earlier entries s };
 
-    /// Finds, too, which entries the earlier run has at the same place. (What ran before has no entry.)
+    /// Also notes which entries the earlier run has at the same place. (Steps before READ have no entry.)
     fn read(
         &mut self,
         alloc: Global,
@@ -210,7 +209,7 @@ impl Recorder for KeptSteps {
         Ok(())
     }
 
-    /// The step's cost is added to the meter where it is carried out, and not where it is taken over.
+    /// Adds the step's cost to the meter if it is run, and not if it is reused.
     fn take_step(
         &mut self,
         command: StepCommand<'_>,

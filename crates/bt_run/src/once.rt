@@ -23,7 +23,6 @@ use bt_style::{StyleFault, StyleRefusal, fields_are_apart, read_style};
 use bt_text::{Bytes, Sequence, Shared};
 use std::alloc::{AllocError, Global};
 
-/// What the commands of a style show after a log, with the counts.
 fn show_style(
     alloc: Global,
     job: Job<'_>,
@@ -40,7 +39,6 @@ fn show_style(
     Ok(answers)
 }
 
-/// Runs what the `.aux` files ask for.
 #[tactic(auto, using(crate::proofs::WrittenLemmas::no_style_shown))]
 fn show_asked(
     alloc: Global,

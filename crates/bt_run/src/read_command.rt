@@ -21,8 +21,6 @@ use bt_style::Style;
 use bt_text::{Sequence, Shared};
 use std::alloc::{AllocError, Global};
 
-/// Finds what the databases give for the citations, at the command of this number, and keeps it. Databases that weren't
-/// read before are read.
 fn find_for(
     alloc: Global,
     job: Job<'_>,
@@ -42,7 +40,6 @@ fn find_for(
     Ok(())
 }
 
-/// What the databases give for the citations, at the command of this number.
 fn found(alloc: Global, job: Job<'_>, number: usize) -> Result<Resolved, AllocError>
     ensures { IfOk result (λ all. all ≡ found_for (job_of job.entry) number) }
 {
