@@ -17,7 +17,7 @@ use Rattle.bt_mentions.specs.declared.state.State.TheVariants.{Item as InItem}
 use Rattle.bt_mentions.specs.Inside.{inside_behind}
 use Rattle.bt_mentions.specs.Scan.{scan_after, all_found}
 
--- a part of a text, as far as the text has it
+-- a part of a text, as far as the text reaches
 abbrev pub part : ℕ → ℕ → List ℕ → List ℕ
 part from to text =
     let front = take (min to (length text)) text in
@@ -36,25 +36,25 @@ opening_len (b ∷ t) = if is_opening b then 1 else suc (opening_len t)
 abbrev pub head_len : List ℕ → ℕ
 head_len item = opening_len item + length (take_while is_white (drop (opening_len item) item))
 
--- where the end of the front of an item lies
+-- where the first bytes of an item end
 abbrev pub inside_item : List ℕ → Inside
 inside_item front = inside_behind (drop (opening_len front) front)
 
--- these mentions, and those from one place of a text up to another, where the item has come to `begin`
+-- these mentions, and those from one place of a text up to another; the state at the first is `begin`
 abbrev pub with_value : List ℕ → ℕ → ℕ → Inside → List Mention → List Mention
 with_value text from to begin found =
     let place = min from (length text) in
     all_found (fold scan_after (record { state = InItem begin; place = place; current = None; found = found })
     (part place to text))
 
--- these mentions, that of a name, and those after it
+-- these mentions, the mention of a name, and those after it
 abbrev pub with_name : List ℕ → ℕ → ℕ → List ℕ → Role → List Mention → List Mention
 with_name text from to name role found =
     let begin = min from (length text) in
     let end = min (begin + length name) (length text) in
     with_value text end to (Name 9) (found ++ record { from = begin; to = end; role = role } ∷ [])
 
--- these mentions, and that of a name that may be missing with those after it
+-- the same for a name that may be missing
 abbrev pub with_name_if_any : List ℕ → ℕ → ℕ → Option (List ℕ) → Role → List Mention → List Mention
 with_name_if_any text from to None role found = found
 with_name_if_any text from to (Some name) role found = with_name text from to name role found
@@ -65,7 +65,7 @@ with_content text from to (Entry entry) found = with_name_if_any text from to en
 with_content text from to (Define definition) found = with_name_if_any text from to definition.name Definition found
 with_content text from to (Preamble value) found = with_value text from to (Value false) found
 
--- these mentions, and those of a piece that goes from one place up to another
+-- these mentions, and those of a piece between two places
 abbrev pub with_placed : List ℕ → ℕ → ℕ → Piece → List Mention → List Mention
 with_placed text start end Comment found = found
 with_placed text start end (Item item) found =
@@ -75,6 +75,6 @@ with_placed text start end (Item item) found =
 abbrev pub with_piece : List ℕ → List Mention → PlacedPiece → List Mention
 with_piece text found p = with_placed text (min p.start.place (length text)) p.end.place p.piece found
 
--- the mentions of a database, in their order
+-- the mentions of a database, in order
 abbrev pub mentions : List ℕ → List Mention
 mentions text = fold (with_piece text) [] (pieces_of text)

@@ -29,12 +29,12 @@ ended None place byte = None
 ended (Some from) place byte =
     if is_white byte then None else Some (record { from = from; to = place; is_last = false })
 
--- where the gap begins that the bytes up to this one end with
+-- where the gap begins that ends with this byte, if there is one
 abbrev pub reopened : Option ℕ → Inside → ℕ → ℕ → Option ℕ
 reopened begun state place byte =
     if is_separator state byte then Some (place + 1) else (if is_white byte then begun else None)
 
--- the place behind the last byte that isn't white space
+-- the place after the last byte that isn't white space
 abbrev pub dark_after : ℕ → ℕ → ℕ → ℕ
 dark_after dark place byte = if is_white byte then dark else place + 1
 
@@ -49,7 +49,7 @@ gaps_after s byte =
       found = s.found ++ cons_option (ended s.begun s.place byte) [];
     }
 
--- the gaps, and the last one, which goes up to the place
+-- the gaps, and the last one, up to the place
 abbrev pub all_gaps : Search → List Gap
 all_gaps s = s.found ++ record { from = s.dark; to = s.place; is_last = true } ∷ []
 
@@ -60,7 +60,7 @@ gaps_between text from to =
     all_gaps (fold gaps_after (record { state = Name 9; place = place; begun = None; dark = place; found = [] })
     (part place to text))
 
--- the gaps behind a key, if there is one
+-- the gaps after a key, if there is one
 abbrev pub key_gaps : List ℕ → ℕ → ℕ → Option (List ℕ) → List Gap
 key_gaps text from to None = []
 key_gaps text from to (Some key) = gaps_between text (min from (length text) + length key) to
@@ -80,7 +80,7 @@ faultless_gaps text from to content None = content_gaps text from to content
 abbrev pub item_gaps : List ℕ → ℕ → ℕ → ReadItem → List Gap
 item_gaps text from to i = faultless_gaps text from to i.content i.fault
 
--- the gaps of a piece that goes from one place up to another
+-- the gaps of a piece between two places
 abbrev pub placed_gaps : List ℕ → ℕ → ℕ → Piece → List Gap
 placed_gaps text start end Comment = []
 placed_gaps text start end (Item i) = item_gaps text (start + head_len (part start end text)) (end - 1) i

@@ -1,4 +1,4 @@
--- Where a place of an item lies, behind its key or its macro's name.
+-- Where a place of an item is, after its key or its macro's name.
 use Rattle.std.specs.Prelude.{ℕ, ◌+◌, ◌-◌, ◌==◌, ◌&&◌, nat_lt, Bool, true, false, if◌then◌else◌, List, Option, Some, None}
 use Rattle.std.specs.List.{fold}
 use Rattle.std.specs.Char.{to_ascii_lowercase}
@@ -22,7 +22,7 @@ letter_after found byte =
     (if (found == 6) && (letter == 101) then 7 else
     (if (found == 7) && (letter == 102) then 8 else 9)))))))
 
--- after one more byte where a field's name is
+-- after one more byte of a field's name, or around it
 abbrev pub name_after : ℕ → ℕ → Inside
 name_after found byte =
     if byte == 61 then Value (found == 8) else
@@ -61,7 +61,7 @@ inside_after (Value is_crossref) byte = value_after is_crossref byte
 inside_after (Braced is_crossref depth) byte = braced_after is_crossref depth byte
 inside_after (Quoted is_crossref depth) byte = quoted_after is_crossref depth byte
 
--- where a place lies behind these bytes, which follow an item's opening sign
+-- where these bytes end, which follow an item's opening sign
 abbrev pub inside_behind : List ℕ → Inside
 inside_behind text = fold inside_after (Name 9) text
 

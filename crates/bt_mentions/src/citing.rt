@@ -3,12 +3,12 @@
 ghost use Rattle.std.specs.Prelude.{◌≡◌};
 ghost use Rattle.bt_mentions.specs.Citing.{citing_after, name_after, is_citing};
 
-/// Where a place lies, as far as the bytes before it say.
+/// Where a place is, by the bytes before it.
 #[derive(Clone, Copy, PartialEq, Eq)]
 pub enum Citing {
     /// In no command.
     Outside,
-    /// In a command's name, whose last bytes are so many of those of `cit`, or which has these already (3).
+    /// In a command's name: how many letters of `cit` it ends with, or 3 if it has `cit` anywhere.
     Name(u8),
     /// In an option of a command whose name has `cit` in it.
     Option,
@@ -34,7 +34,7 @@ fn name_after(found: u8, byte: u8) -> Citing
     }
 }
 
-/// Where the next place lies.
+/// Where the next place is.
 pub fn citing_after(before: Citing, byte: u8) -> Citing
     ensures { result ≡ citing_after before byte }
 {

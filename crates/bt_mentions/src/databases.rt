@@ -12,7 +12,7 @@ use bt_bib::{Content, Piece, PlacedPiece, read_bib};
 use bt_text::{Sequence, white_run};
 use std::alloc::{AllocError, Global};
 
-/// A part of a text, as far as the text has it.
+/// A part of a text, as far as the text reaches.
 pub fn part(text: &[u8], from: usize, to: usize) -> &[u8]
     ensures value { result.now ≡ part from to text.now }
     ensures within { length result.now ≤ length text.now }
@@ -56,7 +56,7 @@ pub fn head_len(item: &[u8]) -> usize
     before + white_run(rest)
 }
 
-/// Where the end of the front of an item lies.
+/// Where the first bytes of an item end.
 pub fn inside_item(front: &[u8]) -> Inside
     ensures { result ≡ inside_item front.now }
 {
@@ -64,7 +64,7 @@ pub fn inside_item(front: &[u8]) -> Inside
     inside_behind(rest)
 }
 
-/// Adds the mentions from one place of a text up to another, where the item has come to `begin`.
+/// Adds the mentions from one place of a text up to another. The state at the first one is `begin`.
 fn with_value(
     text: &[u8],
     from: usize,
@@ -157,7 +157,7 @@ fn with_pieces(
     Ok(all)
 }
 
-/// The mentions of a database, in their order.
+/// The mentions of a database, in order.
 pub fn mentions(alloc: Global, text: &[u8]) -> Result<Sequence<Mention>, AllocError>
     ensures { IfOk result (λ found. found ≡ mentions text.now) }
 {

@@ -1,4 +1,4 @@
-//! Where a place of an item lies, behind its key or its macro's name.
+//! Where a place of an item is, after its key or its macro's name.
 
 ghost use Rattle.std.specs.Prelude.{◌≡◌};
 ghost use Rattle.bt_mentions.specs.Inside.{letter_after, name_after, value_after, deeper, braced_after, quoted_after, inside_after, inside_behind, inside_role};
@@ -10,16 +10,16 @@ use bt_text::is_name_byte;
 /// More braces than this inside a value don't count: a session takes no text that has them.
 const MOST_DEPTH: usize = 4_294_967_296;
 
-/// Where a place of an item lies, as far as the bytes before it say.
+/// Where a place of an item is, by the bytes before it.
 #[derive(Clone, Copy, PartialEq, Eq)]
 pub enum Inside {
-    /// Where a field's name is. So many letters of `crossref` have been found (8: all), or it is another name (9).
+    /// In a field's name, or around it. The number of letters of `crossref` so far (8: all), or 9 in any other name.
     Name(u8),
-    /// In a value, outside of braces and quotes; whether it is that of a `crossref` field.
+    /// In a value, outside of braces and quotes; whether the field is `crossref`.
     Value(bool),
-    /// In braces of a value, and in so many more.
+    /// In braces of a value, and in this many more.
     Braced(bool, usize),
-    /// In quotes of a value, and in so many braces.
+    /// In quotes of a value, and in this many braces.
     Quoted(bool, usize),
 }
 
@@ -100,7 +100,7 @@ fn quoted_after(is_crossref: bool, depth: usize, byte: u8) -> Inside
     }
 }
 
-/// Where the next place lies.
+/// Where the next place is.
 pub fn inside_after(before: Inside, byte: u8) -> Inside
     ensures { result ≡ inside_after before byte }
 {
@@ -112,7 +112,7 @@ pub fn inside_after(before: Inside, byte: u8) -> Inside
     }
 }
 
-/// Where a place lies behind these bytes, which follow an item's opening sign.
+/// Where these bytes end, which follow an item's opening sign.
 pub fn inside_behind(text: &[u8]) -> Inside
     ensures { result ≡ inside_behind text.now }
 {

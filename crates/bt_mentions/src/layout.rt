@@ -25,9 +25,9 @@ pub struct Gap {
 pub struct Search {
     pub state: Inside,
     pub place: usize,
-    /// Where the gap begins that the bytes before the place end with, if they do.
+    /// Where the gap before the place begins, if there is one.
     pub begun: Option<usize>,
-    /// The place behind the last byte that isn't white space.
+    /// The place after the last byte that isn't white space.
     pub dark: usize,
     pub found: Sequence<Gap>,
 }
@@ -100,7 +100,7 @@ impl Search {
         Ok(())
     }
 
-    /// The gaps, and the last one, which goes up to the place.
+    /// The gaps, and the last one, up to the place.
     fn into_found(self) -> Result<Sequence<Gap>, AllocError>
         ensures { IfOk result (λ found. found ≡ all_gaps self) }
     {
@@ -131,7 +131,6 @@ impl Search {
     }
 }
 
-/// The gaps of an entry whose fields are between two places of a text.
 fn gaps_between(
     alloc: Global,
     text: &[u8],

@@ -1,9 +1,9 @@
-//! Where a text mentions keys and macros: the entries and strings of a database, its cross-references and values, and the
-//! citations of LaTeX's texts and of `.aux` files.
+//! Where a text mentions keys and macros: in the entries, strings, cross-references and values of a database, and in the
+//! citations of LaTeX texts and `.aux` files.
 //!
-//! The readers of databases say what an item is, but only where it begins and ends. So a database is read first, and then
-//! each item is scanned for the places of its names. The scan goes over an item's bytes once and holds a state; a mention
-//! is a longest run of bytes that the state takes for a name.
+//! The reader of databases says what an item has, but not where: it gives places only for the item's beginning and end. So
+//! a database is read first, and then each item is scanned for the places of its names. The scan reads each byte once and
+//! keeps a state; a mention is a longest run of bytes that belong to a name, by this state.
 #![tactic(auto)]
 
 mod citing;

@@ -11,11 +11,11 @@ pub enum Role {
     Citation,
     /// The name of a macro in its `@string`.
     Definition,
-    /// A macro in a value. A number in a value counts as one, too.
+    /// A macro or a number in a value.
     Macro,
 }
 
-/// A mention, by the offsets of its begin and its end.
+/// A mention, by the offsets of its beginning and its end.
 #[derive(Clone, Copy, PartialEq, Eq)]
 pub struct Mention {
     pub from: usize,

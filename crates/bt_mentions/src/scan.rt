@@ -1,4 +1,4 @@
-//! The mentions of a text: longest runs of bytes that a scan's state takes for parts of a name.
+//! The mentions of a text: longest runs of bytes that belong to a name, by the state of the scan.
 
 ghost use Rattle.std.specs.Prelude.{◌≡◌, ◌<◌, ◌+◌, ◌^◌, ◌++◌, [], length, IfOk, OnOk};
 ghost use Rattle.std.specs.List.{cons_option, fold};
@@ -15,7 +15,7 @@ use std::alloc::{AllocError, Global};
 pub struct Scan {
     pub state: State,
     pub place: usize,
-    /// The mention that the bytes before the place end with, if they do.
+    /// The mention before the place, if there is one.
     pub current: Option<Mention>,
     /// The mentions before it.
     pub found: Sequence<Mention>,

@@ -8,7 +8,7 @@ use crate::inside::{Inside, inside_after, inside_role};
 use crate::key_bytes::is_key_byte;
 use crate::mention::Role;
 
-/// Where a place lies: in an item of a database, or in a text with citations.
+/// Where a place is: in an item of a database, or in a text with citations.
 #[derive(Clone, Copy, PartialEq, Eq)]
 pub enum State {
     Item(Inside),
