@@ -17,7 +17,7 @@ abbrev pub after_sign : List ℕ → List ℕ → List ℕ → List ℕ
 after_sign sign [] before = before
 after_sign sign (b ∷ t) before = before ++ sign ++ b ∷ t
 
--- what a completion offers: a key with the type, author and title of its entry. It is found by any word of these.
+-- what a completion offers: a key with the type, author and title of its entry. Editors filter by key, author and title.
 abbrev pub candidate : List ℕ → List ℕ → List ℕ → List ℕ → Data
 candidate key kind author title =
     object (member (codes "detail") (text (after_sign (codes ". ") title (after_sign (codes ": ") author kind)))

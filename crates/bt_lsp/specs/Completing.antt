@@ -27,7 +27,7 @@ use Rattle.bt_lsp.specs.Visiting.{with_files}
 abbrev pub has_comma : List ℕ → Bool
 has_comma text = list_any (λ b. b == 44) text
 
--- in braces or quotes, and in so many more braces: keys in those of a `crossref` field
+-- what is offered in braces or quotes, and in this many more braces: keys in a `crossref` field
 abbrev pub enclosed_offer : Bool → ℕ → Offer
 enclosed_offer is_crossref depth = if is_crossref && (depth == 0) then Keys else Nothing
 
@@ -38,7 +38,7 @@ offer_in comma (Value is_crossref) = if is_crossref then Keys else Macros
 offer_in comma (Braced is_crossref depth) = enclosed_offer is_crossref depth
 offer_in comma (Quoted is_crossref depth) = enclosed_offer is_crossref depth
 
--- what is offered at the end of the front of an item; fields stand behind the comma that ends the key
+-- what is offered where an item's first bytes end; fields come after the comma that ends the key
 abbrev pub offer_at : List ℕ → Offer
 offer_at front = offer_in (has_comma front) (inside_item front)
 

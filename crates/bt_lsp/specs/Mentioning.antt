@@ -10,7 +10,7 @@ use Rattle.bt_mentions.specs.Scan.{citations}
 use Rattle.bt_mentions.specs.Databases.{mentions}
 use Rattle.bt_lsp.specs.Entries.{is_database, is_style}
 
--- the mentions of a file, by its name: those of a database, or the citations of any other text; a style has none
+-- the mentions of a file, by its name: a database has mentions, a style none, and any other text citations
 abbrev pub mentions_of : List ℕ → List ℕ → List Mention
 mentions_of name text =
     if is_database name then mentions text else (if is_style name then [] else citations text)

@@ -20,7 +20,7 @@ position p =
 abbrev pub range : Position → Position → Data
 range from to = object (member (codes "end") (position to) (member (codes "start") (position from) no_members))
 
--- the range of a part of a text, as far as the text has it
+-- the range of a part of a text, as far as the text reaches
 abbrev pub range_of : Counting → List ℕ → ℕ → ℕ → Data
 range_of c words from to =
     range (position_of c (min from (length words)) words) (position_of c (min to (length words)) words)

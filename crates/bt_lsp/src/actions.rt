@@ -39,7 +39,6 @@ fn removal(alloc: Global, edit: Value) -> Result<Value, AllocError>
     json!(in alloc; {"title": "Remove the repeated entry", "kind": "quickfix", "edit": edit})
 }
 
-/// The action that removes a part of a document.
 fn removal_at(alloc: Global, document: &Document, piece: &PlacedPiece) -> Result<Value, AllocError>
     requires { 2 * length document.now.text < 2 ^ 64 }
     ensures { IfOk result (λ v. view v ≡ removal_at document.now piece.now) }

@@ -28,7 +28,6 @@ pub enum Offer {
     Macros,
 }
 
-/// The macros of the databases.
 #[derive(Clone, Copy)]
 struct MacroNames;
 
@@ -38,7 +37,7 @@ fn has_comma(text: &[u8]) -> bool
     text.iter().any(|byte| *byte == b',')
 }
 
-/// What is offered at the end of the front of an item. Fields stand behind the comma that ends the key.
+/// What is offered where an item's first bytes end. Fields come after the comma that ends the key.
 fn offer_at(front: &[u8]) -> Offer
     ensures { result ≡ offer_at front.now }
 {

@@ -129,7 +129,6 @@ pub fn item_around(pieces: &[PlacedPiece], place: usize) -> Option<&PlacedPiece>
     None
 }
 
-/// The key of the first entry in which a place lies.
 fn key_in(pieces: &[PlacedPiece], place: usize) -> &[u8]
     ensures { result.now ≡ key_in place pieces.now }
 {

@@ -16,7 +16,6 @@ use bt_text::{Bytes, eq_ignore_ascii_case};
 use serde_json::{Value, json};
 use std::alloc::{AllocError, Global};
 
-/// What is offered to an entry that has these fields.
 #[derive(Clone, Copy)]
 struct Offered<'a> {
     present: &'a [Field],

@@ -73,7 +73,6 @@ fn found_in<P: Paper>(
     Ok(Value::Null)
 }
 
-/// Where the entry of the key at a position of a document begins.
 fn found_at<P: Paper>(
     alloc: Global,
     paper: &P,

@@ -15,7 +15,7 @@ use bt_positions::{Counting, IndexedText};
 use serde_json::Value;
 use std::alloc::{AllocError, Global};
 
-/// What a gap is to be: a line's end, and two blanks unless the closing sign follows.
+/// What a gap becomes: a line end, and two blanks unless the closing sign follows.
 fn layout(is_last: bool) -> &'static [u8]
     ensures { result.now ≡ layout is_last }
 {

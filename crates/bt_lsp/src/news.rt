@@ -63,7 +63,6 @@ fn warning_params(alloc: Global) -> Result<Value, AllocError>
     })
 }
 
-/// The warning that a message was lost.
 fn warning(alloc: Global) -> Result<Value, AllocError>
     ensures { IfOk result (λ v. view v ≡ warning) }
 {
@@ -82,7 +81,7 @@ fn warned(alloc: Global, lost: bool) -> Result<Vec<Value>, AllocError>
     Ok(told)
 }
 
-/// That a document which is closed has no diagnostics.
+/// Tells the editor that a closed document has no diagnostics.
 fn cleared(alloc: Global, uri: &str) -> Result<Value, AllocError>
     ensures { IfOk result (λ v. view v ≡ published uri.now []) }
 {

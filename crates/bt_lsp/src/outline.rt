@@ -16,7 +16,6 @@ use bt_positions::{Counting, IndexedText};
 use serde_json::{Value, json};
 use std::alloc::{AllocError, Global};
 
-/// A symbol of the outline: a name, and the part of the text that its item is.
 fn symbol(
     alloc: Global,
     name: &[u8],

@@ -155,7 +155,6 @@ pub fn is_mentioned<P: Paper>(
     Ok(is_any(list.as_slice()))
 }
 
-/// The mentions of a name in the paper's files, and in LaTeX's open texts.
 fn references<P: Paper>(
     alloc: Global,
     paper: &P,

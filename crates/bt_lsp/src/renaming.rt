@@ -79,7 +79,7 @@ impl Pick for Renaming<'_> {
     }
 }
 
-/// The edits of a file. The version is null: the client knows its own.
+/// The version is null: the client knows its own.
 fn file_edit(alloc: Global, uri: &[u8], edits: Vec<Value>) -> Result<Value, AllocError>
     ensures { IfOk result (λ v. view v ≡ file_edit uri.now (map view edits.items)) }
 {
@@ -155,7 +155,6 @@ fn is_new_key(new: &[u8]) -> bool
     }
 }
 
-/// Whether a text can be the name of what is looked for.
 fn can_be_named(wanted: Wanted, new: &[u8]) -> bool
     ensures { result ≡ can_be_named wanted new.now }
 {
@@ -165,7 +164,6 @@ fn can_be_named(wanted: Wanted, new: &[u8]) -> bool
     }
 }
 
-/// All edits of a renaming.
 fn renamed<P: Paper>(
     alloc: Global,
     paper: &P,

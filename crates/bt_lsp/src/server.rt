@@ -70,7 +70,6 @@ fn duty_of(phase: Phase, pending: bool, notice: Notice) -> Duty
     }
 }
 
-/// Whether an editor offers to count bytes of UTF-8.
 fn offers_bytes(message: &Value) -> bool {
     match message
         .pointer("/params/capabilities/general/positionEncodings")
@@ -152,7 +151,6 @@ fn outcome_for<P: Paper>(
     }
 }
 
-/// Tells the news: what comes first, and then the diagnostics of each open document.
 fn tell<P: Paper>(
     alloc: Global,
     server: &mut Server<P>,
@@ -179,7 +177,6 @@ fn tell<P: Paper>(
     }
 }
 
-/// Takes a notification and tells the news.
 fn carry<P: Paper>(
     alloc: Global,
     server: &mut Server<P>,

@@ -21,7 +21,7 @@ pub fn range(alloc: Global, from: Position, to: Position) -> Result<Value, Alloc
     })
 }
 
-/// The range of a part of a text, as far as the text has it.
+/// The range of a part of a text, as far as the text reaches.
 pub fn range_of(
     alloc: Global,
     counting: Counting,
@@ -66,7 +66,6 @@ pub fn diagnostic_values(alloc: Global, found: &[Diagnostic]) -> Result<Vec<Valu
     Ok(list)
 }
 
-/// The parameters of the notification that publishes the diagnostics of a document.
 fn published_params(alloc: Global, uri: &[u8], list: Vec<Value>) -> Result<Value, AllocError>
     ensures { IfOk result (λ v. view v ≡ published_params uri.now (map view list.items)) }
 {
@@ -120,7 +119,6 @@ fn sync_options(alloc: Global) -> Result<Value, AllocError>
     json!(in alloc; {"openClose": true, "change": 2, "save": true})
 }
 
-/// What the server can do.
 fn abilities(
     alloc: Global,
     encoding: &str,

@@ -16,7 +16,6 @@ use bt_text::eq_ignore_ascii_case;
 use serde_json::{Value, json};
 use std::alloc::{AllocError, Global};
 
-/// A search for the keys and macros whose names contain a text.
 #[derive(Clone, Copy)]
 struct Query<'a> {
     counting: Counting,
@@ -48,7 +47,7 @@ fn contains(text: &[u8], query: &[u8]) -> bool
     query.len() == 0
 }
 
-/// The protocol's number for what begins or is defined here: 20 for a key, 14 for a constant. 0 for other mentions.
+/// The protocol's number: 20 for a key, 14 for a constant, and 0 for other mentions.
 fn number_of(role: Role) -> u8
     ensures { result ≡ number_of role }
 {

@@ -27,7 +27,6 @@ impl From<AllocError> for Untaken {
     }
 }
 
-/// The units of a text in an editor that counts bytes or units of UTF-16.
 fn counting_of(counts_bytes: bool, is_latin: bool) -> Counting {
     match (counts_bytes, is_latin) {
         (true, true) => Counting::LatinAsUtf8,
@@ -69,7 +68,6 @@ fn take_opened<P: Paper>(
     Ok(())
 }
 
-/// The units of the first document of a name.
 fn counting_named(documents: &[Document], name: &[u8]) -> Option<Counting>
     ensures { result ≡ option_map (λ d. d.counting) (document_named name.now documents.now) }
 {
