@@ -62,7 +62,6 @@ fn fill<L: Library>(
     Ok(grown)
 }
 
-/// A draft of a job with its files, as far as they are found.
 fn filled<L: Library>(
     alloc: Global,
     library: &L,

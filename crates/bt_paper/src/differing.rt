@@ -17,7 +17,7 @@ pub struct Difference {
     pub new_end: usize,
 }
 
-/// How many bytes two texts have in common at their beginnings, compared in steps of this many bytes.
+/// The common bytes at the beginnings of two texts, rounded down to steps of this many bytes.
 fn front_by(step: usize, old: &[u8], new: &[u8]) -> usize
     requires { 0 < step }
     ensures old { result ≤ length old.now }
@@ -40,7 +40,7 @@ fn front_by(step: usize, old: &[u8], new: &[u8]) -> usize
     count
 }
 
-/// How many bytes two texts have in common at their ends, compared in steps of this many bytes.
+/// The common bytes at the ends of two texts, rounded down to steps of this many bytes.
 fn back_by(step: usize, old: &[u8], new: &[u8]) -> usize
     requires { 0 < step }
     ensures old { result ≤ length old.now }
@@ -63,7 +63,6 @@ fn back_by(step: usize, old: &[u8], new: &[u8]) -> usize
     count
 }
 
-/// How many bytes two texts have in common at their beginnings.
 fn common_front(old: &[u8], new: &[u8]) -> usize
     ensures old { result ≤ length old.now }
     ensures new { result ≤ length new.now }
@@ -75,7 +74,6 @@ fn common_front(old: &[u8], new: &[u8]) -> usize
     count + front_by(1, old_rest, new_rest)
 }
 
-/// How many bytes two texts have in common at their ends.
 fn common_back(old: &[u8], new: &[u8]) -> usize
     ensures old { result ≤ length old.now }
     ensures new { result ≤ length new.now }

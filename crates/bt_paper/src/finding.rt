@@ -13,7 +13,6 @@ pub struct Found {
     pub text: Bytes,
 }
 
-/// The file of a name in a folder, if it is there.
 fn found_in<L: Library>(
     alloc: Global,
     library: &L,

@@ -24,7 +24,6 @@ pub fn path_of(alloc: Global, uri: &[u8]) -> Result<Option<String>, AllocError> 
     }
 }
 
-/// The URI of the file at a path.
 fn uri_of(alloc: Global, path: &str) -> Result<String, AllocError> {
     let escaped = CONTROLS
         .add(b' ')
@@ -48,7 +47,6 @@ pub fn folder_at(alloc: Global, path: &str) -> Result<Folder, AllocError> {
     })
 }
 
-/// A text with a slash at its end.
 fn with_slash(alloc: Global, text: &str) -> Result<String, AllocError> {
     let mut whole = String::from_str(alloc, text)?;
     if !text.ends_with('/') {

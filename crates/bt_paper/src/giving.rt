@@ -10,7 +10,6 @@ use crate::differing::{Difference, difference_of};
 use bibtex::{Edit, Session};
 use bt_text::Bytes;
 
-/// Whether a session's file has this text.
 fn has_text(session: &Session, name: &[u8], text: &[u8]) -> bool
     ensures { IsTrue result → text_of session.now.texts name.now ≡ Some text.now }
 {
@@ -30,7 +29,7 @@ pub fn lacks(session: &Session, name: &[u8]) -> bool
     }
 }
 
-/// Gives a session's file a whole text, and says whether the session took it.
+/// Returns whether the session took the text.
 fn write(session: &mut Session, name: &[u8], new: &[u8]) -> bool
     ensures kept { result ≡ false → session.new ≡ session.old }
     ensures gives { IsTrue result → GivesText name.now new.now session.old session.new }
@@ -41,7 +40,7 @@ fn write(session: &mut Session, name: &[u8], new: &[u8]) -> bool
     }
 }
 
-/// Puts bytes in the place of the bytes `start..end` of a session's file, and says whether the session took them.
+/// Returns whether the session took the bytes, which replace its bytes `start..end`.
 fn splice(session: &mut Session, name: &[u8], start: usize, end: usize, bytes: &[u8]) -> bool
     ensures kept { result ≡ false → session.new ≡ session.old }
     ensures gives { IsTrue result → (old : List ℕ) → text_of session.old.texts name.now ≡ Some old →
@@ -53,7 +52,7 @@ fn splice(session: &mut Session, name: &[u8], start: usize, end: usize, bytes: &
     true
 }
 
-/// Gives a session's file a text, and says whether the session took it.
+/// Writes a text that the session lacks, or else splices the part that differs. Returns whether the session took it.
 fn set(session: &mut Session, name: &[u8], new: &[u8]) -> bool
     ensures kept { result ≡ false → session.new ≡ session.old }
     ensures gives { IsTrue result → GivesText name.now new.now session.old session.new }
@@ -83,7 +82,6 @@ pub fn give(session: &mut Session, name: &[u8], new: &[u8]) -> bool
     }
 }
 
-/// Takes a session's file away, if it has one of this name.
 fn remove(session: &mut Session, name: &[u8])
     ensures { OthersStay name.now session.old session.new }
 {

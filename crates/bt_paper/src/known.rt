@@ -16,7 +16,6 @@ pub struct Known {
     pub path: String,
 }
 
-/// The name of the first file of a URI.
 fn name_at<'a>(known: &'a [Known], uri: &[u8]) -> Option<&'a [u8]>
     ensures { option_map (λ n. n.now) result ≡ name_at uri.now known.now }
 {

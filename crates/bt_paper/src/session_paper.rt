@@ -38,7 +38,7 @@ pub struct SessionPaper<L> {
     pub known: Sequence<Known>,
 }
 
-/// Copies of the names of the files that the run looks for and doesn't find.
+/// Copies, since the session changes while the files of these names are added.
 fn wanted(alloc: Global, session: &Option<Session>) -> Result<Sequence<Bytes>, AllocError> {
     let mut names = Sequence::new(alloc);
     if let Some(session) = session {
