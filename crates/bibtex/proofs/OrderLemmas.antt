@@ -1,4 +1,4 @@
--- Each name stands once after an edit, if it did before; and what a refusal answers.
+-- Each name keeps one text after an edit; and results with the same refusal answer for a state alike.
 use Rattle.std.proofs.Common.{◌≡◌, subst, ap, ◌∙◌, [], length, Option, Some, None, Ok, Err, Result, IfErr, IsErrAnd}
 use Rattle.std.specs.Prelude.{unwrap_or}
 use Rattle.bt_job.specs.FileNames.{text_of}
@@ -29,7 +29,7 @@ once_applied e s t once is = once_unless (refusal_of e (length (bytes_of e)) s) 
 
 -- A refusal
 
--- the refusal of an edit is the answer for whatever is made of the state
+-- if two results have the same refusal, and one is an answer for a state, so is the other
 pub refused_alike : {A : Type 0} {B : Type 0} (r : Result State Refusal) (a : Result A Refusal) (b : Result B Refusal) (e : Refusal) → IsAnswer r a → a ≡ Err e → IsErrAnd b (λ f. f ≡ e) → IsAnswer r b
 refused_alike (Ok s) a (Ok y) e is left right = absurd right
 refused_alike {A = A} (Ok s) a (Err f) e is left right =

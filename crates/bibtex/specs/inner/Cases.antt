@@ -36,7 +36,7 @@ unless_refused refusal s = elim refusal [ None ↦ Ok s | Some reason ↦ Err re
 abbrev pub put_at : Option ℕ → File → List File → List File
 put_at place file files = elim place [ None ↦ files ++ file ∷ [] | Some n ↦ slice_set files n file ]
 
--- the texts but that of a name
+-- the texts without the one of a name
 abbrev pub without : List ℕ → List File → List File
 without name files = filter (λ f. not (bytes_eq f.name name)) files
 
