@@ -34,7 +34,6 @@ standard input and output.
 
 Exit status: 0 after shutdown and exit, otherwise 1.";
 
-/// Answers the messages of a source on a sink.
 fn answer<S: Source, K: Sink>(
     rt: &HostRuntime,
     source: &mut S,
@@ -66,7 +65,6 @@ fn out_of_memory(rt: &HostRuntime) -> Result<ExitCode> {
     Ok(ExitCode::FAILURE)
 }
 
-/// Answers the messages of standard input on standard output.
 fn serve(rt: &HostRuntime, options: Options) -> Result<ExitCode> {
     let alloc = rt.alloc();
     let Ok(reader) = BufReader::new(alloc, rt.stdin()) else {

@@ -36,7 +36,6 @@ pub fn parse(alloc: Global, words: &[String]) -> Result<Request, AllocError> {
     Ok(Request::Serve(Options { job, folders }))
 }
 
-/// A folder's name with a slash at its end.
 fn with_slash(alloc: Global, folder: &str) -> Result<String, AllocError> {
     let mut name = String::from_str(alloc, folder)?;
     if !folder.ends_with('/') {
