@@ -1,5 +1,5 @@
 -- From an edit that was carried out or refused to its answer.
-use Rattle.std.proofs.Common.{◌≡◌, ℕ, List, length, refl, ap, ◌∙◌, subst, Option, None, Some, Bool, true, false, Result, Ok, Err, unwrap_or}
+use Rattle.std.proofs.Common.{◌≡◌, ℕ, List, length, refl, ap, sym, ◌∙◌, subst, Option, None, Some, Bool, true, false, Result, Ok, Err, unwrap_or}
 use Rattle.bt_run.specs.declared.answers.Report.{Report}
 use Rattle.bibtex.specs.declared.edit.Refusal.{Refusal}
 use Rattle.bibtex.specs.declared.edit.Refusal.TheVariants.{OutOfMemory}
@@ -26,7 +26,10 @@ by_number (min_crossrefs n) bytes s = refl
 pub dropped : (e : Edit) (bytes : List ℕ) (n : ℕ) (s : State) (refusal : Option Refusal) → refusal ≡ refusal_of e n s → length bytes ≡ n →
     IsAnswer {A = Report} (applied (with_bytes bytes e) s) (Err (unwrap_or refusal OutOfMemory))
 dropped e bytes n s refusal is size =
-    rw (by_number e bytes s, size, ← is) (dropped_at refusal (changed (with_bytes bytes e) s))
+    let of_number : refusal ≡ refusal_of (with_bytes bytes e) (length (bytes_of (with_bytes bytes e))) s =
+        is ∙ ap (λ k. refusal_of e k s) (sym size) ∙ sym (by_number e bytes s) in
+    let Answers : Option Refusal → Type 0 = λ found. IsAnswer {A = Report} (unless_refused found (changed (with_bytes bytes e) s)) (Err (unwrap_or refusal OutOfMemory)) in
+    subst Answers of_number (dropped_at refusal (changed (with_bytes bytes e) s))
 
 -- A refusal that the definitions give, or out of memory where they give none.
 refused_as : (e : Edit) (bytes : List ℕ) (s : State) (r : Refusal) (made : Result State Refusal) → applied (with_bytes bytes e) s ≡ made → IsAnswer {A = Report} made (Err r) →
