@@ -13,22 +13,48 @@ use Rattle.bt_text.specs.LineBreaks.{break_place, broken, broken_within, line_un
 use Rattle.bt_text.specs.inner.Cases.{broken_at}
 use Rattle.bt_text.specs.ByteTests.{is_white, space}
 
-range_step : (i e : ℕ) → i < e → range_with_len i (e - i) ≡ i ∷ range_with_len (i + 1) (e - (i + 1))
-range_step i e h = let p : e - i ≡ suc (e - (i + 1)) = omega arith in rw p refl
+last_white : (p : ℕ → Bool) (o : Option ℕ) (a n i : ℕ) → i ≡ a + n → p i ≡ true → last_or o (filter p (range_with_len a (suc n))) ≡ Some i
+last_white p o a zero i s e = let same : a ≡ i = omega arith in rw (same, e) refl
+last_white p o a (suc n) i s e = by_test (p a) (last_white p (Some a) (a + 1) n i (omega arith) e) (last_white p o (a + 1) n i (omega arith) e)
+  where
+    rest : List ℕ
+    rest = filter p (range_with_len (a + 1) (suc n))
 
--- the white places from i on
-abbrev pub near_from : List ℕ → ℕ → List ℕ
-near_from t i = filter (λ k. is_white (get_or t k 0)) (range_with_len i (80 - i))
+    by_test : (b : Bool) → last_or (Some a) rest ≡ Some i → last_or o rest ≡ Some i → last_or o (cond b (a ∷ rest) rest) ≡ Some i
+    by_test true h g = h
+    by_test false h g = g
 
-pub near_break_start : (t : List ℕ) → near_break t ≡ last_or None (near_from t 3)
+last_dark : (p : ℕ → Bool) (o : Option ℕ) (a n i : ℕ) → i ≡ a + n → p i ≡ false → last_or o (filter p (range_with_len a (suc n))) ≡ last_or o (filter p (range_with_len a n))
+last_dark p o a zero i s e = let same : a ≡ i = omega arith in rw (same, e) refl
+last_dark p o a (suc n) i s e = by_test (p a) (last_dark p (Some a) (a + 1) n i (omega arith) e) (last_dark p o (a + 1) n i (omega arith) e)
+  where
+    all : List ℕ
+    all = filter p (range_with_len (a + 1) (suc n))
+
+    rest : List ℕ
+    rest = filter p (range_with_len (a + 1) n)
+
+    by_test : (b : Bool) → last_or (Some a) all ≡ last_or (Some a) rest → last_or o all ≡ last_or o rest → last_or o (cond b (a ∷ all) all) ≡ last_or o (cond b (a ∷ rest) rest)
+    by_test true h g = h
+    by_test false h g = g
+
+-- the last white place from 3 on before a place
+abbrev pub near_before : List ℕ → ℕ → Option ℕ
+near_before t e = last_or None (filter (λ k. is_white (get_or t k 0)) (range_with_len 3 (e - 3)))
+
+pub near_break_start : (t : List ℕ) → near_break t ≡ near_before t 80
 unfolding near_break
 near_break_start t = refl
 
-pub near_white : (t : List ℕ) (last : Option ℕ) (i : ℕ) → i < 80 → is_white (get_or t i 0) ≡ true → last_or last (near_from t i) ≡ last_or (Some i) (near_from t (i + 1))
-near_white t last i h e = rw (range_step i 80 h, e) refl
+pub near_white : (t : List ℕ) (i : ℕ) → 3 ≤ i → is_white (get_or t i 0) ≡ true → near_before t (i + 1) ≡ Some i
+near_white t i h e =
+    let all : i + 1 - 3 ≡ suc (i - 3) = omega arith in
+    rw all (last_white (λ k. is_white (get_or t k 0)) None 3 (i - 3) i (omega arith) e)
 
-pub near_dark : (t : List ℕ) (last : Option ℕ) (i : ℕ) → i < 80 → is_white (get_or t i 0) ≡ false → last_or last (near_from t i) ≡ last_or last (near_from t (i + 1))
-near_dark t last i h e = rw (range_step i 80 h, e) refl
+pub near_dark : (t : List ℕ) (i : ℕ) → 3 ≤ i → is_white (get_or t i 0) ≡ false → near_before t (i + 1) ≡ near_before t i
+near_dark t i h e =
+    let all : i + 1 - 3 ≡ suc (i - 3) = omega arith in
+    rw all (last_dark (λ k. is_white (get_or t k 0)) None 3 (i - 3) i (omega arith) e)
 
 pub run_end_some : (t : List ℕ) (k w : ℕ) → k ≡ position_or_len is_white (drop 80 t) → 80 + k < length t → w ≡ prefix_len is_white (drop (80 + k) t) → run_end t 80 ≡ Some (80 + k + w - 1)
 run_end_some t k w e h f = rw (← e, lt-ltb _ _ h, ← f) refl

@@ -46,6 +46,15 @@ impl Bytes {
         })
     }
 
+    /// A copy of these bytes, with room for `least` bytes if it has fewer.
+    pub fn roomy(alloc: Global, bytes: &[u8], least: usize) -> Result<Self, AllocError>
+        ensures { IfOk result (λ text. text ≡ bytes.now) }
+    {
+        let mut copy = Vec::with_capacity(alloc, bytes.len().max(least))?;
+        copy.extend_from_slice(bytes)?;
+        Ok(Bytes { bytes: copy })
+    }
+
     /// The pieces in order, as one text.
     pub fn of(alloc: Global, pieces: &[&[u8]]) -> Result<Self, AllocError>
         ensures { IfOk result (λ text. text ≡ joined (map (λ piece. piece.now) pieces.now)) }
@@ -67,6 +76,13 @@ impl Bytes {
         ensures { result ≡ length self.now }
     {
         self.bytes.len()
+    }
+
+    /// Makes room for this many more bytes.
+    pub fn reserve(&mut self, more: usize) -> Result<(), AllocError>
+        ensures { self.new ≡ self.old }
+    {
+        self.bytes.reserve(more)
     }
 
     /// Puts bytes after those that are there. After out of memory the text is as before.

@@ -23,6 +23,10 @@ use thiserror::Error;
 /// How many bytes a text of a style may have: a value, an argument, and the held line with what is written after it.
 pub const TEXT_BYTES: usize = 65_536;
 
+/// How many bytes a line gets when it is begun, so that it needn't grow by small steps. A longer one is held only if it
+/// can't be broken.
+pub const LINE_BYTES: usize = 80;
+
 /// Why nothing was written.
 #[derive(Clone, Copy, PartialEq, Eq, Debug, Error)]
 #[error("{:?}", self)]
@@ -130,9 +134,21 @@ impl Held {
             lines.append(output.lines)?;
             self.bytes = output.held;
         } else {
+            self.make_room()?;
             self.bytes.append(text)?;
         }
         Ok(())
+    }
+
+    /// Gives an empty line room for its first texts.
+    fn make_room(&mut self) -> Result<(), AllocError>
+        ensures { self.new ≡ self.old }
+    {
+        if self.bytes.len() == 0 {
+            self.bytes.reserve(LINE_BYTES)
+        } else {
+            Ok(())
+        }
     }
 
     /// Whether white space is held after place 2. A line of more than 79 bytes has none there, by the invariant.
@@ -159,7 +175,8 @@ impl Held {
         ensures shorter { IfOk result (λ output. length output.held
             ≤ length self.now + length text.now) }
     {
-        let mut all = Vec::from_slice(alloc, self.bytes.as_slice())?;
+        let mut all = Vec::with_capacity(alloc, self.bytes.len().saturating_add(text.len()))?;
+        all.extend_from_slice(self.bytes.as_slice())?;
         all.extend_from_slice(text)?;
         break_lines(alloc, all)
     }

@@ -6,24 +6,26 @@ ghost use Rattle.bt_text.specs.LineBreaks.{break_place, broken, line_unless_empt
 
 use crate::byte_tests::is_white;
 use crate::bytes::Bytes;
+use crate::held::LINE_BYTES;
 use crate::output::Output;
 use crate::sequence::Sequence;
 use crate::white::{dark_run, trim_end, white_run};
 use std::alloc::{AllocError, Global};
 
-/// The greatest of the places 3 to 79 that holds white space.
+/// The greatest of the places 3 to 79 that holds white space. It is looked for from the end, where it mostly is.
 fn near_break(text: &[u8]) -> Option<usize>
     requires { 79 < length text.now }
     ensures place { result ≡ near_break text.now }
     ensures within { IfSome result (λ i. (3 ≤ i) × (i < 80)) }
 {
-    let mut last = None;
-    for place in 3..80 {
-        if is_white(text[place]) {
-            last = Some(place);
+    let mut end = 80;
+    'places: while 3 < end {
+        end -= 1;
+        if is_white(text[end]) {
+            return Some(end);
         }
     }
-    last
+    None
 }
 
 /// The last byte of the first run of white space that begins after place 79.
@@ -81,6 +83,6 @@ pub fn break_lines(alloc: Global, text: Vec<u8>) -> Result<Output, AllocError>
         bytes[start] = b' ';
         bytes[start + 1] = b' ';
     }
-    let held = Bytes::copied(alloc, &bytes[start..])?;
+    let held = Bytes::roomy(alloc, &bytes[start..], LINE_BYTES)?;
     Ok(Output { lines, held })
 }

@@ -1,14 +1,27 @@
-use Rattle.std.proofs.Common.{sym, ◌∙◌}
-use Rattle.bt_text.proofs.BreakingLemmas.{near_break_start, near_white, near_dark}
+use Rattle.std.proofs.Common.{◌≡◌, ◌+◌, ◌-◌, ap, sym, ◌∙◌, arith}
+use Rattle.bt_text.proofs.BreakingLemmas.{near_break_start, near_before, near_white, near_dark}
 use Rattle.bt_text.proofs.line_breaks.near_break.Goals as goal
-use Rattle.bt_text.proofs.line_breaks.near_break.Goals.{then-is_white, else-is_white}
 
-pub loop-place-init : goal.loop-place-init
-loop-place-init c = (sym (near_break_start c.args.text.now), tt)
+pub places-init : goal.places-init
+places-init c = record { least = omega arith; most = omega arith; last = near_break_start c.args.text.now }
 
-pub loop-place-preserved : goal.loop-place-preserved
-loop-place-preserved c =
-    elim c.if-is_white.branch [
-      | then-is_white w ↦ rw w.last-is (sym (near_white c.args.text.now c.loop-place.last c.loop-place.place c.loop-place-test.true (sym c.is_white.ensures ∙ w.if-is_white.true)) ∙ c.loop-place.invariant.0, (c.loop-place.auto.place, c.loop-place-test.true))
-      | else-is_white w ↦ rw w.last-is (sym (near_dark c.args.text.now c.loop-place.last c.loop-place.place c.loop-place-test.true (sym c.is_white.ensures ∙ w.if-is_white.false)) ∙ c.loop-place.invariant.0, c.loop-place.invariant.1)
-    ]
+pub places-preserved : goal.places-preserved
+places-preserved c =
+    let t = c.args.text.now in
+    let i = c.places.end - 1 in
+    let up : c.places.end ≡ i + 1 = omega arith in
+    let dark = near_dark t i (omega arith) (sym c.is_white.ensures ∙ c.if-is_white.false) in
+    record { least = omega arith; most = omega arith; last = c.places.invariant.last ∙ ap (near_before t) up ∙ dark }
+
+pub returns-then-is_white-clause-place : goal.returns-then-is_white-clause-place
+returns-then-is_white-clause-place c =
+    let t = c.args.text.now in
+    let i = c.places.end - 1 in
+    let up : c.places.end ≡ i + 1 = omega arith in
+    let white = near_white t i (omega arith) (sym c.is_white.ensures ∙ c.if-is_white.true) in
+    sym (c.places.invariant.last ∙ ap (near_before t) up ∙ white)
+
+pub returns-clause-place : goal.returns-clause-place
+returns-clause-place c =
+    let begun : c.places.end ≡ 3 = omega arith in
+    sym (c.places.invariant.last ∙ ap (near_before c.args.text.now) begun)
