@@ -138,6 +138,8 @@ fn repeat<'a>(
     }
 }
 
+/// Calls a built-in function. Each arm makes its own result: one handed on as it comes would put all results in memory,
+/// those of the basic functions, too.
 #[inline(always)]
 fn call_builtin<'a>(
     state: &mut State<'a>,
@@ -152,9 +154,18 @@ fn call_builtin<'a>(
     ensures more { OnOk result (length control.new.items ≤ length control.old.items + 4) }
 {
     match builtin {
-        Builtin::CallType => call_type(state, control, style, rest),
-        Builtin::If => choose(state, control, rest),
-        Builtin::While => repeat(state, control, rest),
+        Builtin::CallType => {
+            let next = call_type(state, control, style, rest)?;
+            Ok(next)
+        }
+        Builtin::If => {
+            let next = choose(state, control, rest)?;
+            Ok(next)
+        }
+        Builtin::While => {
+            let next = repeat(state, control, rest)?;
+            Ok(next)
+        }
         _ => Ok(Next::Flow(call_basic(state, alloc, style, builtin)?)),
     }
 }
@@ -173,7 +184,10 @@ pub fn call<'a>(
     ensures more { OnOk result (length control.new.items ≤ length control.old.items + 4) }
 {
     match target {
-        Target::Builtin(builtin) => call_builtin(state, control, alloc, style, builtin, rest),
+        Target::Builtin(builtin) => {
+            let next = call_builtin(state, control, alloc, style, builtin, rest)?;
+            Ok(next)
+        }
         Target::Field(n) => Ok(Next::Flow(call_field(state, n)?)),
         Target::EntryNumber(n) => Ok(Next::Flow(call_entry_number(state, n)?)),
         Target::EntryText(n) => Ok(Next::Flow(call_entry_text(state, n)?)),
