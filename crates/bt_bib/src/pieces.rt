@@ -24,6 +24,9 @@ use crate::stop::ReadStop;
 use bt_text::{Bytes, Sequence, Shared};
 use std::alloc::{AllocError, Global};
 
+/// How many fields there is room for at first. Most entries have no more.
+const FIELDS: usize = 16;
+
 /// A complete item, or one that ends at its fault.
 fn item(
     line: usize,
@@ -102,7 +105,7 @@ impl Reader<'_> {
         ensures { Makes self.now.text.now from result (entry_item kind close (here self.now.text.now from)) }
     {
         let (key, end) = self.run(from, Class::Key(close))?;
-        let mut found = Sequence::new(self.alloc);
+        let mut found = Sequence::from_vec(Vec::with_capacity(self.alloc, FIELDS)?);
         let end = self.fields(self.after_white(end), close, &mut found);
         let entry = Entry {
             kind: Some(kind),

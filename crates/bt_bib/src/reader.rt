@@ -1,8 +1,7 @@
 //! A reader of a text. What its functions return owns its memory and can outlive the text.
 //!
 //! Databases repeat a few names in each entry. The reader of a whole database allocates them once and shares them,
-//! which saves an allocation for nearly every field. A linear search is fast enough, since the most frequent names come
-//! first.
+//! which saves two allocations for nearly every field. A name is compared only with those of its length.
 
 ghost use Rattle.std.specs.Prelude.{◌≡◌, IfOk};
 
@@ -13,23 +12,62 @@ use std::alloc::{AllocError, Global};
 pub struct Reader<'a> {
     pub alloc: Global,
     pub text: &'a [u8],
-    /// Names that are shared instead of copied each time they occur.
+    /// Names that are shared instead of copied each time they occur: `ROW` for each length, beginning with 0 bytes.
     pub known: &'a [Shared<Bytes>],
 }
 
-/// Names that most databases repeat: fields, the most frequent ones first, and types.
-const COMMON_NAMES: &[u8] =
-    b"author title year journal pages volume number publisher booktitle editor month address \
-note institution school series crossref edition howpublished url doi abstract isbn issn keywords article \
-inproceedings book incollection techreport phdthesis mastersthesis proceedings misc";
+/// How many known names there are for each length. Empty ones fill up a row.
+const ROW: usize = 16;
+
+/// Names that most databases repeat, fields and types: those with no byte, with one, with two and so on.
+const COMMON_NAMES: [&[u8]; 16] = [
+    b"",
+    b"",
+    b"",
+    b"url doi URL DOI",
+    b"year note isbn issn ISSN ISBN book Book misc Misc LCCN file date",
+    b"title pages month CODEN",
+    b"author volume number editor series school ISSN-L eprint biburl annote manual Manual",
+    b"journal address edition chapter bibdate article Article urldate",
+    b"crossref abstract keywords language fjournal",
+    b"publisher booktitle bibsource timestamp phdthesis PhdThesis",
+    b"techreport TechReport shorttitle",
+    b"institution proceedings Proceedings unpublished journal-URL",
+    b"howpublished organization incollection InCollection",
+    b"inproceedings InProceedings mastersthesis MastersThesis",
+    b"",
+    b"acknowledgement",
+];
+
+/// Appends the names of a list, and the empty name, until a row is full.
+fn push_row(
+    alloc: Global,
+    list: &[u8],
+    empty: &Shared<Bytes>,
+    names: &mut Vec<Shared<Bytes>>,
+) -> Result<(), AllocError> {
+    let mut left = ROW;
+    'names: for name in list.split(|byte| *byte == b' ') {
+        if left > 0 {
+            left -= 1;
+            names.push(Shared::<Bytes>::copied(alloc, name)?)?;
+        }
+    }
+    'rest: for _ in 0..left {
+        names.push(empty.share()?)?;
+    }
+    Ok(())
+}
 
 /// The names that most databases repeat, for the reader of a whole one. The result is the same whichever names it
 /// knows.
 pub fn common_names(alloc: Global) -> Result<Vec<Shared<Bytes>>, AllocError> {
-    COMMON_NAMES
-        .split(|byte| *byte == b' ')
-        .map(|name| Shared::<Bytes>::copied(alloc, name))
-        .try_collect(alloc)
+    let empty = Shared::new(alloc, Bytes::new(alloc))?;
+    let mut names = Vec::with_capacity(alloc, COMMON_NAMES.len() * ROW)?;
+    'rows: for list in COMMON_NAMES.iter() {
+        push_row(alloc, list, &empty, &mut names)?;
+    }
+    Ok(names)
 }
 
 impl Reader<'_> {
@@ -37,7 +75,9 @@ impl Reader<'_> {
     pub fn name_of(&self, bytes: &[u8]) -> Result<Shared<Bytes>, AllocError>
         ensures { IfOk result (λ name. name ≡ bytes.now) }
     {
-        'known: for name in self.known {
+        let start = bytes.len().saturating_mul(ROW);
+        let end = start.saturating_add(ROW);
+        'known: for name in self.known.get(start..end).unwrap_or(&[]) {
             if name.as_slice() == bytes {
                 return name.share();
             }
