@@ -87,7 +87,8 @@ pub fn call_entry_text(state: &mut State, n: usize) -> Result<Flow, AllocError>
     }
 }
 
-/// Pushes the value of a number variable of the style.
+/// Pushes the value of a number variable of the style. No element is more frequent in most styles.
+#[inline(always)]
 pub fn call_global_number(state: &mut State, n: usize) -> Result<Flow, AllocError>
     ensures { IfOk result (Acts (global_number n) state.old state.new) }
 {

@@ -93,11 +93,13 @@ impl<'a> Stack<'a> {
         }
     }
 
-    /// Makes room for the values of most steps, so that the stack needn't grow by small steps.
+    /// Makes room for the values of most steps, and for the texts on their way into the pool, so that neither needs to grow
+    /// by small steps.
     pub fn make_room(&mut self) -> Result<(), AllocError>
         ensures { self.new ≡ self.old }
     {
-        self.values.reserve(FIRST_VALUES)
+        self.values.reserve(FIRST_VALUES)?;
+        self.scratch.reserve(FIRST_BYTES)
     }
 
     /// How many values there are.
