@@ -12,7 +12,7 @@ ghost use Rattle.bt_text.specs.ByteTests.{is_white};
 ghost use Rattle.bt_text.specs.Held.{ended_lines, line_ended, written};
 
 use crate::bytes::Bytes;
-use crate::line_breaks::{break_lines, push_line};
+use crate::line_breaks::{add_line, break_lines, push_line};
 use crate::output::Output;
 use crate::sequence::Sequence;
 use crate::white::has_white;
@@ -76,8 +76,7 @@ fn end_line(alloc: Global, held: &[u8], lines: &mut Sequence<Bytes>) -> Result<(
     ensures err { OnErr result (lines.new ≡ lines.old) }
 {
     if held.is_empty() {
-        lines.push(Bytes::new(alloc))?;
-        Ok(())
+        add_line(lines, Bytes::new(alloc))
     } else {
         push_line(alloc, lines, held)
     }

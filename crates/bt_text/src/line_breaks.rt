@@ -1,7 +1,7 @@
 //! Where a long text is broken into lines: at one of the places 3 (`first_break`) to 79 (`line_width`), or else after
 //! place 79.
 
-ghost use Rattle.std.specs.Prelude.{◌≡◌, ◌<◌, ◌≤◌, ◌++◌, length, None, IfOk, IfSome, OnOk, OnErr};
+ghost use Rattle.std.specs.Prelude.{◌≡◌, ◌<◌, ◌≤◌, ◌++◌, ◌∷◌, [], length, None, IfOk, IfSome, OnOk, OnErr};
 ghost use Rattle.bt_text.specs.LineBreaks.{break_place, broken, line_unless_empty, near_break, run_end};
 
 use crate::byte_tests::is_white;
@@ -55,6 +55,21 @@ fn break_place(text: &[u8]) -> Option<usize>
     }
 }
 
+/// How many lines there is room for once there is one.
+const FIRST_LINES: usize = 8;
+
+/// Puts a whole line after others. The first one makes room for some more.
+pub fn add_line(lines: &mut Sequence<Bytes>, line: Bytes) -> Result<(), AllocError>
+    ensures ok { OnOk result (lines.new ≡ lines.old ++ line ∷ []) }
+    ensures err { OnErr result (lines.new ≡ lines.old) }
+{
+    if lines.len() == 0 {
+        lines.reserve(FIRST_LINES)?;
+    }
+    lines.push(line)?;
+    Ok(())
+}
+
 /// Puts a line after others, without the white space at its end, unless nothing is left of it.
 pub fn push_line(alloc: Global, lines: &mut Sequence<Bytes>, text: &[u8]) -> Result<(), AllocError>
     ensures ok { OnOk result (lines.new ≡ lines.old ++ line_unless_empty text.now) }
@@ -62,7 +77,7 @@ pub fn push_line(alloc: Global, lines: &mut Sequence<Bytes>, text: &[u8]) -> Res
 {
     let line = trim_end(text);
     if !line.is_empty() {
-        lines.push(Bytes::copied(alloc, line)?)?;
+        add_line(lines, Bytes::copied(alloc, line)?)?;
     }
     Ok(())
 }

@@ -51,6 +51,13 @@ impl<T> Sequence<T> {
         self.items.len()
     }
 
+    /// Makes room for this many more elements.
+    pub fn reserve(&mut self, more: usize) -> Result<(), AllocError>
+        ensures { self.new ≡ self.old }
+    {
+        self.items.reserve(more)
+    }
+
     /// Puts an element after the others. After out of memory the list is as before.
     pub fn push(&mut self, item: T) -> Result<(), AllocFailed<T>>
         ensures ok { OnOk result (self.new ≡ self.old ++ item ∷ []) }
