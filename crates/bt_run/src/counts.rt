@@ -41,12 +41,18 @@ pub fn count_calls(steps: &[Shared<Step>]) -> Result<Calls, AllocError>
     Ok(calls)
 }
 
+fn calls_of(calls: &Calls, builtin: Builtin) -> u64
+    ensures { result ≡ calls_in calls.now (place_of builtin) }
+{
+    calls[builtin.place()]
+}
+
 fn sum_of_calls(calls: &Calls, builtins: &[Builtin]) -> Result<u64, AllocError>
     ensures { IfOk result (λ sum. sum ≡ sum_by (λ b. calls_in calls.now (place_of b)) builtins.now) }
 {
     let mut sum: u64 = 0;
     'builtins: for builtin in builtins {
-        sum = sum.checked_add(calls[builtin.place()]).ok_or(AllocError)?;
+        sum = sum.checked_add(calls_of(calls, *builtin)).ok_or(AllocError)?;
     }
     Ok(sum)
 }
@@ -99,7 +105,7 @@ fn tell_rows(
     ensures { OnOk result (log.new ≡ log.old ++ map (function_line (calls_in calls.now)) builtins.now) }
 {
     'builtins: for builtin in builtins {
-        let count = calls[builtin.place()];
+        let count = calls_of(calls, *builtin);
         log.push(row_told(alloc, *builtin, count)?)?;
     }
     Ok(())
