@@ -1,36 +1,15 @@
-//! Reads whole files, and writes them so that a kill leaves the old file or the new one.
+//! Writes files so that a kill leaves the old file or the new one.
 //!
 //! A file's new text goes into a draft beside it, under a name that nothing has yet, and the draft takes the file's name once
 //! it is whole. Some files are written over instead: what isn't an ordinary file, such as a device; a file that has a second
 //! name, which would keep the old text; somebody else's file, which would change hands; and one beside which nothing can be
 //! made.
 
-use bt_text::Bytes;
+use bt_search::folder_of;
 use std::alloc::{AllocError, Global};
 use std::fs::{self, File, OpenOptions};
-use std::io::{ErrorKind, Read, Write};
+use std::io::{ErrorKind, Write};
 use std::os::unix::fs::MetadataExt;
-
-/// The bytes of a file, or `None` if there is none of this name that can be read. The one error is out of memory.
-pub fn read(alloc: Global, rt: &HostRuntime, path: &str) -> Result<Option<Bytes>, AllocError> {
-    let Ok(mut file) = fs::open(rt, path) else {
-        return Ok(None);
-    };
-    let mut bytes = Vec::new(alloc);
-    match file.read_to_end(&mut bytes) {
-        Ok(_) => Ok(Some(Bytes::from_vec(bytes))),
-        Err(fault) if fault.kind() == ErrorKind::OutOfMemory => Err(AllocError),
-        Err(_) => Ok(None),
-    }
-}
-
-/// The part of a path up to its last slash.
-pub fn folder_of(path: &str) -> &str {
-    match path.rsplit_once('/') {
-        Some((folder, _)) => path.get(..folder.len() + 1).unwrap_or(""),
-        None => "",
-    }
-}
 
 /// Whether a file can be opened for writing. One that isn't there is made if `create` says so.
 fn opens(rt: &HostRuntime, path: &str, create: bool) -> bool {

@@ -7,8 +7,6 @@ mod guard;
 mod hints;
 mod options;
 mod report;
-mod script;
-mod search;
 mod takeover;
 mod version;
 
@@ -16,12 +14,11 @@ use crate::disk::Output;
 use crate::guard::Rule;
 use crate::options::{Options, Request, parse};
 use crate::report::complain;
-use crate::script::{BETWEEN, FILES_WANTED, HAND_OVER, Script};
-use crate::search::Search;
 use crate::version::VERSION;
 use bt_job::File;
 use bt_log::{Message, log_bytes};
 use bt_run::Answers;
+use bt_search::{FILES_WANTED, HAND_OVER, Script, Search};
 use bt_text::Bytes;
 use std::alloc::{AllocError, Global};
 use std::io::ErrorKind;
@@ -40,18 +37,6 @@ fn out_of_memory(rt: &HostRuntime) -> ExitCode {
     ExitCode::FAILURE
 }
 
-/// What `kpsewhich` is asked for: the styles and databases that are missing, and `BETWEEN` after each.
-fn question(alloc: Global, missing: &[Bytes]) -> Result<Bytes, AllocError> {
-    let mut question = Bytes::new(alloc);
-    'names: for name in missing {
-        let name = name.as_slice();
-        if !name.ends_with(b".aux") {
-            question.append_all(&[name, b"\n", BETWEEN, b"\n"])?;
-        }
-    }
-    Ok(question)
-}
-
 /// Asks the script to find missing files, if there are any that it hasn't looked for. The exit status says whether that
 /// succeeded.
 fn ask_for_files(
@@ -59,15 +44,10 @@ fn ask_for_files(
     script: &Script,
     missing: &[Bytes],
 ) -> Result<Option<u8>, AllocError> {
-    if !script.can_search() {
-        return Ok(None);
-    }
-    let question = question(rt.alloc(), missing)?;
-    if question.len() == 0 {
-        return Ok(None);
-    }
-    if script.ask(rt, question.as_slice()) {
-        return Ok(Some(FILES_WANTED));
+    match script.ask_for_files(rt, missing)? {
+        None => return Ok(None),
+        Some(true) => return Ok(Some(FILES_WANTED)),
+        Some(false) => {}
     }
     complain(
         rt,

@@ -2,7 +2,7 @@
 //! programs of the machine; it tells of them by environment variables, and reads what is asked of it from a file of its
 //! own that one of them names.
 
-use crate::disk;
+use crate::reading::read;
 use bt_text::Bytes;
 use indexmap::IndexMap;
 use std::alloc::{AllocError, Global};
@@ -45,7 +45,7 @@ fn variable(rt: &HostRuntime, name: &str) -> Result<Option<String>, AllocError> 
 }
 
 /// What stands between two answers of `kpsewhich`: it is asked for this file too, after each name.
-pub const BETWEEN: &[u8] = b"/dev/null";
+const BETWEEN: &[u8] = b"/dev/null";
 
 /// What `kpsewhich` was asked for up to an empty line, and behind it its answers in the same order. A file that it didn't
 /// find has none, and the first of several counts.
@@ -76,10 +76,22 @@ fn places(alloc: Global, text: &[u8]) -> Result<Places, AllocError> {
 
 /// What `kpsewhich` found, as a file tells it.
 fn places_in(alloc: Global, rt: &HostRuntime, path: &str) -> Result<Places, AllocError> {
-    match disk::read(alloc, rt, path)? {
+    match read(alloc, rt, path)? {
         Some(text) => places(alloc, text.as_slice()),
         None => Ok(IndexMap::new(alloc)),
     }
+}
+
+/// What `kpsewhich` is asked for: the styles and databases that are missing, and `BETWEEN` after each.
+fn question(alloc: Global, missing: &[Bytes]) -> Result<Bytes, AllocError> {
+    let mut question = Bytes::new(alloc);
+    'names: for name in missing {
+        let name = name.as_slice();
+        if !name.ends_with(b".aux") {
+            question.append_all(&[name, b"\n", BETWEEN, b"\n"])?;
+        }
+    }
+    Ok(question)
 }
 
 impl Script {
@@ -106,7 +118,7 @@ impl Script {
     }
 
     /// Whether the script can be asked where files are.
-    pub fn can_search(&self) -> bool {
+    fn can_search(&self) -> bool {
         self.asking.is_some() && self.places.is_none()
     }
 
@@ -116,6 +128,23 @@ impl Script {
             Some(path) => fs::write(rt, path.as_str(), text).is_ok(),
             None => false,
         }
+    }
+
+    /// Asks the script to find missing files, and says whether that succeeded; none if there are none that it hasn't looked
+    /// for.
+    pub fn ask_for_files(
+        &self,
+        rt: &HostRuntime,
+        missing: &[Bytes],
+    ) -> Result<Option<bool>, AllocError> {
+        if !self.can_search() {
+            return Ok(None);
+        }
+        let question = question(rt.alloc(), missing)?;
+        if question.len() == 0 {
+            return Ok(None);
+        }
+        Ok(Some(self.ask(rt, question.as_slice())))
     }
 
     /// The path that `kpsewhich` found for a name.

@@ -2,7 +2,7 @@
 //! them, and, for `.aux` files, beside the job's own. All names are looked up, also those after one that is missing, so that
 //! `kpsewhich` is asked once.
 
-use crate::disk::{self, folder_of};
+use crate::reading::{folder_of, read};
 use crate::script::Script;
 use bt_front::names_of;
 use bt_job::File;
@@ -62,7 +62,7 @@ impl<'a> Search<'a> {
 
     fn read(&self, path: &[u8]) -> Result<Option<Bytes>, AllocError> {
         match str::from_utf8(path) {
-            Ok(path) => disk::read(self.alloc, self.rt, path),
+            Ok(path) => read(self.alloc, self.rt, path),
             Err(_) => Ok(None),
         }
     }
