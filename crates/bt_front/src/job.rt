@@ -14,7 +14,7 @@ use bt_bib::{AuxItem, Command, read_aux};
 use bt_files::{Names, all_put_back, is_own_name, written};
 use bt_job::{File, file_name_of};
 use bt_log::{log_bytes, terse_bytes};
-use bt_run::{Answers, run_once};
+use bt_run::{Answers, Kept, Readings, Run, answers_after, run_once};
 use bt_text::{Bytes, Sequence, Shared};
 use std::alloc::{AllocError, Global};
 
@@ -227,4 +227,35 @@ pub fn run(alloc: Global, files: &[File], root: &[u8], min: u32) -> Result<Answe
     let shown = run_once(alloc, under.as_slice(), root.as_slice(), min)?;
     let told = told_under(alloc, &names, shown)?;
     Ok(told)
+}
+
+/// As `run`, with the steps of the run and what it read of the files. Both are under the session's names.
+#[tactic(auto, unfolding(crate::specs::Job::job_meaning))]
+pub fn run_keeping_steps(
+    alloc: Global,
+    files: &[File],
+    root: &[u8],
+    min: u32,
+) -> Result<Run, AllocError>
+    ensures { IfOk result (λ run. meaning_of run.answers ≡ job_meaning files.now root.now min) }
+{
+    let names = table_of(alloc, files, root)?;
+    let under = files_under(alloc, &names, files)?;
+    let root = root_under(alloc, root)?;
+    let (kept, readings) = (Kept::nothing(alloc), Readings::nothing(alloc));
+    let run = answers_after(
+        alloc,
+        under.as_slice(),
+        root.as_slice(),
+        min,
+        &kept,
+        readings,
+    )?;
+    let answers = told_under(alloc, &names, run.answers)?;
+    Ok(Run {
+        answers,
+        kept: run.kept,
+        readings: run.readings,
+        report: run.report,
+    })
 }

@@ -4,4 +4,4 @@
 
 mod job;
 
-pub use job::{names_of, run};
+pub use job::{names_of, run, run_keeping_steps};
