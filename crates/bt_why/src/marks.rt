@@ -1,0 +1,161 @@
+//! Marks: where the bytes of texts come from, and which words of the style put them there.
+
+use bt_style::Builtin;
+use std::alloc::{AllocError, Global};
+
+/// What a byte comes from.
+#[derive(Clone, Copy, PartialEq, Eq)]
+pub enum Source {
+    /// The constant of this number in the style.
+    Literal(usize),
+    /// The double quote that `quote$` pushes.
+    Quote,
+    /// The field of this number, of the step's entry.
+    Field(usize),
+    /// The key of the step's entry.
+    Key,
+    /// The type of the step's entry.
+    Type,
+    Preamble,
+    /// The space before a line that was broken off.
+    Indent,
+    /// What a built-in function made of the byte with this mark, such as a letter in another case.
+    Made(Builtin, usize),
+    /// A byte that a built-in function put among those with this mark, such as a tie in a name, or made of a number.
+    Added(Builtin, Option<usize>),
+    /// A byte that a built-in function put behind a text, such as the full stop of `add.period$`.
+    Put(Builtin),
+}
+
+/// A word of the style that runs: the number of the call in which it runs, and its line.
+#[derive(Clone, Copy, PartialEq, Eq)]
+pub struct Site {
+    pub call: usize,
+    pub line: usize,
+}
+
+/// A call of a function.
+#[derive(Clone, Copy)]
+pub struct Call {
+    /// The function; none for the command of a step.
+    pub function: Option<usize>,
+    /// The word that called it.
+    pub from: Site,
+    /// The number of the step, from 0.
+    pub step: usize,
+}
+
+/// A source, and the word that pushed what came from it.
+#[derive(Clone, Copy)]
+pub struct Mark {
+    pub source: Source,
+    pub site: Site,
+}
+
+/// The marks and calls of a run. Texts and marks name them by number.
+#[derive(Drop)]
+pub struct Marks {
+    marks: Vec<Mark>,
+    calls: Vec<Call>,
+}
+
+impl Marks {
+    pub fn new(alloc: Global) -> Marks {
+        Marks {
+            marks: Vec::new(alloc),
+            calls: Vec::new(alloc),
+        }
+    }
+
+    /// Notes a mark, and returns its number.
+    pub fn note(&mut self, source: Source, site: Site) -> Result<usize, AllocError> {
+        let number = self.marks.len();
+        self.marks.push(Mark { source, site })?;
+        Ok(number)
+    }
+
+    /// Notes a call, and returns its number.
+    pub fn enter(
+        &mut self,
+        function: Option<usize>,
+        from: Site,
+        step: usize,
+    ) -> Result<usize, AllocError> {
+        let number = self.calls.len();
+        self.calls.push(Call {
+            function,
+            from,
+            step,
+        })?;
+        Ok(number)
+    }
+
+    pub fn mark(&self, number: usize) -> Option<Mark> {
+        self.marks.get(number).copied()
+    }
+
+    pub fn call(&self, number: usize) -> Option<Call> {
+        self.calls.get(number).copied()
+    }
+
+    /// The step in which a word ran.
+    pub fn step(&self, site: Site) -> Option<usize> {
+        Some(self.call(site.call)?.step)
+    }
+
+    fn mark_of(&self, number: Option<usize>) -> Option<Mark> {
+        self.mark(number?)
+    }
+
+    /// The mark of what built-in functions made the bytes of a mark of; none if they made them of a number.
+    pub fn root(&self, number: usize) -> Option<usize> {
+        let mut number = number;
+        for _ in 0..self.marks.len() {
+            match self.mark(number)?.source {
+                Source::Made(_, of) => number = of,
+                Source::Added(_, of) => number = of?,
+                _ => return Some(number),
+            }
+        }
+        None
+    }
+
+    /// The built-in functions through which the bytes of a mark went, the last one first.
+    pub fn makers(&self, alloc: Global, number: usize) -> Result<Vec<Builtin>, AllocError> {
+        let mut makers = Vec::new(alloc);
+        let mut next = Some(number);
+        for _ in 0..self.marks.len() {
+            let Some(mark) = self.mark_of(next) else {
+                return Ok(makers);
+            };
+            let (by, of) = match mark.source {
+                Source::Made(by, of) => (by, Some(of)),
+                Source::Added(by, of) => (by, of),
+                Source::Put(by) => (by, None),
+                _ => return Ok(makers),
+            };
+            if !makers.contains(&by) {
+                makers.push(by)?;
+            }
+            next = of;
+        }
+        Ok(makers)
+    }
+
+    /// The calls of functions in which a word ran, the innermost first, each with the line that ran in it.
+    pub fn calls_of(&self, alloc: Global, site: Site) -> Result<Vec<(usize, usize)>, AllocError> {
+        let mut calls = Vec::new(alloc);
+        let mut site = site;
+        for _ in 0..self.calls.len() {
+            let Some(call) = self.call(site.call) else {
+                return Ok(calls);
+            };
+            let Some(function) = call.function else {
+                return Ok(calls);
+            };
+            calls.push((function, site.line))?;
+            site = call.from;
+        }
+        Ok(calls)
+    }
+}
