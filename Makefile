@@ -2,7 +2,7 @@
 #                 (JOBS=N: N crates at a time)
 # make run        shows the bibliography of the paper in examples/: by the built program, or, where it isn't built, unproved
 # make test       the gate: every proof from nothing, the edits that must be refused, the tests, the built program's output
-# make install    puts bibtex, bibtex-check and bibtex-lsp into PREFIX/bin, and its parts into PREFIX/lib and PREFIX/share (PREFIX=/usr/local; DESTDIR goes before it)
+# make install    puts bibtex, bibtex-check, bibtex-why and bibtex-lsp into PREFIX/bin, and its parts into PREFIX/lib and PREFIX/share (PREFIX=/usr/local; DESTDIR goes before it)
 # make uninstall  removes exactly what `make install` put there
 # make deb        builds the Debian package out/dulshenko_VERSION_ARCH.deb from the built programs, and needs dpkg-deb
 # make dist       builds the archive out/dulshenko-VERSION-ARCH.tar.gz from them
@@ -27,14 +27,16 @@ JOB_PROGRAM := crates/job_program/out/job_program
 CHECK_PROGRAM := crates/style_check/out/style_check
 # The language server.
 LSP_PROGRAM := crates/bibtex_lsp/out/bibtex_lsp
+# It says where lines of a bibliography come from.
+WHY_PROGRAM := crates/why_program/out/why_program
 SOURCES := crates.txt $(shell find crates/*/src crates/*/specs crates/*/proofs 2>/dev/null)
 
 .PHONY: build run test check built install uninstall deb dist measure hostile compare try-latex try-editors try-packages
 
-build: $(PROGRAM) $(JOB_PROGRAM) $(CHECK_PROGRAM) $(LSP_PROGRAM)
+build: $(PROGRAM) $(JOB_PROGRAM) $(CHECK_PROGRAM) $(LSP_PROGRAM) $(WHY_PROGRAM)
 
 # Every crate is proved, lowest first, and the programs are built only then.
-$(PROGRAM) $(JOB_PROGRAM) $(CHECK_PROGRAM) $(LSP_PROGRAM) &: $(SOURCES)
+$(PROGRAM) $(JOB_PROGRAM) $(CHECK_PROGRAM) $(LSP_PROGRAM) $(WHY_PROGRAM) &: $(SOURCES)
 	@tools/build $(JOBS)
 
 run:
@@ -51,6 +53,7 @@ test:
 	tests/lsp $(LSP_PROGRAM) --random 40 1
 	tests/lsp $(LSP_PROGRAM) --broken 300 1
 	tests/lsp $(LSP_PROGRAM) --hostile
+	tests/why $(WHY_PROGRAM)
 	tests/originals
 	tests/random
 	tests/memory
@@ -61,7 +64,7 @@ check:
 
 # Whether the programs are there and up to date. It builds nothing, so that root needs no toolchain: `make build` does. (A program is written only once it and all that it stands on are proved.)
 built:
-	@for program in $(PROGRAM) $(JOB_PROGRAM) $(CHECK_PROGRAM) $(LSP_PROGRAM); do \
+	@for program in $(PROGRAM) $(JOB_PROGRAM) $(CHECK_PROGRAM) $(LSP_PROGRAM) $(WHY_PROGRAM); do \
 	  test -x $$program || { echo "$$program isn't built: run 'make build' first." >&2; exit 1; }; \
 	  test -z "$$(find $(SOURCES) -newer $$program | head -1)" || \
 	  { echo "$$program is older than its sources: run 'make build' first." >&2; exit 1; }; \
@@ -70,16 +73,16 @@ built:
 # What is installed is laid out first, as in an archive, so that both are installed by one script. It refuses to overwrite another bibtex, and says how to go back.
 install: built
 	@room=$$(mktemp -d) && trap 'rm -rf "$$room"' EXIT && \
-	tools/tree "$$room" $(JOB_PROGRAM) $(PROGRAM) $(CHECK_PROGRAM) $(LSP_PROGRAM) && DESTDIR="$(DESTDIR)" sh "$$room/install" "$(PREFIX)"
+	tools/tree "$$room" $(JOB_PROGRAM) $(PROGRAM) $(CHECK_PROGRAM) $(LSP_PROGRAM) $(WHY_PROGRAM) && DESTDIR="$(DESTDIR)" sh "$$room/install" "$(PREFIX)"
 
 uninstall:
 	@DESTDIR="$(DESTDIR)" scripts/uninstall "$(PREFIX)"
 
 deb: built
-	@tools/deb $(JOB_PROGRAM) $(PROGRAM) $(CHECK_PROGRAM) $(LSP_PROGRAM) out
+	@tools/deb $(JOB_PROGRAM) $(PROGRAM) $(CHECK_PROGRAM) $(LSP_PROGRAM) $(WHY_PROGRAM) out
 
 dist: built
-	@tools/dist $(JOB_PROGRAM) $(PROGRAM) $(CHECK_PROGRAM) $(LSP_PROGRAM) out
+	@tools/dist $(JOB_PROGRAM) $(PROGRAM) $(CHECK_PROGRAM) $(LSP_PROGRAM) $(WHY_PROGRAM) out
 
 measure: build
 	tests/measure $(JOB_PROGRAM) $(PROGRAM) --write
@@ -100,4 +103,4 @@ try-editors:
 	tests/editors/lsp $(LSP_PROGRAM)
 
 try-packages: built
-	tests/packages $(JOB_PROGRAM) $(PROGRAM) $(CHECK_PROGRAM) $(LSP_PROGRAM)
+	tests/packages $(JOB_PROGRAM) $(PROGRAM) $(CHECK_PROGRAM) $(LSP_PROGRAM) $(WHY_PROGRAM)

@@ -1,0 +1,115 @@
+//! What became of an entry's fields.
+
+use crate::options::Format;
+use crate::places::PlacedField;
+use crate::report::Report;
+use crate::sources::decimal;
+use bt_bib::Entry;
+use bt_text::eq_ignore_ascii_case;
+use bt_why::Written;
+use std::alloc::AllocError;
+
+/// What becomes of a field.
+#[derive(Clone, Copy, PartialEq, Eq)]
+pub enum Fate {
+    Written,
+    /// A step read it, and no byte of it was written.
+    Read,
+    NeverRead,
+}
+
+impl<'a> Report<'a> {
+    /// Whether a byte of a line comes from a field of an entry.
+    fn is_from(&self, line: &[Written], key: &[u8], name: &[u8]) -> Result<bool, AllocError> {
+        let mut last = None;
+        for written in line {
+            let mark = written.marked.mark;
+            if last != Some(mark) && self.sources.is_from(mark, key, name)? {
+                return Ok(true);
+            }
+            last = Some(mark);
+        }
+        Ok(false)
+    }
+
+    fn is_written(&self, key: &[u8], name: &[u8]) -> Result<bool, AllocError> {
+        for line in &self.sources.explained.lines {
+            if self.is_from(line.as_slice(), key, name)? {
+                return Ok(true);
+            }
+        }
+        Ok(false)
+    }
+
+    fn is_read(&self, key: &[u8], name: &[u8]) -> Result<bool, AllocError> {
+        let sources = self.sources;
+        for (step, field) in &sources.explained.fields {
+            if eq_ignore_ascii_case(sources.field_name(*field), name)
+                && let Some(own) = sources.key(*step)
+                && sources.has_from(own, name, key)?
+            {
+                return Ok(true);
+            }
+        }
+        Ok(false)
+    }
+
+    fn fate(&self, key: &[u8], name: &[u8]) -> Result<Fate, AllocError> {
+        if self.is_written(key, name)? {
+            Ok(Fate::Written)
+        } else if self.is_read(key, name)? {
+            Ok(Fate::Read)
+        } else {
+            Ok(Fate::NeverRead)
+        }
+    }
+
+    /// The entry's fields of a fate.
+    fn fields_of(&self, key: &[u8], fate: Fate) -> Result<Vec<PlacedField<'a>>, AllocError> {
+        let mut fields = Vec::new(self.sources.alloc);
+        let Some(place) = self.sources.places.entry(key)? else {
+            return Ok(fields);
+        };
+        let entry: &'a Entry = place.entry;
+        for field in entry.fields.as_slice() {
+            let name = field.name.as_slice();
+            if let Some(placed) = place.field(name)
+                && self.fate(key, name)? == fate
+            {
+                fields.push(placed)?;
+            }
+        }
+        Ok(fields)
+    }
+
+    fn add_fates(
+        &mut self,
+        key: &[u8],
+        fate: Fate,
+        heading: &'static [u8],
+    ) -> Result<(), AllocError> {
+        let mut between: &'static [u8] = heading;
+        for placed in self.fields_of(key, fate)? {
+            let name = placed.field.name.as_slice();
+            if self.format == Format::Json {
+                self.add_json_fate(name, placed.file, placed.line, fate)?;
+            } else {
+                let line = decimal(self.sources.alloc, placed.line)?;
+                self.text.append(between)?;
+                self.text
+                    .append_all(&[name, b" (", placed.file, b":", line.as_slice(), b")"])?;
+                between = b", ";
+            }
+        }
+        if between == b", ".as_slice() {
+            self.text.append(b"\n")?;
+        }
+        Ok(())
+    }
+
+    /// Adds the fields of an entry that aren't in the bibliography.
+    pub fn add_fields(&mut self, key: &[u8]) -> Result<(), AllocError> {
+        self.add_fates(key, Fate::Read, b"only tested: ")?;
+        self.add_fates(key, Fate::NeverRead, b"never read: ")
+    }
+}
