@@ -18,7 +18,9 @@ use Rattle.bt_mentions.specs.Databases.{part}
 use Rattle.bt_lsp.specs.declared.references.Wanted.{Wanted}
 use Rattle.bt_lsp.specs.declared.references.Wanted.TheVariants.{Keys, Macros, Definitions}
 use Rattle.bt_lsp.specs.Actions.{repeated, removal_of, actions_if_any}
-use Rattle.bt_lsp.specs.Entries.{is_style, is_database}
+use Rattle.bt_lsp.specs.declared.hints.Names.TheVariants.{Entries, Asked}
+use Rattle.bt_lsp.specs.Hints.{is_small, collected, missing_hint, unused_hint, is_missing_at, is_unused_at, with_missing, with_unused, asks_all, with_missing_among, with_missing_if_any, with_all_missing, with_unused_beside, with_unused_if_any, with_all_unused, with_hints}
+use Rattle.bt_lsp.specs.Entries.{is_style, is_tex, is_database}
 use Rattle.bt_mentions.specs.declared.layout.Gap.{Gap}
 use Rattle.bt_mentions.specs.Gaps.{gaps}
 use Rattle.bt_lsp.specs.Formatting.{layout, with_gap, with_gaps, formatted}
@@ -186,3 +188,29 @@ actions_plain d None = refl
 actions_plain d (Some at) =
     none_or (not (is_database d.name) || nat_lt 1073741824 (length d.text)) (removal_of d (repeated (offset_of d.counting at d.text) (pieces_of d.text)))
     (removal_plain d (repeated (offset_of d.counting at d.text) (pieces_of d.text)))
+
+-- ---- hints
+
+among_plain : (known : List (List ℕ)) (d : Document) (list : List Data) → AllByRecursion HasNoFloat list → AllByRecursion HasNoFloat (with_missing_among known d list)
+among_plain known d list p =
+    picked_plain (λ u. with_missing d.counting known)
+    (λ u t l m q. pushed_plain (is_missing_at known t m) (missing_hint (range_of d.counting t m.from m.to)) l refl q) list d.name d.text p
+
+missing_plain : (known : List (List ℕ)) (d : Document) (list : List Data) → AllByRecursion HasNoFloat list → AllByRecursion HasNoFloat (with_missing_if_any known d list)
+missing_plain [] d list p = p
+missing_plain (k ∷ known) d list p = among_plain (k ∷ known) d list p
+
+beside_plain : (asked : List (List ℕ)) (d : Document) (list : List Data) → AllByRecursion HasNoFloat list → AllByRecursion HasNoFloat (with_unused_beside asked d list)
+beside_plain asked d list p =
+    picked_plain (λ u. with_unused d.counting asked)
+    (λ u t l m q. pushed_plain (is_unused_at asked t m) (unused_hint (range_of d.counting t m.from m.to)) l refl q) list d.name d.text p
+
+unused_plain : (asked : List (List ℕ)) (d : Document) (list : List Data) → AllByRecursion HasNoFloat list → AllByRecursion HasNoFloat (with_unused_if_any asked d list)
+unused_plain asked d list p = either_plain (asks_all asked) list (with_unused_beside asked d list) p (beside_plain asked d list p)
+
+pub hints_plain : (files : List (List ℕ × List ℕ)) (d : Document) (list : List Data) → AllByRecursion HasNoFloat list → AllByRecursion HasNoFloat (with_hints files d list)
+hints_plain files d list p =
+    let database = if is_database d.name && d.in_step then with_all_unused files d list else list in
+    either_plain (is_small files) (if is_tex d.name then with_all_missing files d list else database) list
+    (either_plain (is_tex d.name) (with_all_missing files d list) database (missing_plain (collected Entries files) d list p)
+    (either_plain (is_database d.name && d.in_step) (with_all_unused files d list) list (unused_plain (collected Asked files) d list p) p)) p

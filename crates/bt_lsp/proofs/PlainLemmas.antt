@@ -32,6 +32,7 @@ use Rattle.bt_lsp.specs.declared.server.Phase.TheVariants.{New, Ready, ShutDown}
 use Rattle.bt_lsp.specs.declared.server.Server.{Server}
 use Rattle.bt_lsp.specs.Shown.{Shown}
 use Rattle.bt_lsp.specs.Shapes.{range_of, location, diagnostic, published}
+use Rattle.bt_lsp.specs.Hints.{with_hints}
 use Rattle.bt_lsp.specs.News.{news, shown_of, published_of, warned, cleared, cleared_at}
 use Rattle.bt_lsp.specs.Parameters.{document_of, place_of, text_at, position_at}
 use Rattle.bt_lsp.specs.Entries.{key_of, kind_of, field_of, name_of, symbol_kind, item_around, is_database}
@@ -40,7 +41,7 @@ use Rattle.bt_lsp.specs.Mentioning.{mention_at}
 use Rattle.bt_lsp.specs.References.{macro_at}
 use Rattle.bt_lsp.specs.Renaming.{mention_range}
 use Rattle.bt_lsp.proofs.PlainLists.{items_plain, all_both, none_or, some_or_null, if_plain}
-use Rattle.bt_lsp.proofs.FeaturePlain.{OptionIsPlain, macro_plain, references_plain, renamed_plain, range_plain, folds_plain, found_symbols_plain, macros_plain, fields_plain, formatted_plain, actions_plain}
+use Rattle.bt_lsp.proofs.FeaturePlain.{OptionIsPlain, macro_plain, references_plain, renamed_plain, range_plain, folds_plain, found_symbols_plain, macros_plain, fields_plain, formatted_plain, actions_plain, hints_plain}
 use Rattle.bt_lsp.specs.Finding.{place_in, location_in, or_else, found_in, found_at}
 use Rattle.bt_mentions.specs.Citing.{is_citing}
 use Rattle.bt_lsp.specs.Citing.{candidate_if_any, candidate_of, candidates_of, candidates_from, candidates_in, citation_at}
@@ -65,7 +66,7 @@ published_note uri list p = (refl, rw (items_plain list p) refl)
 news_notes : (shown : Shown) (docs : List Document) → AllByRecursion IsNote (news shown docs)
 news_notes shown [] = tt
 news_notes shown (d ∷ ds) =
-    (published_note d.name (map diagnostic (shown_of shown d)) (diagnostics_plain (shown_of shown d)), news_notes shown ds)
+    (published_note d.name (with_hints shown.files d (map diagnostic (shown_of shown d))) (hints_plain shown.files d (map diagnostic (shown_of shown d)) (diagnostics_plain (shown_of shown d))), news_notes shown ds)
 
 warned_notes : (lost : Bool) → AllByRecursion IsNote (warned lost)
 warned_notes true = ((refl, refl), tt)

@@ -8,6 +8,7 @@ pub mod Entries
 pub mod Hover
 pub mod Mentioning
 pub mod Picking
+pub mod Hints
 pub mod News
 pub mod Visiting
 pub mod References

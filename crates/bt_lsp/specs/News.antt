@@ -10,6 +10,7 @@ use Rattle.bt_lsp.specs.declared.methods.Notice.{Notice}
 use Rattle.bt_lsp.specs.declared.methods.Notice.TheVariants.{Opened, Changed, Closed, Saved, Exit, Other}
 use Rattle.bt_lsp.specs.Shown.{Shown}
 use Rattle.bt_lsp.specs.Parameters.{text_at}
+use Rattle.bt_lsp.specs.Hints.{with_hints}
 use Rattle.bt_lsp.specs.Shapes.{diagnostic, published}
 
 -- the diagnostics of a document whose file has this name in the run, if it has one
@@ -23,9 +24,9 @@ abbrev pub shown_of : Shown → Document → List Diagnostic
 shown_of shown d =
     if not d.in_step || nat_lt 1073741824 (length d.text) then [] else shown_as (shown.name d.name) shown.messages d
 
--- the notification that publishes them
+-- the notification that publishes them, and the hints
 abbrev pub published_of : Shown → Document → Data
-published_of shown d = published d.name (map diagnostic (shown_of shown d))
+published_of shown d = published d.name (with_hints shown.files d (map diagnostic (shown_of shown d)))
 
 -- the diagnostics of each open document
 abbrev pub news : Shown → List Document → List Data

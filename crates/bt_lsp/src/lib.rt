@@ -15,6 +15,7 @@ mod fields;
 mod finding;
 mod folding;
 mod formatting;
+mod hints;
 mod hover;
 mod mentioning;
 mod methods;

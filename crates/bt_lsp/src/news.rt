@@ -5,6 +5,7 @@ ghost use Rattle.serde_json.specs.View.{view};
 ghost use Rattle.bt_lsp.specs.News.{shown_of, published_of, warning_params, warning, warned, cleared, news};
 ghost use Rattle.bt_lsp.specs.Shapes.{published};
 
+use crate::hints::with_hints;
 use crate::methods::Notice;
 use crate::paper::Paper;
 use crate::parameters::text_at;
@@ -51,6 +52,7 @@ fn published_of<P: Paper>(
 {
     let shown = shown_of(alloc, paper, document)?;
     let list = diagnostic_values(alloc, shown.as_slice())?;
+    let list = with_hints(alloc, paper, document, list)?;
     published(alloc, document.name.as_slice(), list)
 }
 
