@@ -54,7 +54,7 @@ published uri list = notification (codes "textDocument/publishDiagnostics") (pub
 abbrev pub hover : List ℕ → Data
 hover lines =
     object (member (codes "contents") (object (member (codes "kind") (string (codes "markdown"))
-    (member (codes "value") (string (codes "```latex\n" ++ utf8_lossy lines ++ codes "```")) no_members))) no_members)
+    (member (codes "value") (string (codes "```tex\n" ++ utf8_lossy lines ++ codes "```")) no_members))) no_members)
 
 -- the bibliography or the log, with the run's status
 abbrev pub shown_text : List ℕ → ℕ → Data

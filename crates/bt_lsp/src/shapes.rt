@@ -88,7 +88,7 @@ pub fn hover(alloc: Global, lines: &[u8]) -> Result<Value, AllocError>
     ensures { IfOk result (λ v. view v ≡ hover lines.now) }
 {
     let words = shown(alloc, lines)?;
-    let value = format!(in alloc; "```latex\n{words}```")?;
+    let value = format!(in alloc; "```tex\n{words}```")?;
     json!(in alloc; {"contents": {"kind": "markdown", "value": value}})
 }
 
