@@ -31,7 +31,8 @@ use Rattle.bt_lsp.specs.References.{is_definition, is_mention, wanted_of, with_r
 use Rattle.bt_lsp.specs.Renaming.{text_edit, with_edit, file_edit, with_file_edit, with_renamed, can_be_named, is_free, renamed, renamed_of, mention_range}
 use Rattle.bt_style.specs.Program.{Program}
 use Rattle.bt_lsp.specs.Fields.{program, has_field, field_candidate, with_field, with_program, with_style, field_candidates}
-use Rattle.bt_lsp.specs.Completing.{macro_candidate, with_macro, with_macros, macro_candidates}
+use Rattle.bt_lsp.specs.Completing.{with_macro, with_macros, macro_candidates}
+use Rattle.bt_lsp.specs.StyleMacros.{macro_candidate, with_style_macro, with_program_macros, with_macros_of}
 use Rattle.bt_lsp.specs.Symbols.{query_of, is_symbol, symbol_at, with_symbol, with_symbols, symbols}
 use Rattle.bt_lsp.specs.Shapes.{location, range_of}
 use Rattle.bt_lsp.specs.Visiting.{with_files, with_texts, is_any}
@@ -121,8 +122,18 @@ added_macros_plain : (list : List Data) (uri text : List ℕ) → AllByRecursion
 added_macros_plain list uri text p =
     picked_plain (λ u. with_macro) (λ u t l m q. pushed_plain (is_definition m.role) (macro_candidate (part m.from m.to t)) l refl q) list uri text p
 
+style_macro_plain : (list : List Data) (p : Option Program) → AllByRecursion HasNoFloat list → AllByRecursion HasNoFloat (with_program_macros list p)
+style_macro_plain list None p = p
+style_macro_plain list (Some q) p =
+    fold_plain with_style_macro (λ l m r. all_both HasNoFloat l (macro_candidate m.name ∷ []) r (refl, tt)) q.macros list p
+
+style_macros_plain : (list : List Data) (uri words : List ℕ) → AllByRecursion HasNoFloat list → AllByRecursion HasNoFloat (with_macros_of list uri words)
+style_macros_plain list uri words p =
+    either_plain (is_style uri) (with_program_macros list (program words)) list (style_macro_plain list (program words) p) p
+
 pub macros_plain : (files : List (List ℕ × List ℕ)) → AllByRecursion HasNoFloat (macro_candidates files)
-macros_plain files = files_plain with_macros added_macros_plain files [] tt
+macros_plain files =
+    files_plain with_macros_of style_macros_plain files (with_files with_macros files []) (files_plain with_macros added_macros_plain files [] tt)
 
 -- ---- fields
 

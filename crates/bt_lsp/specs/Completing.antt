@@ -1,7 +1,7 @@
 -- Completes fields, keys and macros in a database, and keys in citations.
 use Rattle.std.specs.Prelude.{ℕ, ◌==◌, ◌&&◌, Bool, if◌then◌else◌, List, [], ◌∷◌, ◌++◌, codes, Option, Some, None}
 use Rattle.std.specs.List.{list_any}
-use Rattle.serde_json.specs.Data.{Data, null, number, unsigned, array, object, member, no_members}
+use Rattle.serde_json.specs.Data.{Data, null, array}
 use Rattle.serde_json.specs.View.{items_of}
 use Rattle.bt_bib.specs.BibText.{pieces_of}
 use Rattle.bt_bib.specs.declared.item.Field.{Field}
@@ -20,7 +20,7 @@ use Rattle.bt_lsp.specs.Entries.{fields_of, item_around, is_database}
 use Rattle.bt_lsp.specs.Fields.{field_candidates}
 use Rattle.bt_lsp.specs.Picking.{with_picked}
 use Rattle.bt_lsp.specs.References.{is_definition}
-use Rattle.bt_lsp.specs.Shapes.{text}
+use Rattle.bt_lsp.specs.StyleMacros.{macro_candidate, with_style_macros}
 use Rattle.bt_lsp.specs.Visiting.{with_files}
 
 -- whether a text has a comma
@@ -52,11 +52,6 @@ abbrev pub present_in : Option PlacedPiece → List Field
 present_in None = []
 present_in (Some p) = fields_of p.piece
 
--- what a completion offers for a macro
-abbrev pub macro_candidate : List ℕ → Data
-macro_candidate name =
-    object (member (codes "kind") (number (unsigned 21)) (member (codes "label") (text name) no_members))
-
 -- a list with what is offered for a mention, if a macro is defined there
 abbrev pub with_macro : List ℕ → List Data → Mention → List Data
 with_macro words list m =
@@ -66,9 +61,9 @@ with_macro words list m =
 abbrev pub with_macros : List Data → List ℕ → List ℕ → List Data
 with_macros list uri words = with_picked (λ u. with_macro) list uri words
 
--- what is offered for the macros of files
+-- what is offered for the macros of files: those of databases, and those that the style defines
 abbrev pub macro_candidates : List (List ℕ × List ℕ) → List Data
-macro_candidates files = with_files with_macros files []
+macro_candidates files = with_style_macros files (with_files with_macros files [])
 
 -- what is offered from files to an entry that has these fields
 abbrev pub offers : List (List ℕ × List ℕ) → List Field → Offer → Data

@@ -15,6 +15,7 @@ pub mod References
 pub mod Renaming
 pub mod Symbols
 pub mod Fields
+pub mod StyleMacros
 pub mod Completing
 pub mod Formatting
 pub mod Actions

@@ -2,7 +2,8 @@
 
 ghost use Rattle.std.specs.Prelude.{◌≡◌, ◌++◌, ◌∷◌, [], map, option_map, IfOk};
 ghost use Rattle.serde_json.specs.View.{view};
-ghost use Rattle.bt_lsp.specs.Completing.{has_comma, offer_at, start_or, present_in, macro_candidate, macro_candidates, offers, offers_around, database_at, completion_at};
+ghost use Rattle.bt_lsp.specs.StyleMacros.{macro_candidate};
+ghost use Rattle.bt_lsp.specs.Completing.{has_comma, offer_at, start_or, present_in, macro_candidates, offers, offers_around, database_at, completion_at};
 
 use crate::citing::{candidates, citation_at};
 use crate::entries::{fields_of, is_database, item_around};
@@ -10,6 +11,7 @@ use crate::fields::field_candidates;
 use crate::paper::Paper;
 use crate::picking::{Pick, with_picked};
 use crate::references::is_definition;
+use crate::style_macros::with_style_macros;
 use crate::visiting::{Visit, with_files, with_value};
 use crate::words::shown;
 use bt_bib::{Field, PlacedPiece, read_bib};
@@ -78,7 +80,8 @@ fn macro_candidate(alloc: Global, name: &[u8]) -> Result<Value, AllocError>
     json!(in alloc; {"label": name, "kind": 21})
 }
 
-fn with_name(alloc: Global, name: &[u8], list: Vec<Value>) -> Result<Vec<Value>, AllocError>
+/// A list with what is offered for a macro.
+pub fn with_name(alloc: Global, name: &[u8], list: Vec<Value>) -> Result<Vec<Value>, AllocError>
     ensures { IfOk result (λ all. map view all.items ≡ map view list.items ++ macro_candidate name.now ∷ []) }
 {
     let candidate = macro_candidate(alloc, name)?;
@@ -126,7 +129,9 @@ fn macro_candidates<P: Paper>(alloc: Global, paper: &P) -> Result<Vec<Value>, Al
     ensures { IfOk result (λ list. map view list.items ≡ macro_candidates (P.shown paper.now).files) }
 {
     let names = MacroNames;
-    with_files(alloc, paper, &names, Vec::new(alloc))
+    let list = with_files(alloc, paper, &names, Vec::new(alloc))?;
+    let all = with_style_macros(alloc, paper, list)?;
+    Ok(all)
 }
 
 fn offers<P: Paper>(

@@ -22,7 +22,7 @@ struct Offered<'a> {
 }
 
 /// The style that a text spells, if it has no fault.
-fn program(alloc: Global, text: &[u8]) -> Result<Option<Style>, AllocError>
+pub fn program(alloc: Global, text: &[u8]) -> Result<Option<Style>, AllocError>
     ensures { IfOk result (λ style. option_map program_of style ≡ program text.now) }
 {
     match read_style(alloc, text) {

@@ -28,6 +28,7 @@ mod references;
 mod renaming;
 mod server;
 mod shapes;
+mod style_macros;
 mod symbols;
 mod taking;
 mod visiting;
