@@ -120,6 +120,7 @@ class Server {
       diagnostics.set(vscode.Uri.parse(message.params.uri), message.params.diagnostics.map(one => {
         const found = new vscode.Diagnostic(rangeOf(one.range), one.message, kinds[one.severity || 1]);
         found.source = one.source;
+      found.tags = one.tags; // 1 marks what is unnecessary, as in the protocol
         return found;
       }));
       shown.changed(this);
