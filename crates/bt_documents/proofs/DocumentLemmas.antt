@@ -1,12 +1,12 @@
 -- One document in the place of another.
-use Rattle.std.proofs.Common.{◌≡◌, ◌∙◌, ap, sym, refl, subst, ◌+◌, ℕ, zero, suc, Bool, true, false, not, cond, List, [], ◌∷◌, ◌++◌, take, drop, length, Option, Some, None, option_map, one-add, slice_index_or, slice_get, slice_set, ◌<◌, length-append, arith}
+use Rattle.std.proofs.Common.{◌≡◌, ◌∙◌, ap, sym, refl, subst, ◌+◌, ℕ, zero, suc, Bool, true, false, not, cond, List, [], ◌∷◌, ◌++◌, take, drop, length, Option, Some, None, option_map, one-add, slice_index_or, slice_get, slice_set, ◌<◌, length-append, arith, ◌⊎◌, inl, inr}
 use Rattle.std.specs.Prelude.{nat_lt, bytes_eq, position}
 use Rattle.std.specs.List.{AllByRecursion, position_or_len}
 use Rattle.std.proofs.Math.Dec.{leb-zero, leb-suc-suc}
 use Rattle.std.proofs.lemmas.Cmp.{nat_list_eq_equiv}
 use Rattle.std.proofs.lemmas.Slice.Eq.{bytes_eq-Decides}
 use Rattle.bt_documents.specs.declared.document.Document.{Document}
-use Rattle.bt_documents.specs.Documents.{with_document, opened, closed, EachOnce, IsInStep, Follows}
+use Rattle.bt_documents.specs.Documents.{with_document, opened, closed, IsGiven, AreGiven, EachOnce, IsInStep, Follows}
 use Rattle.bt_documents.specs.inner.Put.{IsPutAt}
 
 -- which document has a name
@@ -242,3 +242,61 @@ closed_once name (d ∷ ds) once = go (closed_once name ds once.1) (bytes_eq d.n
 
 pub closed_follows : (text : List ℕ → Option (List ℕ)) (name : List ℕ) (docs new : List Document) → new ≡ closed name docs → Follows text docs → Follows text new
 closed_follows text name docs new is now = rw is (record { once = closed_once name docs now.once; each = closed_all (IsInStep text) name docs now.each })
+
+-- Documents whose texts the files are given again
+
+some_is : {A : Type 0} (x y : A) → Some x ≡ Some y → x ≡ y
+some_is x y e = cc
+
+all_at : (P : Document → Type 0) (docs : List Document) (n : ℕ) (d : Document) → AllByRecursion P docs → slice_get docs n ≡ Some d → P d
+all_at P [] n d all at = absurd (cc)
+all_at P (x ∷ ds) zero d all at = subst P (some_is x d at) all.0
+all_at P (x ∷ ds) (suc n) d all at = all_at P ds n d all.1 at
+
+once_place : (docs : List Document) (n : ℕ) (d : Document) → EachOnce docs → slice_get docs n ≡ Some d → place d.name docs ≡ Some n
+once_place [] n d once at = absurd (cc)
+once_place (x ∷ ds) zero d once at =
+    let same : bytes_eq x.name d.name ≡ true = (bytes_eq-Decides x.name d.name).1 (ap (λ (e : Document). e.name) (some_is x d at)) in
+    place_step d.name x ds ∙ ap (λ b. cond b (Some 0) (option_map suc (place d.name ds))) same
+once_place (x ∷ ds) (suc n) d once at =
+    let apart : bytes_eq x.name d.name ≡ false = nat_list_eq_equiv.symm x.name d.name ∙ all_at (λ (e : Document). bytes_eq e.name x.name ≡ false) ds n d once.0 at in
+    place_step d.name x ds ∙ ap (λ b. cond b (Some 0) (option_map suc (place d.name ds))) apart ∙ ap (option_map suc) (once_place ds n d once.1 at)
+
+pub get_within : (docs : List Document) (n : ℕ) (d : Document) → slice_get docs n ≡ Some d → n < length docs
+get_within [] n d at = absurd (cc)
+get_within (x ∷ ds) zero d at = omega arith
+get_within (x ∷ ds) (suc n) d at = let later = get_within ds n d at in omega (arith, later)
+
+-- nothing is given
+pub given_same : (docs : List Document) → AreGiven docs docs
+given_same [] = tt
+given_same (d ∷ ds) = (inl refl, given_same ds)
+
+is_given_twice : (d e f : Document) → IsGiven d e → IsGiven e f → IsGiven d f
+is_given_twice d e f (inl p) (inl q) = inl (q ∙ p)
+is_given_twice d e f (inl p) (inr q) = inr (q ∙ ap (λ (x : Document). record x { in_step = true }) p)
+is_given_twice d e f (inr p) (inl q) = inr (q ∙ p)
+is_given_twice d e f (inr p) (inr q) = inr (q ∙ ap (λ (x : Document). record x { in_step = true }) p)
+
+-- one after another is given
+pub given_twice : (xs ys zs : List Document) → AreGiven xs ys → AreGiven ys zs → AreGiven xs zs
+given_twice [] [] [] p q = tt
+given_twice [] [] (z ∷ zs) p q = absurd q
+given_twice [] (y ∷ ys) zs p q = absurd p
+given_twice (x ∷ xs) [] zs p q = absurd p
+given_twice (x ∷ xs) (y ∷ ys) [] p q = absurd q
+given_twice (x ∷ xs) (y ∷ ys) (z ∷ zs) p q = (is_given_twice x y z p.0 q.0, given_twice xs ys zs p.1 q.1)
+
+-- one of them is given
+pub given_set : (docs : List Document) (n : ℕ) (d : Document) → slice_get docs n ≡ Some d → AreGiven docs (slice_set docs n (record d { in_step = true }))
+given_set [] n d at = absurd (cc)
+given_set (x ∷ ds) zero d at = (inr (ap (λ (y : Document). record y { in_step = true }) (sym (some_is x d at))), given_same ds)
+given_set (x ∷ ds) (suc n) d at = (inl refl, given_set ds n d at)
+
+pub follows_given : (text text' : List ℕ → Option (List ℕ)) (docs : List Document) (n : ℕ) (d : Document) → slice_get docs n ≡ Some d →
+    ((other : List ℕ) → bytes_eq other d.name ≡ false → text' other ≡ text other) → text' d.name ≡ Some d.text → Follows text docs → Follows text' (slice_set docs n (record d { in_step = true }))
+follows_given text text' docs n d at keep has now = follows_set text text' d.name (record d { in_step = true }) docs n (once_place docs n d now.once at) refl keep (λ t. has) now
+
+-- the text of a document that isn't in step doesn't matter
+pub not_in_step : (text : List ℕ → Option (List ℕ)) (d : Document) → d.in_step ≡ false → IsInStep text d
+not_in_step text d e t = absurd (cc)

@@ -1,5 +1,5 @@
 -- The open documents, and the files that follow them.
-use Rattle.std.specs.Prelude.{◌≡◌, ℕ, ℤ, Bool, true, false, if◌then◌else◌, List, [], ◌∷◌, Option, Some}
+use Rattle.std.specs.Prelude.{◌≡◌, ◌⊎◌, ℕ, ℤ, Bool, true, false, if◌then◌else◌, List, [], ◌∷◌, Option, Some}
 use Rattle.std.specs.List.{AllByRecursion}
 use Rattle.std.specs.Str.{bytes_eq}
 use Rattle.bt_documents.specs.declared.changes.Change.{Change}
@@ -31,6 +31,17 @@ opened x (d ∷ ds) = if bytes_eq d.name x.name then x ∷ ds else d ∷ opened 
 abbrev pub closed : List ℕ → List Document → List Document
 closed name [] = []
 closed name (d ∷ ds) = if bytes_eq d.name name then ds else d ∷ closed name ds
+
+-- the document stays, or the files have its text now
+abbrev pub IsGiven : Document → Document → Type 0
+IsGiven d e = (e ≡ d) ⊎ (e ≡ record d { in_step = true })
+
+-- each document stays, or the files have its text now
+abbrev pub AreGiven : List Document → List Document → Type 0
+AreGiven [] [] = Unit {0}
+AreGiven [] (e ∷ es) = ⊥
+AreGiven (d ∷ ds) [] = ⊥
+AreGiven (d ∷ ds) (e ∷ es) = IsGiven d e × AreGiven ds es
 
 -- no two documents have one name
 abbrev pub EachOnce : List Document → Type 0

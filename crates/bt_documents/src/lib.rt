@@ -1,8 +1,8 @@
 //! The texts that an editor holds open, and the files that follow them.
 //!
 //! The editor sends a text once, and then its changes. Each change is made to the document's own copy, and the files
-//! are given the new text. They may refuse it (a name or a size that isn't admitted); then the document has the
-//! editor's text all the same, and says that the files are behind.
+//! are given the new text. They may refuse it (a name or a size that isn't admitted) or run out of memory; then the
+//! document has the editor's text all the same, and says that the files are behind. `give_again` lets them catch up.
 #![tactic(auto)]
 
 mod changes;
@@ -12,5 +12,5 @@ mod open_documents;
 
 pub use changes::{Change, all_edited};
 pub use document::Document;
-pub use files::Files;
-pub use open_documents::{change, close, open};
+pub use files::{Files, Written};
+pub use open_documents::{change, change_later, close, give_again, open};

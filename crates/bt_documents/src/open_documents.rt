@@ -1,14 +1,15 @@
 //! The open documents, and the files that follow them.
 
-ghost use Rattle.std.specs.Prelude.{◌≡◌, ◌<◌, IfOk, OnErr, false, ℕ, List, Option, Some, length, slice_get, slice_set};
+ghost use Rattle.std.specs.Prelude.{◌≡◌, ◌<◌, IfOk, OnErr, false, ℕ, List, Option, Some, length, slice_get, slice_set, option_map};
 ghost use Rattle.std.specs.Str.{bytes_eq};
 ghost use Rattle.bt_documents.specs.declared.document.Document.{Document};
 ghost use Rattle.bt_documents.specs.inner.Put.{IsPutAt};
-ghost use Rattle.bt_documents.specs.Documents.{with_document, after_changes, opened, closed, Follows};
+ghost use Rattle.bt_documents.specs.Documents.{with_document, after_changes, opened, closed, AreGiven, Follows};
+ghost use Rattle.bt_documents.specs.Written.{is_taken};
 
 use crate::changes::{Change, all_edited};
 use crate::document::{Document, index_of};
-use crate::files::Files;
+use crate::files::{Files, Written};
 use bt_positions::{Counting, IndexedText};
 use bt_text::{Bytes, Sequence};
 use std::alloc::{AllocError, Global};
@@ -88,7 +89,7 @@ fn mark(alloc: Global, documents: &mut Sequence<Document>, place: usize, accepte
     *documents = Sequence::from_vec(marked);
 }
 
-/// Opens a document, which replaces an open one of its name, and gives the files its text. Says whether they took it.
+/// Opens a document, which replaces an open one of its name, and gives the files its text. Says what they did with it.
 /// After an error nothing has changed.
 pub fn open<F: Files>(
     alloc: Global,
@@ -98,16 +99,16 @@ pub fn open<F: Files>(
     counting: Counting,
     version: i64,
     text: &[u8],
-) -> Result<bool, AllocError>
-    ensures documents { IfOk result (λ accepted. documents.new ≡ opened (record {
+) -> Result<Written, AllocError>
+    ensures documents { IfOk result (λ written. documents.new ≡ opened (record {
       name = name.now;
       counting = counting;
       version = version;
       text = text.now;
-      in_step = accepted;
+      in_step = is_taken written;
     }) documents.old) }
     ensures follows { Follows (F.text files.old) documents.old → Follows (F.text files.new) documents.new }
-    ensures refused { IfOk result (λ accepted. accepted ≡ false → files.new ≡ files.old) }
+    ensures refused { IfOk result (λ written. is_taken written ≡ false → files.new ≡ files.old) }
     ensures others { (other : List ℕ) → bytes_eq other name.now ≡ false →
         F.text files.new other ≡ F.text files.old other }
     ensures err { OnErr result (documents.new ≡ documents.old) }
@@ -115,9 +116,9 @@ pub fn open<F: Files>(
 {
     let document = new_document(alloc, name, counting, version, text)?;
     let place = put(documents, document)?;
-    let accepted = files.write(name, text);
-    mark(alloc, documents, place, accepted);
-    Ok(accepted)
+    let written = files.write(name, text);
+    mark(alloc, documents, place, written.is_taken());
+    Ok(written)
 }
 
 /// Closes the document of a name, if one is open. The files keep its text.
@@ -132,7 +133,7 @@ pub fn close(alloc: Global, documents: &mut Sequence<Document>, name: &[u8])
     }
 }
 
-/// Makes changes to the document of a name, in order, and gives the files its new text. Says whether they took it. If
+/// Makes changes to the document of a name, in order, and gives the files its new text. Says what they did with it. If
 /// no document has this name, or memory runs out, nothing changes.
 pub fn change<F: Files>(
     alloc: Global,
@@ -141,22 +142,93 @@ pub fn change<F: Files>(
     name: &[u8],
     version: i64,
     changes: &[Change],
-) -> Result<bool, AllocError>
-    ensures documents { IfOk result (λ accepted.
-        documents.new ≡ with_document name.now (after_changes name.now version changes.now accepted) documents.old) }
+) -> Result<Written, AllocError>
+    ensures documents { IfOk result (λ written. documents.new ≡
+        with_document name.now (after_changes name.now version changes.now (is_taken written)) documents.old) }
     ensures follows { Follows (F.text files.old) documents.old → Follows (F.text files.new) documents.new }
-    ensures refused { IfOk result (λ accepted. accepted ≡ false → files.new ≡ files.old) }
+    ensures refused { IfOk result (λ written. is_taken written ≡ false → files.new ≡ files.old) }
     ensures others { (other : List ℕ) → bytes_eq other name.now ≡ false →
         F.text files.new other ≡ F.text files.old other }
     ensures err { OnErr result (documents.new ≡ documents.old) }
     ensures err_files { OnErr result (files.new ≡ files.old) }
 {
     let Some(place) = index_of(documents.as_slice(), name) else {
-        return Ok(false);
+        return Ok(Written::Refused);
     };
     let mut document = changed(alloc, &documents.as_slice()[place], name, version, changes)?;
-    let accepted = files.write(name, document.text.as_slice());
-    document.in_step = accepted;
+    let written = files.write(name, document.text.as_slice());
+    document.in_step = written.is_taken();
     documents.set(place, document);
-    Ok(accepted)
+    Ok(written)
+}
+
+/// Makes changes to the document of a name, in order. The files get its new text later. If no document has this name, or
+/// memory runs out, nothing changes.
+pub fn change_later(
+    alloc: Global,
+    documents: &mut Sequence<Document>,
+    name: &[u8],
+    version: i64,
+    changes: &[Change],
+) -> Result<(), AllocError>
+    ensures documents { IfOk result (λ _.
+        documents.new ≡ with_document name.now (after_changes name.now version changes.now false) documents.old) }
+    ensures follows { (text : List ℕ → Option (List ℕ)) → Follows text documents.old → Follows text documents.new }
+    ensures err { OnErr result (documents.new ≡ documents.old) }
+{
+    let Some(place) = index_of(documents.as_slice(), name) else {
+        return Ok(());
+    };
+    let document = changed(alloc, &documents.as_slice()[place], name, version, changes)?;
+    documents.set(place, document);
+    Ok(())
+}
+
+/// The document at a place, if there is one.
+fn document_at(documents: &[Document], place: usize) -> Option<&Document>
+    ensures { option_map (λ d. d.now) result ≡ slice_get documents.now place }
+{
+    documents.get(place)
+}
+
+/// Gives the files the text of the document at a place, unless they have it. Says what they did with it.
+#[tactic(auto, using(crate::proofs::DocumentLemmas::given_same))]
+fn give_one<F: Files>(
+    alloc: Global,
+    files: &mut F,
+    documents: &mut Sequence<Document>,
+    place: usize,
+) -> Written
+    ensures documents { AreGiven documents.old documents.new }
+    ensures follows { Follows (F.text files.old) documents.old → Follows (F.text files.new) documents.new }
+{
+    let Some(document) = document_at(documents.as_slice(), place) else {
+        return Written::Refused;
+    };
+    if document.in_step {
+        return Written::Taken;
+    }
+    let written = files.write(document.name.as_slice(), document.text.as_slice());
+    if !written.is_taken() {
+        return written;
+    }
+    mark(alloc, documents, place, true);
+    written
+}
+
+/// Gives the files the texts that they don't have, in order. Says whether memory ran out for one.
+pub fn give_again<F: Files>(
+    alloc: Global,
+    files: &mut F,
+    documents: &mut Sequence<Document>,
+) -> bool
+    ensures documents { AreGiven documents.old documents.new }
+    ensures follows { Follows (F.text files.old) documents.old → Follows (F.text files.new) documents.new }
+{
+    let mut is_behind = false;
+    'documents: for n in 0..documents.len() {
+        let written = give_one(alloc, files, documents, n);
+        is_behind = is_behind || written.is_waiting();
+    }
+    is_behind
 }

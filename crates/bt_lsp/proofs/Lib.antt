@@ -5,3 +5,4 @@ pub mod FileLemmas
 pub mod MoreLemmas
 pub mod WordLemmas
 pub mod TakenLemmas
+pub mod CarriedLemmas

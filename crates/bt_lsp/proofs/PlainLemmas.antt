@@ -33,7 +33,7 @@ use Rattle.bt_lsp.specs.declared.server.Server.{Server}
 use Rattle.bt_lsp.specs.Shown.{Shown}
 use Rattle.bt_lsp.specs.Shapes.{range_of, location, diagnostic, published}
 use Rattle.bt_lsp.specs.Hints.{with_hints}
-use Rattle.bt_lsp.specs.News.{news, shown_of, published_of, warned, cleared, cleared_at}
+use Rattle.bt_lsp.specs.News.{news, shown_of, published_of, lost_words, behind_words, warned, warnings, cleared, cleared_at}
 use Rattle.bt_lsp.specs.Parameters.{document_of, place_of, text_at, position_at}
 use Rattle.bt_lsp.specs.Entries.{key_of, kind_of, field_of, name_of, symbol_kind, item_around, is_database}
 use Rattle.bt_lsp.specs.Hover.{key_at, word_of, hover_lines, hover_at}
@@ -68,9 +68,12 @@ news_notes shown [] = tt
 news_notes shown (d ∷ ds) =
     (published_note d.name (with_hints shown.files d (map diagnostic (shown_of shown d))) (hints_plain shown.files d (map diagnostic (shown_of shown d)) (diagnostics_plain (shown_of shown d))), news_notes shown ds)
 
-warned_notes : (lost : Bool) → AllByRecursion IsNote (warned lost)
-warned_notes true = ((refl, refl), tt)
-warned_notes false = tt
+warned_notes : (words : List ℕ) (is_due : Bool) → AllByRecursion IsNote (warned words is_due)
+warned_notes words true = ((refl, refl), tt)
+warned_notes words false = tt
+
+warnings_notes : (lost behind : Bool) → AllByRecursion IsNote (warnings lost behind)
+warnings_notes lost behind = all_both IsNote (warned lost_words lost) _ (warned_notes lost_words lost) (warned_notes behind_words behind)
 
 cleared_at_notes : (uri : Option (List ℕ)) → AllByRecursion IsNote (cleared_at uri)
 cleared_at_notes None = tt
@@ -84,19 +87,20 @@ cleared_notes Saved m = tt
 cleared_notes Exit m = tt
 cleared_notes Other m = tt
 
-told_notes : (shown : Shown) (lost : Bool) (notice : Notice) (m : Data) (docs : List Document) → AllByRecursion IsNote (warned lost ++ cleared notice m ++ news shown docs)
-told_notes shown lost notice m docs =
-    all_both IsNote (warned lost ++ cleared notice m) _ (all_both IsNote (warned lost) _ (warned_notes lost) (cleared_notes notice m)) (news_notes shown docs)
+told_notes : (shown : Shown) (lost behind : Bool) (notice : Notice) (m : Data) (docs : List Document) →
+    AllByRecursion IsNote (warnings lost behind ++ cleared notice m ++ news shown docs)
+told_notes shown lost behind notice m docs =
+    all_both IsNote (warnings lost behind ++ cleared notice m) _ (all_both IsNote (warnings lost behind) _ (warnings_notes lost behind) (cleared_notes notice m)) (news_notes shown docs)
 
 tells_notes : {P : Type 0} (shown : P → Shown) (lost : Bool) (notice : Notice) (m : Data) (told : List Data) (e : Server P) →
     Tells shown lost notice m told e → AllByRecursion IsNote told
-tells_notes shown lost notice m told e (inl h) = subst (AllByRecursion IsNote) (sym h.0) (told_notes (shown e.paper) lost notice m e.documents)
+tells_notes shown lost notice m told e (inl h) = subst (AllByRecursion IsNote) (sym h.0) (told_notes (shown e.paper) lost e.behind notice m e.documents)
 tells_notes shown lost notice m told e (inr h) = subst (AllByRecursion IsNote) (sym h.0) tt
 
 -- what is said to a notification that the desk takes
 pub carried_notes : {P : Type 0} (text : P → List ℕ → Option (List ℕ)) (shown : P → Shown) (d : Server P) (notice : Notice) (m : Data) (told : List Data) (e : Server P) →
     Carried text shown d notice m told e → AllByRecursion IsNote told
-carried_notes text shown d notice m told e h = tells_notes shown h.lost notice m told e h.says
+carried_notes text shown d notice m told e h = tells_notes shown h.next.lost notice m told e h.says
 
 -- ---- outcomes
 

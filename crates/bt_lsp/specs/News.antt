@@ -1,5 +1,5 @@
 -- What the editor is told after a change.
-use Rattle.std.specs.Prelude.{ℕ, nat_lt, not, ◌||◌, Bool, true, false, if◌then◌else◌, List, [], ◌∷◌, map, length, codes, Option, Some, None}
+use Rattle.std.specs.Prelude.{ℕ, nat_lt, not, ◌||◌, Bool, true, false, if◌then◌else◌, List, [], ◌∷◌, ◌++◌, map, length, codes, Option, Some, None}
 use Rattle.serde_json.specs.Data.{Data, number, unsigned, string, object, member, no_members}
 use Rattle.bt_log.specs.declared.message.Message.{Message}
 use Rattle.bt_rpc.specs.Messages.{notification}
@@ -32,20 +32,29 @@ published_of shown d = published d.name (with_hints shown.files d (map diagnosti
 abbrev pub news : Shown → List Document → List Data
 news shown docs = map (published_of shown) docs
 
--- the parameters of the warning that a message was lost
-abbrev pub warning_params : Data
-warning_params =
-    object (member (codes "message")
-    (string (codes "bibtex-lsp lost a message. Close the changed files and open them again."))
-    (member (codes "type") (number (unsigned 2)) no_members))
+-- what the editor is told if a message was lost
+abbrev pub lost_words : List ℕ
+lost_words = codes "bibtex-lsp lost a message. Close the changed files and open them again."
+
+-- what it is told if memory ran out for a document's text
+abbrev pub behind_words : List ℕ
+behind_words = codes "bibtex-lsp is out of memory: the bibliography lags behind. It tries again with your next change."
+
+-- the parameters of a warning in these words
+abbrev pub warning_params : List ℕ → Data
+warning_params words = object (member (codes "message") (string words) (member (codes "type") (number (unsigned 2)) no_members))
 
 -- the warning
-abbrev pub warning : Data
-warning = notification (codes "window/showMessage") warning_params
+abbrev pub warning : List ℕ → Data
+warning words = notification (codes "window/showMessage") (warning_params words)
 
--- the warning, if a message was lost
-abbrev pub warned : Bool → List Data
-warned lost = if lost then warning ∷ [] else []
+-- the warning, if it is due
+abbrev pub warned : List ℕ → Bool → List Data
+warned words is_due = if is_due then warning words ∷ [] else []
+
+-- the warnings: that a message was lost, and that memory ran out for a document's text
+abbrev pub warnings : Bool → Bool → List Data
+warnings lost behind = warned lost_words lost ++ warned behind_words behind
 
 -- that the document of this URI has no diagnostics, if there is a URI
 abbrev pub cleared_at : Option (List ℕ) → List Data

@@ -2,7 +2,7 @@
 
 ghost use Rattle.std.specs.Prelude.{◌≡◌, ◌++◌, ◌∷◌, [], map, IfOk};
 ghost use Rattle.serde_json.specs.View.{view};
-ghost use Rattle.bt_lsp.specs.News.{shown_of, published_of, warning_params, warning, warned, cleared, news};
+ghost use Rattle.bt_lsp.specs.News.{shown_of, published_of, warning_params, warning, lost_words, behind_words, warned, warnings, cleared, news};
 ghost use Rattle.bt_lsp.specs.Shapes.{published};
 
 use crate::hints::with_hints;
@@ -56,29 +56,41 @@ fn published_of<P: Paper>(
     published(alloc, document.name.as_slice(), list)
 }
 
-fn warning_params(alloc: Global) -> Result<Value, AllocError>
-    ensures { IfOk result (λ v. view v ≡ warning_params) }
+/// What the editor is told if a message was lost.
+fn lost_words() -> &'static str
+    ensures { result.now ≡ lost_words }
 {
-    json!(in alloc; {
-        "type": 2,
-        "message": "bibtex-lsp lost a message. Close the changed files and open them again."
-    })
+    "bibtex-lsp lost a message. Close the changed files and open them again."
 }
 
-fn warning(alloc: Global) -> Result<Value, AllocError>
-    ensures { IfOk result (λ v. view v ≡ warning) }
+/// What it is told if memory ran out for a document's text.
+fn behind_words() -> &'static str
+    ensures { result.now ≡ behind_words }
 {
-    let params = warning_params(alloc)?;
+    "bibtex-lsp is out of memory: the bibliography lags behind. It tries again with your next change."
+}
+
+fn warning_params(alloc: Global, words: &str) -> Result<Value, AllocError>
+    ensures { IfOk result (λ v. view v ≡ warning_params words.now) }
+{
+    json!(in alloc; {"type": 2, "message": words})
+}
+
+/// A warning in these words.
+fn warning(alloc: Global, words: &str) -> Result<Value, AllocError>
+    ensures { IfOk result (λ v. view v ≡ warning words.now) }
+{
+    let params = warning_params(alloc, words)?;
     let message = notification(alloc, "window/showMessage", &params)?;
     Ok(message)
 }
 
 fn warned(alloc: Global, lost: bool) -> Result<Vec<Value>, AllocError>
-    ensures { IfOk result (λ told. map view told.items ≡ warned lost) }
+    ensures { IfOk result (λ told. map view told.items ≡ warned lost_words lost) }
 {
     let mut told = Vec::new(alloc);
     if lost {
-        told.push(warning(alloc)?)?;
+        told.push(warning(alloc, lost_words())?)?;
     }
     Ok(told)
 }
@@ -90,16 +102,28 @@ fn cleared(alloc: Global, uri: &str) -> Result<Value, AllocError>
     published(alloc, uri.as_bytes(), Vec::new(alloc))
 }
 
+/// The warnings: that a message was lost, and that memory ran out for a document's text.
+fn warnings(alloc: Global, lost: bool, behind: bool) -> Result<Vec<Value>, AllocError>
+    ensures { IfOk result (λ told. map view told.items ≡ warnings lost behind) }
+{
+    let mut told = warned(alloc, lost)?;
+    if behind {
+        told.push(warning(alloc, behind_words())?)?;
+    }
+    Ok(told)
+}
+
 /// What comes before the diagnostics of the open documents.
 pub fn first_news(
     alloc: Global,
     lost: bool,
+    behind: bool,
     notice: Notice,
     message: &Value,
 ) -> Result<Vec<Value>, AllocError>
-    ensures { IfOk result (λ told. map view told.items ≡ warned lost ++ cleared notice (view message.now)) }
+    ensures { IfOk result (λ told. map view told.items ≡ warnings lost behind ++ cleared notice (view message.now)) }
 {
-    let mut told = warned(alloc, lost)?;
+    let mut told = warnings(alloc, lost, behind)?;
     if notice == Notice::Closed
         && let Some(uri) = text_at(message, "/params/textDocument/uri")
     {

@@ -3,7 +3,8 @@
 ghost use Rattle.std.specs.Prelude.{◌≡◌, map, IfOk, OnErr};
 ghost use Rattle.serde_json.specs.View.{view};
 ghost use Rattle.bt_talk.specs.Replies.{outcome_of};
-ghost use Rattle.bt_lsp.specs.Desk.{duty_of, IsBegun, IsOutcome, Tells, Carried};
+ghost use Rattle.bt_documents.specs.Documents.{AreGiven, Follows};
+ghost use Rattle.bt_lsp.specs.Desk.{duty_of, IsBegun, IsOutcome, TakenOrLost, Tells, Carried, owes, SettledIf};
 ghost use Rattle.bt_lsp.specs.Answering.{answered};
 ghost use Rattle.bt_lsp.specs.Words.{counting_of};
 
@@ -15,7 +16,7 @@ use crate::parameters::text_at;
 use crate::shapes::capabilities;
 use crate::taking::take;
 use crate::words::counting_of;
-use bt_documents::Document;
+use bt_documents::{Document, give_again};
 use bt_rpc::RpcError;
 use bt_talk::{Desk, Reply};
 use bt_text::Sequence;
@@ -53,6 +54,8 @@ pub struct Server<P> {
     pub counts_bytes: bool,
     /// Whether a message was lost of which the editor hasn't been warned.
     pub lost: bool,
+    /// Whether the paper has yet to get the text of a document.
+    pub behind: bool,
     /// Whether there is news that the editor hasn't been told.
     pub pending: bool,
     /// Whether `exit` came.
@@ -89,6 +92,7 @@ impl<P: Paper> Server<P> {
             phase: Phase::New,
             counts_bytes: false,
             lost: false,
+            behind: false,
             pending: false,
             over: false,
         }
@@ -115,6 +119,7 @@ fn begin<P: Paper>(
     server.paper.begin(alloc, job, folder)?;
     server.documents = Sequence::new(alloc);
     server.counts_bytes = counts_bytes;
+    server.behind = false;
     server.phase = Phase::Ready;
     Ok(Ok(answer))
 }
@@ -160,14 +165,14 @@ fn tell<P: Paper>(
     ensures told { Tells P.shown server.old.lost notice (view message.now) (map view result.items) server.new }
     ensures rest { server.new ≡ record server.old { lost = server.new.lost; pending = server.new.pending } }
 {
-    let told = match first_news(alloc, server.lost, notice, message) {
+    let told = match first_news(alloc, server.lost, server.behind, notice, message) {
         Ok(first) => news(alloc, &server.paper, server.documents.as_slice(), first),
         Err(error) => Err(error),
     };
     match told {
         Ok(told) => {
             server.lost = false;
-            server.pending = false;
+            server.pending = server.behind;
             told
         }
         Err(_) => {
@@ -177,6 +182,55 @@ fn tell<P: Paper>(
     }
 }
 
+/// Gives the paper the texts of documents that it doesn't have.
+fn catch_up<P: Paper>(alloc: Global, server: &mut Server<P>)
+    ensures documents { AreGiven server.old.documents server.new.documents }
+    ensures follows { Follows (P.text server.old.paper) server.old.documents →
+        Follows (P.text server.new.paper) server.new.documents }
+    ensures rest { server.new ≡ record server.old {
+      paper = server.new.paper;
+      documents = server.new.documents;
+      behind = server.new.behind;
+    } }
+{
+    server.behind = give_again(alloc, &mut server.paper, &mut server.documents);
+}
+
+/// Takes a notification, or remembers that it is lost.
+fn take_or_lose<P: Paper>(
+    alloc: Global,
+    server: &mut Server<P>,
+    notice: Notice,
+    message: &Value,
+)
+    ensures taken { TakenOrLost notice (view message.now) server.old server.new }
+    ensures follows { Follows (P.text server.old.paper) server.old.documents →
+        Follows (P.text server.new.paper) server.new.documents }
+    ensures rest { server.new ≡ record server.old {
+      paper = server.new.paper;
+      documents = server.new.documents;
+      lost = server.new.lost;
+      behind = server.new.behind;
+    } }
+{
+    match take(
+        alloc,
+        &mut server.paper,
+        &mut server.documents,
+        server.counts_bytes,
+        notice,
+        message,
+    ) {
+        Ok(written) => {
+            server.behind = written.is_waiting() || server.behind;
+        }
+        Err(_) => {
+            server.lost = true;
+        }
+    }
+}
+
+/// Takes a notification and tells the news.
 fn carry<P: Paper>(
     alloc: Global,
     server: &mut Server<P>,
@@ -185,30 +239,36 @@ fn carry<P: Paper>(
 ) -> Vec<Value>
     ensures { Carried P.text P.shown server.old notice (view message.now) (map view result.items) server.new }
 {
-    let taken = take(
-        alloc,
-        &mut server.paper,
-        &mut server.documents,
-        server.counts_bytes,
-        notice,
-        message,
-    );
-    if taken.is_err() {
-        server.lost = true;
-    }
+    catch_up(alloc, server);
+    take_or_lose(alloc, server, notice, message);
     tell(alloc, server, notice, message)
 }
 
-impl<P: Paper + Drop> Desk for Server<P> {
-    ghost use Rattle.std.specs.Prelude.{◌≡◌, [], true};
-    ghost use Rattle.bt_lsp.specs.Methods.{request_of};
-    ghost use Rattle.bt_lsp.specs.Answering.{answered};
-    ghost use Rattle.bt_lsp.specs.Words.{counting_of};
-    ghost use Rattle.bt_lsp.specs.Desk.{IsOutcome, Noted, IsLost};
+fn owes(phase: Phase, pending: bool) -> bool
+    ensures { result ≡ owes phase pending }
+{
+    match phase {
+        Phase::Ready => pending,
+        Phase::New | Phase::ShutDown => false,
+    }
+}
 
-    ghost answers = { λ d method m outcome told e. (told ≡ []) × IsOutcome
-        (λ r. answered (counting_of d.counts_bytes) (P.shown d.paper) d.documents r m)
-        d.phase (request_of method) d outcome e };
+/// Tells the news that the desk owes, before a request is answered.
+fn settle<P: Paper>(alloc: Global, server: &mut Server<P>, message: &Value) -> Vec<Value>
+    ensures { SettledIf P.text P.shown (owes server.old.phase server.old.pending) server.old (view message.now)
+        (map view result.items) server.new }
+{
+    if owes(server.phase, server.pending) {
+        carry(alloc, server, Notice::Other, message)
+    } else {
+        Vec::new(alloc)
+    }
+}
+
+impl<P: Paper + Drop> Desk for Server<P> {
+    ghost use Rattle.bt_lsp.specs.Desk.{Answered, Noted, IsLost};
+
+    ghost answers = { λ d method m outcome told e. Answered P.text P.shown d method m outcome told e };
 
     ghost notes = { λ d method m told e. Noted P.text P.shown d method m told e };
 
@@ -222,11 +282,14 @@ impl<P: Paper + Drop> Desk for Server<P> {
         method: &str,
         message: &Value,
     ) -> Result<Reply, AllocError> {
-        let outcome = outcome_for(alloc, self, request_of(method), message)?;
-        Ok(Reply {
-            outcome,
-            notes: Vec::new(alloc),
-        })
+        let notes = settle(alloc, self, message);
+        match outcome_for(alloc, self, request_of(method), message) {
+            Ok(outcome) => Ok(Reply { outcome, notes }),
+            Err(_) => Ok(Reply {
+                outcome: Err(RpcError::InternalError),
+                notes,
+            }),
+        }
     }
 
     fn note(&mut self, alloc: Global, method: &str, message: &Value) -> Vec<Value> {

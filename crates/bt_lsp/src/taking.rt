@@ -11,7 +11,7 @@ use crate::methods::Notice;
 use crate::paper::Paper;
 use crate::parameters::{text_at, version_at};
 use crate::words::bytes_of;
-use bt_documents::{Document, change, close, open};
+use bt_documents::{Document, Files, Written, change, close, open};
 use bt_positions::Counting;
 use bt_text::Sequence;
 use serde_json::Value;
@@ -42,8 +42,8 @@ fn take_opened<P: Paper>(
     documents: &mut Sequence<Document>,
     counts_bytes: bool,
     message: &Value,
-) -> Result<(), Untaken>
-    ensures taken { IfOk result (λ _. IsOpened (view message.now) documents.old documents.new) }
+) -> Result<Written, Untaken>
+    ensures taken { IfOk result (λ written. IsOpened (view message.now) written documents.old documents.new) }
     ensures follows { Follows (P.text paper.old) documents.old → Follows (P.text paper.new) documents.new }
     ensures err { OnErr result (documents.new ≡ documents.old) }
 {
@@ -56,7 +56,7 @@ fn take_opened<P: Paper>(
     let version = version_at(message, "/params/textDocument/version");
     let counting = counting_of(counts_bytes, paper.is_latin(alloc, uri, text));
     let bytes = bytes_of(alloc, counting, text)?;
-    open(
+    let written = open(
         alloc,
         paper,
         documents,
@@ -65,7 +65,7 @@ fn take_opened<P: Paper>(
         version,
         bytes.as_slice(),
     )?;
-    Ok(())
+    Ok(written)
 }
 
 fn counting_named(documents: &[Document], name: &[u8]) -> Option<Counting>
@@ -80,14 +80,15 @@ fn counting_named(documents: &[Document], name: &[u8]) -> Option<Counting>
     }
 }
 
-fn take_changed<P: Paper>(
+/// Makes the changes that a message says, and gives the files the new text.
+pub fn take_changed<F: Files>(
     alloc: Global,
-    paper: &mut P,
+    files: &mut F,
     documents: &mut Sequence<Document>,
     message: &Value,
-) -> Result<(), Untaken>
-    ensures taken { IfOk result (λ _. IsChanged (view message.now) documents.old documents.new) }
-    ensures follows { Follows (P.text paper.old) documents.old → Follows (P.text paper.new) documents.new }
+) -> Result<Written, Untaken>
+    ensures taken { IfOk result (λ written. IsChanged (view message.now) written documents.old documents.new) }
+    ensures follows { Follows (F.text files.old) documents.old → Follows (F.text files.new) documents.new }
     ensures err { OnErr result (documents.new ≡ documents.old) }
 {
     let Some(uri) = text_at(message, "/params/textDocument/uri") else {
@@ -100,15 +101,15 @@ fn take_changed<P: Paper>(
         return Err(Untaken);
     };
     let version = version_at(message, "/params/textDocument/version");
-    change(
+    let written = change(
         alloc,
-        paper,
+        files,
         documents,
         uri.as_bytes(),
         version,
         changes.as_slice(),
     )?;
-    Ok(())
+    Ok(written)
 }
 
 fn take_closed<P: Paper>(
@@ -129,7 +130,8 @@ fn take_closed<P: Paper>(
     Ok(())
 }
 
-/// Does to the documents what a notification says, and gives the paper their new texts.
+/// Does to the documents what a notification says, and gives the paper their new texts. Says what the paper did with the
+/// text that the notification brings, if it brings one.
 pub fn take<P: Paper>(
     alloc: Global,
     paper: &mut P,
@@ -137,19 +139,22 @@ pub fn take<P: Paper>(
     counts_bytes: bool,
     notice: Notice,
     message: &Value,
-) -> Result<(), Untaken>
-    ensures taken { IfOk result (λ _. Taken notice (view message.now) documents.old documents.new) }
+) -> Result<Written, Untaken>
+    ensures taken { IfOk result (λ written. Taken notice (view message.now) written documents.old documents.new) }
     ensures follows { Follows (P.text paper.old) documents.old → Follows (P.text paper.new) documents.new }
     ensures err { OnErr result (documents.new ≡ documents.old) }
 {
     match notice {
         Notice::Opened => take_opened(alloc, paper, documents, counts_bytes, message),
         Notice::Changed => take_changed(alloc, paper, documents, message),
-        Notice::Closed => take_closed(alloc, paper, documents, message),
+        Notice::Closed => {
+            take_closed(alloc, paper, documents, message)?;
+            Ok(Written::Taken)
+        }
         Notice::Saved => {
             paper.refresh(alloc, documents.as_slice());
-            Ok(())
+            Ok(Written::Taken)
         }
-        Notice::Exit | Notice::Other => Ok(()),
+        Notice::Exit | Notice::Other => Ok(Written::Taken),
     }
 }

@@ -4,10 +4,12 @@
 ghost use Rattle.std.specs.Prelude.{◌≡◌, false, ℕ, List, Some, None, IsTrue};
 ghost use Rattle.bt_job.specs.FileNames.{text_of};
 ghost use Rattle.bibtex.specs.inner.Cases.{replaced};
+ghost use Rattle.bt_documents.specs.Written.{is_taken};
 ghost use Rattle.bt_paper.specs.Paper.{GivesText, OthersStay};
 
 use crate::differing::{Difference, difference_of};
-use bibtex::{Edit, Session};
+use bibtex::{Edit, Refusal, Session};
+use bt_documents::Written;
 use bt_text::Bytes;
 
 fn has_text(session: &Session, name: &[u8], text: &[u8]) -> bool
@@ -29,33 +31,47 @@ pub fn lacks(session: &Session, name: &[u8]) -> bool
     }
 }
 
-/// Returns whether the session took the text.
-fn write(session: &mut Session, name: &[u8], new: &[u8]) -> bool
-    ensures kept { result ≡ false → session.new ≡ session.old }
-    ensures gives { IsTrue result → GivesText name.now new.now session.old session.new }
+/// What a refusal comes to.
+fn refused(refusal: Refusal) -> Written
+    ensures { is_taken result ≡ false }
 {
-    match session.edit(Edit::Write(name, new)) {
-        Ok(_) => true,
-        Err(_) => false,
+    match refusal {
+        Refusal::OutOfMemory => Written::Waiting,
+        Refusal::BadName
+        | Refusal::NoSuchFile
+        | Refusal::RangeOutside
+        | Refusal::FileTooLarge
+        | Refusal::TooManyFiles => Written::Refused,
     }
 }
 
-/// Returns whether the session took the bytes, which replace its bytes `start..end`.
-fn splice(session: &mut Session, name: &[u8], start: usize, end: usize, bytes: &[u8]) -> bool
-    ensures kept { result ≡ false → session.new ≡ session.old }
-    ensures gives { IsTrue result → (old : List ℕ) → text_of session.old.texts name.now ≡ Some old →
-        GivesText name.now (replaced start end bytes.now old) session.old session.new }
+/// Gives a session's file a whole text, and says what the session did with it.
+fn write(session: &mut Session, name: &[u8], new: &[u8]) -> Written
+    ensures kept { is_taken result ≡ false → session.new ≡ session.old }
+    ensures gives { IsTrue (is_taken result) → GivesText name.now new.now session.old session.new }
 {
-    let Ok(_) = session.edit(Edit::Splice(name, start, end, bytes)) else {
-        return false;
-    };
-    true
+    match session.edit(Edit::Write(name, new)) {
+        Ok(_) => Written::Taken,
+        Err(refusal) => refused(refusal),
+    }
 }
 
-/// Writes a text that the session lacks, or else splices the part that differs. Returns whether the session took it.
-fn set(session: &mut Session, name: &[u8], new: &[u8]) -> bool
-    ensures kept { result ≡ false → session.new ≡ session.old }
-    ensures gives { IsTrue result → GivesText name.now new.now session.old session.new }
+/// Puts bytes in the place of the bytes `start..end` of a session's file, and says what the session did with them.
+fn splice(session: &mut Session, name: &[u8], start: usize, end: usize, bytes: &[u8]) -> Written
+    ensures kept { is_taken result ≡ false → session.new ≡ session.old }
+    ensures gives { IsTrue (is_taken result) → (old : List ℕ) → text_of session.old.texts name.now ≡ Some old →
+        GivesText name.now (replaced start end bytes.now old) session.old session.new }
+{
+    match session.edit(Edit::Splice(name, start, end, bytes)) {
+        Ok(_) => Written::Taken,
+        Err(refusal) => refused(refusal),
+    }
+}
+
+/// Gives a session's file a text, and says what the session did with it.
+fn set(session: &mut Session, name: &[u8], new: &[u8]) -> Written
+    ensures kept { is_taken result ≡ false → session.new ≡ session.old }
+    ensures gives { IsTrue (is_taken result) → GivesText name.now new.now session.old session.new }
 {
     let Some(old) = session.file(name) else {
         return write(session, name, new);
@@ -70,13 +86,13 @@ fn set(session: &mut Session, name: &[u8], new: &[u8]) -> bool
     splice(session, name, start, end, bytes)
 }
 
-/// Gives a session's file a text that it may have already, and says whether it has it now.
-pub fn give(session: &mut Session, name: &[u8], new: &[u8]) -> bool
-    ensures kept { result ≡ false → session.new ≡ session.old }
-    ensures gives { IsTrue result → GivesText name.now new.now session.old session.new }
+/// Gives a session's file a text that it may have already, and says what the session did with it.
+pub fn give(session: &mut Session, name: &[u8], new: &[u8]) -> Written
+    ensures kept { is_taken result ≡ false → session.new ≡ session.old }
+    ensures gives { IsTrue (is_taken result) → GivesText name.now new.now session.old session.new }
 {
     if has_text(session, name, new) {
-        true
+        Written::Taken
     } else {
         set(session, name, new)
     }

@@ -39,7 +39,8 @@ pub fn add(
         return Ok(false);
     }
     note(known, file)?;
-    Ok(give(session, name.as_slice(), text.as_slice()))
+    let written = give(session, name.as_slice(), text.as_slice());
+    Ok(written.is_taken())
 }
 
 /// Gives the file at a URI the text that was read for it, or takes the file away if none was read.

@@ -12,7 +12,7 @@ use crate::known::{Known, name_of};
 use crate::library::Library;
 use crate::open_files::{add, is_among, reread};
 use bibtex::Session;
-use bt_documents::{Document, Files};
+use bt_documents::{Document, Files, Written};
 use bt_log::Message;
 use bt_lsp::Paper;
 use bt_text::{Bytes, Sequence};
@@ -127,13 +127,13 @@ impl<L: Library> Files for SessionPaper<L> {
 
     ghost text = { λ paper uri. text_at paper.session paper.known uri };
 
-    fn write(&mut self, name: &[u8], new: &[u8]) -> bool {
+    fn write(&mut self, name: &[u8], new: &[u8]) -> Written {
         let Some(own) = name_of(self.known.as_slice(), name) else {
-            return false;
+            return Written::Refused;
         };
         match &mut self.session {
             Some(session) => give(session, own, new),
-            None => false,
+            None => Written::Refused,
         }
     }
 }

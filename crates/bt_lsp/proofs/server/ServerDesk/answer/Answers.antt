@@ -1,14 +1,30 @@
+use Rattle.std.proofs.Common.{refl}
 use Rattle.serde_json.specs.View.{view}
 use Rattle.bt_lsp.specs.Answering.{answered}
 use Rattle.bt_lsp.specs.Words.{counting_of}
 use Rattle.bt_lsp.proofs.PlainLemmas.{answered_plain, outcome_plain}
+use Rattle.bt_lsp.proofs.CarriedLemmas.{answered_so, answered_late, settled_notes}
 use Rattle.bt_lsp.proofs.server.ServerDesk.answer.Goals as goal
 
-pub returns-clause-plain : goal.returns-clause-plain
-returns-clause-plain g c =
-    let d = c.args.self.now in
+pub returns-in-Ok-clause-ok : goal.returns-in-Ok-clause-ok
+returns-in-Ok-clause-ok g c =
+    answered_so _ _ c.args.self.now c.settle-notes.new.server c.outcome_for.new.server _ c.request_of.result _ _ _ c.settle-notes.ensures c.request_of.ensures c.in-Ok.ensures.ok
+
+pub returns-in-Ok-clause-plain : goal.returns-in-Ok-clause-plain
+returns-in-Ok-clause-plain g c =
+    let d = c.settle-notes.new.server in
     let m = view c.args.message.now in
     let shown = g.P.Paper.shown d.paper in
     let units = counting_of d.counts_bytes in
-    outcome_plain (λ r. answered units shown d.documents r m) d.phase c.request_of.result d c.outcome_for.new.server c.in_ok-outcome.outcome
-    (λ r. answered_plain units shown d.documents r m) c.in_ok-outcome.ensures.ok
+    outcome_plain (λ r. answered units shown d.documents r m) d.phase c.request_of.result d c.outcome_for.new.server c.in-Ok.outcome
+    (λ r. answered_plain units shown d.documents r m) c.in-Ok.ensures.ok
+
+pub returns-in-Ok-clause-notes : goal.returns-in-Ok-clause-notes
+returns-in-Ok-clause-notes g c = settled_notes _ _ _ _ _ _ _ c.settle-notes.ensures
+
+pub returns-in-Err-clause-ok : goal.returns-in-Err-clause-ok
+returns-in-Err-clause-ok g c =
+    answered_late _ _ c.args.self.now c.settle-notes.new.server c.outcome_for.new.server _ _ _ _ c.settle-notes.ensures refl c.in-Err.ensures.err
+
+pub returns-in-Err-clause-notes : goal.returns-in-Err-clause-notes
+returns-in-Err-clause-notes g c = settled_notes _ _ _ _ _ _ _ c.settle-notes.ensures
