@@ -36,6 +36,7 @@ carried {P} text shown d mid next e notice m told given first caught taken secon
   says = says;
   phase = ap (λ (s : Server P). s.phase) told_it ∙ ap (λ (s : Server P). s.phase) took ∙ ap (λ (s : Server P). s.phase) caught;
   counts_bytes = ap (λ (s : Server P). s.counts_bytes) told_it ∙ ap (λ (s : Server P). s.counts_bytes) took ∙ ap (λ (s : Server P). s.counts_bytes) caught;
+  announced = ap (λ (s : Server P). s.announced) told_it ∙ ap (λ (s : Server P). s.announced) took ∙ ap (λ (s : Server P). s.announced) caught;
   over = ap (λ (s : Server P). s.over) told_it ∙ ap (λ (s : Server P). s.over) took ∙ ap (λ (s : Server P). s.over) caught;
 }
 

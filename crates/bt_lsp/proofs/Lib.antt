@@ -6,3 +6,4 @@ pub mod MoreLemmas
 pub mod WordLemmas
 pub mod TakenLemmas
 pub mod CarriedLemmas
+pub mod AnnouncingLemmas

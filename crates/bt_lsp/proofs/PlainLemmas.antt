@@ -26,14 +26,17 @@ use Rattle.bt_lsp.specs.declared.methods.CursorQuery.TheVariants.{Hover, Definit
 use Rattle.bt_lsp.specs.declared.methods.DocumentQuery.{DocumentQuery}
 use Rattle.bt_lsp.specs.declared.methods.DocumentQuery.TheVariants.{Outline, Folds, Format, Actions}
 use Rattle.bt_lsp.specs.declared.methods.PaperQuery.{PaperQuery}
-use Rattle.bt_lsp.specs.declared.methods.PaperQuery.TheVariants.{Bibliography, Log, Symbols}
+use Rattle.bt_lsp.specs.declared.methods.PaperQuery.TheVariants.{Bibliography, Log, Status, Symbols}
 use Rattle.bt_lsp.specs.declared.server.Phase.{Phase}
 use Rattle.bt_lsp.specs.declared.server.Phase.TheVariants.{New, Ready, ShutDown}
 use Rattle.bt_lsp.specs.declared.server.Server.{Server}
 use Rattle.bt_lsp.specs.Shown.{Shown}
-use Rattle.bt_lsp.specs.Shapes.{range_of, location, diagnostic, published}
+use Rattle.bt_lsp.specs.Shapes.{range_of, location, diagnostic, published, shown_text, shown_status}
+use Rattle.bt_lsp.specs.declared.announcing.Announced.{Announced}
+use Rattle.bt_lsp.specs.Announcing.{with_announced}
+use Rattle.bt_rpc.specs.Messages.{notification}
 use Rattle.bt_lsp.specs.Hints.{with_hints}
-use Rattle.bt_lsp.specs.News.{news, shown_of, published_of, lost_words, behind_words, warned, warnings, cleared, cleared_at}
+use Rattle.bt_lsp.specs.News.{news, all_published, shown_of, published_of, lost_words, behind_words, warned, warnings, cleared, cleared_at}
 use Rattle.bt_lsp.specs.Parameters.{document_of, place_of, text_at, position_at}
 use Rattle.bt_lsp.specs.Entries.{key_of, kind_of, field_of, name_of, symbol_kind, item_around, is_database}
 use Rattle.bt_lsp.specs.Hover.{key_at, word_of, hover_lines, hover_at}
@@ -63,10 +66,10 @@ diagnostics_plain (d ∷ ds) = (refl, diagnostics_plain ds)
 published_note : (uri : List ℕ) (list : List Data) → AllByRecursion HasNoFloat list → IsNote (published uri list)
 published_note uri list p = (refl, rw (items_plain list p) refl)
 
-news_notes : (shown : Shown) (docs : List Document) → AllByRecursion IsNote (news shown docs)
-news_notes shown [] = tt
-news_notes shown (d ∷ ds) =
-    (published_note d.name (with_hints shown.files d (map diagnostic (shown_of shown d))) (hints_plain shown.files d (map diagnostic (shown_of shown d)) (diagnostics_plain (shown_of shown d))), news_notes shown ds)
+published_notes : (shown : Shown) (docs : List Document) → AllByRecursion IsNote (all_published shown docs)
+published_notes shown [] = tt
+published_notes shown (d ∷ ds) =
+    (published_note d.name (with_hints shown.files d (map diagnostic (shown_of shown d))) (hints_plain shown.files d (map diagnostic (shown_of shown d)) (diagnostics_plain (shown_of shown d))), published_notes shown ds)
 
 warned_notes : (words : List ℕ) (is_due : Bool) → AllByRecursion IsNote (warned words is_due)
 warned_notes words true = ((refl, refl), tt)
@@ -87,14 +90,25 @@ cleared_notes Saved m = tt
 cleared_notes Exit m = tt
 cleared_notes Other m = tt
 
-told_notes : (shown : Shown) (lost behind : Bool) (notice : Notice) (m : Data) (docs : List Document) →
-    AllByRecursion IsNote (warnings lost behind ++ cleared notice m ++ news shown docs)
-told_notes shown lost behind notice m docs =
-    all_both IsNote (warnings lost behind ++ cleared notice m) _ (all_both IsNote (warnings lost behind) _ (warnings_notes lost behind) (cleared_notes notice m)) (news_notes shown docs)
+one_note : (b : Bool) (note : Data) (list : List Data) → IsNote note → AllByRecursion IsNote list → AllByRecursion IsNote (if b then list ++ note ∷ [] else list)
+one_note true note list is p = all_both IsNote list (note ∷ []) p (is, tt)
+one_note false note list is p = p
+
+announced_notes : (a : Announced) (shown : Shown) (list : List Data) → AllByRecursion IsNote list → AllByRecursion IsNote (with_announced a shown list)
+announced_notes a shown list p =
+    one_note a.status (notification (codes "bibtex/status") (shown_status shown.status)) _ (refl, refl)
+    (one_note a.log (notification (codes "bibtex/log") (shown_text shown.log shown.status)) _ (refl, refl)
+    (one_note a.bibliography (notification (codes "bibtex/bbl") (shown_text shown.bibliography shown.status)) list (refl, refl) p))
+
+told_notes : (a : Announced) (shown : Shown) (lost behind : Bool) (notice : Notice) (m : Data) (docs : List Document) →
+    AllByRecursion IsNote (news a shown docs (warnings lost behind ++ cleared notice m))
+told_notes a shown lost behind notice m docs =
+    announced_notes a shown (warnings lost behind ++ cleared notice m ++ all_published shown docs)
+    (all_both IsNote (warnings lost behind ++ cleared notice m) _ (all_both IsNote (warnings lost behind) _ (warnings_notes lost behind) (cleared_notes notice m)) (published_notes shown docs))
 
 tells_notes : {P : Type 0} (shown : P → Shown) (lost : Bool) (notice : Notice) (m : Data) (told : List Data) (e : Server P) →
     Tells shown lost notice m told e → AllByRecursion IsNote told
-tells_notes shown lost notice m told e (inl h) = subst (AllByRecursion IsNote) (sym h.0) (told_notes (shown e.paper) lost e.behind notice m e.documents)
+tells_notes shown lost notice m told e (inl h) = subst (AllByRecursion IsNote) (sym h.0) (told_notes e.announced (shown e.paper) lost e.behind notice m e.documents)
 tells_notes shown lost notice m told e (inr h) = subst (AllByRecursion IsNote) (sym h.0) tt
 
 -- what is said to a notification that the desk takes
@@ -216,6 +230,7 @@ document_plain query m (Some d) = of_plain query d m
 paper_plain : (c : Counting) (shown : Shown) (query : PaperQuery) (m : Data) → has_float (paper_answer c shown query m) ≡ false
 paper_plain c shown Bibliography m = refl
 paper_plain c shown Log m = refl
+paper_plain c shown Status m = refl
 paper_plain c shown Symbols m = found_symbols_plain c shown.files m
 
 -- the outcome of a request that changes nothing

@@ -13,10 +13,10 @@ use Rattle.bt_lsp.specs.declared.methods.CursorQuery.TheVariants.{Hover, Definit
 use Rattle.bt_lsp.specs.declared.methods.DocumentQuery.{DocumentQuery}
 use Rattle.bt_lsp.specs.declared.methods.DocumentQuery.TheVariants.{Outline, Folds, Format, Actions}
 use Rattle.bt_lsp.specs.declared.methods.PaperQuery.{PaperQuery}
-use Rattle.bt_lsp.specs.declared.methods.PaperQuery.TheVariants.{Bibliography, Log, Symbols}
+use Rattle.bt_lsp.specs.declared.methods.PaperQuery.TheVariants.{Bibliography, Log, Status, Symbols}
 use Rattle.bt_lsp.specs.Shown.{Shown}
 use Rattle.bt_lsp.specs.Parameters.{place_of, document_of, text_at}
-use Rattle.bt_lsp.specs.Shapes.{shown_text}
+use Rattle.bt_lsp.specs.Shapes.{shown_text, shown_status}
 use Rattle.bt_lsp.specs.Hover.{hover_at}
 use Rattle.bt_lsp.specs.References.{references_at}
 use Rattle.bt_lsp.specs.Renaming.{renamed_at, name_range_at}
@@ -48,6 +48,7 @@ answer_of Actions d m = actions d m
 abbrev pub paper_answer : Counting → Shown → PaperQuery → Data → Data
 paper_answer c shown Bibliography m = shown_text shown.bibliography shown.status
 paper_answer c shown Log m = shown_text shown.log shown.status
+paper_answer c shown Status m = shown_status shown.status
 paper_answer c shown Symbols m = symbols c shown.files m
 
 -- the answer at a place, if the message has one

@@ -68,10 +68,11 @@ IsOutcome query Ready (OfPaper q) d outcome e = (outcome ≡ query (OfPaper q)) 
 IsOutcome query Ready Unknown d outcome e = (outcome ≡ query Unknown) × (e ≡ d)
 
 -- What the editor is told: warnings if a message was lost or memory ran out for a document's text, and the diagnostics of
--- each open document as the run has them now. If memory runs out it is told nothing. The desk knows whether it owes news.
+-- each open document as the run has them now, and what is announced. If memory runs out it is told nothing. The desk knows
+-- whether it owes news.
 abbrev pub Tells : {P : Type 0} → (P → Shown) → Bool → Notice → Data → List Data → Server P → Type 0
 Tells shown lost notice m told e =
-    ((told ≡ warnings lost e.behind ++ cleared notice m ++ news (shown e.paper) e.documents) × (e.lost ≡ false) ×
+    ((told ≡ news e.announced (shown e.paper) e.documents (warnings lost e.behind ++ cleared notice m)) × (e.lost ≡ false) ×
     (e.pending ≡ e.behind)) ⊎ ((told ≡ []) × (e.lost ≡ lost) × (e.pending ≡ true))
 
 -- The documents change as a notification says, and the desk knows if the paper has yet to get the new text; or they stay,
@@ -96,6 +97,7 @@ pub record Carried {P : Type 0} (text : P → List ℕ → Option (List ℕ)) (s
   pub says : Tells shown next.lost notice m told e
   pub phase : e.phase ≡ d.phase
   pub counts_bytes : e.counts_bytes ≡ d.counts_bytes
+  pub announced : e.announced ≡ d.announced
   pub over : e.over ≡ d.over
 
 -- whether the desk owes news

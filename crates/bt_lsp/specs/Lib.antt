@@ -9,6 +9,7 @@ pub mod Hover
 pub mod Mentioning
 pub mod Picking
 pub mod Hints
+pub mod Announcing
 pub mod News
 pub mod Visiting
 pub mod References

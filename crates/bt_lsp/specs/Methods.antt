@@ -4,7 +4,7 @@ use Rattle.bt_lsp.specs.declared.methods.Request.{Request}
 use Rattle.bt_lsp.specs.declared.methods.Request.TheVariants.{Initialize, Shutdown, AtCursor, OfDocument, OfPaper, Unknown}
 use Rattle.bt_lsp.specs.declared.methods.CursorQuery.TheVariants.{Hover, Definition, References, Rename, NameRange, Completion}
 use Rattle.bt_lsp.specs.declared.methods.DocumentQuery.TheVariants.{Outline, Folds, Format, Actions}
-use Rattle.bt_lsp.specs.declared.methods.PaperQuery.TheVariants.{Bibliography, Log, Symbols}
+use Rattle.bt_lsp.specs.declared.methods.PaperQuery.TheVariants.{Bibliography, Log, Status, Symbols}
 use Rattle.bt_lsp.specs.declared.methods.Notice.{Notice}
 use Rattle.bt_lsp.specs.declared.methods.Notice.TheVariants.{Opened, Changed, Closed, Saved, Exit, Other}
 
@@ -25,7 +25,8 @@ request_of method =
     (if bytes_eq method (codes "textDocument/codeAction") then OfDocument Actions else
     (if bytes_eq method (codes "bibtex/bbl") then OfPaper Bibliography else
     (if bytes_eq method (codes "bibtex/log") then OfPaper Log else
-    (if bytes_eq method (codes "workspace/symbol") then OfPaper Symbols else Unknown))))))))))))))
+    (if bytes_eq method (codes "bibtex/status") then OfPaper Status else
+    (if bytes_eq method (codes "workspace/symbol") then OfPaper Symbols else Unknown)))))))))))))))
 
 -- the notification of a method
 abbrev pub notice_of : List ℕ → Notice

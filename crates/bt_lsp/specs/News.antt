@@ -9,6 +9,8 @@ use Rattle.bt_diagnostics.specs.Diagnostics.{diagnostics}
 use Rattle.bt_lsp.specs.declared.methods.Notice.{Notice}
 use Rattle.bt_lsp.specs.declared.methods.Notice.TheVariants.{Opened, Changed, Closed, Saved, Exit, Other}
 use Rattle.bt_lsp.specs.Shown.{Shown}
+use Rattle.bt_lsp.specs.declared.announcing.Announced.{Announced}
+use Rattle.bt_lsp.specs.Announcing.{with_announced}
 use Rattle.bt_lsp.specs.Parameters.{text_at}
 use Rattle.bt_lsp.specs.Hints.{with_hints}
 use Rattle.bt_lsp.specs.Shapes.{diagnostic, published}
@@ -29,8 +31,12 @@ abbrev pub published_of : Shown → Document → Data
 published_of shown d = published d.name (with_hints shown.files d (map diagnostic (shown_of shown d)))
 
 -- the diagnostics of each open document
-abbrev pub news : Shown → List Document → List Data
-news shown docs = map (published_of shown) docs
+abbrev pub all_published : Shown → List Document → List Data
+all_published shown docs = map (published_of shown) docs
+
+-- what comes first, then the diagnostics of each open document, and what is announced
+abbrev pub news : Announced → Shown → List Document → List Data → List Data
+news announced shown docs first = with_announced announced shown (first ++ all_published shown docs)
 
 -- what the editor is told if a message was lost
 abbrev pub lost_words : List ℕ

@@ -62,6 +62,10 @@ shown_text bytes status =
     object (member (codes "exact") (boolean (is_utf8 bytes)) (member (codes "status") (number (unsigned status))
     (member (codes "text") (text bytes) no_members)))
 
+-- the run's status
+abbrev pub shown_status : ℕ → Data
+shown_status status = object (member (codes "status") (number (unsigned status)) no_members)
+
 -- how completion works
 abbrev pub completion_options : Data
 completion_options =

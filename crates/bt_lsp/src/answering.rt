@@ -17,7 +17,7 @@ use crate::paper::Paper;
 use crate::parameters::{document_of, place_of, text_at};
 use crate::references::references_at;
 use crate::renaming::{name_range_at, renamed_at};
-use crate::shapes::shown_text;
+use crate::shapes::{shown_status, shown_text};
 use crate::symbols::symbols;
 use bt_documents::Document;
 use bt_positions::{Counting, Position};
@@ -77,6 +77,7 @@ fn paper_answer<P: Paper>(
     match query {
         PaperQuery::Bibliography => shown_text(alloc, paper.bibliography(), paper.status()),
         PaperQuery::Log => shown_text(alloc, paper.log(), paper.status()),
+        PaperQuery::Status => shown_status(alloc, paper.status()),
         PaperQuery::Symbols => symbols(alloc, counting, paper, message),
     }
 }

@@ -6,6 +6,7 @@
 #![tactic(auto)]
 
 mod actions;
+mod announcing;
 mod answering;
 mod changes;
 mod citing;

@@ -40,6 +40,7 @@ pub enum DocumentQuery {
 pub enum PaperQuery {
     Bibliography,
     Log,
+    Status,
     Symbols,
 }
 
@@ -74,6 +75,7 @@ pub fn request_of(method: &str) -> Request
         "textDocument/codeAction" => Request::OfDocument(DocumentQuery::Actions),
         "bibtex/bbl" => Request::OfPaper(PaperQuery::Bibliography),
         "bibtex/log" => Request::OfPaper(PaperQuery::Log),
+        "bibtex/status" => Request::OfPaper(PaperQuery::Status),
         "workspace/symbol" => Request::OfPaper(PaperQuery::Symbols),
         _ => Request::Unknown,
     }

@@ -2,9 +2,10 @@
 
 ghost use Rattle.std.specs.Prelude.{◌≡◌, ◌++◌, ◌∷◌, [], map, IfOk};
 ghost use Rattle.serde_json.specs.View.{view};
-ghost use Rattle.bt_lsp.specs.News.{shown_of, published_of, warning_params, warning, lost_words, behind_words, warned, warnings, cleared, news};
+ghost use Rattle.bt_lsp.specs.News.{shown_of, published_of, warning_params, warning, lost_words, behind_words, warned, warnings, cleared, all_published, news};
 ghost use Rattle.bt_lsp.specs.Shapes.{published};
 
+use crate::announcing::{Announced, with_announced};
 use crate::hints::with_hints;
 use crate::methods::Notice;
 use crate::paper::Paper;
@@ -132,19 +133,35 @@ pub fn first_news(
     Ok(told)
 }
 
-/// What comes first, and then the diagnostics of each open document.
-pub fn news<P: Paper>(
+/// Adds the diagnostics of each open document.
+fn with_diagnostics<P: Paper>(
     alloc: Global,
     paper: &P,
     documents: &[Document],
     first: Vec<Value>,
 ) -> Result<Vec<Value>, AllocError>
     ensures { IfOk result (λ told. map view told.items ≡
-        map view first.items ++ news (P.shown paper.now) documents.now) }
+        map view first.items ++ all_published (P.shown paper.now) documents.now) }
 {
     let mut told = first;
     'documents: for document in documents {
         told.push(published_of(alloc, paper, document)?)?;
     }
+    Ok(told)
+}
+
+/// What comes first, then the diagnostics of each open document, and what is announced.
+pub fn news<P: Paper>(
+    alloc: Global,
+    paper: &P,
+    documents: &[Document],
+    announced: Announced,
+    first: Vec<Value>,
+) -> Result<Vec<Value>, AllocError>
+    ensures { IfOk result (λ told. map view told.items ≡
+        news announced (P.shown paper.now) documents.now (map view first.items)) }
+{
+    let list = with_diagnostics(alloc, paper, documents, first)?;
+    let told = with_announced(alloc, paper, announced, list)?;
     Ok(told)
 }

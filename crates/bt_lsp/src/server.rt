@@ -8,6 +8,7 @@ ghost use Rattle.bt_lsp.specs.Desk.{duty_of, IsBegun, IsOutcome, TakenOrLost, Te
 ghost use Rattle.bt_lsp.specs.Answering.{answered};
 ghost use Rattle.bt_lsp.specs.Words.{counting_of};
 
+use crate::announcing::{Announced, announced_by};
 use crate::answering::answered;
 use crate::methods::{Notice, Request, notice_of, request_of};
 use crate::news::{first_news, news};
@@ -58,6 +59,8 @@ pub struct Server<P> {
     pub behind: bool,
     /// Whether there is news that the editor hasn't been told.
     pub pending: bool,
+    /// What the editor has announced after each change.
+    pub announced: Announced,
     /// Whether `exit` came.
     pub over: bool,
 }
@@ -94,6 +97,11 @@ impl<P: Paper> Server<P> {
             lost: false,
             behind: false,
             pending: false,
+            announced: Announced {
+                bibliography: false,
+                log: false,
+                status: false,
+            },
             over: false,
         }
     }
@@ -120,6 +128,7 @@ fn begin<P: Paper>(
     server.documents = Sequence::new(alloc);
     server.counts_bytes = counts_bytes;
     server.behind = false;
+    server.announced = announced_by(message);
     server.phase = Phase::Ready;
     Ok(Ok(answer))
 }
@@ -166,7 +175,13 @@ fn tell<P: Paper>(
     ensures rest { server.new ≡ record server.old { lost = server.new.lost; pending = server.new.pending } }
 {
     let told = match first_news(alloc, server.lost, server.behind, notice, message) {
-        Ok(first) => news(alloc, &server.paper, server.documents.as_slice(), first),
+        Ok(first) => news(
+            alloc,
+            &server.paper,
+            server.documents.as_slice(),
+            server.announced,
+            first,
+        ),
         Err(error) => Err(error),
     };
     match told {
@@ -197,12 +212,7 @@ fn catch_up<P: Paper>(alloc: Global, server: &mut Server<P>)
 }
 
 /// Takes a notification, or remembers that it is lost.
-fn take_or_lose<P: Paper>(
-    alloc: Global,
-    server: &mut Server<P>,
-    notice: Notice,
-    message: &Value,
-)
+fn take_or_lose<P: Paper>(alloc: Global, server: &mut Server<P>, notice: Notice, message: &Value)
     ensures taken { TakenOrLost notice (view message.now) server.old server.new }
     ensures follows { Follows (P.text server.old.paper) server.old.documents →
         Follows (P.text server.new.paper) server.new.documents }

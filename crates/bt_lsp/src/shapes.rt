@@ -2,7 +2,7 @@
 
 ghost use Rattle.std.specs.Prelude.{◌≡◌, ◌<◌, ◌*◌, ◌^◌, length, map, IfOk};
 ghost use Rattle.serde_json.specs.View.{view, items_of};
-ghost use Rattle.bt_lsp.specs.Shapes.{range, range_of, location, diagnostic, published_params, published, hover, shown_text, completion_options, rename_options, sync_options, abilities, encoding_of, capabilities};
+ghost use Rattle.bt_lsp.specs.Shapes.{range, range_of, location, diagnostic, published_params, published, hover, shown_text, shown_status, completion_options, rename_options, sync_options, abilities, encoding_of, capabilities};
 
 use crate::words::{is_utf8, shown};
 use bt_diagnostics::Diagnostic;
@@ -99,6 +99,13 @@ pub fn shown_text(alloc: Global, text: &[u8], status: u8) -> Result<Value, Alloc
     let exact = is_utf8(text);
     let words = shown(alloc, text)?;
     json!(in alloc; {"text": words, "exact": exact, "status": status})
+}
+
+/// The run's status.
+pub fn shown_status(alloc: Global, status: u8) -> Result<Value, AllocError>
+    ensures { IfOk result (λ v. view v ≡ shown_status status) }
+{
+    json!(in alloc; {"status": status})
 }
 
 fn completion_options(alloc: Global) -> Result<Value, AllocError>

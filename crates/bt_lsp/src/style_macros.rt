@@ -18,21 +18,13 @@ use std::alloc::{AllocError, Global};
 #[derive(Clone, Copy)]
 struct StyleNames;
 
-fn with_style_macro(
-    alloc: Global,
-    list: Vec<Value>,
-    one: &Macro,
-) -> Result<Vec<Value>, AllocError>
+fn with_style_macro(alloc: Global, list: Vec<Value>, one: &Macro) -> Result<Vec<Value>, AllocError>
     ensures { IfOk result (λ all. map view all.items ≡ with_style_macro (map view list.items) one.now) }
 {
     with_name(alloc, one.name.as_slice(), list)
 }
 
-fn with_macros(
-    alloc: Global,
-    list: Vec<Value>,
-    macros: &[Macro],
-) -> Result<Vec<Value>, AllocError>
+fn with_macros(alloc: Global, list: Vec<Value>, macros: &[Macro]) -> Result<Vec<Value>, AllocError>
     ensures { IfOk result (λ all. map view all.items ≡ fold with_style_macro (map view list.items) macros.now) }
 {
     let mut all = list;

@@ -1,10 +1,8 @@
-use Rattle.std.proofs.Common.{arith}
-use Rattle.serde_json.specs.View.{view}
-use Rattle.bt_lsp.specs.News.{published_of}
-use Rattle.bt_lsp.proofs.MoreLemmas.{mapped_more}
+use Rattle.std.proofs.Common.{List, ap, ◌∙◌}
+use Rattle.serde_json.specs.Data.{Data}
+use Rattle.bt_lsp.specs.Announcing.{with_announced}
 use Rattle.bt_lsp.proofs.news.news.Goals as goal
 
-pub documents-preserved : goal.documents-preserved
-documents-preserved g c =
-    mapped_more view (published_of (g.P.Paper.shown c.args.paper.now)) c.args.documents.now c.documents.document-index c.document-item.result _ _ _ _
-    (omega (arith, c.documents-test.true)) c.document-item.is c.in_ok-push.ensures.items c.in_ok-published_of.ensures c.documents.invariant
+pub returns : goal.returns
+returns g c =
+    c.in_ok-told.ensures ∙ ap (λ (l : List Data). with_announced c.args.announced (g.P.Paper.shown c.args.paper.now) l) c.in_ok-list.ensures

@@ -1,0 +1,149 @@
+//! What an editor may have announced after each change: the bibliography, the log and the run's status, so that a window can
+//! follow them. An editor that didn't ask for them might complain of methods that it doesn't know.
+
+ghost use Rattle.std.specs.Prelude.{◌≡◌, ◌++◌, ◌∷◌, [], map, IfOk};
+ghost use Rattle.serde_json.specs.View.{view};
+ghost use Rattle.bt_rpc.specs.Messages.{notification};
+ghost use Rattle.bt_lsp.specs.Shapes.{shown_text, shown_status};
+ghost use Rattle.bt_lsp.specs.Announcing.{with_bibliography, with_log, with_status, with_announced};
+
+use crate::paper::Paper;
+use crate::shapes::{shown_status, shown_text};
+use crate::visiting::with_value;
+use bt_rpc::notification;
+use serde_json::Value;
+use std::alloc::{AllocError, Global};
+
+/// What is announced.
+#[derive(Clone, Copy, Debug, PartialEq, Eq)]
+pub struct Announced {
+    pub bibliography: bool,
+    pub log: bool,
+    pub status: bool,
+}
+
+/// Whether an editor asks for what a word names.
+fn asks_for(message: &Value, name: &str) -> bool {
+    match message
+        .pointer("/params/initializationOptions/announce")
+        .and_then(Value::as_array)
+    {
+        Some(words) => words.iter().any(|word| word.as_str() == Some(name)),
+        None => false,
+    }
+}
+
+/// What the editor asks for when it initializes the server.
+pub fn announced_by(message: &Value) -> Announced {
+    Announced {
+        bibliography: asks_for(message, "bbl"),
+        log: asks_for(message, "log"),
+        status: asks_for(message, "status"),
+    }
+}
+
+fn with_note(
+    alloc: Global,
+    method: &str,
+    params: &Value,
+    list: Vec<Value>,
+) -> Result<Vec<Value>, AllocError>
+    ensures { IfOk result (λ all. map view all.items ≡ map view list.items ++ notification method.now (view params.now) ∷ []) }
+{
+    let note = notification(alloc, method, params)?;
+    with_value(list, note)
+}
+
+fn with_text_note(
+    alloc: Global,
+    method: &str,
+    text: &[u8],
+    status: u8,
+    list: Vec<Value>,
+) -> Result<Vec<Value>, AllocError>
+    ensures { IfOk result (λ all. map view all.items ≡
+        map view list.items ++ notification method.now (shown_text text.now status) ∷ []) }
+{
+    let params = shown_text(alloc, text, status)?;
+    let all = with_note(alloc, method, &params, list)?;
+    Ok(all)
+}
+
+fn with_status_note(
+    alloc: Global,
+    method: &str,
+    status: u8,
+    list: Vec<Value>,
+) -> Result<Vec<Value>, AllocError>
+    ensures { IfOk result (λ all. map view all.items ≡
+        map view list.items ++ notification method.now (shown_status status) ∷ []) }
+{
+    let params = shown_status(alloc, status)?;
+    let all = with_note(alloc, method, &params, list)?;
+    Ok(all)
+}
+
+fn with_bibliography<P: Paper>(
+    alloc: Global,
+    paper: &P,
+    is_asked: bool,
+    list: Vec<Value>,
+) -> Result<Vec<Value>, AllocError>
+    ensures { IfOk result (λ all. map view all.items ≡ with_bibliography is_asked (P.shown paper.now) (map view list.items)) }
+{
+    if !is_asked {
+        return Ok(list);
+    }
+    let text = paper.bibliography();
+    let status = paper.status();
+    let all = with_text_note(alloc, "bibtex/bbl", text, status, list)?;
+    Ok(all)
+}
+
+fn with_log<P: Paper>(
+    alloc: Global,
+    paper: &P,
+    is_asked: bool,
+    list: Vec<Value>,
+) -> Result<Vec<Value>, AllocError>
+    ensures { IfOk result (λ all. map view all.items ≡ with_log is_asked (P.shown paper.now) (map view list.items)) }
+{
+    if !is_asked {
+        return Ok(list);
+    }
+    let text = paper.log();
+    let status = paper.status();
+    let all = with_text_note(alloc, "bibtex/log", text, status, list)?;
+    Ok(all)
+}
+
+fn with_status<P: Paper>(
+    alloc: Global,
+    paper: &P,
+    is_asked: bool,
+    list: Vec<Value>,
+) -> Result<Vec<Value>, AllocError>
+    ensures { IfOk result (λ all. map view all.items ≡ with_status is_asked (P.shown paper.now) (map view list.items)) }
+{
+    if !is_asked {
+        return Ok(list);
+    }
+    let status = paper.status();
+    let all = with_status_note(alloc, "bibtex/status", status, list)?;
+    Ok(all)
+}
+
+/// Adds what is announced.
+pub fn with_announced<P: Paper>(
+    alloc: Global,
+    paper: &P,
+    announced: Announced,
+    list: Vec<Value>,
+) -> Result<Vec<Value>, AllocError>
+    ensures { IfOk result (λ all. map view all.items ≡ with_announced announced (P.shown paper.now) (map view list.items)) }
+{
+    let list = with_bibliography(alloc, paper, announced.bibliography, list)?;
+    let more = with_log(alloc, paper, announced.log, list)?;
+    let all = with_status(alloc, paper, announced.status, more)?;
+    Ok(all)
+}
