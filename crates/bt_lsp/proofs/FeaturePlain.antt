@@ -28,7 +28,7 @@ use Rattle.bt_lsp.specs.Folding.{fold_between, fold_of, folds_in, folds_of}
 use Rattle.bt_lsp.specs.Mentioning.{mentions_of, is_key}
 use Rattle.bt_lsp.specs.Picking.{with_picked}
 use Rattle.bt_lsp.specs.References.{is_definition, is_mention, wanted_of, with_reference, with_references, all_references, references, references_of, macro_of}
-use Rattle.bt_lsp.specs.Renaming.{text_edit, with_edit, file_edit, with_file_edit, with_renamed, can_be_named, is_free, renamed, renamed_of, mention_range}
+use Rattle.bt_lsp.specs.Renaming.{text_edit, with_edit, file_edit, with_file_edit, with_renamed, can_be_named, is_free, is_named, renamed, renamed_if_free, renamed_of, mention_range}
 use Rattle.bt_style.specs.Program.{Program}
 use Rattle.bt_lsp.specs.Fields.{program, has_field, field_candidate, with_field, with_program, with_style, field_candidates}
 use Rattle.bt_lsp.specs.Completing.{with_macro, with_macros, macro_candidates}
@@ -99,12 +99,13 @@ renamed_plain files docs d o None = refl
 renamed_plain files docs d None (Some new) = refl
 renamed_plain files docs d (Some m) (Some new) =
     let old = part m.from m.to d.text in
-    some_or_null (can_be_named (wanted_of m.role) new && is_free files docs d.counting (wanted_of m.role) old new) (renamed files docs d.counting (wanted_of m.role) old new)
-    (all_edits_plain files docs d.counting (wanted_of m.role) old new)
+    some_or_null (is_named d.text m) (renamed_if_free files docs d.counting (wanted_of m.role) old new)
+    (some_or_null (can_be_named (wanted_of m.role) new && is_free files docs d.counting (wanted_of m.role) old new) (renamed files docs d.counting (wanted_of m.role) old new)
+    (all_edits_plain files docs d.counting (wanted_of m.role) old new))
 
 pub range_plain : (d : Document) (o : Option Mention) → has_float (mention_range d o) ≡ false
 range_plain d None = refl
-range_plain d (Some m) = refl
+range_plain d (Some m) = some_or_null (is_named d.text m) (range_of d.counting d.text m.from m.to) refl
 
 -- ---- symbols of all databases
 

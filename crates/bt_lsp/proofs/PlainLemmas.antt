@@ -198,7 +198,7 @@ symbols_in_plain c words (p ∷ ps) =
 
 symbols_plain : (d : Document) → has_float (symbols_of d) ≡ false
 symbols_plain d =
-    none_or (nat_lt 1073741824 (length d.text)) (array (items_of (symbols_in d.counting d.text (pieces_of d.text))))
+    none_or (not (is_database d.name) || nat_lt 1073741824 (length d.text)) (array (items_of (symbols_in d.counting d.text (pieces_of d.text))))
     (items_plain (symbols_in d.counting d.text (pieces_of d.text)) (symbols_in_plain d.counting d.text (pieces_of d.text)))
 
 definition_plain : (files : List (List ℕ × List ℕ)) (d : Document) (at : Position) (o : Option Data) → OptionIsPlain o → has_float (elim o [ None ↦ found_at files d at | Some v ↦ v ]) ≡ false

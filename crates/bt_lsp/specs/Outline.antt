@@ -1,12 +1,12 @@
 -- The items of a database as an editor's outline.
-use Rattle.std.specs.Prelude.{ℕ, nat_lt, if◌then◌else◌, List, [], ◌∷◌, length, filter_map, codes, Option, Some, None}
+use Rattle.std.specs.Prelude.{ℕ, nat_lt, ◌||◌, not, if◌then◌else◌, List, [], ◌∷◌, length, filter_map, codes, Option, Some, None}
 use Rattle.serde_json.specs.Data.{Data, null, number, unsigned, array, object, member, no_members}
 use Rattle.serde_json.specs.View.{items_of}
 use Rattle.bt_bib.specs.BibText.{pieces_of}
 use Rattle.bt_bib.specs.declared.placed_pieces.PlacedPiece.{PlacedPiece}
 use Rattle.bt_positions.specs.declared.counting.Counting.{Counting}
 use Rattle.bt_documents.specs.declared.document.Document.{Document}
-use Rattle.bt_lsp.specs.Entries.{name_of, symbol_kind}
+use Rattle.bt_lsp.specs.Entries.{is_database, name_of, symbol_kind}
 use Rattle.bt_lsp.specs.Shapes.{text, range_of}
 
 -- a symbol of the outline: a name, and the part of the text that its item is
@@ -29,8 +29,8 @@ symbol_of c words p = symbol_at c words (symbol_kind p.piece) p.start.place p.en
 abbrev pub symbols_in : Counting → List ℕ → List PlacedPiece → List Data
 symbols_in c words pieces = filter_map (symbol_of c words) pieces
 
--- the outline of a document
+-- the outline of a document, if it is a database of at most 1 GiB
 abbrev pub symbols_of : Document → Data
 symbols_of d =
-    if nat_lt 1073741824 (length d.text) then null
+    if not (is_database d.name) || nat_lt 1073741824 (length d.text) then null
     else array (items_of (symbols_in d.counting d.text (pieces_of d.text)))

@@ -13,7 +13,7 @@ use Rattle.bt_mentions.specs.declared.mention.Mention.{Mention}
 use Rattle.bt_mentions.specs.Databases.{part}
 use Rattle.bt_lsp.specs.declared.references.Wanted.{Wanted}
 use Rattle.bt_lsp.specs.declared.references.Wanted.TheVariants.{Keys, Macros, Definitions}
-use Rattle.bt_lsp.specs.Mentioning.{mention_at}
+use Rattle.bt_lsp.specs.Mentioning.{is_key, mention_at}
 use Rattle.bt_lsp.specs.Picking.{with_picked}
 use Rattle.bt_lsp.specs.References.{is_mention, is_mentioned, wanted_of}
 use Rattle.bt_lsp.specs.Shapes.{text, range_of}
@@ -72,12 +72,16 @@ abbrev pub renamed_if_free : List (List ℕ × List ℕ) → List Document → C
 renamed_if_free files docs c wanted old new =
     if can_be_named wanted new && is_free files docs c wanted old new then renamed files docs c wanted old new else null
 
+-- whether a mention has a name that can change; a number in a value has none
+abbrev pub is_named : List ℕ → Mention → Bool
+is_named text m = is_key m.role || is_name (part m.from m.to text)
+
 -- the edits that give the name of a mention in a document a new name
 abbrev pub renamed_of : List (List ℕ × List ℕ) → List Document → Document → Option Mention → Option (List ℕ) → Data
 renamed_of files docs d m None = null
 renamed_of files docs d None (Some new) = null
 renamed_of files docs d (Some m) (Some new) =
-    renamed_if_free files docs d.counting (wanted_of m.role) (part m.from m.to d.text) new
+    if is_named d.text m then renamed_if_free files docs d.counting (wanted_of m.role) (part m.from m.to d.text) new else null
 
 -- the edits that give the key or the macro at a position of a document a new name
 abbrev pub renamed_at : List (List ℕ × List ℕ) → List Document → Document → Position → Option (List ℕ) → Data
@@ -86,7 +90,7 @@ renamed_at files docs d at new = renamed_of files docs d (mention_at d at) new
 -- the range of a mention, if there is one
 abbrev pub mention_range : Document → Option Mention → Data
 mention_range d None = null
-mention_range d (Some m) = range_of d.counting d.text m.from m.to
+mention_range d (Some m) = if is_named d.text m then range_of d.counting d.text m.from m.to else null
 
 -- the range of the name at a position of a document of at most 1 GiB
 abbrev pub name_range_at : Document → Position → Data

@@ -6,7 +6,7 @@ ghost use Rattle.serde_json.specs.View.{view};
 ghost use Rattle.bt_bib.specs.BibText.{pieces_of};
 ghost use Rattle.bt_lsp.specs.Outline.{symbol, symbol_of, symbols_in, symbols_of};
 
-use crate::entries::{name_of, symbol_kind};
+use crate::entries::{is_database, name_of, symbol_kind};
 use crate::news::SHOWN_BYTES;
 use crate::shapes::range_of;
 use crate::words::shown;
@@ -81,12 +81,12 @@ fn symbols_in(
     Ok(list)
 }
 
-/// The outline of a document.
+/// The outline of a document, if it is a database.
 pub fn symbols_of(alloc: Global, document: &Document) -> Result<Value, AllocError>
     ensures { IfOk result (λ v. view v ≡ symbols_of document.now) }
 {
     let text = &document.text;
-    if text.as_slice().len() > SHOWN_BYTES {
+    if !is_database(document.name.as_slice()) || text.as_slice().len() > SHOWN_BYTES {
         return Ok(Value::Null);
     }
     let items = read_bib(alloc, text.as_slice())?;

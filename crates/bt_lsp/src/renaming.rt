@@ -5,9 +5,9 @@ ghost use Rattle.std.specs.List.{list_all};
 ghost use Rattle.serde_json.specs.View.{view};
 ghost use Rattle.bt_mentions.specs.KeyBytes.{is_key_byte};
 ghost use Rattle.bt_lsp.specs.Shapes.{range_of};
-ghost use Rattle.bt_lsp.specs.Renaming.{text_edit, file_edit, with_file_edit, workspace_edit, is_new_key, can_be_named, renamed, is_free, renamed_if_free, renamed_at, name_range_at};
+ghost use Rattle.bt_lsp.specs.Renaming.{text_edit, file_edit, with_file_edit, workspace_edit, is_new_key, can_be_named, renamed, is_free, renamed_if_free, is_named, renamed_at, name_range_at};
 
-use crate::mentioning::mention_at;
+use crate::mentioning::{is_key, mention_at};
 use crate::news::SHOWN_BYTES;
 use crate::paper::Paper;
 use crate::picking::{Pick, with_picked};
@@ -219,6 +219,13 @@ fn renamed_if_free<P: Paper>(
     renamed(alloc, paper, documents, renaming)
 }
 
+/// Whether a mention has a name that can change. A number in a value has none.
+fn is_named(text: &[u8], one: Mention) -> bool
+    ensures { result ≡ is_named text.now one }
+{
+    is_key(one.role) || is_name(part(text, one.from, one.to))
+}
+
 /// The edits that give the key or the macro at a position of a document a new name, in all files; null if there is none, or
 /// if it can't have this name.
 pub fn renamed_at<P: Paper>(
@@ -238,6 +245,9 @@ pub fn renamed_at<P: Paper>(
     let Some(one) = mention_at(alloc, document, at)? else {
         return Ok(Value::Null);
     };
+    if !is_named(document.text.as_slice(), one) {
+        return Ok(Value::Null);
+    }
     let renaming = Renaming {
         counting: document.counting,
         wanted: wanted_of(one.role),
@@ -258,5 +268,8 @@ pub fn name_range_at(alloc: Global, document: &Document, at: Position) -> Result
     let Some(one) = mention_at(alloc, document, at)? else {
         return Ok(Value::Null);
     };
+    if !is_named(document.text.as_slice(), one) {
+        return Ok(Value::Null);
+    }
     range_of(alloc, document.counting, &document.text, one.from, one.to)
 }
