@@ -16,7 +16,7 @@ use bt_talk::talk;
 use std::alloc::AllocError;
 use std::io::{BufReader, BufWriter, ErrorKind};
 use std::process::ExitCode;
-use std::{env, io};
+use std::{env, io, mem};
 
 const VERSION: &str = "0.9.0";
 
@@ -45,9 +45,13 @@ fn answer<S: Source, K: Sink>(
 {
     let alloc = rt.alloc();
     let mut server = Server::new(alloc, SessionPaper::new(alloc, Disk { rt }, options));
-    match talk(alloc, source, sink, &mut server) {
+    let talked = talk(alloc, source, sink, &mut server);
+    let is_shut_down = server.is_shut_down();
+    // The process ends here, so nothing needs to be freed.
+    mem::forget(server);
+    match talked {
         Ok(over) => {
-            if over && server.is_shut_down() {
+            if over && is_shut_down {
                 Ok(ExitCode::SUCCESS)
             } else {
                 Ok(ExitCode::FAILURE)
