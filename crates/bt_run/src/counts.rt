@@ -52,7 +52,9 @@ fn sum_of_calls(calls: &Calls, builtins: &[Builtin]) -> Result<u64, AllocError>
 {
     let mut sum: u64 = 0;
     'builtins: for builtin in builtins {
-        sum = sum.checked_add(calls_of(calls, *builtin)).ok_or(AllocError)?;
+        sum = sum
+            .checked_add(calls_of(calls, *builtin))
+            .ok_or(AllocError)?;
     }
     Ok(sum)
 }

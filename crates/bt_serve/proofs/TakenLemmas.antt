@@ -27,7 +27,7 @@ pub dropped : (e : Edit) (bytes : List ℕ) (n : ℕ) (s : State) (refusal : Opt
     IsAnswer {A = Report} (applied (with_bytes bytes e) s) (Err (unwrap_or refusal OutOfMemory))
 dropped e bytes n s refusal is size =
     let of_number : refusal ≡ refusal_of (with_bytes bytes e) (length (bytes_of (with_bytes bytes e))) s =
-        is ∙ ap (λ k. refusal_of e k s) (sym size) ∙ sym (by_number e bytes s) in
+    is ∙ ap (λ k. refusal_of e k s) (sym size) ∙ sym (by_number e bytes s) in
     let Answers : Option Refusal → Type 0 = λ found. IsAnswer {A = Report} (unless_refused found (changed (with_bytes bytes e) s)) (Err (unwrap_or refusal OutOfMemory)) in
     subst Answers of_number (dropped_at refusal (changed (with_bytes bytes e) s))
 

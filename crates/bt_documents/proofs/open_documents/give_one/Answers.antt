@@ -23,5 +23,5 @@ returns-clause-follows g c = λ now.
     let taken : IsTrue (is_taken c.write-written.result) = search rules in
     let has : text' d.name ≡ Some d.text = ap text' (sym c.as_slice-2.ensures) ∙ c.write-written.ensures.written taken ∙ ap Some c.as_slice-3.ensures in
     let kept : (other : List ℕ) → bytes_eq other d.name ≡ false → text' other ≡ old other =
-        λ other apart. c.write-written.ensures.others other (ap (λ m. bytes_eq other m) c.as_slice-2.ensures ∙ apart) in
+    λ other apart. c.write-written.ensures.others other (ap (λ m. bytes_eq other m) c.as_slice-2.ensures ∙ apart) in
     subst (Follows text') (sym (c.mark.ensures d at)) (follows_given old text' docs c.args.place d at kept has now)
