@@ -70,9 +70,13 @@ fn set(alloc: Global, texts: &mut SparseTexts) -> Result<(), AllocError> {
     texts.set(9, Some(line))
 }
 
+/// A line that fills the room which it gets when it is begun.
+const HELD: &[u8] =
+    b"a-held-line-without-white-space-that-fills-the-room-which-it-gets-when-it-is-beg";
+
 fn held(alloc: Global) -> Result<Held, AllocError> {
     let mut held = Held::new(alloc);
-    felt(held.write(alloc, b"held ", &mut Sequence::new(alloc)))?;
+    felt(held.write(alloc, HELD, &mut Sequence::new(alloc)))?;
     Ok(held)
 }
 
