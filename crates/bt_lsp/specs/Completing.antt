@@ -61,7 +61,7 @@ with_macro words list m =
 abbrev pub with_macros : List Data → List ℕ → List ℕ → List Data
 with_macros list uri words = with_picked (λ u. with_macro) list uri words
 
--- what is offered for the macros of files: those of databases, and those that the style defines
+-- the completions for macros: those of the databases, and those that the style defines
 abbrev pub macro_candidates : List (List ℕ × List ℕ) → List Data
 macro_candidates files = with_style_macros files (with_files with_macros files [])
 

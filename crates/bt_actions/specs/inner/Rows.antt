@@ -30,7 +30,7 @@ sum_of (n, m) = number_given Plus (n +ℤ m)
 abbrev pub difference_of : ℤ × ℤ → Given
 difference_of (n, m) = number_given Minus (n -ℤ m)
 
--- a number's decimal digits, with a sign before those of a negative one
+-- a number in decimal digits, after a minus sign if it is negative
 abbrev pub digits_text : ℤ → Given
 digits_text n = Gives (Txt (signed_decimal n))
 
