@@ -67,9 +67,9 @@ IsOutcome query Ready (OfDocument q) d outcome e = (outcome ≡ query (OfDocumen
 IsOutcome query Ready (OfPaper q) d outcome e = (outcome ≡ query (OfPaper q)) × (e ≡ d)
 IsOutcome query Ready Unknown d outcome e = (outcome ≡ query Unknown) × (e ≡ d)
 
--- What the editor is told: warnings if a message was lost or memory ran out for a document's text, and the diagnostics of
--- each open document as the run has them now, and what is announced. If memory runs out, it is told nothing. The desk knows
--- whether it owes news.
+-- What the editor is told: warnings if a message was lost or memory ran out for a document's text, and the diagnostics
+-- of each open document as the run has them now, and what is announced. If memory runs out, it is told nothing. The
+-- desk knows whether it owes news.
 abbrev pub Tells : {P : Type 0} → (P → Shown) → Bool → Notice → Data → List Data → Server P → Type 0
 Tells shown lost notice m told e =
     ((told ≡ news e.announced (shown e.paper) e.documents (warnings lost e.behind ++ cleared notice m)) × (e.lost ≡ false) ×
