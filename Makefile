@@ -49,6 +49,7 @@ test:
 	tests/run $(PROGRAM) $(PROGRAM).by-rattle
 	tests/front $(JOB_PROGRAM) $(PROGRAM)
 	tests/check $(CHECK_PROGRAM)
+	tests/mutations $(CHECK_PROGRAM) $(PROGRAM) --count 300
 	tests/lsp $(LSP_PROGRAM)
 	tests/lsp $(LSP_PROGRAM) --random 40 1
 	tests/lsp $(LSP_PROGRAM) --broken 300 1
@@ -93,6 +94,8 @@ hostile: build
 compare:
 	tests/compare
 	tests/check $(CHECK_PROGRAM) installed
+	tests/mutations $(CHECK_PROGRAM) $(PROGRAM)
+	tests/mutations $(CHECK_PROGRAM) $(PROGRAM) --installed --bibtex
 
 try-latex:
 	tests/latex

@@ -72,7 +72,7 @@
             (when job (list (concat "--job=" job))))))
 
 (with-eval-after-load 'eglot
-  (add-to-list 'eglot-server-programs '((bibtex-mode latex-mode tex-mode) . bibtex-lsp-contact)))
+  (add-to-list 'eglot-server-programs '((bibtex-mode bibtex-style-mode latex-mode tex-mode) . bibtex-lsp-contact)))
 
 (provide 'bibtex-lsp)
 ;;; bibtex-lsp.el ends here

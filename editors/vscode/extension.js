@@ -225,6 +225,8 @@ function activate(context) {
       server.note('textDocument/didClose', { textDocument: { uri } });
     })),
     ...watch(),
+    // Names in styles have dots and dollars.
+    vscode.languages.setLanguageConfiguration('bst', { wordPattern: /[^\s{}"'#%]+/ }),
     vscode.languages.registerHoverProvider(selector, {
       async provideHover(document, position) {
         const answer = await askAt(document, position, 'textDocument/hover');
@@ -242,7 +244,11 @@ function activate(context) {
         const answer = await askAt(document, position, 'textDocument/completion');
         const items = answer ? answer.items || answer : [];
         // VS Code counts kinds from 0, the protocol from 1.
-        return items.map(one => Object.assign(new vscode.CompletionItem(one.label, (one.kind || 1) - 1), { detail: one.detail }));
+        return items.map(one => Object.assign(new vscode.CompletionItem(one.label, (one.kind || 1) - 1), {
+          detail: one.detail,
+          documentation: one.documentation && new vscode.MarkdownString(one.documentation.value),
+          range: one.textEdit && rangeOf(one.textEdit.range),
+        }));
       },
     }, '{', ','),
     vscode.languages.registerDocumentSymbolProvider(selector, {

@@ -24,6 +24,7 @@ const vscode = {
   CompletionItem: class { constructor(label, kind) { Object.assign(this, { label, kind }); } },
   DocumentSymbol: class { constructor(name, detail, kind, range) { Object.assign(this, { name, detail, kind, range }); } },
   languages: {
+    setLanguageConfiguration: (_, rules) => { providers.rules = rules; return { dispose() {} }; },
     createDiagnosticCollection: () => ({ set: (uri, list) => published.set(uri.toString(), list), delete: uri => published.delete(uri.toString()), dispose() {} }),
     registerHoverProvider: (_, p) => { providers.hover = p; }, registerDefinitionProvider: (_, p) => { providers.definition = p; },
     registerCompletionItemProvider: (_, p) => { providers.completion = p; }, registerDocumentSymbolProvider: (_, p) => { providers.symbols = p; },
@@ -99,6 +100,11 @@ async function wait(holds) {
   check('the last good bibliography', kept.startsWith('% This is the last good') && kept.endsWith(text), kept);
   style.change(0, 4, '');
   check('a new one', await providers.bibliography.provideTextDocumentContent(uri) === text, null);
+  const spot = style.position(style.text.indexOf('duplicate$') + 3);
+  const names = await providers.completion.provideCompletionItems(style, spot);
+  const period = names.find(one => one.label === 'add.period$') || { range: { start: {} } };
+  check('completion in a style', period.range.start.character === spot.character - 3 && !names.some(one => one.label === 'or.else'), names);
+  check('a whole name is a word', '{ add.period$ }'.match(providers.rules.wordPattern)[0] === 'add.period$', providers.rules);
   fs.writeFileSync('cite.tex', '% !TEX root = paper.tex\n\\cite{neumann:games}\\cite{\n');
   const paper = new Document('cite.tex', 'latex');
   handlers.open(paper);

@@ -1,11 +1,19 @@
 //! What an edit reads again of what a session has read.
 
+ghost use Rattle.std.specs.Prelude.{◌≡◌, IfSome};
 ghost use Rattle.bt_bib.specs.Splice.{IsSplice};
 
 use bt_bib::Splice;
-use bt_run::{DatabaseEdit, Readings, database_of};
+use bt_run::{Database, DatabaseEdit, Readings};
 use bt_text::{Bytes, Shared};
 use std::alloc::{AllocError, Global};
+
+/// How an edit changed a known database, and that database's place among the known ones.
+#[derive(Drop)]
+pub struct Spliced {
+    pub place: usize,
+    pub edit: DatabaseEdit,
+}
 
 /// What a session has read, and what an edit reads of it again.
 #[derive(Drop)]
@@ -13,7 +21,25 @@ pub struct Reread<'a> {
     pub alloc: Global,
     pub known: &'a Readings,
     /// How the edit changed a database, if it spliced a text that was known as one.
-    pub edit: Option<DatabaseEdit>,
+    pub spliced: Option<Spliced>,
+}
+
+/// A known database, and its place among the known ones.
+#[derive(Clone, Copy)]
+struct Known<'a> {
+    place: usize,
+    database: &'a Database,
+}
+
+fn known_of<'a>(databases: &'a [Database], text: &[u8]) -> Option<Known<'a>>
+    ensures { IfSome result (λ known. known.database.now.text ≡ text.now) }
+{
+    'databases: for (place, database) in databases.iter().enumerate() {
+        if database.text.as_slice() == text {
+            return Some(Known { place, database });
+        }
+    }
+    None
 }
 
 impl<'a> Reread<'a> {
@@ -22,7 +48,7 @@ impl<'a> Reread<'a> {
         Reread {
             alloc,
             known,
-            edit: None,
+            spliced: None,
         }
     }
 
@@ -36,19 +62,22 @@ impl<'a> Reread<'a> {
     ) -> Result<(), AllocError>
         requires { IsSplice old.now text.now splice.begin splice.end splice.inserted }
     {
-        if let Some(database) = database_of(self.known.databases.as_slice(), old) {
+        if let Some(known) = known_of(self.known.databases.as_slice(), old) {
             let text = text.share()?;
-            self.edit = Some(database.spliced(self.alloc, text, splice)?);
+            let edit = known.database.spliced(self.alloc, text, splice)?;
+            self.spliced = Some(Spliced {
+                place: known.place,
+                edit,
+            });
         }
         Ok(())
     }
 
-    /// What is known after the edit.
+    /// What is known after the edit. A spliced database replaces the old one.
     pub fn readings(self) -> Result<Readings, AllocError> {
         let mut readings = self.known.share(self.alloc)?;
-        if let Some(edit) = self.edit {
-            readings.databases.push(edit.new.share()?)?;
-            readings.edit = Some(edit);
+        if let Some(Spliced { place, edit }) = self.spliced {
+            readings.put(place, edit)?;
         }
         Ok(readings)
     }

@@ -11,7 +11,7 @@ use crate::options::{Request, parse};
 use anyhow::Result;
 use bt_lsp::Server;
 use bt_paper::{Options, SessionPaper};
-use bt_streams::{ReaderSource, Sink, Source, WriterSink};
+use bt_streams::{LooksAhead, ReaderSource, Sink, Source, WriterSink};
 use bt_talk::talk;
 use std::alloc::AllocError;
 use std::io::{BufReader, BufWriter, ErrorKind};
@@ -34,7 +34,7 @@ standard input and output.
 
 Exit status: 0 after shutdown and exit, otherwise 1.";
 
-fn answer<S: Source, K: Sink>(
+fn answer<S: Source + LooksAhead, K: Sink>(
     rt: &HostRuntime,
     source: &mut S,
     sink: &mut K,

@@ -1,6 +1,6 @@
 //! The command line.
 
-use bt_paper::Options;
+use bt_paper::{Options, with_slash};
 use std::alloc::{AllocError, Global};
 
 /// What the words of a command line come to.
@@ -34,12 +34,4 @@ pub fn parse(alloc: Global, words: &[String]) -> Result<Request, AllocError> {
     }
     folders.push(String::from_str(alloc, "./")?)?;
     Ok(Request::Serve(Options { job, folders }))
-}
-
-fn with_slash(alloc: Global, folder: &str) -> Result<String, AllocError> {
-    let mut name = String::from_str(alloc, folder)?;
-    if !folder.ends_with('/') {
-        name.push('/')?;
-    }
-    Ok(name)
 }

@@ -9,3 +9,4 @@ pub mod Pieces
 pub mod Boundaries
 pub mod CommonBoundary
 pub mod PlacedPieces
+pub mod ValueParts

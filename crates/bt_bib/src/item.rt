@@ -1,6 +1,7 @@
 //! The items of a database, as the readers return them.
 
 use crate::fault::ItemFault;
+use crate::value_parts::ValueParts;
 use bt_text::{Bytes, Sequence, Shared};
 
 /// The sign that closes an item.
@@ -29,7 +30,7 @@ pub struct Field {
     /// The line of its name, relative to that of the item's `@`.
     pub line: usize,
     /// The parts of its value, one or more, in their order.
-    pub value: Sequence<Part>,
+    pub value: ValueParts,
 }
 
 /// What was read of an entry.
@@ -49,7 +50,7 @@ pub struct Definition {
     /// The name that it defines, as written; none if a fault comes before its end.
     pub name: Option<Shared<Bytes>>,
     /// The parts of the value; none if it wasn't read completely.
-    pub value: Option<Sequence<Part>>,
+    pub value: Option<ValueParts>,
 }
 
 /// The kinds of items, with what was read of them.
@@ -60,7 +61,7 @@ pub enum Content {
     /// A `@string`.
     Define(Definition),
     /// A `@preamble`, with the parts of its value; none if it wasn't read completely.
-    Preamble(Option<Sequence<Part>>),
+    Preamble(Option<ValueParts>),
 }
 
 /// An item, or what was read of one before its fault. Its lines are relative to that of its `@`.

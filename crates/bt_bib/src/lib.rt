@@ -23,6 +23,7 @@ mod splice;
 mod split;
 mod spot;
 mod stop;
+mod value_parts;
 mod values;
 
 pub use aux_argument::AuxFault;
@@ -37,3 +38,4 @@ pub use placed_pieces::PlacedPiece;
 pub use splice::{ItemsEdit, Splice};
 pub use split::{is_closed, split_places};
 pub use spot::Spot;
+pub use value_parts::ValueParts;

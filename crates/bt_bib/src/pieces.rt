@@ -15,12 +15,13 @@ ghost use Rattle.bt_bib.specs.inner.Cases.{preamble_read, string_read};
 ghost use Rattle.bt_bib.specs.inner.Pieces.{IsItem};
 
 use crate::fault::{ItemFault, NameRole};
-use crate::item::{Closing, Content, Definition, Entry, Item, Part, Piece};
+use crate::item::{Closing, Content, Definition, Entry, Item, Piece};
 use crate::keywords::Keyword;
 use crate::reader::Reader;
 use crate::scan::Class;
 use crate::spot::Spot;
 use crate::stop::ReadStop;
+use crate::value_parts::ValueParts;
 use bt_text::{Bytes, Sequence, Shared};
 use std::alloc::{AllocError, Global};
 
@@ -155,7 +156,7 @@ impl Reader<'_> {
         &self,
         from: Spot,
         close: Closing,
-        found: &mut Option<Sequence<Part>>,
+        found: &mut Option<ValueParts>,
     ) -> Result<Spot, ReadStop>
         requires at { IsIn self.now.text.now from }
         requires unread { found.old ≡ None }

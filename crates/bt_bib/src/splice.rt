@@ -44,36 +44,29 @@ impl Items {
     ghost use Rattle.bt_bib.specs.Splice.{reread_from, reread_upto, IsSplice, IsItemsEdit};
 
     /// How the items of `new_text` differ from these, which must be the items of `old_text`. The new text is the old
-    /// one with `inserted` bytes in place of its bytes from `start` up to `end`. Only a part of the new text is read:
-    /// from the last boundary below the splice up to the first boundary after it that both texts have. The only error
-    /// is out of memory.
+    /// one after the splice. Only a part of the new text is read: from the last boundary below the splice up to the
+    /// first boundary after it that both texts have. The only error is out of memory.
     pub fn edit(
         &self,
         alloc: Global,
         old_text: &[u8],
         new_text: &[u8],
-        start: usize,
-        end: usize,
-        inserted: usize,
+        splice: Splice,
     ) -> Result<ItemsEdit, AllocError>
         requires old { self.now ≡ pieces_of old_text.now }
-        requires splice { IsSplice old_text.now new_text.now start end inserted }
+        requires splice { IsSplice old_text.now new_text.now splice.begin splice.end splice.inserted }
         ensures edit { IfOk result (λ edit. IsItemsEdit self.now (pieces_of new_text.now) edit) }
         ensures read { IfOk result (λ edit. edit.read
-            ≡ reread_upto old_text.now new_text.now start end inserted - reread_from old_text.now start) }
+            ≡ reread_upto old_text.now new_text.now splice.begin splice.end splice.inserted
+            - reread_from old_text.now splice.begin) }
     {
         let old = self.pieces();
-        let kept = count_below(old, start);
+        let kept = count_below(old, splice.begin);
         let from = last_boundary(old, kept);
         let reader = Reader {
             alloc,
             text: new_text,
             known: &[],
-        };
-        let splice = Splice {
-            begin: start,
-            end,
-            inserted,
         };
         let none = Items::new(alloc);
         let (new, at, joint) = reader.reread(none, from, old, splice)?;
@@ -139,7 +132,12 @@ impl Items {
             ≡ meter.old + (reread_upto old_text.now new_text.now start end inserted - reread_from old_text.now start)) }
         ensures err { OnErr result (meter.new ≡ meter.old) }
     {
-        let edit = self.edit(alloc, old_text, new_text, start, end, inserted)?;
+        let splice = Splice {
+            begin: start,
+            end,
+            inserted,
+        };
+        let edit = self.edit(alloc, old_text, new_text, splice)?;
         let read = edit.read;
         let items = self.edited(alloc, new_text, &edit)?;
         meter.raise(read);

@@ -13,7 +13,8 @@ use crate::reader::Reader;
 use crate::scan::Class;
 use crate::spot::Spot;
 use crate::stop::ReadStop;
-use bt_text::{Sequence, is_digit, is_name_byte};
+use crate::value_parts::ValueParts;
+use bt_text::{is_digit, is_name_byte};
 
 impl Reader<'_> {
     fn raw_part(&self, from: Spot, close: Closing) -> Result<(Part, Spot), ReadStop>
@@ -71,8 +72,8 @@ impl Reader<'_> {
         &self,
         from: Spot,
         close: Closing,
-        parts: Sequence<Part>,
-    ) -> Result<(Sequence<Part>, Spot), ReadStop>
+        parts: ValueParts,
+    ) -> Result<(ValueParts, Spot), ReadStop>
         requires { IsIn self.now.text.now from }
         ensures { Gives self.now.text.now from result
             (collected parts (all (next_part close) (here self.now.text.now from))) }
@@ -83,7 +84,7 @@ impl Reader<'_> {
             let (next, end) = self.next_part(at, close)?;
             match next {
                 None => return Ok((parts, end)),
-                Some(part) => parts.push(part)?,
+                Some(part) => parts = parts.with(self.alloc, part)?,
             }
             at = end;
         }
@@ -91,14 +92,11 @@ impl Reader<'_> {
 
     /// A value, and the white space after it.
     #[tactic(auto, unfolding(crate::specs::Values::value))]
-    pub fn value(&self, from: Spot, close: Closing) -> Result<(Sequence<Part>, Spot), ReadStop>
+    pub fn value(&self, from: Spot, close: Closing) -> Result<(ValueParts, Spot), ReadStop>
         requires { IsIn self.now.text.now from }
         ensures { Gives self.now.text.now from result (value close (here self.now.text.now from)) }
     {
         let (first, end) = self.part(from, close)?;
-        // Most values have one part, and an empty vector would make room for four.
-        let mut parts = Vec::with_capacity(self.alloc, 1)?;
-        parts.push(first)?;
-        self.others(end, close, Sequence::from_vec(parts))
+        self.others(end, close, ValueParts::one(first))
     }
 }

@@ -20,9 +20,11 @@ mod signature;
 mod splitting;
 mod state;
 mod steps;
+mod telling;
 mod types;
 mod values;
 
 pub use fault::{Call, Condition, Fault, FaultKind, FieldState, Step};
 pub use hints::{Hint, Rule, lint};
 pub use steps::{Findings, check};
+pub use telling::{decimal, field_name, function_name};

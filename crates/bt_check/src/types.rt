@@ -2,9 +2,11 @@
 //!
 //! An entry may name any function that is defined before READ, also a helper such as `and`, which fails then. Those meant
 //! are the standard types, functions that call what all of those call (as `output.bibitem` and `fin.entry`), their aliases,
-//! and functions that nothing calls and that run without a fault (as `IEEEtranBSTCTL`).
+//! and functions that nothing calls and that run without a fault (as `IEEEtranBSTCTL`). A style without standard types has
+//! others: all that nothing calls, but for helpers, which take from the stack what they haven't put there.
 
 use crate::checker::Checker;
+use crate::signature::takes;
 use bt_style::{Action, Builtin, Style, Target};
 use bt_words::{Act, Program, Word};
 use std::alloc::{AllocError, Global};
@@ -216,6 +218,20 @@ fn add_aliases(program: &Program, types: &mut Vec<bool>) {
     }
 }
 
+/// Whether a function takes more from the stack than it has put there, so that it is a helper. A type's function begins
+/// with an empty stack.
+fn takes_from_caller(program: &Program, function: usize) -> bool {
+    let mut depth = 0usize;
+    for word in program.body(function) {
+        match word.act {
+            Act::Call(Target::Function(_)) => return false,
+            Act::Call(Target::Builtin(builtin)) => return takes(builtin).len() > depth,
+            _ => depth = depth.saturating_add(1),
+        }
+    }
+    false
+}
+
 impl<'a> Checker<'a> {
     /// Whether a function that nothing calls is a type: a style without standard types may have others, and control entries
     /// run without a fault.
@@ -227,6 +243,7 @@ impl<'a> Checker<'a> {
         if !is_marked(self.program.is_before_read.as_slice(), function)
             || is_marked(catalogue.is_called.as_slice(), function)
             || self.program.is_inner_name(function)
+            || takes_from_caller(self.program, function)
         {
             return Ok(false);
         }

@@ -1,3 +1,3 @@
 pub mod Spans
+pub mod Keys
 pub mod Diagnostics
-pub mod inner

@@ -1,9 +1,10 @@
 //! The diagnostics of a run in a document.
 
 ghost use Rattle.std.specs.Prelude.{◌≡◌, ◌<◌, ◌*◌, ◌^◌, length, IfOk, IfSome, OnOk, ◌≤◌};
-ghost use Rattle.bt_diagnostics.specs.Diagnostics.{severity_of, span_at, words_of, diagnostic_of, diagnostics};
-ghost use Rattle.bt_diagnostics.specs.inner.OneMore.{and_one};
+ghost use Rattle.bt_diagnostics.specs.Diagnostics.{severity_of, span_at, span_for, words_of, diagnostic_of, diagnostics};
+ghost use Rattle.bt_text.specs.ByName.{known};
 
+use crate::keys::{Keys, key_span};
 use crate::spans::{Span, span_of};
 use bt_log::{Message, Place, Rank, add_said};
 use bt_positions::{Counting, IndexedText, Position};
@@ -76,42 +77,46 @@ fn words_of(alloc: Global, message: &Message) -> Result<Bytes, AllocError>
     Ok(words)
 }
 
-/// The diagnostic of a message in a file's text; none if it belongs elsewhere or isn't shown.
+/// The part of a document's text at which a message is shown: its place, or else the key that it is about.
+fn span_for(
+    alloc: Global,
+    name: &[u8],
+    text: &IndexedText,
+    keys: &Keys,
+    message: &Message,
+) -> Result<Option<Span>, AllocError>
+    ensures { IfOk result (λ span. span ≡ span_for name.now text.now keys.now.role (known keys.now.spans) message.now) }
+{
+    match span_at(name, text, &message.place) {
+        Some(span) => Ok(Some(span)),
+        None => key_span(alloc, keys, message),
+    }
+}
+
+/// The diagnostic of a message in a document; none if it belongs elsewhere or isn't shown.
 fn diagnostic_of(
     alloc: Global,
     name: &[u8],
     counting: Counting,
     text: &IndexedText,
+    keys: &Keys,
     message: &Message,
 ) -> Result<Option<Diagnostic>, AllocError>
     requires { 2 * length text.now < 2 ^ 64 }
-    ensures { IfOk result (λ shown. shown ≡ diagnostic_of name.now counting text.now message.now) }
+    ensures { IfOk result (λ shown. shown ≡
+        diagnostic_of name.now counting text.now keys.now.role (known keys.now.spans) message.now) }
 {
-    match (
-        severity_of(message.rank),
-        span_at(name, text, &message.place),
-    ) {
+    let len = text.as_slice().len();
+    let span = span_for(alloc, name, text, keys, message)?;
+    match (severity_of(message.rank), span) {
         (Some(severity), Some(span)) => Ok(Some(Diagnostic {
-            from: text.position_of(counting, span.begin),
-            to: text.position_of(counting, span.end),
+            from: text.position_of(counting, span.begin.min(len)),
+            to: text.position_of(counting, span.end.min(len)),
             severity,
             words: words_of(alloc, message)?,
         })),
         _ => Ok(None),
     }
-}
-
-/// Appends a diagnostic, if there is one.
-fn push_if_any(
-    shown: &mut Sequence<Diagnostic>,
-    diagnostic: Option<Diagnostic>,
-) -> Result<(), AllocError>
-    ensures { OnOk result (shown.new ≡ and_one shown.old diagnostic) }
-{
-    if let Some(diagnostic) = diagnostic {
-        shown.push(diagnostic)?;
-    }
-    Ok(())
 }
 
 /// The diagnostics of messages in the text of the file with this name, in the order of the messages.
@@ -120,15 +125,17 @@ pub fn diagnostics(
     name: &[u8],
     counting: Counting,
     text: &IndexedText,
+    keys: &Keys,
     messages: &[Message],
 ) -> Result<Sequence<Diagnostic>, AllocError>
     requires { 2 * length text.now < 2 ^ 64 }
-    ensures { IfOk result (λ shown. shown ≡ diagnostics name.now counting text.now messages.now) }
+    ensures { IfOk result (λ shown. shown ≡
+        diagnostics name.now counting text.now keys.now.role (known keys.now.spans) messages.now) }
 {
     let mut shown = Sequence::new(alloc);
     'messages: for message in messages {
-        let diagnostic = diagnostic_of(alloc, name, counting, text, message)?;
-        push_if_any(&mut shown, diagnostic)?;
+        let diagnostic = diagnostic_of(alloc, name, counting, text, keys, message)?;
+        shown.push_if_any(diagnostic)?;
     }
     Ok(shown)
 }

@@ -2,6 +2,9 @@
 #![tactic(auto)]
 
 mod diagnostic;
+mod keys;
 mod spans;
 
 pub use diagnostic::{Diagnostic, diagnostics};
+pub use keys::{KeyRole, Keys, is_at_key};
+pub use spans::Span;

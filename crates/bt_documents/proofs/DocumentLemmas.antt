@@ -1,13 +1,12 @@
 -- One document in the place of another.
-use Rattle.std.proofs.Common.{◌≡◌, ◌∙◌, ap, sym, refl, subst, ◌+◌, ℕ, zero, suc, Bool, true, false, not, cond, List, [], ◌∷◌, ◌++◌, take, drop, length, Option, Some, None, option_map, one-add, slice_index_or, slice_get, slice_set, ◌<◌, length-append, arith, ◌⊎◌, inl, inr}
+use Rattle.std.proofs.Common.{◌≡◌, ◌∙◌, ap, sym, refl, subst, ◌+◌, ℕ, zero, suc, Bool, true, false, not, ◌||◌, cond, List, [], ◌∷◌, ◌++◌, take, drop, length, Option, Some, None, option_map, one-add, slice_index_or, slice_get, slice_set, ◌<◌, length-append, arith, ◌⊎◌, inl, inr}
 use Rattle.std.specs.Prelude.{nat_lt, bytes_eq, position}
 use Rattle.std.specs.List.{AllByRecursion, position_or_len}
 use Rattle.std.proofs.Math.Dec.{leb-zero, leb-suc-suc}
 use Rattle.std.proofs.lemmas.Cmp.{nat_list_eq_equiv}
 use Rattle.std.proofs.lemmas.Slice.Eq.{bytes_eq-Decides}
 use Rattle.bt_documents.specs.declared.document.Document.{Document}
-use Rattle.bt_documents.specs.Documents.{with_document, opened, closed, IsGiven, AreGiven, EachOnce, IsInStep, Follows}
-use Rattle.bt_documents.specs.inner.Put.{IsPutAt}
+use Rattle.bt_documents.specs.Documents.{with_document, opened, closed, IsGiven, AreGiven, any_behind, EachOnce, IsInStep, Follows}
 
 -- which document has a name
 abbrev pub place : List ℕ → List Document → Option ℕ
@@ -164,45 +163,6 @@ follows_opened text text' x docs keep step now = go (place x.name docs) refl
     go None none = subst (Follows text') (sym (opened_at_the_end x docs none)) (follows_push text text' x docs none keep step now)
     go (Some n) at = subst (Follows text') (sym (opened_is_set x docs n at)) (follows_set text text' x.name x docs n at refl keep step now)
 
-set_twice : (docs : List Document) (n : ℕ) (x y : Document) → slice_set (slice_set docs n x) n y ≡ slice_set docs n y
-set_twice [] n x y = refl
-set_twice (d ∷ ds) zero x y = refl
-set_twice (d ∷ ds) (suc n) x y = ap (λ l. d ∷ l) (set_twice ds n x y)
-
-get_set : (docs : List Document) (n : ℕ) (x : Document) → n < length docs → slice_get (slice_set docs n x) n ≡ Some x
-get_set [] n x l = absurd (omega (arith, l))
-get_set (d ∷ ds) zero x l = refl
-get_set (d ∷ ds) (suc n) x l = get_set ds n x (omega (arith, l))
-
-length_set : (docs : List Document) (n : ℕ) (x : Document) → length (slice_set docs n x) ≡ length docs
-length_set [] n x = refl
-length_set (d ∷ ds) zero x = refl
-length_set (d ∷ ds) (suc n) x = ap suc (length_set ds n x)
-
-set_end : (docs : List Document) (x y : Document) → slice_set (docs ++ x ∷ []) (length docs) y ≡ docs ++ y ∷ []
-set_end [] x y = refl
-set_end (d ∷ ds) x y = ap (λ l. d ∷ l) (set_end ds x y)
-
-get_end : (docs : List Document) (x : Document) → slice_get (docs ++ x ∷ []) (length docs) ≡ Some x
-get_end [] x = refl
-get_end (d ∷ ds) x = get_end ds x
-
--- a document in the place of another
-pub put_at : (docs new : List Document) (n : ℕ) (x : Document) → place x.name docs ≡ Some n → n < length docs → new ≡ slice_set docs n x → IsPutAt n x docs new
-put_at docs new n x at l is = rw is (record {
-  within = subst (λ k. n < k) (sym (length_set docs n x)) l;
-  there = get_set docs n x l;
-  set = λ y named. set_twice docs n x y ∙ sym (opened_is_set y docs n (ap (λ m. place m docs) named ∙ at));
-})
-
--- a document behind the others
-pub put_last : (docs new : List Document) (n : ℕ) (x : Document) → place x.name docs ≡ None → n ≡ length docs → new ≡ docs ++ x ∷ [] → IsPutAt n x docs new
-put_last docs new n x none at is = rw (is, at) (record {
-  within = omega (arith, length-append docs (x ∷ []));
-  there = get_end docs x;
-  set = λ y named. set_end docs x y ∙ sym (opened_at_the_end y docs (ap (λ m. place m docs) named ∙ none));
-})
-
 -- A document that is closed
 
 pub closed_none : (name : List ℕ) (docs : List Document) → place name docs ≡ None → closed name docs ≡ docs
@@ -300,3 +260,13 @@ follows_given text text' docs n d at keep has now = follows_set text text' d.nam
 -- the text of a document that isn't in step doesn't matter
 pub not_in_step : (text : List ℕ → Option (List ℕ)) (d : Document) → d.in_step ≡ false → IsInStep text d
 not_in_step text d e t = absurd (cc)
+
+-- a document that isn't in step
+pub behind_at : (docs : List Document) (n : ℕ) (d : Document) → slice_get docs n ≡ Some d → d.in_step ≡ false → any_behind docs ≡ true
+behind_at [] n d at out = absurd (cc)
+behind_at (x ∷ ds) zero d at out = rw (ap (λ (e : Document). e.in_step) (some_is x d at) ∙ out) refl
+behind_at (x ∷ ds) (suc n) d at out = go x.in_step (behind_at ds n d at out)
+  where
+    go : (b : Bool) → any_behind ds ≡ true → (not b || any_behind ds) ≡ true
+    go true later = later
+    go false later = refl

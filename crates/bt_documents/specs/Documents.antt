@@ -1,5 +1,5 @@
 -- The open documents, and the files that follow them.
-use Rattle.std.specs.Prelude.{◌≡◌, ◌⊎◌, ℕ, ℤ, Bool, true, false, if◌then◌else◌, List, [], ◌∷◌, Option, Some}
+use Rattle.std.specs.Prelude.{◌≡◌, ◌⊎◌, ℕ, ℤ, Bool, true, false, not, ◌||◌, if◌then◌else◌, List, [], ◌∷◌, Option, Some}
 use Rattle.std.specs.List.{AllByRecursion}
 use Rattle.std.specs.Str.{bytes_eq}
 use Rattle.bt_documents.specs.declared.changes.Change.{Change}
@@ -11,15 +11,15 @@ abbrev pub with_document : List ℕ → (Document → Document) → List Documen
 with_document name f [] = []
 with_document name f (d ∷ ds) = if bytes_eq d.name name then f d ∷ ds else d ∷ with_document name f ds
 
--- the document after changes; the truth value says whether the files took its new text
-abbrev pub after_changes : List ℕ → ℤ → List Change → Bool → Document → Document
-after_changes name version changes accepted d =
+-- the document after changes, whose new text the files don't have yet
+abbrev pub after_changes : List ℕ → ℤ → List Change → Document → Document
+after_changes name version changes d =
     record {
       name = name;
       counting = d.counting;
       version = version;
       text = all_edited d.counting changes d.text;
-      in_step = accepted;
+      in_step = false;
     }
 
 -- the documents with a new one, which replaces the first of its name or comes last
@@ -42,6 +42,11 @@ AreGiven [] [] = Unit {0}
 AreGiven [] (e ∷ es) = ⊥
 AreGiven (d ∷ ds) [] = ⊥
 AreGiven (d ∷ ds) (e ∷ es) = IsGiven d e × AreGiven ds es
+
+-- whether the files don't have a document's text
+abbrev pub any_behind : List Document → Bool
+any_behind [] = false
+any_behind (d ∷ ds) = not d.in_step || any_behind ds
 
 -- no two documents have one name
 abbrev pub EachOnce : List Document → Type 0

@@ -9,6 +9,12 @@ is_taken Taken = true
 is_taken Refused = false
 is_taken Waiting = false
 
+-- whether they don't admit it
+abbrev pub is_refused : Written → Bool
+is_refused Taken = false
+is_refused Refused = true
+is_refused Waiting = false
+
 -- whether they don't have it yet
 abbrev pub is_waiting : Written → Bool
 is_waiting Taken = false

@@ -80,35 +80,20 @@ fn read_header<S: Source>(source: &mut S) -> Result<Header, StreamFailed>
     }
 }
 
-/// Drops a body that is too large.
-fn drop_large<S: Source>(source: &mut S, count: usize) -> Result<Frame, StreamFailed>
-    requires failures { (S.seen source.old).failures < 2 ^ 64 - 1 }
-    requires large { body_bytes < count }
+/// Drops a body that is too large, or for which there is no memory.
+fn drop_body<S: Source>(source: &mut S, count: usize) -> Result<Frame, StreamFailed>
+    requires { (S.seen source.old).failures < 2 ^ 64 - 1 }
     ensures body { IfOk result (ReadsBody (S.seen source.old).rest (S.seen source.new).rest count) }
     ensures lowers { (S.seen source.new).reads_left ≤ (S.seen source.old).reads_left }
     ensures ok { OnOk result ((S.seen source.new).failures ≡ (S.seen source.old).failures) }
     ensures err { OnErr result ((S.seen source.new).failures ≡ (S.seen source.old).failures + 1) }
 {
-    if drop_bytes(source, count)? {
+    if !drop_bytes(source, count)? {
+        Ok(Frame::Cut)
+    } else if count > BODY_BYTES {
         Ok(Frame::TooLarge)
     } else {
-        Ok(Frame::Cut)
-    }
-}
-
-/// Drops a body for which there is no memory.
-fn drop_unread<S: Source>(source: &mut S, count: usize) -> Result<Frame, StreamFailed>
-    requires failures { (S.seen source.old).failures < 2 ^ 64 - 1 }
-    requires fits { count ≤ body_bytes }
-    ensures body { IfOk result (ReadsBody (S.seen source.old).rest (S.seen source.new).rest count) }
-    ensures lowers { (S.seen source.new).reads_left ≤ (S.seen source.old).reads_left }
-    ensures ok { OnOk result ((S.seen source.new).failures ≡ (S.seen source.old).failures) }
-    ensures err { OnErr result ((S.seen source.new).failures ≡ (S.seen source.old).failures + 1) }
-{
-    if drop_bytes(source, count)? {
         Ok(Frame::NoMemory)
-    } else {
-        Ok(Frame::Cut)
     }
 }
 
@@ -138,11 +123,11 @@ fn read_body<S: Source>(alloc: Global, source: &mut S, count: usize) -> Result<F
     ensures err { OnErr result ((S.seen source.new).failures ≡ (S.seen source.old).failures + 1) }
 {
     if count > BODY_BYTES {
-        return drop_large(source, count);
+        return drop_body(source, count);
     }
     match vec![in alloc; 0; count] {
         Ok(buffer) => fill(source, buffer),
-        Err(_) => drop_unread(source, count),
+        Err(_) => drop_body(source, count),
     }
 }
 

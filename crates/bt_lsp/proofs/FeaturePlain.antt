@@ -1,10 +1,11 @@
 -- The features' values have no floats.
-use Rattle.std.proofs.Common.{◌≡◌, ℕ, min, codes, List, [], ◌∷◌, ◌++◌, length, refl, Bool, true, false, if◌then◌else◌, Option, Some, None}
+use Rattle.std.proofs.Common.{◌≡◌, ℕ, min, codes, List, [], ◌∷◌, ◌++◌, length, refl, Bool, true, false, if◌then◌else◌, Option, Some, None, Ok, Err}
 use Rattle.std.specs.Prelude.{nat_lt, not, ◌&&◌, ◌||◌, filter_map, bytes_eq}
-use Rattle.std.specs.List.{AllByRecursion, fold, cons_option}
+use Rattle.std.specs.List.{AllByRecursion, fold, list_all}
 use Rattle.serde_json.specs.Written.{has_float}
-use Rattle.serde_json.specs.Data.{Data, number, unsigned, array, object, member, no_members}
+use Rattle.serde_json.specs.Data.{Data, null, array}
 use Rattle.serde_json.specs.View.{items_of}
+use Rattle.bt_rpc.specs.declared.answers.RpcError.TheVariants.{BadName, TakenName, UndefinedMacro}
 use Rattle.bt_talk.specs.Handled.{HasNoFloat}
 use Rattle.bt_bib.specs.BibText.{pieces_of}
 use Rattle.bt_bib.specs.declared.item.Field.{Field}
@@ -16,27 +17,39 @@ use Rattle.bt_documents.specs.declared.document.Document.{Document}
 use Rattle.bt_mentions.specs.declared.mention.Mention.{Mention}
 use Rattle.bt_mentions.specs.Databases.{part}
 use Rattle.bt_lsp.specs.declared.references.Wanted.{Wanted}
-use Rattle.bt_lsp.specs.declared.references.Wanted.TheVariants.{Keys, Macros, Definitions}
-use Rattle.bt_lsp.specs.Actions.{repeated, removal_of, actions_if_any}
+use Rattle.bt_lsp.specs.declared.references.Wanted.TheVariants.{Definitions}
+use Rattle.bt_lsp.specs.declared.actions.Fix.{Fix}
+use Rattle.bt_lsp.specs.Respelling.{with_respellings_around}
+use Rattle.bt_lsp.proofs.RespellingPlain.{respellings_plain}
+use Rattle.bt_lsp.specs.Actions.{repeated, removal_at, with_removal, fix_of, fix_at, with_fix, array_if_any, actions_in, actions_if_any}
 use Rattle.bt_lsp.specs.declared.hints.Names.TheVariants.{Entries, Asked}
 use Rattle.bt_lsp.specs.Hints.{is_small, collected, missing_hint, unused_hint, is_missing_at, is_unused_at, with_missing, with_unused, asks_all, with_missing_among, with_missing_if_any, with_all_missing, with_unused_beside, with_unused_if_any, with_all_unused, with_hints}
-use Rattle.bt_lsp.specs.Entries.{is_style, is_tex, is_database}
+use Rattle.bt_lsp.specs.Editor.{counting_in}
+use Rattle.bt_lsp.specs.Entries.{is_style, is_tex, is_database, item_around}
 use Rattle.bt_mentions.specs.declared.layout.Gap.{Gap}
 use Rattle.bt_mentions.specs.Gaps.{gaps}
-use Rattle.bt_lsp.specs.Formatting.{layout, with_gap, with_gaps, formatted}
-use Rattle.bt_lsp.specs.Folding.{fold_between, fold_of, folds_in, folds_of}
+use Rattle.bt_mentions.specs.declared.linking.Link.{Link}
+use Rattle.bt_mentions.specs.declared.linking.LinkKind.{LinkKind}
+use Rattle.bt_mentions.specs.declared.linking.LinkKind.TheVariants.{Database, Style, Text as Chapter}
+use Rattle.bt_mentions.specs.Links.{links}
+use Rattle.bt_lsp.specs.Links.{full_name, is_plain_byte, folder, ends_with, link_to, with_link_to, with_file, with_named, with_kind, with_link, links_of}
+use Rattle.bt_lsp.specs.declared.formatting.LineEnd.{LineEnd}
+use Rattle.bt_lsp.specs.Formatting.{line_end, layout, with_gap, with_gaps, formatted}
+use Rattle.bt_lsp.specs.Folding.{fold_of, folds_in, folds_of}
+use Rattle.bt_shapes.proofs.PlainLists.{more_plain, fold_between_plain}
 use Rattle.bt_lsp.specs.Mentioning.{mentions_of, is_key}
 use Rattle.bt_lsp.specs.Picking.{with_picked}
-use Rattle.bt_lsp.specs.References.{is_definition, is_mention, wanted_of, with_reference, with_references, all_references, references, references_of, macro_of}
-use Rattle.bt_lsp.specs.Renaming.{text_edit, with_edit, file_edit, with_file_edit, with_renamed, can_be_named, is_free, is_named, renamed, renamed_if_free, renamed_of, mention_range}
-use Rattle.bt_style.specs.Program.{Program}
-use Rattle.bt_lsp.specs.Fields.{program, has_field, field_candidate, with_field, with_program, with_style, field_candidates}
+use Rattle.bt_lsp.specs.References.{is_definition, is_mention, wanted_of, with_reference, with_references, references, references_of, macro_of}
+use Rattle.bt_lsp.specs.Renaming.{text_edit, with_edit, file_edit, with_file_edit, with_renamed, can_be_named, is_free, is_defined, is_named, renamed, renamed_if_free, renamed_of, range_if_defined, mention_range}
+use Rattle.bt_style.specs.Program.{Program, Definition}
+use Rattle.bt_lsp.specs.Fields.{program, has_field, ordered_candidate, with_field, with_program, with_style, field_candidates}
 use Rattle.bt_lsp.specs.Completing.{with_macro, with_macros, macro_candidates}
 use Rattle.bt_lsp.specs.StyleMacros.{macro_candidate, with_style_macro, with_program_macros, with_macros_of}
 use Rattle.bt_lsp.specs.Symbols.{query_of, is_symbol, symbol_at, with_symbol, with_symbols, symbols}
 use Rattle.bt_lsp.specs.Shapes.{location, range_of}
+use Rattle.bt_lsp.specs.Types.{word_of, types, has_function, with_type, with_program_types, with_types_of, or_standard, type_candidates}
 use Rattle.bt_lsp.specs.Visiting.{with_files, with_texts, is_any}
-use Rattle.bt_lsp.proofs.PlainLists.{items_plain, all_both, none_or, some_or_null, either_plain, fold_plain, pushed_plain, files_plain, texts_plain}
+use Rattle.bt_lsp.proofs.PlainLists.{IsPlainData, either_outcome, items_plain, all_both, none_or, some_or_null, either_plain, fold_plain, pushed_plain, files_plain, texts_plain}
 
 -- a value that may be missing
 abbrev pub OptionIsPlain : Option Data → Type 0
@@ -53,69 +66,78 @@ picked_plain pick step list uri text p =
 
 -- ---- references
 
-added_references_plain : (c : Counting) (wanted : Wanted) (name : List ℕ) (list : List Data) (uri text : List ℕ) → AllByRecursion HasNoFloat list →
-    AllByRecursion HasNoFloat (with_references c wanted name list uri text)
-added_references_plain c wanted name list uri text p =
-    picked_plain (with_reference c wanted name) (λ u t l m q. pushed_plain (is_mention wanted name t m) (location u (range_of c t m.from m.to)) l refl q) list uri text p
+added_references_plain : (units : List ℕ → Counting) (wanted : Wanted) (name : List ℕ) (list : List Data) (uri text : List ℕ) → AllByRecursion HasNoFloat list →
+    AllByRecursion HasNoFloat (with_references units wanted name list uri text)
+added_references_plain units wanted name list uri text p =
+    picked_plain (with_reference units wanted name) (λ u t l m q. pushed_plain (is_mention wanted name t m) (location u (range_of (units u) t m.from m.to)) l refl q) list uri text p
 
 found_references_plain : (files : List (List ℕ × List ℕ)) (docs : List Document) (c : Counting) (wanted : Wanted) (name : List ℕ) → has_float (references files docs c wanted name) ≡ false
 found_references_plain files docs c wanted name =
-    items_plain (with_texts (with_references c wanted name) docs (with_files (with_references c wanted name) files []))
-    (texts_plain (with_references c wanted name) (added_references_plain c wanted name) docs (with_files (with_references c wanted name) files [])
-    (files_plain (with_references c wanted name) (added_references_plain c wanted name) files [] tt))
+    let add = with_references (counting_in c docs) wanted name in
+    let step = added_references_plain (counting_in c docs) wanted name in
+    items_plain (with_texts add docs (with_files add files [])) (texts_plain add step docs (with_files add files []) (files_plain add step files [] tt))
 
-pub references_plain : (files : List (List ℕ × List ℕ)) (docs : List Document) (d : Document) (o : Option Mention) → has_float (references_of files docs d o) ≡ false
-references_plain files docs d None = refl
-references_plain files docs d (Some m) = found_references_plain files docs d.counting (wanted_of m.role) (part m.from m.to d.text)
+pub references_plain : (files : List (List ℕ × List ℕ)) (docs : List Document) (c : Counting) (d : Document) (o : Option Mention) → has_float (references_of files docs c d o) ≡ false
+references_plain files docs c d None = refl
+references_plain files docs c d (Some m) = found_references_plain files docs c (wanted_of m.role) (part m.from m.to d.text)
 
 unless_plain : (b : Bool) (d : Data) → has_float d ≡ false → OptionIsPlain (if b then None else Some d)
 unless_plain true d p = tt
 unless_plain false d p = p
 
-pub macro_plain : (files : List (List ℕ × List ℕ)) (d : Document) (o : Option Mention) → OptionIsPlain (macro_of files d o)
-macro_plain files d None = tt
-macro_plain files d (Some m) =
-    unless_plain (is_key m.role) (references files [] d.counting Definitions (part m.from m.to d.text)) (found_references_plain files [] d.counting Definitions (part m.from m.to d.text))
+pub macro_plain : (files : List (List ℕ × List ℕ)) (docs : List Document) (c : Counting) (d : Document) (o : Option Mention) → OptionIsPlain (macro_of files docs c d o)
+macro_plain files docs c d None = tt
+macro_plain files docs c d (Some m) =
+    unless_plain (is_key m.role) (references files docs c Definitions (part m.from m.to d.text)) (found_references_plain files docs c Definitions (part m.from m.to d.text))
 
 -- ---- renaming
 
 edits_plain : (list : List Data) (uri : List ℕ) (edits : List Data) → AllByRecursion HasNoFloat list → AllByRecursion HasNoFloat edits → AllByRecursion HasNoFloat (with_file_edit list uri edits)
 edits_plain list uri edits p q = pushed_plain (is_any edits) (file_edit uri edits) list (rw (items_plain edits q) refl) p
 
-added_edits_plain : (c : Counting) (wanted : Wanted) (old new : List ℕ) (list : List Data) (uri text : List ℕ) → AllByRecursion HasNoFloat list →
-    AllByRecursion HasNoFloat (with_renamed c wanted old new list uri text)
-added_edits_plain c wanted old new list uri text p =
-    edits_plain list uri (with_picked (λ u. with_edit c wanted old new) [] uri text) p
-    (picked_plain (λ u. with_edit c wanted old new) (λ u t l m q. pushed_plain (is_mention wanted old t m) (text_edit (range_of c t m.from m.to) new) l refl q) [] uri text tt)
+added_edits_plain : (units : List ℕ → Counting) (wanted : Wanted) (old new : List ℕ) (list : List Data) (uri text : List ℕ) → AllByRecursion HasNoFloat list →
+    AllByRecursion HasNoFloat (with_renamed units wanted old new list uri text)
+added_edits_plain units wanted old new list uri text p =
+    edits_plain list uri (with_picked (with_edit units wanted old new) [] uri text) p
+    (picked_plain (with_edit units wanted old new) (λ u t l m q. pushed_plain (is_mention wanted old t m) (text_edit (range_of (units u) t m.from m.to) new) l refl q) [] uri text tt)
 
 all_edits_plain : (files : List (List ℕ × List ℕ)) (docs : List Document) (c : Counting) (wanted : Wanted) (old new : List ℕ) → has_float (renamed files docs c wanted old new) ≡ false
 all_edits_plain files docs c wanted old new =
-    let add = with_renamed c wanted old new in
-    let step = added_edits_plain c wanted old new in
+    let add = with_renamed (counting_in c docs) wanted old new in
+    let step = added_edits_plain (counting_in c docs) wanted old new in
     rw (items_plain (with_texts add docs (with_files add files [])) (texts_plain add step docs (with_files add files []) (files_plain add step files [] tt))) refl
 
-pub renamed_plain : (files : List (List ℕ × List ℕ)) (docs : List Document) (d : Document) (o : Option Mention) (new : Option (List ℕ)) → has_float (renamed_of files docs d o new) ≡ false
-renamed_plain files docs d o None = refl
-renamed_plain files docs d None (Some new) = refl
-renamed_plain files docs d (Some m) (Some new) =
-    let old = part m.from m.to d.text in
-    some_or_null (is_named d.text m) (renamed_if_free files docs d.counting (wanted_of m.role) old new)
-    (some_or_null (can_be_named (wanted_of m.role) new && is_free files docs d.counting (wanted_of m.role) old new) (renamed files docs d.counting (wanted_of m.role) old new)
-    (all_edits_plain files docs d.counting (wanted_of m.role) old new))
+free_plain : (files : List (List ℕ × List ℕ)) (docs : List Document) (c : Counting) (wanted : Wanted) (old new : List ℕ) → IsPlainData (renamed_if_free files docs c wanted old new)
+free_plain files docs c wanted old new =
+    let defined = if not (is_defined files docs c wanted old) then Err UndefinedMacro else Ok (renamed files docs c wanted old new) in
+    let free = if not (is_free files docs c wanted old new) then Err TakenName else defined in
+    either_outcome (not (can_be_named wanted new)) (Err BadName) free tt
+    (either_outcome (not (is_free files docs c wanted old new)) (Err TakenName) defined tt
+    (either_outcome (not (is_defined files docs c wanted old)) (Err UndefinedMacro) (Ok (renamed files docs c wanted old new)) tt (all_edits_plain files docs c wanted old new)))
 
-pub range_plain : (d : Document) (o : Option Mention) → has_float (mention_range d o) ≡ false
-range_plain d None = refl
-range_plain d (Some m) = some_or_null (is_named d.text m) (range_of d.counting d.text m.from m.to) refl
+pub renamed_plain : (files : List (List ℕ × List ℕ)) (docs : List Document) (c : Counting) (d : Document) (o : Option Mention) (new : Option (List ℕ)) → IsPlainData (renamed_of files docs c d o new)
+renamed_plain files docs c d o None = tt
+renamed_plain files docs c d None (Some new) = refl
+renamed_plain files docs c d (Some m) (Some new) =
+    let old = part m.from m.to d.text in
+    either_outcome (is_named d.text m) (renamed_if_free files docs c (wanted_of m.role) old new) (Ok null) (free_plain files docs c (wanted_of m.role) old new) refl
+
+pub range_plain : (files : List (List ℕ × List ℕ)) (docs : List Document) (c : Counting) (d : Document) (o : Option Mention) → IsPlainData (mention_range files docs c d o)
+range_plain files docs c d None = refl
+range_plain files docs c d (Some m) =
+    either_outcome (is_named d.text m) (range_if_defined files docs c d m) (Ok null)
+    (either_outcome (is_defined files docs c (wanted_of m.role) (part m.from m.to d.text)) (Ok (range_of d.counting d.text m.from m.to)) (Err UndefinedMacro) refl tt) refl
 
 -- ---- symbols of all databases
 
-added_symbols_plain : (c : Counting) (query : List ℕ) (list : List Data) (uri text : List ℕ) → AllByRecursion HasNoFloat list → AllByRecursion HasNoFloat (with_symbols c query list uri text)
-added_symbols_plain c query list uri text p =
-    picked_plain (with_symbol c query) (λ u t l m q. pushed_plain (is_symbol query t m) (symbol_at c u t m) l refl q) list uri text p
+added_symbols_plain : (units : List ℕ → Counting) (query : List ℕ) (list : List Data) (uri text : List ℕ) → AllByRecursion HasNoFloat list → AllByRecursion HasNoFloat (with_symbols units query list uri text)
+added_symbols_plain units query list uri text p =
+    picked_plain (with_symbol units query) (λ u t l m q. pushed_plain (is_symbol query t m) (symbol_at (units u) u t m) l refl q) list uri text p
 
-pub found_symbols_plain : (c : Counting) (files : List (List ℕ × List ℕ)) (m : Data) → has_float (symbols c files m) ≡ false
-found_symbols_plain c files m =
-    items_plain (with_files (with_symbols c (query_of m)) files []) (files_plain (with_symbols c (query_of m)) (added_symbols_plain c (query_of m)) files [] tt)
+pub found_symbols_plain : (files : List (List ℕ × List ℕ)) (docs : List Document) (c : Counting) (m : Data) → has_float (symbols files docs c m) ≡ false
+found_symbols_plain files docs c m =
+    let add = with_symbols (counting_in c docs) (query_of m) in
+    items_plain (with_files add files []) (files_plain add (added_symbols_plain (counting_in c docs) (query_of m)) files [] tt)
 
 -- ---- macros
 
@@ -141,7 +163,7 @@ macros_plain files =
 program_plain : (present : List Field) (list : List Data) (p : Option Program) → AllByRecursion HasNoFloat list → AllByRecursion HasNoFloat (with_program present list p)
 program_plain present list None p = p
 program_plain present list (Some q) p =
-    fold_plain (with_field present) (λ l name r. all_both HasNoFloat l (field_candidate name (has_field present name) ∷ []) r (refl, tt)) q.fields list p
+    fold_plain (with_field present) (λ l name r. all_both HasNoFloat l (ordered_candidate 5 name (has_field present name) ∷ []) r (refl, tt)) q.fields list p
 
 style_plain : (present : List Field) (list : List Data) (uri words : List ℕ) → AllByRecursion HasNoFloat list → AllByRecursion HasNoFloat (with_style present list uri words)
 style_plain present list uri words p = either_plain (is_style uri) (with_program present list (program words)) list (program_plain present list (program words) p) p
@@ -149,19 +171,26 @@ style_plain present list uri words p = either_plain (is_style uri) (with_program
 pub fields_plain : (files : List (List ℕ × List ℕ)) (present : List Field) → AllByRecursion HasNoFloat (field_candidates files present)
 fields_plain files present = files_plain (with_style present) (style_plain present) files [] tt
 
+-- ---- types
+
+all_types_plain : (fs : List Definition) (list : List Data) → AllByRecursion HasNoFloat list → AllByRecursion HasNoFloat (fold (with_type fs) list types)
+all_types_plain fs list p =
+    fold_plain (with_type fs) (λ l t r. all_both HasNoFloat l (ordered_candidate 7 (word_of t) (not (has_function fs (word_of t))) ∷ []) r (refl, tt)) types list p
+
+program_types_plain : (list : List Data) (p : Option Program) → AllByRecursion HasNoFloat list → AllByRecursion HasNoFloat (with_program_types list p)
+program_types_plain list None p = p
+program_types_plain list (Some q) p = all_types_plain q.functions list p
+
+added_types_plain : (list : List Data) (uri words : List ℕ) → AllByRecursion HasNoFloat list → AllByRecursion HasNoFloat (with_types_of list uri words)
+added_types_plain list uri words p = either_plain (is_style uri) (with_program_types list (program words)) list (program_types_plain list (program words) p) p
+
+standard_plain : (list : List Data) → AllByRecursion HasNoFloat list → AllByRecursion HasNoFloat (or_standard list)
+standard_plain list p = either_plain (is_any list) list (fold (with_type []) [] types) p (all_types_plain [] [] tt)
+
+pub types_plain : (files : List (List ℕ × List ℕ)) → AllByRecursion HasNoFloat (type_candidates files)
+types_plain files = standard_plain (with_files with_types_of files []) (files_plain with_types_of added_types_plain files [] tt)
+
 -- ---- folding
-
-more_plain : (o : Option Data) (ds : List Data) → AllByRecursion HasNoFloat (cons_option o []) → AllByRecursion HasNoFloat ds → AllByRecursion HasNoFloat (cons_option o ds)
-more_plain None ds p q = q
-more_plain (Some d) ds p q = (p.0, q)
-
-some_if_plain : (b : Bool) (d : Data) → has_float d ≡ false → AllByRecursion HasNoFloat (cons_option (if b then Some d else None) [])
-some_if_plain true d p = (p, tt)
-some_if_plain false d p = tt
-
-fold_between_plain : (from to : ℕ) → AllByRecursion HasNoFloat (cons_option (fold_between from to) [])
-fold_between_plain from to =
-    some_if_plain (nat_lt from to) (object (member (codes "endLine") (number (unsigned to)) (member (codes "startLine") (number (unsigned from)) no_members))) refl
 
 folds_in_plain : (c : Counting) (words : List ℕ) (ps : List PlacedPiece) → AllByRecursion HasNoFloat (filter_map (fold_of c words) ps)
 folds_in_plain c words [] = tt
@@ -176,30 +205,46 @@ folds_plain d =
 
 -- ---- layout
 
-gap_plain : (c : Counting) (words : List ℕ) (list : List Data) (g : Gap) → AllByRecursion HasNoFloat list → AllByRecursion HasNoFloat (with_gap c words list g)
-gap_plain c words list g p =
-    either_plain (bytes_eq (part g.from g.to words) (layout g.is_last)) list (list ++ text_edit (range_of c words g.from g.to) (layout g.is_last) ∷ []) p
-    (all_both HasNoFloat list (text_edit (range_of c words g.from g.to) (layout g.is_last) ∷ []) p (refl, tt))
+gap_plain : (c : Counting) (end : LineEnd) (words : List ℕ) (list : List Data) (g : Gap) → AllByRecursion HasNoFloat list → AllByRecursion HasNoFloat (with_gap c end words list g)
+gap_plain c end words list g p =
+    either_plain (bytes_eq (part g.from g.to words) (layout end g.is_last)) list (list ++ text_edit (range_of c words g.from g.to) (layout end g.is_last) ∷ []) p
+    (all_both HasNoFloat list (text_edit (range_of c words g.from g.to) (layout end g.is_last) ∷ []) p (refl, tt))
 
-gaps_plain : (c : Counting) (words : List ℕ) (list : List Data) (p : PlacedPiece) → AllByRecursion HasNoFloat list → AllByRecursion HasNoFloat (with_gaps c words list p)
-gaps_plain c words list p q = fold_plain (with_gap c words) (gap_plain c words) (gaps words p) list q
+gaps_plain : (c : Counting) (end : LineEnd) (words : List ℕ) (list : List Data) (p : PlacedPiece) → AllByRecursion HasNoFloat list → AllByRecursion HasNoFloat (with_gaps c end words list p)
+gaps_plain c end words list p q = fold_plain (with_gap c end words) (gap_plain c end words) (gaps words p) list q
 
 pub formatted_plain : (d : Document) → has_float (formatted d) ≡ false
 formatted_plain d =
-    none_or (not (is_database d.name) || nat_lt 1073741824 (length d.text)) (array (items_of (fold (with_gaps d.counting d.text) [] (pieces_of d.text))))
-    (items_plain (fold (with_gaps d.counting d.text) [] (pieces_of d.text)) (fold_plain (with_gaps d.counting d.text) (gaps_plain d.counting d.text) (pieces_of d.text) [] tt))
+    none_or (not (is_database d.name) || nat_lt 1073741824 (length d.text)) (array (items_of (fold (with_gaps d.counting (line_end d.text) d.text) [] (pieces_of d.text))))
+    (items_plain (fold (with_gaps d.counting (line_end d.text) d.text) [] (pieces_of d.text))
+    (fold_plain (with_gaps d.counting (line_end d.text) d.text) (gaps_plain d.counting (line_end d.text) d.text) (pieces_of d.text) [] tt))
 
 -- ---- actions
 
-removal_plain : (d : Document) (o : Option PlacedPiece) → has_float (removal_of d o) ≡ false
-removal_plain d None = refl
-removal_plain d (Some p) = refl
+removal_plain : (d : Document) (o : Option PlacedPiece) (list : List Data) → AllByRecursion HasNoFloat list → AllByRecursion HasNoFloat (with_removal d list o)
+removal_plain d None list p = p
+removal_plain d (Some q) list p = all_both HasNoFloat list (removal_at d q ∷ []) p (refl, tt)
+
+fix_plain : (d : Document) (o : Option Fix) (list : List Data) → AllByRecursion HasNoFloat list → AllByRecursion HasNoFloat (with_fix d list o)
+fix_plain d None list p = p
+fix_plain d (Some f) list p = all_both HasNoFloat list (fix_at d f ∷ []) p (refl, tt)
+
+array_plain : (list : List Data) → AllByRecursion HasNoFloat list → has_float (array_if_any list) ≡ false
+array_plain list p = some_or_null (is_any list) (array (items_of list)) (items_plain list p)
+
+actions_in_plain : (d : Document) (pieces : List PlacedPiece) (place : ℕ) → has_float (actions_in d pieces place) ≡ false
+actions_in_plain d pieces place =
+    let around = item_around place pieces in
+    let removed = with_removal d [] (repeated place pieces) in
+    let fixed = with_fix d removed (fix_of d.text around) in
+    array_plain (with_respellings_around d pieces fixed around)
+    (respellings_plain d pieces around fixed (fix_plain d (fix_of d.text around) removed (removal_plain d (repeated place pieces) [] tt)))
 
 pub actions_plain : (d : Document) (o : Option Position) → has_float (actions_if_any d o) ≡ false
 actions_plain d None = refl
 actions_plain d (Some at) =
-    none_or (not (is_database d.name) || nat_lt 1073741824 (length d.text)) (removal_of d (repeated (offset_of d.counting at d.text) (pieces_of d.text)))
-    (removal_plain d (repeated (offset_of d.counting at d.text) (pieces_of d.text)))
+    none_or (not (is_database d.name) || nat_lt 1073741824 (length d.text)) (actions_in d (pieces_of d.text) (offset_of d.counting at d.text))
+    (actions_in_plain d (pieces_of d.text) (offset_of d.counting at d.text))
 
 -- ---- hints
 
@@ -226,3 +271,32 @@ hints_plain files d list p =
     either_plain (is_small files) (if is_tex d.name then with_all_missing files d list else database) list
     (either_plain (is_tex d.name) (with_all_missing files d list) database (missing_plain (collected Entries files) d list p)
     (either_plain (is_database d.name && d.in_step) (with_all_unused files d list) list (unused_plain (collected Asked files) d list p) p)) p
+
+-- ---- links
+
+link_to_plain : (d : Document) (l : Link) (list : List Data) (target : List ℕ) → AllByRecursion HasNoFloat list → AllByRecursion HasNoFloat (with_link_to d l list target)
+link_to_plain d l list target p =
+    either_plain (nat_lt 1073741824 (length d.text)) list (list ++ link_to d l target ∷ []) p (all_both HasNoFloat list (link_to d l target ∷ []) p (refl, tt))
+
+file_plain : (d : Document) (l : Link) (suffix : List ℕ) (list : List Data) (uri words : List ℕ) → AllByRecursion HasNoFloat list → AllByRecursion HasNoFloat (with_file d l suffix list uri words)
+file_plain d l suffix list uri words p = either_plain (ends_with suffix uri) (with_link_to d l list uri) list (link_to_plain d l list uri p) p
+
+named_plain : (files : List (List ℕ × List ℕ)) (d : Document) (l : Link) (list : List Data) (name : List ℕ) → AllByRecursion HasNoFloat list → AllByRecursion HasNoFloat (with_named files d l list name)
+named_plain files d l list name p =
+    files_plain (with_file d l (full_name (codes "/") l.kind name)) (file_plain d l (full_name (codes "/") l.kind name)) files list p
+
+kind_plain : (files : List (List ℕ × List ℕ)) (d : Document) (l : Link) (kind : LinkKind) (list : List Data) (name : List ℕ) → AllByRecursion HasNoFloat list →
+    AllByRecursion HasNoFloat (with_kind files d l kind list name)
+kind_plain files d l Database list name p = named_plain files d l list name p
+kind_plain files d l Style list name p = named_plain files d l list name p
+kind_plain files d l Chapter list name p = link_to_plain d l list (full_name (folder d.name) l.kind name) p
+
+link_plain : (files : List (List ℕ × List ℕ)) (d : Document) (list : List Data) (l : Link) → AllByRecursion HasNoFloat list → AllByRecursion HasNoFloat (with_link files d list l)
+link_plain files d list l p =
+    let name = part l.from l.to d.text in
+    either_plain (list_all is_plain_byte name) (with_kind files d l l.kind list name) list (kind_plain files d l l.kind list name p) p
+
+pub links_plain : (files : List (List ℕ × List ℕ)) (d : Document) → has_float (links_of files d) ≡ false
+links_plain files d =
+    none_or (is_database d.name || is_style d.name) (array (items_of (fold (with_link files d) [] (links d.text))))
+    (items_plain (fold (with_link files d) [] (links d.text)) (fold_plain (with_link files d) (link_plain files d) (links d.text) [] tt))

@@ -1,5 +1,5 @@
 -- One file more of a paper.
-use Rattle.std.proofs.Common.{◌≡◌, ℕ, zero, suc, ◌+◌, ◌≤◌, List, [], ◌∷◌, ◌++◌, length, drop, refl, ap, sym, ◌∙◌, append_assoc, arith, Bool, true, false, Option, Some, None}
+use Rattle.std.proofs.Common.{◌≡◌, ℕ, zero, suc, ◌+◌, ◌≤◌, List, [], ◌∷◌, ◌++◌, length, drop, refl, ap, sym, ◌∙◌, append_assoc, arith, true, false, Some}
 use Rattle.std.specs.Prelude.{slice_get, is_some}
 use Rattle.std.specs.List.{fold}
 use Rattle.serde_json.specs.Data.{Data, null, boolean, number, string, array, object}
@@ -42,20 +42,20 @@ or_else_first (array ds) e p = refl
 or_else_first (object ms) e p = refl
 
 -- a file that doesn't have the entry
-pub found_later : (c : Counting) (key : List ℕ) (files : List (List ℕ × List ℕ)) (n m : ℕ) (uri words : List ℕ) (d whole : Data) → slice_get files n ≡ Some (uri, words) → m ≡ n + 1 →
-    found_in c key (drop n files) ≡ whole → d ≡ location_in c key uri words → is_some (as_null d) ≡ true → found_in c key (drop m files) ≡ whole
-found_later c key files n m uri words d whole at is before here none =
+pub found_later : (units : List ℕ → Counting) (key : List ℕ) (files : List (List ℕ × List ℕ)) (n m : ℕ) (uri words : List ℕ) (d whole : Data) → slice_get files n ≡ Some (uri, words) → m ≡ n + 1 →
+    found_in units key (drop n files) ≡ whole → d ≡ location_in (units uri) key uri words → is_some (as_null d) ≡ true → found_in units key (drop m files) ≡ whole
+found_later units key files n m uri words d whole at is before here none =
     let there = drop_at files n m (uri, words) at (omega (arith, is)) in
-    sym (or_else_null (location_in c key uri words) (found_in c key (drop m files)) (ap (λ x. is_some (as_null x)) (sym here) ∙ none)) ∙
-    ap (found_in c key) (sym there) ∙ before
+    sym (or_else_null (location_in (units uri) key uri words) (found_in units key (drop m files)) (ap (λ x. is_some (as_null x)) (sym here) ∙ none)) ∙
+    ap (found_in units key) (sym there) ∙ before
 
 -- the first file that has it
-pub found_here : (c : Counting) (key : List ℕ) (files : List (List ℕ × List ℕ)) (n : ℕ) (uri words : List ℕ) (d whole : Data) → slice_get files n ≡ Some (uri, words) →
-    found_in c key (drop n files) ≡ whole → d ≡ location_in c key uri words → is_some (as_null d) ≡ false → d ≡ whole
-found_here c key files n uri words d whole at before here some =
+pub found_here : (units : List ℕ → Counting) (key : List ℕ) (files : List (List ℕ × List ℕ)) (n : ℕ) (uri words : List ℕ) (d whole : Data) → slice_get files n ≡ Some (uri, words) →
+    found_in units key (drop n files) ≡ whole → d ≡ location_in (units uri) key uri words → is_some (as_null d) ≡ false → d ≡ whole
+found_here units key files n uri words d whole at before here some =
     let there = drop_at files n (suc n) (uri, words) at refl in
-    here ∙ sym (or_else_first (location_in c key uri words) (found_in c key (drop (suc n) files)) (ap (λ x. is_some (as_null x)) (sym here) ∙ some)) ∙
-    ap (found_in c key) (sym there) ∙ before
+    here ∙ sym (or_else_first (location_in (units uri) key uri words) (found_in units key (drop (suc n) files)) (ap (λ x. is_some (as_null x)) (sym here) ∙ some)) ∙
+    ap (found_in units key) (sym there) ∙ before
 
 drop_end : {A : Type 0} (xs : List A) (n : ℕ) → length xs ≤ n → drop n xs ≡ []
 drop_end [] zero l = refl
@@ -64,8 +64,8 @@ drop_end (x ∷ xs) zero l = absurd (omega (arith, l))
 drop_end (x ∷ xs) (suc n) l = drop_end xs n (omega (arith, l))
 
 -- no file has it
-pub found_nowhere : (c : Counting) (key : List ℕ) (files : List (List ℕ × List ℕ)) (n count : ℕ) (whole : Data) → count ≡ length files → count ≤ n → found_in c key (drop n files) ≡ whole → null ≡ whole
-found_nowhere c key files n count whole is l before = ap (found_in c key) (sym (drop_end files n (omega (arith, is, l)))) ∙ before
+pub found_nowhere : (units : List ℕ → Counting) (key : List ℕ) (files : List (List ℕ × List ℕ)) (n count : ℕ) (whole : Data) → count ≡ length files → count ≤ n → found_in units key (drop n files) ≡ whole → null ≡ whole
+found_nowhere units key files n count whole is l before = ap (found_in units key) (sym (drop_end files n (omega (arith, is, l)))) ∙ before
 
 -- what is added for one more file
 pub next_file : (add : List Data → List ℕ → List ℕ → List Data) (files : List (List ℕ × List ℕ)) (n m : ℕ) (uri words : List ℕ) (old new whole : List Data) →

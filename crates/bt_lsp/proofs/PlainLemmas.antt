@@ -1,10 +1,10 @@
 -- What the desk says has no floats, and its notes are no answers.
-use Rattle.std.proofs.Common.{◌≡◌, ℕ, codes, List, [], ◌∷◌, ◌++◌, map, take, length, refl, ap, sym, subst, ◌∙◌, Bool, true, false, ◌||◌, if◌then◌else◌, Option, Some, None, Result, Ok, Err, ◌⊎◌, inl, inr}
+use Rattle.std.proofs.Common.{◌≡◌, ℕ, codes, List, [], ◌∷◌, ◌++◌, map, take, length, refl, sym, subst, Bool, true, false, ◌||◌, if◌then◌else◌, Option, Some, None, Result, Ok, Err, inl, inr}
 use Rattle.std.specs.Prelude.{filter_map, not, nat_lt}
 use Rattle.std.specs.List.{AllByRecursion, cons_option}
-use Rattle.serde_json.specs.Written.{has_float, items_have_float}
+use Rattle.serde_json.specs.Written.{has_float}
 use Rattle.serde_json.specs.Data.{Data, null, boolean, number, string, array, object}
-use Rattle.serde_json.specs.View.{view, items_of}
+use Rattle.serde_json.specs.View.{items_of}
 use Rattle.serde_json.specs.declared.value.Value.{Value}
 use Rattle.bt_bib.specs.BibText.{pieces_of}
 use Rattle.bt_bib.specs.declared.item.Field.{Field}
@@ -24,7 +24,7 @@ use Rattle.bt_lsp.specs.declared.methods.Request.TheVariants.{Initialize, Shutdo
 use Rattle.bt_lsp.specs.declared.methods.CursorQuery.{CursorQuery}
 use Rattle.bt_lsp.specs.declared.methods.CursorQuery.TheVariants.{Hover, Definition, References, Rename, NameRange, Completion}
 use Rattle.bt_lsp.specs.declared.methods.DocumentQuery.{DocumentQuery}
-use Rattle.bt_lsp.specs.declared.methods.DocumentQuery.TheVariants.{Outline, Folds, Format, Actions}
+use Rattle.bt_lsp.specs.declared.methods.DocumentQuery.TheVariants.{Outline, Folds, Format, Actions, Links}
 use Rattle.bt_lsp.specs.declared.methods.PaperQuery.{PaperQuery}
 use Rattle.bt_lsp.specs.declared.methods.PaperQuery.TheVariants.{Bibliography, Log, Status, Symbols}
 use Rattle.bt_lsp.specs.declared.server.Phase.{Phase}
@@ -36,26 +36,32 @@ use Rattle.bt_lsp.specs.declared.announcing.Announced.{Announced}
 use Rattle.bt_lsp.specs.Announcing.{with_announced}
 use Rattle.bt_rpc.specs.Messages.{notification}
 use Rattle.bt_lsp.specs.Hints.{with_hints}
-use Rattle.bt_lsp.specs.News.{news, all_published, shown_of, published_of, lost_words, behind_words, warned, warnings, cleared, cleared_at}
+use Rattle.bt_lsp.specs.News.{news, all_published, shown_of, lost_words, behind_words, warned, warnings, cleared, cleared_at}
 use Rattle.bt_lsp.specs.Parameters.{document_of, place_of, text_at, position_at}
-use Rattle.bt_lsp.specs.Entries.{key_of, kind_of, field_of, name_of, symbol_kind, item_around, is_database}
-use Rattle.bt_lsp.specs.Hover.{key_at, word_of, hover_lines, hover_at}
+use Rattle.bt_lsp.specs.Editor.{counting_in}
+use Rattle.bt_lsp.specs.Entries.{key_of, kind_of, field_of, name_of, symbol_kind, item_around, is_database, is_style}
+use Rattle.bt_lsp.specs.Hover.{key_at, word_of, hover_lines}
 use Rattle.bt_lsp.specs.Mentioning.{mention_at}
 use Rattle.bt_lsp.specs.References.{macro_at}
 use Rattle.bt_lsp.specs.Renaming.{mention_range}
-use Rattle.bt_lsp.proofs.PlainLists.{items_plain, all_both, none_or, some_or_null, if_plain}
-use Rattle.bt_lsp.proofs.FeaturePlain.{OptionIsPlain, macro_plain, references_plain, renamed_plain, range_plain, folds_plain, found_symbols_plain, macros_plain, fields_plain, formatted_plain, actions_plain, hints_plain}
+use Rattle.bt_lsp.proofs.PlainLists.{IsPlainData, items_plain, all_both, none_or, some_or_null, if_plain, either_outcome}
+use Rattle.bt_lsp.proofs.FeaturePlain.{OptionIsPlain, macro_plain, references_plain, renamed_plain, range_plain, folds_plain, found_symbols_plain, macros_plain, fields_plain, types_plain, links_plain, formatted_plain, actions_plain, hints_plain}
 use Rattle.bt_lsp.specs.Finding.{place_in, location_in, or_else, found_in, found_at}
 use Rattle.bt_mentions.specs.Citing.{is_citing}
-use Rattle.bt_lsp.specs.Citing.{candidate_if_any, candidate_of, candidates_of, candidates_from, candidates_in, citation_at}
+use Rattle.bt_lsp.specs.Citing.{candidate_if_any, candidates_of, candidates_from, candidates_in, citation_at}
 use Rattle.bt_lsp.specs.declared.completing.Offer.{Offer}
-use Rattle.bt_lsp.specs.declared.completing.Offer.TheVariants.{Nothing, Fields, Keys, Macros}
+use Rattle.bt_lsp.specs.declared.completing.Offer.TheVariants.{Nothing, Types, Fields, Keys, Macros}
 use Rattle.bt_lsp.specs.Fields.{field_candidates}
 use Rattle.bt_mentions.specs.Databases.{part}
 use Rattle.bt_lsp.specs.Completing.{macro_candidates, offer_at, start_or, present_in, offers, offers_around, database_at, completion_at}
+use Rattle.bt_lsp.specs.Types.{type_candidates}
 use Rattle.bt_lsp.specs.Outline.{symbol_at, symbol_of, symbols_in, symbols_of}
-use Rattle.bt_lsp.specs.Answering.{answer_at, answer_of, paper_answer, at_place, at_document, answered}
-use Rattle.bt_lsp.specs.Desk.{IsOutcome, Tells, Carried}
+use Rattle.bt_lsp.specs.Answering.{text_answer_at, answer_at, text_answer_of, answer_of, paper_answer, at_place, at_document, answered}
+use Rattle.bt_lsp.specs.Styles.{style_answer_at, style_answer_of, with_style_hints}
+use Rattle.bt_lsp.proofs.StylePlain.{style_at_plain, style_of_plain, style_hints_plain}
+use Rattle.bt_shapes.proofs.PlainLists.{more_plain}
+use Rattle.bt_style_findings.specs.declared.checked.Checked.{Checked}
+use Rattle.bt_lsp.specs.Desk.{Begins, IsOutcome, Tells, Carried}
 
 -- ---- notes
 
@@ -66,10 +72,14 @@ diagnostics_plain (d ∷ ds) = (refl, diagnostics_plain ds)
 published_note : (uri : List ℕ) (list : List Data) → AllByRecursion HasNoFloat list → IsNote (published uri list)
 published_note uri list p = (refl, rw (items_plain list p) refl)
 
-published_notes : (shown : Shown) (docs : List Document) → AllByRecursion IsNote (all_published shown docs)
-published_notes shown [] = tt
-published_notes shown (d ∷ ds) =
-    (published_note d.name (with_hints shown.files d (map diagnostic (shown_of shown d))) (hints_plain shown.files d (map diagnostic (shown_of shown d)) (diagnostics_plain (shown_of shown d))), published_notes shown ds)
+published_notes : (shown : Shown) (checked : List Checked) (docs : List Document) → AllByRecursion IsNote (all_published shown checked docs)
+published_notes shown checked [] = tt
+published_notes shown checked (d ∷ ds) =
+    let found = map diagnostic (shown_of shown d) in
+    let hinted = with_hints shown.files d found in (
+      published_note d.name (with_style_hints checked d hinted) (style_hints_plain checked d hinted (hints_plain shown.files d found (diagnostics_plain (shown_of shown d)))),
+      published_notes shown checked ds,
+    )
 
 warned_notes : (words : List ℕ) (is_due : Bool) → AllByRecursion IsNote (warned words is_due)
 warned_notes words true = ((refl, refl), tt)
@@ -100,27 +110,23 @@ announced_notes a shown list p =
     (one_note a.log (notification (codes "bibtex/log") (shown_text shown.log shown.status)) _ (refl, refl)
     (one_note a.bibliography (notification (codes "bibtex/bbl") (shown_text shown.bibliography shown.status)) list (refl, refl) p))
 
-told_notes : (a : Announced) (shown : Shown) (lost behind : Bool) (notice : Notice) (m : Data) (docs : List Document) →
-    AllByRecursion IsNote (news a shown docs (warnings lost behind ++ cleared notice m))
-told_notes a shown lost behind notice m docs =
-    announced_notes a shown (warnings lost behind ++ cleared notice m ++ all_published shown docs)
-    (all_both IsNote (warnings lost behind ++ cleared notice m) _ (all_both IsNote (warnings lost behind) _ (warnings_notes lost behind) (cleared_notes notice m)) (published_notes shown docs))
+told_notes : (a : Announced) (shown : Shown) (checked : List Checked) (lost behind : Bool) (notice : Notice) (m : Data) (docs : List Document) →
+    AllByRecursion IsNote (news a shown checked docs (warnings lost behind ++ cleared notice m))
+told_notes a shown checked lost behind notice m docs =
+    announced_notes a shown (warnings lost behind ++ cleared notice m ++ all_published shown checked docs)
+    (all_both IsNote (warnings lost behind ++ cleared notice m) _ (all_both IsNote (warnings lost behind) _ (warnings_notes lost behind) (cleared_notes notice m)) (published_notes shown checked docs))
 
-tells_notes : {P : Type 0} (shown : P → Shown) (lost : Bool) (notice : Notice) (m : Data) (told : List Data) (e : Server P) →
-    Tells shown lost notice m told e → AllByRecursion IsNote told
-tells_notes shown lost notice m told e (inl h) = subst (AllByRecursion IsNote) (sym h.0) (told_notes e.announced (shown e.paper) lost e.behind notice m e.documents)
-tells_notes shown lost notice m told e (inr h) = subst (AllByRecursion IsNote) (sym h.0) tt
+tells_notes : {P : Type 0} (shown : P → Shown) (lost behind : Bool) (notice : Notice) (m : Data) (told : List Data) (e : Server P) →
+    Tells shown lost behind notice m told e → AllByRecursion IsNote told
+tells_notes shown lost behind notice m told e (inl h) = subst (AllByRecursion IsNote) (sym h.0) (told_notes e.announced (shown e.paper) e.checked lost behind notice m e.documents)
+tells_notes shown lost behind notice m told e (inr h) = subst (AllByRecursion IsNote) (sym h.0) tt
 
 -- what is said to a notification that the desk takes
 pub carried_notes : {P : Type 0} (text : P → List ℕ → Option (List ℕ)) (shown : P → Shown) (d : Server P) (notice : Notice) (m : Data) (told : List Data) (e : Server P) →
     Carried text shown d notice m told e → AllByRecursion IsNote told
-carried_notes text shown d notice m told e h = tells_notes shown h.next.lost notice m told e h.says
+carried_notes text shown d notice m told e h = tells_notes shown h.next.lost h.behind notice m told e h.says
 
 -- ---- outcomes
-
-abbrev pub IsPlainData : Result Data RpcError → Type 0
-IsPlainData (Ok d) = has_float d ≡ false
-IsPlainData (Err e) = Unit {0}
 
 hover_lines_plain : (lines : List ℕ) → has_float (hover_lines lines) ≡ false
 hover_lines_plain [] = refl
@@ -144,9 +150,9 @@ or_else_plain (string s) e p q = p
 or_else_plain (array ds) e p q = p
 or_else_plain (object ms) e p q = p
 
-found_in_plain : (c : Counting) (key : List ℕ) (fs : List (List ℕ × List ℕ)) → has_float (found_in c key fs) ≡ false
-found_in_plain c key [] = refl
-found_in_plain c key (f ∷ fs) = or_else_plain (location_in c key f.0 f.1) _ (location_in_plain c key f.0 f.1) (found_in_plain c key fs)
+found_in_plain : (units : List ℕ → Counting) (key : List ℕ) (fs : List (List ℕ × List ℕ)) → has_float (found_in units key fs) ≡ false
+found_in_plain units key [] = refl
+found_in_plain units key (f ∷ fs) = or_else_plain (location_in (units f.0) key f.0 f.1) _ (location_in_plain (units f.0) key f.0 f.1) (found_in_plain units key fs)
 
 candidate_plain : (key kind author title : List ℕ) → AllByRecursion HasNoFloat (candidate_if_any key kind author title)
 candidate_plain [] kind author title = tt
@@ -167,6 +173,7 @@ citation_plain fs d at =
 
 offers_plain : (fs : List (List ℕ × List ℕ)) (present : List Field) (offer : Offer) → has_float (offers fs present offer) ≡ false
 offers_plain fs present Nothing = refl
+offers_plain fs present Types = items_plain (type_candidates fs) (types_plain fs)
 offers_plain fs present Fields = items_plain (field_candidates fs present) (fields_plain fs present)
 offers_plain fs present Keys = items_plain (candidates_in fs) (candidates_in_plain fs)
 offers_plain fs present Macros = items_plain (macro_candidates fs) (macros_plain fs)
@@ -183,10 +190,6 @@ completion_plain fs d at =
     let place = offset_of d.counting at d.text in
     one_plain (is_database d.name) (database_at fs d at) (citation_at fs d at) (around_plain fs d.text (item_around place (pieces_of d.text)) place) (citation_plain fs d at)
 
-more_plain : (o : Option Data) (ds : List Data) → AllByRecursion HasNoFloat (cons_option o []) → AllByRecursion HasNoFloat ds → AllByRecursion HasNoFloat (cons_option o ds)
-more_plain None ds p q = q
-more_plain (Some d) ds p q = (p.0, q)
-
 symbol_plain : (c : Counting) (words : List ℕ) (kind from to : ℕ) (name : List ℕ) → AllByRecursion HasNoFloat (cons_option (symbol_at c words kind from to name) [])
 symbol_plain c words kind from to [] = tt
 symbol_plain c words kind from to (b ∷ name) = (refl, tt)
@@ -201,45 +204,55 @@ symbols_plain d =
     none_or (not (is_database d.name) || nat_lt 1073741824 (length d.text)) (array (items_of (symbols_in d.counting d.text (pieces_of d.text))))
     (items_plain (symbols_in d.counting d.text (pieces_of d.text)) (symbols_in_plain d.counting d.text (pieces_of d.text)))
 
-definition_plain : (files : List (List ℕ × List ℕ)) (d : Document) (at : Position) (o : Option Data) → OptionIsPlain o → has_float (elim o [ None ↦ found_at files d at | Some v ↦ v ]) ≡ false
-definition_plain files d at None p = found_in_plain d.counting (word_of d at) files
-definition_plain files d at (Some v) p = p
+definition_plain : (files : List (List ℕ × List ℕ)) (docs : List Document) (c : Counting) (d : Document) (at : Position) (o : Option Data) → OptionIsPlain o →
+    has_float (elim o [ None ↦ found_at files docs c d at | Some v ↦ v ]) ≡ false
+definition_plain files docs c d at None p = found_in_plain (counting_in c docs) (word_of d at) files
+definition_plain files docs c d at (Some v) p = p
 
-at_plain : (shown : Shown) (docs : List Document) (query : CursorQuery) (d : Document) (at : Position) (m : Data) → has_float (answer_at shown docs query d at m) ≡ false
-at_plain shown docs Hover d at m = hover_lines_plain (shown.entry_text (key_at d at))
-at_plain shown docs Definition d at m = definition_plain shown.files d at (macro_at shown.files d at) (macro_plain shown.files d (mention_at d at))
-at_plain shown docs References d at m = references_plain shown.files docs d (mention_at d at)
-at_plain shown docs Rename d at m = renamed_plain shown.files docs d (mention_at d at) (text_at (codes "/params/newName") m)
-at_plain shown docs NameRange d at m = none_or (nat_lt 1073741824 (length d.text)) (mention_range d (mention_at d at)) (range_plain d (mention_at d at))
-at_plain shown docs Completion d at m = completion_plain shown.files d at
+text_at_plain : (c : Counting) (shown : Shown) (docs : List Document) (query : CursorQuery) (d : Document) (at : Position) (m : Data) → IsPlainData (text_answer_at c shown docs query d at m)
+text_at_plain c shown docs Hover d at m = hover_lines_plain (shown.entry_text (key_at d at))
+text_at_plain c shown docs Definition d at m = definition_plain shown.files docs c d at (macro_at shown.files docs c d at) (macro_plain shown.files docs c d (mention_at d at))
+text_at_plain c shown docs References d at m = references_plain shown.files docs c d (mention_at d at)
+text_at_plain c shown docs Rename d at m = renamed_plain shown.files docs c d (mention_at d at) (text_at (codes "/params/newName") m)
+text_at_plain c shown docs NameRange d at m =
+    either_outcome (nat_lt 1073741824 (length d.text)) (Ok null) (mention_range shown.files docs c d (mention_at d at)) refl (range_plain shown.files docs c d (mention_at d at))
+text_at_plain c shown docs Completion d at m = completion_plain shown.files d at
 
-place_plain : (shown : Shown) (docs : List Document) (query : CursorQuery) (m : Data) (place : Option (Document × Position)) → IsPlainData (at_place shown docs query m place)
-place_plain shown docs query m None = tt
-place_plain shown docs query m (Some place) = at_plain shown docs query place.0 place.1 m
+at_plain : (c : Counting) (shown : Shown) (docs : List Document) (query : CursorQuery) (d : Document) (at : Position) (m : Data) → IsPlainData (answer_at c shown docs query d at m)
+at_plain c shown docs query d at m =
+    either_outcome (is_style d.name) (Ok (style_answer_at query d at m)) (text_answer_at c shown docs query d at m) (style_at_plain query d at m) (text_at_plain c shown docs query d at m)
 
-of_plain : (query : DocumentQuery) (d : Document) (m : Data) → has_float (answer_of query d m) ≡ false
-of_plain Outline d m = symbols_plain d
-of_plain Folds d m = folds_plain d
-of_plain Format d m = formatted_plain d
-of_plain Actions d m = actions_plain d (position_at (codes "/params/range/start/line") (codes "/params/range/start/character") m)
+place_plain : (c : Counting) (shown : Shown) (docs : List Document) (query : CursorQuery) (m : Data) (place : Option (Document × Position)) → IsPlainData (at_place c shown docs query m place)
+place_plain c shown docs query m None = tt
+place_plain c shown docs query m (Some place) = at_plain c shown docs query place.0 place.1 m
 
-document_plain : (query : DocumentQuery) (m : Data) (d : Option Document) → IsPlainData (at_document query m d)
-document_plain query m None = tt
-document_plain query m (Some d) = of_plain query d m
+text_of_plain : (shown : Shown) (query : DocumentQuery) (d : Document) (m : Data) → has_float (text_answer_of shown query d m) ≡ false
+text_of_plain shown Outline d m = symbols_plain d
+text_of_plain shown Folds d m = folds_plain d
+text_of_plain shown Format d m = formatted_plain d
+text_of_plain shown Links d m = links_plain shown.files d
+text_of_plain shown Actions d m = actions_plain d (position_at (codes "/params/range/start/line") (codes "/params/range/start/character") m)
 
-paper_plain : (c : Counting) (shown : Shown) (query : PaperQuery) (m : Data) → has_float (paper_answer c shown query m) ≡ false
-paper_plain c shown Bibliography m = refl
-paper_plain c shown Log m = refl
-paper_plain c shown Status m = refl
-paper_plain c shown Symbols m = found_symbols_plain c shown.files m
+of_plain : (shown : Shown) (query : DocumentQuery) (d : Document) (m : Data) → has_float (answer_of shown query d m) ≡ false
+of_plain shown query d m = one_plain (is_style d.name) (style_answer_of query d) (text_answer_of shown query d m) (style_of_plain query d) (text_of_plain shown query d m)
+
+document_plain : (shown : Shown) (query : DocumentQuery) (m : Data) (d : Option Document) → IsPlainData (at_document shown query m d)
+document_plain shown query m None = tt
+document_plain shown query m (Some d) = of_plain shown query d m
+
+paper_plain : (c : Counting) (shown : Shown) (docs : List Document) (query : PaperQuery) (m : Data) → has_float (paper_answer c shown docs query m) ≡ false
+paper_plain c shown docs Bibliography m = refl
+paper_plain c shown docs Log m = refl
+paper_plain c shown docs Status m = refl
+paper_plain c shown docs Symbols m = found_symbols_plain shown.files docs c m
 
 -- the outcome of a request that changes nothing
 pub answered_plain : (c : Counting) (shown : Shown) (docs : List Document) (request : Request) (m : Data) → IsPlainData (answered c shown docs request m)
 answered_plain c shown docs Initialize m = tt
 answered_plain c shown docs Shutdown m = tt
-answered_plain c shown docs (AtCursor query) m = place_plain shown docs query m (place_of docs m)
-answered_plain c shown docs (OfDocument query) m = document_plain query m (document_of docs m)
-answered_plain c shown docs (OfPaper query) m = paper_plain c shown query m
+answered_plain c shown docs (AtCursor query) m = place_plain c shown docs query m (place_of docs m)
+answered_plain c shown docs (OfDocument query) m = document_plain shown query m (document_of docs m)
+answered_plain c shown docs (OfPaper query) m = paper_plain c shown docs query m
 answered_plain c shown docs Unknown m = tt
 
 plain_from : (q : Result Data RpcError) (o : Result Value RpcError) → outcome_of o ≡ q → IsPlainData q → IsPlain o
@@ -247,18 +260,18 @@ plain_from q (Ok v) e p = subst IsPlainData (sym e) p
 plain_from q (Err r) e p = tt
 
 -- the outcome of a request
-pub outcome_plain : {P : Type 0} (query : Request → Result Data RpcError) (phase : Phase) (request : Request) (d e : Server P) (o : Result Value RpcError) →
-    ((r : Request) → IsPlainData (query r)) → IsOutcome query phase request d (outcome_of o) e → IsPlain o
-outcome_plain query New Initialize d e o p h = plain_from _ o h.answer refl
-outcome_plain query New Shutdown d e o p h = plain_from _ o h.0 tt
-outcome_plain query New (AtCursor q) d e o p h = plain_from _ o h.0 tt
-outcome_plain query New (OfDocument q) d e o p h = plain_from _ o h.0 tt
-outcome_plain query New (OfPaper q) d e o p h = plain_from _ o h.0 tt
-outcome_plain query New Unknown d e o p h = plain_from _ o h.0 tt
-outcome_plain query ShutDown request d e o p h = plain_from _ o h.0 tt
-outcome_plain query Ready Shutdown d e o p h = plain_from _ o h.0 refl
-outcome_plain query Ready Initialize d e o p h = plain_from _ o h.0 (p Initialize)
-outcome_plain query Ready (AtCursor q) d e o p h = plain_from _ o h.0 (p (AtCursor q))
-outcome_plain query Ready (OfDocument q) d e o p h = plain_from _ o h.0 (p (OfDocument q))
-outcome_plain query Ready (OfPaper q) d e o p h = plain_from _ o h.0 (p (OfPaper q))
-outcome_plain query Ready Unknown d e o p h = plain_from _ o h.0 (p Unknown)
+pub outcome_plain : {P : Type 0} (begins : Begins P) (m : Data) (query : Request → Result Data RpcError) (phase : Phase) (request : Request) (d e : Server P) (o : Result Value RpcError) →
+    ((r : Request) → IsPlainData (query r)) → IsOutcome begins m query phase request d (outcome_of o) e → IsPlain o
+outcome_plain begins m query New Initialize d e o p h = plain_from _ o h.answer refl
+outcome_plain begins m query New Shutdown d e o p h = plain_from _ o h.0 tt
+outcome_plain begins m query New (AtCursor q) d e o p h = plain_from _ o h.0 tt
+outcome_plain begins m query New (OfDocument q) d e o p h = plain_from _ o h.0 tt
+outcome_plain begins m query New (OfPaper q) d e o p h = plain_from _ o h.0 tt
+outcome_plain begins m query New Unknown d e o p h = plain_from _ o h.0 tt
+outcome_plain begins m query ShutDown request d e o p h = plain_from _ o h.0 tt
+outcome_plain begins m query Ready Shutdown d e o p h = plain_from _ o h.0 refl
+outcome_plain begins m query Ready Initialize d e o p h = plain_from _ o h.0 (p Initialize)
+outcome_plain begins m query Ready (AtCursor q) d e o p h = plain_from _ o h.0 (p (AtCursor q))
+outcome_plain begins m query Ready (OfDocument q) d e o p h = plain_from _ o h.0 (p (OfDocument q))
+outcome_plain begins m query Ready (OfPaper q) d e o p h = plain_from _ o h.0 (p (OfPaper q))
+outcome_plain begins m query Ready Unknown d e o p h = plain_from _ o h.0 (p Unknown)

@@ -1,21 +1,14 @@
 -- Lists of values without floats.
-use Rattle.std.proofs.Common.{◌≡◌, ℕ, List, [], ◌∷◌, ◌++◌, refl, ap, ◌∙◌, Bool, true, false, ◌||◌, if◌then◌else◌}
+use Rattle.std.proofs.Common.{◌≡◌, ℕ, List, [], ◌∷◌, ◌++◌, refl, Bool, true, false, if◌then◌else◌, Result, Ok, Err}
 use Rattle.std.specs.List.{AllByRecursion, fold}
-use Rattle.serde_json.specs.Written.{has_float, items_have_float}
+use Rattle.serde_json.specs.Written.{has_float}
 use Rattle.serde_json.specs.Data.{Data, null}
-use Rattle.serde_json.specs.View.{items_of}
+use Rattle.bt_rpc.specs.declared.answers.RpcError.{RpcError}
 use Rattle.bt_talk.specs.Handled.{HasNoFloat}
 use Rattle.bt_documents.specs.declared.document.Document.{Document}
 use Rattle.bt_lsp.specs.Entries.{is_tex}
+pub use Rattle.bt_shapes.proofs.PlainLists.{items_plain, all_both}
 use Rattle.bt_lsp.specs.Visiting.{with_files, with_tex, with_texts}
-
-pub items_plain : (ds : List Data) → AllByRecursion HasNoFloat ds → items_have_float (items_of ds) ≡ false
-items_plain [] p = refl
-items_plain (d ∷ ds) p = ap (λ b. b || items_have_float (items_of ds)) p.0 ∙ items_plain ds p.1
-
-pub all_both : (P : Data → Type 0) (xs ys : List Data) → AllByRecursion P xs → AllByRecursion P ys → AllByRecursion P (xs ++ ys)
-all_both P [] ys p q = q
-all_both P (x ∷ xs) ys p q = (p.0, all_both P xs ys p.1 q)
 
 pub none_or : (b : Bool) (d : Data) → has_float d ≡ false → has_float (if b then null else d) ≡ false
 none_or true d p = refl
@@ -32,6 +25,15 @@ if_plain false ds p = tt
 pub either_plain : (b : Bool) (xs ys : List Data) → AllByRecursion HasNoFloat xs → AllByRecursion HasNoFloat ys → AllByRecursion HasNoFloat (if b then xs else ys)
 either_plain true xs ys p q = p
 either_plain false xs ys p q = q
+
+-- an outcome
+abbrev pub IsPlainData : Result Data RpcError → Type 0
+IsPlainData (Ok d) = has_float d ≡ false
+IsPlainData (Err e) = Unit {0}
+
+pub either_outcome : (b : Bool) (x y : Result Data RpcError) → IsPlainData x → IsPlainData y → IsPlainData (if b then x else y)
+either_outcome true x y p q = p
+either_outcome false x y p q = q
 
 -- what a fold adds
 pub fold_plain : {A : Type 0} (add : List Data → A → List Data) → ((list : List Data) (x : A) → AllByRecursion HasNoFloat list → AllByRecursion HasNoFloat (add list x)) →

@@ -1,46 +1,49 @@
 -- What was done to the documents, from what was called.
-use Rattle.std.proofs.Common.{◌≡◌, ◌∙◌, ap, sym, subst, ℕ, ℤ, List, Bool, codes, Option, Some, option_map}
+use Rattle.std.proofs.Common.{◌≡◌, ◌∙◌, ap, sym, subst, ℕ, ℤ, List, Bool, false, codes, Option, Some, option_map}
+use Rattle.std.specs.Prelude.{IsTrue}
 use Rattle.serde_json.specs.Data.{Data}
 use Rattle.bt_positions.specs.declared.counting.Counting.{Counting}
 use Rattle.bt_positions.specs.declared.indexed_text.Position.{Position}
 use Rattle.bt_documents.specs.declared.changes.Change.{Change}
 use Rattle.bt_documents.specs.declared.document.Document.{Document}
-use Rattle.bt_documents.specs.declared.files.Written.{Written}
-use Rattle.bt_documents.specs.Written.{is_taken}
 use Rattle.bt_documents.specs.Documents.{opened, with_document, after_changes, Follows}
 use Rattle.bt_lsp.specs.Parameters.{text_at, version_at, position_at, document_named}
-use Rattle.bt_lsp.specs.Words.{bytes_of}
+use Rattle.bt_lsp.specs.Words.{counting_for, bytes_of, fits_latin}
 use Rattle.bt_lsp.specs.Changes.{change_between, change_of, changes_of}
 use Rattle.bt_lsp.specs.Taken.{IsOpened, IsChanged}
 
-pub was_opened : (m : Data) (docs new : List Document) (uri words name text bytes : List ℕ) (counting : Counting) (version seen : ℤ) (written : Written) →
-    Some uri ≡ text_at (codes "/params/textDocument/uri") m → Some words ≡ text_at (codes "/params/textDocument/text") m →
-    version ≡ version_at (codes "/params/textDocument/version") m → bytes ≡ bytes_of counting words → name ≡ uri → text ≡ bytes → seen ≡ version →
-    new ≡ opened (record { name = name; counting = counting; version = seen; text = text; in_step = is_taken written }) docs → IsOpened m written docs new
-was_opened m docs new uri words name text bytes counting version seen written named says v b n t e is = record {
-  uri = uri;
-  words = words;
-  counting = counting;
-  named = sym named;
-  says = sym says;
-  is = is ∙ ap (λ x. opened (record { name = x; counting = counting; version = seen; text = text; in_step = is_taken written }) docs) n ∙
-      ap (λ x. opened (record { name = uri; counting = counting; version = x; text = text; in_step = is_taken written }) docs) (e ∙ v) ∙
-      ap (λ x. opened (record { name = uri; counting = counting; version = version_at (codes "/params/textDocument/version") m; text = x; in_step = is_taken written }) docs) (t ∙ b);
-}
+pub was_opened : (counts_bytes : Bool) (m : Data) (docs new : List Document) (uri words name text bytes : List ℕ) (counting : Counting) (is_latin : Bool) (version seen : ℤ) →
+    Some uri ≡ text_at (codes "/params/textDocument/uri") m → Some words ≡ text_at (codes "/params/textDocument/text") m → (IsTrue is_latin → IsTrue (fits_latin words)) →
+    counting ≡ counting_for counts_bytes is_latin → version ≡ version_at (codes "/params/textDocument/version") m → bytes ≡ bytes_of counting words → name ≡ uri → text ≡ bytes → seen ≡ version →
+    new ≡ opened (record { name = name; counting = counting; version = seen; text = text; in_step = false }) docs → IsOpened counts_bytes m docs new
+was_opened counts_bytes m docs new uri words name text bytes counting is_latin version seen named says lossless c v b n t e is =
+    let own = version_at (codes "/params/textDocument/version") m in
+    record {
+      uri = uri;
+      words = words;
+      is_latin = is_latin;
+      lossless = lossless;
+      named = sym named;
+      says = sym says;
+      is = is ∙ ap (λ x. opened (record { name = x; counting = counting; version = seen; text = text; in_step = false }) docs) n ∙
+          ap (λ x. opened (record { name = uri; counting = counting; version = x; text = text; in_step = false }) docs) (e ∙ v) ∙
+          ap (λ x. opened (record { name = uri; counting = counting; version = own; text = x; in_step = false }) docs) (t ∙ b) ∙
+          ap (λ x. opened (record { name = uri; counting = x; version = own; text = bytes_of x words; in_step = false }) docs) c;
+    }
 
-pub was_changed : (m : Data) (docs slice new : List Document) (uri name other : List ℕ) (counting : Counting) (version seen : ℤ) (changes made : List Change) (written : Written) →
+pub was_changed : (m : Data) (docs slice new : List Document) (uri name other : List ℕ) (counting : Counting) (version seen : ℤ) (changes made : List Change) →
     Some uri ≡ text_at (codes "/params/textDocument/uri") m → Some counting ≡ option_map (λ d. d.counting) (document_named name slice) →
     Some changes ≡ changes_of counting m → version ≡ version_at (codes "/params/textDocument/version") m → name ≡ uri → slice ≡ docs → other ≡ uri → made ≡ changes → seen ≡ version →
-    new ≡ with_document other (after_changes other seen made (is_taken written)) docs → IsChanged m written docs new
-was_changed m docs slice new uri name other counting version seen changes made written named units says v n s o c e is = record {
+    new ≡ with_document other (after_changes other seen made) docs → IsChanged m docs new
+was_changed m docs slice new uri name other counting version seen changes made named units says v n s o c e is = record {
   uri = uri;
   counting = counting;
   changes = changes;
   named = sym named;
   units = sym (units ∙ ap (λ x. option_map (λ d. d.counting) (document_named x slice)) n ∙ ap (λ x. option_map (λ d. d.counting) (document_named uri x)) s);
   says = sym says;
-  is = is ∙ ap (λ x. with_document x (after_changes x seen made (is_taken written)) docs) o ∙ ap (λ x. with_document uri (after_changes uri x made (is_taken written)) docs) (e ∙ v) ∙
-      ap (λ x. with_document uri (after_changes uri (version_at (codes "/params/textDocument/version") m) x (is_taken written)) docs) c;
+  is = is ∙ ap (λ x. with_document x (after_changes x seen made) docs) o ∙ ap (λ x. with_document uri (after_changes uri x made) docs) (e ∙ v) ∙
+      ap (λ x. with_document uri (after_changes uri (version_at (codes "/params/textDocument/version") m) x) docs) c;
 }
 
 pub refreshed : (t u : List ℕ → Option (List ℕ)) (docs slice : List Document) → slice ≡ docs → (Follows t slice → Follows u slice) → Follows t docs → Follows u docs

@@ -1,5 +1,5 @@
 -- The answers to requests that change nothing.
-use Rattle.std.specs.Prelude.{List, codes, Option, Some, None, Result, Ok, Err}
+use Rattle.std.specs.Prelude.{if◌then◌else◌, List, codes, Option, Some, None, Result, Ok, Err}
 use Rattle.serde_json.specs.Data.{Data}
 use Rattle.bt_positions.specs.declared.counting.Counting.{Counting}
 use Rattle.bt_positions.specs.declared.indexed_text.Position.{Position}
@@ -11,7 +11,7 @@ use Rattle.bt_lsp.specs.declared.methods.Request.TheVariants.{Initialize, Shutdo
 use Rattle.bt_lsp.specs.declared.methods.CursorQuery.{CursorQuery}
 use Rattle.bt_lsp.specs.declared.methods.CursorQuery.TheVariants.{Hover, Definition, References, Rename, NameRange, Completion}
 use Rattle.bt_lsp.specs.declared.methods.DocumentQuery.{DocumentQuery}
-use Rattle.bt_lsp.specs.declared.methods.DocumentQuery.TheVariants.{Outline, Folds, Format, Actions}
+use Rattle.bt_lsp.specs.declared.methods.DocumentQuery.TheVariants.{Outline, Folds, Format, Actions, Links}
 use Rattle.bt_lsp.specs.declared.methods.PaperQuery.{PaperQuery}
 use Rattle.bt_lsp.specs.declared.methods.PaperQuery.TheVariants.{Bibliography, Log, Status, Symbols}
 use Rattle.bt_lsp.specs.Shown.{Shown}
@@ -27,45 +27,58 @@ use Rattle.bt_lsp.specs.Outline.{symbols_of}
 use Rattle.bt_lsp.specs.Folding.{folds_of}
 use Rattle.bt_lsp.specs.Formatting.{formatted}
 use Rattle.bt_lsp.specs.Actions.{actions}
+use Rattle.bt_lsp.specs.Entries.{is_style}
+use Rattle.bt_lsp.specs.Links.{links_of}
+use Rattle.bt_lsp.specs.Styles.{style_answer_at, style_answer_of}
 
--- the answer at a position of a document
-abbrev pub answer_at : Shown → List Document → CursorQuery → Document → Position → Data → Data
-answer_at shown docs Hover d at m = hover_at shown.entry_text d at
-answer_at shown docs Definition d at m = definition_at shown.files d at
-answer_at shown docs References d at m = references_at shown.files docs d at
-answer_at shown docs Rename d at m = renamed_at shown.files docs d at (text_at (codes "/params/newName") m)
-answer_at shown docs NameRange d at m = name_range_at d at
-answer_at shown docs Completion d at m = completion_at shown.files d at
+-- the outcome at a position of a document that is no style
+abbrev pub text_answer_at : Counting → Shown → List Document → CursorQuery → Document → Position → Data → Result Data RpcError
+text_answer_at c shown docs Hover d at m = Ok (hover_at shown.entry_text d at)
+text_answer_at c shown docs Definition d at m = Ok (definition_at shown.files docs c d at)
+text_answer_at c shown docs References d at m = Ok (references_at shown.files docs c d at)
+text_answer_at c shown docs Rename d at m = renamed_at shown.files docs c d at (text_at (codes "/params/newName") m)
+text_answer_at c shown docs NameRange d at m = name_range_at shown.files docs c d at
+text_answer_at c shown docs Completion d at m = Ok (completion_at shown.files d at)
+
+-- the outcome at a position of a document
+abbrev pub answer_at : Counting → Shown → List Document → CursorQuery → Document → Position → Data → Result Data RpcError
+answer_at c shown docs query d at m =
+    if is_style d.name then Ok (style_answer_at query d at m) else text_answer_at c shown docs query d at m
+
+-- the answer for a document that is no style
+abbrev pub text_answer_of : Shown → DocumentQuery → Document → Data → Data
+text_answer_of shown Outline d m = symbols_of d
+text_answer_of shown Folds d m = folds_of d
+text_answer_of shown Format d m = formatted d
+text_answer_of shown Actions d m = actions d m
+text_answer_of shown Links d m = links_of shown.files d
 
 -- the answer for a document
-abbrev pub answer_of : DocumentQuery → Document → Data → Data
-answer_of Outline d m = symbols_of d
-answer_of Folds d m = folds_of d
-answer_of Format d m = formatted d
-answer_of Actions d m = actions d m
+abbrev pub answer_of : Shown → DocumentQuery → Document → Data → Data
+answer_of shown query d m = if is_style d.name then style_answer_of query d else text_answer_of shown query d m
 
 -- the answer for the paper
-abbrev pub paper_answer : Counting → Shown → PaperQuery → Data → Data
-paper_answer c shown Bibliography m = shown_text shown.bibliography shown.status
-paper_answer c shown Log m = shown_text shown.log shown.status
-paper_answer c shown Status m = shown_status shown.status
-paper_answer c shown Symbols m = symbols c shown.files m
+abbrev pub paper_answer : Counting → Shown → List Document → PaperQuery → Data → Data
+paper_answer c shown docs Bibliography m = shown_text shown.bibliography shown.status
+paper_answer c shown docs Log m = shown_text shown.log shown.status
+paper_answer c shown docs Status m = shown_status shown.status
+paper_answer c shown docs Symbols m = symbols shown.files docs c m
 
--- the answer at a place, if the message has one
-abbrev pub at_place : Shown → List Document → CursorQuery → Data → Option (Document × Position) → Result Data RpcError
-at_place shown docs query m None = Err InvalidParams
-at_place shown docs query m (Some place) = Ok (answer_at shown docs query place.0 place.1 m)
+-- the outcome at a place, if the message has one
+abbrev pub at_place : Counting → Shown → List Document → CursorQuery → Data → Option (Document × Position) → Result Data RpcError
+at_place c shown docs query m None = Err InvalidParams
+at_place c shown docs query m (Some place) = answer_at c shown docs query place.0 place.1 m
 
 -- the answer for a document, if the message names one that is open
-abbrev pub at_document : DocumentQuery → Data → Option Document → Result Data RpcError
-at_document query m None = Err InvalidParams
-at_document query m (Some d) = Ok (answer_of query d m)
+abbrev pub at_document : Shown → DocumentQuery → Data → Option Document → Result Data RpcError
+at_document shown query m None = Err InvalidParams
+at_document shown query m (Some d) = Ok (answer_of shown query d m)
 
 -- the outcome of a request that changes nothing; the counting is for texts that no document holds open
 abbrev pub answered : Counting → Shown → List Document → Request → Data → Result Data RpcError
-answered c shown docs (AtCursor query) m = at_place shown docs query m (place_of docs m)
-answered c shown docs (OfDocument query) m = at_document query m (document_of docs m)
-answered c shown docs (OfPaper query) m = Ok (paper_answer c shown query m)
+answered c shown docs (AtCursor query) m = at_place c shown docs query m (place_of docs m)
+answered c shown docs (OfDocument query) m = at_document shown query m (document_of docs m)
+answered c shown docs (OfPaper query) m = Ok (paper_answer c shown docs query m)
 answered c shown docs Initialize m = Err InvalidRequest
 answered c shown docs Shutdown m = Err InvalidRequest
 answered c shown docs Unknown m = Err MethodNotFound

@@ -25,15 +25,15 @@ program words = program_if (style_of words)
 abbrev pub has_field : List Field → List ℕ → Bool
 has_field present name = list_any (λ (f : Field). is_same_folded f.name name) present
 
--- what a completion offers for a field; editors sort by the digit before the name: 0 for one that is missing
-abbrev pub field_candidate : List ℕ → Bool → Data
-field_candidate name is_present =
-    object (member (codes "kind") (number (unsigned 5)) (member (codes "label") (text name)
-    (member (codes "sortText") (string ((if is_present then codes "1" else codes "0") ++ utf8_lossy name)) no_members)))
+-- what a completion offers for a name, with the protocol's number for its kind; editors sort by the digit before the name
+abbrev pub ordered_candidate : ℕ → List ℕ → Bool → Data
+ordered_candidate kind name is_late =
+    object (member (codes "kind") (number (unsigned kind)) (member (codes "label") (text name)
+    (member (codes "sortText") (string ((if is_late then codes "1" else codes "0") ++ utf8_lossy name)) no_members)))
 
--- a list with what is offered for a field
+-- a list with what is offered for a field; missing ones come first
 abbrev pub with_field : List Field → List Data → List ℕ → List Data
-with_field present list name = list ++ field_candidate name (has_field present name) ∷ []
+with_field present list name = list ++ ordered_candidate 5 name (has_field present name) ∷ []
 
 -- a list with what is offered for the fields that a style declares
 abbrev pub with_program : List Field → List Data → Option Program → List Data

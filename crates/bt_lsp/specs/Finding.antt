@@ -7,6 +7,7 @@ use Rattle.bt_bib.specs.declared.placed_pieces.PlacedPiece.{PlacedPiece}
 use Rattle.bt_positions.specs.declared.counting.Counting.{Counting}
 use Rattle.bt_positions.specs.declared.indexed_text.Position.{Position}
 use Rattle.bt_documents.specs.declared.document.Document.{Document}
+use Rattle.bt_lsp.specs.Editor.{counting_in}
 use Rattle.bt_lsp.specs.Entries.{key_of, is_database}
 use Rattle.bt_lsp.specs.Hover.{word_of}
 use Rattle.bt_lsp.specs.Shapes.{range_of, location}
@@ -35,15 +36,15 @@ or_else (string s) other = string s
 or_else (array ds) other = array ds
 or_else (object ms) other = object ms
 
--- where the entry of a key begins: in the first database that has it
-abbrev pub found_in : Counting → List ℕ → List (List ℕ × List ℕ) → Data
-found_in c key [] = null
-found_in c key (f ∷ fs) = or_else (location_in c key f.0 f.1) (found_in c key fs)
+-- where a key's entry begins, in the first database that has it; `units` says how each file counts
+abbrev pub found_in : (List ℕ → Counting) → List ℕ → List (List ℕ × List ℕ) → Data
+found_in units key [] = null
+found_in units key (f ∷ fs) = or_else (location_in (units f.0) key f.0 f.1) (found_in units key fs)
 
 -- where the entry of the key at a position of a document begins
-abbrev pub found_at : List (List ℕ × List ℕ) → Document → Position → Data
-found_at files d at = found_in d.counting (word_of d at) files
+abbrev pub found_at : List (List ℕ × List ℕ) → List Document → Counting → Document → Position → Data
+found_at files docs c d at = found_in (counting_in c docs) (word_of d at) files
 
 -- where the macro at a position of a document is defined; if there is none, where the entry of the key there begins
-abbrev pub definition_at : List (List ℕ × List ℕ) → Document → Position → Data
-definition_at files d at = elim (macro_at files d at) [ None ↦ found_at files d at | Some v ↦ v ]
+abbrev pub definition_at : List (List ℕ × List ℕ) → List Document → Counting → Document → Position → Data
+definition_at files docs c d at = elim (macro_at files docs c d at) [ None ↦ found_at files docs c d at | Some v ↦ v ]

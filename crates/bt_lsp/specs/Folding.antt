@@ -1,20 +1,14 @@
 -- The parts of a database that an editor can fold.
-use Rattle.std.specs.Prelude.{ℕ, min, nat_lt, ◌||◌, not, if◌then◌else◌, List, length, filter_map, codes, Option, Some, None}
-use Rattle.serde_json.specs.Data.{Data, null, number, unsigned, array, object, member, no_members}
+use Rattle.std.specs.Prelude.{ℕ, min, nat_lt, ◌||◌, not, if◌then◌else◌, List, length, filter_map, Option}
+use Rattle.serde_json.specs.Data.{Data, null, array}
 use Rattle.serde_json.specs.View.{items_of}
 use Rattle.bt_bib.specs.BibText.{pieces_of}
 use Rattle.bt_bib.specs.declared.placed_pieces.PlacedPiece.{PlacedPiece}
 use Rattle.bt_positions.specs.Positions.{position_of}
 use Rattle.bt_positions.specs.declared.counting.Counting.{Counting}
-use Rattle.bt_positions.specs.declared.indexed_text.Position.{Position}
 use Rattle.bt_documents.specs.declared.document.Document.{Document}
+use Rattle.bt_shapes.specs.Shapes.{fold_between}
 use Rattle.bt_lsp.specs.Entries.{is_database}
-
--- from one line to another, if that is a later one
-abbrev pub fold_between : ℕ → ℕ → Option Data
-fold_between from to =
-    if nat_lt from to then Some (object (member (codes "endLine") (number (unsigned to))
-    (member (codes "startLine") (number (unsigned from)) no_members))) else None
 
 -- a piece of a text, if it has more than a line
 abbrev pub fold_of : Counting → List ℕ → PlacedPiece → Option Data

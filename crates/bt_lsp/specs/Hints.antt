@@ -1,5 +1,5 @@
 -- What an editor is told of keys beside the run's messages.
-use Rattle.std.specs.Prelude.{ℕ, ◌-◌, nat_lt, ◌&&◌, ◌||◌, not, Bool, true, false, if◌then◌else◌, List, [], ◌∷◌, ◌++◌, length, codes, bytes_eq, is_some, Option, Some, None}
+use Rattle.std.specs.Prelude.{ℕ, ◌-◌, nat_lt, ◌&&◌, not, Bool, true, false, if◌then◌else◌, List, [], ◌∷◌, ◌++◌, length, codes, bytes_eq, is_some, Option, Some, None}
 use Rattle.std.specs.List.{fold}
 use Rattle.serde_json.specs.Data.{Data, number, unsigned, string, array, item, no_items, object, member, no_members}
 use Rattle.bt_text.specs.NameList.{has_name, same_name}

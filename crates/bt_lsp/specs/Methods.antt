@@ -1,9 +1,9 @@
 -- The methods that the desk knows.
-use Rattle.std.specs.Prelude.{ℕ, List, codes, bytes_eq, if◌then◌else◌}
+use Rattle.std.specs.Prelude.{ℕ, Bool, true, false, List, codes, bytes_eq, if◌then◌else◌}
 use Rattle.bt_lsp.specs.declared.methods.Request.{Request}
 use Rattle.bt_lsp.specs.declared.methods.Request.TheVariants.{Initialize, Shutdown, AtCursor, OfDocument, OfPaper, Unknown}
 use Rattle.bt_lsp.specs.declared.methods.CursorQuery.TheVariants.{Hover, Definition, References, Rename, NameRange, Completion}
-use Rattle.bt_lsp.specs.declared.methods.DocumentQuery.TheVariants.{Outline, Folds, Format, Actions}
+use Rattle.bt_lsp.specs.declared.methods.DocumentQuery.TheVariants.{Outline, Folds, Format, Actions, Links}
 use Rattle.bt_lsp.specs.declared.methods.PaperQuery.TheVariants.{Bibliography, Log, Status, Symbols}
 use Rattle.bt_lsp.specs.declared.methods.Notice.{Notice}
 use Rattle.bt_lsp.specs.declared.methods.Notice.TheVariants.{Opened, Changed, Closed, Saved, Exit, Other}
@@ -23,10 +23,11 @@ request_of method =
     (if bytes_eq method (codes "textDocument/foldingRange") then OfDocument Folds else
     (if bytes_eq method (codes "textDocument/formatting") then OfDocument Format else
     (if bytes_eq method (codes "textDocument/codeAction") then OfDocument Actions else
+    (if bytes_eq method (codes "textDocument/documentLink") then OfDocument Links else
     (if bytes_eq method (codes "bibtex/bbl") then OfPaper Bibliography else
     (if bytes_eq method (codes "bibtex/log") then OfPaper Log else
     (if bytes_eq method (codes "bibtex/status") then OfPaper Status else
-    (if bytes_eq method (codes "workspace/symbol") then OfPaper Symbols else Unknown)))))))))))))))
+    (if bytes_eq method (codes "workspace/symbol") then OfPaper Symbols else Unknown))))))))))))))))
 
 -- the notification of a method
 abbrev pub notice_of : List ℕ → Notice
@@ -37,3 +38,12 @@ notice_of method =
     (if bytes_eq method (codes "textDocument/didSave") then Saved else
     (if bytes_eq method (codes "workspace/didChangeWatchedFiles") then Saved else
     (if bytes_eq method (codes "exit") then Exit else Other)))))
+
+-- whether the files that aren't open are read again
+abbrev pub rereads : Notice → Bool
+rereads Opened = false
+rereads Changed = false
+rereads Closed = true
+rereads Saved = true
+rereads Exit = false
+rereads Other = false

@@ -12,31 +12,40 @@ use Rattle.bt_lsp.specs.Shown.{Shown}
 use Rattle.bt_lsp.specs.declared.announcing.Announced.{Announced}
 use Rattle.bt_lsp.specs.Announcing.{with_announced}
 use Rattle.bt_lsp.specs.Parameters.{text_at}
+use Rattle.bt_lsp.specs.Entries.{is_tex, or_empty}
+use Rattle.bt_lsp.specs.Keys.{role_of, key_spans}
 use Rattle.bt_lsp.specs.Hints.{with_hints}
 use Rattle.bt_lsp.specs.Shapes.{diagnostic, published}
+use Rattle.bt_lsp.specs.Styles.{with_style_hints}
+use Rattle.bt_style_findings.specs.declared.checked.Checked.{Checked}
 
--- the diagnostics of a document whose file has this name in the run, if it has one
-abbrev pub shown_as : Option (List ℕ) → List Message → Document → List Diagnostic
-shown_as None messages d = []
-shown_as (Some name) messages d = diagnostics name d.counting d.text messages
+-- the name that the run has for a document's file; empty if it has none
+abbrev pub run_name : Shown → Document → List ℕ
+run_name shown d = or_empty (shown.name d.name)
 
--- The diagnostics of a document: the messages of the run at their places in its text. It has none if the run doesn't have
--- its text, or if the text has more than 1 GiB.
+-- Whether messages are shown in a document: the run has its text, or it is a LaTeX text, which cites keys but is no file of
+-- the run.
+abbrev pub shows : Document → Bool
+shows d = d.in_step || is_tex d.name
+
+-- The diagnostics of a document of at most 1 GiB: the messages of the run at their places in its text, or at the keys that
+-- they are about.
 abbrev pub shown_of : Shown → Document → List Diagnostic
 shown_of shown d =
-    if not d.in_step || nat_lt 1073741824 (length d.text) then [] else shown_as (shown.name d.name) shown.messages d
+    if not (shows d) || nat_lt 1073741824 (length d.text) then []
+    else diagnostics (run_name shown d) d.counting d.text (role_of d.name) (key_spans shown d) shown.messages
 
--- the notification that publishes them, and the hints
-abbrev pub published_of : Shown → Document → Data
-published_of shown d = published d.name (with_hints shown.files d (map diagnostic (shown_of shown d)))
+-- the notification that publishes them, the hints, and what the check of a style found
+abbrev pub published_of : Shown → List Checked → Document → Data
+published_of shown checked d = published d.name (with_style_hints checked d (with_hints shown.files d (map diagnostic (shown_of shown d))))
 
 -- the diagnostics of each open document
-abbrev pub all_published : Shown → List Document → List Data
-all_published shown docs = map (published_of shown) docs
+abbrev pub all_published : Shown → List Checked → List Document → List Data
+all_published shown checked docs = map (published_of shown checked) docs
 
 -- what comes first, then the diagnostics of each open document, and what is announced
-abbrev pub news : Announced → Shown → List Document → List Data → List Data
-news announced shown docs first = with_announced announced shown (first ++ all_published shown docs)
+abbrev pub news : Announced → Shown → List Checked → List Document → List Data → List Data
+news announced shown checked docs first = with_announced announced shown (first ++ all_published shown checked docs)
 
 -- what the editor is told if a message was lost
 abbrev pub lost_words : List ℕ

@@ -1,19 +1,13 @@
 -- The items of a database as an editor's outline.
-use Rattle.std.specs.Prelude.{ℕ, nat_lt, ◌||◌, not, if◌then◌else◌, List, [], ◌∷◌, length, filter_map, codes, Option, Some, None}
-use Rattle.serde_json.specs.Data.{Data, null, number, unsigned, array, object, member, no_members}
+use Rattle.std.specs.Prelude.{ℕ, nat_lt, ◌||◌, not, if◌then◌else◌, List, [], ◌∷◌, length, filter_map, Option, Some, None}
+use Rattle.serde_json.specs.Data.{Data, null, array}
 use Rattle.serde_json.specs.View.{items_of}
 use Rattle.bt_bib.specs.BibText.{pieces_of}
 use Rattle.bt_bib.specs.declared.placed_pieces.PlacedPiece.{PlacedPiece}
 use Rattle.bt_positions.specs.declared.counting.Counting.{Counting}
 use Rattle.bt_documents.specs.declared.document.Document.{Document}
 use Rattle.bt_lsp.specs.Entries.{is_database, name_of, symbol_kind}
-use Rattle.bt_lsp.specs.Shapes.{text, range_of}
-
--- a symbol of the outline: a name, and the part of the text that its item is
-abbrev pub symbol : List ℕ → ℕ → Data → Data → Data
-symbol name kind whole head =
-    object (member (codes "kind") (number (unsigned kind)) (member (codes "name") (text name)
-    (member (codes "range") whole (member (codes "selectionRange") head no_members))))
+use Rattle.bt_shapes.specs.Shapes.{range_of, symbol}
 
 -- the symbol of a name, unless it is empty, whose item goes from one offset to another
 abbrev pub symbol_at : Counting → List ℕ → ℕ → ℕ → ℕ → List ℕ → Option Data

@@ -1,13 +1,36 @@
 -- Parameters of messages.
-use Rattle.std.specs.Prelude.{ℕ, ℤ, pos, List, codes, bytes_eq, find, Option, Some, None, option_and_then, unwrap_or}
-use Rattle.serde_json.specs.Data.{Data}
-use Rattle.serde_json.specs.Find.{pointer, as_str, as_number, as_u64, as_i64}
+use Rattle.std.specs.Prelude.{ℕ, ℤ, pos, Bool, true, false, if◌then◌else◌, List, codes, bytes_eq, find, Option, Some, None, option_and_then, unwrap_or}
+use Rattle.serde_json.specs.Data.{Data, Items, no_items, item}
+use Rattle.serde_json.specs.Find.{pointer, as_str, as_array, as_number, as_u64, as_i64}
 use Rattle.bt_positions.specs.declared.indexed_text.Position.{Position}
 use Rattle.bt_documents.specs.declared.document.Document.{Document}
 
 -- the text at a pointer
 abbrev pub text_at : List ℕ → Data → Option (List ℕ)
 text_at path m = option_and_then as_str (pointer path m)
+
+-- whether it is this word
+abbrev pub is_word : List ℕ → Option (List ℕ) → Bool
+is_word word None = false
+is_word word (Some own) = bytes_eq own word
+
+-- whether a list has a word
+abbrev pub has_word : List ℕ → Items → Bool
+has_word word no_items = false
+has_word word (item d ds) = if is_word word (as_str d) then true else has_word word ds
+
+-- whether there is a list that has a word
+abbrev pub has_word_in : List ℕ → Option Items → Bool
+has_word_in word None = false
+has_word_in word (Some ds) = has_word word ds
+
+-- whether there is a list at a pointer that has a word
+abbrev pub has_word_at : List ℕ → List ℕ → Data → Bool
+has_word_at path word m = has_word_in word (option_and_then as_array (pointer path m))
+
+-- whether the editor's positions can count bytes of UTF-8
+abbrev pub offers_bytes : Data → Bool
+offers_bytes m = has_word_at (codes "/params/capabilities/general/positionEncodings") (codes "utf-8") m
 
 -- the number at a pointer
 abbrev pub number_at : List ℕ → Data → Option ℕ

@@ -12,6 +12,7 @@ use Rattle.bt_mentions.specs.declared.mention.Mention.{Mention}
 use Rattle.bt_mentions.specs.Databases.{part}
 use Rattle.bt_lsp.specs.declared.references.Wanted.{Wanted}
 use Rattle.bt_lsp.specs.declared.references.Wanted.TheVariants.{Keys, Macros, Definitions}
+use Rattle.bt_lsp.specs.Editor.{counting_in}
 use Rattle.bt_lsp.specs.Mentioning.{is_key, mention_at}
 use Rattle.bt_lsp.specs.Picking.{with_picked}
 use Rattle.bt_lsp.specs.Shapes.{location, range_of}
@@ -35,19 +36,20 @@ is_wanted Definitions role = is_definition role
 abbrev pub is_mention : Wanted → List ℕ → List ℕ → Mention → Bool
 is_mention wanted name text m = is_wanted wanted m.role && is_same_folded (part m.from m.to text) name
 
--- a list with the place of a mention, if it is one of the name
-abbrev pub with_reference : Counting → Wanted → List ℕ → List ℕ → List ℕ → List Data → Mention → List Data
-with_reference c wanted name uri text list m =
-    if is_mention wanted name text m then list ++ location uri (range_of c text m.from m.to) ∷ [] else list
+-- a list with the place of a mention, if it is one of the name; `units` has those of each file's text
+abbrev pub with_reference : (List ℕ → Counting) → Wanted → List ℕ → List ℕ → List ℕ → List Data → Mention → List Data
+with_reference units wanted name uri text list m =
+    if is_mention wanted name text m then list ++ location uri (range_of (units uri) text m.from m.to) ∷ [] else list
 
 -- a list with the places of a name's mentions in a file
-abbrev pub with_references : Counting → Wanted → List ℕ → List Data → List ℕ → List ℕ → List Data
-with_references c wanted name list uri text = with_picked (with_reference c wanted name) list uri text
+abbrev pub with_references : (List ℕ → Counting) → Wanted → List ℕ → List Data → List ℕ → List ℕ → List Data
+with_references units wanted name list uri text = with_picked (with_reference units wanted name) list uri text
 
 -- the places of a name's mentions in files and in open texts of LaTeX
 abbrev pub all_references : List (List ℕ × List ℕ) → List Document → Counting → Wanted → List ℕ → List Data
 all_references files docs c wanted name =
-    with_texts (with_references c wanted name) docs (with_files (with_references c wanted name) files [])
+    let add = with_references (counting_in c docs) wanted name in
+    with_texts add docs (with_files add files [])
 
 -- whether a name is mentioned there
 abbrev pub is_mentioned : List (List ℕ × List ℕ) → List Document → Counting → Wanted → List ℕ → Bool
@@ -62,20 +64,20 @@ abbrev pub wanted_of : Role → Wanted
 wanted_of role = if is_key role then Keys else Macros
 
 -- where the name of a mention in a document is mentioned
-abbrev pub references_of : List (List ℕ × List ℕ) → List Document → Document → Option Mention → Data
-references_of files docs d None = null
-references_of files docs d (Some m) = references files docs d.counting (wanted_of m.role) (part m.from m.to d.text)
+abbrev pub references_of : List (List ℕ × List ℕ) → List Document → Counting → Document → Option Mention → Data
+references_of files docs c d None = null
+references_of files docs c d (Some m) = references files docs c (wanted_of m.role) (part m.from m.to d.text)
 
 -- where the key or the macro at a position of a document is mentioned
-abbrev pub references_at : List (List ℕ × List ℕ) → List Document → Document → Position → Data
-references_at files docs d at = references_of files docs d (mention_at d at)
+abbrev pub references_at : List (List ℕ × List ℕ) → List Document → Counting → Document → Position → Data
+references_at files docs c d at = references_of files docs c d (mention_at d at)
 
 -- where the macro of a mention in a document is defined
-abbrev pub macro_of : List (List ℕ × List ℕ) → Document → Option Mention → Option Data
-macro_of files d None = None
-macro_of files d (Some m) =
-    if is_key m.role then None else Some (references files [] d.counting Definitions (part m.from m.to d.text))
+abbrev pub macro_of : List (List ℕ × List ℕ) → List Document → Counting → Document → Option Mention → Option Data
+macro_of files docs c d None = None
+macro_of files docs c d (Some m) =
+    if is_key m.role then None else Some (references files docs c Definitions (part m.from m.to d.text))
 
 -- where the macro at a position of a document is defined
-abbrev pub macro_at : List (List ℕ × List ℕ) → Document → Position → Option Data
-macro_at files d at = macro_of files d (mention_at d at)
+abbrev pub macro_at : List (List ℕ × List ℕ) → List Document → Counting → Document → Position → Option Data
+macro_at files docs c d at = macro_of files docs c d (mention_at d at)

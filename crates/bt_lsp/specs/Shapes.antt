@@ -1,37 +1,12 @@
 -- Values of the protocol.
-use Rattle.std.specs.Prelude.{ℕ, min, Bool, true, if◌then◌else◌, List, ◌++◌, map, length, codes}
+use Rattle.std.specs.Prelude.{ℕ, Bool, true, false, if◌then◌else◌, List, ◌++◌, codes}
 use Rattle.std.specs.Str.{is_utf8}
 use Rattle.std.specs.Str.Lossy.{utf8_lossy}
 use Rattle.serde_json.specs.Data.{Data, number, unsigned, boolean, string, array, item, no_items, object, member, no_members}
 use Rattle.serde_json.specs.View.{items_of}
-use Rattle.bt_positions.specs.Positions.{position_of}
-use Rattle.bt_positions.specs.declared.counting.Counting.{Counting}
-use Rattle.bt_positions.specs.declared.indexed_text.Position.{Position}
 use Rattle.bt_diagnostics.specs.declared.diagnostic.Diagnostic.{Diagnostic}
 use Rattle.bt_rpc.specs.Messages.{notification}
-
--- a position
-abbrev pub position : Position → Data
-position p =
-    object (member (codes "character") (number (unsigned p.character))
-    (member (codes "line") (number (unsigned p.line)) no_members))
-
--- a range
-abbrev pub range : Position → Position → Data
-range from to = object (member (codes "end") (position to) (member (codes "start") (position from) no_members))
-
--- the range of a part of a text, as far as the text reaches
-abbrev pub range_of : Counting → List ℕ → ℕ → ℕ → Data
-range_of c words from to =
-    range (position_of c (min from (length words)) words) (position_of c (min to (length words)) words)
-
--- bytes as a text, with U+FFFD for what isn't UTF-8
-abbrev pub text : List ℕ → Data
-text bytes = string (utf8_lossy bytes)
-
--- a part of a file
-abbrev pub location : List ℕ → Data → Data
-location uri range = object (member (codes "range") range (member (codes "uri") (text uri) no_members))
+pub use Rattle.bt_shapes.specs.Shapes.{text, range, range_of, location}
 
 -- a diagnostic
 abbrev pub diagnostic : Diagnostic → Data
@@ -69,7 +44,7 @@ shown_status status = object (member (codes "status") (number (unsigned status))
 -- how completion works
 abbrev pub completion_options : Data
 completion_options =
-    object (member (codes "triggerCharacters") (array (item (string (codes "{")) (item (string (codes ",")) no_items)))
+    object (member (codes "triggerCharacters") (array (item (string (codes "{")) (item (string (codes ",")) (item (string (codes "@")) no_items))))
     no_members)
 
 -- how renaming works
@@ -87,11 +62,12 @@ abbrev pub abilities : List ℕ → Data → Data → Data → Data
 abilities encoding completion rename sync =
     object (member (codes "codeActionProvider") (boolean true) (member (codes "completionProvider") completion
     (member (codes "definitionProvider") (boolean true) (member (codes "documentFormattingProvider") (boolean true)
+    (member (codes "documentLinkProvider") (object (member (codes "resolveProvider") (boolean false) no_members))
     (member (codes "documentSymbolProvider") (boolean true) (member (codes "foldingRangeProvider") (boolean true)
     (member (codes "hoverProvider") (boolean true) (member (codes "positionEncoding") (string encoding)
     (member (codes "referencesProvider") (boolean true) (member (codes "renameProvider") rename
     (member (codes "textDocumentSync") sync (member (codes "workspaceSymbolProvider") (boolean true)
-    no_members))))))))))))
+    no_members)))))))))))))
 
 -- the units in which positions count
 abbrev pub encoding_of : Bool → List ℕ

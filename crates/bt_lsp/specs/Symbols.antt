@@ -8,6 +8,8 @@ use Rattle.bt_mentions.specs.declared.mention.Role.{Role}
 use Rattle.bt_mentions.specs.declared.mention.Role.TheVariants.{Key, Crossref, Citation, Definition, Macro}
 use Rattle.bt_mentions.specs.declared.mention.Mention.{Mention}
 use Rattle.bt_mentions.specs.Databases.{part}
+use Rattle.bt_documents.specs.declared.document.Document.{Document}
+use Rattle.bt_lsp.specs.Editor.{counting_in}
 use Rattle.bt_lsp.specs.Parameters.{text_at}
 use Rattle.bt_lsp.specs.Picking.{with_picked}
 use Rattle.bt_lsp.specs.Shapes.{text, location, range_of}
@@ -46,16 +48,16 @@ abbrev pub symbol_at : Counting → List ℕ → List ℕ → Mention → Data
 symbol_at c uri words m =
     symbol (part m.from m.to words) (number_of m.role) (location uri (range_of c words m.from m.to))
 
--- a list with the symbol of a mention, if it is one that is asked for
-abbrev pub with_symbol : Counting → List ℕ → List ℕ → List ℕ → List Data → Mention → List Data
-with_symbol c query uri words list m =
-    if is_symbol query words m then list ++ symbol_at c uri words m ∷ [] else list
+-- a list with the symbol of a mention, if it is one that is asked for; `units` has those of each file's text
+abbrev pub with_symbol : (List ℕ → Counting) → List ℕ → List ℕ → List ℕ → List Data → Mention → List Data
+with_symbol units query uri words list m =
+    if is_symbol query words m then list ++ symbol_at (units uri) uri words m ∷ [] else list
 
 -- a list with the symbols of a file
-abbrev pub with_symbols : Counting → List ℕ → List Data → List ℕ → List ℕ → List Data
-with_symbols c query list uri words = with_picked (with_symbol c query) list uri words
+abbrev pub with_symbols : (List ℕ → Counting) → List ℕ → List Data → List ℕ → List ℕ → List Data
+with_symbols units query list uri words = with_picked (with_symbol units query) list uri words
 
 -- the symbols of files whose names contain the text that a message asks for
-abbrev pub symbols : Counting → List (List ℕ × List ℕ) → Data → Data
-symbols c files m =
-    array (items_of (with_files (with_symbols c (query_of m)) files []))
+abbrev pub symbols : List (List ℕ × List ℕ) → List Document → Counting → Data → Data
+symbols files docs c m =
+    array (items_of (with_files (with_symbols (counting_in c docs) (query_of m)) files []))

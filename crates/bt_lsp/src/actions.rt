@@ -1,20 +1,44 @@
-//! What an editor can do at a place of a database: remove a repeated entry.
+//! What an editor can do at a place of a database: remove a repeated entry, insert a missing comma, close an entry, and spell
+//! a cross-reference like the entry that it names.
 
-ghost use Rattle.std.specs.Prelude.{◌≡◌, ◌<◌, ◌*◌, ◌^◌, length, option_map, IfOk};
+ghost use Rattle.std.specs.Prelude.{◌≡◌, ◌≤◌, ◌<◌, ◌*◌, ◌^◌, [], length, map, option_map, IfOk};
 ghost use Rattle.serde_json.specs.View.{view};
-ghost use Rattle.bt_lsp.specs.Actions.{repeated, removal, removal_at, actions_at, actions};
+ghost use Rattle.bt_lsp.specs.Actions.{repeated, removal_at, with_removal, before_entry, closing_in, sign, with_brace, with_quote, spelling, solid_end, closing, separator, missing_by, missing_in, fix_of, title_of, fix_at, with_fix, array_if_any, actions_in, actions_at, actions};
 
+use crate::completing::begins_item;
 use crate::entries::{is_database, item_around, key_of};
 use crate::finding::place_in;
 use crate::news::SHOWN_BYTES;
 use crate::parameters::position_at;
-use crate::renaming::{with_edits, with_text_edit, workspace_edit};
-use crate::visiting::with_value;
-use bt_bib::{PlacedPiece, read_bib};
+use crate::quick_fix::{action, edit_at};
+use crate::respelling::with_respellings_around;
+use crate::visiting::{is_any, with_value};
+use bt_bib::{Closing, Content, Item, ItemFault, Piece, PlacedPiece, read_bib};
 use bt_documents::Document;
+use bt_mentions::{Inside, inside_item, part};
 use bt_positions::Position;
-use serde_json::{Value, json};
+use bt_text::trim_end;
+use serde_json::Value;
 use std::alloc::{AllocError, Global};
+
+/// What is missing in an item.
+#[derive(Clone, Copy)]
+pub enum Missing {
+    Comma,
+    /// Its closing sign.
+    End(Closing),
+    /// The closing brace of a value, and the closing sign.
+    Brace(Closing),
+    /// The closing quote of a value, and the closing sign.
+    Quote(Closing),
+}
+
+/// What is missing at a place of a text.
+#[derive(Clone, Copy)]
+pub struct Fix {
+    pub place: usize,
+    pub missing: Missing,
+}
 
 /// The entry around a place, if an earlier one has its key.
 fn repeated(pieces: &[PlacedPiece], place: usize) -> Option<&PlacedPiece>
@@ -33,28 +57,245 @@ fn repeated(pieces: &[PlacedPiece], place: usize) -> Option<&PlacedPiece>
     }
 }
 
-fn removal(alloc: Global, edit: Value) -> Result<Value, AllocError>
-    ensures { IfOk result (λ v. view v ≡ removal (view edit)) }
-{
-    json!(in alloc; {"title": "Remove the repeated entry", "kind": "quickfix", "edit": edit})
-}
-
 fn removal_at(alloc: Global, document: &Document, piece: &PlacedPiece) -> Result<Value, AllocError>
     requires { 2 * length document.now.text < 2 ^ 64 }
     ensures { IfOk result (λ v. view v ≡ removal_at document.now piece.now) }
 {
-    let edits = with_text_edit(
+    let edit = edit_at(alloc, document, piece.start.place, piece.end.place, &[])?;
+    let removal = action(alloc, "Remove the repeated entry", edit)?;
+    Ok(removal)
+}
+
+fn with_removal(
+    alloc: Global,
+    document: &Document,
+    list: Vec<Value>,
+    found: Option<&PlacedPiece>,
+) -> Result<Vec<Value>, AllocError>
+    requires { 2 * length document.now.text < 2 ^ 64 }
+    ensures { IfOk result (λ all. map view all.items ≡
+        with_removal document.now (map view list.items) (option_map (λ p. p.now) found.entry)) }
+{
+    match found {
+        Some(piece) => {
+            let removal = removal_at(alloc, document, piece)?;
+            let all = with_value(list, removal)?;
+            Ok(all)
+        }
+        None => Ok(list),
+    }
+}
+
+/// How many bytes precede the next line that begins with an `@`; all of them if there is none.
+fn before_entry(text: &[u8]) -> usize
+    ensures value { result ≡ before_entry text.now }
+    ensures within { result ≤ length text.now }
+{
+    let mut count = 0;
+    let mut rest = text;
+    'bytes: while let [first, others @ ..] = rest {
+        if *first == b'\n' && begins_item(others) {
+            return count;
+        }
+        count += 1;
+        rest = others;
+    }
+    count
+}
+
+/// What closes an item that is open at such a place and ends with this sign. None if more than the last brace or quote of a
+/// value is missing.
+fn closing_in(inside: Inside, close: Closing) -> Option<Missing>
+    ensures { result ≡ closing_in inside close }
+{
+    match inside {
+        Inside::Name(_) | Inside::Value(_) => Some(Missing::End(close)),
+        Inside::Braced(_, 0) => Some(Missing::Brace(close)),
+        Inside::Quoted(_, 0) => Some(Missing::Quote(close)),
+        Inside::Braced(_, _) | Inside::Quoted(_, _) => None,
+    }
+}
+
+fn sign(close: Closing) -> &'static [u8]
+    ensures { result.now ≡ sign close }
+{
+    match close {
+        Closing::Brace => b"}",
+        Closing::Parenthesis => b")",
+    }
+}
+
+fn with_brace(close: Closing) -> &'static [u8]
+    ensures { result.now ≡ with_brace close }
+{
+    match close {
+        Closing::Brace => b"}}",
+        Closing::Parenthesis => b"})",
+    }
+}
+
+fn with_quote(close: Closing) -> &'static [u8]
+    ensures { result.now ≡ with_quote close }
+{
+    match close {
+        Closing::Brace => b"\"}",
+        Closing::Parenthesis => b"\")",
+    }
+}
+
+/// How it is spelled.
+fn spelling(missing: Missing) -> &'static [u8]
+    ensures { result.now ≡ spelling missing }
+{
+    match missing {
+        Missing::Comma => b",",
+        Missing::End(close) => sign(close),
+        Missing::Brace(close) => with_brace(close),
+        Missing::Quote(close) => with_quote(close),
+    }
+}
+
+/// Where a part of a text ends without the white space at its end.
+fn solid_end(text: &[u8], start: usize, to: usize) -> usize
+    requires { start ≤ length text.now }
+    ensures { result ≡ solid_end text.now start to }
+{
+    start + trim_end(part(text, start, to)).len()
+}
+
+/// What closes the item between two places of a text, if it was opened.
+fn closing(text: &[u8], start: usize, to: usize, close: Option<Closing>) -> Option<Fix>
+    requires { start ≤ length text.now }
+    ensures { result ≡ closing text.now start to close }
+{
+    let missing = closing_in(inside_item(part(text, start, to)), close?)?;
+    Some(Fix {
+        place: solid_end(text, start, to),
+        missing,
+    })
+}
+
+/// What is missing between the parts of an item: a comma in an entry, and otherwise the closing sign.
+fn separator(text: &[u8], start: usize, end: usize, item: &Item) -> Option<Fix>
+    requires { start ≤ length text.now }
+    ensures { result ≡ separator text.now start end item.now.content item.now.close }
+{
+    match &item.content {
+        Content::Entry(_) => Some(Fix {
+            place: solid_end(text, start, end),
+            missing: Missing::Comma,
+        }),
+        Content::Define(_) | Content::Preamble(_) => closing(text, start, end, item.close),
+    }
+}
+
+/// What is missing in an item between two places of a text, given its fault, which is at the second place. An item that the
+/// text's end cuts off is closed before the next line that begins with an `@`.
+fn missing_by(text: &[u8], start: usize, end: usize, item: &Item, fault: ItemFault) -> Option<Fix>
+    requires { start ≤ length text.now }
+    ensures { result ≡ missing_by text.now start end item.now fault }
+{
+    match fault {
+        ItemFault::ExpectedCommaOrClose => separator(text, start, end, item),
+        ItemFault::EndOfFile => {
+            let count = before_entry(text.split_at(start).1);
+            closing(text, start, start + count, item.close)
+        }
+        ItemFault::MissingName(_)
+        | ItemFault::BadNameEnd(_, _)
+        | ItemFault::ExpectedOpen
+        | ItemFault::ExpectedEquals
+        | ItemFault::UnbalancedBraces
+        | ItemFault::MissingPart => None,
+    }
+}
+
+fn missing_in(text: &[u8], start: usize, end: usize, item: &Item) -> Option<Fix>
+    requires { start ≤ length text.now }
+    ensures { result ≡ missing_in text.now start end item.now }
+{
+    match item.fault {
+        Some(fault) => missing_by(text, start, end, item, fault),
+        None => None,
+    }
+}
+
+/// What is missing in the item around a place, if that is known.
+fn fix_of(text: &[u8], around: Option<&PlacedPiece>) -> Option<Fix>
+    ensures { result ≡ fix_of text.now (option_map (λ p. p.now) around.entry) }
+{
+    let piece = around?;
+    let start = piece.start.place.min(text.len());
+    match &*piece.piece {
+        Piece::Comment => None,
+        Piece::Item(item) => missing_in(text, start, piece.end.place, item),
+    }
+}
+
+fn title_of(missing: Missing) -> &'static str
+    ensures { result.now ≡ title_of missing }
+{
+    match missing {
+        Missing::Comma => "Insert the missing comma",
+        Missing::End(_) | Missing::Brace(_) | Missing::Quote(_) => "Close the item",
+    }
+}
+
+fn fix_at(alloc: Global, document: &Document, fix: Fix) -> Result<Value, AllocError>
+    requires { 2 * length document.now.text < 2 ^ 64 }
+    ensures { IfOk result (λ v. view v ≡ fix_at document.now fix) }
+{
+    let edit = edit_at(alloc, document, fix.place, fix.place, spelling(fix.missing))?;
+    let value = action(alloc, title_of(fix.missing), edit)?;
+    Ok(value)
+}
+
+fn with_fix(
+    alloc: Global,
+    document: &Document,
+    list: Vec<Value>,
+    fix: Option<Fix>,
+) -> Result<Vec<Value>, AllocError>
+    requires { 2 * length document.now.text < 2 ^ 64 }
+    ensures { IfOk result (λ all. map view all.items ≡ with_fix document.now (map view list.items) fix) }
+{
+    let Some(fix) = fix else {
+        return Ok(list);
+    };
+    let value = fix_at(alloc, document, fix)?;
+    let all = with_value(list, value)?;
+    Ok(all)
+}
+
+fn array_if_any(list: Vec<Value>) -> Value
+    ensures { view result ≡ array_if_any (map view list.items) }
+{
+    if is_any(list.as_slice()) {
+        Value::Array(list)
+    } else {
+        Value::Null
+    }
+}
+
+fn actions_in(
+    alloc: Global,
+    document: &Document,
+    pieces: &[PlacedPiece],
+    place: usize,
+) -> Result<Value, AllocError>
+    requires { 2 * length document.now.text < 2 ^ 64 }
+    ensures { IfOk result (λ v. view v ≡ actions_in document.now pieces.now place) }
+{
+    let text = document.text.as_slice();
+    let list = with_removal(alloc, document, Vec::new(alloc), repeated(pieces, place))?;
+    let list = with_fix(
         alloc,
-        document.counting,
-        &document.text,
-        Vec::new(alloc),
-        piece.start.place,
-        piece.end.place,
-        &[],
+        document,
+        list,
+        fix_of(text, item_around(pieces, place)),
     )?;
-    let files = with_edits(alloc, Vec::new(alloc), document.name.as_slice(), edits)?;
-    let edit = workspace_edit(alloc, files)?;
-    removal(alloc, edit)
+    let list = with_respellings_around(alloc, document, pieces, list, item_around(pieces, place))?;
+    Ok(array_if_any(list))
 }
 
 fn actions_at(alloc: Global, document: &Document, at: Position) -> Result<Value, AllocError>
@@ -66,12 +307,7 @@ fn actions_at(alloc: Global, document: &Document, at: Position) -> Result<Value,
     }
     let place = document.text.offset_of(document.counting, at);
     let items = read_bib(alloc, text)?;
-    let Some(piece) = repeated(items.pieces(), place) else {
-        return Ok(Value::Null);
-    };
-    let action = removal_at(alloc, document, piece)?;
-    let list = with_value(Vec::new(alloc), action)?;
-    Ok(Value::Array(list))
+    actions_in(alloc, document, items.pieces(), place)
 }
 
 /// The actions at the start of the range that a message has.

@@ -5,9 +5,10 @@ ghost use Rattle.std.specs.Prelude.{◌≡◌, ◌++◌, ◌∷◌, [], map, IfO
 ghost use Rattle.serde_json.specs.View.{view};
 ghost use Rattle.bt_rpc.specs.Messages.{notification};
 ghost use Rattle.bt_lsp.specs.Shapes.{shown_text, shown_status};
-ghost use Rattle.bt_lsp.specs.Announcing.{with_bibliography, with_log, with_status, with_announced};
+ghost use Rattle.bt_lsp.specs.Announcing.{asks_for, announced_by, with_bibliography, with_log, with_status, with_announced};
 
 use crate::paper::Paper;
+use crate::parameters::has_word_at;
 use crate::shapes::{shown_status, shown_text};
 use crate::visiting::with_value;
 use bt_rpc::notification;
@@ -23,18 +24,16 @@ pub struct Announced {
 }
 
 /// Whether an editor asks for what a word names.
-fn asks_for(message: &Value, name: &str) -> bool {
-    match message
-        .pointer("/params/initializationOptions/announce")
-        .and_then(Value::as_array)
-    {
-        Some(words) => words.iter().any(|word| word.as_str() == Some(name)),
-        None => false,
-    }
+fn asks_for(message: &Value, name: &str) -> bool
+    ensures { result ≡ asks_for name.now (view message.now) }
+{
+    has_word_at(message, "/params/initializationOptions/announce", name)
 }
 
 /// What the editor asks for when it initializes the server.
-pub fn announced_by(message: &Value) -> Announced {
+pub fn announced_by(message: &Value) -> Announced
+    ensures { result ≡ announced_by (view message.now) }
+{
     Announced {
         bibliography: asks_for(message, "bbl"),
         log: asks_for(message, "log"),

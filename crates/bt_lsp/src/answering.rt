@@ -3,14 +3,17 @@
 ghost use Rattle.std.specs.Prelude.{◌≡◌, IfOk};
 ghost use Rattle.serde_json.specs.View.{view};
 ghost use Rattle.bt_talk.specs.Replies.{outcome_of};
-ghost use Rattle.bt_lsp.specs.Answering.{answer_at, answer_of, paper_answer, answered};
+ghost use Rattle.bt_lsp.specs.Answering.{text_answer_at, answer_at, text_answer_of, answer_of, paper_answer, answered};
 
 use crate::actions::actions;
 use crate::completing::completion_at;
+use crate::editor::Editor;
+use crate::entries::is_style;
 use crate::finding::definition_at;
 use crate::folding::folds_of;
 use crate::formatting::formatted;
 use crate::hover::hover_at;
+use crate::links::links_of;
 use crate::methods::{CursorQuery, DocumentQuery, PaperQuery, Request};
 use crate::outline::symbols_of;
 use crate::paper::Paper;
@@ -18,6 +21,7 @@ use crate::parameters::{document_of, place_of, text_at};
 use crate::references::references_at;
 use crate::renaming::{name_range_at, renamed_at};
 use crate::shapes::{shown_status, shown_text};
+use crate::styles::{style_answer_at, style_answer_of};
 use crate::symbols::symbols;
 use bt_documents::Document;
 use bt_positions::{Counting, Position};
@@ -25,60 +29,101 @@ use bt_rpc::RpcError;
 use serde_json::Value;
 use std::alloc::{AllocError, Global};
 
-fn answer_at<P: Paper>(
+/// The answer at a position of a document that is no style.
+fn text_answer_at<P: Paper>(
     alloc: Global,
     paper: &P,
-    documents: &[Document],
+    editor: &Editor<'_>,
     query: CursorQuery,
     document: &Document,
     at: Position,
     message: &Value,
-) -> Result<Value, AllocError>
-    ensures { IfOk result (λ v. view v ≡ answer_at (P.shown paper.now) documents.now query document.now at (view message.now)) }
+) -> Result<Result<Value, RpcError>, AllocError>
+    ensures { IfOk result (λ o. outcome_of o ≡ text_answer_at editor.now.counting (P.shown paper.now) editor.now.documents.now query
+        document.now at (view message.now)) }
 {
     match query {
-        CursorQuery::Hover => hover_at(alloc, paper, document, at),
-        CursorQuery::Definition => definition_at(alloc, paper, document, at),
-        CursorQuery::References => references_at(alloc, paper, documents, document, at),
+        CursorQuery::Hover => Ok(Ok(hover_at(alloc, paper, document, at)?)),
+        CursorQuery::Definition => Ok(Ok(definition_at(alloc, paper, editor, document, at)?)),
+        CursorQuery::References => Ok(Ok(references_at(alloc, paper, editor, document, at)?)),
         CursorQuery::Rename => {
             let new = text_at(message, "/params/newName");
-            renamed_at(alloc, paper, documents, document, at, new)
+            renamed_at(alloc, paper, editor, document, at, new)
         }
-        CursorQuery::NameRange => name_range_at(alloc, document, at),
-        CursorQuery::Completion => completion_at(alloc, paper, document, at),
+        CursorQuery::NameRange => name_range_at(alloc, paper, editor, document, at),
+        CursorQuery::Completion => Ok(Ok(completion_at(alloc, paper, document, at)?)),
     }
 }
 
-fn answer_of(
+/// The answer for a document that is no style.
+fn text_answer_of<P: Paper>(
     alloc: Global,
+    paper: &P,
     query: DocumentQuery,
     document: &Document,
     message: &Value,
 ) -> Result<Value, AllocError>
-    ensures { IfOk result (λ v. view v ≡ answer_of query document.now (view message.now)) }
+    ensures { IfOk result (λ v. view v ≡ text_answer_of (P.shown paper.now) query document.now (view message.now)) }
 {
     match query {
         DocumentQuery::Outline => symbols_of(alloc, document),
         DocumentQuery::Folds => folds_of(alloc, document),
         DocumentQuery::Format => formatted(alloc, document),
         DocumentQuery::Actions => actions(alloc, document, message),
+        DocumentQuery::Links => links_of(alloc, paper, document),
+    }
+}
+
+fn answer_at<P: Paper>(
+    alloc: Global,
+    paper: &P,
+    editor: &Editor<'_>,
+    query: CursorQuery,
+    document: &Document,
+    at: Position,
+    message: &Value,
+) -> Result<Result<Value, RpcError>, AllocError>
+    ensures { IfOk result (λ o. outcome_of o ≡ answer_at editor.now.counting (P.shown paper.now) editor.now.documents.now query
+        document.now at (view message.now)) }
+{
+    if is_style(document.name.as_slice()) {
+        Ok(Ok(style_answer_at(alloc, query, document, at, message)?))
+    } else {
+        text_answer_at(alloc, paper, editor, query, document, at, message)
+    }
+}
+
+fn answer_of<P: Paper>(
+    alloc: Global,
+    paper: &P,
+    query: DocumentQuery,
+    document: &Document,
+    message: &Value,
+) -> Result<Value, AllocError>
+    ensures { IfOk result (λ v. view v ≡ answer_of (P.shown paper.now) query document.now (view message.now)) }
+{
+    if is_style(document.name.as_slice()) {
+        style_answer_of(alloc, query, document)
+    } else {
+        text_answer_of(alloc, paper, query, document, message)
     }
 }
 
 fn paper_answer<P: Paper>(
     alloc: Global,
-    counting: Counting,
     paper: &P,
+    editor: &Editor<'_>,
     query: PaperQuery,
     message: &Value,
 ) -> Result<Value, AllocError>
-    ensures { IfOk result (λ v. view v ≡ paper_answer counting (P.shown paper.now) query (view message.now)) }
+    ensures { IfOk result (λ v. view v ≡
+        paper_answer editor.now.counting (P.shown paper.now) editor.now.documents.now query (view message.now)) }
 {
     match query {
         PaperQuery::Bibliography => shown_text(alloc, paper.bibliography(), paper.status()),
         PaperQuery::Log => shown_text(alloc, paper.log(), paper.status()),
         PaperQuery::Status => shown_status(alloc, paper.status()),
-        PaperQuery::Symbols => symbols(alloc, counting, paper, message),
+        PaperQuery::Symbols => symbols(alloc, paper, editor, message),
     }
 }
 
@@ -94,19 +139,20 @@ pub fn answered<P: Paper>(
     ensures { IfOk result (λ outcome. outcome_of outcome ≡
         answered counting (P.shown paper.now) documents.now request (view message.now)) }
 {
+    let editor = Editor {
+        documents,
+        counting,
+    };
     match request {
         Request::AtCursor(query) => match place_of(documents, message) {
-            Some(place) => {
-                let answer = answer_at(alloc, paper, documents, query, place.0, place.1, message)?;
-                Ok(Ok(answer))
-            }
+            Some(place) => answer_at(alloc, paper, &editor, query, place.0, place.1, message),
             None => Ok(Err(RpcError::InvalidParams)),
         },
         Request::OfDocument(query) => match document_of(documents, message) {
-            Some(document) => Ok(Ok(answer_of(alloc, query, document, message)?)),
+            Some(document) => Ok(Ok(answer_of(alloc, paper, query, document, message)?)),
             None => Ok(Err(RpcError::InvalidParams)),
         },
-        Request::OfPaper(query) => Ok(Ok(paper_answer(alloc, counting, paper, query, message)?)),
+        Request::OfPaper(query) => Ok(Ok(paper_answer(alloc, paper, &editor, query, message)?)),
         Request::Initialize | Request::Shutdown => Ok(Err(RpcError::InvalidRequest)),
         Request::Unknown => Ok(Err(RpcError::MethodNotFound)),
     }

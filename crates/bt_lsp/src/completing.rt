@@ -1,9 +1,11 @@
-//! Completes fields, keys and macros in a database, and keys in citations.
+//! Completes types, fields, keys and macros in a database, and keys in citations.
 
 ghost use Rattle.std.specs.Prelude.{◌≡◌, ◌++◌, ◌∷◌, [], map, option_map, IfOk};
+ghost use Rattle.std.specs.List.{list_any};
+ghost use Rattle.bt_mentions.specs.Databases.{is_opening};
 ghost use Rattle.serde_json.specs.View.{view};
 ghost use Rattle.bt_lsp.specs.StyleMacros.{macro_candidate};
-ghost use Rattle.bt_lsp.specs.Completing.{has_comma, offer_at, start_or, present_in, macro_candidates, offers, offers_around, database_at, completion_at};
+ghost use Rattle.bt_lsp.specs.Completing.{begins_item, has_comma, is_head, offer_inside, offer_at, start_or, present_in, macro_candidates, offers, offers_around, database_at, completion_at};
 
 use crate::citing::{candidates, citation_at};
 use crate::entries::{fields_of, is_database, item_around};
@@ -12,11 +14,12 @@ use crate::paper::Paper;
 use crate::picking::{Pick, with_picked};
 use crate::references::is_definition;
 use crate::style_macros::with_style_macros;
+use crate::types::type_candidates;
 use crate::visiting::{Visit, with_files, with_value};
 use crate::words::shown;
 use bt_bib::{Field, PlacedPiece, read_bib};
 use bt_documents::Document;
-use bt_mentions::{Inside, Mention, inside_item, part};
+use bt_mentions::{Inside, Mention, inside_item, is_opening, part};
 use bt_positions::{IndexedText, Position};
 use serde_json::{Value, json};
 use std::alloc::{AllocError, Global};
@@ -25,6 +28,7 @@ use std::alloc::{AllocError, Global};
 #[derive(Clone, Copy)]
 pub enum Offer {
     Nothing,
+    Types,
     Fields,
     Keys,
     Macros,
@@ -33,15 +37,38 @@ pub enum Offer {
 #[derive(Clone, Copy)]
 struct MacroNames;
 
+fn has_opening(text: &[u8]) -> bool
+    ensures { result ≡ list_any is_opening text.now }
+{
+    text.iter().any(|byte| is_opening(*byte))
+}
+
+/// Whether a text begins with an `@`.
+pub fn begins_item(front: &[u8]) -> bool
+    ensures { result ≡ begins_item front.now }
+{
+    match front {
+        [first, ..] => *first == b'@',
+        [] => false,
+    }
+}
+
 fn has_comma(text: &[u8]) -> bool
     ensures { result ≡ has_comma text.now }
 {
     text.iter().any(|byte| *byte == b',')
 }
 
-/// What is offered where an item's first bytes end. Fields come after the comma that ends the key.
-fn offer_at(front: &[u8]) -> Offer
-    ensures { result ≡ offer_at front.now }
+/// Whether an item's first bytes are an `@` and a part of its type.
+fn is_head(front: &[u8]) -> bool
+    ensures { result ≡ is_head front.now }
+{
+    begins_item(front) && !has_opening(front)
+}
+
+/// What is offered where an item's first bytes end, after its type. Fields come after the comma that ends the key.
+fn offer_inside(front: &[u8]) -> Offer
+    ensures { result ≡ offer_inside front.now }
 {
     match inside_item(front) {
         Inside::Name(_) => if has_comma(front) {
@@ -52,6 +79,17 @@ fn offer_at(front: &[u8]) -> Offer
         Inside::Value(false) => Offer::Macros,
         Inside::Value(true) | Inside::Braced(true, 0) | Inside::Quoted(true, 0) => Offer::Keys,
         Inside::Braced(_, _) | Inside::Quoted(_, _) => Offer::Nothing,
+    }
+}
+
+/// What is offered where an item's first bytes end.
+fn offer_at(front: &[u8]) -> Offer
+    ensures { result ≡ offer_at front.now }
+{
+    if is_head(front) {
+        Offer::Types
+    } else {
+        offer_inside(front)
     }
 }
 
@@ -144,6 +182,7 @@ fn offers<P: Paper>(
 {
     match offer {
         Offer::Nothing => Ok(Value::Null),
+        Offer::Types => Ok(Value::Array(type_candidates(alloc, paper)?)),
         Offer::Keys => Ok(Value::Array(candidates(alloc, paper)?)),
         Offer::Macros => Ok(Value::Array(macro_candidates(alloc, paper)?)),
         Offer::Fields => Ok(Value::Array(field_candidates(alloc, paper, present)?)),
@@ -180,7 +219,7 @@ fn database_at<P: Paper>(
     Ok(list)
 }
 
-/// What is offered at a position of a document: in a database fields, the keys in a `crossref` field, and macros in other
+/// What is offered at a position of a document: in a database types, fields, the keys in a `crossref` field, and macros in other
 /// values; elsewhere the keys in a citation.
 pub fn completion_at<P: Paper>(
     alloc: Global,

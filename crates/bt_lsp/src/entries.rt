@@ -147,7 +147,7 @@ pub fn key_around(alloc: Global, text: &[u8], place: usize) -> Result<Bytes, All
 }
 
 /// Whether a name ends with an extension of four bytes.
-fn has_extension(name: &[u8], extension: &[u8]) -> bool
+pub fn has_extension(name: &[u8], extension: &[u8]) -> bool
     ensures { result ≡ has_extension extension.now name.now }
 {
     name.len() >= 4 && name.split_at(name.len() - 4).1 == extension

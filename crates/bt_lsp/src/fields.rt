@@ -1,10 +1,10 @@
 //! Completes the fields of an entry: those that the paper's style declares, the missing ones first.
 
-ghost use Rattle.std.specs.Prelude.{◌≡◌, [], map, option_map, IfOk};
+ghost use Rattle.std.specs.Prelude.{◌≡◌, map, option_map, IfOk};
 ghost use Rattle.std.specs.List.{fold};
 ghost use Rattle.serde_json.specs.View.{view};
 ghost use Rattle.bt_style.specs.Program.{program_of};
-ghost use Rattle.bt_lsp.specs.Fields.{program, has_field, field_candidate, with_field, field_candidates};
+ghost use Rattle.bt_lsp.specs.Fields.{program, has_field, ordered_candidate, with_field, field_candidates};
 
 use crate::entries::is_style;
 use crate::paper::Paper;
@@ -40,14 +40,19 @@ fn has_field(present: &[Field], name: &[u8]) -> bool
         .any(|field| eq_ignore_ascii_case(field.name.as_slice(), name))
 }
 
-/// What a completion offers for a field. Editors sort by the digit before the name: 0 for one that is missing.
-fn field_candidate(alloc: Global, name: &[u8], is_present: bool) -> Result<Value, AllocError>
-    ensures { IfOk result (λ v. view v ≡ field_candidate name.now is_present) }
+/// What a completion offers for a name, with the protocol's number for its kind. Editors sort by the digit before the name.
+pub fn ordered_candidate(
+    alloc: Global,
+    kind: u8,
+    name: &[u8],
+    is_late: bool,
+) -> Result<Value, AllocError>
+    ensures { IfOk result (λ v. view v ≡ ordered_candidate kind name.now is_late) }
 {
-    let digit = if is_present { "1" } else { "0" };
+    let digit = if is_late { "1" } else { "0" };
     let name = shown(alloc, name)?;
     let order = format!(in alloc; "{digit}{name}")?;
-    json!(in alloc; {"label": name, "kind": 5, "sortText": order})
+    json!(in alloc; {"label": name, "kind": kind, "sortText": order})
 }
 
 fn with_field(
@@ -59,7 +64,7 @@ fn with_field(
     ensures { IfOk result (λ all. map view all.items ≡ with_field present.now (map view list.items) name.now) }
 {
     let is_present = has_field(present, name.as_slice());
-    let candidate = field_candidate(alloc, name.as_slice(), is_present)?;
+    let candidate = ordered_candidate(alloc, 5, name.as_slice(), is_present)?;
     with_value(list, candidate)
 }
 

@@ -1,10 +1,11 @@
 //! Finds the entry of a key, or the definition of a macro, in the paper's databases.
 
-ghost use Rattle.std.specs.Prelude.{◌≡◌, ◌<◌, ◌*◌, ◌^◌, length, IfOk};
+ghost use Rattle.std.specs.Prelude.{◌≡◌, IfOk};
 ghost use Rattle.serde_json.specs.View.{view};
-ghost use Rattle.bt_bib.specs.BibText.{pieces_of};
+ghost use Rattle.bt_lsp.specs.Editor.{counting_in};
 ghost use Rattle.bt_lsp.specs.Finding.{place_in, location_in, found_in, found_at, definition_at};
 
+use crate::editor::Editor;
 use crate::entries::{is_database, key_of};
 use crate::hover::word_of;
 use crate::news::SHOWN_BYTES;
@@ -58,14 +59,15 @@ fn location_in(
 fn found_in<P: Paper>(
     alloc: Global,
     paper: &P,
-    counting: Counting,
+    editor: &Editor<'_>,
     key: &[u8],
 ) -> Result<Value, AllocError>
-    ensures { IfOk result (λ v. view v ≡ found_in counting key.now (P.shown paper.now).files) }
+    ensures { IfOk result (λ v. view v ≡
+        found_in (counting_in editor.now.counting editor.now.documents.now) key.now (P.shown paper.now).files) }
 {
     'files: for n in 0..paper.file_count() {
         let (uri, text) = paper.file(n);
-        let found = location_in(alloc, counting, uri, text, key)?;
+        let found = location_in(alloc, editor.counting_in(uri), uri, text, key)?;
         if !found.is_null() {
             return Ok(found);
         }
@@ -76,12 +78,14 @@ fn found_in<P: Paper>(
 fn found_at<P: Paper>(
     alloc: Global,
     paper: &P,
+    editor: &Editor<'_>,
     document: &Document,
     at: Position,
 ) -> Result<Value, AllocError>
-    ensures { IfOk result (λ v. view v ≡ found_at (P.shown paper.now).files document.now at) }
+    ensures { IfOk result (λ v. view v ≡
+        found_at (P.shown paper.now).files editor.now.documents.now editor.now.counting document.now at) }
 {
-    let found = found_in(alloc, paper, document.counting, word_of(document, at))?;
+    let found = found_in(alloc, paper, editor, word_of(document, at))?;
     Ok(found)
 }
 
@@ -89,13 +93,15 @@ fn found_at<P: Paper>(
 pub fn definition_at<P: Paper>(
     alloc: Global,
     paper: &P,
+    editor: &Editor<'_>,
     document: &Document,
     at: Position,
 ) -> Result<Value, AllocError>
-    ensures { IfOk result (λ v. view v ≡ definition_at (P.shown paper.now).files document.now at) }
+    ensures { IfOk result (λ v. view v ≡
+        definition_at (P.shown paper.now).files editor.now.documents.now editor.now.counting document.now at) }
 {
-    match macro_at(alloc, paper, document, at)? {
+    match macro_at(alloc, paper, editor, document, at)? {
         Some(found) => Ok(found),
-        None => found_at(alloc, paper, document, at),
+        None => found_at(alloc, paper, editor, document, at),
     }
 }

@@ -3,25 +3,16 @@
 ghost use Rattle.std.specs.Prelude.{◌≡◌, ◌<◌, ◌*◌, ◌^◌, ◌++◌, [], length, map, option_map, IfOk};
 ghost use Rattle.std.specs.List.{cons_option};
 ghost use Rattle.serde_json.specs.View.{view};
-ghost use Rattle.bt_lsp.specs.Folding.{fold_between, fold_of, folds_in, folds_of};
+ghost use Rattle.bt_lsp.specs.Folding.{fold_of, folds_in, folds_of};
 
 use crate::entries::is_database;
 use crate::news::SHOWN_BYTES;
 use bt_bib::{PlacedPiece, read_bib};
 use bt_documents::Document;
 use bt_positions::{Counting, IndexedText};
-use serde_json::{Value, json};
+use bt_shapes::fold_between;
+use serde_json::Value;
 use std::alloc::{AllocError, Global};
-
-fn fold_between(alloc: Global, from: usize, to: usize) -> Result<Option<Value>, AllocError>
-    ensures { IfOk result (λ found. option_map view found ≡ fold_between from to) }
-{
-    if from >= to {
-        return Ok(None);
-    }
-    let fold = json!(in alloc; {"startLine": from, "endLine": to})?;
-    Ok(Some(fold))
-}
 
 fn fold_of(
     alloc: Global,

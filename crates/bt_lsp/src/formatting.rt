@@ -3,7 +3,8 @@
 ghost use Rattle.std.specs.Prelude.{◌≡◌, ◌<◌, ◌*◌, ◌^◌, [], length, map, IfOk};
 ghost use Rattle.std.specs.List.{fold};
 ghost use Rattle.serde_json.specs.View.{view};
-ghost use Rattle.bt_lsp.specs.Formatting.{layout, with_gap, with_gaps, formatted};
+ghost use Rattle.bt_positions.specs.Lines.{begins_with_feed};
+ghost use Rattle.bt_lsp.specs.Formatting.{line_end, layout, with_gap, with_gaps, formatted};
 
 use crate::entries::is_database;
 use crate::news::SHOWN_BYTES;
@@ -15,28 +16,76 @@ use bt_positions::{Counting, IndexedText};
 use serde_json::Value;
 use std::alloc::{AllocError, Global};
 
-/// What a gap becomes: a line end, and two blanks unless the closing sign follows.
-fn layout(is_last: bool) -> &'static [u8]
-    ensures { result.now ≡ layout is_last }
+/// How a line ends.
+#[derive(Clone, Copy, PartialEq, Eq)]
+pub enum LineEnd {
+    /// With LF.
+    Feed,
+    /// With CR LF.
+    ReturnFeed,
+}
+
+fn begins_with_feed(text: &[u8]) -> bool
+    ensures { result ≡ begins_with_feed text.now }
 {
-    if is_last {
-        b"\n".as_slice()
-    } else {
-        b"\n  ".as_slice()
+    match text {
+        [first, ..] => *first == b'\n',
+        [] => false,
     }
+}
+
+/// How the lines of a text end: as the first one with a line feed does.
+fn line_end(text: &[u8]) -> LineEnd
+    ensures { result ≡ line_end text.now }
+{
+    let mut rest = text;
+    'bytes: while let [first, others @ ..] = rest {
+        if *first == b'\n' {
+            return LineEnd::Feed;
+        }
+        if *first == b'\r' && begins_with_feed(others) {
+            return LineEnd::ReturnFeed;
+        }
+        rest = others;
+    }
+    LineEnd::Feed
+}
+
+/// What a gap becomes: a line end, and two blanks unless the closing sign follows.
+fn layout(end: LineEnd, is_last: bool) -> &'static [u8]
+    ensures { result.now ≡ layout end is_last }
+{
+    match (end, is_last) {
+        (LineEnd::Feed, true) => b"\n".as_slice(),
+        (LineEnd::Feed, false) => b"\n  ".as_slice(),
+        (LineEnd::ReturnFeed, true) => b"\r\n".as_slice(),
+        (LineEnd::ReturnFeed, false) => b"\r\n  ".as_slice(),
+    }
+}
+
+/// A text that is laid out.
+#[derive(Clone, Copy)]
+struct Page<'a> {
+    text: &'a IndexedText,
+    counting: Counting,
+    end: LineEnd,
 }
 
 fn with_gap(
     alloc: Global,
-    counting: Counting,
-    text: &IndexedText,
+    page: &Page<'_>,
     list: Vec<Value>,
     gap: Gap,
 ) -> Result<Vec<Value>, AllocError>
-    requires { 2 * length text.now < 2 ^ 64 }
-    ensures { IfOk result (λ all. map view all.items ≡ with_gap counting text.now (map view list.items) gap) }
+    requires { 2 * length page.now.text.now < 2 ^ 64 }
+    ensures { IfOk result (λ all. map view all.items ≡ with_gap page.now.counting page.now.end page.now.text.now (map view list.items) gap) }
 {
-    let new = layout(gap.is_last);
+    let Page {
+        text,
+        counting,
+        end,
+    } = *page;
+    let new = layout(end, gap.is_last);
     if part(text.as_slice(), gap.from, gap.to) == new {
         return Ok(list);
     }
@@ -45,48 +94,48 @@ fn with_gap(
 
 fn with_each(
     alloc: Global,
-    counting: Counting,
-    text: &IndexedText,
+    page: &Page<'_>,
     list: Vec<Value>,
     found: &[Gap],
 ) -> Result<Vec<Value>, AllocError>
-    requires { 2 * length text.now < 2 ^ 64 }
-    ensures { IfOk result (λ all. map view all.items ≡ fold (with_gap counting text.now) (map view list.items) found.now) }
+    requires { 2 * length page.now.text.now < 2 ^ 64 }
+    ensures { IfOk result (λ all. map view all.items ≡
+        fold (with_gap page.now.counting page.now.end page.now.text.now) (map view list.items) found.now) }
 {
     let mut all = list;
     'found: for gap in found {
-        all = with_gap(alloc, counting, text, all, *gap)?;
+        all = with_gap(alloc, page, all, *gap)?;
     }
     Ok(all)
 }
 
 fn with_gaps(
     alloc: Global,
-    counting: Counting,
-    text: &IndexedText,
+    page: &Page<'_>,
     list: Vec<Value>,
     piece: &PlacedPiece,
 ) -> Result<Vec<Value>, AllocError>
-    requires { 2 * length text.now < 2 ^ 64 }
-    ensures { IfOk result (λ all. map view all.items ≡ with_gaps counting text.now (map view list.items) piece.now) }
+    requires { 2 * length page.now.text.now < 2 ^ 64 }
+    ensures { IfOk result (λ all. map view all.items ≡
+        with_gaps page.now.counting page.now.end page.now.text.now (map view list.items) piece.now) }
 {
-    let found = gaps(alloc, text.as_slice(), piece)?;
-    with_each(alloc, counting, text, list, found.as_slice())
+    let found = gaps(alloc, page.text.as_slice(), piece)?;
+    with_each(alloc, page, list, found.as_slice())
 }
 
 fn with_pieces(
     alloc: Global,
-    counting: Counting,
-    text: &IndexedText,
+    page: &Page<'_>,
     list: Vec<Value>,
     pieces: &[PlacedPiece],
 ) -> Result<Vec<Value>, AllocError>
-    requires { 2 * length text.now < 2 ^ 64 }
-    ensures { IfOk result (λ all. map view all.items ≡ fold (with_gaps counting text.now) (map view list.items) pieces.now) }
+    requires { 2 * length page.now.text.now < 2 ^ 64 }
+    ensures { IfOk result (λ all. map view all.items ≡
+        fold (with_gaps page.now.counting page.now.end page.now.text.now) (map view list.items) pieces.now) }
 {
     let mut all = list;
     'pieces: for piece in pieces {
-        all = with_gaps(alloc, counting, text, all, piece)?;
+        all = with_gaps(alloc, page, all, piece)?;
     }
     Ok(all)
 }
@@ -100,12 +149,11 @@ pub fn formatted(alloc: Global, document: &Document) -> Result<Value, AllocError
         return Ok(Value::Null);
     }
     let items = read_bib(alloc, text.as_slice())?;
-    let list = with_pieces(
-        alloc,
-        document.counting,
+    let page = Page {
         text,
-        Vec::new(alloc),
-        items.pieces(),
-    )?;
+        counting: document.counting,
+        end: line_end(text.as_slice()),
+    };
+    let list = with_pieces(alloc, &page, Vec::new(alloc), items.pieces())?;
     Ok(Value::Array(list))
 }

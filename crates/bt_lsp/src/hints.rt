@@ -1,8 +1,5 @@
 //! What an editor is told of keys beside the run's messages: citations of keys that no database has, and entries that nothing
 //! cites.
-//!
-//! All databases are read again for it, after each change. So only papers of up to 256 KiB get hints: a larger one would
-//! have to wait longer than a reader notices.
 
 ghost use Rattle.std.specs.Prelude.{◌≡◌, ◌<◌, ◌*◌, ◌^◌, ◌++◌, ◌∷◌, [], length, map, IfOk, OnOk};
 ghost use Rattle.std.specs.List.{fold};
@@ -23,7 +20,8 @@ use bt_text::NameList;
 use serde_json::{Value, json};
 use std::alloc::{AllocError, Global};
 
-/// The most bytes of a paper whose keys are compared after each change: 256 KiB.
+/// The most bytes of a paper that gets hints: 256 KiB. All databases are read again for them after each change, and in a
+/// larger paper that would take longer than a reader notices.
 const HINTED_BYTES: usize = 262_144;
 
 /// Which names are collected.
@@ -63,7 +61,8 @@ fn room_after(room: Option<usize>, text: &[u8]) -> Option<usize>
     }
 }
 
-fn is_small<P: Paper>(paper: &P) -> bool
+/// Whether a paper's files have at most 256 KiB together: then it gets hints.
+pub fn is_small<P: Paper>(paper: &P) -> bool
     ensures { result ≡ is_small (P.shown paper.now).files }
 {
     let mut room = Some(HINTED_BYTES);
@@ -378,8 +377,7 @@ fn with_all_unused<P: Paper>(
     Ok(all)
 }
 
-/// Adds the hints for a document: for a text of LaTeX the citations of missing keys, for a database of the run the entries
-/// that nothing cites.
+/// Adds a document's hints: in a LaTeX text its citations of missing keys, in a database of the run its uncited entries.
 pub fn with_hints<P: Paper>(
     alloc: Global,
     paper: &P,

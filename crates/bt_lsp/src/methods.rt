@@ -1,7 +1,7 @@
 //! The methods that the desk knows.
 
 ghost use Rattle.std.specs.Prelude.{◌≡◌};
-ghost use Rattle.bt_lsp.specs.Methods.{request_of, notice_of};
+ghost use Rattle.bt_lsp.specs.Methods.{rereads, request_of, notice_of};
 
 /// A request by its method.
 #[derive(Clone, Copy)]
@@ -33,6 +33,7 @@ pub enum DocumentQuery {
     Folds,
     Format,
     Actions,
+    Links,
 }
 
 /// What is asked of the paper as a whole.
@@ -56,6 +57,18 @@ pub enum Notice {
     Other,
 }
 
+impl Notice {
+    /// Whether the files that aren't open are read again.
+    pub fn rereads(self) -> bool
+        ensures { result ≡ rereads self }
+    {
+        match self {
+            Notice::Closed | Notice::Saved => true,
+            Notice::Opened | Notice::Changed | Notice::Exit | Notice::Other => false,
+        }
+    }
+}
+
 /// The request of a method.
 pub fn request_of(method: &str) -> Request
     ensures { result ≡ request_of method.now }
@@ -73,6 +86,7 @@ pub fn request_of(method: &str) -> Request
         "textDocument/foldingRange" => Request::OfDocument(DocumentQuery::Folds),
         "textDocument/formatting" => Request::OfDocument(DocumentQuery::Format),
         "textDocument/codeAction" => Request::OfDocument(DocumentQuery::Actions),
+        "textDocument/documentLink" => Request::OfDocument(DocumentQuery::Links),
         "bibtex/bbl" => Request::OfPaper(PaperQuery::Bibliography),
         "bibtex/log" => Request::OfPaper(PaperQuery::Log),
         "bibtex/status" => Request::OfPaper(PaperQuery::Status),

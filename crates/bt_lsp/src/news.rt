@@ -2,18 +2,22 @@
 
 ghost use Rattle.std.specs.Prelude.{◌≡◌, ◌++◌, ◌∷◌, [], map, IfOk};
 ghost use Rattle.serde_json.specs.View.{view};
-ghost use Rattle.bt_lsp.specs.News.{shown_of, published_of, warning_params, warning, lost_words, behind_words, warned, warnings, cleared, all_published, news};
+ghost use Rattle.bt_lsp.specs.News.{run_name, shows, shown_of, published_of, warning_params, warning, lost_words, behind_words, warned, warnings, cleared, all_published, news};
 ghost use Rattle.bt_lsp.specs.Shapes.{published};
 
 use crate::announcing::{Announced, with_announced};
+use crate::entries::is_tex;
 use crate::hints::with_hints;
+use crate::keys::keys_of;
 use crate::methods::Notice;
 use crate::paper::Paper;
 use crate::parameters::text_at;
 use crate::shapes::{diagnostic_values, published};
+use crate::styles::with_style_hints;
 use bt_diagnostics::{Diagnostic, diagnostics};
 use bt_documents::Document;
 use bt_rpc::notification;
+use bt_style_findings::Checked;
 use bt_text::Sequence;
 use serde_json::{Value, json};
 use std::alloc::{AllocError, Global};
@@ -21,7 +25,24 @@ use std::alloc::{AllocError, Global};
 /// The most bytes of a document that is shown with diagnostics or an outline: 1 GiB.
 pub const SHOWN_BYTES: usize = 1_073_741_824;
 
-/// The diagnostics of a document. It has none if the run doesn't have its text.
+/// The name that the run has for a document's file; empty if it has none.
+fn run_name<'a, P: Paper>(paper: &'a P, document: &Document) -> &'a [u8]
+    ensures { result.now ≡ run_name (P.shown paper.now) document.now }
+{
+    match paper.name(document.name.as_slice()) {
+        Some(name) => name,
+        None => &[],
+    }
+}
+
+/// Whether messages are shown in a document: the run has its text, or it is a LaTeX text, which cites keys.
+fn shows(document: &Document) -> bool
+    ensures { result ≡ shows document.now }
+{
+    document.in_step || is_tex(document.name.as_slice())
+}
+
+/// The diagnostics of a document.
 fn shown_of<P: Paper>(
     alloc: Global,
     paper: &P,
@@ -29,31 +50,32 @@ fn shown_of<P: Paper>(
 ) -> Result<Sequence<Diagnostic>, AllocError>
     ensures { IfOk result (λ shown. shown ≡ shown_of (P.shown paper.now) document.now) }
 {
-    if !document.in_step || document.text.as_slice().len() > SHOWN_BYTES {
+    if !shows(document) || document.text.as_slice().len() > SHOWN_BYTES {
         return Ok(Sequence::new(alloc));
     }
-    match paper.name(document.name.as_slice()) {
-        Some(name) => diagnostics(
-            alloc,
-            name,
-            document.counting,
-            &document.text,
-            paper.messages(),
-        ),
-        None => Ok(Sequence::new(alloc)),
-    }
+    let keys = keys_of(alloc, paper, document)?;
+    diagnostics(
+        alloc,
+        run_name(paper, document),
+        document.counting,
+        &document.text,
+        &keys,
+        paper.messages(),
+    )
 }
 
 fn published_of<P: Paper>(
     alloc: Global,
     paper: &P,
+    checked: &[Checked],
     document: &Document,
 ) -> Result<Value, AllocError>
-    ensures { IfOk result (λ v. view v ≡ published_of (P.shown paper.now) document.now) }
+    ensures { IfOk result (λ v. view v ≡ published_of (P.shown paper.now) checked.now document.now) }
 {
     let shown = shown_of(alloc, paper, document)?;
     let list = diagnostic_values(alloc, shown.as_slice())?;
     let list = with_hints(alloc, paper, document, list)?;
+    let list = with_style_hints(alloc, checked, document, list)?;
     published(alloc, document.name.as_slice(), list)
 }
 
@@ -137,15 +159,16 @@ pub fn first_news(
 fn with_diagnostics<P: Paper>(
     alloc: Global,
     paper: &P,
+    checked: &[Checked],
     documents: &[Document],
     first: Vec<Value>,
 ) -> Result<Vec<Value>, AllocError>
     ensures { IfOk result (λ told. map view told.items ≡
-        map view first.items ++ all_published (P.shown paper.now) documents.now) }
+        map view first.items ++ all_published (P.shown paper.now) checked.now documents.now) }
 {
     let mut told = first;
     'documents: for document in documents {
-        told.push(published_of(alloc, paper, document)?)?;
+        told.push(published_of(alloc, paper, checked, document)?)?;
     }
     Ok(told)
 }
@@ -154,14 +177,15 @@ fn with_diagnostics<P: Paper>(
 pub fn news<P: Paper>(
     alloc: Global,
     paper: &P,
+    checked: &[Checked],
     documents: &[Document],
     announced: Announced,
     first: Vec<Value>,
 ) -> Result<Vec<Value>, AllocError>
     ensures { IfOk result (λ told. map view told.items ≡
-        news announced (P.shown paper.now) documents.now (map view first.items)) }
+        news announced (P.shown paper.now) checked.now documents.now (map view first.items)) }
 {
-    let list = with_diagnostics(alloc, paper, documents, first)?;
+    let list = with_diagnostics(alloc, paper, checked, documents, first)?;
     let told = with_announced(alloc, paper, announced, list)?;
     Ok(told)
 }

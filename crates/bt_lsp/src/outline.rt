@@ -3,31 +3,17 @@
 ghost use Rattle.std.specs.Prelude.{◌≡◌, ◌<◌, ◌*◌, ◌^◌, ◌++◌, [], length, map, option_map, IfOk};
 ghost use Rattle.std.specs.List.{cons_option};
 ghost use Rattle.serde_json.specs.View.{view};
-ghost use Rattle.bt_bib.specs.BibText.{pieces_of};
-ghost use Rattle.bt_lsp.specs.Outline.{symbol, symbol_of, symbols_in, symbols_of};
+ghost use Rattle.bt_lsp.specs.Outline.{symbol_of, symbols_in, symbols_of};
 
 use crate::entries::{is_database, name_of, symbol_kind};
 use crate::news::SHOWN_BYTES;
 use crate::shapes::range_of;
-use crate::words::shown;
 use bt_bib::{PlacedPiece, read_bib};
 use bt_documents::Document;
 use bt_positions::{Counting, IndexedText};
-use serde_json::{Value, json};
+use bt_shapes::symbol;
+use serde_json::Value;
 use std::alloc::{AllocError, Global};
-
-fn symbol(
-    alloc: Global,
-    name: &[u8],
-    kind: u8,
-    whole: Value,
-    head: Value,
-) -> Result<Value, AllocError>
-    ensures { IfOk result (λ v. view v ≡ symbol name.now kind (view whole) (view head)) }
-{
-    let name = shown(alloc, name)?;
-    json!(in alloc; {"name": name, "kind": kind, "range": whole, "selectionRange": head})
-}
 
 fn symbol_of(
     alloc: Global,

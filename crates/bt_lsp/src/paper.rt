@@ -7,12 +7,16 @@ use std::alloc::{AllocError, Global};
 
 /// A paper: a job with its files, each known to the editor by its URI, and the run over their present texts.
 pub trait Paper: Files {
-    ghost use Rattle.std.specs.Prelude.{◌≡◌, ◌<◌, length, slice_get, Some, IfOk, OnErr, option_map};
+    ghost use Rattle.std.specs.Prelude.{◌≡◌, ◌<◌, ℕ, List, Option, length, slice_get, Some, IfOk, OnErr, IsTrue, option_map};
     ghost use Rattle.bt_documents.specs.Documents.{Follows};
     ghost use Rattle.bt_lsp.specs.Shown.{Shown};
+    ghost use Rattle.bt_lsp.specs.Words.{fits_latin};
 
     /// What it shows.
     ghost shown: { Self → Shown };
+
+    /// Whether a paper may begin so: the paper before, the job and the folder that the editor names, the paper after.
+    ghost begins: { Self → Option (List ℕ) → Option (List ℕ) → Self → Type 0 };
 
     fn name(&self, uri: &[u8]) -> Option<&[u8]>
         ensures { option_map (λ n. n.now) result ≡ (shown self.now).name uri.now };
@@ -40,8 +44,9 @@ pub trait Paper: Files {
     fn status(&self) -> u8
         ensures { result ≡ (shown self.now).status };
 
-    /// Whether a text that the editor opens has its file in Latin-1 on disk.
-    fn is_latin(&self, alloc: Global, uri: &str, text: &str) -> bool;
+    /// Whether a text that the editor opens has its file in Latin-1 on disk. No letter is lost then.
+    fn is_latin(&self, alloc: Global, uri: &str, text: &str) -> Result<bool, AllocError>
+        ensures { IfOk result (λ is_latin. IsTrue is_latin → IsTrue (fits_latin text.now)) };
 
     /// Begins anew with the job and the folder that the editor names, if it names them.
     fn begin(
@@ -50,10 +55,12 @@ pub trait Paper: Files {
         job: Option<&str>,
         folder: Option<&str>,
     ) -> Result<(), AllocError>
+        ensures ok { IfOk result (λ _.
+            begins self.old (option_map (λ j. j.now) job.entry) (option_map (λ f. f.now) folder.entry) self.new) }
         ensures err { OnErr result (self.new ≡ self.old) };
 
     /// Reads the files that aren't open and have changed on disk, and those that the run looks for and doesn't have. The
-    /// files of open documents keep their texts.
-    fn refresh(&mut self, alloc: Global, documents: &[Document])
+    /// files of open documents keep their texts. The error is that memory ran out for a file, which then keeps its text, too.
+    fn refresh(&mut self, alloc: Global, documents: &[Document]) -> Result<(), AllocError>
         ensures { Follows (Self.text self.old) documents.now → Follows (Self.text self.new) documents.now };
 }

@@ -1,8 +1,9 @@
 //! Parameters of messages.
 
-ghost use Rattle.std.specs.Prelude.{◌≡◌, option_map};
-ghost use Rattle.serde_json.specs.View.{view};
-ghost use Rattle.bt_lsp.specs.Parameters.{text_at, number_at, version_at, position_at, cursor_of, document_named, document_of, place_of};
+ghost use Rattle.std.specs.Prelude.{◌≡◌, map, option_map};
+ghost use Rattle.serde_json.specs.View.{view, items_of};
+ghost use Rattle.serde_json.specs.Find.{as_str};
+ghost use Rattle.bt_lsp.specs.Parameters.{is_word, has_word, has_word_at, text_at, number_at, version_at, position_at, cursor_of, document_named, document_of, place_of};
 
 use bt_documents::Document;
 use bt_positions::Position;
@@ -13,6 +14,36 @@ pub fn text_at<'a>(value: &'a Value, path: &str) -> Option<&'a str>
     ensures { option_map (λ s. s.now) result ≡ text_at path.now (view value.now) }
 {
     value.pointer(path).and_then(Value::as_str)
+}
+
+fn is_word(value: &Value, word: &str) -> bool
+    ensures { result ≡ is_word word.now (as_str (view value.now)) }
+{
+    match value.as_str() {
+        Some(own) => own == word,
+        None => false,
+    }
+}
+
+fn has_word(values: &[Value], word: &str) -> bool
+    ensures { result ≡ has_word word.now (items_of (map view values.now)) }
+{
+    'values: for value in values {
+        if is_word(value, word) {
+            return true;
+        }
+    }
+    false
+}
+
+/// Whether there is a list at a pointer that has a word.
+pub fn has_word_at(value: &Value, path: &str, word: &str) -> bool
+    ensures { result ≡ has_word_at path.now word.now (view value.now) }
+{
+    match value.pointer(path).and_then(Value::as_array) {
+        Some(values) => has_word(values, word),
+        None => false,
+    }
 }
 
 /// The number at a pointer.

@@ -2,9 +2,11 @@
 
 ghost use Rattle.std.specs.Prelude.{◌≡◌, ◌<◌, ◌*◌, ◌^◌, ◌++◌, ◌∷◌, [], length, map, option_map, IfOk};
 ghost use Rattle.serde_json.specs.View.{view};
+ghost use Rattle.bt_lsp.specs.Editor.{counting_in};
 ghost use Rattle.bt_lsp.specs.Shapes.{location, range_of};
 ghost use Rattle.bt_lsp.specs.References.{wanted_of, is_definition, is_wanted, is_mention, all_references, is_mentioned, references, references_at, macro_at};
 
+use crate::editor::Editor;
 use crate::mentioning::{is_key, mention_at};
 use crate::paper::Paper;
 use crate::picking::{Pick, with_picked};
@@ -31,7 +33,7 @@ pub enum Wanted {
 /// A search for the mentions of a name.
 #[derive(Clone, Copy)]
 pub struct Search<'a> {
-    pub counting: Counting,
+    pub editor: Editor<'a>,
     pub wanted: Wanted,
     pub name: &'a [u8],
 }
@@ -93,9 +95,11 @@ fn with_place(
 }
 
 impl Pick for Search<'_> {
+    ghost use Rattle.bt_lsp.specs.Editor.{counting_in};
     ghost use Rattle.bt_lsp.specs.References.{with_reference};
 
-    ghost picked = { λ s uri text list one. with_reference s.counting s.wanted s.name.now uri text list one };
+    ghost picked = { λ s uri text list one.
+        with_reference (counting_in s.editor.counting s.editor.documents.now) s.wanted s.name.now uri text list one };
 
     fn pick(
         &self,
@@ -108,14 +112,16 @@ impl Pick for Search<'_> {
         if !is_mention(self.wanted, self.name, text.as_slice(), one) {
             return Ok(list);
         }
-        with_place(alloc, self.counting, uri, text, list, one)
+        with_place(alloc, self.editor.counting_in(uri), uri, text, list, one)
     }
 }
 
 impl Visit for Search<'_> {
+    ghost use Rattle.bt_lsp.specs.Editor.{counting_in};
     ghost use Rattle.bt_lsp.specs.References.{with_references};
 
-    ghost added = { λ s list uri text. with_references s.counting s.wanted s.name.now list uri text };
+    ghost added = { λ s list uri text.
+        with_references (counting_in s.editor.counting s.editor.documents.now) s.wanted s.name.now list uri text };
 
     fn visit(
         &self,
@@ -131,40 +137,33 @@ impl Visit for Search<'_> {
 fn all_references<P: Paper>(
     alloc: Global,
     paper: &P,
-    documents: &[Document],
     search: &Search<'_>,
 ) -> Result<Vec<Value>, AllocError>
-    ensures { IfOk result (λ list. map view list.items ≡
-        all_references (P.shown paper.now).files documents.now search.now.counting search.now.wanted search.now.name.now) }
+    ensures { IfOk result (λ list. map view list.items ≡ all_references (P.shown paper.now).files
+        search.now.editor.documents.now search.now.editor.counting search.now.wanted search.now.name.now) }
 {
     let list = with_files(alloc, paper, search, Vec::new(alloc))?;
-    with_texts(alloc, documents, search, list)
+    with_texts(alloc, search.editor.documents, search, list)
 }
 
 /// Whether a name is mentioned in the paper's files or in LaTeX's open texts.
 pub fn is_mentioned<P: Paper>(
     alloc: Global,
     paper: &P,
-    documents: &[Document],
     search: &Search<'_>,
 ) -> Result<bool, AllocError>
-    ensures { IfOk result (λ found. found ≡
-        is_mentioned (P.shown paper.now).files documents.now search.now.counting search.now.wanted search.now.name.now) }
+    ensures { IfOk result (λ found. found ≡ is_mentioned (P.shown paper.now).files
+        search.now.editor.documents.now search.now.editor.counting search.now.wanted search.now.name.now) }
 {
-    let list = all_references(alloc, paper, documents, search)?;
+    let list = all_references(alloc, paper, search)?;
     Ok(is_any(list.as_slice()))
 }
 
-fn references<P: Paper>(
-    alloc: Global,
-    paper: &P,
-    documents: &[Document],
-    search: &Search<'_>,
-) -> Result<Value, AllocError>
-    ensures { IfOk result (λ v. view v ≡
-        references (P.shown paper.now).files documents.now search.now.counting search.now.wanted search.now.name.now) }
+fn references<P: Paper>(alloc: Global, paper: &P, search: &Search<'_>) -> Result<Value, AllocError>
+    ensures { IfOk result (λ v. view v ≡ references (P.shown paper.now).files
+        search.now.editor.documents.now search.now.editor.counting search.now.wanted search.now.name.now) }
 {
-    let list = all_references(alloc, paper, documents, search)?;
+    let list = all_references(alloc, paper, search)?;
     Ok(Value::Array(list))
 }
 
@@ -172,21 +171,22 @@ fn references<P: Paper>(
 pub fn references_at<P: Paper>(
     alloc: Global,
     paper: &P,
-    documents: &[Document],
+    editor: &Editor<'_>,
     document: &Document,
     at: Position,
 ) -> Result<Value, AllocError>
-    ensures { IfOk result (λ v. view v ≡ references_at (P.shown paper.now).files documents.now document.now at) }
+    ensures { IfOk result (λ v. view v ≡
+        references_at (P.shown paper.now).files editor.now.documents.now editor.now.counting document.now at) }
 {
     let Some(one) = mention_at(alloc, document, at)? else {
         return Ok(Value::Null);
     };
     let search = Search {
-        counting: document.counting,
+        editor: *editor,
         wanted: wanted_of(one.role),
         name: part(document.text.as_slice(), one.from, one.to),
     };
-    let found = references(alloc, paper, documents, &search)?;
+    let found = references(alloc, paper, &search)?;
     Ok(found)
 }
 
@@ -194,10 +194,12 @@ pub fn references_at<P: Paper>(
 pub fn macro_at<P: Paper>(
     alloc: Global,
     paper: &P,
+    editor: &Editor<'_>,
     document: &Document,
     at: Position,
 ) -> Result<Option<Value>, AllocError>
-    ensures { IfOk result (λ found. option_map view found ≡ macro_at (P.shown paper.now).files document.now at) }
+    ensures { IfOk result (λ found. option_map view found ≡
+        macro_at (P.shown paper.now).files editor.now.documents.now editor.now.counting document.now at) }
 {
     let Some(one) = mention_at(alloc, document, at)? else {
         return Ok(None);
@@ -206,10 +208,10 @@ pub fn macro_at<P: Paper>(
         return Ok(None);
     }
     let search = Search {
-        counting: document.counting,
+        editor: *editor,
         wanted: Wanted::Definitions,
         name: part(document.text.as_slice(), one.from, one.to),
     };
-    let found = references(alloc, paper, &[], &search)?;
+    let found = references(alloc, paper, &search)?;
     Ok(Some(found))
 }

@@ -3,10 +3,12 @@
 ghost use Rattle.std.specs.Prelude.{◌≡◌, ◌<◌, ◌*◌, ◌^◌, ◌++◌, ◌∷◌, [], length, map, option_map, IfOk};
 ghost use Rattle.std.specs.List.{list_all};
 ghost use Rattle.serde_json.specs.View.{view};
+ghost use Rattle.bt_talk.specs.Replies.{outcome_of};
 ghost use Rattle.bt_mentions.specs.KeyBytes.{is_key_byte};
 ghost use Rattle.bt_lsp.specs.Shapes.{range_of};
-ghost use Rattle.bt_lsp.specs.Renaming.{text_edit, file_edit, with_file_edit, workspace_edit, is_new_key, can_be_named, renamed, is_free, renamed_if_free, is_named, renamed_at, name_range_at};
+ghost use Rattle.bt_lsp.specs.Renaming.{text_edit, file_edit, with_file_edit, is_new_key, can_be_named, renamed, is_free, is_defined, renamed_if_free, is_named, renamed_at, range_if_defined, name_range_at};
 
+use crate::editor::Editor;
 use crate::mentioning::{is_key, mention_at};
 use crate::news::SHOWN_BYTES;
 use crate::paper::Paper;
@@ -14,28 +16,23 @@ use crate::picking::{Pick, with_picked};
 use crate::references::{Search, Wanted, is_mention, is_mentioned, wanted_of};
 use crate::shapes::range_of;
 use crate::visiting::{Visit, is_any, with_files, with_texts, with_value};
-use crate::words::shown;
 use bt_documents::Document;
 use bt_mentions::{Mention, is_key_byte, part};
 use bt_positions::{Counting, IndexedText, Position};
+use bt_rpc::RpcError;
+pub use bt_shapes::workspace_edit;
+use bt_shapes::{file_edit, text_edit};
 use bt_text::{eq_ignore_ascii_case, is_name};
-use serde_json::{Value, json};
+use serde_json::Value;
 use std::alloc::{AllocError, Global};
 
 /// A change of a name to another in all mentions.
 #[derive(Clone, Copy)]
 pub struct Renaming<'a> {
-    counting: Counting,
+    editor: Editor<'a>,
     wanted: Wanted,
     old: &'a [u8],
     new: &'a [u8],
-}
-
-fn text_edit(alloc: Global, range: Value, new: &[u8]) -> Result<Value, AllocError>
-    ensures { IfOk result (λ v. view v ≡ text_edit (view range) new.now) }
-{
-    let text = shown(alloc, new)?;
-    json!(in alloc; {"range": range, "newText": text})
 }
 
 /// Adds the edit that replaces a part of a text.
@@ -59,9 +56,11 @@ pub fn with_text_edit(
 }
 
 impl Pick for Renaming<'_> {
+    ghost use Rattle.bt_lsp.specs.Editor.{counting_in};
     ghost use Rattle.bt_lsp.specs.Renaming.{with_edit};
 
-    ghost picked = { λ r uri text list one. with_edit r.counting r.wanted r.old.now r.new.now text list one };
+    ghost picked = { λ r uri text list one.
+        with_edit (counting_in r.editor.counting r.editor.documents.now) r.wanted r.old.now r.new.now uri text list one };
 
     fn pick(
         &self,
@@ -71,21 +70,12 @@ impl Pick for Renaming<'_> {
         list: Vec<Value>,
         one: Mention,
     ) -> Result<Vec<Value>, AllocError> {
-        let _ = uri;
         if !is_mention(self.wanted, self.old, text.as_slice(), one) {
             return Ok(list);
         }
-        with_text_edit(alloc, self.counting, text, list, one.from, one.to, self.new)
+        let counting = self.editor.counting_in(uri);
+        with_text_edit(alloc, counting, text, list, one.from, one.to, self.new)
     }
-}
-
-/// The version is null: the client knows its own.
-fn file_edit(alloc: Global, uri: &[u8], edits: Vec<Value>) -> Result<Value, AllocError>
-    ensures { IfOk result (λ v. view v ≡ file_edit uri.now (map view edits.items)) }
-{
-    let uri = shown(alloc, uri)?;
-    let edits = Value::Array(edits);
-    json!(in alloc; {"textDocument": {"uri": uri, "version": null}, "edits": edits})
 }
 
 pub fn with_edits(
@@ -116,9 +106,11 @@ fn with_file_edit(
 }
 
 impl Visit for Renaming<'_> {
+    ghost use Rattle.bt_lsp.specs.Editor.{counting_in};
     ghost use Rattle.bt_lsp.specs.Renaming.{with_renamed};
 
-    ghost added = { λ r list uri text. with_renamed r.counting r.wanted r.old.now r.new.now list uri text };
+    ghost added = { λ r list uri text.
+        with_renamed (counting_in r.editor.counting r.editor.documents.now) r.wanted r.old.now r.new.now list uri text };
 
     fn visit(
         &self,
@@ -130,13 +122,6 @@ impl Visit for Renaming<'_> {
         let edits = with_picked(alloc, self, Vec::new(alloc), uri, text)?;
         with_file_edit(alloc, list, uri, edits)
     }
-}
-
-pub fn workspace_edit(alloc: Global, changes: Vec<Value>) -> Result<Value, AllocError>
-    ensures { IfOk result (λ v. view v ≡ workspace_edit (map view changes.items)) }
-{
-    let changes = Value::Array(changes);
-    json!(in alloc; {"documentChanges": changes})
 }
 
 fn has_key_bytes_alone(text: &[u8]) -> bool
@@ -164,59 +149,81 @@ fn can_be_named(wanted: Wanted, new: &[u8]) -> bool
     }
 }
 
-fn renamed<P: Paper>(
-    alloc: Global,
-    paper: &P,
-    documents: &[Document],
-    renaming: &Renaming<'_>,
-) -> Result<Value, AllocError>
-    ensures { IfOk result (λ v. view v ≡ renamed (P.shown paper.now).files documents.now
-        renaming.now.counting renaming.now.wanted renaming.now.old.now renaming.now.new.now) }
+fn renamed<P: Paper>(alloc: Global, paper: &P, renaming: &Renaming<'_>) -> Result<Value, AllocError>
+    ensures { IfOk result (λ v. view v ≡ renamed (P.shown paper.now).files renaming.now.editor.documents.now
+        renaming.now.editor.counting renaming.now.wanted renaming.now.old.now renaming.now.new.now) }
 {
     let changes = with_files(alloc, paper, renaming, Vec::new(alloc))?;
-    let changes = with_texts(alloc, documents, renaming, changes)?;
+    let changes = with_texts(alloc, renaming.editor.documents, renaming, changes)?;
     workspace_edit(alloc, changes)
 }
 
 /// Whether a name is free: nothing has it, or it is the old one in another spelling.
-fn is_free<P: Paper>(
-    alloc: Global,
-    paper: &P,
-    documents: &[Document],
-    renaming: &Renaming<'_>,
-) -> Result<bool, AllocError>
-    ensures { IfOk result (λ free. free ≡ is_free (P.shown paper.now).files documents.now
-        renaming.now.counting renaming.now.wanted renaming.now.old.now renaming.now.new.now) }
+fn is_free<P: Paper>(alloc: Global, paper: &P, renaming: &Renaming<'_>) -> Result<bool, AllocError>
+    ensures { IfOk result (λ free. free ≡ is_free (P.shown paper.now).files renaming.now.editor.documents.now
+        renaming.now.editor.counting renaming.now.wanted renaming.now.old.now renaming.now.new.now) }
 {
     if eq_ignore_ascii_case(renaming.new, renaming.old) {
         return Ok(true);
     }
     let search = Search {
-        counting: renaming.counting,
+        editor: renaming.editor,
         wanted: renaming.wanted,
         name: renaming.new,
     };
-    let found = is_mentioned(alloc, paper, documents, &search)?;
+    let found = is_mentioned(alloc, paper, &search)?;
     Ok(!found)
+}
+
+/// Whether files define what is looked for. A key needs no entry.
+fn is_defined<P: Paper>(
+    alloc: Global,
+    paper: &P,
+    editor: &Editor<'_>,
+    wanted: Wanted,
+    old: &[u8],
+) -> Result<bool, AllocError>
+    ensures { IfOk result (λ defined. defined ≡
+        is_defined (P.shown paper.now).files editor.now.documents.now editor.now.counting wanted old.now) }
+{
+    match wanted {
+        Wanted::Keys => Ok(true),
+        Wanted::Macros | Wanted::Definitions => {
+            let search = Search {
+                editor: *editor,
+                wanted: Wanted::Definitions,
+                name: old,
+            };
+            let found = is_mentioned(alloc, paper, &search)?;
+            Ok(found)
+        }
+    }
 }
 
 fn renamed_if_free<P: Paper>(
     alloc: Global,
     paper: &P,
-    documents: &[Document],
     renaming: &Renaming<'_>,
-) -> Result<Value, AllocError>
-    ensures { IfOk result (λ v. view v ≡ renamed_if_free (P.shown paper.now).files documents.now
-        renaming.now.counting renaming.now.wanted renaming.now.old.now renaming.now.new.now) }
+) -> Result<Result<Value, RpcError>, AllocError>
+    ensures { IfOk result (λ o. outcome_of o ≡ renamed_if_free (P.shown paper.now).files renaming.now.editor.documents.now
+        renaming.now.editor.counting renaming.now.wanted renaming.now.old.now renaming.now.new.now) }
 {
     if !can_be_named(renaming.wanted, renaming.new) {
-        return Ok(Value::Null);
+        return Ok(Err(RpcError::BadName));
     }
-    let free = is_free(alloc, paper, documents, renaming)?;
-    if !free {
-        return Ok(Value::Null);
+    if !is_free(alloc, paper, renaming)? {
+        return Ok(Err(RpcError::TakenName));
     }
-    renamed(alloc, paper, documents, renaming)
+    if !is_defined(
+        alloc,
+        paper,
+        &renaming.editor,
+        renaming.wanted,
+        renaming.old,
+    )? {
+        return Ok(Err(RpcError::UndefinedMacro));
+    }
+    Ok(Ok(renamed(alloc, paper, renaming)?))
 }
 
 /// Whether a mention has a name that can change. A number in a value has none.
@@ -226,50 +233,76 @@ fn is_named(text: &[u8], one: Mention) -> bool
     is_key(one.role) || is_name(part(text, one.from, one.to))
 }
 
-/// The edits that give the key or the macro at a position of a document a new name, in all files; null if there is none, or
-/// if it can't have this name.
+/// The edits that give the key or the macro at a position of a document a new name, in all files; null if there is none.
 pub fn renamed_at<P: Paper>(
     alloc: Global,
     paper: &P,
-    documents: &[Document],
+    editor: &Editor<'_>,
     document: &Document,
     at: Position,
     new: Option<&str>,
-) -> Result<Value, AllocError>
-    ensures { IfOk result (λ v. view v ≡
-        renamed_at (P.shown paper.now).files documents.now document.now at (option_map (λ s. s.now) new.entry)) }
+) -> Result<Result<Value, RpcError>, AllocError>
+    ensures { IfOk result (λ o. outcome_of o ≡ renamed_at (P.shown paper.now).files editor.now.documents.now editor.now.counting
+        document.now at (option_map (λ s. s.now) new.entry)) }
 {
     let Some(new) = new else {
-        return Ok(Value::Null);
+        return Ok(Err(RpcError::InvalidParams));
     };
     let Some(one) = mention_at(alloc, document, at)? else {
-        return Ok(Value::Null);
+        return Ok(Ok(Value::Null));
     };
     if !is_named(document.text.as_slice(), one) {
-        return Ok(Value::Null);
+        return Ok(Ok(Value::Null));
     }
     let renaming = Renaming {
-        counting: document.counting,
+        editor: *editor,
         wanted: wanted_of(one.role),
         old: part(document.text.as_slice(), one.from, one.to),
         new: new.as_bytes(),
     };
-    let edit = renamed_if_free(alloc, paper, documents, &renaming)?;
-    Ok(edit)
+    let outcome = renamed_if_free(alloc, paper, &renaming)?;
+    Ok(outcome)
+}
+
+/// The range of a name, if it can change.
+fn range_if_defined<P: Paper>(
+    alloc: Global,
+    paper: &P,
+    editor: &Editor<'_>,
+    document: &Document,
+    one: Mention,
+) -> Result<Result<Value, RpcError>, AllocError>
+    requires { 2 * length document.now.text < 2 ^ 64 }
+    ensures { IfOk result (λ o. outcome_of o ≡
+        range_if_defined (P.shown paper.now).files editor.now.documents.now editor.now.counting document.now one) }
+{
+    let old = part(document.text.as_slice(), one.from, one.to);
+    if !is_defined(alloc, paper, editor, wanted_of(one.role), old)? {
+        return Ok(Err(RpcError::UndefinedMacro));
+    }
+    let range = range_of(alloc, document.counting, &document.text, one.from, one.to)?;
+    Ok(Ok(range))
 }
 
 /// The range of the name at a position of a document; null if there is none.
-pub fn name_range_at(alloc: Global, document: &Document, at: Position) -> Result<Value, AllocError>
-    ensures { IfOk result (λ v. view v ≡ name_range_at document.now at) }
+pub fn name_range_at<P: Paper>(
+    alloc: Global,
+    paper: &P,
+    editor: &Editor<'_>,
+    document: &Document,
+    at: Position,
+) -> Result<Result<Value, RpcError>, AllocError>
+    ensures { IfOk result (λ o. outcome_of o ≡
+        name_range_at (P.shown paper.now).files editor.now.documents.now editor.now.counting document.now at) }
 {
     if document.text.as_slice().len() > SHOWN_BYTES {
-        return Ok(Value::Null);
+        return Ok(Ok(Value::Null));
     }
     let Some(one) = mention_at(alloc, document, at)? else {
-        return Ok(Value::Null);
+        return Ok(Ok(Value::Null));
     };
     if !is_named(document.text.as_slice(), one) {
-        return Ok(Value::Null);
+        return Ok(Ok(Value::Null));
     }
-    range_of(alloc, document.counting, &document.text, one.from, one.to)
+    range_if_defined(alloc, paper, editor, document, one)
 }

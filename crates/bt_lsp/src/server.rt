@@ -3,22 +3,23 @@
 ghost use Rattle.std.specs.Prelude.{◌≡◌, map, IfOk, OnErr};
 ghost use Rattle.serde_json.specs.View.{view};
 ghost use Rattle.bt_talk.specs.Replies.{outcome_of};
-ghost use Rattle.bt_documents.specs.Documents.{AreGiven, Follows};
-ghost use Rattle.bt_lsp.specs.Desk.{duty_of, IsBegun, IsOutcome, TakenOrLost, Tells, Carried, owes, SettledIf};
+ghost use Rattle.bt_lsp.specs.Desk.{duty_of, IsBegun, IsOutcome, owes, SettledIf};
 ghost use Rattle.bt_lsp.specs.Answering.{answered};
+ghost use Rattle.bt_lsp.specs.Parameters.{offers_bytes};
 ghost use Rattle.bt_lsp.specs.Words.{counting_of};
 
 use crate::announcing::{Announced, announced_by};
 use crate::answering::answered;
+use crate::carrying::{carry, take_up};
 use crate::methods::{Notice, Request, notice_of, request_of};
-use crate::news::{first_news, news};
 use crate::paper::Paper;
-use crate::parameters::text_at;
+use crate::parameters::{has_word_at, text_at};
 use crate::shapes::capabilities;
-use crate::taking::take;
 use crate::words::counting_of;
-use bt_documents::{Document, give_again};
+use bt_documents::Document;
 use bt_rpc::RpcError;
+use bt_streams::Ahead;
+use bt_style_findings::Checked;
 use bt_talk::{Desk, Reply};
 use bt_text::Sequence;
 use serde_json::Value;
@@ -55,10 +56,12 @@ pub struct Server<P> {
     pub counts_bytes: bool,
     /// Whether a message was lost of which the editor hasn't been warned.
     pub lost: bool,
-    /// Whether the paper has yet to get the text of a document.
-    pub behind: bool,
+    /// Whether the paper has yet to read the files again that aren't open.
+    pub stale: bool,
     /// Whether there is news that the editor hasn't been told.
     pub pending: bool,
+    /// What was found in the open styles.
+    pub checked: Sequence<Checked>,
     /// What the editor has announced after each change.
     pub announced: Announced,
     /// Whether `exit` came.
@@ -76,14 +79,15 @@ fn duty_of(phase: Phase, pending: bool, notice: Notice) -> Duty
     }
 }
 
-fn offers_bytes(message: &Value) -> bool {
-    match message
-        .pointer("/params/capabilities/general/positionEncodings")
-        .and_then(Value::as_array)
-    {
-        Some(words) => words.iter().any(|word| word.as_str() == Some("utf-8")),
-        None => false,
-    }
+/// Whether the editor's positions can count bytes of UTF-8.
+fn offers_bytes(message: &Value) -> bool
+    ensures { result ≡ offers_bytes (view message.now) }
+{
+    has_word_at(
+        message,
+        "/params/capabilities/general/positionEncodings",
+        "utf-8",
+    )
 }
 
 impl<P: Paper> Server<P> {
@@ -95,8 +99,9 @@ impl<P: Paper> Server<P> {
             phase: Phase::New,
             counts_bytes: false,
             lost: false,
-            behind: false,
+            stale: false,
             pending: false,
+            checked: Sequence::new(alloc),
             announced: Announced {
                 bibliography: false,
                 log: false,
@@ -117,7 +122,7 @@ fn begin<P: Paper>(
     server: &mut Server<P>,
     message: &Value,
 ) -> Result<Result<Value, RpcError>, AllocError>
-    ensures ok { IfOk result (λ outcome. IsBegun server.old (outcome_of outcome) server.new) }
+    ensures ok { IfOk result (λ outcome. IsBegun P.begins (view message.now) server.old (outcome_of outcome) server.new) }
     ensures err { OnErr result (server.new ≡ server.old) }
 {
     let counts_bytes = offers_bytes(message);
@@ -127,7 +132,7 @@ fn begin<P: Paper>(
     server.paper.begin(alloc, job, folder)?;
     server.documents = Sequence::new(alloc);
     server.counts_bytes = counts_bytes;
-    server.behind = false;
+    server.stale = false;
     server.announced = announced_by(message);
     server.phase = Phase::Ready;
     Ok(Ok(answer))
@@ -139,7 +144,7 @@ fn outcome_for<P: Paper>(
     request: Request,
     message: &Value,
 ) -> Result<Result<Value, RpcError>, AllocError>
-    ensures ok { IfOk result (λ outcome. IsOutcome
+    ensures ok { IfOk result (λ outcome. IsOutcome P.begins (view message.now)
         (λ r. answered (counting_of server.old.counts_bytes) (P.shown server.old.paper) server.old.documents r (view message.now))
         server.old.phase request server.old (outcome_of outcome) server.new) }
     ensures err { OnErr result (server.new ≡ server.old) }
@@ -163,95 +168,6 @@ fn outcome_for<P: Paper>(
             )
         }
     }
-}
-
-fn tell<P: Paper>(
-    alloc: Global,
-    server: &mut Server<P>,
-    notice: Notice,
-    message: &Value,
-) -> Vec<Value>
-    ensures told { Tells P.shown server.old.lost notice (view message.now) (map view result.items) server.new }
-    ensures rest { server.new ≡ record server.old { lost = server.new.lost; pending = server.new.pending } }
-{
-    let told = match first_news(alloc, server.lost, server.behind, notice, message) {
-        Ok(first) => news(
-            alloc,
-            &server.paper,
-            server.documents.as_slice(),
-            server.announced,
-            first,
-        ),
-        Err(error) => Err(error),
-    };
-    match told {
-        Ok(told) => {
-            server.lost = false;
-            server.pending = server.behind;
-            told
-        }
-        Err(_) => {
-            server.pending = true;
-            Vec::new(alloc)
-        }
-    }
-}
-
-/// Gives the paper the texts of documents that it doesn't have.
-fn catch_up<P: Paper>(alloc: Global, server: &mut Server<P>)
-    ensures documents { AreGiven server.old.documents server.new.documents }
-    ensures follows { Follows (P.text server.old.paper) server.old.documents →
-        Follows (P.text server.new.paper) server.new.documents }
-    ensures rest { server.new ≡ record server.old {
-      paper = server.new.paper;
-      documents = server.new.documents;
-      behind = server.new.behind;
-    } }
-{
-    server.behind = give_again(alloc, &mut server.paper, &mut server.documents);
-}
-
-/// Takes a notification, or remembers that it is lost.
-fn take_or_lose<P: Paper>(alloc: Global, server: &mut Server<P>, notice: Notice, message: &Value)
-    ensures taken { TakenOrLost notice (view message.now) server.old server.new }
-    ensures follows { Follows (P.text server.old.paper) server.old.documents →
-        Follows (P.text server.new.paper) server.new.documents }
-    ensures rest { server.new ≡ record server.old {
-      paper = server.new.paper;
-      documents = server.new.documents;
-      lost = server.new.lost;
-      behind = server.new.behind;
-    } }
-{
-    match take(
-        alloc,
-        &mut server.paper,
-        &mut server.documents,
-        server.counts_bytes,
-        notice,
-        message,
-    ) {
-        Ok(written) => {
-            server.behind = written.is_waiting() || server.behind;
-        }
-        Err(_) => {
-            server.lost = true;
-        }
-    }
-}
-
-/// Takes a notification and tells the news.
-fn carry<P: Paper>(
-    alloc: Global,
-    server: &mut Server<P>,
-    notice: Notice,
-    message: &Value,
-) -> Vec<Value>
-    ensures { Carried P.text P.shown server.old notice (view message.now) (map view result.items) server.new }
-{
-    catch_up(alloc, server);
-    take_or_lose(alloc, server, notice, message);
-    tell(alloc, server, notice, message)
 }
 
 fn owes(phase: Phase, pending: bool) -> bool
@@ -278,7 +194,7 @@ fn settle<P: Paper>(alloc: Global, server: &mut Server<P>, message: &Value) -> V
 impl<P: Paper + Drop> Desk for Server<P> {
     ghost use Rattle.bt_lsp.specs.Desk.{Answered, Noted, IsLost};
 
-    ghost answers = { λ d method m outcome told e. Answered P.text P.shown d method m outcome told e };
+    ghost answers = { λ d method m outcome told e. Answered P.begins P.text P.shown d method m outcome told e };
 
     ghost notes = { λ d method m told e. Noted P.text P.shown d method m told e };
 
@@ -302,7 +218,7 @@ impl<P: Paper + Drop> Desk for Server<P> {
         }
     }
 
-    fn note(&mut self, alloc: Global, method: &str, message: &Value) -> Vec<Value> {
+    fn note(&mut self, alloc: Global, method: &str, message: &Value, ahead: Ahead) -> Vec<Value> {
         let notice = notice_of(method);
         match duty_of(self.phase, self.pending, notice) {
             Duty::End => {
@@ -310,7 +226,7 @@ impl<P: Paper + Drop> Desk for Server<P> {
                 Vec::new(alloc)
             }
             Duty::Pass => Vec::new(alloc),
-            Duty::Carry => carry(alloc, self, notice, message),
+            Duty::Carry => take_up(alloc, self, notice, message, ahead),
         }
     }
 

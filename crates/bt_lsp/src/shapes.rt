@@ -1,50 +1,16 @@
 //! Values of the protocol.
 
-ghost use Rattle.std.specs.Prelude.{◌≡◌, ◌<◌, ◌*◌, ◌^◌, length, map, IfOk};
-ghost use Rattle.serde_json.specs.View.{view, items_of};
-ghost use Rattle.bt_lsp.specs.Shapes.{range, range_of, location, diagnostic, published_params, published, hover, shown_text, shown_status, completion_options, rename_options, sync_options, abilities, encoding_of, capabilities};
+ghost use Rattle.std.specs.Prelude.{◌≡◌, map, IfOk};
+ghost use Rattle.serde_json.specs.View.{view};
+ghost use Rattle.bt_lsp.specs.Shapes.{diagnostic, published_params, published, hover, shown_text, shown_status, completion_options, rename_options, sync_options, abilities, encoding_of, capabilities};
 
 use crate::words::{is_utf8, shown};
 use bt_diagnostics::Diagnostic;
-use bt_positions::{Counting, IndexedText, Position};
 use bt_rpc::notification;
+use bt_shapes::range;
+pub use bt_shapes::{location, range_of};
 use serde_json::{Value, json};
 use std::alloc::{AllocError, Global};
-
-/// A range.
-pub fn range(alloc: Global, from: Position, to: Position) -> Result<Value, AllocError>
-    ensures { IfOk result (λ v. view v ≡ range from to) }
-{
-    json!(in alloc; {
-        "start": {"line": (from.line), "character": (from.character)},
-        "end": {"line": (to.line), "character": (to.character)}
-    })
-}
-
-/// The range of a part of a text, as far as the text reaches.
-pub fn range_of(
-    alloc: Global,
-    counting: Counting,
-    text: &IndexedText,
-    from: usize,
-    to: usize,
-) -> Result<Value, AllocError>
-    requires { 2 * length text.now < 2 ^ 64 }
-    ensures { IfOk result (λ v. view v ≡ range_of counting text.now from to) }
-{
-    let end = text.as_slice().len();
-    let begin = text.position_of(counting, from.min(end));
-    let end = text.position_of(counting, to.min(end));
-    range(alloc, begin, end)
-}
-
-/// A part of a file.
-pub fn location(alloc: Global, uri: &[u8], range: Value) -> Result<Value, AllocError>
-    ensures { IfOk result (λ v. view v ≡ location uri.now (view range)) }
-{
-    let uri = shown(alloc, uri)?;
-    json!(in alloc; {"uri": uri, "range": range})
-}
 
 fn diagnostic(alloc: Global, found: &Diagnostic) -> Result<Value, AllocError>
     ensures { IfOk result (λ v. view v ≡ diagnostic found.now) }
@@ -111,7 +77,7 @@ pub fn shown_status(alloc: Global, status: u8) -> Result<Value, AllocError>
 fn completion_options(alloc: Global) -> Result<Value, AllocError>
     ensures { IfOk result (λ v. view v ≡ completion_options) }
 {
-    json!(in alloc; {"triggerCharacters": ["{", ","]})
+    json!(in alloc; {"triggerCharacters": ["{", ",", "@"]})
 }
 
 fn rename_options(alloc: Global) -> Result<Value, AllocError>
@@ -144,6 +110,7 @@ fn abilities(
         "referencesProvider": true,
         "renameProvider": rename,
         "documentSymbolProvider": true,
+        "documentLinkProvider": {"resolveProvider": false},
         "foldingRangeProvider": true,
         "documentFormattingProvider": true,
         "codeActionProvider": true,

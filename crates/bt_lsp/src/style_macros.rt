@@ -1,6 +1,6 @@
 //! Completes the macros that the paper's style defines.
 
-ghost use Rattle.std.specs.Prelude.{◌≡◌, map, option_map, IfOk};
+ghost use Rattle.std.specs.Prelude.{◌≡◌, map, IfOk};
 ghost use Rattle.std.specs.List.{fold};
 ghost use Rattle.serde_json.specs.View.{view};
 ghost use Rattle.bt_lsp.specs.StyleMacros.{with_style_macro, with_style_macros};

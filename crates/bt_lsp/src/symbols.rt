@@ -4,6 +4,7 @@ ghost use Rattle.std.specs.Prelude.{◌≡◌, ◌<◌, ◌*◌, ◌^◌, ◌++�
 ghost use Rattle.serde_json.specs.View.{view};
 ghost use Rattle.bt_lsp.specs.Symbols.{query_of, contains, number_of, is_symbol, symbol, symbol_at, symbols};
 
+use crate::editor::Editor;
 use crate::paper::Paper;
 use crate::parameters::text_at;
 use crate::picking::{Pick, with_picked};
@@ -18,7 +19,7 @@ use std::alloc::{AllocError, Global};
 
 #[derive(Clone, Copy)]
 struct Query<'a> {
-    counting: Counting,
+    editor: Editor<'a>,
     text: &'a [u8],
 }
 
@@ -91,9 +92,11 @@ fn with_one(
 }
 
 impl Pick for Query<'_> {
+    ghost use Rattle.bt_lsp.specs.Editor.{counting_in};
     ghost use Rattle.bt_lsp.specs.Symbols.{with_symbol};
 
-    ghost picked = { λ q uri text list one. with_symbol q.counting q.text.now uri text list one };
+    ghost picked = { λ q uri text list one.
+        with_symbol (counting_in q.editor.counting q.editor.documents.now) q.text.now uri text list one };
 
     fn pick(
         &self,
@@ -106,14 +109,16 @@ impl Pick for Query<'_> {
         if !is_symbol(self.text, text.as_slice(), one) {
             return Ok(list);
         }
-        with_one(alloc, self.counting, uri, text, list, one)
+        with_one(alloc, self.editor.counting_in(uri), uri, text, list, one)
     }
 }
 
 impl Visit for Query<'_> {
+    ghost use Rattle.bt_lsp.specs.Editor.{counting_in};
     ghost use Rattle.bt_lsp.specs.Symbols.{with_symbols};
 
-    ghost added = { λ q list uri text. with_symbols q.counting q.text.now list uri text };
+    ghost added = { λ q list uri text.
+        with_symbols (counting_in q.editor.counting q.editor.documents.now) q.text.now list uri text };
 
     fn visit(
         &self,
@@ -129,14 +134,15 @@ impl Visit for Query<'_> {
 /// The keys and macros of the paper's databases whose names contain the text that a message asks for.
 pub fn symbols<P: Paper>(
     alloc: Global,
-    counting: Counting,
     paper: &P,
+    editor: &Editor<'_>,
     message: &Value,
 ) -> Result<Value, AllocError>
-    ensures { IfOk result (λ v. view v ≡ symbols counting (P.shown paper.now).files (view message.now)) }
+    ensures { IfOk result (λ v. view v ≡
+        symbols (P.shown paper.now).files editor.now.documents.now editor.now.counting (view message.now)) }
 {
     let query = Query {
-        counting,
+        editor: *editor,
         text: query_of(message),
     };
     let list = with_files(alloc, paper, &query, Vec::new(alloc))?;

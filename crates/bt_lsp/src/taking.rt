@@ -1,9 +1,10 @@
 //! What notifications do to the documents.
 
-ghost use Rattle.std.specs.Prelude.{◌≡◌, IfOk, OnErr, option_map};
+ghost use Rattle.std.specs.Prelude.{◌≡◌, ℕ, List, Option, IfOk, OnErr, option_map};
 ghost use Rattle.serde_json.specs.View.{view};
 ghost use Rattle.bt_documents.specs.Documents.{Follows};
 ghost use Rattle.bt_lsp.specs.Parameters.{document_named};
+ghost use Rattle.bt_lsp.specs.Words.{counting_for};
 ghost use Rattle.bt_lsp.specs.Taken.{IsOpened, IsChanged, IsClosed, Taken};
 
 use crate::changes::changes_of;
@@ -11,7 +12,7 @@ use crate::methods::Notice;
 use crate::paper::Paper;
 use crate::parameters::{text_at, version_at};
 use crate::words::bytes_of;
-use bt_documents::{Document, Files, Written, change, close, open};
+use bt_documents::{Document, change, close, open};
 use bt_positions::Counting;
 use bt_text::Sequence;
 use serde_json::Value;
@@ -27,7 +28,9 @@ impl From<AllocError> for Untaken {
     }
 }
 
-fn counting_of(counts_bytes: bool, is_latin: bool) -> Counting {
+fn counting_for(counts_bytes: bool, is_latin: bool) -> Counting
+    ensures { result ≡ counting_for counts_bytes is_latin }
+{
     match (counts_bytes, is_latin) {
         (true, true) => Counting::LatinAsUtf8,
         (true, false) => Counting::Utf8,
@@ -38,13 +41,13 @@ fn counting_of(counts_bytes: bool, is_latin: bool) -> Counting {
 
 fn take_opened<P: Paper>(
     alloc: Global,
-    paper: &mut P,
+    paper: &P,
     documents: &mut Sequence<Document>,
     counts_bytes: bool,
     message: &Value,
-) -> Result<Written, Untaken>
-    ensures taken { IfOk result (λ written. IsOpened (view message.now) written documents.old documents.new) }
-    ensures follows { Follows (P.text paper.old) documents.old → Follows (P.text paper.new) documents.new }
+) -> Result<(), Untaken>
+    ensures taken { IfOk result (λ _. IsOpened counts_bytes (view message.now) documents.old documents.new) }
+    ensures follows { (text : List ℕ → Option (List ℕ)) → Follows text documents.old → Follows text documents.new }
     ensures err { OnErr result (documents.new ≡ documents.old) }
 {
     let Some(uri) = text_at(message, "/params/textDocument/uri") else {
@@ -54,18 +57,18 @@ fn take_opened<P: Paper>(
         return Err(Untaken);
     };
     let version = version_at(message, "/params/textDocument/version");
-    let counting = counting_of(counts_bytes, paper.is_latin(alloc, uri, text));
+    let is_latin = paper.is_latin(alloc, uri, text)?;
+    let counting = counting_for(counts_bytes, is_latin);
     let bytes = bytes_of(alloc, counting, text)?;
-    let written = open(
+    open(
         alloc,
-        paper,
         documents,
         uri.as_bytes(),
         counting,
         version,
         bytes.as_slice(),
     )?;
-    Ok(written)
+    Ok(())
 }
 
 fn counting_named(documents: &[Document], name: &[u8]) -> Option<Counting>
@@ -80,15 +83,14 @@ fn counting_named(documents: &[Document], name: &[u8]) -> Option<Counting>
     }
 }
 
-/// Makes the changes that a message says, and gives the files the new text.
-pub fn take_changed<F: Files>(
+/// Makes the changes that a message says.
+pub fn take_changed(
     alloc: Global,
-    files: &mut F,
     documents: &mut Sequence<Document>,
     message: &Value,
-) -> Result<Written, Untaken>
-    ensures taken { IfOk result (λ written. IsChanged (view message.now) written documents.old documents.new) }
-    ensures follows { Follows (F.text files.old) documents.old → Follows (F.text files.new) documents.new }
+) -> Result<(), Untaken>
+    ensures taken { IfOk result (λ _. IsChanged (view message.now) documents.old documents.new) }
+    ensures follows { (text : List ℕ → Option (List ℕ)) → Follows text documents.old → Follows text documents.new }
     ensures err { OnErr result (documents.new ≡ documents.old) }
 {
     let Some(uri) = text_at(message, "/params/textDocument/uri") else {
@@ -101,60 +103,49 @@ pub fn take_changed<F: Files>(
         return Err(Untaken);
     };
     let version = version_at(message, "/params/textDocument/version");
-    let written = change(
+    change(
         alloc,
-        files,
         documents,
         uri.as_bytes(),
         version,
         changes.as_slice(),
     )?;
-    Ok(written)
+    Ok(())
 }
 
-fn take_closed<P: Paper>(
+fn take_closed(
     alloc: Global,
-    paper: &mut P,
     documents: &mut Sequence<Document>,
     message: &Value,
 ) -> Result<(), Untaken>
     ensures taken { IfOk result (λ _. IsClosed (view message.now) documents.old documents.new) }
-    ensures follows { Follows (P.text paper.old) documents.old → Follows (P.text paper.new) documents.new }
+    ensures follows { (text : List ℕ → Option (List ℕ)) → Follows text documents.old → Follows text documents.new }
     ensures err { OnErr result (documents.new ≡ documents.old) }
 {
     let Some(uri) = text_at(message, "/params/textDocument/uri") else {
         return Err(Untaken);
     };
     close(alloc, documents, uri.as_bytes());
-    paper.refresh(alloc, documents.as_slice());
     Ok(())
 }
 
-/// Does to the documents what a notification says, and gives the paper their new texts. Says what the paper did with the
-/// text that the notification brings, if it brings one.
+/// Does to the documents what a notification says. The paper gets their new texts later.
 pub fn take<P: Paper>(
     alloc: Global,
-    paper: &mut P,
+    paper: &P,
     documents: &mut Sequence<Document>,
     counts_bytes: bool,
     notice: Notice,
     message: &Value,
-) -> Result<Written, Untaken>
-    ensures taken { IfOk result (λ written. Taken notice (view message.now) written documents.old documents.new) }
-    ensures follows { Follows (P.text paper.old) documents.old → Follows (P.text paper.new) documents.new }
+) -> Result<(), Untaken>
+    ensures taken { IfOk result (λ _. Taken counts_bytes notice (view message.now) documents.old documents.new) }
+    ensures follows { (text : List ℕ → Option (List ℕ)) → Follows text documents.old → Follows text documents.new }
     ensures err { OnErr result (documents.new ≡ documents.old) }
 {
     match notice {
         Notice::Opened => take_opened(alloc, paper, documents, counts_bytes, message),
-        Notice::Changed => take_changed(alloc, paper, documents, message),
-        Notice::Closed => {
-            take_closed(alloc, paper, documents, message)?;
-            Ok(Written::Taken)
-        }
-        Notice::Saved => {
-            paper.refresh(alloc, documents.as_slice());
-            Ok(Written::Taken)
-        }
-        Notice::Exit | Notice::Other => Ok(Written::Taken),
+        Notice::Changed => take_changed(alloc, documents, message),
+        Notice::Closed => take_closed(alloc, documents, message),
+        Notice::Saved | Notice::Exit | Notice::Other => Ok(()),
     }
 }

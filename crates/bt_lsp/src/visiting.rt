@@ -1,12 +1,13 @@
 //! Goes over the files of a paper, and over LaTeX's open texts, for lists of values.
 
-ghost use Rattle.std.specs.Prelude.{◌≡◌, ◌++◌, ◌∷◌, [], map, IfOk};
+ghost use Rattle.std.specs.Prelude.{◌≡◌, map, IfOk};
 ghost use Rattle.serde_json.specs.View.{view};
 ghost use Rattle.bt_lsp.specs.Visiting.{with_files, with_tex, with_texts, is_any};
 
 use crate::entries::is_tex;
 use crate::paper::Paper;
 use bt_documents::Document;
+pub use bt_shapes::with_value;
 use serde_json::Value;
 use std::alloc::{AllocError, Global};
 
@@ -79,15 +80,6 @@ pub fn with_texts<V: Visit>(
     'documents: for document in documents {
         all = with_tex(alloc, document, visitor, all)?;
     }
-    Ok(all)
-}
-
-/// A list with one value more.
-pub fn with_value(list: Vec<Value>, value: Value) -> Result<Vec<Value>, AllocError>
-    ensures { IfOk result (λ all. map view all.items ≡ map view list.items ++ view value ∷ []) }
-{
-    let mut all = list;
-    all.push(value)?;
     Ok(all)
 }
 

@@ -2,11 +2,10 @@
 
 ghost use Rattle.std.specs.Prelude.{◌≡◌, map, IfOk};
 ghost use Rattle.std.specs.Str.{chars, is_utf8};
-ghost use Rattle.std.specs.Str.Lossy.{utf8_lossy};
-ghost use Rattle.std.specs.String.{string_bytes};
-ghost use Rattle.bt_lsp.specs.Words.{counting_of, latin_of, bytes_of};
+ghost use Rattle.bt_lsp.specs.Words.{counting_of, latin_of, fits_latin, bytes_of};
 
 use bt_positions::Counting;
+pub use bt_shapes::shown;
 use bt_text::Bytes;
 use std::alloc::{AllocError, Global};
 
@@ -19,13 +18,6 @@ pub fn counting_of(counts_bytes: bool) -> Counting
     } else {
         Counting::Utf16
     }
-}
-
-/// The text of these bytes. What isn't UTF-8 is shown as U+FFFD.
-pub fn shown(alloc: Global, bytes: &[u8]) -> Result<String, AllocError>
-    ensures { IfOk result (λ text. string_bytes text ≡ utf8_lossy bytes.now) }
-{
-    String::from_utf8_lossy(alloc, bytes)
 }
 
 /// Whether bytes are UTF-8.
@@ -50,6 +42,13 @@ fn latin_bytes(alloc: Global, text: &str) -> Result<Vec<u8>, AllocError>
     ensures { IfOk result (λ bytes. bytes.items ≡ map latin_of (chars text.now)) }
 {
     text.chars().map(|letter| latin(letter)).collect(alloc)
+}
+
+/// Whether Latin-1 has all letters of a text.
+pub fn fits_latin(text: &str) -> bool
+    ensures { result ≡ fits_latin text.now }
+{
+    text.chars().all(|letter| (letter as u32) < 256)
 }
 
 /// The bytes that saving a text would write.

@@ -16,11 +16,12 @@ use Rattle.bt_actions.specs.declared.flow.Flow.{Flow}
 use Rattle.bt_actions.specs.declared.flow.Flow.TheVariants.{Go, Stop}
 use Rattle.bt_actions.specs.declared.complaint.Complaint.TheVariants.{TicksPassed}
 use Rattle.bt_actions.specs.Item.{Code, Name, Block}
-use Rattle.bt_actions.specs.World.{World, say}
+use Rattle.bt_actions.specs.World.{World, Act, say}
 use Rattle.bt_actions.specs.Arguments.{as_number, as_code, taken, taken_two, taken_three}
 use Rattle.bt_machine.specs.declared.control.Frame.{Frame as HeldFrame}
 use Rattle.bt_stack.specs.Choice.{chosen_of}
-use Rattle.bt_machine.specs.Eval.{Counts, Ending, Done, Stopped, then_go, code_body, function_body, run_with, by_sign, turn, looped, built_in, act, calls_after, eval}
+use Rattle.bt_actions.specs.View.{act_of}
+use Rattle.bt_machine.specs.Eval.{Counts, Ending, Done, Stopped, acted, then_go, code_body, function_body, run_with, by_sign, turn, looped, built_in, act, calls_after, eval}
 use Rattle.bt_machine.specs.inner.Cases.{no_definition, finish_of, counts_begun, step_begun}
 use Rattle.bt_machine.specs.Step.{finished_at, step}
 use Rattle.bt_machine.specs.inner.Loop.{Frame, Run, Test, frame_seen, meant, left, run_ended, is_above, kept, whole, SameLeft, is_stop, checked_at}
@@ -236,6 +237,14 @@ entered_past p functions n e h =
 -- a step's end
 
 -- how the code looks at a run's end
+ended_acted : (flow : Flow) (w : World) (k : Counts) → run_ended flow w k ≡ acted (act_of flow w) k
+ended_acted Go w k = refl
+ended_acted Stop w k = refl
+
+-- an action that runs no function leads to what is left, or stops the run
+pub basic_leads : (flow : Flow) (a : Act) (e : Ending) (w : World) (k : Counts) (go : World → Counts → Ending) → act_of flow w ≡ a → e ≡ acted a k → then_go (run_ended flow w k) go ≡ then_go e go
+basic_leads flow a e w k go acts is = ap (λ (x : Ending). then_go x go) (ended_acted flow w k ∙ ap (λ (y : Act). acted y k) acts ∙ sym is)
+
 finished-ended : (flow : Flow) (w : World) (k : Counts) → finished_at (checked_at flow w) (is_stop flow) k ≡ finish_of (run_ended flow w k)
 finished-ended Go w k = refl
 finished-ended Stop w k = refl

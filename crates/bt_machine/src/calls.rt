@@ -1,12 +1,14 @@
 //! Calls of names, and the built-in functions that run others: `call.type$`, `if$` and `while$`. A function runs after
 //! the call has put it before what is left to do.
 
-ghost use Rattle.std.specs.Prelude.{◌≡◌, ◌+◌, ◌≤◌, length, bytes_eq, codes, position, IfOk, OnOk};
+ghost use Rattle.std.specs.Prelude.{◌≡◌, ◌+◌, ◌≤◌, length, bytes_eq, codes, position, IsTrue, IfOk, OnOk};
 ghost use Rattle.std.specs.Option.{option_or};
 ghost use Rattle.bt_style.specs.Program.{Program, program_of};
 ghost use Rattle.bt_style.specs.Tree.{ops_body};
 ghost use Rattle.bt_style.specs.declared.builtin.Builtin.TheVariants as builtin;
-ghost use Rattle.bt_machine.specs.Eval.{eval, called, built_in, function_body, default_type};
+ghost use Rattle.bt_actions.specs.Actions.{basic};
+ghost use Rattle.bt_actions.specs.World.{World};
+ghost use Rattle.bt_machine.specs.Eval.{Counts, Runner, acted, eval, called, built_in, function_body, default_type};
 ghost use Rattle.bt_machine.specs.inner.Loop.{LeadsTo, Means};
 
 use crate::control::{Frame, begin, begin_loop, keep};
@@ -138,10 +140,22 @@ fn repeat<'a>(
     }
 }
 
-/// Calls a built-in function. Each arm makes its own result: one handed on as it comes would put all results in memory,
-/// those of the basic functions, too.
+/// Whether a built-in function runs no other.
 #[inline(always)]
-fn call_builtin<'a>(
+fn is_basic(builtin: Builtin) -> bool
+    ensures { IsTrue result → (p : Program) (run : Runner) (w : World) (k : Counts) →
+        built_in p run builtin w k ≡ acted (basic p builtin w) k }
+{
+    match builtin {
+        Builtin::CallType | Builtin::If | Builtin::While => false,
+        _ => true,
+    }
+}
+
+/// Calls a built-in function of any kind. It stands apart for those that run others: in the loop, its three results
+/// would be set to 0 at each call of a built-in function.
+#[inline(never)]
+fn call_any<'a>(
     state: &mut State<'a>,
     control: &mut Vec<Frame<'a>>,
     alloc: Global,
@@ -167,6 +181,29 @@ fn call_builtin<'a>(
             Ok(next)
         }
         _ => Ok(Next::Flow(call_basic(state, alloc, style, builtin)?)),
+    }
+}
+
+/// The same, fast for those that run no other.
+#[inline(always)]
+fn call_builtin<'a>(
+    state: &mut State<'a>,
+    control: &mut Vec<Frame<'a>>,
+    alloc: Global,
+    style: &'a Style,
+    builtin: Builtin,
+    rest: &'a [Op],
+) -> Result<Next<'a>, AllocError>
+    ensures leads { let p = program_of style.now in IfOk result (λ next. LeadsTo p state.old state.new
+        (built_in p (eval p) builtin) rest.now control.old.items next control.new.items) }
+    ensures more { OnOk result (length control.new.items ≤ length control.old.items + 4) }
+{
+    if is_basic(builtin) {
+        let flow = call_basic(state, alloc, style, builtin)?;
+        Ok(Next::Flow(flow))
+    } else {
+        let next = call_any(state, control, alloc, style, builtin, rest)?;
+        Ok(next)
     }
 }
 

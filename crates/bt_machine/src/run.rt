@@ -8,17 +8,17 @@
 //! An element is matched where it lies in its body, and what comes after it is only a slice. So the loop holds both in
 //! registers: a copy of an element, or a result that holds a `Target`, would go through memory at each tick.
 
-ghost use Rattle.std.specs.Prelude.{◌≡◌, ◌+◌, ◌≤◌, ◌<◌, length, IfOk, IfSome, IfNone, OnOk};
+ghost use Rattle.std.specs.Prelude.{◌≡◌, ◌+◌, ◌≤◌, ◌<◌, length, IfOk, IfSome, OnOk};
 ghost use Rattle.bt_style.specs.Program.{program_of};
-ghost use Rattle.bt_style.specs.Tree.{End, Then, Called, element_of};
+ghost use Rattle.bt_style.specs.Tree.{End, Then, Called};
 ghost use Rattle.bt_style.specs.declared.builtin.Builtin.TheVariants as builtin;
 ghost use Rattle.bt_actions.specs.declared.complaint.Complaint.TheVariants.{TicksPassed};
 ghost use Rattle.bt_actions.specs.Arguments.{as_number, taken};
 ghost use Rattle.bt_actions.specs.World.{say};
 ghost use Rattle.bt_stack.specs.View.{world_of};
-ghost use Rattle.bt_machine.specs.Eval.{Stopped, eval, act};
+ghost use Rattle.bt_machine.specs.Eval.{eval};
 ghost use Rattle.bt_machine.specs.inner.Cases.{counts_begun};
-ghost use Rattle.bt_machine.specs.inner.Loop.{counts, run_ended, ComesTo, is_above, left, whole, call_left};
+ghost use Rattle.bt_machine.specs.inner.Loop.{counts, run_ended, ComesTo, IsCalled, is_above, op_run};
 
 use crate::calls::{Next, call, call_quoted};
 use crate::control::{Due, Frame, begin, begin_loop, builtin_of, called_by, next_due};
@@ -59,7 +59,7 @@ fn carry_out<'a>(
     rest: &'a [Op],
 ) -> Result<Next<'a>, AllocError>
     ensures leads { let p = program_of style.now in IfOk result (λ next. ComesTo p state.old tally.old state.new tally.new
-        (act p (eval p) (element_of op.now)) rest.now control.old.items next control.new.items) }
+        (op_run p op.now) rest.now control.old.items next control.new.items) }
     ensures ticks { OnOk result (tally.new.ticks ≤ tally.old.ticks) }
     ensures more { OnOk result (length control.new.items ≤ length control.old.items + 4) }
 {
@@ -91,12 +91,8 @@ fn call_due<'a>(
     name: Target,
     rest: &'a [Op],
 ) -> Result<Option<&'a [Op]>, AllocError>
-    ensures goes { let p = program_of style.now in IfOk result (λ next. IfSome next (λ body.
-        left p (whole body.now control.new.items) (world_of state.new) (counts tally.new)
-        ≡ left p (call_left name rest.now control.old.items) (world_of state.old) (counts tally.old))) }
-    ensures stops { let p = program_of style.now in IfOk result (λ next. IfNone next (
-        Stopped (world_of state.new) (counts tally.new)
-        ≡ left p (call_left name rest.now control.old.items) (world_of state.old) (counts tally.old))) }
+    ensures leads { IfOk result (λ next. IsCalled (program_of style.now) state.old tally.old state.new tally.new
+        name rest.now control.old.items next control.new.items) }
     ensures ticks { IfOk result (λ next. IfSome next (λ body. tally.new.ticks < tally.old.ticks)) }
     ensures more { OnOk result (length control.new.items ≤ length control.old.items + 4) }
 {

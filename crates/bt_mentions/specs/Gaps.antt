@@ -14,7 +14,7 @@ use Rattle.bt_mentions.specs.declared.inside.Inside.TheVariants.{Name, Value, Br
 use Rattle.bt_mentions.specs.declared.layout.Gap.{Gap}
 use Rattle.bt_mentions.specs.declared.layout.Search.{Search}
 use Rattle.bt_mentions.specs.Inside.{inside_after}
-use Rattle.bt_mentions.specs.Databases.{part, head_len}
+use Rattle.bt_mentions.specs.Databases.{part, opening_len, head_len}
 
 -- whether a byte at a place of an item is a comma between its parts
 abbrev pub is_separator : Inside → ℕ → Bool
@@ -35,8 +35,8 @@ reopened begun state place byte =
     if is_separator state byte then Some (place + 1) else (if is_white byte then begun else None)
 
 -- the place after the last byte that isn't white space
-abbrev pub dark_after : ℕ → ℕ → ℕ → ℕ
-dark_after dark place byte = if is_white byte then dark else place + 1
+abbrev pub solid_after : ℕ → ℕ → ℕ → ℕ
+solid_after solid_end place byte = if is_white byte then solid_end else place + 1
 
 -- a search after one more byte
 abbrev pub gaps_after : Search → ℕ → Search
@@ -45,46 +45,52 @@ gaps_after s byte =
       state = inside_after s.state byte;
       place = s.place + 1;
       begun = reopened s.begun s.state s.place byte;
-      dark = dark_after s.dark s.place byte;
+      solid_end = solid_after s.solid_end s.place byte;
       found = s.found ++ cons_option (ended s.begun s.place byte) [];
     }
 
 -- the gaps, and the last one, up to the place
 abbrev pub all_gaps : Search → List Gap
-all_gaps s = s.found ++ record { from = s.dark; to = s.place; is_last = true } ∷ []
+all_gaps s = s.found ++ record { from = s.solid_end; to = s.place; is_last = true } ∷ []
 
 -- the gaps of an entry whose fields are between two places of a text
 abbrev pub gaps_between : List ℕ → ℕ → ℕ → List Gap
 gaps_between text from to =
     let place = min from (length text) in
-    all_gaps (fold gaps_after (record { state = Name 9; place = place; begun = None; dark = place; found = [] })
+    all_gaps (fold gaps_after (record { state = Name 9; place = place; begun = None; solid_end = place; found = [] })
     (part place to text))
+
+-- The place after the key of an entry between two places of a text. After an empty key it is the place after the opening
+-- sign, so that white space there is a gap.
+abbrev pub place_after_key : List ℕ → ℕ → ℕ → List ℕ → ℕ
+place_after_key text start to [] = start + opening_len (part start to text)
+place_after_key text start to (b ∷ key) = min (start + head_len (part start to text)) (length text) + length (b ∷ key)
 
 -- the gaps after a key, if there is one
 abbrev pub key_gaps : List ℕ → ℕ → ℕ → Option (List ℕ) → List Gap
-key_gaps text from to None = []
-key_gaps text from to (Some key) = gaps_between text (min from (length text) + length key) to
+key_gaps text start to None = []
+key_gaps text start to (Some key) = gaps_between text (place_after_key text start to key) to
 
--- the gaps of an entry whose key begins at a place of a text
+-- the gaps of an entry between two places of a text
 abbrev pub content_gaps : List ℕ → ℕ → ℕ → Content → List Gap
-content_gaps text from to (Entry entry) = key_gaps text from to entry.key
-content_gaps text from to (Define definition) = []
-content_gaps text from to (Preamble value) = []
+content_gaps text start to (Entry entry) = key_gaps text start to entry.key
+content_gaps text start to (Define definition) = []
+content_gaps text start to (Preamble value) = []
 
 -- the same, if there is no fault
 abbrev pub faultless_gaps : List ℕ → ℕ → ℕ → Content → Option ItemFault → List Gap
-faultless_gaps text from to content (Some fault) = []
-faultless_gaps text from to content None = content_gaps text from to content
+faultless_gaps text start to content (Some fault) = []
+faultless_gaps text start to content None = content_gaps text start to content
 
 -- the gaps of an item
 abbrev pub item_gaps : List ℕ → ℕ → ℕ → ReadItem → List Gap
-item_gaps text from to i = faultless_gaps text from to i.content i.fault
+item_gaps text start to i = faultless_gaps text start to i.content i.fault
 
--- the gaps of a piece between two places
+-- the gaps of a piece between two places, of which the second is that of the closing sign
 abbrev pub placed_gaps : List ℕ → ℕ → ℕ → Piece → List Gap
-placed_gaps text start end Comment = []
-placed_gaps text start end (Item i) = item_gaps text (start + head_len (part start end text)) (end - 1) i
+placed_gaps text start to Comment = []
+placed_gaps text start to (Item i) = item_gaps text start to i
 
 -- the gaps of an entry without a fault
 abbrev pub gaps : List ℕ → PlacedPiece → List Gap
-gaps text p = placed_gaps text (min p.start.place (length text)) p.end.place p.piece
+gaps text p = placed_gaps text (min p.start.place (length text)) (p.end.place - 1) p.piece

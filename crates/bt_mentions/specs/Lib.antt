@@ -5,3 +5,5 @@ pub mod State
 pub mod Scan
 pub mod Databases
 pub mod Gaps
+pub mod Keys
+pub mod Links

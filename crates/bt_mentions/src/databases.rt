@@ -22,14 +22,15 @@ pub fn part(text: &[u8], from: usize, to: usize) -> &[u8]
     back
 }
 
-fn is_opening(byte: u8) -> bool
+/// Whether a byte opens an item.
+pub fn is_opening(byte: u8) -> bool
     ensures { result ≡ is_opening byte }
 {
     byte == b'{' || byte == b'('
 }
 
 /// How many bytes a text has up to its first brace or parenthesis, and with it; all of them if it has none.
-fn opening_len(text: &[u8]) -> usize
+pub fn opening_len(text: &[u8]) -> usize
     ensures value { result ≡ opening_len text.now }
     ensures within { result ≤ length text.now }
 {
@@ -128,7 +129,8 @@ fn with_content(
     }
 }
 
-fn with_piece(
+/// Adds the mentions of an item.
+pub fn with_piece(
     text: &[u8],
     found: Sequence<Mention>,
     piece: &PlacedPiece,

@@ -1,11 +1,11 @@
 //! The white space between the parts of an entry: after each comma outside of braces and quotes, and before the closing sign.
 //! It can change without changing what is read.
 
-ghost use Rattle.std.specs.Prelude.{◌≡◌, ◌<◌, ◌+◌, ◌^◌, ◌++◌, ◌∷◌, [], length, IfOk, OnOk};
-ghost use Rattle.std.specs.List.{cons_option, fold};
-ghost use Rattle.bt_mentions.specs.Gaps.{is_separator, ended, reopened, dark_after, gaps_after, all_gaps, gaps_between, content_gaps, item_gaps, gaps};
+ghost use Rattle.std.specs.Prelude.{◌≡◌, ◌<◌, ◌≤◌, ◌+◌, ◌^◌, ◌++◌, ◌∷◌, [], length, IfOk, OnOk};
+ghost use Rattle.std.specs.List.{fold};
+ghost use Rattle.bt_mentions.specs.Gaps.{is_separator, ended, reopened, solid_after, gaps_after, all_gaps, gaps_between, place_after_key, content_gaps, item_gaps, gaps};
 
-use crate::databases::{head_len, part};
+use crate::databases::{head_len, opening_len, part};
 use crate::inside::{Inside, inside_after};
 use bt_bib::{Content, Item, Piece, PlacedPiece};
 use bt_text::{Sequence, is_white};
@@ -28,7 +28,7 @@ pub struct Search {
     /// Where the gap before the place begins, if there is one.
     pub begun: Option<usize>,
     /// The place after the last byte that isn't white space.
-    pub dark: usize,
+    pub solid_end: usize,
     pub found: Sequence<Gap>,
 }
 
@@ -71,20 +71,11 @@ fn reopened(begun: Option<usize>, state: Inside, place: usize, byte: u8) -> Opti
     }
 }
 
-fn dark_after(dark: usize, place: usize, byte: u8) -> usize
+fn solid_after(solid_end: usize, place: usize, byte: u8) -> usize
     requires { place + 1 < 2 ^ 64 }
-    ensures { result ≡ dark_after dark place byte }
+    ensures { result ≡ solid_after solid_end place byte }
 {
-    if is_white(byte) { dark } else { place + 1 }
-}
-
-fn push_if_any(found: &mut Sequence<Gap>, one: Option<Gap>) -> Result<(), AllocError>
-    ensures { OnOk result (found.new ≡ found.old ++ cons_option one []) }
-{
-    if let Some(one) = one {
-        found.push(one)?;
-    }
-    Ok(())
+    if is_white(byte) { solid_end } else { place + 1 }
 }
 
 impl Search {
@@ -92,9 +83,9 @@ impl Search {
         requires { self.old.place + 1 < 2 ^ 64 }
         ensures { OnOk result (self.new ≡ gaps_after self.old byte) }
     {
-        push_if_any(&mut self.found, ended(self.begun, self.place, byte))?;
+        self.found.push_if_any(ended(self.begun, self.place, byte))?;
         self.begun = reopened(self.begun, self.state, self.place, byte);
-        self.dark = dark_after(self.dark, self.place, byte);
+        self.solid_end = solid_after(self.solid_end, self.place, byte);
         self.state = inside_after(self.state, byte);
         self.place += 1;
         Ok(())
@@ -106,13 +97,13 @@ impl Search {
     {
         let Search {
             place,
-            dark,
+            solid_end,
             found,
             ..
         } = self;
         let mut all = found;
         all.push(Gap {
-            from: dark,
+            from: solid_end,
             to: place,
             is_last: true,
         })?;
@@ -144,25 +135,38 @@ fn gaps_between(
         state: Inside::Name(9),
         place,
         begun: None,
-        dark: place,
+        solid_end: place,
         found: Sequence::new(alloc),
     };
     search.over(part(text, place, to))
 }
 
+/// The place after the key of an entry. After an empty key it is the place after the opening sign.
+fn place_after_key(text: &[u8], start: usize, to: usize, key: &[u8]) -> usize
+    requires { start ≤ length text.now }
+    ensures { result ≡ place_after_key text.now start to key.now }
+{
+    let item = part(text, start, to);
+    match key {
+        [] => start + opening_len(item),
+        [_, ..] => (start + head_len(item)).min(text.len()) + key.len(),
+    }
+}
+
 fn content_gaps(
     alloc: Global,
     text: &[u8],
-    from: usize,
+    start: usize,
     to: usize,
     content: &Content,
 ) -> Result<Sequence<Gap>, AllocError>
-    ensures { IfOk result (λ found. found ≡ content_gaps text.now from to content.now) }
+    requires { start ≤ length text.now }
+    ensures { IfOk result (λ found. found ≡ content_gaps text.now start to content.now) }
 {
     match content {
         Content::Entry(entry) => match &entry.key {
             Some(key) => {
-                let place = from.min(text.len()) + key.as_slice().len();
+                let place = place_after_key(text, start, to, key.as_slice());
                 gaps_between(alloc, text, place, to)
             }
             None => Ok(Sequence::new(alloc)),
@@ -174,15 +178,16 @@ fn content_gaps(
 fn item_gaps(
     alloc: Global,
     text: &[u8],
-    from: usize,
+    start: usize,
     to: usize,
     item: &Item,
 ) -> Result<Sequence<Gap>, AllocError>
-    ensures { IfOk result (λ found. found ≡ item_gaps text.now from to item.now) }
+    requires { start ≤ length text.now }
+    ensures { IfOk result (λ found. found ≡ item_gaps text.now start to item.now) }
 {
     match &item.fault {
         Some(_) => Ok(Sequence::new(alloc)),
-        None => content_gaps(alloc, text, from, to, &item.content),
+        None => content_gaps(alloc, text, start, to, &item.content),
     }
 }
 
@@ -191,10 +196,9 @@ pub fn gaps(alloc: Global, text: &[u8], piece: &PlacedPiece) -> Result<Sequence<
     ensures { IfOk result (λ found. found ≡ gaps text.now piece.now) }
 {
     let start = piece.start.place.min(text.len());
-    let from = start + head_len(part(text, start, piece.end.place));
     let to = piece.end.place.saturating_sub(1);
     match &*piece.piece {
         Piece::Comment => Ok(Sequence::new(alloc)),
-        Piece::Item(item) => item_gaps(alloc, text, from, to, item),
+        Piece::Item(item) => item_gaps(alloc, text, start, to, item),
     }
 }

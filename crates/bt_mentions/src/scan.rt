@@ -1,7 +1,7 @@
 //! The mentions of a text: longest runs of bytes that belong to a name, by the state of the scan.
 
 ghost use Rattle.std.specs.Prelude.{◌≡◌, ◌<◌, ◌+◌, ◌^◌, ◌++◌, [], length, IfOk, OnOk};
-ghost use Rattle.std.specs.List.{cons_option, fold};
+ghost use Rattle.std.specs.List.{fold};
 ghost use Rattle.bt_mentions.specs.Scan.{continued, finished, scan_after, all_found, citations};
 
 use crate::citing::Citing;
@@ -49,22 +49,13 @@ fn finished(role: Option<Role>, current: Option<Mention>) -> Option<Mention>
     }
 }
 
-fn push_if_any(found: &mut Sequence<Mention>, one: Option<Mention>) -> Result<(), AllocError>
-    ensures { OnOk result (found.new ≡ found.old ++ cons_option one []) }
-{
-    if let Some(one) = one {
-        found.push(one)?;
-    }
-    Ok(())
-}
-
 impl Scan {
     fn take(&mut self, byte: u8) -> Result<(), AllocError>
         requires { self.old.place + 1 < 2 ^ 64 }
         ensures { OnOk result (self.new ≡ scan_after self.old byte) }
     {
         let role = role_at(self.state, byte);
-        push_if_any(&mut self.found, finished(role, self.current))?;
+        self.found.push_if_any(finished(role, self.current))?;
         self.current = continued(role, self.place, self.current);
         self.state = state_after(self.state, byte);
         self.place += 1;
@@ -77,7 +68,7 @@ impl Scan {
     {
         let Scan { current, found, .. } = self;
         let mut all = found;
-        push_if_any(&mut all, current)?;
+        all.push_if_any(current)?;
         Ok(all)
     }
 

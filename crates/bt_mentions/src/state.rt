@@ -3,7 +3,7 @@
 ghost use Rattle.std.specs.Prelude.{◌≡◌};
 ghost use Rattle.bt_mentions.specs.State.{state_after, role_at};
 
-use crate::citing::{Citing, citing_after};
+use crate::citing::{Citing, are_keys, citing_after};
 use crate::inside::{Inside, inside_after, inside_role};
 use crate::key_bytes::is_key_byte;
 use crate::mention::Role;
@@ -31,7 +31,7 @@ pub fn role_at(state: State, byte: u8) -> Option<Role>
 {
     match state {
         State::Item(inside) => inside_role(inside, byte),
-        State::Text(citing) => if citing == Citing::Keys && is_key_byte(byte) {
+        State::Text(citing) => if are_keys(citing) && is_key_byte(byte) {
             Some(Role::Citation)
         } else {
             None

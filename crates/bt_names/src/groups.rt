@@ -10,8 +10,7 @@ ghost use Rattle.bt_names.specs.Groups.{ends_in_tie, group_finished, put_in};
 ghost use Rattle.bt_text.specs.Length.{text_length_of};
 ghost use Rattle.bt_names.specs.Joints.{by_signs, by_text, dotted, is_short, joined};
 ghost use Rattle.bt_names.specs.Spelling.{initial};
-ghost use Rattle.bt_names.specs.inner.Cases.{linked};
-ghost use Rattle.bt_names.specs.inner.Spelling.{between_of, form_of, spell};
+ghost use Rattle.bt_names.specs.inner.Spelling.{between_of, form_of, spell, with_linked};
 
 use crate::cuts::first_len;
 use crate::lent_tokens::LentToken;
@@ -142,8 +141,7 @@ fn push_linked(
     ensures front { OnOk result (take start out.new.items ≡ take start out.old.items) }
     ensures size { OnOk result (start ≤ length out.new.items) }
     ensures group { OnOk result (drop start out.new.items
-        ≡ linked (drop start out.old.items) (spell is_whole token.now) (map (spell is_whole) behind.now)
-        (by_signs (form_of is_whole)) ++ (spell is_whole token.now).text) }
+        ≡ with_linked is_whole (drop start out.old.items) token.now behind.now) }
     ensures short { IfOk result (λ short. short ≡ false → 3 ≤ text_length_of (drop start out.new.items)) }
 {
     push_dot(out, start, is_whole)?;

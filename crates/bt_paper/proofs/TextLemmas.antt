@@ -1,18 +1,18 @@
 -- What an edit of a session does to the texts of names.
-use Rattle.std.proofs.Common.{◌≡◌, ◌∙◌, ap, sym, refl, subst, ℕ, Bool, true, false, List, [], ◌∷◌, Option, Some, None, Result, Ok, Err, true≢false}
-use Rattle.std.specs.Prelude.{if◌then◌else◌, bytes_eq, unwrap_or, IsTrue, IfOk, OnErr}
+use Rattle.std.proofs.Common.{◌≡◌, ◌∙◌, ap, sym, refl, subst, ℕ, Bool, true, false, List, [], Option, Some, None, option_map, Bor, Ok}
+use Rattle.std.specs.Prelude.{if◌then◌else◌, bytes_eq, unwrap_or, IsTrue}
 use Rattle.bt_job.specs.declared.files.File.{File}
 use Rattle.bt_job.specs.FileNames.{text_of}
 use Rattle.bibtex.specs.declared.state.State.{State}
 use Rattle.bibtex.specs.declared.edit.Refusal.{Refusal}
 use Rattle.bibtex.specs.Edit.{write, splice, remove}
-use Rattle.bibtex.specs.Applied.{applied, refusal_of, changed}
+use Rattle.bibtex.specs.Applied.{applied, changed}
 use Rattle.bibtex.specs.inner.Cases.{unless_refused, replaced}
 use Rattle.bibtex.proofs.TextLemmas.{same_name, flipped, put_is, text_of_put, text_of_without}
 use Rattle.bt_paper.specs.declared.known.Known.{Known}
 use Rattle.bt_paper.specs.Known.{name_of}
-use Rattle.bt_paper.specs.Paper.{text_under, text_at, GivesText, OthersStay, KeepsTexts, KeepsOthers}
-use Rattle.bt_paper.proofs.KnownLemmas.{some_is, not_none, is_itself, names_apart}
+use Rattle.bt_paper.specs.Paper.{text_under, text_at, GivesText, OthersStay, KeepsTexts, KeepsOthers, IsOfJob, KeepsJob}
+use Rattle.bt_paper.proofs.KnownLemmas.{not_none, is_itself, names_apart}
 
 unless_ok : (r : Option Refusal) (s t : State) → unless_refused r s ≡ Ok t → s ≡ t
 unless_ok None s t e = cc
@@ -38,10 +38,20 @@ pub text_removed : (name : List ℕ) (s t : State) → applied (remove name) s �
 text_removed name s t e other apart =
     ap (λ (x : State). text_of x.texts other) (sym (unless_ok _ (changed (remove name) s) t e)) ∙ text_of_without name s.texts other ∙ rw apart refl
 
--- the same, whether it was there or not
-pub removed_any : {A : Type 0} (name : List ℕ) (s t : State) (r : Result A Refusal) → IfOk r (λ _. applied (remove name) s ≡ Ok t) → OnErr r (t ≡ s) → OthersStay name s t
-removed_any name s t (Ok x) ok err = text_removed name s t ok
-removed_any name s t (Err e) ok err = λ other apart. ap (λ (x : State). text_of x.texts other) err
+-- a job whose texts alone change
+pub job_written : (name new : List ℕ) (s t : State) → applied (write name new) s ≡ Ok t → KeepsJob s t
+job_written name new s t e =
+    let is = unless_ok _ (changed (write name new) s) t e in
+    (sym (ap (λ (x : State). x.root) is), sym (ap (λ (x : State). x.min) is))
+
+pub job_stays : (s t : State) → t ≡ s → KeepsJob s t
+job_stays s t e = (ap (λ (x : State). x.root) e, ap (λ (x : State). x.min) e)
+
+-- a session of the job that was asked for, or of the other one if none was
+pub of_asked : (asked : Option (Bor (List ℕ))) (other root : Bor (List ℕ)) (bytes own : List ℕ) (session : Option State) → root ≡ unwrap_or asked other → bytes ≡ root.now → other.now ≡ own →
+    IsOfJob bytes session → IsOfJob (unwrap_or (option_map (λ (b : Bor (List ℕ)). b.now) asked) own) session
+of_asked None other root bytes own session is has names begun = subst (λ x. IsOfJob x session) (has ∙ ap (λ (b : Bor (List ℕ)). b.now) is ∙ names) begun
+of_asked (Some b) other root bytes own session is has names begun = subst (λ x. IsOfJob x session) (has ∙ ap (λ (b : Bor (List ℕ)). b.now) is) begun
 
 -- a text that was there already
 pub text_there : (name new : List ℕ) (s : State) → text_of s.texts name ≡ Some new → GivesText name new s s

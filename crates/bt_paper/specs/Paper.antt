@@ -1,10 +1,16 @@
 -- What a session shows to the desk.
-use Rattle.std.specs.Prelude.{◌≡◌, ℕ, Bool, true, false, if◌then◌else◌, List, [], ◌∷◌, map, bytes_eq, Option, Some, None, unwrap_or}
+use Rattle.std.specs.Prelude.{◌≡◌, ℕ, Bool, true, false, if◌then◌else◌, List, [], ◌∷◌, map, length, bytes_eq, Option, Some, None, unwrap_or}
 use Rattle.bt_log.specs.declared.message.Message.{Message}
 use Rattle.bt_job.specs.FileNames.{text_of}
 use Rattle.bt_run.specs.Meaning.{trace}
 use Rattle.bibtex.specs.declared.state.State.{State}
-use Rattle.bibtex.specs.Present.{shown}
+use Rattle.std.specs.Option.{is_some}
+use Rattle.bibtex.specs.Present.{shown, is_root_name}
+use Rattle.bibtex.specs.Applied.{write_refusal}
+use Rattle.bibtex.specs.declared.edit.Refusal.{Refusal}
+use Rattle.bibtex.specs.declared.edit.Refusal.TheVariants.{BadName, NoSuchFile, RangeOutside, FileTooLarge, TooManyFiles, OutOfMemory}
+use Rattle.bt_documents.specs.declared.files.Written.{Written}
+use Rattle.bt_documents.specs.declared.files.Written.TheVariants.{Refused, Waiting}
 use Rattle.bibtex.specs.EntryText.{entry_text}
 use Rattle.bt_documents.specs.declared.document.Document.{Document}
 use Rattle.bt_paper.specs.declared.known.Known.{Known}
@@ -20,6 +26,25 @@ text_under (Some s) (Some name) = text_of s.texts name
 -- the text of the file at a URI
 abbrev pub text_at : Option State → List Known → List ℕ → Option (List ℕ)
 text_at session known uri = text_under session (name_of known uri)
+
+-- whether a session doesn't admit a text for a file of this name, or there is no session or no file
+abbrev pub refuses_under : Option State → Option (List ℕ) → List ℕ → Bool
+refuses_under None name new = true
+refuses_under (Some s) None new = true
+refuses_under (Some s) (Some name) new = is_some (write_refusal s.texts name (length new))
+
+-- whether the file at a URI is none of the job, or the session doesn't admit a text for it
+abbrev pub refuses_at : Option State → List Known → List ℕ → List ℕ → Bool
+refuses_at session known uri new = refuses_under session (name_of known uri) new
+
+-- what a refusal comes to
+abbrev pub written_of : Refusal → Written
+written_of BadName = Refused
+written_of NoSuchFile = Refused
+written_of RangeOutside = Refused
+written_of FileTooLarge = Refused
+written_of TooManyFiles = Refused
+written_of OutOfMemory = Waiting
 
 -- the messages of the run
 abbrev pub messages_of : Option State → List Message
@@ -66,6 +91,15 @@ shown_of session known =
       log = log_of session;
       status = status_of session;
     }
+
+-- A session runs the job of a name, with min-crossrefs 2 as BibTeX has it. There is none if that can't be a job's name.
+abbrev pub IsOfJob : List ℕ → Option State → Type 0
+IsOfJob root None = is_root_name root ≡ false
+IsOfJob root (Some s) = (s.root ≡ root) × (s.min ≡ 2)
+
+-- the job stays
+abbrev pub KeepsJob : State → State → Type 0
+KeepsJob old new = (new.root ≡ old.root) × (new.min ≡ old.min)
 
 -- whether one of the documents has this name
 abbrev pub is_among : List ℕ → List Document → Bool

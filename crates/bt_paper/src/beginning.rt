@@ -1,7 +1,11 @@
 //! Begins a job: finds its files, and runs them once.
 
+ghost use Rattle.std.specs.Prelude.{◌≡◌, IfOk};
+ghost use Rattle.bt_paper.specs.Paper.{IsOfJob, KeepsJob};
+
 use crate::finding::{Found, find};
 use crate::folders::{Folder, folder_at, folder_of};
+use crate::giving::{refused, taken};
 use crate::known::{Known, note};
 use crate::library::Library;
 use bibtex::{Draft, Edit, Session, is_root_name};
@@ -29,6 +33,16 @@ pub fn all_folders(
     Ok(folders)
 }
 
+/// Gives a draft a file. Says whether the draft took it.
+fn write(draft: &mut Draft, name: &[u8], text: &[u8]) -> Result<bool, AllocError>
+    ensures { KeepsJob draft.old draft.new }
+{
+    match draft.edit(Edit::Write(name, text)) {
+        Ok(()) => Ok(true),
+        Err(refusal) => taken(refused(refusal)),
+    }
+}
+
 /// Gives a draft the file of a name, if it is found. Says whether the draft took it.
 fn add<L: Library>(
     alloc: Global,
@@ -37,12 +51,14 @@ fn add<L: Library>(
     draft: &mut Draft,
     known: &mut Sequence<Known>,
     name: &[u8],
-) -> Result<bool, AllocError> {
+) -> Result<bool, AllocError>
+    ensures { KeepsJob draft.old draft.new }
+{
     let Some(Found { file, text }) = find(alloc, library, folders, name)? else {
         return Ok(false);
     };
     note(known, file)?;
-    Ok(draft.edit(Edit::Write(name, text.as_slice())).is_ok())
+    write(draft, name, text.as_slice())
 }
 
 /// Gives a draft the files that it looks for, as far as they are found. Says whether it took one.
@@ -52,7 +68,9 @@ fn fill<L: Library>(
     folders: &[Folder],
     draft: &mut Draft,
     known: &mut Sequence<Known>,
-) -> Result<bool, AllocError> {
+) -> Result<bool, AllocError>
+    ensures { KeepsJob draft.old draft.new }
+{
     let wanted = draft.wanted()?;
     let mut grown = false;
     'names: for name in wanted.as_slice() {
@@ -68,7 +86,9 @@ fn filled<L: Library>(
     folders: &[Folder],
     root: &[u8],
     known: &mut Sequence<Known>,
-) -> Result<Draft, AllocError> {
+) -> Result<Draft, AllocError>
+    ensures { IfOk result (λ draft. (draft.root ≡ root.now) × (draft.min ≡ 2)) }
+{
     let Ok(mut draft) = Draft::new(alloc, root, 2) else {
         return Err(AllocError);
     };
@@ -87,7 +107,9 @@ pub fn begun<L: Library>(
     folders: &[Folder],
     root: &[u8],
     known: &mut Sequence<Known>,
-) -> Result<Option<Session>, AllocError> {
+) -> Result<Option<Session>, AllocError>
+    ensures { IfOk result (λ session. IsOfJob root.now session) }
+{
     if !is_root_name(root) {
         return Ok(None);
     }

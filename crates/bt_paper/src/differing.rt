@@ -89,6 +89,8 @@ fn common_back(old: &[u8], new: &[u8]) -> usize
 pub fn difference_of(old: &[u8], new: &[u8]) -> Difference
     ensures order { result.start ≤ result.new_end }
     ensures within { result.new_end ≤ length new.now }
+    ensures old_order { result.start ≤ result.end }
+    ensures old_within { result.end ≤ length old.now }
     ensures same { new.now ≡ take result.start old.now
         ++ take (result.new_end - result.start) (drop result.start new.now) ++ drop result.end old.now }
 {

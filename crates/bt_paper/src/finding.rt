@@ -21,7 +21,7 @@ fn found_in<L: Library>(
 ) -> Result<Option<Found>, AllocError> {
     let mut path = String::from_str(alloc, folder.path.as_str())?;
     path.push_str(name)?;
-    let Some(text) = library.read(alloc, path.as_str()) else {
+    let Some(text) = library.read(alloc, path.as_str())? else {
         return Ok(None);
     };
     let file = Known {

@@ -47,7 +47,8 @@ pub fn folder_at(alloc: Global, path: &str) -> Result<Folder, AllocError> {
     })
 }
 
-fn with_slash(alloc: Global, text: &str) -> Result<String, AllocError> {
+/// A path or URI that ends with a slash.
+pub fn with_slash(alloc: Global, text: &str) -> Result<String, AllocError> {
     let mut whole = String::from_str(alloc, text)?;
     if !text.ends_with('/') {
         whole.push('/')?;

@@ -1,16 +1,19 @@
 //! Gives a session's file a new text: only the part in which it differs from the present one, so that a session reads
 //! again what an editor's change touches.
 
-ghost use Rattle.std.specs.Prelude.{◌≡◌, false, ℕ, List, Some, None, IsTrue};
+ghost use Rattle.std.specs.Prelude.{◌≡◌, false, ℕ, List, length, Some, None, IsTrue};
+ghost use Rattle.std.specs.Option.{is_some};
 ghost use Rattle.bt_job.specs.FileNames.{text_of};
 ghost use Rattle.bibtex.specs.inner.Cases.{replaced};
-ghost use Rattle.bt_documents.specs.Written.{is_taken};
-ghost use Rattle.bt_paper.specs.Paper.{GivesText, OthersStay};
+ghost use Rattle.bibtex.specs.Applied.{write_refusal, splice_refusal};
+ghost use Rattle.bt_documents.specs.Written.{is_taken, is_refused};
+ghost use Rattle.bt_paper.specs.Paper.{GivesText, OthersStay, written_of};
 
 use crate::differing::{Difference, difference_of};
 use bibtex::{Edit, Refusal, Session};
 use bt_documents::Written;
 use bt_text::Bytes;
+use std::alloc::AllocError;
 
 fn has_text(session: &Session, name: &[u8], text: &[u8]) -> bool
     ensures { IsTrue result → text_of session.now.texts name.now ≡ Some text.now }
@@ -31,9 +34,18 @@ pub fn lacks(session: &Session, name: &[u8]) -> bool
     }
 }
 
+/// Whether a text was taken. The error is out of memory.
+pub fn taken(written: Written) -> Result<bool, AllocError> {
+    if written.is_waiting() {
+        return Err(AllocError);
+    }
+    Ok(written.is_taken())
+}
+
 /// What a refusal comes to.
-fn refused(refusal: Refusal) -> Written
-    ensures { is_taken result ≡ false }
+pub fn refused(refusal: Refusal) -> Written
+    ensures taken { is_taken result ≡ false }
+    ensures is { result ≡ written_of refusal }
 {
     match refusal {
         Refusal::OutOfMemory => Written::Waiting,
@@ -49,6 +61,7 @@ fn refused(refusal: Refusal) -> Written
 fn write(session: &mut Session, name: &[u8], new: &[u8]) -> Written
     ensures kept { is_taken result ≡ false → session.new ≡ session.old }
     ensures gives { IsTrue (is_taken result) → GivesText name.now new.now session.old session.new }
+    ensures refused { IsTrue (is_refused result) → IsTrue (is_some (write_refusal session.old.texts name.now (length new.now))) }
 {
     match session.edit(Edit::Write(name, new)) {
         Ok(_) => Written::Taken,
@@ -61,6 +74,8 @@ fn splice(session: &mut Session, name: &[u8], start: usize, end: usize, bytes: &
     ensures kept { is_taken result ≡ false → session.new ≡ session.old }
     ensures gives { IsTrue (is_taken result) → (old : List ℕ) → text_of session.old.texts name.now ≡ Some old →
         GivesText name.now (replaced start end bytes.now old) session.old session.new }
+    ensures refused { IsTrue (is_refused result) →
+        IsTrue (is_some (splice_refusal session.old.texts name.now start end (length bytes.now))) }
 {
     match session.edit(Edit::Splice(name, start, end, bytes)) {
         Ok(_) => Written::Taken,
@@ -72,6 +87,7 @@ fn splice(session: &mut Session, name: &[u8], start: usize, end: usize, bytes: &
 fn set(session: &mut Session, name: &[u8], new: &[u8]) -> Written
     ensures kept { is_taken result ≡ false → session.new ≡ session.old }
     ensures gives { IsTrue (is_taken result) → GivesText name.now new.now session.old session.new }
+    ensures refused { IsTrue (is_refused result) → IsTrue (is_some (write_refusal session.old.texts name.now (length new.now))) }
 {
     let Some(old) = session.file(name) else {
         return write(session, name, new);
@@ -90,6 +106,7 @@ fn set(session: &mut Session, name: &[u8], new: &[u8]) -> Written
 pub fn give(session: &mut Session, name: &[u8], new: &[u8]) -> Written
     ensures kept { is_taken result ≡ false → session.new ≡ session.old }
     ensures gives { IsTrue (is_taken result) → GivesText name.now new.now session.old session.new }
+    ensures refused { IsTrue (is_refused result) → IsTrue (is_some (write_refusal session.old.texts name.now (length new.now))) }
 {
     if has_text(session, name, new) {
         Written::Taken
@@ -98,19 +115,22 @@ pub fn give(session: &mut Session, name: &[u8], new: &[u8]) -> Written
     }
 }
 
-fn remove(session: &mut Session, name: &[u8])
+/// Takes a session's file away, and says what the session did.
+fn remove(session: &mut Session, name: &[u8]) -> Written
     ensures { OthersStay name.now session.old session.new }
 {
-    let _ = session.edit(Edit::Remove(name));
+    match session.edit(Edit::Remove(name)) {
+        Ok(_) => Written::Taken,
+        Err(refusal) => refused(refusal),
+    }
 }
 
-/// Gives a session's file a text, or takes it away if there is none.
-pub fn replace(session: &mut Session, name: &[u8], text: Option<Bytes>)
+/// Gives a session's file a text, or takes it away if there is none. Says what the session did.
+pub fn replace(session: &mut Session, name: &[u8], text: Option<Bytes>) -> Written
     ensures { OthersStay name.now session.old session.new }
 {
-    let Some(text) = text else {
-        remove(session, name);
-        return;
-    };
-    let _ = give(session, name, text.as_slice());
+    match text {
+        Some(text) => give(session, name, text.as_slice()),
+        None => remove(session, name),
+    }
 }

@@ -15,5 +15,6 @@ mod library;
 mod open_files;
 mod session_paper;
 
+pub use folders::with_slash;
 pub use library::Library;
 pub use session_paper::{Options, SessionPaper};

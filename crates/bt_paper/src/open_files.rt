@@ -4,10 +4,10 @@ ghost use Rattle.std.specs.Prelude.{◌≡◌, Some};
 ghost use Rattle.bt_paper.specs.Paper.{text_at, is_among, KeepsTexts, KeepsOthers};
 
 use crate::finding::Found;
-use crate::giving::{give, lacks, replace};
+use crate::giving::{give, lacks, replace, taken};
 use crate::known::{Known, name_of, note};
 use bibtex::Session;
-use bt_documents::Document;
+use bt_documents::{Document, Written};
 use bt_text::{Bytes, Sequence};
 use std::alloc::{AllocError, Global};
 
@@ -24,7 +24,6 @@ pub fn is_among(documents: &[Document], name: &[u8]) -> bool
 }
 
 /// Gives a session a file, if it has none of its name. Says whether it took it.
-#[tactic(auto, using(crate::proofs::TextLemmas::text_added))]
 pub fn add(
     alloc: Global,
     session: &mut Session,
@@ -40,15 +39,15 @@ pub fn add(
     }
     note(known, file)?;
     let written = give(session, name.as_slice(), text.as_slice());
-    Ok(written.is_taken())
+    taken(written)
 }
 
-/// Gives the file at a URI the text that was read for it, or takes the file away if none was read.
-pub fn reread(session: &mut Session, known: &[Known], uri: &[u8], text: Option<Bytes>)
+/// Gives the file at a URI the text that was read for it, or takes the file away if there is none. Says what the session did.
+pub fn reread(session: &mut Session, known: &[Known], uri: &[u8], text: Option<Bytes>) -> Written
     ensures { KeepsOthers uri.now (text_at (Some session.old) known.now) (text_at (Some session.new) known.now) }
 {
     let Some(name) = name_of(known, uri) else {
-        return;
+        return Written::Refused;
     };
-    replace(session, name, text);
+    replace(session, name, text)
 }

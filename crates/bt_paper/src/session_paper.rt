@@ -1,20 +1,21 @@
 //! A session as the desk's paper.
 
-ghost use Rattle.std.specs.Prelude.{◌≡◌};
+ghost use Rattle.std.specs.Prelude.{IsTrue};
 ghost use Rattle.bt_documents.specs.Documents.{Follows};
+ghost use Rattle.bt_lsp.specs.Words.{fits_latin};
 ghost use Rattle.bt_paper.specs.Paper.{text_at, KeepsTexts};
 
 use crate::beginning::{ROUNDS, all_folders, begun};
 use crate::finding::find;
 use crate::folders::{Folder, path_of};
-use crate::giving::give;
+use crate::giving::{give, taken};
 use crate::known::{Known, name_of};
 use crate::library::Library;
 use crate::open_files::{add, is_among, reread};
 use bibtex::Session;
 use bt_documents::{Document, Files, Written};
 use bt_log::Message;
-use bt_lsp::Paper;
+use bt_lsp::{Paper, fits_latin};
 use bt_text::{Bytes, Sequence};
 use std::alloc::{AllocError, Global};
 
@@ -50,8 +51,13 @@ fn wanted(alloc: Global, session: &Option<Session>) -> Result<Sequence<Bytes>, A
 }
 
 /// Whether a text is what a file in Latin-1 has.
-fn is_latin(bytes: &[u8], text: &str) -> bool {
-    str::from_utf8(bytes).is_err() && text.chars().eq(bytes.iter().map(|byte| *byte as char))
+fn is_latin(bytes: &[u8], text: &str) -> bool
+    ensures { IsTrue result → IsTrue (fits_latin text.now) }
+{
+    if str::from_utf8(bytes).is_ok() || !fits_latin(text) {
+        return false;
+    }
+    text.chars().eq(bytes.iter().map(|byte| *byte as char))
 }
 
 impl<L: Library> SessionPaper<L> {
@@ -67,21 +73,24 @@ impl<L: Library> SessionPaper<L> {
         }
     }
 
-    /// Reads the file at a place again, unless it is open.
-    fn reread(&mut self, alloc: Global, n: usize, documents: &[Document])
+    /// Reads the file at a place again, unless it is open. If memory runs out, the file keeps its text.
+    fn reread(&mut self, alloc: Global, n: usize, documents: &[Document]) -> Result<(), AllocError>
         ensures { Follows (text_at self.old.session self.old.known) documents.now →
             Follows (text_at self.new.session self.new.known) documents.now }
     {
         let Some(one) = self.known.as_slice().get(n) else {
-            return;
+            return Ok(());
         };
         if is_among(documents, one.uri.as_slice()) {
-            return;
+            return Ok(());
         }
-        let text = self.library.read(alloc, one.path.as_str());
-        if let Some(session) = &mut self.session {
-            reread(session, self.known.as_slice(), one.uri.as_slice(), text);
-        }
+        let text = self.library.read(alloc, one.path.as_str())?;
+        let Some(session) = &mut self.session else {
+            return Ok(());
+        };
+        let written = reread(session, self.known.as_slice(), one.uri.as_slice(), text);
+        taken(written)?;
+        Ok(())
     }
 
     /// Gives the run the file of a name, if it is found and the run has none. Says whether the run took it.
@@ -110,22 +119,25 @@ impl<L: Library> SessionPaper<L> {
         Ok(grown)
     }
 
-    /// The same until it takes none, or memory runs out.
-    fn complete(&mut self, alloc: Global)
+    /// The same until it takes none.
+    fn complete(&mut self, alloc: Global) -> Result<(), AllocError>
         ensures { KeepsTexts (text_at self.old.session self.old.known) (text_at self.new.session self.new.known) }
     {
         'rounds: for _ in 0..ROUNDS {
-            if !self.fill(alloc).unwrap_or(false) {
-                return;
+            if !self.fill(alloc)? {
+                return Ok(());
             }
         }
+        Ok(())
     }
 }
 
 impl<L: Library> Files for SessionPaper<L> {
-    ghost use Rattle.bt_paper.specs.Paper.{text_at};
+    ghost use Rattle.bt_paper.specs.Paper.{text_at, refuses_at};
 
     ghost text = { λ paper uri. text_at paper.session paper.known uri };
+
+    ghost refuses = { λ paper uri new. refuses_at paper.session paper.known uri new };
 
     fn write(&mut self, name: &[u8], new: &[u8]) -> Written {
         let Some(own) = name_of(self.known.as_slice(), name) else {
@@ -139,9 +151,13 @@ impl<L: Library> Files for SessionPaper<L> {
 }
 
 impl<L: Library> Paper for SessionPaper<L> {
-    ghost use Rattle.bt_paper.specs.Paper.{shown_of};
+    ghost use Rattle.std.specs.Prelude.{unwrap_or};
+    ghost use Rattle.std.specs.String.{string_bytes};
+    ghost use Rattle.bt_paper.specs.Paper.{shown_of, IsOfJob};
 
     ghost shown = { λ paper. shown_of paper.session paper.known };
+
+    ghost begins = { λ paper job folder after. IsOfJob (unwrap_or job (string_bytes paper.options.job)) after.session };
 
     fn name(&self, uri: &[u8]) -> Option<&[u8]> {
         name_of(self.known.as_slice(), uri)
@@ -197,14 +213,14 @@ impl<L: Library> Paper for SessionPaper<L> {
         }
     }
 
-    fn is_latin(&self, alloc: Global, uri: &str, text: &str) -> bool {
-        let Ok(Some(path)) = path_of(alloc, uri.as_bytes()) else {
-            return false;
+    fn is_latin(&self, alloc: Global, uri: &str, text: &str) -> Result<bool, AllocError> {
+        let Some(path) = path_of(alloc, uri.as_bytes())? else {
+            return Ok(false);
         };
-        match self.library.read(alloc, path.as_str()) {
-            Some(bytes) => is_latin(bytes.as_slice(), text),
-            None => false,
-        }
+        let Some(bytes) = self.library.read(alloc, path.as_str())? else {
+            return Ok(false);
+        };
+        Ok(is_latin(bytes.as_slice(), text))
     }
 
     fn begin(
@@ -223,10 +239,10 @@ impl<L: Library> Paper for SessionPaper<L> {
         Ok(())
     }
 
-    fn refresh(&mut self, alloc: Global, documents: &[Document]) {
+    fn refresh(&mut self, alloc: Global, documents: &[Document]) -> Result<(), AllocError> {
         'known: for n in 0..self.known.len() {
-            self.reread(alloc, n, documents);
+            self.reread(alloc, n, documents)?;
         }
-        self.complete(alloc);
+        self.complete(alloc)
     }
 }

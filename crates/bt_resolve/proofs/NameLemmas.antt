@@ -1,5 +1,5 @@
 -- Places of names.
-use Rattle.std.proofs.Common.{◌≡◌, ◌∙◌, ap, sym, refl, ℕ, suc, ◌+◌, ◌<◌, Bool, true, false, List, [], ◌∷◌, length, drop, get_or, Option, Some, None, arith}
+use Rattle.std.proofs.Common.{◌≡◌, ◌∙◌, ap, sym, refl, subst, ℕ, suc, ◌+◌, ◌<◌, Bool, true, false, List, [], ◌∷◌, length, drop, get_or, Option, Some, None, arith}
 use Rattle.std.specs.Prelude.{option_map, option_and_then, unwrap_or, slice_get, if◌then◌else◌}
 use Rattle.std.proofs.Math.Path.{fun_ext}
 use Rattle.std.proofs.lemmas.List.{drop_more}
@@ -8,7 +8,9 @@ use Rattle.bt_text.specs.ByName.{with_value, no_value}
 use Rattle.bt_text.specs.NameList.{same_name}
 use Rattle.bt_resolve.specs.Inherited.{key_spelled}
 use Rattle.bt_resolve.specs.Names.{place_of_name}
-use Rattle.bt_resolve.specs.inner.Names.{from_place, places_from}
+use Rattle.bt_resolve.specs.declared.index.Known.{Known}
+use Rattle.bt_resolve.specs.inner.Names.{from_place, places_from, AreKnown}
+use Rattle.bt_resolve.proofs.SkeletonLemmas.{get_map}
 
 abbrev Place : Type 0
 Place = Option ℕ
@@ -64,3 +66,14 @@ spelled_uncited keys key asked text found same is none here = here ∙ sym (ap (
 
 pub spelled_cited : (keys : List (List ℕ)) (key asked text cited : List ℕ) (found : Option (List ℕ)) → asked ≡ key → found ≡ same_name asked keys → found ≡ Some cited → text ≡ cited → text ≡ key_spelled keys key
 spelled_cited keys key asked text cited found same is some here = here ∙ sym (ap (λ (o : Option (List ℕ)). unwrap_or o key) some) ∙ spelled_by keys key asked found same is
+
+-- a name that is at hand
+known_here : (places : List ℕ → Place) (slots : List Known) (n : ℕ) (k : Known) → slice_get slots n ≡ Some k → AreKnown places slots → places k.name.now ≡ k.place
+known_here places slots n k is all =
+    let f : Known → Place = λ x. places x.name.now in
+    let g : Known → Place = λ x. x.place in
+    let both : option_map f (slice_get slots n) ≡ option_map g (slice_get slots n) = sym (get_map f slots n) ∙ ap (λ (found : List Place). slice_get found n) all ∙ get_map g slots n in
+    ap (λ (o : Option Place). unwrap_or o None) (subst (λ (o : Option Known). option_map f o ≡ option_map g o) is both)
+
+pub known_found : (places : List ℕ → Place) (slots : List Known) (n : ℕ) (k : Known) (name : List ℕ) → AreKnown places slots → slice_get slots n ≡ Some k → k.name.now ≡ name → k.place ≡ places name
+known_found places slots n k name all is same = sym (known_here places slots n k is all) ∙ ap places same

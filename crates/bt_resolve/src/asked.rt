@@ -20,7 +20,22 @@ pub struct Asked<'a> {
 }
 
 impl<'a> Asked<'a> {
-    /// What a style declares and a document cites.
+    /// What a style declares and a document cites, for the reading of whole databases.
+    pub fn for_all(alloc: Global, declared: &'a Declared, cites: &Cites) -> Result<Self, AllocError>
+        ensures { IfOk result (λ known. known ≡ asked declared.now cites.now) }
+    {
+        let keys = cites.keys.share()?;
+        let fields = Index::for_many(alloc, declared.fields.as_slice())?;
+        let types = Index::for_many(alloc, declared.types.as_slice())?;
+        Ok(Asked {
+            fields,
+            types,
+            keys,
+            star: cites.star,
+        })
+    }
+
+    /// The same, for the reading of a few items.
     pub fn new(alloc: Global, declared: &'a Declared, cites: &Cites) -> Result<Self, AllocError>
         ensures { IfOk result (λ known. known ≡ asked declared.now cites.now) }
     {

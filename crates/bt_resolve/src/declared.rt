@@ -1,6 +1,6 @@
 //! What a style and its document ask for.
 
-use bt_text::{Bytes, NameList, Sequence, Shared};
+use bt_text::{Bytes, NameList, Same, Sequence, Shared};
 
 /// A macro, and its text.
 #[derive(Drop)]
@@ -9,6 +9,12 @@ pub struct Macro {
     pub name: Bytes,
     /// Its text.
     pub value: Bytes,
+}
+
+impl Same for Macro {
+    fn is_same(&self, other: &Macro) -> bool {
+        self.name.is_same(&other.name) && self.value.is_same(&other.value)
+    }
 }
 
 /// What the style declares before the databases are read. No two names of one list match.

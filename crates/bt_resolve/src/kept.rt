@@ -12,7 +12,6 @@
 ghost use Rattle.std.specs.Prelude.{◌≡◌, ◌+◌, ◌^◌, ◌<◌, ◌≤◌, length, map, IfOk, IfSome, IsTrue};
 ghost use Rattle.bt_bib.specs.Items.{items_of};
 ghost use Rattle.bt_text.specs.NameList.{are_apart};
-ghost use Rattle.bt_resolve.specs.inner.Patches.{patched};
 ghost use Rattle.bt_resolve.specs.inner.Kept.{IsAround, IsEditOf, IsFound, IsResolvedEdit, IsSpanEdit, found_of, mark_of, resolved_for, with_database};
 
 use crate::asked::Asked;
@@ -110,20 +109,6 @@ fn mark_of(around: Around) -> Mark
     }
 }
 
-fn all_patched(
-    alloc: Global,
-    all: &[Message],
-    told: &[Message],
-    around: Around,
-    edit: &ItemsEdit,
-) -> Result<Option<Sequence<Message>>, AllocError>
-    ensures { IfOk result (λ made. IfSome made (λ messages. messages ≡ patched all.now around.first.told
-        around.past.told around.last.told told.now edit.now.stood edit.now.stand)) }
-{
-    let (first, past, last) = (around.first.told, around.past.told, around.last.told);
-    patched(alloc, all, first, past, last, told, edit.stood, edit.stand)
-}
-
 /// What an edit of at most one entry changes, if it is known whether this entry is stored.
 fn span_edit(
     alloc: Global,
@@ -155,7 +140,7 @@ fn span_edit(
     };
     let all = found.all.messages.as_slice();
     let told = span.messages.as_slice();
-    let Some(messages) = all_patched(alloc, all, told, around, edit)? else {
+    let Some(messages) = patched(alloc, all, told, around, edit)? else {
         return Ok(None);
     };
     Ok(Some(ResolvedEdit { seen, messages }))

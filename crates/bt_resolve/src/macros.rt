@@ -10,7 +10,7 @@ use crate::declared::Macro;
 use crate::macro_text::MacroText;
 use crate::reader::Reader;
 use crate::values::ValueReader;
-use bt_bib::{Definition, Item, Part};
+use bt_bib::{Definition, Item, ValueParts};
 use bt_log::Message;
 use bt_text::{ByName, Bytes, Sequence};
 use std::alloc::{AllocError, Global};
@@ -29,7 +29,7 @@ pub fn style_macros(alloc: Global, macros: &[Macro]) -> Result<ByName<MacroText>
 }
 
 /// The parts of a value that count: none if the item has a fault.
-fn faultless<'a>(item: &Item, parts: &'a Option<Sequence<Part>>) -> Option<&'a Sequence<Part>>
+fn faultless<'a>(item: &Item, parts: &'a Option<ValueParts>) -> Option<&'a ValueParts>
     ensures { option_copied result ≡ faultless item.now.fault parts.now }
 {
     match item.fault {
@@ -73,7 +73,7 @@ impl Reader<'_> {
     pub fn preamble(
         &self,
         item: &Item,
-        parts: &Option<Sequence<Part>>,
+        parts: &Option<ValueParts>,
         macros: &ByName<MacroText>,
         preamble: &mut Bytes,
         messages: &mut Sequence<Message>,

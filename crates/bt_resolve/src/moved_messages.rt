@@ -6,7 +6,8 @@
 ghost use Rattle.std.specs.Prelude.{◌≡◌, ◌++◌, ◌+◌, ◌-◌, ◌≤◌, map, take, drop, length, option_map, IfOk, IfSome, IsTrue, OnOk};
 ghost use Rattle.bt_resolve.specs.inner.Patches.{patched, rebased_message};
 
-use bt_bib::Spot;
+use crate::kept::Around;
+use bt_bib::{ItemsEdit, Spot};
 use bt_log::{Message, Place};
 use bt_text::Sequence;
 use std::alloc::{AllocError, Global};
@@ -92,28 +93,26 @@ fn add_rebased(
     Ok(true)
 }
 
-/// All messages, with new ones in the place of those from `first` up to `past`. The text of those behind them, up to
-/// `last`, stood at `stood` and stands at `stand`. None where a line or place would overflow.
+/// All messages after an edit: `told` takes the place of those about the pieces that are replaced. The text of the
+/// pieces behind them, in the same database, has moved. None where a line or place would overflow.
 pub fn patched(
     alloc: Global,
     all: &[Message],
-    first: usize,
-    past: usize,
-    last: usize,
-    new: &[Message],
-    stood: Spot,
-    stand: Spot,
+    told: &[Message],
+    around: Around,
+    edit: &ItemsEdit,
 ) -> Result<Option<Sequence<Message>>, AllocError>
-    ensures { IfOk result (λ made. IfSome made (λ messages. messages
-        ≡ patched all.now first past last new.now stood stand)) }
+    ensures { IfOk result (λ made. IfSome made (λ messages. messages ≡ patched all.now around.first.told
+        around.past.told around.last.told told.now edit.now.stood edit.now.stand)) }
 {
+    let (first, past, last) = (around.first.told, around.past.told, around.last.told);
     if first > past || past > last || last > all.len() {
         return Ok(None);
     }
     let mut messages = Sequence::new(alloc);
     add_shared(&mut messages, &all[..first])?;
-    add_shared(&mut messages, new)?;
-    if !add_rebased(&mut messages, &all[past..last], stood, stand)? {
+    add_shared(&mut messages, told)?;
+    if !add_rebased(&mut messages, &all[past..last], edit.stood, edit.stand)? {
         return Ok(None);
     }
     add_shared(&mut messages, &all[last..])?;

@@ -86,7 +86,7 @@ pub fn resolve(
     ensures { IfOk result (λ all. all
         ≡ resolved declared.now cites.now (map (λ text. items_of (pieces_of text)) texts.now) min) }
 {
-    let asked = Asked::new(alloc, declared, cites)?;
+    let asked = Asked::for_all(alloc, declared, cites)?;
     let mut read = nothing_read(alloc, declared.macros.as_slice())?;
     read_texts(alloc, &asked, texts, &mut read)?;
     resolve_read(alloc, &asked, min, &mut read)

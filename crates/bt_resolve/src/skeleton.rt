@@ -4,25 +4,19 @@
 //! stored entries alone, their *skeletons*. So an edit of other fields leaves it as it was. Both versions of a
 //! `crossref` are compared by their parts: equal parts have equal values, whatever the macros.
 
-ghost use Rattle.std.specs.Prelude.{◌≡◌, IsTrue, find, option_copied, option_map};
+ghost use Rattle.std.specs.Prelude.{◌≡◌, IsTrue, find, option_copied};
 ghost use Rattle.bt_text.specs.CaseFolding.{is_same_folded};
 ghost use Rattle.bt_resolve.specs.Names.{crossref};
-ghost use Rattle.bt_resolve.specs.Values.{MacroTexts, field_value, joined_parts};
+ghost use Rattle.bt_resolve.specs.Values.{MacroTexts, joined_parts};
 ghost use Rattle.bt_resolve.specs.inner.Cases.{part_text};
 ghost use Rattle.bt_bib.specs.declared.item.Field.{Field as FieldSeen};
 ghost use Rattle.bt_resolve.specs.Skeletons.{HaveOneSkeleton, IsItemLike, PairOff};
-ghost use Rattle.bt_resolve.specs.inner.Skeletons.{IsPieceLike};
+ghost use Rattle.bt_resolve.specs.inner.Skeletons.{IsPieceLike, text_in};
 
 use crate::entries::kind_of;
 use crate::fields::CROSSREF;
 use bt_bib::{Content, Entry, Field, Item, Part, Piece, PlacedPiece};
-use bt_text::{Bytes, Shared, eq_ignore_ascii_case};
-
-fn equal_bytes(old: &[u8], new: &[u8]) -> bool
-    ensures { IsTrue result → old.now ≡ new.now }
-{
-    old == new
-}
+use bt_text::{Bytes, Shared, eq_ignore_ascii_case, equal_bytes};
 
 /// Whether two parts are the same, whatever their lines.
 fn is_same_part(old: &Part, new: &Part) -> bool
@@ -65,9 +59,7 @@ fn crossref_of(fields: &[Field]) -> Option<&Field>
 
 /// Whether two fields have the same parts, or both are missing.
 fn is_same_field(old: Option<&Field>, new: Option<&Field>) -> bool
-    ensures { IsTrue result → (m : MacroTexts) →
-        option_map (λ (f : FieldSeen). field_value m f.value) (option_copied old.entry)
-        ≡ option_map (λ (f : FieldSeen). field_value m f.value) (option_copied new.entry) }
+    ensures { IsTrue result → (m : MacroTexts) → text_in m old.entry ≡ text_in m new.entry }
 {
     match (old, new) {
         (None, None) => true,

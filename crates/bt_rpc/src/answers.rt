@@ -18,8 +18,14 @@ pub enum RpcError {
     InvalidParams,
     /// Out of memory, or a message that is too large.
     InternalError,
-    /// A request before `initialize`. The code is the Language Server Protocol's.
+    /// A request before `initialize`. The code is the Language Server Protocol's, as are those of the rest.
     ServerNotInitialized,
+    /// A rename is refused: a key or a macro can't have this name.
+    BadName,
+    /// A rename is refused: something else has this name.
+    TakenName,
+    /// A rename is refused: no file that it edits defines the macro, so all its uses would become undefined.
+    UndefinedMacro,
 }
 
 fn code_of(error: RpcError) -> i64
@@ -32,6 +38,7 @@ fn code_of(error: RpcError) -> i64
         RpcError::InvalidParams => -32602,
         RpcError::InternalError => -32603,
         RpcError::ServerNotInitialized => -32002,
+        RpcError::BadName | RpcError::TakenName | RpcError::UndefinedMacro => -32803,
     }
 }
 
@@ -45,6 +52,9 @@ fn words_of(error: RpcError) -> &'static str
         RpcError::InvalidParams => "the method's parameters are wrong",
         RpcError::InternalError => "out of memory, or the message is too large",
         RpcError::ServerNotInitialized => "the server isn't initialized",
+        RpcError::BadName => "no key or macro can have this name",
+        RpcError::TakenName => "this name is taken",
+        RpcError::UndefinedMacro => "no database defines this macro: it is the style's",
     }
 }
 

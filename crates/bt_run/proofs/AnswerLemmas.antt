@@ -1,7 +1,7 @@
 -- A whole run, from its beginning to its counts.
-use Rattle.std.specs.Prelude.{unwrap_or, bytes_eq, Bool, true, false, if◌then◌else◌, ◌-◌, Result}
+use Rattle.std.specs.Prelude.{IsTrue, unwrap_or, bytes_eq, Bool, true, false, if◌then◌else◌, ◌-◌, Result}
 use Rattle.std.specs.Option.{ForSome}
-use Rattle.std.proofs.Common.{All, ◌<◌, ◌≡◌, refl, sym, ap, ◌∙◌, ℕ, List, [], ◌∷◌, ◌++◌, Option, Some, None, Ok, Err, ◌≤◌, length, subst, arith}
+use Rattle.std.proofs.Common.{All, ◌<◌, ◌≡◌, refl, sym, ap, ◌∙◌, ℕ, List, [], ◌∷◌, ◌++◌, Option, Some, None, Ok, Err, ◌≤◌, length, map, subst, arith}
 use Rattle.std.proofs.lemmas.Slice.Eq.{bytes_eq-Decides}
 use Rattle.bt_style.specs.declared.fault.StyleFault.{StyleFault}
 use Rattle.bt_style.specs.declared.style.Style.{Style}
@@ -21,26 +21,28 @@ use Rattle.bt_run.specs.declared.earlier.Earlier.{Earlier}
 use Rattle.bt_run.specs.declared.kept_steps.KeptSteps.{KeptSteps}
 use Rattle.bt_run.specs.declared.reuse.Reuse.{Reuse}
 use Rattle.bt_actions.specs.declared.entry.Entry.{Entry}
-use Rattle.bt_actions.specs.World.{no_variables}
+use Rattle.bt_actions.specs.World.{World, no_variables}
 use Rattle.bt_run.specs.Course.{Recorded}
 use Rattle.bt_run.specs.inner.Course.{recorded}
 use Rattle.bt_run.proofs.CountLemmas.{counted_alike}
 use Rattle.bt_run.specs.Work.{total_cost, work_under, IsStep}
-use Rattle.bt_run.specs.inner.Work.{IsBegun, IsConsistent}
+use Rattle.bt_run.specs.inner.Calls.{AreCalls}
+use Rattle.bt_run.specs.inner.Tags.{step_tag}
+use Rattle.bt_run.specs.inner.Work.{AreKept, IsBegun, IsConsistent}
 use Rattle.bt_run.specs.Steps.{StepsAre, styled_work, work_after}
 use Rattle.bt_run.specs.inner.Steps.{run_shown, calls_in, steps_under, IsTaken}
-use Rattle.bt_run.specs.inner.Earlier.{ArePlaced}
 use Rattle.bt_run.specs.Kept.{named_text, style_text, run_work, report_after}
 use Rattle.bt_run.proofs.WorkLemmas.{work_none, work_first}
 use Rattle.bt_run.proofs.EarlierLemmas.{nothing_placed, same_none}
+use Rattle.bt_run.proofs.TurnLemmas.{none_in_turn, none_left, calls_begun}
 use Rattle.bt_run.specs.ReadCommand.{Job}
 use Rattle.bt_run.specs.Commands.{commands_from}
 use Rattle.bt_run.specs.Counts.{calls_at, counts_told}
 use Rattle.bt_run.specs.Meaning.{run_begun, first_globals, style_run, run_of, Meaning, meaning, trace}
 use Rattle.bt_run.specs.inner.Cases.{job_for, fault_told, styled, run_with}
 
-pub begun_consistent : (p : Program) (earlier : Earlier) (s : KeptSteps) → IsBegun s → IsConsistent p earlier [] s
-begun_consistent p earlier s h =
+pub begun_consistent : (p : Program) (earlier : Earlier) (w : World) (s : KeptSteps) (calls : Option (List ℕ)) → w.entries ≡ [] → IsBegun s → ForSome calls (AreCalls earlier.steps.now) → IsConsistent p earlier w (record s { calls = calls })
+begun_consistent p earlier w s calls empty h are =
     let none = h.0 in
     let work : work_under p earlier.steps.now s.steps ≡ [] = ap (work_under p earlier.steps.now) none ∙ work_none p earlier.steps.now in
     let count : length s.steps ≡ 0 = ap length none in
@@ -53,9 +55,21 @@ begun_consistent p earlier s h =
       known = rw h.5 (λ k d lt. absurd (omega (arith, lt)));
       indexed = rw h.6 (λ x e. absurd cc);
       counted = ap length h.1 ∙ sym count;
-      placed = nothing_placed [] s.steps s.places none;
-      same = same_none earlier.entries.now [] s.same h.2;
+      placed = nothing_placed w.entries s.steps s.places none;
+      same = same_none earlier.entries.now w.entries s.same h.2;
+      tagged = h.7 ∙ sym (ap (map step_tag) none);
+      in_turn = none_in_turn s.steps none;
+      left = none_left s.steps w none;
+      given = λ go. (let on : IsTrue false = subst (λ (b : Bool). IsTrue b) h.8 go in absurd cc);
+      called = calls_begun earlier.steps.now s.reuse.next s.steps calls h.9 none are;
     }
+
+-- a run's end
+pub with_calls : (p : Program) (earlier : Earlier) (w : World) (s : KeptSteps) (calls : Option (List ℕ)) → IsConsistent p earlier w s → IsConsistent p earlier w (record s { all_calls = calls })
+with_calls p earlier w s calls h = record { ran = h.ran; ticks = h.ticks; fewer = h.fewer; bounded = h.bounded; steps = h.steps; known = h.known; indexed = h.indexed; counted = h.counted; placed = h.placed; same = h.same; tagged = h.tagged; in_turn = h.in_turn; left = h.left; given = h.given; called = h.called }
+
+pub kept_with : (p : Program) (earlier : Earlier) (w : World) (s : KeptSteps) (calls : List ℕ) → IsConsistent p earlier w s → AreCalls s.steps calls → AreKept w.entries (record s { all_calls = Some calls })
+kept_with p earlier w s calls h are = record { placed = h.placed; tagged = h.tagged; in_turn = h.in_turn; called = λ c e. (let same : calls ≡ c = cc in subst (AreCalls s.steps) same are) }
 
 -- What was carried out
 
@@ -83,8 +97,13 @@ nothing_taken own earlier text s h =
       true_steps = λ t p named read k d lt. absurd (omega (arith, lt));
     })
 
-pub begun_placed : (entries : List Entry) (s : KeptSteps) → IsBegun s → ArePlaced entries s.steps s.places
-begun_placed entries s h = nothing_placed entries s.steps s.places h.0
+pub begun_kept : (entries : List Entry) (s : KeptSteps) → IsBegun s → AreKept entries s
+begun_kept entries s h = record {
+  placed = nothing_placed entries s.steps s.places h.0;
+  tagged = h.7 ∙ sym (ap (map step_tag) h.0);
+  in_turn = none_in_turn s.steps h.0;
+  called = rw h.10 (λ c e. absurd cc);
+}
 
 work_if : (p : Program) (b : Bool) (earlier steps : List Step) → work_under p (if b then earlier else []) steps ≡ (if b then work_under p earlier steps else steps)
 work_if p true earlier steps = refl
@@ -103,8 +122,8 @@ true_steps p text steps read h = λ t q named again.
     let program : p ≡ q = cc in
     subst (λ (o : Program). All (IsStep o) steps) program h
 
-pub run_taken : (p : Program) (own : Option (List ℕ)) (before : List Step) (text : List ℕ) (earlier : Earlier) (entries : List Entry) (s : KeptSteps) → style_of text ≡ Ok p → earlier.steps.now ≡ steps_under own before text → IsConsistent p earlier entries s → IsTaken own before (Some text) s.steps s.reuse
-run_taken p own before text earlier entries s read is h =
+pub run_taken : (p : Program) (own : Option (List ℕ)) (before : List Step) (text : List ℕ) (earlier : Earlier) (w : World) (s : KeptSteps) → style_of text ≡ Ok p → earlier.steps.now ≡ steps_under own before text → IsConsistent p earlier w s → IsTaken own before (Some text) s.steps s.reuse
+run_taken p own before text earlier w s read is h =
     let work = ap (λ es. work_under p es s.steps) is ∙ work_read p own before text s.steps read in
     record {
       ran = h.ran ∙ ap length work;

@@ -1,8 +1,9 @@
 -- READ and SORT keep what a run keeps to.
-use Rattle.std.proofs.Common.{◌≡◌, subst, sym, ℕ, ◌<◌, Bool, List, Option, None, length, map}
+use Rattle.std.proofs.Common.{◌≡◌, ap, subst, sym, ℕ, ◌<◌, Bool, List, Option, None, length, map}
 use Rattle.std.proofs.lemmas.List.{length-map}
 use Rattle.bt_style.specs.Program.{Program}
-use Rattle.bt_actions.specs.declared.entry.Entry.{Entry}
+use Rattle.bt_actions.specs.declared.entry.Variables.{Variables}
+use Rattle.bt_log.specs.declared.message.Message.{Message}
 use Rattle.bt_run.specs.declared.course.Course.{Course}
 use Rattle.bt_run.specs.declared.course.Step.{Step}
 use Rattle.bt_run.specs.declared.earlier.Earlier.{Earlier}
@@ -11,18 +12,43 @@ use Rattle.bt_run.specs.declared.readings.Readings.{Readings}
 use Rattle.bt_run.specs.inner.Course.{IsOrdered}
 use Rattle.bt_run.specs.inner.Earlier.{AreSame}
 use Rattle.bt_run.specs.inner.Work.{IsConsistent}
+use Rattle.bt_run.specs.Course.{course_world}
+use Rattle.bt_run.specs.Meaning.{run_begun}
 use Rattle.bt_run.specs.SortCommand.{key_at}
 use Rattle.bt_run.specs.ReadCommand.{Job, list_order, read}
 use Rattle.bt_run.specs.inner.Cases.{sorted_run}
 use Rattle.bt_run.proofs.EarlierLemmas.{none_placed}
-use Rattle.bt_run.proofs.OrderLemmas.{places_below}
-use Rattle.bt_run.proofs.SortingLemmas.{sorted_all}
+use Rattle.bt_run.proofs.OrderLemmas.{arranged_range}
+use Rattle.bt_run.proofs.SortingLemmas.{arranged_sorted}
+use Rattle.bt_run.proofs.TurnLemmas.{left_alike, given_alike}
 
-pub read_consistent : (p : Program) (earlier : Earlier) (before entries : List Entry) (s : KeptSteps) (readings : Readings) (places : List (Option ℕ)) (same : List Bool) → places ≡ map (λ (s : Step). None) s.steps → AreSame earlier.entries.now entries same → IsConsistent p earlier before s → IsConsistent p earlier entries (record s { readings = readings; places = places; same = same })
-read_consistent p earlier before entries s readings places same are_none are_same h = rw are_none (record { ran = h.ran; ticks = h.ticks; fewer = h.fewer; bounded = h.bounded; steps = h.steps; known = h.known; indexed = h.indexed; counted = length-map s.steps (λ (s : Step). None); placed = none_placed entries s.steps; same = are_same })
+pub read_consistent : (p : Program) (earlier : Earlier) (job : Job) (number : ℕ) (r back : Course) (s : KeptSteps) (readings : Readings) (places : List (Option ℕ)) (same : List Bool) → back ≡ read job number r → places ≡ map (λ (s : Step). None) s.steps → AreSame earlier.entries.now back.entries same → IsConsistent p earlier (course_world r) s → IsConsistent p earlier (course_world back) (record s { readings = readings; places = places; same = same })
+read_consistent p earlier job number r back s readings places same is are_none are_same h =
+    let globals = ap (λ (c : Course). c.globals) is in
+    let held = ap (λ (c : Course). c.held) is in
+    rw are_none (record {
+      ran = h.ran;
+      ticks = h.ticks;
+      fewer = h.fewer;
+      bounded = h.bounded;
+      steps = h.steps;
+      known = h.known;
+      indexed = h.indexed;
+      counted = length-map s.steps (λ (s : Step). None);
+      placed = none_placed back.entries s.steps;
+      same = are_same;
+      tagged = h.tagged;
+      in_turn = h.in_turn;
+      left = left_alike s.steps (course_world r) (course_world back) globals held h.left;
+      given = λ go. given_alike earlier.steps.now s.reuse.next (course_world r) (course_world back) globals held (h.given go);
+      called = h.called;
+    })
 
 pub read_ordered : (job : Job) (number : ℕ) (r next : Course) → next ≡ read job number r → IsOrdered next
-read_ordered job number r next is = subst IsOrdered (sym is) (places_below (length (read job number r).entries))
+read_ordered job number r next is = subst IsOrdered (sym is) (arranged_range (length (read job number r).entries))
 
 pub sorted_ordered : (r next : Course) → next ≡ sorted_run r → IsOrdered next
-sorted_ordered r next is = subst IsOrdered (sym is) (sorted_all (key_at r.entries) (λ k. k < length r.entries) (list_order r.entries) (places_below (length r.entries)))
+sorted_ordered r next is = subst IsOrdered (sym is) (arranged_sorted (key_at r.entries) (length r.entries))
+
+pub begun_ordered : (globals : Variables) (log : List Message) (course : Course) → course ≡ (run_begun globals log).course → IsOrdered course
+begun_ordered globals log course is = subst IsOrdered (sym is) (arranged_range 0)

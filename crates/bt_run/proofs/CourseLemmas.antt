@@ -1,6 +1,7 @@
 -- A step in the world of all entries, by its outcome on its input alone.
-use Rattle.std.specs.Prelude.{slice_index_or}
-use Rattle.std.proofs.Common.{zero, suc, ◌≡◌, refl, ℕ, ◌+◌, ◌<◌, List, [], ◌∷◌, ◌++◌, length, All, Option, Some, None, sym, ap, ◌∙◌, subst, arith}
+use Rattle.std.specs.Prelude.{slice_index_or, IsTrue}
+use Rattle.std.specs.Option.{ForSome}
+use Rattle.std.proofs.Common.{zero, suc, ◌≡◌, refl, ℕ, ◌+◌, ◌<◌, Bool, List, [], ◌∷◌, ◌++◌, length, All, Option, Some, None, sym, ap, ◌∙◌, subst, arith}
 use Rattle.std.proofs.lemmas.List.{get_or-set_same, length-set, length-append}
 use Rattle.std.proofs.lemmas.List.Elements.{All-append}
 use Rattle.std.proofs.lemmas.List.Sums.{sum_by-append}
@@ -18,22 +19,22 @@ use Rattle.bt_run.specs.declared.course.Step.{Step}
 use Rattle.bt_run.specs.declared.course.CommandPlace.{CommandPlace}
 use Rattle.bt_run.specs.declared.earlier.Earlier.{Earlier}
 use Rattle.bt_run.specs.declared.kept_steps.KeptSteps.{KeptSteps}
-use Rattle.bt_run.specs.Course.{Recorded, course_world, input_at, step_kept, left_by, stepped, key_in}
+use Rattle.bt_run.specs.Course.{Recorded, course_world, input_at, step_kept, left_by, stepped}
 use Rattle.bt_run.specs.inner.Cases.{all_told}
-use Rattle.bt_run.specs.inner.Course.{recorded, IsOrdered, with_variables, variables_back, put_back}
-use Rattle.bt_run.specs.Work.{total_cost, work_under, IsStep}
+use Rattle.bt_run.specs.inner.Course.{recorded, IsArranged, IsOrdered, with_variables, variables_back, put_back}
+use Rattle.bt_run.specs.Work.{total_cost, work_under, IsStep, own_left}
+use Rattle.bt_run.specs.inner.Calls.{AreCallsFrom}
 use Rattle.bt_run.specs.inner.Earlier.{AreSame}
+use Rattle.bt_run.specs.inner.Tags.{step_tag}
+use Rattle.bt_run.specs.inner.Turn.{IsGiven, IsSharedFrom}
 use Rattle.bt_run.specs.inner.Work.{IsNext, IsConsistent}
 use Rattle.bt_run.proofs.WorkLemmas.{work_append, work_fewer}
 use Rattle.bt_run.proofs.EarlierLemmas.{same_back, placed_more}
+use Rattle.bt_run.proofs.TurnLemmas.{in_turn_more, left_more, given_next, tagged_more}
 
 -- what a step leaves in the world of its entry alone, or of none
 abbrev alone_left : Program → Target → Option ℕ → Course → Finish
 alone_left p t x r = step p (alone x) t (cut x (course_world r))
-
--- the same as an outcome with its cost
-abbrev own_left : Finish → Own
-own_left f = record { outcome = outcome_of f; cost = f.cost }
 
 -- what is left where the outcome of a step is put back
 abbrev left_back : {S : Type 0} → (S → Step → S) → CommandPlace → Target → Option ℕ → Recorded S → Finish → Recorded S
@@ -84,15 +85,8 @@ module _ {S : Type 0} (note : S → Step → S) (p : Program) (law : DependsOnIn
   pub step_taken : (x : Option ℕ) (r : Course) (seen after : S) (back : Course) (s : Step) → IsPlace x (course_world r) → s.command ≡ site.command → s.input ≡ input_at t x (course_world r) → IsStep p s → back ≡ put_back site x s.outcome r → after ≡ note seen s → recorded back after ≡ stepped note p site t x (recorded r seen)
   step_taken x r seen after back s h is_command is_input own is_back is_after =
       let i = input_at t x (course_world r) in
-      let is_outcome = own.outcome ∙ ap (λ (j : Input). outcome_of (step_in p j)) is_input in
       let is_step : s ≡ step_kept site.command i (own_left (step_in p i)) =
-      λ j. record {
-        command = is_command j;
-        key = (own.key ∙ ap key_in is_input) j;
-        input = is_input j;
-        outcome = is_outcome j;
-        cost = (own.cost ∙ ap (λ (k : Input). (step_in p k).cost) is_input) j;
-      } in
+      own.is ∙ (λ j. step_kept (is_command j) (is_input j) (own_left (step_in p (is_input j)))) in
       (λ j. recorded (is_back j) (is_after j)) ∙ ap (λ (u : Step). recorded (put_back site x u.outcome r) (note seen u)) is_step ∙ sym (step_back x (recorded r seen) h)
 
 -- What a step leaves of what a run keeps to
@@ -106,7 +100,7 @@ pub length_back : (site : CommandPlace) (x : Option ℕ) (o : Outcome) (r back :
 length_back site x o r back is = ap (λ (c : Course). length c.entries) is ∙ length-variables_back x o.variables r.entries
 
 pub ordered_back : (site : CommandPlace) (x : Option ℕ) (o : Outcome) (r back : Course) → back ≡ put_back site x o r → IsOrdered r → IsOrdered back
-ordered_back site x o r back is h = rw is (λ k d lt. omega (arith, length-variables_back x o.variables r.entries, h k d lt))
+ordered_back site x o r back is h = rw is (subst (λ (n : ℕ). IsArranged n r.order) (sym (length-variables_back x o.variables r.entries)) h)
 
 -- one more step of the style
 all_one : {A : Type 0} (P : A → Type 0) (y : A) → P y → All P (y ∷ [])
@@ -117,17 +111,21 @@ pub all_behind : {A : Type 0} (P : A → Type 0) (xs : List A) (y : A) → All P
 all_behind P xs y h g = All-append P xs (y ∷ []) h (all_one P y g)
 
 -- a step keeps what a run keeps to
-pub consistent_behind : (p : Program) (earlier : Earlier) (site : CommandPlace) (t : Target) (x : Option ℕ) (r back : Course) (s : Step) (before next : KeptSteps) (steps : List Step) (places : List (Option ℕ)) → IsConsistent p earlier r.entries before → s.input ≡ input_at t x (course_world r) → back ≡ put_back site x s.outcome r → next ≡ record before { reuse = next.reuse } → steps ≡ next.steps ++ s ∷ [] → places ≡ next.places ++ x ∷ [] → IsNext p earlier.steps.now s before.reuse next.reuse → IsConsistent p earlier back.entries (record next { steps = steps; places = places })
-consistent_behind p earlier site t x r back s before next steps places h is_input is_back is_rest are_steps are_places is_next =
+pub consistent_behind : (p : Program) (earlier : Earlier) (site : CommandPlace) (t : Target) (x : Option ℕ) (r back : Course) (s : Step) (tag : ℕ) (shared : Bool) (before next : KeptSteps) (steps : List Step) (tags : List ℕ) (places : List (Option ℕ)) (calls : Option (List ℕ)) → IsConsistent p earlier (course_world r) before → s.input ≡ input_at t x (course_world r) → back ≡ put_back site x s.outcome r → next ≡ record before { reuse = next.reuse } → steps ≡ next.steps ++ s ∷ [] → tags ≡ next.tags ++ tag ∷ [] → places ≡ next.places ++ x ∷ [] → tag ≡ step_tag s → (IsTrue shared → IsSharedFrom earlier.steps.now s before.reuse.next next.reuse.next) → ((ss : List Step) → ForSome next.calls (AreCallsFrom earlier.steps.now before.reuse.next ss) → ForSome calls (AreCallsFrom earlier.steps.now next.reuse.next (ss ++ s ∷ []))) → IsNext p earlier.steps.now s before.reuse next.reuse → IsConsistent p earlier (course_world back) (record next { steps = steps; tags = tags; places = places; in_step = shared; calls = calls })
+consistent_behind p earlier site t x r back s tag shared before next steps tags places calls h is_input is_back is_rest are_steps are_tags are_places is_tag in_turn called is_next =
     let cost : Step → ℕ = λ (u : Step). u.cost in
     let so_far = work_under p earlier.steps.now before.steps in
     let more = work_under p earlier.steps.now (s ∷ []) in
     let works = work_append p earlier.steps.now before.steps (s ∷ []) in
     let own = ap (λ (i : Input). i.entry) is_input in
     let kept_steps : steps ≡ before.steps ++ s ∷ [] = are_steps ∙ ap (λ (k : KeptSteps). k.steps ++ s ∷ []) is_rest in
+    let kept_tags : tags ≡ before.tags ++ tag ∷ [] = are_tags ∙ ap (λ (k : KeptSteps). k.tags ++ tag ∷ []) is_rest in
     let kept_places : places ≡ before.places ++ x ∷ [] = are_places ∙ ap (λ (k : KeptSteps). k.places ++ x ∷ []) is_rest in
     let kept_same = ap (λ (k : KeptSteps). k.same) is_rest in
-    rw (kept_places, kept_steps, is_back) (record {
+    let kept_calls = ap (λ (k : KeptSteps). k.calls) is_rest in
+    let given : IsGiven (course_world r) s.input = record { globals = ap (λ (i : Input). i.globals) is_input; held = ap (λ (i : Input). i.held) is_input } in
+    let calls_now = called before.steps (subst (λ (o : Option (List ℕ)). ForSome o (AreCallsFrom earlier.steps.now before.reuse.next before.steps)) (sym kept_calls) h.called) in
+    rw (kept_places, kept_tags, kept_steps, is_back) (record {
       ran = is_next.counted.ran ∙ ap (λ n. n + length more) h.ran ∙ sym (ap length works ∙ length-append so_far more);
       ticks = is_next.counted.ticks ∙ ap (λ n. n + total_cost more) h.ticks ∙ sym (ap total_cost works ∙ sum_by-append cost so_far more);
       fewer = omega (arith, length-append before.steps (s ∷ []), h.fewer, is_next.counted.ran, work_fewer p earlier.steps.now (s ∷ []));
@@ -138,4 +136,9 @@ consistent_behind p earlier site t x r back s before next steps places h is_inpu
       counted = omega (arith, length-append before.steps (s ∷ []), length-append before.places (x ∷ []), h.counted);
       placed = placed_more r.entries before.steps before.places s x s.outcome.variables h.counted h.placed own;
       same = subst (AreSame earlier.entries.now (variables_back x s.outcome.variables r.entries)) (sym kept_same) (same_back earlier.entries.now r.entries before.same x s.outcome.variables h.same);
+      tagged = tagged_more before.steps before.tags s tag h.tagged is_tag;
+      in_turn = in_turn_more before.steps (course_world r) s h.in_turn h.left given;
+      left = left_more before.steps (course_world (put_back site x s.outcome r)) s (record { globals = refl; held = refl });
+      given = λ go. given_next earlier.steps.now (course_world (put_back site x s.outcome r)) s before.reuse.next next.reuse.next earlier.in_turn (in_turn go) (record { globals = refl; held = refl });
+      called = calls_now;
     })

@@ -36,7 +36,7 @@ more_here : {X : Type 0} (x d : X) (xs : List X) (y : X) (k : ℕ) → (slice_ge
 more_here x d xs y k (inl here) = inl here
 more_here x d xs y k (inr last) = inr (ap suc last.0, last.1)
 
-last_or : {X : Type 0} (xs : List X) (x y : X) (k : ℕ) → slice_get (xs ++ x ∷ []) k ≡ Some y → (slice_get xs k ≡ Some y) ⊎ ((k ≡ length xs) × (x ≡ y))
+pub last_or : {X : Type 0} (xs : List X) (x y : X) (k : ℕ) → slice_get (xs ++ x ∷ []) k ≡ Some y → (slice_get xs k ≡ Some y) ⊎ ((k ≡ length xs) × (x ≡ y))
 last_or [] x y zero h = inr (refl, cc)
 last_or [] x y (suc k) h = absurd cc
 last_or (d ∷ ds) x y zero h = inl h

@@ -10,6 +10,7 @@ pub mod AnswerLemmas
 pub mod ReachedLemmas
 pub mod WorkLemmas
 pub mod EarlierLemmas
+pub mod TurnLemmas
 pub mod EditLemmas
 pub mod FindingLemmas
 pub mod IndexLemmas

@@ -15,6 +15,8 @@ use Rattle.std.proofs.lemmas.List.Sums.{sum_by-cons}
 use Rattle.std.proofs.lemmas.Bool.Decides.{nat_tests}
 use Rattle.bt_run.specs.SortCommand.{put_among, sorted}
 use Rattle.bt_run.specs.inner.Cases.{is_upto}
+use Rattle.bt_run.specs.inner.Course.{IsArranged}
+use Rattle.bt_run.proofs.OrderLemmas.{places_below}
 
 -- The order of places: by their keys, and by themselves where those are equal.
 
@@ -144,10 +146,16 @@ put_all key P n (m ∷ ms) here all =
       | false ↦ All-cons P m (put_among key n ms) (all 0 m (omega arith)) (put_all key P n ms here (All-tail P m ms all))
     ]
 
-pub sorted_all : (key : ℕ → List ℕ) (P : ℕ → Type 0) (ns : List ℕ) → All P ns → All P (sorted key ns)
+sorted_all : (key : ℕ → List ℕ) (P : ℕ → Type 0) (ns : List ℕ) → All P ns → All P (sorted key ns)
 unfolding sorted
 sorted_all key P [] all = all
 sorted_all key P (n ∷ ns) all = put_all key P n (sorted key ns) (all 0 n (omega arith)) (sorted_all key P ns (All-tail P n ns all))
+
+pub arranged_sorted : (key : ℕ → List ℕ) (count : ℕ) → IsArranged count (sorted key (range_with_len 0 count))
+arranged_sorted key count = record {
+  below = sorted_all key (λ n. n < count) (range_with_len 0 count) (places_below count);
+  sums = λ f. sorted_sum key f (range_with_len 0 count);
+}
 
 -- a place before a later one whose key isn't smaller
 nat_less : (n m : ℕ) → n < m → is_gt (nat_cmp n m) ≡ false
@@ -191,9 +199,9 @@ sorted_rises key a (suc count) =
 -- Both
 
 -- what has a key and a place, sorted by the key and then by the place, has its places in the order of the definition
-pub sorted_order : {X : Type 0} (k : X → List ℕ) (f : X → ℕ) (key : ℕ → List ℕ) (count : ℕ) (xs ys : List X) → map f xs ≡ range_with_len 0 count → All (λ x. k x ≡ key (f x)) xs → IsPermutation xs ys → IsSorted (order_by k f) ys → map f ys ≡ sorted key (range_with_len 0 count)
+pub sorted_order : {X : Type 0} (k : X → List ℕ) (f : X → ℕ) (key : ℕ → List ℕ) (count : ℕ) (xs ys : List X) → IsArranged count (map f xs) → All (λ x. k x ≡ key (f x)) xs → IsPermutation xs ys → IsSorted (order_by k f) ys → map f ys ≡ sorted key (range_with_len 0 count)
 sorted_order k f key count xs ys places named moved up =
     let named_now = All-permutation (λ x. k x ≡ key (f x)) xs ys moved named in
     let far : Far k f ys = sorted_far (λ x y. is_lt (order_by k f x y)) (ranks_by (order_by_total k f) (λ x. x)) ys up in
     one_list key (map f ys) (sorted key (range_with_len 0 count)) (places_rise k f key ys far named_now) (sorted_rises key 0 count)
-    (λ g. sum_by-IsPermutation g (map f xs) (map f ys) (IsPermutation-map f xs ys moved) ∙ ap (sum_by g) places ∙ sym (sorted_sum key g (range_with_len 0 count)))
+    (λ g. sum_by-IsPermutation g (map f xs) (map f ys) (IsPermutation-map f xs ys moved) ∙ places.sums g ∙ sym (sorted_sum key g (range_with_len 0 count)))

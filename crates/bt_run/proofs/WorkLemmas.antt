@@ -16,7 +16,7 @@ use Rattle.bt_style.proofs.FoundLemmas.{contained, among as found_among}
 use Rattle.bt_actions.specs.declared.entry.Entry.{Entry}
 use Rattle.bt_machine.specs.declared.input.Input.{Input}
 use Rattle.bt_machine.specs.declared.outcome.Outcome.{Outcome}
-use Rattle.bt_machine.specs.Step.{step_in, function_of}
+use Rattle.bt_machine.specs.Step.{step_in, outcome_of, function_of}
 use Rattle.bt_machine.specs.Footprint.{entry_over}
 use Rattle.bt_machine.specs.AgreementLaws.{Agree, IsFootprint, AgreeingInputsSameStep}
 use Rattle.bt_machine.specs.Agreement.{reach_by, agreement}
@@ -59,13 +59,17 @@ same_names p i names others h g =
 step_of : (p : Program) (earlier : List Step) (s : Step) → All (IsStep p) earlier → Contains earlier s → IsStep p s
 step_of p earlier s all among = subst (IsStep p) among.2 (all among.0 s among.1)
 
+-- what it left is what its input gives
+pub own_outcome : (p : Program) (s : Step) → IsStep p s → s.outcome ≡ outcome_of (step_in p s.input)
+own_outcome p s own = ap (λ (t : Step). t.outcome) own.is
+
 pub true_step : (p : Program) (earlier : List Step) (s : Step) → All (IsStep p) earlier → Contains earlier s → IsStep p s
 true_step p earlier s all among = step_of p earlier s all among
 
 -- what is taken over costs what it cost
 pub taken_cost : (p : Program) (names : List Target) (i : Input) (s : Step) (cost : ℕ) → AgreeingInputsSameStep p → IsFootprint p i names → IsStep p s → Agree (is_among names) s.input i → cost ≡ s.cost → cost ≡ (step_in p i).cost
 taken_cost p names i s cost law reach own agree is =
-    is ∙ own.cost ∙ sym ((law names s.input i agree).1 reach).1
+    is ∙ ap (λ (t : Step). t.cost) own.is ∙ sym ((law names s.input i agree).1 reach).1
 
 -- Whether an earlier run has a step
 
@@ -104,7 +108,7 @@ like_same p command names i s o cost reach own like =
     let agree = subst (λ (k : Target → Bool). Agree k s.input i) (same_names p i names all reach (footprint_named p i)) like.agree in
     and_both (s.command == command) (same_key s.key (key_in i)) (agreement (reach_by all) s.input i)
     (same_number s.command command like.of_command)
-    (same_keys s.key (key_in i) (own.key ∙ key_same (is_among names) s.input i like.agree))
+    (same_keys s.key (key_in i) (ap (λ (t : Step). t.key) own.is ∙ key_same (is_among names) s.input i like.agree))
     ((agreed all s.input i).1 agree)
 
 same_like : (p : Program) (command : ℕ) (names : List Target) (i : Input) (s : Step) (o : Outcome) (cost : ℕ) → IsFootprint p i names → agrees_with p (step_now command i o cost) s ≡ true → IsLike command names i s

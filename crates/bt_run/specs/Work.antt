@@ -2,17 +2,19 @@
 use Rattle.std.specs.Prelude.{◌≡◌, ◌==◌, ◌&&◌, not, ℕ, Bool, true, false, List, Option, Some, None, filter, sum_by, bytes_eq}
 use Rattle.std.specs.List.{list_any}
 use Rattle.bt_style.specs.Program.{Program}
-use Rattle.bt_machine.specs.Step.{step_in, outcome_of}
+use Rattle.bt_machine.specs.Step.{Finish, Own, step_in, outcome_of}
 use Rattle.bt_machine.specs.Agreement.{reach_by, agreement}
 use Rattle.bt_run.specs.declared.course.Step.{Step}
-use Rattle.bt_run.specs.Course.{key_in}
+use Rattle.bt_run.specs.Course.{step_kept}
 use Rattle.bt_run.specs.Reached.{names_in}
 
--- what a step left and cost is what its input gives under a style
+-- what a step that has its entry alone left, and its cost
+abbrev pub own_left : Finish → Own
+own_left f = record { outcome = outcome_of f; cost = f.cost }
+
+-- a step is what its command keeps of its input, and of what that gives under a style
 pub record IsStep (p : Program) (s : Step) : Type 0 where
-  pub key : s.key ≡ key_in s.input
-  pub outcome : s.outcome ≡ outcome_of (step_in p s.input)
-  pub cost : s.cost ≡ (step_in p s.input).cost
+  pub is : s ≡ step_kept s.command s.input (own_left (step_in p s.input))
 
 -- Work
 

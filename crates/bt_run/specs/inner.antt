@@ -2,6 +2,9 @@
 pub mod Course
 pub mod Index
 pub mod Earlier
+pub mod Calls
+pub mod Tags
+pub mod Turn
 pub mod Edits
 pub mod Asked
 pub mod Found

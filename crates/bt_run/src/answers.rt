@@ -3,9 +3,9 @@
 ghost use Rattle.std.specs.Prelude.{◌≡◌, ◌≤◌, ◌-◌, length, IfOk, OnOk};
 ghost use Rattle.std.specs.Option.{ForSome};
 ghost use Rattle.bt_style.specs.Program.{program_of};
-ghost use Rattle.bt_run.specs.inner.Earlier.{ArePlaced};
-ghost use Rattle.bt_run.specs.inner.Course.{recorded};
-ghost use Rattle.bt_run.specs.inner.Work.{IsBegun, IsConsistent};
+ghost use Rattle.bt_run.specs.inner.Course.{recorded, IsArranged, IsOrdered};
+ghost use Rattle.bt_run.specs.Course.{course_world};
+ghost use Rattle.bt_run.specs.inner.Work.{AreKept, IsBegun, IsConsistent};
 ghost use Rattle.bt_run.specs.Steps.{StepsAre};
 ghost use Rattle.bt_run.specs.inner.Steps.{IsTaken};
 ghost use Rattle.bt_run.specs.Kept.{named_text, style_text, report_after};
@@ -16,11 +16,12 @@ ghost use Rattle.bt_run.specs.Shown.{meaning_of};
 
 use crate::bibliography::bbl_of;
 use crate::commands::run_style;
-use crate::counts::{count_calls, tell_counts};
+use crate::counts::tell_counts;
 use crate::course::{Course, Step};
 use crate::job::{Job, shared_text};
 use crate::kept::{Kept, earlier_under};
 use crate::kept_steps::KeptSteps;
+use crate::known_calls::calls_of_all;
 use crate::readings::Readings;
 use crate::reuse::Reuse;
 use crate::start::{idle, with_fault};
@@ -47,6 +48,20 @@ pub struct Answers {
     pub status: u8,
     /// The names of the files that were looked for and not found, in order, each once.
     pub wanted: Sequence<Bytes>,
+    /// The entries of a run that keeps no steps. Nobody needs them, but to free them takes 3 % of a run, which a program
+    /// that ends here saves by `forget`.
+    spent: Sequence<Entry>,
+}
+
+impl Answers {
+    /// The same answers, with the entries of their run.
+    pub(crate) fn with_spent(self, entries: Sequence<Entry>) -> Answers
+        ensures { meaning_of result ≡ meaning_of self }
+    {
+        let mut answers = self;
+        answers.spent = entries;
+        answers
+    }
 }
 
 /// What a run took.
@@ -90,11 +105,21 @@ fn carry_out_style(
     requires { IsBegun steps.old }
     ensures run { IfOk result (λ course. recorded course steps.new.steps ≡ style_run (job_of job.entry) log) }
     ensures consistent { IfOk result (λ course.
-        IsConsistent (program_of job.entry.style.now) job.entry.earlier course.entries steps.new) }
+        IsConsistent (program_of job.entry.style.now) job.entry.earlier (course_world course) steps.new) }
+    ensures ordered { IfOk result (λ course. IsOrdered course) }
+    ensures kept { IfOk result (λ course. AreKept course.entries steps.new) }
 {
+    steps.calls = job.earlier.calls.copied();
     let mut course = run_style(alloc, job, log, steps)?;
-    let calls = count_calls(steps.steps.as_slice())?;
+    let earlier = job.earlier.steps;
+    let calls = calls_of_all(
+        earlier,
+        steps.reuse.next,
+        steps.steps.as_slice(),
+        steps.calls,
+    )?;
     tell_counts(alloc, &mut course.log, &calls)?;
+    steps.all_calls = Some(calls);
     Ok(course)
 }
 
@@ -120,7 +145,7 @@ impl StyleRun {
 }
 
 /// Runs what the `.aux` files ask for.
-#[tactic(auto, using(crate::proofs::AnswerLemmas::no_style, crate::proofs::AnswerLemmas::lent_style, crate::proofs::AnswerLemmas::style_ran, crate::proofs::AnswerLemmas::style_refused, crate::proofs::AnswerLemmas::nothing_taken, crate::proofs::AnswerLemmas::begun_placed, crate::proofs::AnswerLemmas::run_taken, crate::proofs::AnswerLemmas::earlier_steps))]
+#[tactic(auto, using(crate::proofs::AnswerLemmas::no_style, crate::proofs::AnswerLemmas::lent_style, crate::proofs::AnswerLemmas::style_ran, crate::proofs::AnswerLemmas::style_refused, crate::proofs::AnswerLemmas::nothing_taken, crate::proofs::AnswerLemmas::begun_kept, crate::proofs::CommandLemmas::begun_ordered, crate::proofs::AnswerLemmas::run_taken, crate::proofs::AnswerLemmas::earlier_steps))]
 fn run_with(
     alloc: Global,
     files: &[File],
@@ -136,7 +161,8 @@ fn run_with(
     ensures wanted { IfOk result (λ r. r.wanted ≡ citations.wanted) }
     ensures text { IfOk result (λ r. r.text ≡ named_text files.now citations.style) }
     ensures taken { IfOk result (λ r. IsTaken kept.now.text kept.now.steps r.text steps.new.steps steps.new.reuse) }
-    ensures placed { IfOk result (λ r. ArePlaced r.course.entries steps.new.steps steps.new.places) }
+    ensures ordered { IfOk result (λ r. IsOrdered r.course) }
+    ensures kept { IfOk result (λ r. AreKept r.course.entries steps.new) }
 {
     let Citations {
         keys,
@@ -199,6 +225,7 @@ pub fn show(
         status: status(log.as_slice()),
         messages: log,
         wanted,
+        spent: Sequence::new(alloc),
     })
 }
 
@@ -218,6 +245,7 @@ struct Ran {
     report: Report,
     text: Option<Shared<Bytes>>,
     entries: Sequence<Entry>,
+    order: Sequence<usize>,
 }
 
 /// Runs what the files ask for from this root. All that fails does so here, where the steps are lent: to drop them would
@@ -238,7 +266,8 @@ fn run_from(
     ensures text { IfOk result (λ ran. ran.text ≡ style_text files.now root.now) }
     ensures steps { OnOk result (steps.new.steps ≡ trace files.now root.now min) }
     ensures true_steps { IfOk result (λ ran. StepsAre ran.text steps.new.steps) }
-    ensures placed { IfOk result (λ ran. ArePlaced ran.entries steps.new.steps steps.new.places) }
+    ensures arranged { IfOk result (λ ran. IsArranged (length ran.entries) ran.order) }
+    ensures kept { IfOk result (λ ran. AreKept ran.entries steps.new) }
 {
     let citations = read_citations(alloc, files, root, &mut steps.readings.aux_texts)?;
     let ran = run_with(alloc, files, citations, min, kept, steps)?;
@@ -247,8 +276,13 @@ fn run_from(
         wanted,
         text,
     } = ran;
-    let Course { entries, log, .. } = course;
-    let bbl = bbl_of(alloc, steps.steps.as_slice())?;
+    let Course {
+        entries,
+        order,
+        log,
+        ..
+    } = course;
+    let bbl = bbl_of(alloc, steps.steps.as_slice(), kept.written)?;
     let answers = show(alloc, bbl, log, wanted)?;
     let report = Report::of(answers.status, steps.steps.as_slice(), &steps.reuse);
     steps.readings.keep_present(alloc, files)?;
@@ -257,13 +291,15 @@ fn run_from(
         report,
         text,
         entries,
+        order,
     })
 }
 
 impl Ran {
     fn with_steps(self, steps: KeptSteps) -> Run
         requires true_steps { StepsAre self.text steps.steps }
-        requires placed { ArePlaced self.entries steps.steps steps.places }
+        requires arranged { IsArranged (length self.entries) self.order }
+        requires kept { AreKept self.entries steps }
         ensures answers { result.answers ≡ self.answers }
         ensures report { result.report ≡ self.report }
         ensures text { result.kept.text ≡ self.text }
@@ -274,10 +310,13 @@ impl Ran {
             report,
             text,
             entries,
+            order,
         } = self;
         let KeptSteps {
             steps,
             places,
+            tags,
+            all_calls: calls,
             readings,
             ..
         } = steps;
@@ -286,6 +325,10 @@ impl Ran {
             steps,
             places,
             entries,
+            order,
+            tags,
+            calls,
+            written: answers.bbl.len(),
         };
         Run {
             answers,

@@ -7,10 +7,10 @@ ghost use Rattle.bt_run.specs.inner.Asked.{question_for, question_of, with_datab
 
 use crate::declarations::declared_before;
 use crate::job::{Job, shared_text};
-use crate::same_input::equal_bytes;
+use crate::reused_step::is_same_place;
 use bt_job::File;
-use bt_resolve::{Cites, Declared, Macro, Question};
-use bt_text::{Bytes, Sequence, Shared};
+use bt_resolve::{Cites, Declared, Question};
+use bt_text::{Bytes, Sequence, Shared, are_same};
 use std::alloc::{AllocError, Global};
 
 /// What READ asks of the databases with these texts.
@@ -71,61 +71,16 @@ impl Asking {
     }
 }
 
-fn are_same(names: &[Bytes], others: &[Bytes]) -> bool
-    ensures { IsTrue result → names.now ≡ others.now }
-{
-    if names.len() != others.len() {
-        return false;
-    }
-    'names: for place in 0..names.len() {
-        if names[place].as_slice() != others[place].as_slice() {
-            return false;
-        }
-    }
-    true
-}
-
-fn is_same_macro(known: &Macro, other: &Macro) -> bool
-    ensures { IsTrue result → known.now ≡ other.now }
-{
-    equal_bytes(known.name.as_slice(), other.name.as_slice())
-        && equal_bytes(known.value.as_slice(), other.value.as_slice())
-}
-
-fn are_same_macros(macros: &[Macro], others: &[Macro]) -> bool
-    ensures { IsTrue result → macros.now ≡ others.now }
-{
-    if macros.len() != others.len() {
-        return false;
-    }
-    'macros: for place in 0..macros.len() {
-        if !is_same_macro(&macros[place], &others[place]) {
-            return false;
-        }
-    }
-    true
-}
-
 fn is_same_declared(declared: &Declared, other: &Declared) -> bool
     ensures { IsTrue result → declared.now ≡ other.now }
 {
     are_same(declared.fields.as_slice(), other.fields.as_slice())
         && are_same(declared.types.as_slice(), other.types.as_slice())
-        && are_same_macros(declared.macros.as_slice(), other.macros.as_slice())
-}
-
-fn is_same_star(star: Option<usize>, other: Option<usize>) -> bool
-    ensures { IsTrue result → star ≡ other }
-{
-    match (star, other) {
-        (None, None) => true,
-        (Some(before), Some(others)) => before == others,
-        _ => false,
-    }
+        && are_same(declared.macros.as_slice(), other.macros.as_slice())
 }
 
 fn is_same_cites(cites: &Cites, other: &Cites) -> bool
     ensures { IsTrue result → cites.now ≡ other.now }
 {
-    is_same_star(cites.star, other.star) && are_same(cites.keys.as_slice(), other.keys.as_slice())
+    is_same_place(cites.star, other.star) && are_same(cites.keys.as_slice(), other.keys.as_slice())
 }

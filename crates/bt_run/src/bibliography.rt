@@ -25,11 +25,12 @@ pub fn write_lines(text: &mut Bytes, lines: &[Shared<Bytes>]) -> Result<(), Allo
     Ok(())
 }
 
-/// What steps have written.
-pub fn bbl_of(alloc: Global, steps: &[Shared<Step>]) -> Result<Bytes, AllocError>
+/// What steps have written. The previous run wrote `before` bytes, so this makes room for as many at once.
+pub fn bbl_of(alloc: Global, steps: &[Shared<Step>], before: usize) -> Result<Bytes, AllocError>
     ensures { IfOk result (λ bbl. bbl ≡ bbl_of steps.now) }
 {
     let mut bbl = Bytes::new(alloc);
+    bbl.reserve(before)?;
     'steps: for step in steps {
         write_lines(&mut bbl, step.outcome.lines.as_slice())?;
     }

@@ -1,14 +1,16 @@
 //! The commands of a style in order.
 
-ghost use Rattle.std.specs.Prelude.{◌≡◌, [], OnOk, IfOk};
+ghost use Rattle.std.specs.Prelude.{◌≡◌, OnOk, IfOk};
 ghost use Rattle.bt_style.specs.Program.{program_of};
 ghost use Rattle.bt_run.specs.inner.Course.{recorded, IsOrdered};
 ghost use Rattle.bt_run.specs.Commands.{commands_from};
+ghost use Rattle.bt_run.specs.Course.{course_world};
 ghost use Rattle.bt_run.specs.inner.Cases.{site_of, sorted_run, command as command_done};
 ghost use Rattle.bt_run.specs.Meaning.{first_globals, run_begun};
-ghost use Rattle.bt_run.specs.inner.JobView.{job_of};
+ghost use Rattle.bt_run.specs.inner.JobView.{job_of, commands_of};
 
 use crate::course::{CommandPlace, Course};
+use crate::earlier::Earlier;
 use crate::job::Job;
 use crate::recorder::Recorder;
 use crate::sort_command::sorted_places;
@@ -19,10 +21,34 @@ use bt_style::{Action, Command};
 use bt_text::{Bytes, Sequence, Shared};
 use std::alloc::{AllocError, Global};
 
-fn sort(alloc: Global, course: &mut Course) -> Result<(), AllocError>
+/// The places of the entries, sorted. If the previous run had as many entries, this starts from its order, which is
+/// mostly the new one, or nearly so.
+fn sorted_again(
+    alloc: Global,
+    earlier: Earlier<'_>,
+    course: &Course,
+) -> Result<Sequence<usize>, AllocError>
+    requires { IsOrdered course.now }
+    ensures { IfOk result (λ order. order ≡ (sorted_run course.now).order) }
+{
+    let entries = course.entries.as_slice();
+    match earlier.order_for(entries) {
+        Some(before) => {
+            let order = sorted_places(alloc, entries, before)?;
+            Ok(order)
+        }
+        None => {
+            let order = sorted_places(alloc, entries, course.order.as_slice())?;
+            Ok(order)
+        }
+    }
+}
+
+fn sort(alloc: Global, job: Job<'_>, course: &mut Course) -> Result<(), AllocError>
+    requires { IsOrdered course.old }
     ensures { OnOk result (course.new ≡ sorted_run course.old) }
 {
-    course.order = sorted_places(alloc, course.entries.as_slice())?;
+    course.order = sorted_again(alloc, job.earlier, course)?;
     Ok(())
 }
 
@@ -50,11 +76,11 @@ fn carry_out<R: Recorder>(
     recorder: &mut R,
 ) -> Result<(), AllocError>
     requires ordered { IsOrdered course.old }
-    requires ready { R.ready recorder.old job course.old.entries }
+    requires ready { R.ready recorder.old job (course_world course.old) }
     ensures run { OnOk result (recorded course.new (R.seen recorder.new)
         ≡ command_done R.note (job_of job.entry) number command (recorded course.old (R.seen recorder.old))) }
     ensures ordered { OnOk result (IsOrdered course.new) }
-    ensures ready { OnOk result (R.ready recorder.new job.entry course.new.entries) }
+    ensures ready { OnOk result (R.ready recorder.new job.entry (course_world course.new)) }
 {
     if course.stopped {
         return Ok(());
@@ -82,7 +108,7 @@ fn carry_out<R: Recorder>(
             Ok(())
         }
         Action::Sort => {
-            sort(alloc, course)?;
+            sort(alloc, job, course)?;
             Ok(())
         }
     }
@@ -97,11 +123,11 @@ pub fn run_commands<R: Recorder>(
     recorder: &mut R,
 ) -> Result<(), AllocError>
     requires ordered { IsOrdered course.old }
-    requires ready { R.ready recorder.old job course.old.entries }
+    requires ready { R.ready recorder.old job (course_world course.old) }
     ensures run { OnOk result (recorded course.new (R.seen recorder.new) ≡ commands_from R.note
         (job_of job.entry) 0 job.entry.style.now.commands (recorded course.old (R.seen recorder.old))) }
     ensures ordered { OnOk result (IsOrdered course.new) }
-    ensures ready { OnOk result (R.ready recorder.new job.entry course.new.entries) }
+    ensures ready { OnOk result (R.ready recorder.new job.entry (course_world course.new)) }
 {
     'commands: for (number, command) in job.style.commands.as_slice().iter().enumerate() {
         carry_out(alloc, job, number, *command, course, recorder)?;
@@ -116,11 +142,12 @@ pub fn run_style<R: Recorder>(
     log: Sequence<Message>,
     recorder: &mut R,
 ) -> Result<Course, AllocError>
-    requires { R.ready recorder.old job [] }
-    ensures run { IfOk result (λ course. recorded course (R.seen recorder.new) ≡ commands_from R.note
-        (job_of job.entry) 0 job.entry.style.now.commands
-        (recorded (run_begun (first_globals (program_of job.entry.style.now)) log).course (R.seen recorder.old))) }
-    ensures ready { IfOk result (λ course. R.ready recorder.new job.entry course.entries) }
+    requires { R.ready recorder.old job
+        (course_world (run_begun (first_globals (program_of job.style.now)) log).course) }
+    ensures run { IfOk result (λ course. recorded course (R.seen recorder.new)
+        ≡ commands_of R.note job.entry log (R.seen recorder.old)) }
+    ensures ordered { IfOk result (λ course. IsOrdered course) }
+    ensures ready { IfOk result (λ course. R.ready recorder.new job.entry (course_world course)) }
 {
     let globals = first_globals(alloc, job.style)?;
     let mut course = begin(alloc, globals, log)?;

@@ -4,9 +4,10 @@
 
 ghost use Rattle.std.specs.Prelude.{◌≡◌, ℕ, ◌+◌, ◌++◌, ◌<◌, map, sum_by, slice_index_or, codes, decimal, IfOk, OnOk};
 ghost use Rattle.bt_style.specs.Builtins.{place_of, name_of};
-ghost use Rattle.bt_run.specs.Counts.{calls_at, all_calls, counts_told, total_line, function_line};
+ghost use Rattle.bt_run.specs.Counts.{all_calls, counts_told, total_line, function_line};
 ghost use Rattle.bt_run.specs.inner.Cases.{count_message};
 ghost use Rattle.bt_run.specs.inner.Steps.{calls_in};
+ghost use Rattle.bt_run.specs.inner.Calls.{AreCalls};
 
 use crate::course::Step;
 use bt_log::{Message, Rank};
@@ -31,8 +32,7 @@ pub fn add_calls(sums: &mut Calls, calls: &[u32; BUILTIN_COUNT]) -> Result<(), A
 }
 
 pub fn count_calls(steps: &[Shared<Step>]) -> Result<Calls, AllocError>
-    ensures { IfOk result (λ calls. (place : ℕ) → place < 37 →
-        slice_index_or calls place 0 ≡ calls_at steps.now place) }
+    ensures { IfOk result (AreCalls steps.now) }
 {
     let mut calls = [0; BUILTIN_COUNT];
     'steps: for step in steps {

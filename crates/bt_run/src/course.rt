@@ -1,9 +1,14 @@
 //! How far a run has come: the world of all entries in the program's form, and the log; and what a step is.
 
+ghost use Rattle.std.specs.Prelude.{◌≡◌, IfOk};
+ghost use Rattle.bt_run.specs.inner.Work.{step_now};
+
+use crate::step::key_of;
 use bt_actions::{Entry, Variables};
 use bt_log::Message;
 use bt_machine::{Input, Outcome};
 use bt_text::{Bytes, Held, Sequence, Shared};
+use std::alloc::AllocError;
 
 /// A step of a run: which command ran it, for which entry, what it was given and left, and its cost in ticks.
 #[derive(Drop)]
@@ -16,6 +21,27 @@ pub struct Step {
     pub outcome: Outcome,
     /// The ticks that it took.
     pub cost: u128,
+}
+
+impl Step {
+    /// The step of a command that was given this input, left this outcome and took so many ticks.
+    pub fn of(
+        command: usize,
+        input: Input,
+        outcome: Outcome,
+        cost: u128,
+    ) -> Result<Step, AllocError>
+        ensures { IfOk result (λ step. step ≡ step_now command input outcome cost) }
+    {
+        let key = key_of(&input)?;
+        Ok(Step {
+            command,
+            key,
+            input,
+            outcome,
+            cost,
+        })
+    }
 }
 
 /// How far a run has come.

@@ -50,13 +50,8 @@ impl Database {
         ensures new { IfOk result (λ made. made.new.text ≡ text) }
     {
         let old = self.text.share()?;
-        let Splice {
-            begin,
-            end,
-            inserted,
-        } = splice;
         let (before, after) = (self.text.as_slice(), text.as_slice());
-        let edit = self.items.edit(alloc, before, after, begin, end, inserted)?;
+        let edit = self.items.edit(alloc, before, after, splice)?;
         let items = Shared::new(alloc, self.items.edited(alloc, after, &edit)?)?;
         let new = Database { text, items };
         let made = DatabaseEdit { old, new, edit };

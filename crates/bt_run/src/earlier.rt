@@ -1,8 +1,14 @@
 //! What a run goes over of an earlier one.
 
-ghost use Rattle.std.specs.Prelude.{◌≡◌, None, [], map, IfOk};
+ghost use Rattle.std.specs.Prelude.{◌≡◌, None, [], length, map, option_copied, IfOk, IfSome};
+ghost use Rattle.bt_run.specs.inner.Course.{IsArranged};
 ghost use Rattle.bt_run.specs.inner.Earlier.{ArePlaced, AreSame};
+ghost use Rattle.std.specs.Option.{ForSome};
+ghost use Rattle.bt_run.specs.inner.Tags.{step_tag};
+ghost use Rattle.bt_run.specs.inner.Turn.{AreInTurn};
+ghost use Rattle.bt_run.specs.inner.Calls.{AreCalls};
 
+use crate::counts::Calls;
 use crate::course::Step;
 use crate::same_input::equal_fixed;
 use bt_actions::Entry;
@@ -15,11 +21,22 @@ pub struct Earlier<'a> {
     pub steps: &'a [Shared<Step>],
     pub places: &'a [Option<usize>],
     pub entries: &'a [Entry],
+    /// The places of these entries, in their order at the end of the run.
+    pub order: &'a [usize],
+    /// The tag of each step.
+    pub tags: &'a [u64],
+    /// How often the steps called each built-in function, if known.
+    pub calls: Option<&'a Calls>,
     ghost placed: { ArePlaced entries.now steps.now places.now },
+    ghost arranged: { IsArranged (length entries.now) order.now },
+    ghost tagged: { tags.now ≡ map step_tag steps.now },
+    ghost called: { ForSome (option_copied calls) (AreCalls steps.now) },
+    ghost in_turn: { AreInTurn steps.now },
 }
 
 impl<'a> Earlier<'a> {
     /// No run before this one.
+    #[tactic(auto, using(crate::proofs::OrderLemmas::arranged_none, crate::proofs::TurnLemmas::none_in_turn))]
     pub fn none() -> Earlier<'a>
         ensures { result.steps.now ≡ [] }
     {
@@ -27,7 +44,20 @@ impl<'a> Earlier<'a> {
             steps: &[],
             places: &[],
             entries: &[],
+            order: &[],
+            tags: &[],
+            calls: None,
         }
+    }
+
+    /// The order at the end of the run, if it had as many entries as these.
+    pub fn order_for(self, entries: &[Entry]) -> Option<&'a [usize]>
+        ensures { IfSome result (λ order. IsArranged (length entries.now) order.now) }
+    {
+        if self.entries.len() == entries.len() {
+            return Some(self.order);
+        }
+        None
     }
 }
 

@@ -1,10 +1,16 @@
 //! What is kept of an earlier run.
 
-ghost use Rattle.std.specs.Prelude.{◌≡◌, None, []};
+ghost use Rattle.std.specs.Prelude.{◌≡◌, None, [], length, map};
 ghost use Rattle.bt_run.specs.Steps.{StepsAre};
+ghost use Rattle.bt_run.specs.inner.Course.{IsArranged};
 ghost use Rattle.bt_run.specs.inner.Earlier.{ArePlaced};
 ghost use Rattle.bt_run.specs.inner.Steps.{steps_under};
+ghost use Rattle.std.specs.Option.{ForSome};
+ghost use Rattle.bt_run.specs.inner.Tags.{step_tag};
+ghost use Rattle.bt_run.specs.inner.Turn.{AreInTurn};
+ghost use Rattle.bt_run.specs.inner.Calls.{AreCalls};
 
+use crate::counts::Calls;
 use crate::course::Step;
 use crate::earlier::Earlier;
 use bt_actions::Entry;
@@ -19,12 +25,25 @@ pub struct Kept {
     pub steps: Sequence<Shared<Step>>,
     pub places: Sequence<Option<usize>>,
     pub entries: Sequence<Entry>,
+    /// The places of these entries, in their order at the end of the run.
+    pub order: Sequence<usize>,
+    /// The tag of each step.
+    pub tags: Sequence<u64>,
+    /// How often the steps called each built-in function, if known.
+    pub calls: Option<Calls>,
+    /// The length of its bibliography, for which the next run makes room.
+    pub written: usize,
     ghost true_steps: { StepsAre text steps },
     ghost placed: { ArePlaced entries steps places },
+    ghost arranged: { IsArranged (length entries) order },
+    ghost tagged: { tags ≡ map step_tag steps },
+    ghost called: { ForSome calls (AreCalls steps) },
+    ghost in_turn: { AreInTurn steps },
 }
 
 impl Kept {
     /// Nothing. It takes no memory.
+    #[tactic(auto, using(crate::proofs::OrderLemmas::arranged_none, crate::proofs::TurnLemmas::none_in_turn))]
     pub fn nothing(alloc: Global) -> Kept
         ensures text { result.text ≡ None }
         ensures steps { result.steps ≡ [] }
@@ -34,6 +53,10 @@ impl Kept {
             steps: Sequence::new(alloc),
             places: Sequence::new(alloc),
             entries: Sequence::new(alloc),
+            order: Sequence::new(alloc),
+            tags: Sequence::new(alloc),
+            calls: None,
+            written: 0,
         }
     }
 }
@@ -49,6 +72,9 @@ pub fn earlier_under<'a>(kept: &'a Kept, text: &[u8]) -> Earlier<'a>
             steps: kept.steps.as_slice(),
             places: kept.places.as_slice(),
             entries: kept.entries.as_slice(),
+            order: kept.order.as_slice(),
+            tags: kept.tags.as_slice(),
+            calls: kept.calls.as_ref(),
         };
     }
     Earlier::none()

@@ -15,10 +15,9 @@ ghost use Rattle.bt_run.specs.inner.Asked.{question_of, with_databases};
 
 use crate::asking::Asking;
 use crate::database::{Database, DatabaseEdit, all_items};
-use crate::same_input::equal_bytes;
 use bt_bib::Items;
 use bt_resolve::{Question, Resolution, ResolvedEdit};
-use bt_text::{Bytes, Element, Sequence, Shared};
+use bt_text::{Bytes, Sequence, Shared, are_same, equal_bytes};
 use std::alloc::{AllocError, Global};
 
 /// What READ found, with the texts of its databases.
@@ -29,6 +28,7 @@ pub struct KeptResolution {
     ghost read: { resolution.databases ≡ map pieces_of texts },
 }
 
+/// How many texts are the same in two lists, from the first on.
 fn same_first(texts: &[Shared<Bytes>], others: &[Shared<Bytes>]) -> usize
     ensures { take result texts.now ≡ take result others.now }
 {
@@ -66,7 +66,7 @@ fn is_edited_at(
     if !equal_bytes(new.as_slice(), edit.new.text.as_slice()) {
         return false;
     }
-    Element::are_same(&kept[number + 1..], &texts[number + 1..])
+    are_same(&kept[number + 1..], &texts[number + 1..])
 }
 
 impl KeptResolution {
@@ -140,10 +140,10 @@ impl KeptResolution {
             ≡ with_databases (map pieces_of texts.now) self.old.resolution) }
     {
         let kept = self.texts.as_slice();
-        if Element::are_same(kept, texts) {
+        let number = same_first(kept, texts);
+        if number >= kept.len() && number >= texts.len() {
             return Ok(true);
         }
-        let number = same_first(kept, texts);
         let Some(edit) = edit else {
             return Ok(false);
         };

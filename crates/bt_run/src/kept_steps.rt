@@ -5,23 +5,43 @@ ghost use Rattle.bt_style.specs.Program.{program_of};
 ghost use Rattle.bt_machine.specs.OwnEntry.{IsPlace};
 ghost use Rattle.bt_run.specs.Course.{course_world, input_at};
 ghost use Rattle.bt_run.specs.inner.Earlier.{AreSame, IsMarked};
+ghost use Rattle.bt_run.specs.inner.Tags.{step_tag};
+ghost use Rattle.bt_run.specs.inner.Turn.{IsGivenAt, IsSharedFrom};
 ghost use Rattle.bt_run.specs.inner.Work.{IsBegun, IsConsistent, IsNext};
 
+use crate::counts::Calls;
 use crate::course::{Course, Step};
 use crate::earlier::{no_places, same_entries};
 use crate::job::Job;
+use crate::known_calls::{Turn, calls_with};
 use crate::read_command::read;
 use crate::readings::Readings;
 use crate::recorder::Recorder;
 use crate::reuse::Reuse;
 use crate::reused_step::{Done, take_over_or_carry_out};
 use crate::same_input::is_input;
-use crate::step::{cut_out, key_of, put_back};
+use crate::step::{cut_out, put_back};
 use crate::step_command::StepCommand;
+use crate::tag::tag_of;
 use bt_machine::{Input, step_depends_on_its_input};
 use bt_style::Target;
 use bt_text::{Sequence, Shared};
 use std::alloc::{AllocError, Global};
+
+/// A step of the previous run whose input is that of the next step.
+#[derive(Clone, Copy)]
+struct Again<'a> {
+    step: &'a Shared<Step>,
+    tag: u64,
+}
+
+/// The next step of a run.
+struct Next {
+    step: Shared<Step>,
+    tag: u64,
+    /// Whether it is the previous run's step at the cursor.
+    shared: bool,
+}
 
 /// The steps of a run so far, and what the run keeps to reuse steps of an earlier one.
 #[derive(Drop)]
@@ -30,8 +50,18 @@ pub struct KeptSteps {
     pub steps: Sequence<Shared<Step>>,
     /// The place in the list of each step's entry, if it has one.
     pub places: Sequence<Option<usize>>,
+    /// The tag of each step.
+    pub tags: Sequence<u64>,
     /// Whether the earlier run's entry at a place is the one there, but for its variables.
     pub same: Sequence<bool>,
+    /// Whether the previous run's step at the cursor is known to have been given the globals and the held line that the
+    /// run has now, so that nobody needs to compare them.
+    pub in_step: bool,
+    /// How often these steps and the previous run's steps from the cursor on called each built-in function, if known: a
+    /// step that moves the cursor elsewhere than to the next step forgets it.
+    pub calls: Option<Calls>,
+    /// How often all steps called each, which is known at the end of the run.
+    pub all_calls: Option<Calls>,
     pub reuse: Reuse,
     /// What was read, by earlier runs and this one.
     pub readings: Readings,
@@ -73,7 +103,11 @@ impl KeptSteps {
         KeptSteps {
             steps: Sequence::new(alloc),
             places: Sequence::new(alloc),
+            tags: Sequence::new(alloc),
             same: Sequence::new(alloc),
+            in_step: false,
+            calls: None,
+            all_calls: None,
             reuse: Reuse::begun(alloc),
             readings,
         }
@@ -87,24 +121,27 @@ impl KeptSteps {
         target: Target,
         place: Option<usize>,
         course: &Course,
-    ) -> Option<&'a Shared<Step>>
+    ) -> Option<Again<'a>>
         requires placed { IsPlace place (course_world course.now) }
         requires same { AreSame command.job.earlier.entries.now course.now.entries self.now.same }
-        ensures within { IsSome result → self.now.reuse.next < length command.entry.job.earlier.steps.now }
-        ensures among { IfSome result (λ s. Contains command.entry.job.earlier.steps.now s.now) }
-        ensures command { IfSome result (λ s. s.now.command ≡ command.entry.site.now.command) }
-        ensures input { IfSome result (λ s. s.now.input ≡ input_at target place (course_world course.now)) }
+        requires given { IsTrue self.now.in_step →
+            IsGivenAt command.job.earlier.steps.now self.now.reuse.next (course_world course.now) }
+        ensures at { IfSome result (λ again.
+            slice_get command.entry.job.earlier.steps.now self.now.reuse.next ≡ Some again.step.now) }
+        ensures tag { IfSome result (λ again.
+            slice_get command.entry.job.earlier.tags.now self.now.reuse.next ≡ Some again.tag) }
+        ensures command { IfSome result (λ again. again.step.now.command ≡ command.entry.site.now.command) }
+        ensures input { IfSome result (λ again. again.step.now.input ≡ input_at target place (course_world course.now)) }
     {
         let earlier = command.job.earlier;
         let next = self.reuse.next;
-        if next < earlier.steps.len() {
-            let step = &earlier.steps[next];
-            let same = is_same_entry(earlier.places, next, place, self.same.as_slice());
-            if step.command == command.site.command
-                && is_input(&step.input, course, target, place, same)
-            {
-                return Some(step);
-            }
+        let step = earlier.steps.get(next)?;
+        let tag = *earlier.tags.get(next)?;
+        let same = is_same_entry(earlier.places, next, place, self.same.as_slice());
+        if step.command == command.site.command
+            && is_input(&step.input, course, target, place, same, self.in_step)
+        {
+            return Some(Again { step, tag });
         }
         None
     }
@@ -115,7 +152,7 @@ impl KeptSteps {
         input: Input,
         course: &Course,
     ) -> Result<Shared<Step>, AllocError>
-        requires { IsConsistent (program_of command.job.style.now) command.job.earlier course.now.entries self.old }
+        requires { IsConsistent (program_of command.job.style.now) command.job.earlier (course_world course.now) self.old }
         ensures command { IfOk result (λ s. s.command ≡ command.entry.site.now.command) }
         ensures input { IfOk result (λ s. s.input ≡ input) }
         ensures next { IfOk result (λ s. IsNext (program_of command.entry.job.style.now)
@@ -126,25 +163,16 @@ impl KeptSteps {
         // Read for the proof alone: its length fits 64 bits, so that the count of the steps that were carried out can't
         // overflow.
         let _steps = self.steps.len();
-        let key = key_of(&input)?;
         let Done { outcome, cost } = take_over_or_carry_out(
             alloc,
             job.style,
             site.command,
             &input,
-            job.earlier.steps,
+            job.earlier,
             &mut self.reuse,
         )?;
-        let step = Shared::new(
-            alloc,
-            Step {
-                command: site.command,
-                key,
-                input,
-                outcome,
-                cost,
-            },
-        )?;
+        let made = Step::of(site.command, input, outcome, cost)?;
+        let step = Shared::new(alloc, made)?;
         Ok(step)
     }
 
@@ -155,25 +183,37 @@ impl KeptSteps {
         target: Target,
         place: Option<usize>,
         course: &Course,
-    ) -> Result<Shared<Step>, AllocError>
+    ) -> Result<Next, AllocError>
         requires placed { IsPlace place (course_world course.now) }
-        requires consistent { IsConsistent (program_of command.job.style.now) command.job.earlier course.now.entries self.old }
-        ensures command { IfOk result (λ s. s.command ≡ command.entry.site.now.command) }
-        ensures input { IfOk result (λ s. s.input ≡ input_at target place (course_world course.now)) }
-        ensures next { IfOk result (λ s. IsNext (program_of command.entry.job.style.now)
-            command.entry.job.earlier.steps.now s self.old.reuse self.new.reuse) }
+        requires consistent { IsConsistent (program_of command.job.style.now) command.job.earlier (course_world course.now) self.old }
+        ensures command { IfOk result (λ n. n.step.command ≡ command.entry.site.now.command) }
+        ensures input { IfOk result (λ n. n.step.input ≡ input_at target place (course_world course.now)) }
+        ensures next { IfOk result (λ n. IsNext (program_of command.entry.job.style.now)
+            command.entry.job.earlier.steps.now n.step self.old.reuse self.new.reuse) }
+        ensures tag { IfOk result (λ n. n.tag ≡ step_tag n.step) }
+        ensures shared { IfOk result (λ n. IsTrue n.shared →
+            IsSharedFrom command.entry.job.earlier.steps.now n.step self.old.reuse.next self.new.reuse.next) }
         ensures rest { OnOk result (self.new ≡ record self.old { reuse = self.new.reuse }) }
     {
         match self.given_again(command, target, place, course) {
-            Some(step) => {
+            Some(again) => {
                 self.reuse.next += 1;
-                let same = step.share()?;
-                Ok(same)
+                let step = again.step.share()?;
+                Ok(Next {
+                    step,
+                    tag: again.tag,
+                    shared: true,
+                })
             }
             None => {
                 let input = cut_out(command.alloc, course, target, place)?;
-                let made = self.make_step(command, input, course)?;
-                Ok(made)
+                let tag = tag_of(command.site.command, &input);
+                let step = self.make_step(command, input, course)?;
+                Ok(Next {
+                    step,
+                    tag,
+                    shared: false,
+                })
             }
         }
     }
@@ -191,7 +231,7 @@ impl Recorder for KeptSteps {
 
     ghost note = { λ steps step. steps ++ step ∷ [] };
 
-    ghost ready = { λ s job entries. IsConsistent (program_of job.style.now) job.earlier entries s };
+    ghost ready = { λ s job w. IsConsistent (program_of job.style.now) job.earlier w s };
 
     /// Also notes which entries the earlier run has at the same place. (Steps before READ have no entry.)
     fn read(
@@ -219,9 +259,16 @@ impl Recorder for KeptSteps {
     ) -> Result<(), AllocError> {
         // A law of the machine, for the proof alone: the call does nothing.
         step_depends_on_its_input();
-        let step = self.next_step(command, target, place, course)?;
+        let from = self.reuse.next;
+        let Next { step, tag, shared } = self.next_step(command, target, place, course)?;
         put_back(command, course, place, &step.outcome)?;
+        let next = self.reuse.next;
+        let turn = Turn { from, next, shared };
+        let calls = calls_with(self.calls, command.job.earlier.steps, turn, &step)?;
+        self.calls = calls;
+        self.in_step = shared;
         self.steps.push(step)?;
+        self.tags.push(tag)?;
         self.places.push(place)?;
         Ok(())
     }

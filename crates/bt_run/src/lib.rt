@@ -18,6 +18,7 @@ mod job;
 mod kept;
 mod kept_resolution;
 mod kept_steps;
+mod known_calls;
 mod once;
 mod read_command;
 mod readings;
@@ -30,6 +31,7 @@ mod start;
 mod step;
 mod step_command;
 mod styles;
+mod tag;
 mod written_steps;
 
 pub use answers::{Answers, Report, Run, answers_after};

@@ -34,9 +34,9 @@ fn show_style(
     let mut written = WrittenSteps::none(alloc);
     let mut course = run_style(alloc, job, log, &mut written)?;
     tell_counts(alloc, &mut course.log, &written.calls)?;
-    let Course { log, .. } = course;
+    let Course { log, entries, .. } = course;
     let answers = show(alloc, written.bbl, log, wanted)?;
-    Ok(answers)
+    Ok(answers.with_spent(entries))
 }
 
 #[tactic(auto, using(crate::proofs::WrittenLemmas::no_style_shown))]

@@ -68,16 +68,32 @@ impl Readings {
         known.style()
     }
 
-    /// Keeps those readings whose text is still one of these files', and the resolution. After out of memory they are
-    /// as before.
+    /// Replaces the database at this place by its edited form. If there is no such place, the edited database goes to the
+    /// end. After out of memory nothing is replaced.
+    pub fn put(&mut self, place: usize, edit: DatabaseEdit) -> Result<(), AllocError> {
+        let database = edit.new.share()?;
+        if place < self.databases.len() {
+            self.databases.set(place, database);
+        } else {
+            self.databases.push(database)?;
+        }
+        self.edit = Some(edit);
+        Ok(())
+    }
+
+    /// Keeps the resolution, and the readings of texts that files still have. After an edit of a database, that is all of
+    /// them, because its new reading has replaced the old one. After out of memory they are as before.
     pub fn keep_present(&mut self, alloc: Global, files: &[File]) -> Result<(), AllocError> {
+        if self.edit.is_some() {
+            self.edit = None;
+            return Ok(());
+        }
         let aux_texts = self.aux_texts.present(alloc, files)?;
         let styles = present_styles(alloc, files, self.styles.as_slice())?;
         let databases = present_databases(alloc, files, self.databases.as_slice())?;
         self.aux_texts = aux_texts;
         self.styles = styles;
         self.databases = databases;
-        self.edit = None;
         Ok(())
     }
 }

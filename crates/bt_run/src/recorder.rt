@@ -8,9 +8,9 @@ use std::alloc::{AllocError, Global};
 
 /// Takes the steps of a run, and keeps of them what it needs.
 pub trait Recorder {
-    ghost use Rattle.std.specs.Prelude.{◌≡◌, List, OnOk, length};
+    ghost use Rattle.std.specs.Prelude.{◌≡◌, OnOk, length};
     ghost use Rattle.bt_style.specs.Program.{program_of};
-    ghost use Rattle.bt_actions.specs.declared.entry.Entry.{Entry as EntrySeen};
+    ghost use Rattle.bt_actions.specs.World.{World};
     ghost use Rattle.bt_machine.specs.OwnEntry.{IsPlace};
     ghost use Rattle.bt_run.specs.declared.course.Step.{Step as StepSeen};
     ghost use Rattle.bt_run.specs.declared.job.Job.{Job as JobSeen};
@@ -27,8 +27,8 @@ pub trait Recorder {
     /// The same with one more step.
     ghost note: { Self.Seen → StepSeen → Self.Seen };
 
-    /// What it knows of a job and of the entries between two steps.
-    ghost ready: { Self → JobSeen → List EntrySeen → Type 0 };
+    /// What it knows of a job and of the world between two steps.
+    ghost ready: { Self → JobSeen → World → Type 0 };
 
     /// READ. After out of memory nothing is said of the course.
     fn read(
@@ -38,10 +38,10 @@ pub trait Recorder {
         number: usize,
         course: &mut Course,
     ) -> Result<(), AllocError>
-        requires { ready self.old job course.old.entries }
+        requires { ready self.old job (course_world course.old) }
         ensures run { OnOk result (course.new ≡ read (job_of job.entry) number course.old) }
         ensures seen { OnOk result (seen self.new ≡ seen self.old) }
-        ensures ready { OnOk result (ready self.new job.entry course.new.entries) };
+        ensures ready { OnOk result (ready self.new job.entry (course_world course.new)) };
 
     /// Takes a step for the entry at a place, or for none. After out of memory a part of what it left may be in the
     /// course.
@@ -54,11 +54,11 @@ pub trait Recorder {
     ) -> Result<(), AllocError>
         requires placed { IsPlace place (course_world course.old) }
         requires ordered { IsOrdered course.old }
-        requires ready { ready self.old command.job course.old.entries }
+        requires ready { ready self.old command.job (course_world course.old) }
         ensures run { OnOk result (recorded course.new (seen self.new)
             ≡ stepped note (program_of command.entry.job.style.now) command.entry.site.now target place
             (recorded course.old (seen self.old))) }
         ensures ordered { OnOk result (IsOrdered course.new) }
         ensures entries { OnOk result (length course.new.entries ≡ length course.old.entries) }
-        ensures ready { OnOk result (ready self.new command.entry.job course.new.entries) };
+        ensures ready { OnOk result (ready self.new command.entry.job (course_world course.new)) };
 }

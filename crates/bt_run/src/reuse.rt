@@ -44,6 +44,7 @@ impl Reuse {
     pub fn begun(alloc: Global) -> Reuse
         ensures meter { result.meter ≡ 0 }
         ensures ran { result.ran ≡ 0 }
+        ensures next { result.next ≡ 0 }
         ensures known { result.known ≡ [] }
         ensures index { result.lookup.index ≡ None }
     {

@@ -1,18 +1,22 @@
 //! A step of an earlier run is taken over where it does the same.
 
-ghost use Rattle.std.specs.Prelude.{◌≡◌, ◌+◌, ◌<◌, ◌≤◌, ◌^◌, ◌↔◌, All, Contains, IsTrue, IfOk, IfSome, OnOk, MatchOption};
+ghost use Rattle.std.specs.Prelude.{◌≡◌, ◌+◌, ◌<◌, ◌≤◌, ◌^◌, ◌↔◌, All, Contains, Some, IsTrue, IfOk, IfSome, OnOk, MatchOption, slice_get};
 ghost use Rattle.std.specs.Option.{ForSome};
 ghost use Rattle.bt_style.specs.Program.{program_of};
 ghost use Rattle.bt_style.specs.Reach.{is_among};
 ghost use Rattle.bt_machine.specs.Step.{step_in, outcome_of};
 ghost use Rattle.bt_machine.specs.AgreementLaws.{IsFootprint, IsNextOutcome, outcome_over};
+ghost use Rattle.bt_run.specs.Course.{key_in};
 ghost use Rattle.bt_run.specs.inner.Index.{IsIndex};
+ghost use Rattle.bt_run.specs.inner.Tags.{tag_of};
 ghost use Rattle.bt_run.specs.Work.{IsStep};
 ghost use Rattle.bt_run.specs.inner.Work.{IsLike, IsNoneAt, IsNone, IsMet, IsKnown, step_now, IsCounted};
 
 use crate::course::Step;
+use crate::earlier::Earlier;
 use crate::index::Index;
 use crate::reuse::{KnownReach, Lookup, Reuse};
+use crate::tag::tag_of;
 use bt_machine::{Input, Outcome, activate, agreeing_inputs_have_one_step, agrees, left_over};
 use bt_style::{Reach, Style, Target};
 use bt_text::{Sequence, Shared};
@@ -31,7 +35,8 @@ pub struct Done {
 
 // What is reached
 
-pub fn is_same_function(one: Option<usize>, other: Option<usize>) -> bool
+/// Whether two places, or none, are the same.
+pub fn is_same_place(one: Option<usize>, other: Option<usize>) -> bool
     ensures { IsTrue result ↔ (one ≡ other) }
 {
     match (one, other) {
@@ -49,7 +54,7 @@ fn find_known(known: &[KnownReach], target: Target, function: Option<usize>) -> 
     ensures function { IfSome result (λ k. k.now.function ≡ function) }
 {
     'known: for one in known {
-        if one.target == target && is_same_function(one.function, function) {
+        if one.target == target && is_same_place(one.function, function) {
             return Some(one);
         }
     }
@@ -142,16 +147,42 @@ fn find_like<'a>(
     None
 }
 
-/// The first step that is one of this command, and whose input agrees with this one in what is reached.
-fn find_anywhere<'a>(
+fn is_other(tags: &[u64], place: usize, tag: u64) -> bool
+    ensures { IsTrue result → slice_get tags.now place ≡ Some tag → ⊥ }
+{
+    match tags.get(place) {
+        None => false,
+        Some(own) => *own != tag,
+    }
+}
+
+/// The step at a place, if it is one of this command and its input agrees with this one in what is reached. A step with
+/// another tag isn't looked at.
+fn tagged_at<'a>(
     style: &Style,
-    earlier: &'a [Shared<Step>],
+    earlier: Earlier<'a>,
+    place: usize,
+    tag: u64,
     sought: Sought<'_>,
 ) -> Option<Found<'a>>
-    ensures { MatchOption result (IsNone sought.entry earlier.now) (IsMet sought.entry earlier.now) }
+    requires { tag ≡ tag_of sought.command (key_in sought.input.now) }
+    ensures { MatchOption result
+        (IsNoneAt sought.entry earlier.entry.steps.now place) (IsMet sought.entry earlier.entry.steps.now) }
 {
-    'places: for place in 0..earlier.len() {
-        if let Some(found) = like_at(style, earlier, place, sought) {
+    if is_other(earlier.tags, place, tag) {
+        return None;
+    }
+    like_at(style, earlier.steps, place, sought)
+}
+
+/// The first step that is one of this command, and whose input agrees with this one in what is reached.
+fn find_anywhere<'a>(style: &Style, earlier: Earlier<'a>, sought: Sought<'_>) -> Option<Found<'a>>
+    ensures { MatchOption result
+        (IsNone sought.entry earlier.entry.steps.now) (IsMet sought.entry earlier.entry.steps.now) }
+{
+    let tag = tag_of(sought.command, sought.input);
+    'places: for place in 0..earlier.steps.len() {
+        if let Some(found) = tagged_at(style, earlier, place, tag, sought) {
             return Some(found);
         }
     }
@@ -178,26 +209,26 @@ fn index_of(
 fn meet<'a>(
     alloc: Global,
     style: &Style,
-    earlier: &'a [Shared<Step>],
+    earlier: Earlier<'a>,
     next: usize,
     sought: Sought<'_>,
     lookup: &mut Lookup,
 ) -> Result<Option<Found<'a>>, AllocError>
-    requires { ForSome lookup.old.index (IsIndex earlier.now) }
-    ensures met { IfOk result
-        (λ met. MatchOption met (IsNone sought.entry earlier.now) (IsMet sought.entry earlier.now)) }
-    ensures indexed { OnOk result (ForSome lookup.new.index (IsIndex earlier.now)) }
+    requires { ForSome lookup.old.index (IsIndex earlier.steps.now) }
+    ensures met { IfOk result (λ met.
+        MatchOption met (IsNone sought.entry earlier.entry.steps.now) (IsMet sought.entry earlier.entry.steps.now)) }
+    ensures indexed { OnOk result (ForSome lookup.new.index (IsIndex earlier.entry.steps.now)) }
 {
-    if let Some(found) = like_at(style, earlier, next, sought) {
+    if let Some(found) = like_at(style, earlier.steps, next, sought) {
         return Ok(Some(found));
     }
     if lookup.scans < SCANS {
         lookup.scans += 1;
         return Ok(find_anywhere(style, earlier, sought));
     }
-    let made = index_of(alloc, earlier, lookup.index.take())?;
+    let made = index_of(alloc, earlier.steps, lookup.index.take())?;
     let places = made.places(sought.command, sought.input)?;
-    let met = find_like(style, earlier, places, sought);
+    let met = find_like(style, earlier.steps, places, sought);
     lookup.index = Some(made);
     Ok(met)
 }
@@ -270,20 +301,20 @@ pub fn take_over_or_carry_out(
     style: &Style,
     command: usize,
     input: &Input,
-    earlier: &[Shared<Step>],
+    earlier: Earlier<'_>,
     reuse: &mut Reuse,
 ) -> Result<Done, AllocError>
     requires meter { reuse.old.meter + 1000000 < 2 ^ 128 }
     requires ran { reuse.old.ran + 1 < 2 ^ 128 }
     requires known { All (IsKnown (program_of style.now)) reuse.old.known }
-    requires indexed { ForSome reuse.old.lookup.index (IsIndex earlier.now) }
-    requires steps { All (IsStep (program_of style.now)) earlier.now }
+    requires indexed { ForSome reuse.old.lookup.index (IsIndex earlier.steps.now) }
+    requires steps { All (IsStep (program_of style.now)) earlier.steps.now }
     ensures outcome { IfOk result (λ d. d.outcome ≡ outcome_of (step_in (program_of style.now) input.now)) }
     ensures cost { IfOk result (λ d. d.cost ≡ (step_in (program_of style.now) input.now).cost) }
     ensures known { OnOk result (All (IsKnown (program_of style.now)) reuse.new.known) }
-    ensures indexed { OnOk result (ForSome reuse.new.lookup.index (IsIndex earlier.now)) }
+    ensures indexed { OnOk result (ForSome reuse.new.lookup.index (IsIndex earlier.entry.steps.now)) }
     ensures within { OnOk result (reuse.new.meter ≤ reuse.old.meter + 1000000) }
-    ensures counted { IfOk result (λ d. IsCounted (program_of style.now) earlier.now
+    ensures counted { IfOk result (λ d. IsCounted (program_of style.now) earlier.entry.steps.now
         (step_now command input.now d.outcome d.cost) reuse.old reuse.new) }
 {
     // A law of the machine, for the proof alone: the call does nothing.
@@ -303,7 +334,7 @@ pub fn take_over_or_carry_out(
             Ok(taken)
         }
         None => {
-            reuse.next = place_after(earlier, reuse.next, sought);
+            reuse.next = place_after(earlier.steps, reuse.next, sought);
             let ran = carry_out_step(alloc, style, input, reuse)?;
             Ok(ran)
         }

@@ -6,28 +6,24 @@ ghost use Rattle.bt_actions.specs.World.{entry_in};
 ghost use Rattle.bt_machine.specs.OwnEntry.{IsPlace};
 ghost use Rattle.bt_run.specs.Course.{course_world, input_at};
 ghost use Rattle.bt_run.specs.inner.Earlier.{fixed};
+ghost use Rattle.bt_run.specs.inner.Turn.{IsGiven};
 
 use crate::course::Course;
-use crate::reused_step::is_same_function;
+use crate::reused_step::is_same_place;
 use bt_actions::Entry;
 use bt_machine::{Input, equal_variables};
 use bt_style::Target;
+use bt_text::equal_bytes;
 
 /// The longest preamble that is compared at each step.
 const PREAMBLE_BYTES: usize = 4096;
-
-pub fn equal_bytes(old: &[u8], new: &[u8]) -> bool
-    ensures { IsTrue result → old.now ≡ new.now }
-{
-    old == new
-}
 
 /// Whether two entries are equal, but for their variables. What mostly differs is compared first.
 pub fn equal_fixed(old: &Entry, new: &Entry) -> bool
     ensures { IsTrue result → fixed old.now ≡ fixed new.now }
 {
     equal_bytes(old.key.as_slice(), new.key.as_slice())
-        && is_same_function(old.function, new.function)
+        && is_same_place(old.function, new.function)
         && equal_bytes(old.kind.as_slice(), new.kind.as_slice())
         && old.fields.is_same(&new.fields)
 }
@@ -60,23 +56,35 @@ fn equal_preambles(old: &[u8], new: &[u8]) -> bool
     new.len() <= PREAMBLE_BYTES && equal_bytes(old, new)
 }
 
-/// Whether an input is what a step is given now, for the entry at a place or for none, which may be known to be the
-/// same but for its variables.
+/// Whether an input has the run's globals and held line, which may be known.
+fn is_given(input: &Input, course: &Course, known: bool) -> bool
+    requires { IsTrue known → IsGiven (course_world course.now) input.now }
+    ensures { IsTrue result → IsGiven (course_world course.now) input.now }
+{
+    known
+        || (equal_variables(&input.globals, &course.globals)
+            && equal_bytes(input.held.bytes(), course.held.bytes()))
+}
+
+/// Whether an input is what a step is given now, for the entry at a place or for none. The entry may be known to be the
+/// same but for its variables, and the input may be known to have the run's globals and held line.
+#[tactic(auto, using(crate::proofs::TurnLemmas::input_given, bt_style::proofs::ReachLemmas::target_eq_sound))]
 pub fn is_input(
     input: &Input,
     course: &Course,
     target: Target,
     place: Option<usize>,
     same: bool,
+    given: bool,
 ) -> bool
     requires placed { IsPlace place (course_world course.now) }
     requires same { IsTrue same →
         option_map fixed input.now.entry ≡ option_map fixed (entry_in course.now.entries place) }
+    requires given { IsTrue given → IsGiven (course_world course.now) input.now }
     ensures { IsTrue result → input.now ≡ input_at target place (course_world course.now) }
 {
     input.target == target
         && is_entry_at(&input.entry, course.entries.as_slice(), place, same)
-        && equal_variables(&input.globals, &course.globals)
-        && equal_bytes(input.held.bytes(), course.held.bytes())
+        && is_given(input, course, given)
         && equal_preambles(input.preamble.as_slice(), course.preamble.as_slice())
 }

@@ -1,8 +1,9 @@
 //! SORT: the entries in the order of their sort keys.
 
-ghost use Rattle.std.specs.Prelude.{◌≡◌, All, map, IfOk};
+ghost use Rattle.std.specs.Prelude.{◌≡◌, ◌<◌, All, length, map, IfOk};
 ghost use Rattle.bt_run.specs.SortCommand.{key_at, sorted};
 ghost use Rattle.bt_run.specs.inner.Cases.{sort_key};
+ghost use Rattle.bt_run.specs.inner.Course.{IsArranged};
 ghost use Rattle.bt_run.specs.ReadCommand.{list_order};
 
 use bt_actions::Entry;
@@ -19,13 +20,18 @@ fn sort_key(entry: &Entry) -> &[u8]
     }
 }
 
-fn keyed_places(alloc: Global, entries: &[Entry]) -> Result<Vec<(&[u8], usize)>, AllocError>
-    ensures places { IfOk result (λ keyed. map (λ k. k.1) keyed.items ≡ list_order entries.now) }
+fn keyed_places<'a>(
+    alloc: Global,
+    entries: &'a [Entry],
+    order: &[usize],
+) -> Result<Vec<(&'a [u8], usize)>, AllocError>
+    requires { All (λ n. n < length entries.now) order.now }
+    ensures places { IfOk result (λ keyed. map (λ k. k.1) keyed.items ≡ order.now) }
     ensures keys { IfOk result (λ keyed. All (λ k. k.0.now ≡ key_at entries.now k.1) keyed.items) }
 {
     let mut keyed = Vec::new(alloc);
-    'entries: for (place, entry) in entries.iter().enumerate() {
-        keyed.push((sort_key(entry), place))?;
+    'places: for place in order {
+        keyed.push((sort_key(&entries[*place]), *place))?;
     }
     Ok(keyed)
 }
@@ -40,11 +46,17 @@ fn places_of(alloc: Global, keyed: &[(&[u8], usize)]) -> Result<Sequence<usize>,
     Ok(places)
 }
 
-/// The places of the entries in the order of their sort keys; those whose keys are equal stand in list order.
-pub fn sorted_places(alloc: Global, entries: &[Entry]) -> Result<Sequence<usize>, AllocError>
+/// The places of the entries in the order of their sort keys; those whose keys are equal stand in list order. The sort
+/// starts from `order`, any order of the places: the nearer it is to the result, the less time the sort takes.
+pub fn sorted_places(
+    alloc: Global,
+    entries: &[Entry],
+    order: &[usize],
+) -> Result<Sequence<usize>, AllocError>
+    requires { IsArranged (length entries.now) order.now }
     ensures { IfOk result (λ order. order ≡ sorted (key_at entries.now) (list_order entries.now)) }
 {
-    let mut keyed = keyed_places(alloc, entries)?;
+    let mut keyed = keyed_places(alloc, entries, order)?;
     keyed.sort()?;
     let order = places_of(alloc, keyed.as_slice())?;
     Ok(order)

@@ -1,11 +1,9 @@
 //! A command of the style that takes steps: EXECUTE, ITERATE or REVERSE.
 
 ghost use Rattle.std.specs.Prelude.{◌≡◌, ◌<◌, Some, All, OnOk, length, reverse};
-ghost use Rattle.bt_style.specs.Program.{program_of};
-ghost use Rattle.bt_run.specs.Course.{stepped};
-ghost use Rattle.bt_run.specs.Commands.{iterated};
-ghost use Rattle.bt_run.specs.inner.Cases.{unless_stopped};
+ghost use Rattle.bt_run.specs.Course.{course_world};
 ghost use Rattle.bt_run.specs.inner.Course.{recorded, IsOrdered};
+ghost use Rattle.bt_run.specs.inner.JobView.{next_step, steps_for};
 
 use crate::course::{CommandPlace, Course};
 use crate::job::Job;
@@ -31,14 +29,12 @@ impl<'a> StepCommand<'a> {
     ) -> Result<(), AllocError>
         requires placed { place < length course.old.entries }
         requires ordered { IsOrdered course.old }
-        requires ready { R.ready recorder.old self.job course.old.entries }
+        requires ready { R.ready recorder.old self.job (course_world course.old) }
         ensures run { OnOk result (recorded course.new (R.seen recorder.new)
-            ≡ unless_stopped course.old.stopped (recorded course.old (R.seen recorder.old))
-            (stepped R.note (program_of self.entry.job.style.now) self.entry.site.now target (Some place)
-            (recorded course.old (R.seen recorder.old)))) }
+            ≡ next_step R.note self.entry target (Some place) (recorded course.old (R.seen recorder.old))) }
         ensures ordered { OnOk result (IsOrdered course.new) }
         ensures entries { OnOk result (length course.new.entries ≡ length course.old.entries) }
-        ensures ready { OnOk result (R.ready recorder.new self.entry.job course.new.entries) }
+        ensures ready { OnOk result (R.ready recorder.new self.entry.job (course_world course.new)) }
     {
         if course.stopped {
             return Ok(());
@@ -55,12 +51,11 @@ impl<'a> StepCommand<'a> {
     ) -> Result<(), AllocError>
         requires placed { All (λ n. n < length course.old.entries) places.now }
         requires ordered { IsOrdered course.old }
-        requires ready { R.ready recorder.old self.job course.old.entries }
+        requires ready { R.ready recorder.old self.job (course_world course.old) }
         ensures run { OnOk result (recorded course.new (R.seen recorder.new)
-            ≡ iterated R.note (program_of self.entry.job.style.now) self.entry.site.now target places.now
-            (recorded course.old (R.seen recorder.old))) }
+            ≡ steps_for R.note self.entry target places.now (recorded course.old (R.seen recorder.old))) }
         ensures ordered { OnOk result (IsOrdered course.new) }
-        ensures ready { OnOk result (R.ready recorder.new self.entry.job course.new.entries) }
+        ensures ready { OnOk result (R.ready recorder.new self.entry.job (course_world course.new)) }
     {
         'places: for place in places {
             self.take_next(target, *place, course, recorder)?;
@@ -77,12 +72,11 @@ impl<'a> StepCommand<'a> {
         recorder: &mut R,
     ) -> Result<(), AllocError>
         requires ordered { IsOrdered course.old }
-        requires ready { R.ready recorder.old self.job course.old.entries }
+        requires ready { R.ready recorder.old self.job (course_world course.old) }
         ensures run { OnOk result (recorded course.new (R.seen recorder.new)
-            ≡ iterated R.note (program_of self.entry.job.style.now) self.entry.site.now target course.old.order
-            (recorded course.old (R.seen recorder.old))) }
+            ≡ steps_for R.note self.entry target course.old.order (recorded course.old (R.seen recorder.old))) }
         ensures ordered { OnOk result (IsOrdered course.new) }
-        ensures ready { OnOk result (R.ready recorder.new self.entry.job course.new.entries) }
+        ensures ready { OnOk result (R.ready recorder.new self.entry.job (course_world course.new)) }
     {
         let places = Vec::from_slice(self.alloc, course.order.as_slice())?;
         self.run_for_each(target, places.as_slice(), course, recorder)
@@ -97,12 +91,12 @@ impl<'a> StepCommand<'a> {
         recorder: &mut R,
     ) -> Result<(), AllocError>
         requires ordered { IsOrdered course.old }
-        requires ready { R.ready recorder.old self.job course.old.entries }
+        requires ready { R.ready recorder.old self.job (course_world course.old) }
         ensures run { OnOk result (recorded course.new (R.seen recorder.new)
-            ≡ iterated R.note (program_of self.entry.job.style.now) self.entry.site.now target
-            (reverse course.old.order) (recorded course.old (R.seen recorder.old))) }
+            ≡ steps_for R.note self.entry target (reverse course.old.order)
+            (recorded course.old (R.seen recorder.old))) }
         ensures ordered { OnOk result (IsOrdered course.new) }
-        ensures ready { OnOk result (R.ready recorder.new self.entry.job course.new.entries) }
+        ensures ready { OnOk result (R.ready recorder.new self.entry.job (course_world course.new)) }
     {
         let mut places = Vec::from_slice(self.alloc, course.order.as_slice())?;
         places.reverse();

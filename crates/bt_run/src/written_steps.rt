@@ -44,7 +44,7 @@ impl Recorder for WrittenSteps {
 
     ghost note = { with_step };
 
-    ghost ready = { λ s job entries. Unit {0} };
+    ghost ready = { λ s job w. Unit {0} };
 
     fn read(
         &mut self,

@@ -140,9 +140,9 @@ pub fn set_text<'a>(
     value: Value<'a>,
 ) -> Result<(), AllocError>
     requires { is_text value ≡ true }
-    ensures ok { OnOk result ((pool : List ℕ) (ts : List (List ℕ)) → length ts ≡ count
-        → texts_over pool texts.new.items ts
-        ≡ slice_set (texts_over pool texts.old.items ts) n (bytes_in pool value.entry)) }
+    ensures ok { OnOk result ((pool : List ℕ) (t : List (List ℕ)) → length t ≡ count
+        → texts_over pool texts.new.items t
+        ≡ slice_set (texts_over pool texts.old.items t) n (bytes_in pool value.entry)) }
     ensures err { OnErr result ((pool : List ℕ) (ts : List (List ℕ))
         → texts_over pool texts.new.items ts ≡ texts_over pool texts.old.items ts) }
     ensures fit { (size : ℕ) → Fits size value.entry → AllFit size texts.old.items → AllFit size texts.new.items }

@@ -11,5 +11,5 @@ mod streams;
 pub use input::{LineEnd, drop_bytes, read_bytes, read_line, skip_line};
 pub use numbers::number;
 pub use output::{say, write_all};
-pub use std_streams::{ReaderSource, WriterSink};
+pub use std_streams::{Ahead, LooksAhead, ReaderSource, WriterSink};
 pub use streams::{Sink, Source, StreamFailed};

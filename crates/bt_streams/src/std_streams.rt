@@ -3,7 +3,7 @@
 ghost use Rattle.std.specs.Prelude.{◌≡◌, ◌-◌, ◌^◌, true, false};
 
 use crate::streams::{Sink, Source, StreamFailed};
-use std::io::{Read, Write};
+use std::io::{BufReader, Read, Write};
 
 /// A reader as a source, which can be read 2^64 - 1 times. A read that is interrupted is a failure.
 #[derive(Drop)]
@@ -52,6 +52,29 @@ impl<R: Read + Drop> Source for ReaderSource<R> {
 
     fn left(&self) -> u64 {
         self.left
+    }
+}
+
+/// Whether input is there already that hasn't been read.
+#[derive(Clone, Copy, Debug, PartialEq, Eq)]
+pub enum Ahead {
+    More,
+    /// Nothing that is known of.
+    Nothing,
+}
+
+/// What knows whether input is there already.
+pub trait LooksAhead {
+    fn ahead(&self) -> Ahead;
+}
+
+impl<R: Read + Drop> LooksAhead for ReaderSource<BufReader<R>> {
+    fn ahead(&self) -> Ahead {
+        if self.reader.buffer().is_empty() {
+            Ahead::Nothing
+        } else {
+            Ahead::More
+        }
     }
 }
 

@@ -1,6 +1,7 @@
 //! What carries out messages: a desk.
 
 use bt_rpc::RpcError;
+use bt_streams::Ahead;
 use serde_json::Value;
 use std::alloc::{AllocError, Global};
 
@@ -45,8 +46,9 @@ pub trait Desk {
         ensures notes { IfOk result (λ r. AllByRecursion IsNote (map view r.notes.items)) }
         ensures err { OnErr result (self.new ≡ self.old) };
 
-    /// Carries out a notification, and returns its notes.
-    fn note(&mut self, alloc: Global, method: &str, message: &Value) -> Vec<Value>
+    /// Carries out a notification, and returns its notes. If more input is ahead, the desk may put off what the editor would
+    /// see for a moment only.
+    fn note(&mut self, alloc: Global, method: &str, message: &Value, ahead: Ahead) -> Vec<Value>
         ensures said { notes self.old method.now (view message.now) (map view result.items) self.new }
         ensures notes { AllByRecursion IsNote (map view result.items) };
 

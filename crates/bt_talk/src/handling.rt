@@ -11,6 +11,7 @@ ghost use Rattle.bt_talk.specs.Replies.{outcome_of};
 
 use crate::desk::{Desk, Reply};
 use bt_rpc::{Message, RpcError, error_response, message_of, response};
+use bt_streams::Ahead;
 use serde_json::Value;
 use std::alloc::{AllocError, Global};
 
@@ -70,12 +71,13 @@ fn carry_out_notification<D: Desk>(
     desk: &mut D,
     method: &str,
     message: &Value,
+    ahead: Ahead,
 ) -> Vec<Value>
     ensures said { CarriedOut D.answers D.notes D.lost (notified method.now)
         (view message.now) desk.old (map view result.items) desk.new }
     ensures plain { AllByRecursion HasNoFloat (map view result.items) }
 {
-    desk.note(alloc, method, message)
+    desk.note(alloc, method, message, ahead)
 }
 
 /// Tells the desk that a message is lost. One error with this id is said.
@@ -110,6 +112,7 @@ fn carry_out<D: Desk>(
     alloc: Global,
     desk: &mut D,
     message: &Value,
+    ahead: Ahead,
 ) -> Result<Vec<Value>, AllocError>
     ensures said { IfOk result (λ said. CarriedOut D.answers D.notes D.lost (kind_of (view message.now))
         (view message.now) desk.old (map view said.items) desk.new) }
@@ -117,7 +120,9 @@ fn carry_out<D: Desk>(
 {
     match message_of(message) {
         Message::Request(id, method) => carry_out_request(alloc, desk, id, method, message),
-        Message::Notification(method) => Ok(carry_out_notification(alloc, desk, method, message)),
+        Message::Notification(method) => {
+            Ok(carry_out_notification(alloc, desk, method, message, ahead))
+        }
         Message::Reply => Ok(Vec::new(alloc)),
         Message::Malformed(Some(id)) => lose_with_id(alloc, desk, id, RpcError::InvalidRequest),
         Message::Malformed(None) => lose(alloc, desk, RpcError::InvalidRequest),
@@ -126,13 +131,18 @@ fn carry_out<D: Desk>(
 
 /// Handles the body of a frame, and returns what is said. It fails if there is no memory for an error, or for the
 /// answer to a request that the desk has carried out.
-pub fn handle<D: Desk>(alloc: Global, desk: &mut D, body: &[u8]) -> Result<Vec<Value>, AllocError>
+pub fn handle<D: Desk>(
+    alloc: Global,
+    desk: &mut D,
+    body: &[u8],
+    ahead: Ahead,
+) -> Result<Vec<Value>, AllocError>
     ensures said { IfOk result (λ said. Handled D.answers D.notes D.lost (text body.now) desk.old
         (map view said.items) desk.new) }
     ensures plain { IfOk result (λ said. AllByRecursion HasNoFloat (map view said.items)) }
 {
     match Value::from_slice(alloc, body) {
-        Ok(message) => carry_out(alloc, desk, &message),
+        Ok(message) => carry_out(alloc, desk, &message, ahead),
         Err(error) => {
             if error.is_memory() {
                 lose(alloc, desk, RpcError::InternalError)

@@ -8,11 +8,11 @@ use crate::handling::{handle, lose};
 use crate::sending::{TalkFault, send_all};
 use bt_frames::{Frame, read_frame};
 use bt_rpc::RpcError;
-use bt_streams::{Sink, Source};
+use bt_streams::{LooksAhead, Sink, Source};
 use std::alloc::Global;
 
 /// Reads the next frame, handles it and writes what is said. Returns true at the end of the input.
-fn turn<S: Source, K: Sink, D: Desk>(
+fn turn<S: Source + LooksAhead, K: Sink, D: Desk>(
     alloc: Global,
     source: &mut S,
     sink: &mut K,
@@ -46,7 +46,8 @@ fn turn<S: Source, K: Sink, D: Desk>(
             Ok(false)
         }
         Ok(Frame::Body(body)) => {
-            let said = handle(alloc, desk, &body)?;
+            let ahead = source.ahead();
+            let said = handle(alloc, desk, &body, ahead)?;
             send_all(alloc, sink, &said)?;
             Ok(false)
         }
@@ -56,7 +57,7 @@ fn turn<S: Source, K: Sink, D: Desk>(
 /// Reads frames, handles each once and in order, and writes what is said. Returns true after the first message that
 /// leaves the desk over, false at the end of the input, and a fault if a read or a write fails, the input ends inside a
 /// frame, or there is no memory to build or write what is said.
-pub fn talk<S: Source, K: Sink, D: Desk>(
+pub fn talk<S: Source + LooksAhead, K: Sink, D: Desk>(
     alloc: Global,
     source: &mut S,
     sink: &mut K,

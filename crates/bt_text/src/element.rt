@@ -3,6 +3,7 @@
 ghost use Rattle.std.specs.Prelude.{◌≡◌, IsTrue, IfOk};
 
 use crate::bytes::Bytes;
+use crate::same::are_same;
 use crate::shared::{Shared, shared_all};
 use std::alloc::{AllocError, Global};
 
@@ -27,26 +28,12 @@ impl Element for i32 {
     }
 }
 
-fn same_texts(texts: &[Shared<Bytes>], others: &[Shared<Bytes>]) -> bool
-    ensures { IsTrue result → texts.now ≡ others.now }
-{
-    if texts.len() != others.len() {
-        return false;
-    }
-    'texts: for place in 0..texts.len() {
-        if texts[place].as_slice() != others[place].as_slice() {
-            return false;
-        }
-    }
-    true
-}
-
 impl Element for Shared<Bytes> {
     fn copied(alloc: Global, items: &[Shared<Bytes>]) -> Result<Vec<Shared<Bytes>>, AllocError> {
         shared_all(alloc, items)
     }
 
     fn are_same(items: &[Shared<Bytes>], others: &[Shared<Bytes>]) -> bool {
-        same_texts(items, others)
+        are_same(items, others)
     }
 }

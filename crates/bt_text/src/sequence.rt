@@ -1,6 +1,7 @@
 //! A growing list, seen in contracts as the list of its elements.
 
 ghost use Rattle.std.specs.Prelude.{◌≡◌, ◌<◌, [], ◌∷◌, ◌++◌, length, slice_get, slice_set, Some, OnOk, OnErr};
+ghost use Rattle.std.specs.List.{cons_option};
 
 use std::alloc::{AllocError, AllocFailed, Global};
 use std::marker::Model;
@@ -64,6 +65,19 @@ impl<T> Sequence<T> {
         ensures err { OnErr result (self.new ≡ self.old) }
     {
         self.items.push(item)
+    }
+
+    /// Puts an element after the others, if there is one. After out of memory the list is as before.
+    pub fn push_if_any(&mut self, item: Option<T>) -> Result<(), AllocError>
+    where
+        T: Drop,
+        ensures ok { OnOk result (self.new ≡ self.old ++ cons_option item []) }
+        ensures err { OnErr result (self.new ≡ self.old) }
+    {
+        if let Some(item) = item {
+            self.items.push(item)?;
+        }
+        Ok(())
     }
 
     /// Puts an element in the place of another.

@@ -14,14 +14,16 @@ mod machine;
 mod marks;
 mod named;
 mod operands;
+mod rerun;
 mod running;
 mod showing;
 mod texts;
 mod values;
 
 pub use line_pieces::{Piece, pieces};
-pub use lines::{Line, Written, are_lines_of, line_bytes};
+pub use lines::{Line, Written, line_bytes};
 pub use machine::{Given, Left, Machine};
 pub use marks::{Call, Mark, Marks, Site, Source};
+pub use rerun::{Rerun, are_lines_of, are_right};
 pub use texts::{Marked, Text, bytes_of};
 pub use values::Variables;

@@ -1,6 +1,6 @@
 //! Lines of the output, and how long ones are broken.
 
-ghost use Rattle.std.specs.Prelude.{◌≡◌, ◌++◌, ◌∷◌, [], IfOk, OnOk, IsTrue};
+ghost use Rattle.std.specs.Prelude.{◌≡◌, ◌++◌, ◌∷◌, [], IfOk, OnOk};
 ghost use Rattle.bt_why.specs.Erased.{line_bytes, lines_bytes};
 
 use crate::texts::Marked;
@@ -142,7 +142,7 @@ fn add_line(alloc: Global, text: &mut Bytes, line: &[Written]) -> Result<(), All
 }
 
 /// Lines without their marks, each with a line feed after it.
-fn lines_bytes(alloc: Global, lines: &[Line]) -> Result<Bytes, AllocError>
+pub fn lines_bytes(alloc: Global, lines: &[Line]) -> Result<Bytes, AllocError>
     ensures { IfOk result (λ text. text ≡ lines_bytes lines.now) }
 {
     let mut text = Bytes::new(alloc);
@@ -150,13 +150,4 @@ fn lines_bytes(alloc: Global, lines: &[Line]) -> Result<Bytes, AllocError>
         add_line(alloc, &mut text, line.as_slice())?;
     }
     Ok(text)
-}
-
-/// Whether lines are a bibliography, byte for byte.
-pub fn are_lines_of(alloc: Global, lines: &[Line], bbl: &[u8]) -> Result<bool, AllocError>
-    ensures { IfOk result (λ same. IsTrue same → lines_bytes lines.now ≡ bbl.now) }
-{
-    let text = lines_bytes(alloc, lines)?;
-    let same = text.as_slice() == bbl;
-    Ok(same)
 }

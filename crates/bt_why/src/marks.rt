@@ -1,5 +1,8 @@
 //! Marks: where the bytes of texts come from, and which words of the style put them there.
 
+ghost use Rattle.std.specs.Prelude.{◌≡◌, slice_get};
+ghost use Rattle.bt_why.specs.Named.{step_at};
+
 use bt_style::Builtin;
 use std::alloc::{AllocError, Global};
 
@@ -90,16 +93,22 @@ impl Marks {
         Ok(number)
     }
 
-    pub fn mark(&self, number: usize) -> Option<Mark> {
+    pub fn mark(&self, number: usize) -> Option<Mark>
+        ensures { result ≡ slice_get self.now.marks.items number }
+    {
         self.marks.get(number).copied()
     }
 
-    pub fn call(&self, number: usize) -> Option<Call> {
+    pub fn call(&self, number: usize) -> Option<Call>
+        ensures { result ≡ slice_get self.now.calls.items number }
+    {
         self.calls.get(number).copied()
     }
 
     /// The step in which a word ran.
-    pub fn step(&self, site: Site) -> Option<usize> {
+    pub fn step(&self, site: Site) -> Option<usize>
+        ensures { result ≡ step_at self.now site }
+    {
         Some(self.call(site.call)?.step)
     }
 

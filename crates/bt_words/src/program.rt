@@ -1,5 +1,8 @@
 //! A style as the analysis goes over it: numbered bodies of words, with their lines.
 
+ghost use Rattle.std.specs.Prelude.{◌≡◌};
+ghost use Rattle.bt_words.specs.Constants.{constant_at};
+
 use crate::lines::{FunctionLines, function_lines};
 use bt_style::{Action, Function, Op, Style, Target};
 use bt_text::is_white;
@@ -202,7 +205,10 @@ impl Program {
         }
     }
 
-    pub fn text(&self, number: usize) -> &[u8] {
+    /// The constant of a number; empty if there is none.
+    pub fn text(&self, number: usize) -> &[u8]
+        ensures { result.now ≡ constant_at self.now number }
+    {
         match self.texts.get_index(number) {
             Some(text) => text.as_slice(),
             None => &[],

@@ -8,10 +8,10 @@ use crate::Done;
 use crate::answer::{Answer, Spelled, put};
 use crate::words::Words;
 use bt_bib::{
-    Closing, Content, Entry, Item, ItemFault, Items, NameRole, Part, Piece, PlacedPiece, is_closed,
-    read_bib, split_places,
+    Closing, Content, Entry, Item, ItemFault, Items, NameRole, Part, Piece, PlacedPiece,
+    ValueParts, is_closed, read_bib, split_places,
 };
-use bt_text::{Bytes, Sequence};
+use bt_text::Bytes;
 use std::alloc::{AllocError, Global};
 
 fn role_word(role: NameRole) -> &'static str {
@@ -71,7 +71,7 @@ impl Listing {
         put!(&mut self.out; *name, ":", self.from.saturating_add(line));
     }
 
-    fn parts(&mut self, parts: &Sequence<Part>) {
+    fn parts(&mut self, parts: &ValueParts) {
         for (place, part) in parts.as_slice().iter().enumerate() {
             self.out.separator(place, " ");
             match part {
@@ -84,7 +84,7 @@ impl Listing {
         }
     }
 
-    fn value(&mut self, value: &Option<Sequence<Part>>) {
+    fn value(&mut self, value: &Option<ValueParts>) {
         match value {
             Some(parts) => {
                 put!(&mut self.out; "(");

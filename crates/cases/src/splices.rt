@@ -8,7 +8,7 @@ use crate::Done;
 use crate::answer::{Answer, Raw, Spelled, put};
 use crate::databases::spelled_items;
 use crate::words::Words;
-use bt_bib::{Items, read_bib};
+use bt_bib::{Items, Splice, read_bib};
 use bt_text::Bytes;
 use std::alloc::{AllocError, Global};
 
@@ -45,7 +45,12 @@ fn respliced(
 {
     let new = spliced(alloc, text, begin, end, bytes)?;
     let old = read_bib(alloc, text)?;
-    let edit = old.edit(alloc, text, new.as_slice(), begin, end, bytes.len())?;
+    let splice = Splice {
+        begin,
+        end,
+        inserted: bytes.len(),
+    };
+    let edit = old.edit(alloc, text, new.as_slice(), splice)?;
     let items = old.edited(alloc, new.as_slice(), &edit)?;
     Ok(Reread {
         text: new,

@@ -18,13 +18,12 @@ use crate::version::VERSION;
 use bt_job::File;
 use bt_log::{Message, log_bytes};
 use bt_run::Answers;
-use bt_search::{FILES_WANTED, HAND_OVER, Script, Search};
+use bt_search::{FILES_WANTED, HAND_OVER, Script, Search, words};
 use bt_text::Bytes;
 use std::alloc::{AllocError, Global};
-use std::io::ErrorKind;
+use std::fs;
 use std::mem::forget;
 use std::process::ExitCode;
-use std::{env, fs};
 
 /// The exit status where the job can't be run.
 const NOT_RUN: u8 = 1;
@@ -222,18 +221,6 @@ fn run(rt: &HostRuntime, options: &Options<'_>) -> Result<u8, AllocError> {
         return Ok(NOT_RUN);
     }
     run_job(rt, &script, options)
-}
-
-/// The words of the command line; none if they aren't UTF-8. The one error is out of memory.
-fn words(rt: &HostRuntime) -> Result<Option<Vec<String>>, AllocError> {
-    match env::args(rt) {
-        Ok(args) => {
-            let words: Result<Vec<String>, AllocError> = args.collect(rt.alloc());
-            Ok(Some(words?))
-        }
-        Err(fault) if fault.kind() == ErrorKind::OutOfMemory => Err(AllocError),
-        Err(_) => Ok(None),
-    }
 }
 
 /// What becomes of a command line that isn't UTF-8, so that this program can't read its files.

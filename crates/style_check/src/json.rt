@@ -1,7 +1,7 @@
 //! The findings as JSON, an object a line.
 
-use crate::report::{Checked, decimal};
-use bt_check::{Call, Condition, Fault, Hint};
+use crate::report::Checked;
+use bt_check::{Call, Condition, Fault, Hint, decimal, field_name, function_name};
 use bt_text::Bytes;
 use std::alloc::{AllocError, Global};
 
@@ -85,7 +85,7 @@ impl<'a> Lines<'a> {
         self.list(b"calls")?;
         let mut before: &[u8] = b"{";
         for call in calls.iter().rev() {
-            let name = self.checked.function_name(call.function);
+            let name = function_name(self.checked.style, call.function);
             self.string(before, b"function", name)?;
             self.number(b",", b"line", call.line)?;
             self.text.append(b"}")?;
@@ -98,7 +98,7 @@ impl<'a> Lines<'a> {
         self.list(b"fields")?;
         let mut before: &[u8] = b"{";
         for condition in conditions {
-            let name = self.checked.field_name(condition.field);
+            let name = field_name(self.checked.style, condition.field);
             self.string(before, b"field", name)?;
             self.string(b",", b"state", condition.state.word())?;
             self.text.append(b"}")?;
@@ -116,7 +116,7 @@ impl<'a> Lines<'a> {
         )?;
         self.calls(fault.calls.as_slice())?;
         if let Some(function) = fault.step.entry_type {
-            let name = self.checked.function_name(function);
+            let name = function_name(self.checked.style, function);
             self.string(b",", b"type", name)?;
         }
         self.fields(fault.conditions.as_slice())?;
@@ -142,7 +142,7 @@ impl<'a> Lines<'a> {
         let mut before: &[u8] = b"";
         for function in &checked.findings.types {
             self.text.append(before)?;
-            append_string(&mut self.text, checked.function_name(*function))?;
+            append_string(&mut self.text, function_name(checked.style, *function))?;
             before = b",";
         }
         self.text.append(b"]")

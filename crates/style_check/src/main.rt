@@ -1,25 +1,28 @@
 //! The program `bibtex-check`, which finds what databases can make a style do wrong.
 #![tactic(auto)]
 
-mod filling;
 mod json;
 mod options;
 mod report;
-mod witness;
 
 use crate::options::{Format, Options, Request, parse};
 use crate::report::{Checked, UNKNOWN};
-use crate::witness::witnesses;
-use bt_check::{check, lint};
+use bt_check::{FaultKind, check, lint};
+use bt_search::words;
+use bt_sound::is_sound;
 use bt_style::{Style, StyleRefusal, read_style};
 use bt_text::Bytes;
+use bt_witness::{Effort, witnesses};
 use std::alloc::{AllocError, Global};
-use std::io::{ErrorKind, Read, Write};
+use std::fs;
+use std::io::{Read, Write};
 use std::process::ExitCode;
-use std::{env, fs};
 
 /// How many steps the analysis of a style may take: most styles take less than a tenth of them.
 const WORK: u64 = 2_000_000;
+
+/// How much work the proof that a style is sound may take: about a second. Most styles take less than a fifth of it.
+const PROOF_WORK: u64 = 1_000_000;
 
 const VERSION: &str = "0.9.0";
 
@@ -36,8 +39,8 @@ a style, such as plain.bst.
   --help          print this
 
 Exit status: 0 if nothing was found, 1 for findings of --lint alone, 2 for faults, 3 if a style
-can't be read or the analysis gave up, or if the command line is wrong. That no fault was found
-isn't a proof.";
+can't be read or the analysis gave up, or if the command line is wrong. That a style is accepted
+is proved. That no fault was found isn't a proof.";
 
 fn read_file(rt: &HostRuntime, path: &str) -> Option<Bytes> {
     let mut file = fs::open(rt, path).ok()?;
@@ -49,6 +52,18 @@ fn read_file(rt: &HostRuntime, path: &str) -> Option<Bytes> {
 /// What is printed of a style, and its exit status.
 type Printed = (Bytes, u8);
 
+/// Whether a style that is proved to be sound has no fault of this kind.
+fn is_excluded(kind: FaultKind) -> bool {
+    matches!(
+        kind,
+        FaultKind::Empty
+            | FaultKind::Kind
+            | FaultKind::Entry
+            | FaultKind::Variable
+            | FaultKind::Left
+    )
+}
+
 fn check_style<'a>(
     alloc: Global,
     path: &'a str,
@@ -56,8 +71,19 @@ fn check_style<'a>(
     style: &'a Style,
     options: Options,
 ) -> Result<Checked<'a>, AllocError> {
-    let findings = check(alloc, style, text, WORK)?;
-    let witnesses = witnesses(alloc, style, text, findings.faults.as_slice())?;
+    let mut findings = check(alloc, style, text, WORK)?;
+    let witnesses = witnesses(
+        alloc,
+        style,
+        text,
+        findings.faults.as_slice(),
+        Effort::Thorough,
+    )?;
+    let is_sound = witnesses.iter().all(|witness| witness.is_none())
+        && is_sound(alloc, style, findings.types.as_slice(), PROOF_WORK)?;
+    if is_sound {
+        findings.faults.retain(|fault| !is_excluded(fault.kind));
+    }
     let hints = if options.lints {
         lint(alloc, style, text, &findings)?
     } else {
@@ -69,6 +95,7 @@ fn check_style<'a>(
         style,
         findings,
         witnesses,
+        is_sound,
         hints,
         shows_types: options.shows_types,
     })
@@ -137,18 +164,6 @@ fn check_files(rt: &HostRuntime, options: Options, paths: &[&str]) -> Result<u8,
         status = check_file(rt, *path, options)?.max(status);
     }
     Ok(status)
-}
-
-/// The words of the command line; none if they aren't UTF-8. The one error is out of memory.
-fn words(rt: &HostRuntime) -> Result<Option<Vec<String>>, AllocError> {
-    match env::args(rt) {
-        Ok(args) => {
-            let words: Result<Vec<String>, AllocError> = args.collect(rt.alloc());
-            Ok(Some(words?))
-        }
-        Err(fault) if fault.kind() == ErrorKind::OutOfMemory => Err(AllocError),
-        Err(_) => Ok(None),
-    }
 }
 
 fn refuse(rt: &HostRuntime, request: &Request<'_>) -> u8 {

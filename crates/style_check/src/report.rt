@@ -1,6 +1,6 @@
 //! What is known of a style that was checked, and the report for people.
 
-use bt_check::{Fault, Findings, Hint};
+use bt_check::{Fault, Findings, Hint, decimal, function_name};
 use bt_style::Style;
 use bt_text::Bytes;
 use std::alloc::{AllocError, Global};
@@ -13,6 +13,8 @@ pub struct Checked<'a> {
     pub findings: Findings,
     /// For each fault an entry that triggers it, if one was found.
     pub witnesses: Vec<Option<Bytes>>,
+    /// Whether it is proved that no fault of these kinds can be triggered. Then no fault has a witness.
+    pub is_sound: bool,
     pub hints: Vec<Hint>,
     pub shows_types: bool,
 }
@@ -24,27 +26,7 @@ const FAULTS: u8 = 2;
 /// The exit status if a style can't be read, or the analysis gave up.
 pub const UNKNOWN: u8 = 3;
 
-pub fn decimal(alloc: Global, number: usize) -> Result<Bytes, AllocError> {
-    Bytes::copied(alloc, format!(in alloc; "{number}")?.as_bytes())
-}
-
 impl<'a> Checked<'a> {
-    pub fn function_name(&self, function: usize) -> &'a [u8] {
-        let style: &'a Style = self.style;
-        match style.functions.as_slice().get(function) {
-            Some(function) => function.name.as_slice(),
-            None => b"",
-        }
-    }
-
-    pub fn field_name(&self, field: usize) -> &'a [u8] {
-        let style: &'a Style = self.style;
-        match style.fields.as_slice().get(field) {
-            Some(name) => name.as_slice(),
-            None => b"",
-        }
-    }
-
     pub fn witness(&self, place: usize) -> Option<&Bytes> {
         match self.witnesses.get(place) {
             Some(Some(entry)) => Some(entry),
@@ -55,10 +37,12 @@ impl<'a> Checked<'a> {
     pub fn result(&self) -> &'static [u8] {
         if self.findings.gave_up {
             b"gave up"
-        } else if self.findings.faults.is_empty() {
-            b"no fault found"
-        } else {
+        } else if !self.findings.faults.is_empty() {
             b"faults"
+        } else if self.is_sound {
+            b"accepted"
+        } else {
+            b"no fault found"
         }
     }
 
@@ -129,48 +113,22 @@ impl<'a> Report<'a> {
         self.text.append_all(&[words, b"\n"])
     }
 
-    fn add_calls(&mut self, fault: &Fault) -> Result<(), AllocError> {
-        let mut between: &[u8] = b"    in ";
-        for call in fault.calls.iter().rev() {
-            let line = decimal(self.checked.alloc, call.line)?;
-            let name = self.checked.function_name(call.function);
-            self.text
-                .append_all(&[between, name, b":", line.as_slice()])?;
-            between = b" < ";
+    /// Adds a line, unless it has no words.
+    fn add_line<'x>(&mut self, begin: &'x [u8], words: &'x Bytes) -> Result<(), AllocError> {
+        if words.len() == 0 {
+            return Ok(());
         }
-        if between == b" < ".as_slice() {
-            self.text.append(b"\n")?;
-        }
-        Ok(())
+        self.text.append_all(&[begin, words.as_slice(), b"\n"])
     }
 
-    /// Adds a word of a line, and what separates it from the one before.
-    fn add_word<'x>(
-        &mut self,
-        between: &'x [u8],
-        first: &'x [u8],
-        second: &'x [u8],
-    ) -> Result<(), AllocError> {
-        self.text.append_all(&[between, first, second])
+    fn add_calls(&mut self, fault: &Fault) -> Result<(), AllocError> {
+        let words = fault.calls_words(self.checked.alloc, self.checked.style)?;
+        self.add_line(b"    in ", &words)
     }
 
     fn add_conditions(&mut self, fault: &Fault) -> Result<(), AllocError> {
-        let mut between: &[u8] = b"    when ";
-        if let Some(function) = fault.step.entry_type {
-            let name = self.checked.function_name(function);
-            self.add_word(between, b"@", name)?;
-            between = b", ";
-        }
-        for condition in &fault.conditions {
-            let name = self.checked.field_name(condition.field);
-            self.add_word(between, name, b" ")?;
-            self.text.append(condition.state.word())?;
-            between = b", ";
-        }
-        if between == b", ".as_slice() {
-            self.text.append(b"\n")?;
-        }
-        Ok(())
+        let words = fault.condition_words(self.checked.alloc, self.checked.style)?;
+        self.add_line(b"    when ", &words)
     }
 
     /// Adds an entry that triggers the fault, or that none was found.
@@ -212,7 +170,8 @@ impl<'a> Report<'a> {
         let findings = &self.checked.findings;
         if findings.gave_up || findings.faults.is_empty() {
             let checked: &'a Checked<'a> = self.checked;
-            self.add_word(checked.path.as_bytes(), b": ", checked.result())?;
+            self.text.append_all(&[checked.path.as_bytes(), b": "])?;
+            self.text.append(checked.result())?;
             self.text.append(b"\n")?;
         }
         Ok(())
@@ -223,7 +182,7 @@ impl<'a> Report<'a> {
         self.text
             .append_all(&[checked.path.as_bytes(), b": types:"])?;
         for function in &checked.findings.types {
-            let name = checked.function_name(*function);
+            let name = function_name(checked.style, *function);
             self.text.append_all(&[b" ", name])?;
         }
         self.text.append(b"\n")

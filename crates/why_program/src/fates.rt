@@ -6,7 +6,7 @@ use crate::report::Report;
 use crate::sources::decimal;
 use bt_bib::Entry;
 use bt_text::eq_ignore_ascii_case;
-use bt_why::Written;
+use bt_why::{Rerun, Written};
 use std::alloc::AllocError;
 
 /// What becomes of a field.
@@ -33,19 +33,29 @@ impl<'a> Report<'a> {
     }
 
     fn is_written(&self, key: &[u8], name: &[u8]) -> Result<bool, AllocError> {
-        for line in &self.sources.explained.lines {
-            if self.is_from(line.as_slice(), key, name)? {
-                return Ok(true);
+        for step in &self.sources.explained.steps {
+            for line in &step.left.lines {
+                if self.is_from(line.as_slice(), key, name)? {
+                    return Ok(true);
+                }
             }
         }
         Ok(false)
     }
 
+    /// Whether a step pushed a field.
+    fn has_read(&self, step: &Rerun, name: &[u8]) -> bool {
+        step.left.fields.iter().any(|field| eq_ignore_ascii_case(
+            self.sources.field_name(*field),
+            name,
+        ))
+    }
+
     fn is_read(&self, key: &[u8], name: &[u8]) -> Result<bool, AllocError> {
         let sources = self.sources;
-        for (step, field) in &sources.explained.fields {
-            if eq_ignore_ascii_case(sources.field_name(*field), name)
-                && let Some(own) = sources.key(*step)
+        for (number, step) in sources.explained.steps.iter().enumerate() {
+            if self.has_read(step, name)
+                && let Some(own) = sources.key(number)
                 && sources.has_from(own, name, key)?
             {
                 return Ok(true);

@@ -17,14 +17,13 @@ use crate::sources::Sources;
 use bt_job::{File, text_of};
 use bt_log::{FileNote, Message, Said};
 use bt_run::{Run, database_of};
-use bt_search::{FILES_WANTED, Script, Search};
+use bt_search::{FILES_WANTED, Script, Search, words};
 use bt_style::{Style, StyleRefusal, read_style};
 use bt_text::Bytes;
 use bt_why::Line;
 use bt_words::Program;
 use std::alloc::{AllocError, Global};
-use std::env;
-use std::io::{ErrorKind, Write};
+use std::io::Write;
 use std::mem::forget;
 use std::process::ExitCode;
 
@@ -101,7 +100,7 @@ struct Styled<'a> {
 /// What is printed, and the exit status.
 type Printed = (Bytes, u8);
 
-fn add_lines(report: &mut Report<'_>, lines: &[Line]) -> Result<bool, AllocError> {
+fn add_lines(report: &mut Report<'_>, lines: &[&Line]) -> Result<bool, AllocError> {
     for (place, line) in lines.iter().enumerate() {
         report.add_line(place.saturating_add(1), line, None)?;
     }
@@ -109,13 +108,13 @@ fn add_lines(report: &mut Report<'_>, lines: &[Line]) -> Result<bool, AllocError
 }
 
 /// The line of a number, from 1.
-fn line_at(lines: &[Line], number: usize) -> Option<&Line> {
-    lines.get(number.checked_sub(1)?)
+fn line_at<'a>(lines: &[&'a Line], number: usize) -> Option<&'a Line> {
+    lines.get(number.checked_sub(1)?).copied()
 }
 
 fn add_line(
     report: &mut Report<'_>,
-    lines: &[Line],
+    lines: &[&Line],
     number: usize,
     column: Option<usize>,
 ) -> Result<bool, AllocError> {
@@ -128,7 +127,7 @@ fn add_line(
 fn add_key(
     report: &mut Report<'_>,
     sources: Sources<'_>,
-    lines: &[Line],
+    lines: &[&Line],
     key: &[u8],
 ) -> Result<bool, AllocError> {
     for (place, line) in lines.iter().enumerate() {
@@ -147,7 +146,8 @@ fn add_answer(
     sources: Sources<'_>,
     question: Question<'_>,
 ) -> Result<bool, AllocError> {
-    let lines = sources.explained.lines.as_slice();
+    let lines = sources.explained.lines()?;
+    let lines = lines.as_slice();
     match question {
         Question::All => add_lines(report, lines),
         Question::Line(number, column) => add_line(report, lines, number, column),
@@ -179,8 +179,8 @@ fn differs(alloc: Global, difference: Difference) -> Result<Printed, AllocError>
         Difference::Step(step) => format!(in alloc;
             "bibtex-why: step {step} gives something else when it is run with marks; please report this\n"
         )?,
-        Difference::Line(line) => format!(in alloc;
-            "bibtex-why: a mark of line {line} names something else; please report this\n"
+        Difference::Mark => format!(in alloc;
+            "bibtex-why: a mark names something else; please report this\n"
         )?,
         Difference::Bibliography => format!(in alloc;
             "bibtex-why: the marked lines aren't the bibliography; please report this\n"
@@ -321,18 +321,6 @@ fn explain_named(rt: &HostRuntime, options: Options<'_>) -> Result<u8, AllocErro
     match script.ask_for_files(rt, search.missing())? {
         Some(true) => Ok(FILES_WANTED),
         _ => explain_files(rt, search.files(), options),
-    }
-}
-
-/// The words of the command line; none if they aren't UTF-8. The one error is out of memory.
-fn words(rt: &HostRuntime) -> Result<Option<Vec<String>>, AllocError> {
-    match env::args(rt) {
-        Ok(args) => {
-            let words: Result<Vec<String>, AllocError> = args.collect(rt.alloc());
-            Ok(Some(words?))
-        }
-        Err(fault) if fault.kind() == ErrorKind::OutOfMemory => Err(AllocError),
-        Err(_) => Ok(None),
     }
 }
 

@@ -1,6 +1,6 @@
 //! The report for people.
 
-use crate::explained::{Explained, Told};
+use crate::explained::Explained;
 use crate::options::Format;
 use crate::sources::{Sources, decimal};
 use bt_bib::Entry;
@@ -8,7 +8,7 @@ use bt_log::{Message, Rank, Said};
 use bt_run::Step;
 use bt_style::{Builtin, Target};
 use bt_text::Bytes;
-use bt_why::{Line, Piece, Written, line_bytes, pieces};
+use bt_why::{Line, Piece, Rerun, Site, Written, line_bytes, pieces};
 use std::alloc::AllocError;
 
 /// How many calls of a piece are shown beside the outermost one, unless it is the only one.
@@ -267,16 +267,31 @@ impl<'a> Report<'a> {
     }
 
     /// Adds a message, its step, and the functions in which it came.
-    fn add_told(&mut self, told: &Told<'_>) -> Result<(), AllocError> {
+    fn add_message(
+        &mut self,
+        message: &Message,
+        site: Site,
+        step: usize,
+    ) -> Result<(), AllocError> {
         let sources = self.sources;
         if self.format == Format::Json {
-            return self.add_json_message(told.message, told.site, sources.key(told.step));
+            return self.add_json_message(message, site, sources.key(step));
         }
-        self.add_words(told.message)?;
-        self.add_step(told.step)?;
-        let chain = sources.chain(told.site, ALL_CALLS)?;
+        self.add_words(message)?;
+        self.add_step(step)?;
+        let chain = sources.chain(site, ALL_CALLS)?;
         if chain.len() > 0 {
             self.text.append_all(&[b"  in ", chain.as_slice(), b"\n"])?;
+        }
+        Ok(())
+    }
+
+    /// Adds the messages of a step, but for what the style logs.
+    fn add_messages_of(&mut self, number: usize, step: &Rerun) -> Result<(), AllocError> {
+        for (message, site) in step.messages.as_slice().iter().zip(step.left.sites.iter()) {
+            if message.rank != Rank::Note {
+                self.add_message(message, *site, number)?;
+            }
         }
         Ok(())
     }
@@ -285,13 +300,13 @@ impl<'a> Report<'a> {
     pub fn add_messages(&mut self, key: Option<&[u8]>) -> Result<(), AllocError> {
         let sources = self.sources;
         let explained: &'a Explained<'a> = sources.explained;
-        for told in &explained.told {
+        for (number, step) in explained.steps.iter().enumerate() {
             let is_asked = match key {
-                Some(key) => sources.is_of(told.step, key),
+                Some(key) => sources.is_of(number, key),
                 None => true,
             };
-            if is_asked && told.message.rank != Rank::Note {
-                self.add_told(told)?;
+            if is_asked {
+                self.add_messages_of(number, step)?;
             }
         }
         Ok(())

@@ -64,17 +64,21 @@ with_alike : (name text : List ℕ) (files others : List File) → ((n : List �
 with_alike name text files others same n =
     text_of_with name text files n ∙ ap (λ o. if bytes_eq name n then Some text else o) (same n) ∙ sym (text_of_with name text others n)
 
-changed_alike : (e : Edit) (s t : State) → AreAlike s t → AreAlike (changed e s) (changed e t)
-changed_alike (write name bytes) s t alike =
-    record { texts = with_alike name bytes s.texts t.texts alike.texts; root = alike.root; min = alike.min }
-changed_alike (splice name start end bytes) s t alike =
+-- the text of a name that its old text decides
+set_alike : (name : List ℕ) (made : Option (List ℕ) → List ℕ) (s t : State) → AreAlike s t →
+    AreAlike (record s { texts = with_text name (made (text_of s.texts name)) s.texts }) (record t { texts = with_text name (made (text_of t.texts name)) t.texts })
+set_alike name made s t alike =
     record {
       texts = λ n.
-          ap (λ o. text_of (with_text name (replaced start end bytes (unwrap_or o [])) s.texts) n) (alike.texts name)
-          ∙ with_alike name (replaced start end bytes (unwrap_or (text_of t.texts name) [])) s.texts t.texts alike.texts n;
+          ap (λ o. text_of (with_text name (made o) s.texts) n) (alike.texts name)
+          ∙ with_alike name (made (text_of t.texts name)) s.texts t.texts alike.texts n;
       root = alike.root;
       min = alike.min;
     }
+
+changed_alike : (e : Edit) (s t : State) → AreAlike s t → AreAlike (changed e s) (changed e t)
+changed_alike (write name bytes) s t alike = set_alike name (λ o. bytes) s t alike
+changed_alike (splice name start end bytes) s t alike = set_alike name (λ o. replaced start end bytes (unwrap_or o [])) s t alike
 changed_alike (remove name) s t alike =
     record {
       texts = λ n. text_of_without name s.texts n ∙ ap (λ o. if bytes_eq name n then None else o) (alike.texts n) ∙ sym (text_of_without name t.texts n);

@@ -1,9 +1,10 @@
 -- What is left to do in the loop, what it means, and what an element leads to.
+use Rattle.std.proofs.Common.{Bor}
 use Rattle.std.specs.Prelude.{◌≡◌, ℤ, pos, negsuc, zero, suc, ◌≤◌, ◌<◌, Bool, true, false, List, [], ◌∷◌, Option, Some, None, length, map, reverse}
 use Rattle.bt_style.specs.declared.style.Op.{Op}
 use Rattle.bt_style.specs.declared.style.Target.{Target}
 use Rattle.bt_style.specs.Program.{Program}
-use Rattle.bt_style.specs.Tree.{Element, Quoted, Braced, Called, End, Then, ops_body}
+use Rattle.bt_style.specs.Tree.{Element, Quoted, Braced, Called, End, Then, element_of, ops_body}
 use Rattle.bt_style.specs.declared.builtin.Builtin.TheVariants.{While}
 use Rattle.bt_actions.specs.declared.flow.Flow.{Flow}
 use Rattle.bt_actions.specs.declared.flow.Flow.TheVariants.{Go, Stop}
@@ -20,7 +21,7 @@ use Rattle.bt_machine.specs.declared.calls.Next.TheVariants as next
 use Rattle.bt_machine.specs.declared.control.Due.{Due}
 use Rattle.bt_machine.specs.declared.control.Due.TheVariants as due
 use Rattle.bt_machine.specs.declared.control.Frame.TheVariants as held
-use Rattle.bt_machine.specs.Eval.{Counts, Ending, Done, Stopped, then_go, code_body, turn, eval, looped}
+use Rattle.bt_machine.specs.Eval.{Counts, Ending, Done, Stopped, then_go, code_body, turn, eval, act, looped}
 use Rattle.bt_machine.specs.inner.Cases.{checked}
 
 -- one thing that is left to do
@@ -101,6 +102,18 @@ LeadsTo p old new run rest fs next fs' =
 abbrev pub ComesTo : Program → State → Tally → State → Tally → (World → Counts → Ending) → List Op → List HeldFrame → Next → List HeldFrame → Type 0
 ComesTo p old before new after run rest fs next fs' =
     followed p rest next fs' (world_of new) (counts after) ≡ then_go (run (world_of old) (counts before)) (left p (whole rest fs))
+
+-- what an element of a body does
+abbrev pub op_run : Program → Op → World → Counts → Ending
+op_run p op = act p (eval p) (element_of op)
+
+-- Of a call that waited: the body that runs next, or the stop where there is none, comes to what was left before.
+abbrev pub IsCalled : Program → State → Tally → State → Tally → Target → List Op → List HeldFrame → Option (Bor (List Op)) → List HeldFrame → Type 0
+IsCalled p old before new after name rest fs None fs' =
+    Stopped (world_of new) (counts after) ≡ left p (call_left name rest fs) (world_of old) (counts before)
+IsCalled p old before new after name rest fs (Some body) fs' =
+    left p (whole body.now fs') (world_of new) (counts after)
+    ≡ left p (call_left name rest fs) (world_of old) (counts before)
 
 -- what follows is this run, and then what was left
 abbrev pub Means : Program → (World → Counts → Ending) → List Op → List HeldFrame → Next → List HeldFrame → Type 0

@@ -1,5 +1,6 @@
 -- What is put back into a run after a step.
-use Rattle.std.specs.Prelude.{ℕ, ◌<◌, List, ◌++◌, All, length, slice_set, slice_index_or, Option, Some, None}
+use Rattle.std.specs.Prelude.{◌≡◌, sum_by, ℕ, ◌<◌, List, ◌++◌, All, length, slice_set, slice_index_or, Option, Some, None}
+use Rattle.std.specs.List.{range_with_len}
 use Rattle.bt_actions.specs.declared.entry.Variables.{Variables}
 use Rattle.bt_actions.specs.declared.entry.Entry.{Entry}
 use Rattle.bt_actions.specs.World.{no_entry}
@@ -12,9 +13,13 @@ use Rattle.bt_run.specs.inner.Cases.{all_told}
 abbrev pub recorded : {S : Type 0} → Course → S → Recorded S
 recorded r seen = record { course = r; seen = seen }
 
--- The order names entries alone.
+-- These are the places of so many entries, in some order.
+pub record IsArranged (count : ℕ) (order : List ℕ) : Type 0 where
+  pub below : All (λ n. n < count) order
+  pub sums : (f : ℕ → ℕ) → sum_by f order ≡ sum_by f (range_with_len 0 count)
+
 abbrev pub IsOrdered : Course → Type 0
-IsOrdered r = All (λ n. n < length r.entries) r.order
+IsOrdered r = IsArranged (length r.entries) r.order
 
 -- What the code does with an outcome, which is no part of the meaning
 

@@ -1,9 +1,10 @@
 -- What a run over earlier steps knows and keeps to.
-use Rattle.std.specs.Prelude.{◌≡◌, ◌↔◌, ◌<◌, ◌≤◌, ◌+◌, ◌*◌, ℕ, List, [], ◌∷◌, Some, None, All, Contains, length, slice_get}
+use Rattle.std.specs.Prelude.{◌≡◌, ◌↔◌, ◌<◌, ◌≤◌, ◌+◌, ◌*◌, ℕ, List, [], ◌∷◌, Some, None, IsTrue, false, All, Contains, length, map, slice_get}
 use Rattle.std.specs.Option.{ForSome}
 use Rattle.bt_style.specs.declared.style.Target.{Target}
 use Rattle.bt_style.specs.Program.{Program}
 use Rattle.bt_actions.specs.declared.entry.Entry.{Entry}
+use Rattle.bt_actions.specs.World.{World}
 use Rattle.bt_machine.specs.declared.input.Input.{Input}
 use Rattle.bt_machine.specs.declared.outcome.Outcome.{Outcome}
 use Rattle.bt_style.specs.Reach.{Reaches, is_among}
@@ -17,8 +18,11 @@ use Rattle.bt_run.specs.declared.reused_step.Sought.{Sought}
 use Rattle.bt_run.specs.declared.reused_step.Found.{Found}
 use Rattle.bt_run.specs.inner.Index.{IsIndex}
 use Rattle.bt_run.specs.inner.Earlier.{ArePlaced, AreSame}
+use Rattle.bt_run.specs.inner.Tags.{step_tag}
+use Rattle.bt_run.specs.inner.Turn.{AreInTurn, AreLeft, IsGivenAt}
+use Rattle.bt_run.specs.inner.Calls.{AreCalls, AreCallsFrom}
 use Rattle.bt_run.specs.Work.{IsStep, work_under, total_cost}
-use Rattle.bt_run.specs.Course.{key_in}
+use Rattle.bt_run.specs.Course.{step_kept}
 
 -- A run over earlier steps
 
@@ -50,7 +54,7 @@ IsKnown p k = (t : Target) → Contains k.reach.targets t ↔ Reaches p k.functi
 
 -- the step of an input, as it is kept
 abbrev pub step_now : ℕ → Input → Outcome → ℕ → Step
-step_now command i o cost = record { command = command; key = key_in i; input = i; outcome = o; cost = cost }
+step_now command i o cost = step_kept command i (record { outcome = o; cost = cost })
 
 -- a step counts as its part of the work
 pub record IsCounted (p : Program) (earlier : List Step) (t : Step) (before after : Reuse) : Type 0 where
@@ -66,10 +70,11 @@ pub record IsNext (p : Program) (earlier : List Step) (t : Step) (before after :
   pub known : All (IsKnown p) after.known
   pub indexed : ForSome after.lookup.index (IsIndex earlier)
 
--- What the steps of a run over earlier ones keep to: what was carried out is the work of them, and costs at most a
--- million ticks for each; they are steps of the style; what was worked out of the style is so; the index, if there is
--- one, is that of the earlier steps; and what is known of entries without comparing them is so.
-pub record IsConsistent (p : Program) (earlier : Earlier) (entries : List Entry) (s : KeptSteps) : Type 0 where
+-- What the steps of a run over earlier ones keep to, in the world after them: what was carried out is the work of them,
+-- and costs at most a million ticks for each; they are steps of the style; what was worked out of the style is so; the
+-- index, if there is one, is that of the earlier steps; what is known of entries, globals and the held line without
+-- comparing them is so; and so are the tags and the calls.
+pub record IsConsistent (p : Program) (earlier : Earlier) (w : World) (s : KeptSteps) : Type 0 where
   pub ran : s.reuse.ran ≡ length (work_under p earlier.steps.now s.steps)
   pub ticks : s.reuse.meter ≡ total_cost (work_under p earlier.steps.now s.steps)
   pub fewer : s.reuse.ran ≤ length s.steps
@@ -78,11 +83,23 @@ pub record IsConsistent (p : Program) (earlier : Earlier) (entries : List Entry)
   pub known : All (IsKnown p) s.reuse.known
   pub indexed : ForSome s.reuse.lookup.index (IsIndex earlier.steps.now)
   pub counted : length s.places ≡ length s.steps
+  pub placed : ArePlaced w.entries s.steps s.places
+  pub same : AreSame earlier.entries.now w.entries s.same
+  pub tagged : s.tags ≡ map step_tag s.steps
+  pub in_turn : AreInTurn s.steps
+  pub left : AreLeft s.steps w
+  pub given : IsTrue s.in_step → IsGivenAt earlier.steps.now s.reuse.next w
+  pub called : ForSome s.calls (AreCallsFrom earlier.steps.now s.reuse.next s.steps)
+
+-- what the next run may know of the steps of this one, whose entries these are
+pub record AreKept (entries : List Entry) (s : KeptSteps) : Type 0 where
   pub placed : ArePlaced entries s.steps s.places
-  pub same : AreSame earlier.entries.now entries s.same
+  pub tagged : s.tags ≡ map step_tag s.steps
+  pub in_turn : AreInTurn s.steps
+  pub called : ForSome s.all_calls (AreCalls s.steps)
 
 -- No step was taken, and nothing is known.
 abbrev pub IsBegun : KeptSteps → Type 0
 IsBegun s =
     (s.steps ≡ []) × (s.places ≡ []) × (s.same ≡ []) × (s.reuse.ran ≡ 0) × (s.reuse.meter ≡ 0) × (s.reuse.known ≡ [])
-    × (s.reuse.lookup.index ≡ None)
+    × (s.reuse.lookup.index ≡ None) × (s.tags ≡ []) × (s.in_step ≡ false) × (s.reuse.next ≡ 0) × (s.all_calls ≡ None)

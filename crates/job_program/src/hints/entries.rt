@@ -12,10 +12,8 @@ use std::alloc::{AllocError, Global};
 type Keys = IndexSet<Vec<u8>>;
 
 pub fn folded(alloc: Global, key: &[u8]) -> Result<Vec<u8>, AllocError> {
-    let mut folded = Vec::with_capacity(alloc, key.len())?;
-    'letters: for byte in key {
-        folded.push(byte.to_ascii_lowercase())?;
-    }
+    let mut folded = Vec::from_slice(alloc, key)?;
+    folded.as_mut_slice().make_ascii_lowercase();
     Ok(folded)
 }
 

@@ -32,9 +32,8 @@ fn ends_word(byte: u8) -> bool {
     byte == b',' || byte == b'=' || byte.is_ascii_whitespace()
 }
 
-/// The field whose `=` is at this place: a word after a comma. The `=` of an accent or a formula has none.
-fn field(text: &[u8], place: usize) -> Option<&[u8]> {
-    let text = before(text, place);
+/// The field whose `=` comes after this text: a word after a comma. The `=` of an accent or a formula has none.
+fn field(text: &[u8]) -> Option<&[u8]> {
     let name = text.rsplit(|byte| ends_word(*byte)).next()?;
     let front = text.get(..text.len().saturating_sub(name.len()))?;
     if front.trim_ascii_end().ends_with(b",") {
@@ -42,6 +41,12 @@ fn field(text: &[u8], place: usize) -> Option<&[u8]> {
     } else {
         None
     }
+}
+
+/// Whether a text may end in a field that is looked at: `author`, `editor` or `crossref`. Most fields end in another
+/// letter.
+fn may_end_in_field(text: &[u8]) -> bool {
+    matches!(text.last(), Some(b'r' | b'R' | b'f' | b'F'))
 }
 
 fn is_of_names(name: &[u8]) -> bool {
@@ -91,11 +96,11 @@ fn is_spelled_otherwise<'a>(
     Ok(false)
 }
 
-/// The text from the `=` of a field of names up to the next field.
-fn names_before(text: &[u8], from: Option<usize>, place: usize) -> &[u8] {
+/// Whether a name may end in a comma between the `=` of a field of names, if there is one, and the next field.
+fn has_wrong_name(text: &[u8], from: Option<usize>, place: usize) -> bool {
     match from {
-        Some(from) => text.get(from..place).unwrap_or(b""),
-        None => b"",
+        Some(from) => has_last_comma(text.get(from..place).unwrap_or(b"")),
+        None => false,
     }
 }
 
@@ -107,8 +112,11 @@ fn has_wrong_field<'a>(
 ) -> Result<bool, AllocError> {
     let mut names_from = None;
     'fields: for place in memchr_iter(b'=', text) {
-        if let Some(name) = field(text, place) {
-            if has_last_comma(names_before(text, names_from, place)) {
+        let front = before(text, place);
+        if (names_from.is_some() || may_end_in_field(front))
+            && let Some(name) = field(front)
+        {
+            if has_wrong_name(text, names_from, place) {
                 return Ok(true);
             }
             names_from = if is_of_names(name) { Some(place) } else { None };
@@ -119,7 +127,7 @@ fn has_wrong_field<'a>(
             }
         }
     }
-    Ok(has_last_comma(names_before(text, names_from, text.len())))
+    Ok(has_wrong_name(text, names_from, text.len()))
 }
 
 /// The key of an item whose `@` is before this text.

@@ -5,7 +5,7 @@ ghost use Rattle.bt_bib.specs.BibText.{pieces_of};
 ghost use Rattle.bt_bib.specs.Splice.{IsSplice};
 
 use crate::refused::attempt::Case;
-use bt_bib::{Items, ItemsEdit, read_bib};
+use bt_bib::{Items, ItemsEdit, Splice, read_bib};
 use bt_text::Bytes;
 use std::alloc::{AllocError, Global};
 
@@ -60,7 +60,12 @@ impl Case for Rereading {
         }
         let new = with_inserted(alloc, old, begin, INSERTED)?;
         let (items, new) = (&self.items, new.as_slice());
-        let edit = items.edit(alloc, old, new, begin, end, INSERTED.len())?;
+        let splice = Splice {
+            begin,
+            end,
+            inserted: INSERTED.len(),
+        };
+        let edit = items.edit(alloc, old, new, splice)?;
         let again = items.edited(alloc, new, &edit)?;
         self.edit = Some(edit);
         self.again = Some(again);

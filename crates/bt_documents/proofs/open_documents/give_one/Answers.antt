@@ -3,7 +3,7 @@ use Rattle.std.specs.Prelude.{bytes_eq, IsTrue}
 use Rattle.bt_documents.specs.declared.document.Document.{Document}
 use Rattle.bt_documents.specs.Documents.{AreGiven, Follows}
 use Rattle.bt_documents.specs.Written.{is_taken}
-use Rattle.bt_documents.proofs.DocumentLemmas.{given_set, follows_given}
+use Rattle.bt_documents.proofs.DocumentLemmas.{given_set, follows_given, behind_at, get_within}
 use Rattle.bt_documents.proofs.open_documents.give_one.Goals as goal
 
 pub returns-clause-documents : goal.returns-clause-documents
@@ -25,3 +25,16 @@ returns-clause-follows g c = λ now.
     let kept : (other : List ℕ) → bytes_eq other d.name ≡ false → text' other ≡ old other =
     λ other apart. c.write-written.ensures.others other (ap (λ m. bytes_eq other m) c.as_slice-2.ensures ∙ apart) in
     subst (Follows text') (sym (c.mark.ensures d at)) (follows_given old text' docs c.args.place d at kept has now)
+
+pub returns-then-not-is_taken-clause-waiting : goal.returns-then-not-is_taken-clause-waiting
+returns-then-not-is_taken-clause-waiting g c = λ t.
+    let docs = c.args.documents.now in
+    let d = c.in-Some.document.now in
+    let at : slice_get docs c.args.place ≡ Some d = sym (c.in-Some.ensures ∙ ap (λ (ds : List Document). slice_get ds c.args.place) c.as_slice.ensures) in
+    behind_at docs c.args.place d at c.if-document.false
+
+pub mark-requires : goal.mark-requires
+mark-requires g c =
+    let docs = c.args.documents.now in
+    let d = c.in-Some.document.now in
+    get_within docs c.args.place d (sym (c.in-Some.ensures ∙ ap (λ (ds : List Document). slice_get ds c.args.place) c.as_slice.ensures))

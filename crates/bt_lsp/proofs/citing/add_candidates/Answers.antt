@@ -1,5 +1,4 @@
-use Rattle.std.proofs.Common.{arith, map}
-use Rattle.serde_json.specs.View.{view}
+use Rattle.std.proofs.Common.{arith}
 use Rattle.bt_lsp.proofs.MoreLemmas.{candidates_more}
 use Rattle.bt_lsp.proofs.citing.add_candidates.Goals as goal
 

@@ -6,5 +6,5 @@ use Rattle.bt_lsp.proofs.formatting.with_each.Given as goal
 
 abbrev pub invariant-found : goal.invariant-found
 invariant-found l =
-    let add = with_gap l.counting l.text in
+    let add = with_gap l.page.counting l.page.end l.page.text.now in
     fold add (map view l.all.items) (drop l.gap-index l.found) ≡ fold add (map view l.fn.list.items) l.found

@@ -6,5 +6,5 @@ use Rattle.bt_lsp.proofs.formatting.with_pieces.Given as goal
 
 abbrev pub invariant-pieces : goal.invariant-pieces
 invariant-pieces l =
-    let add = with_gaps l.counting l.text in
+    let add = with_gaps l.page.counting l.page.end l.page.text.now in
     fold add (map view l.all.items) (drop l.piece-index l.pieces) ≡ fold add (map view l.fn.list.items) l.pieces

@@ -1,4 +1,4 @@
-use Rattle.std.proofs.Common.{ℕ, List, Option, refl, ap, arith, ◌∙◌, sym}
+use Rattle.std.proofs.Common.{ℕ, List, Option, refl, ap, arith, ◌∙◌}
 use Rattle.std.specs.Prelude.{is_some}
 use Rattle.bt_lsp.specs.Hints.{room_after}
 use Rattle.bt_lsp.proofs.FileLemmas.{fold_file, fold_no_file}

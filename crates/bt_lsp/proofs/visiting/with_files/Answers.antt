@@ -1,4 +1,4 @@
-use Rattle.std.proofs.Common.{refl, map, arith, sym, ◌∙◌}
+use Rattle.std.proofs.Common.{refl, map, arith}
 use Rattle.serde_json.specs.View.{view}
 use Rattle.bt_lsp.proofs.FileLemmas.{next_file, no_file}
 use Rattle.bt_lsp.proofs.visiting.with_files.Goals as goal

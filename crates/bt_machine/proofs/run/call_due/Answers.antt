@@ -11,16 +11,16 @@ use Rattle.bt_machine.specs.inner.Loop.{counts, left, followed, whole, call_left
 use Rattle.bt_machine.proofs.LoopLemmas.{element_leads, no_tick_leads}
 use Rattle.bt_machine.proofs.run.call_due.Goals as goal
 
-pub returns-then-tally-eq0-clause-stops : goal.returns-then-tally-eq0-clause-stops
-returns-then-tally-eq0-clause-stops c =
+pub returns-then-tally-eq0-clause-leads : goal.returns-then-tally-eq0-clause-leads
+returns-then-tally-eq0-clause-leads c =
     let p = program_of c.args.style.now in
     let k = counts c.args.tally.now in
     let w = world_of c.args.state.now in
     let due = call_left c.args.name c.args.rest.now c.args.control.now.items in
     no_tick_leads p (Called c.args.name) due (whole c.args.rest.now c.args.control.now.items) w (world_of c.tell_no_tick.new.state) k (left p due w k) refl (λ p w k. refl) c.if-tally-eq0.true c.in_ok-tell_no_tick.ensures
 
-pub returns-in-Go-clause-goes : goal.returns-in-Go-clause-goes
-returns-in-Go-clause-goes c =
+pub returns-in-Go-clause-leads : goal.returns-in-Go-clause-leads
+returns-in-Go-clause-leads c =
     let p = program_of c.args.style.now in
     let k = counts c.args.tally.now in
     let w = world_of c.args.state.now in
@@ -31,8 +31,8 @@ returns-in-Go-clause-goes c =
     let did = ap follows (sym (c.in-Flow.is ∙ ap next.Flow c.in-Go.is)) ∙ c.in_ok-flow.ensures.leads (counts c.take.new.self) in
     element_leads p (Called c.args.name) due rest w k (counts c.take.new.self) (follows (next.Flow Go)) (left p due w k) refl (λ p w k. refl) c.take.ensures.ticks calls did
 
-pub returns-in-Stop-clause-stops : goal.returns-in-Stop-clause-stops
-returns-in-Stop-clause-stops c =
+pub returns-in-Stop-clause-leads : goal.returns-in-Stop-clause-leads
+returns-in-Stop-clause-leads c =
     let p = program_of c.args.style.now in
     let k = counts c.args.tally.now in
     let w = world_of c.args.state.now in
@@ -43,8 +43,8 @@ returns-in-Stop-clause-stops c =
     let did = ap follows (sym (c.in-Flow.is ∙ ap next.Flow c.in-Stop.is)) ∙ c.in_ok-flow.ensures.leads (counts c.take.new.self) in
     element_leads p (Called c.args.name) due rest w k (counts c.take.new.self) (follows (next.Flow Stop)) (left p due w k) refl (λ p w k. refl) c.take.ensures.ticks calls did
 
-pub returns-in-Body-clause-goes : goal.returns-in-Body-clause-goes
-returns-in-Body-clause-goes c =
+pub returns-in-Body-clause-leads : goal.returns-in-Body-clause-leads
+returns-in-Body-clause-leads c =
     let p = program_of c.args.style.now in
     let k = counts c.args.tally.now in
     let w = world_of c.args.state.now in

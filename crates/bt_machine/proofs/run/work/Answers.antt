@@ -107,12 +107,12 @@ pub work-preserved : goal.work-preserved
 work-preserved c =
     let p = program_of c.args.style.now in
     let is_due = subst (λ d. IsDue d c.work.rest.now c.work.control.items c.next_due.new.control.items) c.in-Name.is c.next_due.ensures in
-    let goes = rw c.in-Some-next.is at c.in_ok-next-in-Name.ensures.goes in
+    let goes = rw c.in-Some-next.is at c.in_ok-next-in-Name.ensures.leads in
     goes ∙ sym (is_due.0 p (world_of c.work.state) (counts c.work.tally)) ∙ c.work.invariant
 
 pub returns-in-None-next : goal.returns-in-None-next
 returns-in-None-next c =
     let p = program_of c.args.style.now in
     let is_due = subst (λ d. IsDue d c.work.rest.now c.work.control.items c.next_due.new.control.items) c.in-Name.is c.next_due.ensures in
-    let stops = rw c.in-None-next.is at c.in_ok-next-in-Name.ensures.stops in
+    let stops = rw c.in-None-next.is at c.in_ok-next-in-Name.ensures.leads in
     stops ∙ sym (is_due.0 p (world_of c.work.state) (counts c.work.tally)) ∙ c.work.invariant

@@ -1,5 +1,6 @@
 use Rattle.std.proofs.Common.{◌∙◌, ap}
 use Rattle.bt_style.specs.Program.{program_of}
+use Rattle.bt_run.specs.Course.{course_world}
 use Rattle.bt_run.specs.inner.Steps.{steps_under}
 use Rattle.bt_run.proofs.AnswerLemmas.{lent_style, earlier_steps, nothing_taken, run_taken}
 use Rattle.bt_run.proofs.answers.run_with.Goals as goal
@@ -25,7 +26,7 @@ returns-in-Ok-clause-taken c =
     let read = lent_style c.in_ok-text.text c.in-Ok.style style c.in-Ok.ensures c.deref-in-Ok.ensures in
     let is = c.as_slice-bytes.ensures ∙ c.deref.ensures in
     rw c.new-in-Ok.ensures.text
-    (run_taken (program_of style) k.text k.steps c.in_ok-text.text c.earlier_under-earlier.result c.in_ok-course-in-Ok.course.entries c.carry_out_style.new.steps
+    (run_taken (program_of style) k.text k.steps c.in_ok-text.text c.earlier_under-earlier.result (course_world c.in_ok-course-in-Ok.course) c.carry_out_style.new.steps
     read (c.earlier_under-earlier.ensures ∙ ap (steps_under k.text k.steps) is) c.in_ok-course-in-Ok.ensures.consistent)
 
 pub returns-in-Err-Fault-clause-taken : goal.returns-in-Err-Fault-clause-taken

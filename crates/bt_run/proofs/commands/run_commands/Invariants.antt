@@ -1,4 +1,5 @@
 use Rattle.std.proofs.Common.{◌≡◌, drop}
+use Rattle.bt_run.specs.Course.{course_world}
 use Rattle.bt_run.specs.Commands.{commands_from}
 use Rattle.bt_run.specs.inner.Course.{recorded, IsOrdered}
 use Rattle.bt_run.specs.inner.JobView.{job_of}
@@ -11,5 +12,5 @@ invariant-commands g l = record {
       commands_from g.R.Recorder.note (job_of l.job) l.number (drop l.number l.job.style.now.commands) (recorded l.course (g.R.Recorder.seen l.recorder))
       ≡ commands_from g.R.Recorder.note (job_of l.job) 0 l.job.style.now.commands (recorded l.fn.course (g.R.Recorder.seen l.fn.recorder));
   ordered : IsOrdered l.course;
-  ready : g.R.Recorder.ready l.recorder l.job l.course.entries;
+  ready : g.R.Recorder.ready l.recorder l.job (course_world l.course);
 }

@@ -1,3 +1,4 @@
+use Rattle.std.proofs.Common.{◌∙◌}
 use Rattle.bt_run.specs.Shown.{meaning_of}
 use Rattle.bt_run.specs.inner.JobView.{job_of}
 use Rattle.bt_run.proofs.WrittenLemmas.{style_shown}
@@ -7,5 +8,5 @@ pub returns : goal.returns
 returns c =
     let none = c.none-written.result in
     let made = c.run_style.new.recorder in
-    style_shown (job_of c.args.job) c.args.log c.tell_counts.new.log c.in_ok-course.course none.bbl made.bbl none.calls made.calls c.args.wanted (meaning_of c.in_ok-answers.answers)
+    c.with_spent.ensures ∙ style_shown (job_of c.args.job) c.args.log c.tell_counts.new.log c.in_ok-course.course none.bbl made.bbl none.calls made.calls c.args.wanted (meaning_of c.in_ok-answers.answers)
     c.none-written.ensures.bbl c.none-written.ensures.calls c.in_ok-course.ensures.run c.in_ok-tell_counts.ensures c.in_ok-answers.ensures

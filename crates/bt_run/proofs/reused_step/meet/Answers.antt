@@ -4,4 +4,4 @@ use Rattle.bt_run.proofs.reused_step.meet.Goals as goal
 pub returns-clause-met : goal.returns-clause-met
 returns-clause-met c =
     let s = c.args.sought in
-    met_by_index _ c.find_like-met.result s.command s.reach.now.targets s.input.now c.args.earlier.now c.in_ok-made.made c.in_ok-places.places.now c.in_ok-made.ensures c.in_ok-places.ensures c.find_like-met.ensures
+    met_by_index _ c.find_like-met.result s.command s.reach.now.targets s.input.now c.args.earlier.steps.now c.in_ok-made.made c.in_ok-places.places.now c.in_ok-made.ensures c.in_ok-places.ensures c.find_like-met.ensures

@@ -14,7 +14,7 @@ reread-requires-clause-at c =
     let ps = c.pieces-old.result.now in
     let from = c.last_boundary-from.result in
     let is_from = c.last_boundary-from.ensures ∙ ap (last_end start) (sym c.count_below-kept.ensures.value) in
-    (law_of c.args.old_text.now c.args.new_text.now c.args.start c.args.end c.args.inserted ps c.requires.splice (c.pieces-old.ensures ∙ c.requires.old) from _ is_from refl).3
+    (law_of c.args.old_text.now c.args.new_text.now c.args.splice.begin c.args.splice.end c.args.splice.inserted ps c.requires.splice (c.pieces-old.ensures ∙ c.requires.old) from _ is_from refl).3
 
 pub reread-requires-clause-order : goal.reread-requires-clause-order
 reread-requires-clause-order c = in_order c.args.old_text.now c.pieces-old.result.now (c.pieces-old.ensures ∙ c.requires.old)
@@ -22,9 +22,9 @@ reread-requires-clause-order c = in_order c.args.old_text.now c.pieces-old.resul
 pub returns-in-Some-clause-edit : goal.returns-in-Some-clause-edit
 returns-in-Some-clause-edit c =
     let ps = c.pieces-old.result.now in
-    let b = c.args.start in
-    let e = c.args.end in
-    let n = c.args.inserted in
+    let b = c.args.splice.begin in
+    let e = c.args.splice.end in
+    let n = c.args.splice.inserted in
     let stop = c.in_ok-new.at in
     let joint : IsJoint ps b e n stop.place (Some c.in-Some.passed) = subst (λ (o : Option ℕ). IsJoint ps b e n stop.place o) c.in-Some.is c.in_ok-new.ensures.joint in
     edit_joint c.args.old_text.now c.args.new_text.now b e n c.count_below-kept.result c.in-Some.passed _ c.args.self.now ps c.new-none.result c.in_ok-new.new c.last_boundary-from.result stop c.last_boundary-back.result c.requires.splice c.pieces-old.ensures c.requires.old
@@ -34,9 +34,9 @@ pub returns-in-Some-clause-read : goal.returns-in-Some-clause-read
 returns-in-Some-clause-read c =
     let ps = c.pieces-old.result.now in
     let new = c.args.new_text.now in
-    let b = c.args.start in
-    let e = c.args.end in
-    let n = c.args.inserted in
+    let b = c.args.splice.begin in
+    let e = c.args.splice.end in
+    let n = c.args.splice.inserted in
     let stop = c.in_ok-new.at in
     let is_from = c.last_boundary-from.ensures ∙ ap (last_end start) (sym c.count_below-kept.ensures.value) in
     let law = law_of c.args.old_text.now new b e n ps c.requires.splice (c.pieces-old.ensures ∙ c.requires.old) c.last_boundary-from.result stop is_from c.in_ok-new.ensures.ends in
@@ -47,16 +47,16 @@ returns-in-Some-clause-read c =
 pub returns-in-None-clause-edit : goal.returns-in-None-clause-edit
 returns-in-None-clause-edit c =
     let ps = c.pieces-old.result.now in
-    edit_end c.args.old_text.now c.args.new_text.now c.args.start c.args.end c.args.inserted c.count_below-kept.result _ c.args.self.now ps c.new-none.result c.in_ok-new.new c.last_boundary-from.result c.in_ok-new.at c.requires.splice c.pieces-old.ensures c.requires.old
+    edit_end c.args.old_text.now c.args.new_text.now c.args.splice.begin c.args.splice.end c.args.splice.inserted c.count_below-kept.result _ c.args.self.now ps c.new-none.result c.in_ok-new.new c.last_boundary-from.result c.in_ok-new.at c.requires.splice c.pieces-old.ensures c.requires.old
     c.count_below-kept.ensures.within c.count_below-kept.ensures.value c.last_boundary-from.ensures c.new-none.ensures c.in_ok-new.ensures.pieces c.in_ok-new.ensures.ends (c.in_ok-new.ensures.last c.in-None.is)
 
 pub returns-in-None-clause-read : goal.returns-in-None-clause-read
 returns-in-None-clause-read c =
     let ps = c.pieces-old.result.now in
     let new = c.args.new_text.now in
-    let b = c.args.start in
-    let e = c.args.end in
-    let n = c.args.inserted in
+    let b = c.args.splice.begin in
+    let e = c.args.splice.end in
+    let n = c.args.splice.inserted in
     let stop = c.in_ok-new.at in
     let is_from = c.last_boundary-from.ensures ∙ ap (last_end start) (sym c.count_below-kept.ensures.value) in
     let law = law_of c.args.old_text.now new b e n ps c.requires.splice (c.pieces-old.ensures ∙ c.requires.old) c.last_boundary-from.result stop is_from c.in_ok-new.ensures.ends in

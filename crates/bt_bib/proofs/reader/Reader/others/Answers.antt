@@ -31,5 +31,5 @@ parts-preserved c =
     let text = c.args.self.now.text.now in
     record {
       inside = ahead_then text c.args.from c.parts.at c.in_ok-next.end c.parts.invariant.inside c.in_ok-next.ensures.1;
-      same = ap (λ front. gathered front (all next (here text c.in_ok-next.end))) c.in_ok-push-in-Some.ensures.ok ∙ gathers_more next (joined_less c.args.close) c.parts.parts c.in-Some.part (here text c.parts.at) (here text c.in_ok-next.end) (c.in_ok-next.ensures.0 ∙ ap (λ o. Ok (o, here text c.in_ok-next.end)) c.in-Some.is) ∙ c.parts.invariant.same;
+      same = ap (λ front. gathered front (all next (here text c.in_ok-next.end))) c.in_ok-parts-in-Some.ensures ∙ gathers_more next (joined_less c.args.close) c.parts.parts c.in-Some.part (here text c.parts.at) (here text c.in_ok-next.end) (c.in_ok-next.ensures.0 ∙ ap (λ o. Ok (o, here text c.in_ok-next.end)) c.in-Some.is) ∙ c.parts.invariant.same;
     }

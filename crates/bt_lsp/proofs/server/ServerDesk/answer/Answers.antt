@@ -8,7 +8,7 @@ use Rattle.bt_lsp.proofs.server.ServerDesk.answer.Goals as goal
 
 pub returns-in-Ok-clause-ok : goal.returns-in-Ok-clause-ok
 returns-in-Ok-clause-ok g c =
-    answered_so _ _ c.args.self.now c.settle-notes.new.server c.outcome_for.new.server _ c.request_of.result _ _ _ c.settle-notes.ensures c.request_of.ensures c.in-Ok.ensures.ok
+    answered_so _ _ _ c.args.self.now c.settle-notes.new.server c.outcome_for.new.server _ c.request_of.result _ _ _ c.settle-notes.ensures c.request_of.ensures c.in-Ok.ensures.ok
 
 pub returns-in-Ok-clause-plain : goal.returns-in-Ok-clause-plain
 returns-in-Ok-clause-plain g c =
@@ -16,7 +16,7 @@ returns-in-Ok-clause-plain g c =
     let m = view c.args.message.now in
     let shown = g.P.Paper.shown d.paper in
     let units = counting_of d.counts_bytes in
-    outcome_plain (λ r. answered units shown d.documents r m) d.phase c.request_of.result d c.outcome_for.new.server c.in-Ok.outcome
+    outcome_plain g.P.Paper.begins m (λ r. answered units shown d.documents r m) d.phase c.request_of.result d c.outcome_for.new.server c.in-Ok.outcome
     (λ r. answered_plain units shown d.documents r m) c.in-Ok.ensures.ok
 
 pub returns-in-Ok-clause-notes : goal.returns-in-Ok-clause-notes
@@ -24,7 +24,7 @@ returns-in-Ok-clause-notes g c = settled_notes _ _ _ _ _ _ _ c.settle-notes.ensu
 
 pub returns-in-Err-clause-ok : goal.returns-in-Err-clause-ok
 returns-in-Err-clause-ok g c =
-    answered_late _ _ c.args.self.now c.settle-notes.new.server c.outcome_for.new.server _ _ _ _ c.settle-notes.ensures refl c.in-Err.ensures.err
+    answered_late _ _ _ c.args.self.now c.settle-notes.new.server c.outcome_for.new.server _ _ _ _ c.settle-notes.ensures refl c.in-Err.ensures.err
 
 pub returns-in-Err-clause-notes : goal.returns-in-Err-clause-notes
 returns-in-Err-clause-notes g c = settled_notes _ _ _ _ _ _ _ c.settle-notes.ensures

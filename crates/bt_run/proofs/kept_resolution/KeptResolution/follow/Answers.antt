@@ -5,11 +5,6 @@ use Rattle.bt_run.specs.inner.Asked.{with_databases}
 use Rattle.bt_run.proofs.FindingLemmas.{texts_kept}
 use Rattle.bt_run.proofs.kept_resolution.KeptResolution.follow.Goals as goal
 
-pub returns-then-are_same : goal.returns-then-are_same
-returns-then-are_same c = λ go.
-    let kept = c.args.self.now in
-    texts_kept kept.resolution kept.texts c.args.texts.now kept.read (sym c.as_slice-kept.ensures ∙ c.are_same.ensures c.if-are_same.true)
-
 pub edit_at-requires : goal.edit_at-requires
 edit_at-requires c =
     subst (λ (ts : List (List ℕ)). slice_get ts c.same_first-number.result ≡ Some c.in-Some.edit.old) c.as_slice-kept.ensures (c.is_edited_at.ensures.old c.if-not-is_edited_at.false)

@@ -3,6 +3,7 @@ use Rattle.bt_style.specs.Program.{program_of}
 use Rattle.bt_actions.specs.declared.entry.Entry.{Entry}
 use Rattle.bt_run.specs.declared.course.Step.{Step}
 use Rattle.bt_run.specs.inner.Earlier.{AreSame}
+use Rattle.bt_run.specs.inner.JobView.{job_of}
 use Rattle.bt_run.proofs.CommandLemmas.{read_consistent}
 use Rattle.bt_run.proofs.kept_steps.KeptStepsRecorder.read.Goals as goal
 
@@ -13,5 +14,5 @@ returns-clause-ready c =
     let same = c.in_ok-same.same in
     let are_none = c.in_ok-places.ensures ∙ ap (map (λ (s : Step). None)) c.as_slice.ensures in
     let are_same = subst (λ (es : List Entry). AreSame job.earlier.entries.now es same) c.as_slice-2.ensures c.in_ok-same.ensures in
-    read_consistent (program_of job.style.now) job.earlier c.args.course.now.entries c.read.new.course.entries s
-    c.read.new.readings c.in_ok-places.places same are_none are_same c.requires
+    read_consistent (program_of job.style.now) job.earlier (job_of job) c.args.number c.args.course.now c.read.new.course s
+    c.read.new.readings c.in_ok-places.places same c.in_ok-read.ensures are_none are_same c.requires

@@ -1,5 +1,6 @@
 use Rattle.std.proofs.Common.{◌≡◌, length, drop}
 use Rattle.bt_style.specs.Program.{program_of}
+use Rattle.bt_run.specs.Course.{course_world}
 use Rattle.bt_run.specs.Commands.{iterated}
 use Rattle.bt_run.specs.inner.Course.{recorded, IsOrdered}
 use Rattle.bt_run.proofs.step_command.StepCommand.run_for_each.Given as goal
@@ -12,5 +13,5 @@ invariant-places g l = record {
       ≡ iterated g.R.Recorder.note (program_of l.self.job.style.now) l.self.site.now l.target l.places (recorded l.fn.course (g.R.Recorder.seen l.fn.recorder));
   ordered : IsOrdered l.course;
   entries : length l.course.entries ≡ length l.fn.course.entries;
-  ready : g.R.Recorder.ready l.recorder l.self.job l.course.entries;
+  ready : g.R.Recorder.ready l.recorder l.self.job (course_world l.course);
 }

@@ -1,2 +1,0 @@
--- What only helpers, loops and proofs need: no part of the meaning.
-pub mod Put

@@ -1,0 +1,188 @@
+//! Carries out a notification: the documents change, the paper catches up, and the editor is told the news.
+
+ghost use Rattle.std.specs.Prelude.{◌≡◌, ◌++◌, ◌⊎◌, ◌||◌, map, IfOk, IsTrue};
+ghost use Rattle.serde_json.specs.View.{view};
+ghost use Rattle.bt_documents.specs.Documents.{AreGiven, any_behind, Follows};
+ghost use Rattle.bt_lsp.specs.Desk.{TakenOrLost, Tells, Carried};
+ghost use Rattle.bt_lsp.specs.declared.methods.Notice.TheVariants.{Changed};
+ghost use Rattle.bt_lsp.specs.News.{news, warnings, cleared};
+
+use crate::methods::Notice;
+use crate::news::{first_news, news};
+use crate::paper::Paper;
+use crate::server::Server;
+use crate::styles::check_styles;
+use crate::taking::take;
+use bt_documents::{Document, give_again};
+use bt_streams::Ahead;
+use serde_json::Value;
+use std::alloc::{AllocError, Global};
+
+/// Takes a notification, or remembers that it is lost.
+fn take_or_lose<P: Paper>(alloc: Global, server: &mut Server<P>, notice: Notice, message: &Value)
+    ensures taken { TakenOrLost notice (view message.now) server.old server.new }
+    ensures follows { Follows (P.text server.old.paper) server.old.documents →
+        Follows (P.text server.old.paper) server.new.documents }
+    ensures rest { server.new ≡ record server.old {
+      documents = server.new.documents;
+      lost = server.new.lost;
+      stale = server.new.stale;
+    } }
+{
+    match take(
+        alloc,
+        &server.paper,
+        &mut server.documents,
+        server.counts_bytes,
+        notice,
+        message,
+    ) {
+        Ok(()) => {
+            server.stale = notice.rereads() || server.stale;
+        }
+        Err(_) => {
+            server.lost = true;
+        }
+    }
+}
+
+/// Has the paper read its files again, if that is due. Says whether it is still due: memory ran out.
+fn reread<P: Paper>(alloc: Global, paper: &mut P, documents: &[Document], is_due: bool) -> bool
+    ensures follows { Follows (P.text paper.old) documents.now → Follows (P.text paper.new) documents.now }
+    ensures due { IsTrue result → IsTrue is_due }
+{
+    if !is_due {
+        return false;
+    }
+    match paper.refresh(alloc, documents) {
+        Ok(()) => false,
+        Err(_) => true,
+    }
+}
+
+fn is_either(one: bool, other: bool) -> bool
+    ensures { result ≡ one || other }
+{
+    one || other
+}
+
+/// Has the paper read its files again, if that is due, and gives it the texts of documents that it doesn't have. Says whether
+/// memory ran out.
+fn catch_up<P: Paper>(alloc: Global, server: &mut Server<P>) -> bool
+    ensures documents { AreGiven server.old.documents server.new.documents }
+    ensures follows { Follows (P.text server.old.paper) server.old.documents →
+        Follows (P.text server.new.paper) server.new.documents }
+    ensures due { IsTrue server.new.stale → IsTrue server.old.stale }
+    ensures unread { IsTrue server.new.stale → IsTrue result }
+    ensures lags { IsTrue result → IsTrue server.new.stale ⊎ IsTrue (any_behind server.new.documents) }
+    ensures rest { server.new ≡ record server.old {
+      paper = server.new.paper;
+      documents = server.new.documents;
+      stale = server.new.stale;
+    } }
+{
+    server.stale = reread(
+        alloc,
+        &mut server.paper,
+        server.documents.as_slice(),
+        server.stale,
+    );
+    let behind = give_again(alloc, &mut server.paper, &mut server.documents);
+    is_either(server.stale, behind)
+}
+
+/// The news: what comes first, and what the editor is told of each open document.
+fn all_news<P: Paper>(
+    alloc: Global,
+    server: &Server<P>,
+    behind: bool,
+    notice: Notice,
+    message: &Value,
+) -> Result<Vec<Value>, AllocError>
+    ensures { IfOk result (λ told. map view told.items ≡
+        news server.now.announced (P.shown server.now.paper) server.now.checked server.now.documents
+        (warnings server.now.lost behind ++ cleared notice (view message.now))) }
+{
+    let first = first_news(alloc, server.lost, behind, notice, message)?;
+    let told = news(
+        alloc,
+        &server.paper,
+        server.checked.as_slice(),
+        server.documents.as_slice(),
+        server.announced,
+        first,
+    )?;
+    Ok(told)
+}
+
+/// Checks the styles whose texts are new, and tells the news. If memory runs out for either, it tells nothing.
+fn tell<P: Paper>(
+    alloc: Global,
+    server: &mut Server<P>,
+    behind: bool,
+    notice: Notice,
+    message: &Value,
+) -> Vec<Value>
+    ensures told { Tells P.shown server.old.lost behind notice (view message.now) (map view result.items) server.new }
+    ensures rest { server.new ≡ record server.old {
+      lost = server.new.lost;
+      pending = server.new.pending;
+      checked = server.new.checked;
+    } }
+{
+    let told = match check_styles(alloc, &mut server.checked, server.documents.as_slice()) {
+        Ok(()) => all_news(alloc, server, behind, notice, message),
+        Err(error) => Err(error),
+    };
+    match told {
+        Ok(told) => {
+            server.lost = false;
+            server.pending = behind;
+            told
+        }
+        Err(_) => {
+            server.pending = true;
+            Vec::new(alloc)
+        }
+    }
+}
+
+/// Takes a notification, lets the paper catch up, and tells the news.
+pub fn carry<P: Paper>(
+    alloc: Global,
+    server: &mut Server<P>,
+    notice: Notice,
+    message: &Value,
+) -> Vec<Value>
+    ensures { Carried P.text P.shown server.old notice (view message.now) (map view result.items) server.new }
+{
+    take_or_lose(alloc, server, notice, message);
+    let behind = catch_up(alloc, server);
+    tell(alloc, server, behind, notice, message)
+}
+
+/// Takes a change of which nothing is told yet. The paper gets its text later.
+fn put_off<P: Paper>(alloc: Global, server: &mut Server<P>, message: &Value) -> Vec<Value>
+    ensures { Carried P.text P.shown server.old Changed (view message.now) (map view result.items) server.new }
+{
+    take_or_lose(alloc, server, Notice::Changed, message);
+    server.pending = true;
+    Vec::new(alloc)
+}
+
+/// Takes a notification and tells the news. If more input is there already behind a change, both the paper and the editor
+/// wait for the last one.
+pub fn take_up<P: Paper>(
+    alloc: Global,
+    server: &mut Server<P>,
+    notice: Notice,
+    message: &Value,
+    ahead: Ahead,
+) -> Vec<Value>
+    ensures { Carried P.text P.shown server.old notice (view message.now) (map view result.items) server.new }
+{
+    match (notice, ahead) {
+        (Notice::Changed, Ahead::More) => put_off(alloc, server, message),
+        _ => carry(alloc, server, notice, message),
+    }
+}

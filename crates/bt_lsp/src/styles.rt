@@ -1,0 +1,176 @@
+//! Answers about documents that are styles.
+
+ghost use Rattle.std.specs.Prelude.{◌≡◌, ◌<◌, ◌*◌, ◌^◌, ◌++◌, length, map, option_map, IfOk};
+ghost use Rattle.serde_json.specs.View.{view};
+ghost use Rattle.bt_style_findings.specs.Checked.{found_for};
+ghost use Rattle.bt_style_findings.specs.Values.{finding};
+ghost use Rattle.bt_lsp.specs.Styles.{style_renamed, said_at, said_of, style_answer_at, style_answer_of, with_style_hints};
+
+use crate::entries::is_style;
+use crate::methods::{CursorQuery, DocumentQuery};
+use crate::news::SHOWN_BYTES;
+use crate::parameters::text_at;
+use bt_documents::Document;
+use bt_positions::Position;
+use bt_style_answers::ShownStyle;
+use bt_style_findings::{Checked, check_again, found_for, with_findings};
+use bt_text::Sequence;
+use serde_json::Value;
+use std::alloc::{AllocError, Global};
+
+/// The most bytes of a style that is checked after each change: 256 KiB.
+const HINTED_BYTES: usize = 262_144;
+
+/// A document's text as that of a style.
+fn shown_style(document: &Document) -> ShownStyle<'_>
+    requires { 2 * length document.now.text < 2 ^ 64 }
+    ensures uri { result.uri.now ≡ document.now.name }
+    ensures counting { result.counting ≡ document.now.counting }
+    ensures text { result.text.now ≡ document.now.text }
+{
+    ShownStyle {
+        uri: document.name.as_slice(),
+        counting: document.counting,
+        text: &document.text,
+    }
+}
+
+/// The edits of a rename; null if there is no new name.
+fn style_renamed(
+    alloc: Global,
+    style: &ShownStyle<'_>,
+    at: Position,
+    new: Option<&str>,
+) -> Result<Value, AllocError>
+    ensures { IfOk result (λ v. view v ≡ style_renamed style.now.counting style.now.uri.now
+        style.now.text.now at (option_map (λ s. s.now) new.entry)) }
+{
+    match new {
+        Some(new) => style.rename_at(alloc, at, new.as_bytes()),
+        None => Ok(Value::Null),
+    }
+}
+
+fn said_at(
+    alloc: Global,
+    query: CursorQuery,
+    style: &ShownStyle<'_>,
+    at: Position,
+    message: &Value,
+) -> Result<Value, AllocError>
+    ensures { IfOk result (λ v. view v ≡ said_at query style.now.counting style.now.uri.now
+        style.now.text.now at (view message.now)) }
+{
+    match query {
+        CursorQuery::Hover => style.hover_at(alloc, at),
+        CursorQuery::Definition => style.definition_at(alloc, at),
+        CursorQuery::References => style.references_at(alloc, at),
+        CursorQuery::Rename => {
+            style_renamed(alloc, style, at, text_at(message, "/params/newName"))
+        }
+        CursorQuery::NameRange => style.renamed_range_at(alloc, at),
+        CursorQuery::Completion => style.completion_at(alloc, at),
+    }
+}
+
+/// The answer at a position of a style.
+pub fn style_answer_at(
+    alloc: Global,
+    query: CursorQuery,
+    document: &Document,
+    at: Position,
+    message: &Value,
+) -> Result<Value, AllocError>
+    ensures { IfOk result (λ v. view v ≡ style_answer_at query document.now at (view message.now)) }
+{
+    if document.text.as_slice().len() > SHOWN_BYTES {
+        return Ok(Value::Null);
+    }
+    said_at(alloc, query, &shown_style(document), at, message)
+}
+
+fn said_of(alloc: Global, query: DocumentQuery, style: &ShownStyle<'_>) -> Result<Value, AllocError>
+    ensures { IfOk result (λ v. view v ≡ said_of query style.now.counting style.now.text.now) }
+{
+    match query {
+        DocumentQuery::Outline => style.symbols(alloc),
+        DocumentQuery::Folds => style.folds(alloc),
+        DocumentQuery::Format | DocumentQuery::Actions | DocumentQuery::Links => { Ok(Value::Null) }
+    }
+}
+
+/// The answer for a style.
+pub fn style_answer_of(
+    alloc: Global,
+    query: DocumentQuery,
+    document: &Document,
+) -> Result<Value, AllocError>
+    ensures { IfOk result (λ v. view v ≡ style_answer_of query document.now) }
+{
+    if document.text.as_slice().len() > SHOWN_BYTES {
+        return Ok(Value::Null);
+    }
+    said_of(alloc, query, &shown_style(document))
+}
+
+/// Checks a document, if it is a style whose text is new.
+fn check_document(
+    alloc: Global,
+    checked: &mut Sequence<Checked>,
+    document: &Document,
+) -> Result<(), AllocError> {
+    let name = document.name.as_slice();
+    let text = document.text.as_slice();
+    if !is_style(name) || text.len() > HINTED_BYTES {
+        return Ok(());
+    }
+    check_again(alloc, checked, name, text)
+}
+
+/// Checks the styles whose texts are new.
+pub fn check_styles(
+    alloc: Global,
+    checked: &mut Sequence<Checked>,
+    documents: &[Document],
+) -> Result<(), AllocError> {
+    for document in documents {
+        check_document(alloc, checked, document)?;
+    }
+    Ok(())
+}
+
+/// Adds what was found in a style's present text.
+fn with_found(
+    alloc: Global,
+    checked: &[Checked],
+    document: &Document,
+    list: Vec<Value>,
+) -> Result<Vec<Value>, AllocError>
+    requires { 2 * length document.now.text < 2 ^ 64 }
+    ensures { IfOk result (λ all. map view all.items ≡ map view list.items ++
+        map (finding document.now.counting document.now.name document.now.text) (found_for document.now.name document.now.text checked.now)) }
+{
+    let name = document.name.as_slice();
+    let text = &document.text;
+    let found = found_for(checked, name, text.as_slice());
+    with_findings(alloc, document.counting, name, text, found, list)
+}
+
+/// Adds the hints and the findings for a document, if it is a style.
+pub fn with_style_hints(
+    alloc: Global,
+    checked: &[Checked],
+    document: &Document,
+    list: Vec<Value>,
+) -> Result<Vec<Value>, AllocError>
+    ensures { IfOk result (λ all. map view all.items ≡
+        with_style_hints checked.now document.now (map view list.items)) }
+{
+    let size = document.text.as_slice().len();
+    if !is_style(document.name.as_slice()) || size > HINTED_BYTES {
+        return Ok(list);
+    }
+    let hints = shown_style(document).with_hints(alloc, list)?;
+    let all = with_found(alloc, checked, document, hints)?;
+    Ok(all)
+}

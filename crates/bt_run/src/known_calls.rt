@@ -1,0 +1,110 @@
+//! How often a run called each built-in function, known from the previous run.
+//!
+//! Few steps change from one run to the next. So a run starts with the sums of the previous run. When a new step replaces
+//! an old one, the sums lose the old step's calls and gain the new one's. Only if steps moved are all of them added up.
+
+ghost use Rattle.std.specs.Prelude.{◌≡◌, ℕ, ◌+◌, ◌++◌, ◌<◌, [], ◌∷◌, List, slice_index_or, IfOk, IsTrue, OnOk};
+ghost use Rattle.std.specs.Option.{ForSome};
+ghost use Rattle.bt_run.specs.declared.course.Step.{Step as StepSeen};
+ghost use Rattle.bt_run.specs.inner.Calls.{AreCalls, AreCallsFrom};
+ghost use Rattle.bt_run.specs.inner.Turn.{IsSharedFrom};
+
+use crate::counts::{Calls, add_calls, count_calls};
+use crate::course::Step;
+use bt_style::BUILTIN_COUNT;
+use bt_text::Shared;
+use std::alloc::AllocError;
+
+/// How a step moved the cursor in the steps of the previous run, and whether it is the step at which the cursor stood.
+#[derive(Clone, Copy)]
+pub struct Turn {
+    pub from: usize,
+    pub next: usize,
+    pub shared: bool,
+}
+
+/// Replaces one step's calls by another's.
+fn exchange_calls(
+    sums: &mut Calls,
+    old: &[u32; BUILTIN_COUNT],
+    new: &[u32; BUILTIN_COUNT],
+) -> Result<(), AllocError>
+    ensures { OnOk result ((place : ℕ) → place < 37 →
+        slice_index_or sums.new place 0 + slice_index_or old.now place 0
+        ≡ slice_index_or sums.old place 0 + slice_index_or new.now place 0) }
+{
+    'places: for place in 0..BUILTIN_COUNT {
+        let rest = sums[place]
+            .checked_sub(u64::from(old[place]))
+            .ok_or(AllocError)?;
+        sums[place] = rest.checked_add(u64::from(new[place])).ok_or(AllocError)?;
+    }
+    Ok(())
+}
+
+fn with_added(calls: Calls, step: &Step) -> Result<Calls, AllocError>
+    ensures { IfOk result (λ sums. (place : ℕ) → place < 37 →
+        slice_index_or sums place 0 ≡ slice_index_or calls place 0 + slice_index_or step.now.outcome.calls place 0) }
+{
+    let mut sums = calls;
+    add_calls(&mut sums, &step.outcome.calls)?;
+    Ok(sums)
+}
+
+fn with_exchanged(calls: Calls, old: &Step, new: &Step) -> Result<Calls, AllocError>
+    ensures { IfOk result (λ sums. (place : ℕ) → place < 37 →
+        slice_index_or sums place 0 + slice_index_or old.now.outcome.calls place 0
+        ≡ slice_index_or calls place 0 + slice_index_or new.now.outcome.calls place 0) }
+{
+    let mut sums = calls;
+    exchange_calls(&mut sums, &old.outcome.calls, &new.outcome.calls)?;
+    Ok(sums)
+}
+
+/// The calls of the steps so far and of the previous run's steps from the cursor on, after one more step.
+#[tactic(auto, using(crate::proofs::TurnLemmas::calls_added, crate::proofs::TurnLemmas::calls_exchanged))]
+pub fn calls_with(
+    calls: Option<Calls>,
+    earlier: &[Shared<Step>],
+    turn: Turn,
+    step: &Step,
+) -> Result<Option<Calls>, AllocError>
+    requires { IsTrue turn.shared → IsSharedFrom earlier.now step.now turn.from turn.next }
+    ensures { IfOk result (λ more. (steps : List StepSeen) → ForSome calls (AreCallsFrom earlier.now turn.from steps) →
+        ForSome more (AreCallsFrom earlier.now turn.next (steps ++ step.now ∷ []))) }
+{
+    if turn.shared {
+        return Ok(calls);
+    }
+    let Some(calls) = calls else {
+        return Ok(None);
+    };
+    if turn.next == turn.from {
+        let sums = with_added(calls, step)?;
+        return Ok(Some(sums));
+    }
+    if turn.from < earlier.len() && turn.next == turn.from + 1 {
+        let sums = with_exchanged(calls, &earlier[turn.from], step)?;
+        return Ok(Some(sums));
+    }
+    Ok(None)
+}
+
+/// The calls of all steps of a run. If the cursor is at the end, the known sums are theirs; otherwise they are added up.
+pub fn calls_of_all(
+    earlier: &[Shared<Step>],
+    next: usize,
+    steps: &[Shared<Step>],
+    known: Option<Calls>,
+) -> Result<Calls, AllocError>
+    requires { ForSome known (AreCallsFrom earlier.now next steps.now) }
+    ensures { IfOk result (AreCalls steps.now) }
+{
+    if let Some(calls) = known
+        && next >= earlier.len()
+    {
+        return Ok(calls);
+    }
+    let calls = count_calls(steps)?;
+    Ok(calls)
+}

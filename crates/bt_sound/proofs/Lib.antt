@@ -1,0 +1,16 @@
+pub mod Options
+pub mod Messages
+pub mod Ranges
+pub mod Digits
+pub mod Worlds
+pub mod Basics
+pub mod Pairs
+pub mod Operands
+pub mod Assignments
+pub mod Beyond
+pub mod Rules
+pub mod AllRules
+pub mod Steps
+pub mod CoverLemmas
+pub mod FollowLemmas
+mod rows

@@ -1,0 +1,3 @@
+-- Worked values of the definitions.
+mod ExcludedRows
+mod KnownRows

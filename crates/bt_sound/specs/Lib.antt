@@ -1,0 +1,11 @@
+pub mod Excluded
+pub mod Known
+pub mod Fits
+pub mod Transfer
+pub mod Reading
+pub mod Holds
+pub mod Rules
+pub mod Sound
+pub mod Below
+pub mod Follows
+pub mod Seen

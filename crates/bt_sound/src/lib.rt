@@ -1,0 +1,36 @@
+//! What it means that a style is sound, and a checker whose yes implies it (`accepts`).
+#![tactic(auto)]
+
+ghost use Rattle.bt_style.specs.Program.{Program};
+ghost use Rattle.bt_sound.specs.Rules.{Rules};
+ghost use Rattle.bt_sound.specs.Sound.{IsCheckedStyle, Promises};
+ghost use Rattle.std.specs.Prelude.{ℕ, List};
+
+mod assigning;
+mod commands;
+mod following;
+mod joining;
+mod known;
+mod may;
+mod parts;
+mod range;
+mod reading;
+mod search;
+mod state;
+mod stop;
+mod tops;
+mod transfer;
+mod within;
+
+pub use commands::accepts;
+pub use search::is_sound;
+
+/// Each rule is right: a body that it checks gives no excluded message before an overflow.
+pub fn rules_hold()
+    ensures { (p : Program) (types : List ℕ) → Rules p types }
+{}
+
+/// No step of a style whose commands are checked gives an excluded message before an overflow.
+pub fn checked_styles_keep_their_promise()
+    ensures { (p : Program) (types : List ℕ) → IsCheckedStyle p types → Promises p types }
+{}

@@ -1,0 +1,43 @@
+//! What is shown of the name under the cursor.
+
+ghost use Rattle.std.specs.Prelude.{◌≡◌, IfOk};
+ghost use Rattle.serde_json.specs.View.{view};
+ghost use Rattle.bt_style_answers.specs.Hovering.{markdown, shown_words, hover_at};
+
+use crate::shown_style::ShownStyle;
+use bt_positions::Position;
+use bt_shapes::shown;
+use bt_style_text::{hover_of, marks_of};
+use serde_json::{Value, json};
+use std::alloc::{AllocError, Global};
+
+fn markdown(alloc: Global, words: &[u8]) -> Result<Value, AllocError>
+    ensures { IfOk result (λ v. view v ≡ markdown words.now) }
+{
+    let words = shown(alloc, words)?;
+    json!(in alloc; {"contents": {"kind": "markdown", "value": words}})
+}
+
+fn shown_words(alloc: Global, words: &[u8]) -> Result<Value, AllocError>
+    ensures { IfOk result (λ v. view v ≡ shown_words words.now) }
+{
+    if words.is_empty() {
+        Ok(Value::Null)
+    } else {
+        markdown(alloc, words)
+    }
+}
+
+impl ShownStyle<'_> {
+    /// What is shown of the name at a position; null if there is nothing to say.
+    pub fn hover_at(&self, alloc: Global, at: Position) -> Result<Value, AllocError>
+        ensures { IfOk result (λ v. view v ≡ hover_at self.now.counting self.now.text.now at) }
+    {
+        let text = self.text.as_slice();
+        let place = self.text.offset_of(self.counting, at);
+        let marks = marks_of(alloc, text)?;
+        let words = hover_of(alloc, text, marks.as_slice(), place)?;
+        let value = shown_words(alloc, words.as_slice())?;
+        Ok(value)
+    }
+}

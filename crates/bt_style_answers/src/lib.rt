@@ -1,0 +1,13 @@
+//! What a language server answers about a style's text, as values of the protocol.
+#![tactic(auto)]
+
+mod completion;
+mod folding;
+mod hinting;
+mod hovering;
+mod outline;
+mod references;
+mod renaming;
+mod shown_style;
+
+pub use shown_style::ShownStyle;
