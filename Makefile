@@ -67,7 +67,7 @@ check:
 built:
 	@for program in $(PROGRAM) $(JOB_PROGRAM) $(CHECK_PROGRAM) $(LSP_PROGRAM) $(WHY_PROGRAM); do \
 	  test -x $$program || { echo "$$program isn't built: run 'make build' first." >&2; exit 1; }; \
-	  test -z "$$(find $(SOURCES) -newer $$program | head -1)" || \
+	  test -z "$$(find crates.txt crates/*/src crates/*/specs crates/*/proofs -newer $$program | head -1)" || \
 	  { echo "$$program is older than its sources: run 'make build' first." >&2; exit 1; }; \
 	done
 
