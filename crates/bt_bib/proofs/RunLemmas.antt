@@ -5,7 +5,9 @@ use Rattle.std.proofs.Common.{◌≡◌, ℕ, ◌+◌, ◌-◌, ◌<◌, ◌≤�
 use Rattle.std.proofs.lemmas.List.{drop_more, drop_all}
 use Rattle.std.proofs.lemmas.List.Sums.{sum_by-cons, take_while-cons}
 use Rattle.bt_bib.specs.declared.spot.Spot.{Spot}
-use Rattle.bt_text.specs.ByteTests.{is_line_feed}
+use Rattle.std.proofs.lemmas.Bool.Decides.{nat_tests}
+use Rattle.bt_text.specs.ByteTests.{is_line_feed, is_small}
+use Rattle.bt_text.specs.NameBytes.{is_name_byte}
 use Rattle.bt_bib.specs.Spot.{Here, at, here, spot_after_byte, spot_after, after_bytes}
 use Rattle.bt_bib.specs.Scan.{after_run, run}
 
@@ -86,3 +88,7 @@ run_is_between test h = front_taken test h.rest ∙ ap (λ n. take n h.rest) (om
 -- the same of a text, up to a spot that is known
 pub run_taken : (test : ℕ → Bool) (text : List ℕ) (from end : Spot) → here text end ≡ after_run test (here text from) → take (end.place - from.place) (drop from.place text) ≡ run test (here text from)
 run_taken test text from end is = ap (λ (h : Here). take (h.spot.place - from.place) (drop from.place text)) is ∙ sym (run_is_between test (here text from))
+
+-- A small letter is a byte of a name.
+pub small_named : (b : ℕ) → is_small b ≡ true → is_name_byte b ≡ true
+small_named b h = grind (arith, nat_tests)

@@ -34,7 +34,7 @@ abbrev pub parts_kept : Option AuxFault → List (List ℕ) → List (List ℕ)
 parts_kept None parts = parts
 parts_kept (Some fault) parts = take (length parts - 1) parts
 
--- of the text after a command's opening brace: the parts before a fault, and the fault
+-- the fault of the argument with which this text, after a command's opening brace, begins
 abbrev pub fault_of : List ℕ → Option AuxFault
 fault_of rest = fault_at (after_argument rest)
 

@@ -4,7 +4,7 @@
 //! still has the places before it.
 
 ghost use Rattle.std.specs.Prelude.{◌≡◌, ◌<◌, ◌≤◌, ◌+◌, count_by, drop, length, take};
-ghost use Rattle.bt_text.specs.ByteTests.{is_line_feed};
+ghost use Rattle.bt_text.specs.ByteTests.{is_line_feed, is_small};
 ghost use Rattle.bt_bib.specs.Spot.{after_byte, here, spot_after};
 ghost use Rattle.bt_bib.specs.inner.Spot.{IsAhead, IsIn};
 ghost use Rattle.bt_bib.specs.Scan.{closing_sign, first, is_key_byte, after_run, run, sign, after_white};
@@ -41,6 +41,12 @@ impl Closing {
     }
 }
 
+fn is_small(byte: u8) -> bool
+    ensures { result ≡ is_small byte }
+{
+    matches!(byte, b'a'..=b'z')
+}
+
 fn is_key_byte(close: Closing, byte: u8) -> bool
     ensures { result ≡ is_key_byte close byte }
 {
@@ -51,13 +57,15 @@ fn is_key_byte(close: Closing, byte: u8) -> bool
 }
 
 impl Class {
+    #[tactic(auto, using(crate::proofs::RunLemmas::small_named))]
     pub fn has(self, byte: u8) -> bool
         ensures { result ≡ has self byte }
     {
         match self {
             Class::White => is_white(byte),
             Class::Digit => is_digit(byte),
-            Class::Name => is_name_byte(byte),
+            // Most bytes of a name are small letters, and for these one comparison is enough.
+            Class::Name => is_small(byte) || is_name_byte(byte),
             Class::Key(close) => is_key_byte(close, byte),
         }
     }

@@ -1,4 +1,4 @@
--- When two inputs agree in what a step comes to, and what the step then leaves.
+-- When two inputs agree in everything that a step can reach, and what the step then leaves.
 use Rattle.std.specs.Prelude.{◌≡◌, ◌↔◌, Bool, List, Contains, Option, Some, None, option_map}
 use Rattle.bt_style.specs.declared.style.Target.{Target}
 use Rattle.bt_style.specs.Program.{Program}
@@ -14,7 +14,7 @@ use Rattle.bt_machine.specs.Footprint.{pick, blend_globals, blend_own, input_ove
 abbrev pub Agree : (Target → Bool) → Input → Input → Type 0
 Agree keep i j = input_over keep j i ≡ j
 
--- the names are those that a step with this input may come to
+-- the names are those that a step with this input can reach
 abbrev pub IsFootprint : Program → Input → List Target → Type 0
 IsFootprint p i names = (t : Target) → Contains names t ↔ Reaches p (function_of i.entry) i.target t
 
@@ -36,32 +36,32 @@ outcome_over keep b o =
       calls = o.calls;
     }
 
--- what is not come to is left as it was
+-- what the step can't reach is as it was
 abbrev pub RestStays : Program → Input → Outcome → Type 0
 RestStays p i o = (names : List Target) → IsFootprint p i names → o ≡ outcome_over (is_among names) i o
 
--- A step leaves what it does not come to as it was.
+-- A step leaves what it can't reach as it was.
 abbrev pub LeavesTheRest : Program → Type 0
 LeavesTheRest p = (i : Input) → RestStays p i (outcome_of (step_in p i))
 
--- the step of the second input costs what that of the first does, and leaves the same in what it comes to
+-- the step of the second input costs the same as that of the first, and leaves the same in everything that it can reach
 abbrev pub SameStep : Program → (Target → Bool) → Input → Input → Type 0
 SameStep p keep i j =
     (outcome_of (step_in p j) ≡ outcome_over keep j (outcome_of (step_in p i))) ×
     ((step_in p j).cost ≡ (step_in p i).cost)
 
--- the same, where the names are those that the step of one of the two may come to
+-- the same, if the names are those that the step of one of the two can reach
 abbrev pub SameStepEither : Program → List Target → Input → Input → Type 0
 SameStepEither p names i j =
     (IsFootprint p i names → SameStep p (is_among names) i j) ×
     (IsFootprint p j names → SameStep p (is_among names) i j)
 
--- Where inputs agree in what the step of one of them may come to, their steps do the same.
+-- If inputs agree in everything that the step of one of them can reach, their steps do the same.
 abbrev pub AgreeingInputsSameStep : Program → Type 0
 AgreeingInputsSameStep p =
     (names : List Target) (i j : Input) → Agree (is_among names) i j → SameStepEither p names i j
 
--- Where inputs agree in some names, these are what the step of the one may come to where they are for the other.
+-- If inputs agree in these names, and the names are what one step can reach, they are what the other can reach.
 abbrev pub AgreeingInputsSameReach : Program → Type 0
 AgreeingInputsSameReach p =
     (names : List Target) (i j : Input) → Agree (is_among names) i j → IsFootprint p i names ↔ IsFootprint p j names

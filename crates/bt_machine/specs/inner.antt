@@ -3,3 +3,4 @@ pub mod Loop
 pub mod Footprint
 pub mod Substitution
 pub mod Cases
+pub mod Ended

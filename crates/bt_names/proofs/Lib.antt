@@ -5,6 +5,7 @@ pub mod SplittingLemmas
 pub mod PatternLemmas
 pub mod LengthLemmas
 pub mod CallLemmas
+pub mod KnownLemmas
 pub mod SectionLemmas
 pub mod NameLemmas
 pub mod CutLemmas

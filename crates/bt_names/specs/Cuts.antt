@@ -21,11 +21,11 @@ kept_blocks name = filter (λ block. not (is_single (λ b. b == right_brace) blo
 abbrev pub sections : List ℕ → List (List (List ℕ))
 sections name = slice_split (is_single (λ b. b == comma)) (kept_blocks name)
 
--- White space, hyphens and ties at depth 0 part the tokens.
+-- White space, hyphens and ties at depth 0 separate the tokens.
 abbrev pub is_parting : ℕ → Bool
 is_parting b = is_white b || is_separator b
 
--- a longest run of blocks that part no tokens, and the bytes that part it from what stands before
+-- a longest run of blocks that separate no tokens, and the bytes that separate it from what comes before
 pub record Run : Type 0 where
   pub gap : List ℕ
   pub text : List ℕ
@@ -36,7 +36,7 @@ onto_text block (r ∷ rs) =
     if length r.gap == 0 then record { gap = []; text = block ++ r.text } ∷ rs
     else record { gap = []; text = block } ∷ r ∷ rs
 
--- the runs of some blocks; parting blocks at the end belong to no run
+-- the runs of some blocks; separating blocks at the end belong to no run
 abbrev pub runs : List (List ℕ) → List Run
 runs [] = []
 runs (block ∷ rest) =
@@ -49,13 +49,13 @@ abbrev pub sign_of : List ℕ → ℕ
 sign_of [] = 0
 sign_of (b ∷ gap) = if is_white b then space else b
 
--- the tokens of a section, where lead stands before the first
+-- the tokens of a section; `lead` is the byte before the first one
 abbrev pub tokens : ℕ → List Run → List Token
 tokens lead [] = []
 tokens lead (r ∷ rs) =
     record { text = r.text; before = lead } ∷ map (λ s. record { text = s.text; before = sign_of s.gap }) rs
 
--- A comma stands before the first token of a section, if there are tokens before it.
+-- what is before the first token of a section: a comma, if earlier sections have tokens
 abbrev pub lead_after : List Token → ℕ
 lead_after [] = 0
 lead_after (w ∷ ws) = comma

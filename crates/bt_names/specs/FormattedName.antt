@@ -1,4 +1,4 @@
--- What the calls answer: the parts of the n-th name, that name in a pattern, or why there is none.
+-- The parts of the n-th name; that name formatted by a pattern; or why there is none.
 use Rattle.std.specs.Prelude.{◌≡◌, ℤ, ℕ, List, None, Some, Result, Ok, Err, IsOk}
 use Rattle.bt_names.specs.declared.tokens.Parts.{Parts}
 use Rattle.bt_names.specs.declared.faults.NameFault.{NameFault}
@@ -23,7 +23,7 @@ IsNameFault r no_memory = IsOk r
 IsNameFault r no_such_name = r ≡ Err no_such_name
 IsNameFault r too_many_commas = r ≡ Err too_many_commas
 
--- the n-th name in a pattern, or the first fault
+-- the n-th name formatted by a pattern, or the first fault
 unfoldable pub formatted_name : List ℕ → ℤ → List ℕ → Result (List ℕ) FormatFault
 formatted_name names n pattern = elim (name_at names n) [
   | None ↦ Err NoSuchName

@@ -15,8 +15,8 @@ use Rattle.bt_names.specs.Joints.{Between, by_text, by_signs, is_short, joined}
 abbrev pub ends_in_tie : List ℕ → Bool
 ends_in_tie out = ends_in (λ b. b == tie) out
 
--- Of two ties at a group's end one goes. A single one becomes a space, unless fewer than 3 text characters stand before
--- it.
+-- Of two ties at a group's end one is dropped. A single one becomes a space, unless fewer than 3 text characters come
+-- before it.
 abbrev pub group_finished : List ℕ → List ℕ
 group_finished out =
     let front = take (length out - 1) out in
@@ -31,7 +31,7 @@ part_named parts b =
     if letter == 102 then parts.first
     else (if letter == 118 then parts.von else (if letter == 108 then parts.last else parts.jr))
 
--- the tokens of a part, with what stands in the group before and after them; nothing for an empty part
+-- the tokens of a part, with what comes before and after them in the group; nothing for an empty part
 abbrev pub put_in : Between → List ℕ → List Token → List ℕ → List ℕ
 put_in between before [] behind = []
 put_in between before (w ∷ rest) behind = group_finished (joined between (before ++ w.text) rest ++ behind)
@@ -40,7 +40,7 @@ put_in between before (w ∷ rest) behind = group_finished (joined between (befo
 abbrev pub form_at : List ℕ → ℕ → Form
 form_at t i = if is_doubled_at t i then Whole else Initials
 
--- A group directly after the letter is the text between tokens, and is not put out itself.
+-- A group directly after the letter gives the text between tokens, and isn't copied itself.
 abbrev pub with_tokens : List ℕ → Form → List Token → List ℕ → List ℕ
 with_tokens before form ws behind =
     let block = first_block behind in

@@ -9,7 +9,7 @@ use crate::faults::{FormatFault, NameFault};
 use crate::name::Name;
 use crate::name_parts::cut_name;
 use crate::names::name_at;
-use crate::patterns::pattern_fault;
+use crate::sound_patterns::SoundPatterns;
 use crate::tokens::Parts;
 use crate::writing::{Written, push_pieces};
 use bt_text::Bytes;
@@ -42,8 +42,11 @@ pub fn parts(alloc: Global, names: &[u8], n: i32) -> Result<Parts, NameFault>
 /// The faults are reported in this order: `NoSuchName` if n is 0 or less or above the number of names, `TooManyCommas` if
 /// the name has more than two, `PatternFault` with the place of the first fault of the pattern, `OutOfMemory`. The first
 /// three take no memory.
+///
+/// `known` are patterns whose faults needn't be looked for.
 pub fn push_formatted(
     alloc: Global,
+    known: &SoundPatterns,
     out: &mut Vec<u8>,
     names: &[u8],
     n: i32,
@@ -61,7 +64,7 @@ pub fn push_formatted(
     if has_many_commas(name) {
         return Err(FormatFault::TooManyCommas);
     }
-    if let Some(place) = pattern_fault(pattern) {
+    if let Some(place) = known.pattern_fault(pattern) {
         return Err(FormatFault::PatternFault(place));
     }
     let name = Name::new(alloc, name)?;
@@ -76,8 +79,9 @@ pub fn format(alloc: Global, names: &[u8], n: i32, pattern: &[u8]) -> Result<Byt
     ensures text { IfOk result (λ text. formatted_name names.now n pattern.now ≡ Ok text) }
     ensures fault { IfErr result (IsFormatFault (formatted_name names.now n pattern.now)) }
 {
+    let known = SoundPatterns::none(alloc);
     let mut page = Vec::new(alloc);
-    match push_formatted(alloc, &mut page, names, n, pattern, usize::MAX)? {
+    match push_formatted(alloc, &known, &mut page, names, n, pattern, usize::MAX)? {
         Written::Whole => Ok(Bytes::from_vec(page)),
         Written::Longer => Err(FormatFault::OutOfMemory),
     }

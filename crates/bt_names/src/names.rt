@@ -4,6 +4,7 @@
 //! counter, and allocates nothing: `num.names$` only counts, and `format.name$` looks at one name.
 
 ghost use Rattle.std.specs.Prelude.{◌≡◌, ◌<◌, ◌≤◌, ◌-◌, ◌==◌, ◌&&◌, ◌||◌, length, drop, slice_range, slice_get, IfSome, IfNone, Some, None};
+ghost use Rattle.bt_text.specs.Depth.{depth_after};
 ghost use Rattle.bt_names.specs.Names.{begins_with_and, has_and_at, follows_white, name_at, names_of};
 
 use bt_text::{depth_after, eq_ignore_ascii_case, is_white};
@@ -53,6 +54,25 @@ fn separates(names: &[u8], place: usize, depth: usize) -> bool
     }
 }
 
+/// The depth after a brace. It stands apart, because the loops below would compute it at each byte.
+#[inline(never)]
+fn depth_after_brace(depth: usize, brace: u8) -> usize
+    requires { depth < usize.MAX }
+    ensures { result ≡ depth_after depth brace }
+{
+    depth_after(depth, brace)
+}
+
+fn depth_behind(depth: usize, byte: u8) -> usize
+    requires { depth < usize.MAX }
+    ensures { result ≡ depth_after depth byte }
+{
+    match byte {
+        b'{' | b'}' => depth_after_brace(depth, byte),
+        _ => depth,
+    }
+}
+
 /// How many names a text lists: one more than there are separators outside of braces, and none if it is empty.
 #[tactic(auto, using(crate::proofs::ListingLemmas::counting))]
 pub fn count(names: &[u8]) -> usize
@@ -67,7 +87,7 @@ pub fn count(names: &[u8]) -> usize
         if separates(names, place, depth) {
             count += 1;
         }
-        depth = depth_after(depth, *byte);
+        depth = depth_behind(depth, *byte);
     }
     count
 }
@@ -103,7 +123,7 @@ fn name_after(names: &[u8], before: usize) -> Option<&[u8]>
             left -= 1;
             start = place + 3;
         }
-        depth = depth_after(depth, *byte);
+        depth = depth_behind(depth, *byte);
     }
     if left == 0 {
         Some(from_place(names, start))

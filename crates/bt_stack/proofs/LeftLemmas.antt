@@ -1,10 +1,12 @@
 -- What is copied out at a step's end: the variables that it was given, with its values put over them one by one.
 use Rattle.std.proofs.Common.{◌≡◌, ℕ, zero, suc, ℤ, ◌<◌, List, [], ◌∷◌, length, get_or, take, refl, ap, sym, ◌∙◌, arith}
-use Rattle.std.specs.Prelude.{Option, Some, None, slice_get}
+use Rattle.std.specs.Prelude.{Option, Some, None, slice_get, unwrap_or}
 use Rattle.bt_actions.specs.Arguments.{as_text}
 use Rattle.bt_stack.specs.declared.value.Value.{Value}
 use Rattle.bt_stack.specs.declared.value.Value.TheVariants as value
+use Rattle.bt_actions.specs.declared.entry.Variables.{Variables}
 use Rattle.bt_stack.specs.inner.Kept.{item_in, text_over, texts_over, number_over, own_of, numbers_over, put}
+use Rattle.bt_stack.specs.inner.Left.{copies_of, copies_over, variables_left}
 
 put_next : {A : Type 0} (o : Option A) (n : ℕ) (x : A) (l : List A) → put o (suc n) (x ∷ l) ≡ x ∷ put o n l
 put_next None n x l = refl
@@ -27,19 +29,34 @@ numbers_next (k ∷ ns) (z ∷ zs) (suc n) m h is_there =
     ap (λ l. number_over k z ∷ l) (numbers_next ns zs n m (omega (arith, h)) is_there)
     ∙ sym (put_next m n (number_over k z) (numbers_over (take n ns) zs))
 
-put_text : (pool : List ℕ) (v : Value) (t : List ℕ) (l : List (List ℕ)) → put (as_text (item_in pool v)) 0 (t ∷ l) ≡ text_over pool v t ∷ l
-put_text pool (value.Number n) t l = refl
-put_text pool (value.Given u) t l = refl
-put_text pool (value.Made start count) t l = refl
-put_text pool (value.Name n) t l = refl
-put_text pool (value.Block ops) t l = refl
-put_text pool (value.Missing n) t l = refl
+put_text : (c : Option (List ℕ)) (t : List ℕ) (l : List (List ℕ)) → put c 0 (t ∷ l) ≡ unwrap_or c t ∷ l
+put_text None t l = refl
+put_text (Some u) t l = refl
 
-pub texts_next : (pool : List ℕ) (vs : List Value) (ts : List (List ℕ)) (n : ℕ) (v : Value) → n < length vs → v ≡ get_or vs n v → texts_over pool (take (suc n) vs) ts ≡ put (as_text (item_in pool v)) n (texts_over pool (take n vs) ts)
-texts_next pool [] ts n v h is_there = absurd (omega (arith, h))
-texts_next pool (u ∷ vs) [] zero v h is_there = sym (put_nothing (as_text (item_in pool v)) 0)
-texts_next pool (u ∷ vs) [] (suc n) v h is_there = sym (put_nothing (as_text (item_in pool v)) (suc n))
-texts_next pool (u ∷ vs) (t ∷ ts) zero v h is_there = sym (put_text pool v t ts ∙ ap (λ x. text_over pool x t ∷ ts) is_there)
-texts_next pool (u ∷ vs) (t ∷ ts) (suc n) v h is_there =
-    ap (λ l. text_over pool u t ∷ l) (texts_next pool vs ts n v (omega (arith, h)) is_there)
-    ∙ sym (put_next (as_text (item_in pool v)) n (text_over pool u t) (texts_over pool (take n vs) ts))
+pub copies_next : (cs : List (Option (List ℕ))) (ts : List (List ℕ)) (n : ℕ) (c : Option (List ℕ)) → n < length cs → c ≡ get_or cs n c → copies_over (take (suc n) cs) ts ≡ put c n (copies_over (take n cs) ts)
+copies_next [] ts n c h is_there = absurd (omega (arith, h))
+copies_next (d ∷ cs) [] zero c h is_there = sym (put_nothing c 0)
+copies_next (d ∷ cs) [] (suc n) c h is_there = sym (put_nothing c (suc n))
+copies_next (d ∷ cs) (t ∷ ts) zero c h is_there = sym (put_text c t ts ∙ ap (λ x. unwrap_or x t ∷ ts) is_there)
+copies_next (d ∷ cs) (t ∷ ts) (suc n) c h is_there =
+    ap (λ l. unwrap_or d t ∷ l) (copies_next cs ts n c (omega (arith, h)) is_there)
+    ∙ sym (put_next c n (unwrap_or d t) (copies_over (take n cs) ts))
+
+copy_same : (pool : List ℕ) (v : Value) (t : List ℕ) → unwrap_or (as_text (item_in pool v)) t ≡ text_over pool v t
+copy_same pool (value.Number n) t = refl
+copy_same pool (value.Given u) t = refl
+copy_same pool (value.Made start count) t = refl
+copy_same pool (value.Name n) t = refl
+copy_same pool (value.Block ops) t = refl
+copy_same pool (value.Missing n) t = refl
+
+copies_same : (pool : List ℕ) (vs : List Value) (ts : List (List ℕ)) → copies_over (copies_of pool vs) ts ≡ texts_over pool vs ts
+copies_same pool [] ts = refl
+copies_same pool (v ∷ vs) [] = refl
+copies_same pool (v ∷ vs) (t ∷ ts) = λ j. copy_same pool v t j ∷ copies_same pool vs ts j
+
+-- copies of the step's texts give the same variables as the texts themselves
+pub left_same : (pool : List ℕ) (vs : List Value) (cs : List (Option (List ℕ))) (ns : List (Option ℤ)) (given shared : Variables) → cs ≡ copies_of pool vs → shared ≡ given → variables_left ns cs shared ≡ record { numbers = numbers_over ns given.numbers; texts = texts_over pool vs given.texts }
+left_same pool vs cs ns given shared are_copies is_shared =
+    (λ j. variables_left ns (are_copies j) (is_shared j))
+    ∙ (λ j. record { numbers = numbers_over ns given.numbers; texts = copies_same pool vs given.texts j })

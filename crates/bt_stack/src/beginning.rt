@@ -3,11 +3,12 @@
 use crate::stack::Stack;
 use crate::state::State;
 use bt_actions::{Entry, Variables};
+use bt_names::SoundPatterns;
 use bt_text::{Held, Sequence, Shared};
-use std::alloc::Global;
+use std::alloc::{AllocError, Global};
 
 impl<'a> State<'a> {
-    ghost use Rattle.std.specs.Prelude.{◌≡◌, []};
+    ghost use Rattle.std.specs.Prelude.{◌≡◌, [], IfOk};
     ghost use Rattle.bt_stack.specs.View.{world_of, world_begun};
 
     /// A state in which nothing was written or reported.
@@ -16,12 +17,14 @@ impl<'a> State<'a> {
         stack: Stack<'a>,
         entry: Option<&'a Entry>,
         preamble: &'a [u8],
+        patterns: &'a SoundPatterns,
         held: Held,
     ) -> State<'a>
         ensures { result ≡ record {
           stack = stack.entry;
           entry = entry.entry;
           preamble = preamble.entry;
+          patterns = patterns.entry;
           held = held;
           lines = [];
           complaints = [];
@@ -31,6 +34,7 @@ impl<'a> State<'a> {
             stack,
             entry,
             preamble,
+            patterns,
             held,
             lines: Sequence::new(alloc),
             complaints: Sequence::new(alloc),
@@ -38,24 +42,24 @@ impl<'a> State<'a> {
     }
 
     /// The state before a step for an entry or for none, with the variables of the style and the line that is held.
-    /// It takes no memory.
     pub fn begin(
         alloc: Global,
         entry: &'a Option<Entry>,
         globals: &'a Shared<Variables>,
         preamble: &'a [u8],
+        patterns: &'a SoundPatterns,
         held: Held,
-    ) -> State<'a>
-        ensures { world_of result ≡ world_begun entry.now globals.now preamble.now held }
+    ) -> Result<State<'a>, AllocError>
+        ensures { IfOk result (λ state. world_of state ≡ world_begun entry.now globals.now preamble.now held) }
     {
         match entry {
             None => {
-                let stack = Stack::new(alloc, globals, globals);
-                State::with(alloc, stack, None, preamble, held)
+                let stack = Stack::new(alloc, globals, globals)?;
+                Ok(State::with(alloc, stack, None, preamble, patterns, held))
             }
             Some(entry) => {
-                let stack = Stack::new(alloc, globals, &entry.variables);
-                State::with(alloc, stack, Some(entry), preamble, held)
+                let stack = Stack::new(alloc, globals, &entry.variables)?;
+                Ok(State::with(alloc, stack, Some(entry), preamble, patterns, held))
             }
         }
     }

@@ -23,9 +23,11 @@ mod step_variables;
 mod table;
 mod texts;
 mod value;
+mod variables_left;
 
 pub use arguments::{take_choice, take_loop, take_number};
 pub use assignment::assign_value;
+pub use bt_names::SoundPatterns;
 pub use leaving::Left;
 pub use operands::{
     call_entry_number, call_entry_text, call_field, call_global_number, call_global_text,
@@ -33,3 +35,4 @@ pub use operands::{
 pub use stack::Stack;
 pub use state::State;
 pub use table::call_basic;
+pub use variables_left::VariablesLeft;

@@ -16,7 +16,7 @@ use crate::stack::Stack;
 use crate::state::State;
 use crate::texts::count_fitting;
 use bt_actions::{Complaint, Flow};
-use bt_names::{FormatFault, Written, count, push_formatted};
+use bt_names::{FormatFault, SoundPatterns, Written, count, push_formatted};
 use bt_style::Builtin;
 use bt_text::{Bytes, TEXT_BYTES};
 use std::alloc::{AllocError, Global};
@@ -70,6 +70,7 @@ fn fault_complaint(
 /// for the stack isn't written to its end, since it isn't put there.
 fn write_name(
     alloc: Global,
+    known: &SoundPatterns,
     page: &mut Vec<u8>,
     names: &[u8],
     number: i32,
@@ -79,7 +80,7 @@ fn write_name(
     ensures { IfOk result (λ told. (w : World) → written_answer told page.new.items w
         ≡ answered (name_formatted (names.now, number, pattern.now)) w) }
 {
-    match push_formatted(alloc, page, names, number, pattern, TEXT_BYTES) {
+    match push_formatted(alloc, known, page, names, number, pattern, TEXT_BYTES) {
         Ok(written) => Ok(Ok(written)),
         Err(fault) => {
             let complaint = fault_complaint(alloc, names, number, pattern, fault)?;
@@ -123,6 +124,7 @@ fn answer_name(
 /// number. The texts are borrowed only here, so the caller can change the stack.
 fn write_tops(
     alloc: Global,
+    known: &SoundPatterns,
     page: &mut Vec<u8>,
     stack: &Stack,
 ) -> Result<Option<Result<Written, Complaint>>, AllocError>
@@ -132,7 +134,7 @@ fn write_tops(
 {
     match (stack.text_at(2), stack.number_at(1), stack.text_at(0)) {
         (Some(names), Some(number), Some(pattern)) => {
-            let told = write_name(alloc, page, names, number, pattern)?;
+            let told = write_name(alloc, known, page, names, number, pattern)?;
             Ok(Some(told))
         }
         _ => Ok(None),
@@ -163,7 +165,7 @@ pub fn format_name(state: &mut State, alloc: Global) -> Result<Flow, AllocError>
         state.old state.new) }
 {
     let mut page = state.stack.take_page(alloc);
-    match write_tops(alloc, &mut page, &state.stack)? {
+    match write_tops(alloc, state.patterns, &mut page, &state.stack)? {
         Some(told) => answer_name(state, page, told),
         None => refuse_name(state),
     }

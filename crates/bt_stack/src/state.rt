@@ -2,6 +2,7 @@
 
 use crate::stack::Stack;
 use bt_actions::{Complaint, Entry, Flow, STACK_LIMIT};
+use bt_names::SoundPatterns;
 use bt_style::{Builtin, Op, Target};
 use bt_text::{Bytes, Held, Sequence, TEXT_BYTES};
 use std::alloc::AllocError;
@@ -13,6 +14,8 @@ pub struct State<'a> {
     /// The entry that the step is for. Its variables are the stack's.
     pub entry: Option<&'a Entry>,
     pub preamble: &'a [u8],
+    /// Patterns of `format.name$` that are known to have no fault.
+    pub patterns: &'a SoundPatterns,
     pub held: Held,
     pub lines: Sequence<Bytes>,
     pub complaints: Sequence<Complaint>,

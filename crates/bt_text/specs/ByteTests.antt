@@ -1,4 +1,4 @@
--- The bytes that have a part of their own, and tests on bytes.
+-- Bytes with a name of their own, and tests on bytes.
 use Rattle.std.specs.Prelude.{ℕ, Bool, ◌||◌, ◌&&◌, nat_le, ◌==◌}
 
 abbrev pub space : ℕ
@@ -47,7 +47,7 @@ is_letter b = is_small b || is_large b || nat_le 128 b
 abbrev pub is_digit : ℕ → Bool
 is_digit b = is_within 48 57 b
 
--- the two bytes that part the words of a name as white space does
+-- the two bytes that separate the words of a name, as white space does
 abbrev pub is_separator : ℕ → Bool
 is_separator b = b == tie || b == hyphen
 

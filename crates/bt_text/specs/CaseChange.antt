@@ -35,8 +35,8 @@ changed_block mode block =
     if begins_special block then flat_map (changed_symbol mode) (symbols block)
     else (if begins_group block then block else map (changed_byte mode) block)
 
--- Whether the mode spares the block that stands after front: in a title, if front is empty, or ends in white space and
--- before it a colon.
+-- Whether the mode leaves the block after `front` as it is: in a title, if `front` is empty, or ends in a colon and
+-- white space.
 abbrev pub is_spared : Mode → List ℕ → Bool
 is_spared Title [] = true
 is_spared Title (b ∷ t) = ends_in is_white (b ∷ t) && ends_in (λ c. c == 58) (trimmed_end (b ∷ t))

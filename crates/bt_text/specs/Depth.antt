@@ -1,4 +1,4 @@
--- How deep in braces a place of a text stands.
+-- How deep in braces a place of a text is.
 use Rattle.std.specs.Prelude.{◌≡◌, ◌≢◌, ℕ, ◌+◌, ◌-◌, ◌<◌, ◌==◌, if◌then◌else◌, List, length, take, slice_index, fold}
 use Rattle.bt_text.specs.ByteTests.{left_brace, right_brace}
 

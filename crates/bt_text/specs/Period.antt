@@ -8,7 +8,7 @@ abbrev pub ends_sentence : Option ℕ → Bool
 ends_sentence None = false
 ends_sentence (Some b) = b == full_stop || b == 63 || b == 33
 
--- A full stop is put after a text, unless it is empty or its last byte that is no right brace ends a sentence.
+-- The text with a full stop after it, unless it is empty or its last byte other than a right brace ends a sentence.
 abbrev pub with_period : List ℕ → List ℕ
 with_period [] = []
 with_period (b ∷ t) =

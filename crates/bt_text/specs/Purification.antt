@@ -1,4 +1,4 @@
--- A text without what is no letter and no digit.
+-- A text reduced to letters, digits and spaces.
 use Rattle.std.specs.Prelude.{ℕ, ◌||◌, if◌then◌else◌, List, [], ◌∷◌, flat_map}
 use Rattle.bt_text.specs.ByteTests.{is_white, is_letter, is_digit, is_separator, space}
 use Rattle.bt_text.specs.Pieces.{Piece, special, brace, other, pieces}

@@ -1,4 +1,4 @@
--- What stands in a special character.
+-- What a special character consists of.
 use Rattle.std.specs.Prelude.{ℕ, zero, suc, Bool, ◌||◌, ◌+◌, ◌==◌, if◌then◌else◌, List, [], ◌∷◌, length, take, drop, take_while, codes}
 use Rattle.bt_text.specs.NameList.{is_among}
 use Rattle.bt_text.specs.ByteTests.{backslash, is_brace, is_letter, is_white}
@@ -37,7 +37,7 @@ two_letters = codes "oe" ∷ codes "OE" ∷ codes "ae" ∷ codes "AE" ∷ codes 
 abbrev pub one_letter : List (List ℕ)
 one_letter = codes "i" ∷ codes "j" ∷ codes "o" ∷ codes "O" ∷ codes "l" ∷ codes "L" ∷ codes "aa" ∷ codes "AA" ∷ []
 
--- Of these no control sequence has the large form.
+-- The foreign letters whose capitals are no control sequences.
 abbrev pub without_large_form : List (List ℕ)
 without_large_form = codes "i" ∷ codes "j" ∷ codes "ss" ∷ []
 

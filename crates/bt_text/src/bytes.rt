@@ -93,6 +93,21 @@ impl Bytes {
         self.bytes.extend_from_slice(more)
     }
 
+    /// Removes all bytes and keeps their memory.
+    pub fn clear(&mut self)
+        ensures { self.new ≡ [] }
+    {
+        self.bytes.clear();
+    }
+
+    /// Puts other bytes in the place of those that are there, in their memory if it is enough.
+    pub fn write(&mut self, bytes: &[u8]) -> Result<(), AllocError>
+        ensures { OnOk result (self.new ≡ bytes.now) }
+    {
+        self.bytes.clear();
+        self.bytes.extend_from_slice(bytes)
+    }
+
     /// Puts the pieces in order after the bytes that are there. After out of memory some of them may be there.
     pub fn append_all(&mut self, pieces: &[&[u8]]) -> Result<(), AllocError>
         ensures { OnOk result (self.new ≡ self.old ++ joined (map (λ piece. piece.now) pieces.now)) }

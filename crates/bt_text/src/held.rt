@@ -180,8 +180,8 @@ impl Held {
         break_lines(alloc, all)
     }
 
-    /// Ends the held line, and puts the line that this gives after `lines`. The one fault is out of memory, after
-    /// which the held line and `lines` are as before.
+    /// Ends the held line, and puts the line that this gives after `lines`. The next line is written into its memory. The
+    /// one fault is out of memory, after which the held line and `lines` are as before.
     pub fn newline(&mut self, alloc: Global, lines: &mut Sequence<Bytes>) -> Result<(), HeldFault>
         ensures held { OnOk result (self.new ≡ (line_ended self.old).held) }
         ensures lines { OnOk result (lines.new ≡ lines.old ++ (line_ended self.old).lines) }
@@ -190,7 +190,7 @@ impl Held {
         ensures lines_stay { OnErr result (lines.new ≡ lines.old) }
     {
         end_line(alloc, self.bytes.as_slice(), lines)?;
-        self.bytes = Bytes::new(alloc);
+        self.bytes.clear();
         Ok(())
     }
 }

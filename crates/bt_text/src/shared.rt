@@ -1,6 +1,6 @@
 //! Values with several owners, seen in contracts as the values themselves.
 
-ghost use Rattle.std.specs.Prelude.{◌≡◌, map, IfOk};
+ghost use Rattle.std.specs.Prelude.{◌≡◌, map, IfErr, IfOk, OnOk};
 ghost use Rattle.bt_text.specs.Joined.{joined};
 
 use crate::bytes::Bytes;
@@ -41,6 +41,20 @@ impl<T: Drop> Shared<T> {
     }
 }
 
+impl<T> Shared<T> {
+    /// The value itself if it has no other owner, otherwise this owner again.
+    pub fn into_sole(self) -> Result<T, Self>
+        ensures ok { IfOk result (λ value. value ≡ self) }
+        ensures err { IfErr result (λ shared. shared ≡ self) }
+    {
+        let Shared { value } = self;
+        match Rc::try_unwrap(value) {
+            Ok(value) => Ok(value),
+            Err(value) => Err(Shared { value }),
+        }
+    }
+}
+
 /// The same values, each for one more owner; none of them is copied.
 pub fn shared_all<T: Drop>(
     alloc: Global,
@@ -74,6 +88,18 @@ impl Shared<Bytes> {
         ensures { IfOk result (λ text. text ≡ bytes.now) }
     {
         Shared::new(alloc, Bytes::copied(alloc, bytes)?)
+    }
+
+    /// Puts other bytes in the place of this owner's. They are written over the old ones if these have no other owner.
+    pub fn write(&mut self, alloc: Global, bytes: &[u8]) -> Result<(), AllocError>
+        ensures { OnOk result (self.new ≡ bytes.now) }
+    {
+        if let Some(text) = Rc::get_mut(&mut self.value) {
+            text.write(bytes)?;
+            return Ok(());
+        }
+        *self = Shared::<Bytes>::copied(alloc, bytes)?;
+        Ok(())
     }
 
     /// The pieces in order, as one text with one owner.

@@ -6,8 +6,10 @@
 
 ghost use Rattle.std.specs.Prelude.{◌≡◌, [], IsTrue, length, slice_get, slice_set, option_copied, IfOk, OnOk, OnErr};
 
+use crate::bytes::Bytes;
 use crate::chunks::{CHUNK, Chunks};
 use crate::element::Element;
+use crate::shared::Shared;
 use std::alloc::{AllocError, Global};
 use std::marker::Model;
 
@@ -122,5 +124,20 @@ impl<T: Element> Values<T> {
     {
         T::are_same(self.first.as_slice(), others.first.as_slice())
             && self.more.is_same(&others.more)
+    }
+}
+
+impl Values<Shared<Bytes>> {
+    /// Puts a text in a place; one after the end stays as it is. The text that was there is written over if it has no
+    /// other owner.
+    pub fn write(&mut self, alloc: Global, place: usize, text: &[u8]) -> Result<(), AllocError>
+        ensures { OnOk result (self.new ≡ slice_set self.old place text.now) }
+    {
+        if place < self.first.len() {
+            self.first[place].write(alloc, text)?;
+            return Ok(());
+        }
+        let text = Shared::<Bytes>::copied(alloc, text)?;
+        self.set(alloc, place, text)
     }
 }

@@ -1,16 +1,16 @@
-//! An answer as it is put together, and how values are spelled in it: texts to base 16, `-` for the empty one, numbers to
-//! base 10, `.` for what isn't there.
+//! An answer while it is built, and how values are spelled in it: texts in hexadecimal, `-` for the empty text, numbers
+//! in decimal, `.` for a missing value.
 
 use bt_text::{Bytes, Shared};
 use std::alloc::{AllocError, Global};
 use std::fmt::Display;
 
-/// What has a spelling in an answer.
+/// A value that has a spelling in an answer.
 pub trait Spelled {
     fn spell(&self, out: &mut Answer);
 }
 
-/// Puts the spellings of values after an answer.
+/// Appends the spellings of values to an answer.
 macro_rules! put {
     ($out:expr; $($value:expr),+) => {{ $( $value.spell($out); )+ }};
 }
@@ -78,7 +78,7 @@ impl<T: Spelled> Spelled for Option<T> {
     }
 }
 
-/// An answer as it is put together. Whether memory ran out is told at the end.
+/// An answer while it is built. Whether memory ran out shows at the end.
 #[derive(Drop)]
 pub struct Answer {
     alloc: Global,
@@ -105,7 +105,7 @@ impl Answer {
         }
     }
 
-    /// Puts a value as `format!` shows it.
+    /// Appends a value as `format!` shows it.
     pub fn shown<T: Display>(&mut self, value: &T) {
         match format!(in self.alloc; "{value}") {
             Ok(words) => self.put(words.as_bytes()),
@@ -113,26 +113,26 @@ impl Answer {
         }
     }
 
-    /// Puts a sign before each of several things but the first.
+    /// Puts a separator before each of several things except the first.
     pub fn separator(&mut self, place: usize, sign: &str) {
         if 0 < place {
             self.put(sign.as_bytes());
         }
     }
 
-    /// Puts a sign before more, if anything is there.
+    /// Appends a separator, if anything is there already.
     pub fn more(&mut self, sign: &str) {
         let place = self.bytes.len();
         self.separator(place, sign);
     }
 
-    /// Puts a value as a word of its own.
+    /// Appends a value as a word of its own.
     pub fn word<T: Spelled + Drop>(&mut self, value: T) {
         self.more(" ");
         value.spell(self);
     }
 
-    /// Puts values with a sign between them.
+    /// Appends values with a separator between them.
     pub fn list<T: Spelled>(&mut self, begin: &str, values: &[T], sign: &str, end: &str) {
         begin.spell(self);
         for (place, value) in values.iter().enumerate() {

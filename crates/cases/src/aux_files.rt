@@ -1,4 +1,4 @@
-//! Cases of `.aux` texts: the lines that count, and what is asked for from a root on, nested files in their places.
+//! Cases of `.aux` texts: the lines that matter, and what a root asks for, with nested files in their places.
 
 use crate::Done;
 use crate::answer::{Answer, Spelled, put};

@@ -1,5 +1,5 @@
-//! Cases of databases: their items, each with its span, what was read of it, and its fault; and where a database can be
-//! cut into parts.
+//! Cases of databases: their items, each with its span, its content and its fault; and where a database can be cut into
+//! parts.
 
 ghost use Rattle.std.specs.Prelude.{◌≡◌};
 ghost use Rattle.bt_bib.specs.BibText.{pieces_of};
@@ -44,7 +44,7 @@ fn closing_words(close: Option<Closing>) -> &'static str {
     }
 }
 
-/// Items as they are spelled. Their lines count from that of their piece.
+/// Items in their spelling. Their lines count from the line of their `@`.
 #[derive(Drop)]
 struct Listing {
     from: usize,
@@ -186,7 +186,7 @@ fn item_count(items: &Items) -> usize {
     count
 }
 
-/// Where a text is cut into parts of so many bytes.
+/// Where a text is cut into parts of at most this number of bytes.
 fn push_cuts(words: Words<'_>, out: &mut Answer, text: &[u8], items: &Items) -> Done
     requires { items.now ≡ pieces_of text.now }
 {

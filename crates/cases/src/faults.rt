@@ -1,4 +1,4 @@
-//! Cases of how faults show: each by the name of its case.
+//! Cases of how faults are shown: each under the name of its case.
 
 use crate::Done;
 use crate::answer::Answer;

@@ -1,4 +1,4 @@
-//! Cases of the held line: scripts of what is done with it.
+//! Cases of the held line: scripts of calls on it.
 
 use crate::Done;
 use crate::answer::{Answer, Spelled, put};
@@ -30,7 +30,7 @@ fn carry_out(step: Words<'_>, page: &mut Page) -> Result<(), HeldFault> {
     }
 }
 
-/// The lines and the held line after all steps, or which step was too long.
+/// The lines and the held line after all steps, or the step that was too long.
 fn push_end(words: Words<'_>, out: &mut Answer, page: &mut Page) -> Done {
     for (place, word) in words.after(1).enumerate() {
         match carry_out(words.parts(word), page) {

@@ -1,6 +1,6 @@
-//! Answers cases of the layers' public calls: a line of input is a call, its answer a line of output.
+//! Answers cases of the lower crates' public calls: a line of input is a call, its answer a line of output.
 //!
-//! Where a call runs out of memory, a line on standard error says so, and the call is made once more.
+//! If a call runs out of memory, a line on standard error says so, and the call is made once more.
 #![tactic(auto)]
 
 mod answer;
@@ -44,7 +44,7 @@ fn push_answer_of_texts(words: Words<'_>, out: &mut Answer) -> Done {
     }
 }
 
-/// Puts the answer of a case after `out`.
+/// Appends the answer of a case to `out`.
 fn push_answer(words: Words<'_>, out: &mut Answer) -> Done {
     match words.word(0) {
         "read_aux" | "read_citations" => aux_files::push_answer(words, out),
@@ -73,7 +73,7 @@ fn answer_of(alloc: Global, case: &str) -> Result<Bytes, AllocError> {
     out.end()
 }
 
-/// The answer of a case, of a second try where memory ran out in the first.
+/// The answer of a case; if memory ran out, that of a second try.
 fn answer_in_the_end(rt: &HostRuntime, case: &str) -> io::Result<Bytes> {
     let alloc = rt.alloc();
     match answer_of(alloc, case) {

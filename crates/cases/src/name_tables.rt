@@ -1,5 +1,5 @@
-//! Cases of names that match without regard to case: scripts of what is done with a list of names, or with a table of
-//! values by names.
+//! Cases of names that match without regard to case: scripts of calls on a list of names, or on a table of values by
+//! names.
 
 use crate::Done;
 use crate::answer::{Answer, Spelled, put};
@@ -24,8 +24,7 @@ fn push_found(step: Words<'_>, out: &mut Answer, name: &[u8], names: &NameList) 
     Ok(())
 }
 
-/// A name that is put after the others if it is new, whether one is among them, how it was spelled first, or how many
-/// there are.
+/// Appends a name if it is new; or whether a name is in the list, how it was spelled first, or how many there are.
 fn push_listed(step: Words<'_>, out: &mut Answer, names: &mut NameList) -> Done {
     let name = step.text(1)?;
     out.more(" ");
@@ -52,8 +51,8 @@ fn put_new(name: Vec<u8>, value: usize, table: &mut ByName<usize>) -> Done {
     Ok(())
 }
 
-/// What a table has of a name: its value, or that of one in small letters, its place, or whether it has a value; or all
-/// values.
+/// What a table has for a name: its value, the value of a name in small letters, its place, or whether it has a value;
+/// or all values.
 fn push_asked(step: Words<'_>, out: &mut Answer, name: &[u8], table: &ByName<usize>) -> Done {
     out.more(" ");
     match step.word(0) {

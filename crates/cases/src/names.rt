@@ -1,10 +1,11 @@
-//! Cases of names: how many a text lists, the parts of one, and one in a pattern, within a limit too.
+//! Cases of names: how many a text lists, the parts of one, and one formatted by a pattern, also within a limit.
 
 use crate::Done;
 use crate::answer::{Answer, Spelled, put};
 use crate::words::Words;
 use bt_names::{
-    FormatFault, NameFault, Parts, Token, Written, count, format, parts, push_formatted,
+    FormatFault, NameFault, Parts, SoundPatterns, Token, Written, count, format, parts,
+    push_formatted,
 };
 use std::alloc::AllocError;
 
@@ -50,8 +51,17 @@ fn push_format_answer(words: Words<'_>, out: &mut Answer, names: &[u8]) -> Done 
 fn push_within_answer(words: Words<'_>, out: &mut Answer, names: &[u8]) -> Done {
     let (alloc, limit) = (words.alloc, words.count(4));
     let pattern = words.text(3)?;
+    let known = SoundPatterns::none(alloc);
     let mut page = Vec::new(alloc);
-    match push_formatted(alloc, &mut page, names, words.number(2), &pattern, limit) {
+    match push_formatted(
+        alloc,
+        &known,
+        &mut page,
+        names,
+        words.number(2),
+        &pattern,
+        limit,
+    ) {
         Ok(Written::Whole) => put!(out; page.as_slice()),
         Ok(Written::Longer) => put!(out; "longer"),
         Err(fault) => push_fault(out, fault)?,

@@ -52,7 +52,7 @@ fn cite(alloc: Global, keys: &mut NameList, key: &str) -> Result<(), AllocError>
     Ok(())
 }
 
-/// Puts the keys of a word, parted by commas, after others; how many stand before a `*`, which cites all entries.
+/// Appends the keys of a word, separated by commas, to others; returns how many come before a `*`, if it has one.
 fn cite_all(alloc: Global, keys: &mut NameList, word: &str) -> Result<Option<usize>, AllocError> {
     let mut star = None;
     for key in word.split(',') {
@@ -129,7 +129,7 @@ fn cites_of(alloc: Global, word: &str) -> Result<Cites, AllocError>
     Ok(Cites { keys, star })
 }
 
-/// Puts what the keys give, with these texts of two databases.
+/// Appends what the keys give with these texts of two databases.
 fn push_told(
     words: Words<'_>,
     out: &mut Answer,

@@ -1,4 +1,4 @@
-//! Cases of byte texts and lists: scripts of what is done with one.
+//! Cases of byte texts and lists: scripts of calls on one.
 
 use crate::Done;
 use crate::answer::{Answer, Spelled, put};
@@ -34,7 +34,7 @@ fn appended(words: Words<'_>, texts: &[Vec<u8>]) -> Result<Bytes, AllocError> {
     Ok(text)
 }
 
-/// Its first text, with the others appended, the length, and that of the same bytes out of a vector.
+/// Its first text with the others appended, the length, and the length of the same bytes from a vector.
 fn push_appended(words: Words<'_>, out: &mut Answer, texts: &[Vec<u8>]) -> Done {
     let text = appended(words, texts)?;
     put!(out; text, " ", text.len(), " ");
@@ -42,7 +42,7 @@ fn push_appended(words: Words<'_>, out: &mut Answer, texts: &[Vec<u8>]) -> Done 
     Ok(())
 }
 
-/// Pushes a number, puts one in a place that is there, appends a list of one number, or begins anew with such a list.
+/// Pushes a number, sets one at an existing place, appends a list of one number, or begins again with such a list.
 fn carry_out(step: Words<'_>, numbers: &mut Sequence<usize>) -> Done {
     let n = step.count(1);
     match step.word(0) {

@@ -1,5 +1,5 @@
-//! Cases of texts of which many are missing: scripts that make lists of such texts, which have the numbers 0, 1, 2 and
-//! so on, change them and ask for what they have.
+//! Cases of lists of texts, many of which are missing: scripts that make such lists, numbered from 0, change them, and
+//! ask for their texts.
 
 use crate::Done;
 use crate::answer::{Answer, Spelled};
@@ -12,7 +12,7 @@ fn shared(alloc: Global, list: &SparseTexts) -> Result<SparseTexts, AllocError> 
     shared.copied(alloc)
 }
 
-/// The list that a step makes, if it makes one: of so many places without a text, filled from another list, copied, or
+/// The list that a step makes, if it makes one: a number of places without a text, filled from another list, copied, or
 /// copied for many owners.
 fn made(step: Words<'_>, lists: &[SparseTexts]) -> Result<Option<SparseTexts>, AllocError> {
     let (alloc, n) = (step.alloc, step.count(1));

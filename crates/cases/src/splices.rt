@@ -1,5 +1,5 @@
-//! Cases of spliced databases: how many bytes are read again, and the items; and whether these are the same as read
-//! from the beginning.
+//! Cases of spliced databases: how many bytes are re-read, and the items; and whether these are those of a reading from
+//! the beginning.
 
 ghost use Rattle.std.specs.Prelude.{◌≤◌, length, IfOk};
 ghost use Rattle.bt_bib.specs.Splice.{IsSplice};
@@ -59,7 +59,7 @@ fn respliced(
     })
 }
 
-/// Whether the items are the same read again and read whole.
+/// Whether the items are those of a reading from the beginning.
 fn is_alike(alloc: Global, again: &Reread) -> Result<bool, AllocError> {
     let one = spelled_items(alloc, &again.items)?;
     let other = spelled_items(alloc, &read_bib(alloc, again.text.as_slice())?)?;
@@ -72,7 +72,7 @@ fn push_items(words: Words<'_>, out: &mut Answer, again: &Reread) -> Done {
     Ok(())
 }
 
-/// What is read again of a text where other bytes replace those from `begin` to `end`.
+/// What is re-read of a text after other bytes replace those from `begin` to `end`.
 fn push_spliced(
     words: Words<'_>,
     out: &mut Answer,
@@ -94,8 +94,8 @@ fn push_spliced(
     Ok(())
 }
 
-/// The number of bytes that are read again, and the items of the new text; or `outside`. For `respliced_anywhere`, a sign
-/// for each place from which so many bytes are replaced: whether the items are alike (`a`) or differ (`d`), or it is
+/// The number of bytes that are re-read, and the items of the new text; or `outside`. For `respliced_anywhere`, a sign
+/// for each place at which bytes are replaced: whether the items are the same (`a`) or differ (`d`), or the place is
 /// outside (`o`).
 pub fn push_answer(words: Words<'_>, out: &mut Answer) -> Done {
     let text = words.text(1)?;

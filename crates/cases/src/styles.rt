@@ -121,8 +121,8 @@ fn push_count(out: &mut Answer, reach: &Reach) {
     put!(out; if reach.kind { " type" } else { "" });
 }
 
-/// What is reached from a function by its number, where the entry's type has the function of another number, or none:
-/// how many names, or each.
+/// What is reached from the function of a number, if the entry's type has the function of another number, or none: how
+/// many names, or each of them.
 fn push_reach(words: Words<'_>, out: &mut Answer, style: &Style) -> Done {
     let kind = words.word(3).parse::<usize>().ok();
     let reach = style.reach(words.alloc, Target::Function(words.count(2)), kind)?;
@@ -136,7 +136,7 @@ fn push_reach(words: Words<'_>, out: &mut Answer, style: &Style) -> Done {
     Ok(())
 }
 
-/// What a call tells of a style that is read.
+/// What a call shows of a style that was read.
 fn push_read(words: Words<'_>, out: &mut Answer, style: &Style) -> Done {
     match words.word(0) {
         "read_style" => push_style(out, style),
@@ -147,7 +147,7 @@ fn push_read(words: Words<'_>, out: &mut Answer, style: &Style) -> Done {
     Ok(())
 }
 
-/// What a call tells of a style with a fault.
+/// What a call shows of a style with a fault.
 fn push_fault(words: Words<'_>, out: &mut Answer, fault: StyleFault) {
     match words.word(0) {
         "chain" => put!(out; "0"),
@@ -173,7 +173,7 @@ fn push_told(words: Words<'_>, out: &mut Answer, text: &[u8]) -> Done {
     Ok(())
 }
 
-/// A style with so many functions of different names after the first, each of which calls the one before.
+/// A style with this number of functions after the first, with different names, each of which calls the one before.
 fn chain(alloc: Global, functions: usize) -> Result<Vec<u8>, AllocError> {
     let mut text = Vec::from_slice(alloc, b"FUNCTION {f0}{}")?;
     for n in 0..functions {
@@ -183,7 +183,7 @@ fn chain(alloc: Global, functions: usize) -> Result<Vec<u8>, AllocError> {
     Ok(text)
 }
 
-/// How many beginnings of a text are read or refused, the empty one and the whole text among them.
+/// How many prefixes of a text are read or refused, the empty one and the whole text included.
 fn push_beginnings(words: Words<'_>, out: &mut Answer, text: &[u8]) -> Done {
     let mut count: usize = 0;
     for end in 0..=text.len() {

@@ -14,7 +14,7 @@ fn numbers(alloc: Global, count: usize) -> Result<Values<i32>, AllocError> {
     Values::from_vec(alloc, numbers)
 }
 
-/// All numbers, and what is behind the last.
+/// All numbers, and what comes after the last.
 fn push_listed(out: &mut Answer, numbers: &Values<i32>) {
     out.more(" ");
     for place in 0..=numbers.len() {
@@ -69,7 +69,7 @@ fn texts_of(words: Words<'_>) -> Result<Values<Shared<Bytes>>, AllocError> {
     Values::from_vec(words.alloc, texts)
 }
 
-/// The text at a place of a copy, where it is changed, and of what was copied, and whether each is the same as the latter.
+/// The text at a changed place of a copy and in the original, and whether each is the same as the latter.
 fn push_texts(words: Words<'_>, out: &mut Answer, texts: &Values<Shared<Bytes>>) -> Done {
     let place = words.count(2);
     let mut copy = texts.copied(words.alloc)?;

@@ -1,5 +1,5 @@
-//! How a case is spelled: words with a space between them, and a word's parts with colons; a text to base 16, `-` for the
-//! empty one, or in pieces with `+` between them, each as often as the number before its `*` says.
+//! How a case is spelled: words with a space between them, and a word's parts with colons; a text in hexadecimal, `-`
+//! for the empty text, or in pieces with `+` between them, each as often as the number before its `*` says.
 
 ghost use Rattle.std.specs.Prelude.{◌<◌};
 

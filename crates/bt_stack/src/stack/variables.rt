@@ -4,13 +4,12 @@ ghost use Rattle.std.specs.Prelude.{◌≡◌, ◌<◌, [], pos, length, slice_g
 ghost use Rattle.bt_actions.specs.Assignment.{with_number, with_text};
 ghost use Rattle.bt_stack.specs.Desk.{short, with_answer, with_globals, with_own};
 
-use crate::leaving::variables_left;
 use crate::reading::text_value_at;
 use crate::stack::Stack;
 use crate::step_variables::{number_of, set_number, set_text, text_of};
-use bt_actions::Variables;
-use bt_text::Shared;
+use crate::variables_left::VariablesLeft;
 use std::alloc::{AllocError, Global};
+use std::mem;
 
 impl<'a> Stack<'a> {
     /// The value of a number variable of the style, or 0 if there is no such variable.
@@ -125,17 +124,20 @@ impl<'a> Stack<'a> {
         }
     }
 
-    /// The variables of the style as they are now, for many owners. Nothing is copied if the step changed none.
-    pub fn globals_left(&self, alloc: Global) -> Result<Shared<Variables>, AllocError>
-        ensures { IfOk result (λ left. left ≡ self.now.globals) }
+    /// The variables of the style as they are now. The stack keeps none of the numbers that the step gave to them.
+    pub fn globals_left(&mut self, alloc: Global) -> Result<VariablesLeft, AllocError>
+        ensures left { IfOk result (λ left. left ≡ self.old.globals) }
+        ensures own { self.new.own ≡ self.old.own }
     {
-        variables_left(alloc, &self.pool, &self.globals)
+        let numbers = mem::replace(&mut self.globals.numbers, Vec::new(alloc));
+        VariablesLeft::of(alloc, &self.pool, numbers, &self.globals)
     }
 
     /// The same of the entry.
-    pub fn own_left(&self, alloc: Global) -> Result<Shared<Variables>, AllocError>
-        ensures { IfOk result (λ left. left ≡ self.now.own) }
+    pub fn own_left(&mut self, alloc: Global) -> Result<VariablesLeft, AllocError>
+        ensures { IfOk result (λ left. left ≡ self.old.own) }
     {
-        variables_left(alloc, &self.pool, &self.own)
+        let numbers = mem::replace(&mut self.own.numbers, Vec::new(alloc));
+        VariablesLeft::of(alloc, &self.pool, numbers, &self.own)
     }
 }

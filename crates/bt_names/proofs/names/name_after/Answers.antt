@@ -21,4 +21,4 @@ loop-place-preserved c =
       | then-separates+else-left-eq0 w ↦ rw (w.start-is, w.left-is) (name_passed t start i left d all c.loop-place-test.true at (sym told ∙ w.if-separates.true) (omega arith) c.loop-place.invariant.2)
       | else-separates w ↦ rw (w.start-is, w.left-is) (name_skipped t start i left d all c.loop-place-test.true at (sym told ∙ w.if-separates.false) c.loop-place.invariant.2)
     ] in
-    (c.depth_after-depth.ensures ∙ ap (λ d. depth_after d (get_or t i 0)) at ∙ sym (depth_take t i c.loop-place-test.true), omega (arith, c.depth_after-depth.ensures, depth_behind_most d (get_or t i 0)), named)
+    (c.depth_behind-depth.ensures ∙ ap (λ d. depth_after d (get_or t i 0)) at ∙ sym (depth_take t i c.loop-place-test.true), omega (arith, c.depth_behind-depth.ensures, depth_behind_most d (get_or t i 0)), named)
