@@ -62,14 +62,15 @@ begun_consistent p earlier w s calls empty h are =
       left = none_left s.steps w none;
       given = λ go. (let on : IsTrue false = subst (λ (b : Bool). IsTrue b) h.8 go in absurd cc);
       called = calls_begun earlier.steps.now s.reuse.next s.steps calls h.9 none are;
+      found = rw h.11 (λ a e. absurd cc);
     }
 
 -- a run's end
 pub with_calls : (p : Program) (earlier : Earlier) (w : World) (s : KeptSteps) (calls : Option (List ℕ)) → IsConsistent p earlier w s → IsConsistent p earlier w (record s { all_calls = calls })
-with_calls p earlier w s calls h = record { ran = h.ran; ticks = h.ticks; fewer = h.fewer; bounded = h.bounded; steps = h.steps; known = h.known; indexed = h.indexed; counted = h.counted; placed = h.placed; same = h.same; tagged = h.tagged; in_turn = h.in_turn; left = h.left; given = h.given; called = h.called }
+with_calls p earlier w s calls h = record { ran = h.ran; ticks = h.ticks; fewer = h.fewer; bounded = h.bounded; steps = h.steps; known = h.known; indexed = h.indexed; counted = h.counted; placed = h.placed; same = h.same; tagged = h.tagged; in_turn = h.in_turn; left = h.left; given = h.given; called = h.called; found = h.found }
 
 pub kept_with : (p : Program) (earlier : Earlier) (w : World) (s : KeptSteps) (calls : List ℕ) → IsConsistent p earlier w s → AreCalls s.steps calls → AreKept w.entries (record s { all_calls = Some calls })
-kept_with p earlier w s calls h are = record { placed = h.placed; tagged = h.tagged; in_turn = h.in_turn; called = λ c e. (let same : calls ≡ c = cc in subst (AreCalls s.steps) same are) }
+kept_with p earlier w s calls h are = record { placed = h.placed; tagged = h.tagged; in_turn = h.in_turn; called = λ c e. (let same : calls ≡ c = cc in subst (AreCalls s.steps) same are); found = h.found }
 
 -- What was carried out
 
@@ -103,6 +104,7 @@ begun_kept entries s h = record {
   tagged = h.7 ∙ sym (ap (map step_tag) h.0);
   in_turn = none_in_turn s.steps h.0;
   called = rw h.10 (λ c e. absurd cc);
+  found = rw h.11 (λ a e. absurd cc);
 }
 
 work_if : (p : Program) (b : Bool) (earlier steps : List Step) → work_under p (if b then earlier else []) steps ≡ (if b then work_under p earlier steps else steps)

@@ -1,8 +1,8 @@
 -- A step in the world of all entries, by its outcome on its input alone.
-use Rattle.std.specs.Prelude.{slice_index_or, IsTrue}
+use Rattle.std.specs.Prelude.{slice_index_or, slice_set, IsTrue}
 use Rattle.std.specs.Option.{ForSome}
 use Rattle.std.proofs.Common.{zero, suc, ◌≡◌, refl, ℕ, ◌+◌, ◌<◌, Bool, List, [], ◌∷◌, ◌++◌, length, All, Option, Some, None, sym, ap, ◌∙◌, subst, arith}
-use Rattle.std.proofs.lemmas.List.{get_or-set_same, length-set, length-append}
+use Rattle.std.proofs.lemmas.List.{get_or-set_same, set-set, length-set, length-append}
 use Rattle.std.proofs.lemmas.List.Elements.{All-append}
 use Rattle.std.proofs.lemmas.List.Sums.{sum_by-append}
 use Rattle.bt_style.specs.declared.style.Target.{Target}
@@ -21,15 +21,17 @@ use Rattle.bt_run.specs.declared.earlier.Earlier.{Earlier}
 use Rattle.bt_run.specs.declared.kept_steps.KeptSteps.{KeptSteps}
 use Rattle.bt_run.specs.Course.{Recorded, course_world, input_at, step_kept, left_by, stepped}
 use Rattle.bt_run.specs.inner.Cases.{all_told}
-use Rattle.bt_run.specs.inner.Course.{recorded, IsArranged, IsOrdered, with_variables, variables_back, put_back}
+use Rattle.bt_run.specs.inner.Course.{recorded, IsArranged, IsOrdered, lent, with_variables, variables_back, put_back}
 use Rattle.bt_run.specs.Work.{total_cost, work_under, IsStep, own_left}
+use Rattle.bt_run.specs.declared.asking.Asking.{Asking}
+use Rattle.bt_run.specs.inner.Alike.{AreAsked}
 use Rattle.bt_run.specs.inner.Calls.{AreCallsFrom}
 use Rattle.bt_run.specs.inner.Earlier.{AreSame}
 use Rattle.bt_run.specs.inner.Tags.{step_tag}
 use Rattle.bt_run.specs.inner.Turn.{IsGiven, IsSharedFrom}
 use Rattle.bt_run.specs.inner.Work.{IsNext, IsConsistent}
 use Rattle.bt_run.proofs.WorkLemmas.{work_append, work_fewer}
-use Rattle.bt_run.proofs.EarlierLemmas.{same_back, placed_more}
+use Rattle.bt_run.proofs.EarlierLemmas.{asked_back, same_back, placed_more}
 use Rattle.bt_run.proofs.TurnLemmas.{in_turn_more, left_more, given_next, tagged_more}
 
 -- what a step leaves in the world of its entry alone, or of none
@@ -96,6 +98,35 @@ pub length-variables_back : (x : Option ℕ) (v : Option Variables) (entries : L
 length-variables_back None v entries = refl
 length-variables_back (Some n) v entries = length-set entries n (with_variables v (slice_index_or entries n no_entry))
 
+-- a place stays one while the run lends variables
+pub placed_lent : (x : Option ℕ) (others : Variables) (r lending : Course) → lending ≡ lent x others r → IsPlace x (course_world r) → IsPlace x (course_world lending)
+placed_lent None others r lending is h = tt
+placed_lent (Some n) others r lending is h =
+    subst (λ (c : Course). n < length c.entries) (sym is) (omega (arith, h, length-variables_back (Some n) (Some others) r.entries))
+
+-- variables put back over those that stood in for them
+put_over : (es : List Entry) (n : ℕ) (others v : Variables) → n < length es → variables_back (Some n) (Some v) (variables_back (Some n) (Some others) es) ≡ variables_back (Some n) (Some v) es
+put_over es n others v lt =
+    let own = with_variables (Some others) (slice_index_or es n no_entry) in
+    ap (λ (e : Entry). slice_set (slice_set es n own) n (with_variables (Some v) e)) (get_or-set_same es n own no_entry lt)
+    ∙ set-set es n own (with_variables (Some v) own)
+
+back_over : (es : List Entry) (n : ℕ) (others v : Variables) (left : Option Variables) → n < length es → left ≡ Some v → variables_back (Some n) left (variables_back (Some n) (Some others) es) ≡ variables_back (Some n) left es
+back_over es n others v left lt is =
+    ap (λ (o : Option Variables). variables_back (Some n) o (variables_back (Some n) (Some others) es)) is
+    ∙ put_over es n others v lt
+    ∙ sym (ap (λ (o : Option Variables). variables_back (Some n) o es) is)
+
+-- What a run has lent comes back with what the step leaves.
+pub lent_back : (p : Program) → DependsOnInput p → (t : Target) (site : CommandPlace) (x : Option ℕ) (others : Variables) (o : Outcome) (i : Input) (r lending back : Course) → IsPlace x (course_world r) → i ≡ input_at t x (course_world r) → o.variables ≡ (outcome_of (step_in p i)).variables → lending ≡ lent x others r → back ≡ put_back site x o lending → back ≡ put_back site x o r
+lent_back p law t site None others o i r lending back h is_input is_left is_lent is_back = is_back ∙ ap (put_back site None o) is_lent
+lent_back p law t site (Some n) others o i r lending back h is_input is_left is_lent is_back =
+    let v = (slice_index_or (step p (Some 0) t (cut (Some n) (course_world r))).world.entries 0 no_entry).variables in
+    let there : o.variables ≡ Some v =
+    is_left ∙ ap (λ (i : Input). first_variables (step_in p i).world.entries) is_input ∙ one_entry p law t n (course_world r) in
+    is_back ∙ ap (put_back site (Some n) o) is_lent
+    ∙ ap (λ (es : List Entry). record r { entries = es; globals = o.globals; held = o.held; log = r.log ++ all_told site.line site.style o.messages; stopped = o.stop }) (back_over r.entries n others v o.variables h there)
+
 pub length_back : (site : CommandPlace) (x : Option ℕ) (o : Outcome) (r back : Course) → back ≡ put_back site x o r → length back.entries ≡ length r.entries
 length_back site x o r back is = ap (λ (c : Course). length c.entries) is ∙ length-variables_back x o.variables r.entries
 
@@ -123,6 +154,7 @@ consistent_behind p earlier site t x r back s tag shared before next steps tags 
     let kept_places : places ≡ before.places ++ x ∷ [] = are_places ∙ ap (λ (k : KeptSteps). k.places ++ x ∷ []) is_rest in
     let kept_same = ap (λ (k : KeptSteps). k.same) is_rest in
     let kept_calls = ap (λ (k : KeptSteps). k.calls) is_rest in
+    let kept_asked = ap (λ (k : KeptSteps). k.asked) is_rest in
     let given : IsGiven (course_world r) s.input = record { globals = ap (λ (i : Input). i.globals) is_input; held = ap (λ (i : Input). i.held) is_input } in
     let calls_now = called before.steps (subst (λ (o : Option (List ℕ)). ForSome o (AreCallsFrom earlier.steps.now before.reuse.next before.steps)) (sym kept_calls) h.called) in
     rw (kept_places, kept_tags, kept_steps, is_back) (record {
@@ -141,4 +173,5 @@ consistent_behind p earlier site t x r back s tag shared before next steps tags 
       left = left_more before.steps (course_world (put_back site x s.outcome r)) s (record { globals = refl; held = refl });
       given = λ go. given_next earlier.steps.now (course_world (put_back site x s.outcome r)) s before.reuse.next next.reuse.next earlier.in_turn (in_turn go) (record { globals = refl; held = refl });
       called = calls_now;
+      found = subst (λ (o : Option Asking). AreAsked o (variables_back x s.outcome.variables r.entries)) (sym kept_asked) (asked_back before.asked r.entries x s.outcome.variables h.found);
     })

@@ -6,7 +6,9 @@ use Rattle.std.proofs.lemmas.Option.{slice_get_within, slice_get-map}
 use Rattle.bt_actions.specs.declared.entry.Entry.{Entry}
 use Rattle.bt_actions.specs.declared.entry.Variables.{Variables}
 use Rattle.bt_actions.specs.World.{no_entry, entry_in}
+use Rattle.bt_run.specs.declared.asking.Asking.{Asking}
 use Rattle.bt_run.specs.declared.course.Step.{Step}
+use Rattle.bt_run.specs.inner.Alike.{AreAsked}
 use Rattle.bt_run.specs.inner.Course.{with_variables, variables_back}
 use Rattle.bt_run.specs.inner.Earlier.{fixed, fixed_at, ArePlaced, AreSame}
 
@@ -29,6 +31,9 @@ fixed_back (Some m) v entries n = fixed_set entries m n (with_variables v (slice
 
 pub same_back : (others entries : List Entry) (same : List Bool) (x : Option ℕ) (v : Option Variables) → AreSame others entries same → AreSame others (variables_back x v entries) same
 same_back others entries same x v h = λ n e. h n e ∙ sym (fixed_back x v entries n)
+
+pub asked_back : (asked : Option Asking) (entries : List Entry) (x : Option ℕ) (v : Option Variables) → AreAsked asked entries → AreAsked asked (variables_back x v entries)
+asked_back asked entries x v h = λ a e n. fixed_back x v entries n ∙ h a e n
 
 -- what stands in a list with one element more
 

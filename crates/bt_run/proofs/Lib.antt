@@ -13,6 +13,7 @@ pub mod EarlierLemmas
 pub mod TurnLemmas
 pub mod EditLemmas
 pub mod FindingLemmas
+pub mod AlikeLemmas
 pub mod IndexLemmas
 pub mod laws
 mod rows

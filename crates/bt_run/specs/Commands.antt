@@ -11,14 +11,15 @@ use Rattle.bt_run.specs.Course.{Recorded, stepped}
 use Rattle.bt_run.specs.SortCommand.{key_at, sorted}
 use Rattle.bt_run.specs.ReadCommand.{Job, list_order, read}
 
--- a step for the entry at each of these places in turn, until one stops the run
+-- A step for the entry at each of these places in turn, until one stops the run. Here and below, `note` adds a step to
+-- what was seen of the run: for `meaning` it appends the step to a list.
 abbrev pub iterated : {S : Type 0} → (S → Step → S) → Program → CommandPlace → Target → List ℕ → Recorded S → Recorded S
 iterated note p site t [] r = r
 iterated note p site t (n ∷ ns) r =
     iterated note p site t ns (if r.course.stopped then r else stepped note p site t (Some n) r)
 
 -- What a command does; those that declare something did it when the style was read. SORT puts the entries into the order
--- of their sort keys. Those whose keys are equal stand in list order, whatever order there was.
+-- of their sort keys. Entries with equal keys come in list order, whatever the order was before.
 abbrev pub carried_out : {S : Type 0} → (S → Step → S) → Job → ℕ → ℕ → Action → Recorded S → Recorded S
 carried_out note job number line action r =
     let site : CommandPlace = record { style = job.style; command = number; line = line } in

@@ -1,4 +1,4 @@
--- How often each built-in function was called in a run, and the lines of the log that tell it.
+-- How often each built-in function was called in a run, and the lines of the log that say so.
 use Rattle.std.specs.Prelude.{ℕ, List, ◌∷◌, ◌++◌, map, sum_by, slice_index_or, codes, decimal}
 use Rattle.bt_style.specs.declared.builtin.Builtin.{Builtin}
 use Rattle.bt_style.specs.Builtins.{name_of, table, place_of}
@@ -11,7 +11,7 @@ use Rattle.bt_run.specs.declared.course.Step.{Step}
 abbrev pub calls_at : List Step → ℕ → ℕ
 calls_at trace place = sum_by (λ (s : Step). slice_index_or s.outcome.calls place 0) trace
 
--- how often all of them were called, where the function at a place was called so often
+-- how often all of them were called together, given how often the function at each place was
 unfoldable pub all_calls : (ℕ → ℕ) → ℕ
 all_calls calls = sum_by (λ b. calls (place_of b)) table
 

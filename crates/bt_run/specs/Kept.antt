@@ -18,7 +18,7 @@ named_text files (Some name) = Some (unwrap_or (text_of files name) [])
 unfoldable pub style_text : List File → List ℕ → Option (List ℕ)
 style_text files root = named_text files (citations files root).style
 
--- the work of a run after one that left these steps under a style of this text
+-- the work of a run after an earlier one, which kept these steps and whose style had this text
 abbrev pub run_work : Option (List ℕ) → List Step → List File → List ℕ → ℕ → List Step
 run_work text earlier files root min = work_after text earlier (style_text files root) (trace files root min)
 

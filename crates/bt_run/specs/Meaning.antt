@@ -32,14 +32,15 @@ first_number name =
 abbrev pub first_globals : Program → Variables
 first_globals p = record { numbers = map first_number p.global_numbers; texts = map (λ name. []) p.global_texts }
 
--- a run that has logged this, before any step
+-- a run before its first step, with this log
 abbrev pub run_begun : Variables → List Message → Recorded (List Step)
 run_begun globals log = record {
   course = record { entries = []; order = []; globals = globals; preamble = []; held = []; log = log; stopped = false };
   seen = [];
 }
 
--- the commands of a style in order after a log, each step after those before it, then the counts
+-- Runs the commands of a style in order, starting with this log, and keeps all steps in order. In the end it logs the
+-- counts.
 abbrev pub style_run : Job → List Message → Recorded (List Step)
 style_run job log =
     let begun = run_begun (first_globals job.program) log in

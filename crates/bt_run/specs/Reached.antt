@@ -1,4 +1,4 @@
--- The names that a step may come to, as a list.
+-- The names that a step can reach, as a list.
 use Rattle.std.specs.Prelude.{ℕ, zero, suc, ◌+◌, List, [], ◌∷◌, length, Option, Some, None, slice_get}
 use Rattle.bt_style.specs.declared.style.Target.{Target}
 use Rattle.bt_style.specs.Program.{Program}
@@ -22,6 +22,6 @@ unfoldable pub reach_of : Program → Option ℕ → Target → List Target
 reach_of p type_function start =
     found_from p type_function (length (reachable p type_function start) + 1) 0 (start ∷ [])
 
--- the names that the step of an input may come to
+-- the names that the step of an input can reach
 abbrev pub names_in : Program → Input → List Target
 names_in p i = reach_of p (function_of i.entry) i.target

@@ -9,7 +9,7 @@ use Rattle.bt_actions.specs.World.{no_entry}
 abbrev pub key_at : List Entry → ℕ → List ℕ
 key_at entries n = slice_index_or (slice_index_or entries n no_entry).variables.texts 0 []
 
--- a place among sorted ones: before the first whose key isn't smaller, byte by byte
+-- sorted places with one more, which goes before the first whose key isn't smaller (keys are compared byte by byte)
 unfoldable pub put_among : (ℕ → List ℕ) → ℕ → List ℕ → List ℕ
 put_among key n [] = n ∷ []
 put_among key n (m ∷ ms) =

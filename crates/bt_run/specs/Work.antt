@@ -1,4 +1,4 @@
--- What is carried out of a run after an earlier run: the steps that the earlier run does not have.
+-- What must run after an earlier run: the steps that the earlier run doesn't have.
 use Rattle.std.specs.Prelude.{◌≡◌, ◌==◌, ◌&&◌, not, ℕ, Bool, true, false, List, Option, Some, None, filter, sum_by, bytes_eq}
 use Rattle.std.specs.List.{list_any}
 use Rattle.bt_style.specs.Program.{Program}
@@ -24,8 +24,8 @@ same_key None (Some k) = false
 same_key (Some k) None = false
 same_key (Some k) (Some l) = bytes_eq k l
 
--- Whether an earlier step does what a later one would do: they are of the same command and key, and their inputs agree
--- in all that the later one may come to.
+-- Whether an earlier step does what a later one would do: they have the same command and key, and their inputs agree in
+-- everything that the later one can reach.
 unfoldable pub agrees_with : Program → Step → Step → Bool
 agrees_with p t s =
     s.command == t.command && same_key s.key t.key && agreement (reach_by (names_in p t.input)) s.input t.input

@@ -7,6 +7,7 @@ pub mod Tags
 pub mod Turn
 pub mod Edits
 pub mod Asked
+pub mod Alike
 pub mod Found
 pub mod Work
 pub mod BodySet

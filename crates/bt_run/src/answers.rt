@@ -1,4 +1,4 @@
-//! What the files mean, with the steps of an earlier run taken over.
+//! What the files mean, by a run that reuses steps of an earlier run.
 
 ghost use Rattle.std.specs.Prelude.{◌≡◌, ◌≤◌, ◌-◌, length, IfOk, OnOk};
 ghost use Rattle.std.specs.Option.{ForSome};
@@ -44,7 +44,7 @@ pub struct Answers {
     pub terse: Bytes,
     /// The messages of the log in their parts, in order.
     pub messages: Sequence<Message>,
-    /// 0 where the run was clean, 1 after warnings, 2 after errors, 3 after a fatal error.
+    /// 0 for a clean run, 1 after warnings, 2 after errors, 3 after a fatal error.
     pub status: u8,
     /// The names of the files that were looked for and not found, in order, each once.
     pub wanted: Sequence<Bytes>,
@@ -69,11 +69,11 @@ impl Answers {
 pub struct Report {
     /// The status of the run: 0 clean, 1 warnings, 2 errors, 3 a fatal error.
     pub status: u8,
-    /// How many steps were carried out.
+    /// How many steps ran.
     pub ran: u64,
-    /// How many steps were taken over from an earlier run.
+    /// How many steps were reused from an earlier run.
     pub reused: u64,
-    /// The ticks of the steps that were carried out.
+    /// The ticks of the steps that ran.
     pub ticks: u128,
 }
 
@@ -177,7 +177,7 @@ fn run_with(
         return Ok(StyleRun::new(course, wanted, None));
     };
     let name = name.as_slice();
-    // A law of the reader of styles, for the proof alone: the call does nothing.
+    // This call does nothing; the proof needs its contract, a law of the reader of styles.
     fields_are_apart();
     let keys = Shared::new(alloc, keys)?;
     let cites = Cites { keys, star };
@@ -317,6 +317,7 @@ impl Ran {
             places,
             tags,
             all_calls: calls,
+            asked,
             readings,
             ..
         } = steps;
@@ -328,6 +329,7 @@ impl Ran {
             order,
             tags,
             calls,
+            asked,
             written: answers.bbl.len(),
         };
         Run {
@@ -339,9 +341,9 @@ impl Ran {
     }
 }
 
-/// What the files mean from this root, the name of its file without `.aux`, with this min-crossrefs. Of the steps that
-/// are kept of an earlier run, those that agree are taken over where its style has the same text; all others are
-/// carried out, and reported. Texts that were read before aren't read again.
+/// What the files mean from this root (the name of its file without `.aux`), with this min-crossrefs. If the earlier
+/// run's style had the same text, its steps that agree are reused. All others run, and are reported. Texts that were
+/// read before aren't read again.
 pub fn answers_after(
     alloc: Global,
     files: &[File],

@@ -25,6 +25,16 @@ pub fn write_lines(text: &mut Bytes, lines: &[Shared<Bytes>]) -> Result<(), Allo
     Ok(())
 }
 
+/// The same of lines with one owner each.
+pub fn write_own_lines(text: &mut Bytes, lines: &[Bytes]) -> Result<(), AllocError>
+    ensures { OnOk result (text.new ≡ text.old ++ lines_bytes lines.now) }
+{
+    'lines: for line in lines {
+        write_line(text, line.as_slice())?;
+    }
+    Ok(())
+}
+
 /// What steps have written. The previous run wrote `before` bytes, so this makes room for as many at once.
 pub fn bbl_of(alloc: Global, steps: &[Shared<Step>], before: usize) -> Result<Bytes, AllocError>
     ensures { IfOk result (λ bbl. bbl ≡ bbl_of steps.now) }

@@ -24,7 +24,7 @@ pub struct Step {
 }
 
 impl Step {
-    /// The step of a command that was given this input, left this outcome and took so many ticks.
+    /// The step of a command with this input, outcome and cost.
     pub fn of(
         command: usize,
         input: Input,

@@ -1,13 +1,16 @@
 //! What a run goes over of an earlier one.
 
-ghost use Rattle.std.specs.Prelude.{◌≡◌, None, [], length, map, option_copied, IfOk, IfSome};
+ghost use Rattle.std.specs.Prelude.{◌≡◌, ℕ, IsTrue, None, [], length, map, option_copied, IfOk, IfSome};
 ghost use Rattle.bt_run.specs.inner.Course.{IsArranged};
-ghost use Rattle.bt_run.specs.inner.Earlier.{ArePlaced, AreSame};
+ghost use Rattle.bt_run.specs.inner.Earlier.{ArePlaced, AreSame, fixed, fixed_at};
 ghost use Rattle.std.specs.Option.{ForSome};
 ghost use Rattle.bt_run.specs.inner.Tags.{step_tag};
 ghost use Rattle.bt_run.specs.inner.Turn.{AreInTurn};
 ghost use Rattle.bt_run.specs.inner.Calls.{AreCalls};
+ghost use Rattle.bt_run.specs.inner.Alike.{AreAsked, Stays};
 
+use crate::alike::Alike;
+use crate::asking::Asking;
 use crate::counts::Calls;
 use crate::course::Step;
 use crate::same_input::equal_fixed;
@@ -27,11 +30,14 @@ pub struct Earlier<'a> {
     pub tags: &'a [u64],
     /// How often the steps called each built-in function, if known.
     pub calls: Option<&'a Calls>,
+    /// What READ asked of the databases to find these entries, if known.
+    pub asked: Option<&'a Asking>,
     ghost placed: { ArePlaced entries.now steps.now places.now },
     ghost arranged: { IsArranged (length entries.now) order.now },
     ghost tagged: { tags.now ≡ map step_tag steps.now },
     ghost called: { ForSome (option_copied calls) (AreCalls steps.now) },
     ghost in_turn: { AreInTurn steps.now },
+    ghost found: { AreAsked (option_copied asked) entries.now },
 }
 
 impl<'a> Earlier<'a> {
@@ -47,6 +53,7 @@ impl<'a> Earlier<'a> {
             order: &[],
             tags: &[],
             calls: None,
+            asked: None,
         }
     }
 
@@ -75,18 +82,29 @@ pub fn no_places(
     Ok(places)
 }
 
-/// For each place of two lists whether the entries there are the same, but for their variables.
+/// Whether the entries at a place are the same, but for their variables. If it is known, they aren't compared.
+fn is_same_at(old: &Entry, new: &Entry, place: usize, alike: Alike) -> bool
+    requires { Stays alike place → fixed old.now ≡ fixed new.now }
+    ensures { IsTrue result → fixed old.now ≡ fixed new.now }
+{
+    alike.stays(place) || equal_fixed(old, new)
+}
+
+/// For each place of two lists whether the entries there are the same, but for their variables. Those that
+/// are known to be aren't compared.
 pub fn same_entries(
     alloc: Global,
     entries: &[Entry],
     others: &[Entry],
+    alike: Alike,
 ) -> Result<Sequence<bool>, AllocError>
+    requires { (n : ℕ) → Stays alike n → fixed_at entries.now n ≡ fixed_at others.now n }
     ensures { IfOk result (λ same. AreSame entries.now others.now same) }
 {
     let mut same = Sequence::new(alloc);
     let count = entries.len().min(others.len());
     'places: for place in 0..count {
-        same.push(equal_fixed(&entries[place], &others[place]))?;
+        same.push(is_same_at(&entries[place], &others[place], place, alike))?;
     }
     Ok(same)
 }

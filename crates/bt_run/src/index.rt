@@ -1,4 +1,4 @@
-//! Where earlier steps stand, which is found by hashing.
+//! The places of earlier steps, found by hashing.
 
 ghost use Rattle.std.specs.Prelude.{◌≡◌, ◌++◌, [], ◌∷◌, IfOk, OnOk, option_copied, unwrap_or, if◌then◌else◌};
 ghost use Rattle.std.proofs.Common.{rules};
@@ -111,7 +111,7 @@ impl Index {
         Ok(index)
     }
 
-    /// The places at which a step of this command may stand, if its input has the same key.
+    /// The places at which a step of this command can be, if its input has the same key.
     pub fn places(&self, command: usize, input: &Input) -> Result<&[usize], AllocError>
         ensures { IfOk result (λ places. places.now ≡ places_at self.now (step_name command input.now)) }
     {

@@ -9,7 +9,9 @@ ghost use Rattle.std.specs.Option.{ForSome};
 ghost use Rattle.bt_run.specs.inner.Tags.{step_tag};
 ghost use Rattle.bt_run.specs.inner.Turn.{AreInTurn};
 ghost use Rattle.bt_run.specs.inner.Calls.{AreCalls};
+ghost use Rattle.bt_run.specs.inner.Alike.{AreAsked};
 
+use crate::asking::Asking;
 use crate::counts::Calls;
 use crate::course::Step;
 use crate::earlier::Earlier;
@@ -31,6 +33,8 @@ pub struct Kept {
     pub tags: Sequence<u64>,
     /// How often the steps called each built-in function, if known.
     pub calls: Option<Calls>,
+    /// What READ asked of the databases to find these entries, if known.
+    pub asked: Option<Asking>,
     /// The length of its bibliography, for which the next run makes room.
     pub written: usize,
     ghost true_steps: { StepsAre text steps },
@@ -39,6 +43,7 @@ pub struct Kept {
     ghost tagged: { tags ≡ map step_tag steps },
     ghost called: { ForSome calls (AreCalls steps) },
     ghost in_turn: { AreInTurn steps },
+    ghost found: { AreAsked asked entries },
 }
 
 impl Kept {
@@ -56,6 +61,7 @@ impl Kept {
             order: Sequence::new(alloc),
             tags: Sequence::new(alloc),
             calls: None,
+            asked: None,
             written: 0,
         }
     }
@@ -75,6 +81,7 @@ pub fn earlier_under<'a>(kept: &'a Kept, text: &[u8]) -> Earlier<'a>
             order: kept.order.as_slice(),
             tags: kept.tags.as_slice(),
             calls: kept.calls.as_ref(),
+            asked: kept.asked.as_ref(),
         };
     }
     Earlier::none()

@@ -10,9 +10,11 @@
 ghost use Rattle.std.specs.Prelude.{◌≡◌, ◌≤◌, Some, length, map, take, slice_get, slice_set, IfOk, IfSome, IsTrue};
 ghost use Rattle.bt_bib.specs.BibText.{pieces_of};
 ghost use Rattle.bt_text.specs.NameList.{are_apart};
-ghost use Rattle.bt_resolve.specs.inner.Kept.{IsResolvedEdit};
+ghost use Rattle.bt_resolve.specs.inner.Kept.{IsResolvedEdit, resolved_for};
+ghost use Rattle.bt_run.specs.inner.Alike.{IsAlike, is_known};
 ghost use Rattle.bt_run.specs.inner.Asked.{question_of, with_databases};
 
+use crate::alike::Alike;
 use crate::asking::Asking;
 use crate::database::{Database, DatabaseEdit, all_items};
 use bt_bib::Items;
@@ -108,49 +110,57 @@ impl KeptResolution {
         self.texts.set(number, text);
     }
 
-    /// Edits the database of this number. Returns false if more than one entry may change.
+    /// Edits the database of this number and returns which entries stay. If more than one may change, it does nothing and
+    /// returns `Unknown`.
     fn edit_at(
         &mut self,
         alloc: Global,
         number: usize,
         edit: &DatabaseEdit,
-    ) -> Result<bool, AllocError>
+    ) -> Result<Alike, AllocError>
         requires { slice_get self.old.texts number ≡ Some edit.now.old }
-        ensures { IfOk result (λ done. IsTrue done → self.new.resolution
+        ensures made { IfOk result (λ alike. IsTrue (is_known alike) → self.new.resolution
             ≡ with_databases (map pieces_of (slice_set self.old.texts number edit.now.new.text)) self.old.resolution) }
+        ensures alike { IfOk result (λ alike.
+            IsAlike alike (resolved_for self.old.resolution) (resolved_for self.new.resolution)) }
     {
         let new = &edit.new;
-        let Some(made) = self.resolution.edit(alloc, number, &new.items, &edit.edit)? else {
-            return Ok(false);
+        let found = self.resolution.edit(alloc, number, &new.items, &edit.edit)?;
+        let Some(made) = found else {
+            return Ok(Alike::Unknown);
         };
+        let alike = Alike::after(&made.seen);
         let text = new.text.share()?;
         let items = new.items.share()?;
         self.put(number, text, items, made);
-        Ok(true)
+        Ok(alike)
     }
 
-    /// Goes over to these texts. It says whether that was done: not if more than one entry may change.
+    /// Goes over to these texts and returns which entries stay. If more than one may change, it does nothing and returns
+    /// `Unknown`.
     pub fn follow(
         &mut self,
         alloc: Global,
         texts: &[Shared<Bytes>],
         edit: &Option<DatabaseEdit>,
-    ) -> Result<bool, AllocError>
-        ensures { IfOk result (λ done. IsTrue done → self.new.resolution
+    ) -> Result<Alike, AllocError>
+        ensures done { IfOk result (λ alike. IsTrue (is_known alike) → self.new.resolution
             ≡ with_databases (map pieces_of texts.now) self.old.resolution) }
+        ensures alike { IfOk result (λ alike.
+            IsAlike alike (resolved_for self.old.resolution) (resolved_for self.new.resolution)) }
     {
         let kept = self.texts.as_slice();
         let number = same_first(kept, texts);
         if number >= kept.len() && number >= texts.len() {
-            return Ok(true);
+            return Ok(Alike::All);
         }
         let Some(edit) = edit else {
-            return Ok(false);
+            return Ok(Alike::Unknown);
         };
         if !is_edited_at(kept, texts, number, edit) {
-            return Ok(false);
+            return Ok(Alike::Unknown);
         }
-        let done = self.edit_at(alloc, number, edit)?;
-        Ok(done)
+        let alike = self.edit_at(alloc, number, edit)?;
+        Ok(alike)
     }
 }

@@ -9,11 +9,12 @@ ghost use Rattle.bt_run.specs.inner.Tags.{step_tag};
 ghost use Rattle.bt_run.specs.inner.Turn.{IsGivenAt, IsSharedFrom};
 ghost use Rattle.bt_run.specs.inner.Work.{IsBegun, IsConsistent, IsNext};
 
+use crate::asking::Asking;
 use crate::counts::Calls;
 use crate::course::{Course, Step};
 use crate::earlier::{no_places, same_entries};
 use crate::job::Job;
-use crate::known_calls::{Turn, calls_with};
+use crate::known_calls::{Turn, count_step};
 use crate::read_command::read;
 use crate::readings::Readings;
 use crate::recorder::Recorder;
@@ -46,7 +47,7 @@ struct Next {
 /// The steps of a run so far, and what the run keeps to reuse steps of an earlier one.
 #[derive(Drop)]
 pub struct KeptSteps {
-    /// Those that were taken over whole are shared with the run before.
+    /// Those that were reused whole are shared with the run before.
     pub steps: Sequence<Shared<Step>>,
     /// The place in the list of each step's entry, if it has one.
     pub places: Sequence<Option<usize>>,
@@ -62,6 +63,8 @@ pub struct KeptSteps {
     pub calls: Option<Calls>,
     /// How often all steps called each, which is known at the end of the run.
     pub all_calls: Option<Calls>,
+    /// What READ asked of the databases, if it was known then.
+    pub asked: Option<Asking>,
     pub reuse: Reuse,
     /// What was read, by earlier runs and this one.
     pub readings: Readings,
@@ -108,6 +111,7 @@ impl KeptSteps {
             in_step: false,
             calls: None,
             all_calls: None,
+            asked: None,
             reuse: Reuse::begun(alloc),
             readings,
         }
@@ -241,11 +245,13 @@ impl Recorder for KeptSteps {
         number: usize,
         course: &mut Course,
     ) -> Result<(), AllocError> {
-        read(alloc, job, number, course, &mut self.readings)?;
+        let alike = read(alloc, job, number, course, &mut self.readings)?;
+        let asked = Asking::at(alloc, job, number)?;
         let places = no_places(alloc, self.steps.as_slice())?;
-        let same = same_entries(alloc, job.earlier.entries, course.entries.as_slice())?;
+        let same = same_entries(alloc, job.earlier.entries, course.entries.as_slice(), alike)?;
         self.places = places;
         self.same = same;
+        self.asked = Some(asked);
         Ok(())
     }
 
@@ -257,15 +263,14 @@ impl Recorder for KeptSteps {
         place: Option<usize>,
         course: &mut Course,
     ) -> Result<(), AllocError> {
-        // A law of the machine, for the proof alone: the call does nothing.
+        // This call does nothing; the proof needs its contract, a law of the machine.
         step_depends_on_its_input();
         let from = self.reuse.next;
         let Next { step, tag, shared } = self.next_step(command, target, place, course)?;
         put_back(command, course, place, &step.outcome)?;
         let next = self.reuse.next;
         let turn = Turn { from, next, shared };
-        let calls = calls_with(self.calls, command.job.earlier.steps, turn, &step)?;
-        self.calls = calls;
+        count_step(&mut self.calls, command.job.earlier.steps, turn, &step)?;
         self.in_step = shared;
         self.steps.push(step)?;
         self.tags.push(tag)?;

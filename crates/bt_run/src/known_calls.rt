@@ -69,13 +69,9 @@ pub fn calls_with(
     turn: Turn,
     step: &Step,
 ) -> Result<Option<Calls>, AllocError>
-    requires { IsTrue turn.shared → IsSharedFrom earlier.now step.now turn.from turn.next }
     ensures { IfOk result (λ more. (steps : List StepSeen) → ForSome calls (AreCallsFrom earlier.now turn.from steps) →
         ForSome more (AreCallsFrom earlier.now turn.next (steps ++ step.now ∷ []))) }
 {
-    if turn.shared {
-        return Ok(calls);
-    }
     let Some(calls) = calls else {
         return Ok(None);
     };
@@ -88,6 +84,25 @@ pub fn calls_with(
         return Ok(Some(sums));
     }
     Ok(None)
+}
+
+/// Counts one more step. A step that is shared changes nothing: it was counted before.
+pub fn count_step(
+    calls: &mut Option<Calls>,
+    earlier: &[Shared<Step>],
+    turn: Turn,
+    step: &Step,
+) -> Result<(), AllocError>
+    requires { IsTrue turn.shared → IsSharedFrom earlier.now step.now turn.from turn.next }
+    ensures { OnOk result ((steps : List StepSeen) → ForSome calls.old (AreCallsFrom earlier.now turn.from steps) →
+        ForSome calls.new (AreCallsFrom earlier.now turn.next (steps ++ step.now ∷ []))) }
+{
+    if turn.shared {
+        return Ok(());
+    }
+    let more = calls_with(*calls, earlier, turn, step)?;
+    *calls = more;
+    Ok(())
 }
 
 /// The calls of all steps of a run. If the cursor is at the end, the known sums are theirs; otherwise they are added up.

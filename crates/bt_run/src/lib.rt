@@ -1,7 +1,8 @@
 //! A run of BibTeX over the present files: the commands of the style, the log and the counts. Steps of an earlier run
-//! that agree are taken over.
+//! that agree are reused.
 #![tactic(auto)]
 
+mod alike;
 mod answers;
 mod asking;
 mod bibliography;

@@ -31,7 +31,7 @@ fn show_style(
 ) -> Result<Answers, AllocError>
     ensures { IfOk result (λ answers. meaning_of answers ≡ run_shown (style_run (job_of job.entry) log) wanted) }
 {
-    let mut written = WrittenSteps::none(alloc);
+    let mut written = WrittenSteps::none(alloc, job.style)?;
     let mut course = run_style(alloc, job, log, &mut written)?;
     tell_counts(alloc, &mut course.log, &written.calls)?;
     let Course { log, entries, .. } = course;
@@ -63,7 +63,7 @@ fn show_asked(
         return Ok(answers);
     };
     let name = name.as_slice();
-    // A law of the reader of styles, for the proof alone: the call does nothing.
+    // This call does nothing; the proof needs its contract, a law of the reader of styles.
     fields_are_apart();
     let keys = Shared::new(alloc, keys)?;
     let cites = Cites { keys, star };

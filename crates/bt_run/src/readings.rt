@@ -55,7 +55,7 @@ impl Readings {
         })
     }
 
-    /// The style that a text spells, or its first fault. It is read where it wasn't before. After out of memory what is
+    /// The style that a text spells, or its first fault. It is read if it wasn't read before. After out of memory, what is
     /// known is as before, or has this style too.
     pub fn style(
         &mut self,

@@ -1,4 +1,4 @@
-//! How a run goes over the steps of an earlier one.
+//! What a run needs to reuse the steps of an earlier one.
 
 ghost use Rattle.std.specs.Prelude.{◌≡◌, None, []};
 
@@ -16,31 +16,31 @@ pub struct KnownReach {
     pub reach: Shared<Reach>,
 }
 
-/// How earlier steps are found that aren't met at the place to try next.
+/// How an earlier step is found that isn't at the place to try next.
 #[derive(Drop)]
 pub struct Lookup {
-    /// How often all of them were gone over.
+    /// How often all of them were scanned.
     pub scans: usize,
-    /// Where they stand, which is worked out once they were gone over often.
+    /// Their places, computed once they have been scanned often.
     pub index: Option<Index>,
 }
 
-/// What a run counts and keeps while it goes over the steps of an earlier one.
+/// What a run counts and keeps while it reuses the steps of an earlier one.
 #[derive(Drop)]
 pub struct Reuse {
-    /// The ticks of the steps that were carried out.
+    /// The ticks of the steps that ran.
     pub meter: Meter,
-    /// How many steps were carried out; those that were taken over don't count.
+    /// How many steps ran; those that were reused don't count.
     pub ran: u128,
-    /// The place after that of the earlier step that was met last.
+    /// The place after the earlier step that was reused last.
     pub next: usize,
     pub lookup: Lookup,
-    /// What was worked out of the style so far, each once.
+    /// What the names of the style reach, as far as it was computed, each once.
     pub known: Sequence<KnownReach>,
 }
 
 impl Reuse {
-    /// At the beginning of a run: no step was carried out, and nothing is known of the style.
+    /// At the beginning of a run: no step ran, and nothing is known of the style.
     pub fn begun(alloc: Global) -> Reuse
         ensures meter { result.meter ≡ 0 }
         ensures ran { result.ran ≡ 0 }

@@ -1,4 +1,4 @@
-//! A step of an earlier run is taken over where it does the same.
+//! A step of an earlier run is reused if it does the same.
 
 ghost use Rattle.std.specs.Prelude.{◌≡◌, ◌+◌, ◌<◌, ◌≤◌, ◌^◌, ◌↔◌, All, Contains, Some, IsTrue, IfOk, IfSome, OnOk, MatchOption, slice_get};
 ghost use Rattle.std.specs.Option.{ForSome};
@@ -22,8 +22,7 @@ use bt_style::{Reach, Style, Target};
 use bt_text::{Sequence, Shared};
 use std::alloc::{AllocError, Global};
 
-/// How often all earlier steps are gone over before an index of them is made, which takes much longer than to do it
-/// once.
+/// How often all earlier steps are scanned before an index of them is made, which takes much longer than one scan.
 const SCANS: usize = 16;
 
 /// What a step left, and its cost.
@@ -46,7 +45,7 @@ pub fn is_same_place(one: Option<usize>, other: Option<usize>) -> bool
     }
 }
 
-/// What is known to be reached from a name with a type's function, if it was worked out.
+/// What a name reaches with a type's function, if it was computed.
 #[tactic(auto, using(bt_style::proofs::ReachLemmas::target_eq_sound))]
 fn find_known(known: &[KnownReach], target: Target, function: Option<usize>) -> Option<&KnownReach>
     ensures among { IfSome result (λ k. Contains known.now k.now) }
@@ -61,7 +60,7 @@ fn find_known(known: &[KnownReach], target: Target, function: Option<usize>) -> 
     None
 }
 
-/// What the step of an input may come to, which is worked out where it isn't known yet.
+/// What the step of an input can reach, computed if it isn't known yet.
 fn reach_of(
     alloc: Global,
     style: &Style,
@@ -90,7 +89,7 @@ fn reach_of(
 
 // Earlier steps
 
-/// A step that is looked for: its command, its input, and what it may come to.
+/// A step that is looked for: its command, its input, and what it can reach.
 #[derive(Clone, Copy)]
 struct Sought<'a> {
     command: usize,
@@ -189,7 +188,7 @@ fn find_anywhere<'a>(style: &Style, earlier: Earlier<'a>, sought: Sought<'_>) ->
     None
 }
 
-/// The index of the earlier steps, which is made where there is none yet.
+/// The index of the earlier steps, made if there is none yet.
 fn index_of(
     alloc: Global,
     earlier: &[Shared<Step>],
@@ -204,8 +203,8 @@ fn index_of(
     }
 }
 
-/// The earlier step that is met: the one at the place to try next, mostly. Where it isn't, all of them are scanned for
-/// it, and after `SCANS` such scans an index finds it.
+/// The earlier step that agrees: mostly the one at the place to try next. If it isn't, all of them are scanned for one
+/// that does, and after `SCANS` scans an index finds it.
 fn meet<'a>(
     alloc: Global,
     style: &Style,
@@ -242,7 +241,7 @@ fn is_same_key(step: &Step, input: &Input) -> bool {
     }
 }
 
-/// The place to try after a step that isn't met: one further, where the step here is of the same command and key.
+/// The place to try next if no step agrees: one further, if the step there has the same command and key.
 fn place_after(earlier: &[Shared<Step>], next: usize, sought: Sought<'_>) -> usize
     ensures { result ≤ next + 1 }
 {
@@ -257,7 +256,7 @@ fn place_after(earlier: &[Shared<Step>], next: usize, sought: Sought<'_>) -> usi
 
 // A step
 
-/// An earlier step, taken over: what it left of all that it may come to, and all else as it is now.
+/// An earlier step, reused: what it left of everything that it can reach, and all else as it is now.
 fn take_over(alloc: Global, step: &Step, input: &Input, reach: &Reach) -> Result<Done, AllocError>
     requires { step.now.outcome ≡ outcome_over (is_among reach.now.targets) step.now.input step.now.outcome }
     ensures outcome { IfOk result
@@ -295,7 +294,7 @@ fn carry_out_step(
     Ok(Done { outcome, cost })
 }
 
-/// What the step of an input leaves: taken over where an earlier run has the step, and carried out elsewhere.
+/// What the step of an input leaves: reused if the earlier run has the step, otherwise run.
 pub fn take_over_or_carry_out(
     alloc: Global,
     style: &Style,
@@ -317,7 +316,7 @@ pub fn take_over_or_carry_out(
     ensures counted { IfOk result (λ d. IsCounted (program_of style.now) earlier.entry.steps.now
         (step_now command input.now d.outcome d.cost) reuse.old reuse.new) }
 {
-    // A law of the machine, for the proof alone: the call does nothing.
+    // This call does nothing; the proof needs its contract, a law of the machine.
     agreeing_inputs_have_one_step();
     let known = reach_of(alloc, style, input, &mut reuse.known)?;
     let reach: &Reach = &known;

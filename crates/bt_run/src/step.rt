@@ -9,7 +9,7 @@ ghost use Rattle.bt_log.specs.declared.message.Place.TheVariants as places;
 ghost use Rattle.bt_log.specs.Message.{at};
 ghost use Rattle.bt_run.specs.Course.{course_world, input_at};
 ghost use Rattle.bt_run.specs.inner.Cases.{all_told};
-ghost use Rattle.bt_run.specs.inner.Course.{variables_back, put_back};
+ghost use Rattle.bt_run.specs.inner.Course.{variables_back, put_back, lent};
 
 use crate::course::{CommandPlace, Course};
 use crate::step_command::StepCommand;
@@ -47,6 +47,34 @@ pub fn cut_out(
         globals: course.globals.share()?,
         held: course.held.copy(alloc)?,
         preamble: course.preamble.share()?,
+    })
+}
+
+/// The same for a step after which the run gets other variables. The run lends its global variables and those of the entry
+/// to the step, and has these in their place until then: so the step is their only owner and can change them in place.
+pub fn move_out(
+    alloc: Global,
+    course: &mut Course,
+    target: Target,
+    place: Option<usize>,
+    others: &Shared<Variables>,
+) -> Result<Input, AllocError>
+    requires { IsPlace place (course_world course.old) }
+    ensures input { IfOk result (λ input. input ≡ input_at target place (course_world course.old)) }
+    ensures course { OnOk result (course.new ≡ lent place others.now course.old) }
+{
+    let entry = entry_at(course, place)?;
+    let held = course.held.copy(alloc)?;
+    let preamble = course.preamble.share()?;
+    let globals = mem::replace(&mut course.globals, others.share()?);
+    let others = Some(others.share()?);
+    put_variables_back(alloc, &mut course.entries, place, &others)?;
+    Ok(Input {
+        target,
+        entry,
+        globals,
+        held,
+        preamble,
     })
 }
 

@@ -1,18 +1,19 @@
 //! The recorder of a single run: it writes lines as they come, adds up calls, and keeps no step.
 
-ghost use Rattle.std.specs.Prelude.{◌≡◌, [], slice_index_or, ℕ, ◌<◌};
+ghost use Rattle.std.specs.Prelude.{◌≡◌, [], slice_index_or, ℕ, ◌<◌, IfOk};
 
-use crate::bibliography::write_lines;
+use crate::bibliography::write_own_lines;
 use crate::counts::{Calls, add_calls};
 use crate::course::Course;
 use crate::job::Job;
 use crate::read_command::read_once;
 use crate::recorder::Recorder;
-use crate::step::{cut_out, put_back};
+use crate::step::{move_out, put_back};
 use crate::step_command::StepCommand;
-use bt_machine::{Meter, activate, step_depends_on_its_input};
-use bt_style::{BUILTIN_COUNT, Target};
-use bt_text::Bytes;
+use bt_actions::Variables;
+use bt_machine::{Meter, SoundPatterns, activate_once, sound_patterns, step_depends_on_its_input};
+use bt_style::{BUILTIN_COUNT, Style, Target};
+use bt_text::{Bytes, Shared, Values};
 use std::alloc::{AllocError, Global};
 
 /// What the steps of a run have written, and how often they called each built-in function.
@@ -20,18 +21,30 @@ use std::alloc::{AllocError, Global};
 pub struct WrittenSteps {
     pub bbl: Bytes,
     pub calls: Calls,
+    /// What the run has in place of the variables that it lends to a step.
+    others: Shared<Variables>,
+    /// The patterns of the style.
+    patterns: SoundPatterns,
 }
 
 impl WrittenSteps {
     /// No step.
-    pub fn none(alloc: Global) -> WrittenSteps
-        ensures bbl { result.bbl ≡ [] }
-        ensures calls { (place : ℕ) → place < 37 → slice_index_or result.calls place 0 ≡ 0 }
+    pub fn none(alloc: Global, style: &Style) -> Result<WrittenSteps, AllocError>
+        ensures bbl { IfOk result (λ written. written.bbl ≡ []) }
+        ensures calls { IfOk result (λ written. (place : ℕ) → place < 37 → slice_index_or written.calls place 0 ≡ 0) }
     {
-        WrittenSteps {
+        let others = Variables {
+            numbers: Values::new(alloc),
+            texts: Values::new(alloc),
+        };
+        let others = Shared::new(alloc, others)?;
+        let patterns = sound_patterns(alloc, style)?;
+        Ok(WrittenSteps {
             bbl: Bytes::new(alloc),
             calls: [0; BUILTIN_COUNT],
-        }
+            others,
+            patterns,
+        })
     }
 }
 
@@ -56,6 +69,7 @@ impl Recorder for WrittenSteps {
         read_once(alloc, job, number, course)
     }
 
+    #[tactic(auto, using(crate::proofs::CourseLemmas::placed_lent))]
     fn take_step(
         &mut self,
         command: StepCommand<'_>,
@@ -66,10 +80,11 @@ impl Recorder for WrittenSteps {
         // A law of the machine, for the proof alone: the call does nothing.
         step_depends_on_its_input();
         let StepCommand { alloc, job, .. } = command;
-        let input = cut_out(alloc, course, target, place)?;
-        let outcome = activate(alloc, job.style, &input, &mut Meter::new())?;
+        let input = move_out(alloc, course, target, place, &self.others)?;
+        let mut meter = Meter::new();
+        let (outcome, lines) = activate_once(alloc, job.style, &self.patterns, input, &mut meter)?;
         put_back(command, course, place, &outcome)?;
-        write_lines(&mut self.bbl, outcome.lines.as_slice())?;
+        write_own_lines(&mut self.bbl, lines.as_slice())?;
         add_calls(&mut self.calls, &outcome.calls)?;
         Ok(())
     }

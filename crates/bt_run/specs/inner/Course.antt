@@ -41,3 +41,7 @@ put_back site x o r =
       log = r.log ++ all_told site.line site.style o.messages;
       stopped = o.stop;
     }
+
+-- a run that has lent its global variables and those of an entry to a step
+abbrev pub lent : Option ℕ → Variables → Course → Course
+lent x others r = record r { entries = variables_back x (Some others) r.entries; globals = others }

@@ -9,10 +9,10 @@ pub edit_at-requires : goal.edit_at-requires
 edit_at-requires c =
     subst (λ (ts : List (List ℕ)). slice_get ts c.same_first-number.result ≡ Some c.in-Some.edit.old) c.as_slice-kept.ensures (c.is_edited_at.ensures.old c.if-not-is_edited_at.false)
 
-pub returns : goal.returns
-returns c = λ go.
+pub returns-clause-done : goal.returns-clause-done
+returns-clause-done c = λ go.
     let kept = c.args.self.now in
     let n = c.same_first-number.result in
     let text = c.in-Some.edit.new.text in
     let texts = c.is_edited_at.ensures.new c.if-not-is_edited_at.false ∙ ap (λ (ts : List (List ℕ)). slice_set ts n text) c.as_slice-kept.ensures in
-    c.in_ok-done.ensures go ∙ ap (λ (ts : List (List ℕ)). with_databases (map pieces_of ts) kept.resolution) (sym texts)
+    c.in_ok-alike.ensures.made go ∙ ap (λ (ts : List (List ℕ)). with_databases (map pieces_of ts) kept.resolution) (sym texts)

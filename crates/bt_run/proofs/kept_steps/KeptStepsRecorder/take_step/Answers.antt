@@ -9,8 +9,8 @@ use Rattle.bt_run.specs.inner.Turn.{IsSharedFrom}
 use Rattle.bt_run.proofs.CourseLemmas.{step_taken, consistent_behind, length_back, ordered_back}
 use Rattle.bt_run.proofs.kept_steps.KeptStepsRecorder.take_step.Goals as goal
 
-pub calls_with-requires : goal.calls_with-requires
-calls_with-requires c = λ go.
+pub count_step-requires : goal.count_step-requires
+count_step-requires c = λ go.
     subst (λ (s : Step). IsSharedFrom c.args.command.job.earlier.steps.now s c.args.self.now.reuse.next c.next_step.new.self.reuse.next)
     (sym c.deref-2.ensures) (c.in_ok-step.ensures.shared go)
 
@@ -31,11 +31,11 @@ returns-clause-ready c =
     let taken = c.in_ok-step.field-0 in
     let from = c.args.self.now.reuse.next in
     let next = c.next_step.new.self.reuse.next in
-    let called : (ss : List Step) → ForSome c.next_step.new.self.calls (AreCallsFrom earlier.steps.now from ss) → ForSome c.in_ok-calls.calls (AreCallsFrom earlier.steps.now next (ss ++ taken.step ∷ [])) =
-    λ ss were. subst (λ (s : Step). ForSome c.in_ok-calls.calls (AreCallsFrom earlier.steps.now next (ss ++ s ∷ []))) c.deref-2.ensures (c.in_ok-calls.ensures ss were)
+    let called : (ss : List Step) → ForSome c.next_step.new.self.calls (AreCallsFrom earlier.steps.now from ss) → ForSome c.count_step.new.calls (AreCallsFrom earlier.steps.now next (ss ++ taken.step ∷ [])) =
+    λ ss were. subst (λ (s : Step). ForSome c.count_step.new.calls (AreCallsFrom earlier.steps.now next (ss ++ s ∷ []))) c.deref-2.ensures (c.in_ok-count_step.ensures ss were)
     in
     consistent_behind (program_of c.args.command.job.style.now) earlier site c.args.target c.args.place c.args.course.now c.put_back.new.course taken.step taken.tag taken.shared
-    c.args.self.now c.next_step.new.self c.push.new.self c.push-2.new.self c.push-3.new.self c.in_ok-calls.calls
+    c.args.self.now c.next_step.new.self c.push.new.self c.push-2.new.self c.push-3.new.self c.count_step.new.calls
     c.requires.ready c.in_ok-step.ensures.input (c.in_ok-put_back.ensures ∙ ap (λ (t : Step). put_back site c.args.place t.outcome c.args.course.now) c.deref.ensures)
     c.in_ok-step.ensures.rest c.in_ok-push.ensures.ok c.in_ok-push-2.ensures.ok c.in_ok-push-3.ensures.ok c.in_ok-step.ensures.tag c.in_ok-step.ensures.shared called c.in_ok-step.ensures.next
 

@@ -1,5 +1,5 @@
 use Rattle.bt_run.proofs.TurnLemmas.{calls_shared}
-use Rattle.bt_run.proofs.known_calls.calls_with.Goals as goal
+use Rattle.bt_run.proofs.known_calls.count_step.Goals as goal
 
 pub returns-then-turn : goal.returns-then-turn
 returns-then-turn c = λ steps were x e.

@@ -1,0 +1,90 @@
+-- What is known of the entries that READ found.
+use Rattle.std.specs.Prelude.{slice_set, IsTrue}
+use Rattle.std.proofs.Common.{◌≡◌, ◌≢◌, refl, sym, ap, ◌∙◌, subst, ℕ, zero, suc, List, [], ◌∷◌, map, Option, Some, None}
+use Rattle.bt_style.specs.Program.{Program}
+use Rattle.bt_bib.specs.BibText.{pieces_of}
+use Rattle.bt_bib.specs.declared.placed_pieces.PlacedPiece.{PlacedPiece}
+use Rattle.bt_actions.specs.declared.entry.Entry.{Entry}
+use Rattle.bt_resolve.specs.declared.entry.Entry.{Entry as FoundEntry}
+use Rattle.bt_resolve.specs.declared.entry.Resolved.{Resolved}
+use Rattle.bt_resolve.specs.declared.question.Question.{Question}
+use Rattle.bt_resolve.specs.declared.seen_edit.SeenEdit.{SeenEdit}
+use Rattle.bt_resolve.specs.declared.seen_edit.SeenEdit.TheVariants.{Same, Other}
+use Rattle.bt_resolve.specs.declared.kept.ResolvedEdit.{ResolvedEdit}
+use Rattle.bt_resolve.specs.inner.Kept.{IsResolvedEdit, resolved_for, with_database, with_seen}
+use Rattle.bt_run.specs.declared.alike.Alike.{Alike}
+use Rattle.bt_run.specs.declared.alike.Alike.TheVariants as Alikes
+use Rattle.bt_run.specs.declared.asking.Asking.{Asking}
+use Rattle.bt_run.specs.declared.course.Course.{Course}
+use Rattle.bt_run.specs.declared.kept_resolution.KeptResolution.{KeptResolution}
+use Rattle.bt_run.specs.ReadCommand.{Job, found_for, read, with_blank_variables}
+use Rattle.bt_run.specs.inner.Alike.{AreAlike, AreAsked, AreFound, IsAlike, Stays, alike_after, found_at, is_known}
+use Rattle.bt_run.specs.inner.Asked.{question_for, question_of, with_databases}
+use Rattle.bt_run.specs.inner.Earlier.{fixed_at}
+use Rattle.bt_run.specs.inner.Found.{IsAbout, IsKept}
+use Rattle.bt_run.proofs.FindingLemmas.{put_texts, resolved_is}
+
+-- an edit leaves all entries but one
+
+other_stays : (es : List FoundEntry) (k n : ℕ) (e : FoundEntry) → n ≢ k → found_at es n ≡ found_at (slice_set es k e) n
+other_stays [] k n e other = refl
+other_stays (d ∷ ds) zero zero e other = absurd (other refl)
+other_stays (d ∷ ds) zero (suc n) e other = refl
+other_stays (d ∷ ds) (suc k) zero e other = refl
+other_stays (d ∷ ds) (suc k) (suc n) e other = other_stays ds k n e (λ same. other (ap suc same))
+
+seen_alike : (seen : SeenEdit) (es : List FoundEntry) (n : ℕ) → Stays (alike_after seen) n → found_at es n ≡ found_at (with_seen seen es) n
+seen_alike Same es n stays = refl
+seen_alike (Other k e) es n stays = other_stays es k n e stays
+
+pub edit_alike : (seen : SeenEdit) (alike : Alike) (was is : Resolved) → alike ≡ alike_after seen → is.entries ≡ with_seen seen was.entries → IsAlike alike was is
+edit_alike seen alike was is known changed = λ n stays.
+    seen_alike seen was.entries n (subst (λ (a : Alike). Stays a n) known stays)
+    ∙ ap (λ (es : List FoundEntry). found_at es n) (sym changed)
+
+pub put_alike : (was is : Question) (texts : List (List ℕ)) (number : ℕ) (text : List ℕ) (items : List PlacedPiece) (made : ResolvedEdit) (alike : Alike) → was.databases ≡ map pieces_of texts → items ≡ pieces_of text → IsResolvedEdit was number items made → alike ≡ alike_after made.seen → is ≡ with_databases (map pieces_of (slice_set texts number text)) was → IsAlike alike (resolved_for was) (resolved_for is)
+put_alike was is texts number text items made alike read are_items edit known put =
+    let now = with_database number items was in
+    let same : now ≡ is = put_texts was now texts number text items read are_items refl ∙ sym put in
+    edit_alike made.seen alike (resolved_for was) (resolved_for is) known
+    (ap (λ (q : Question). (resolved_for q).entries) (sym same) ∙ edit.entries)
+
+-- what READ leaves is what it found
+
+blank_fixed : (p : Program) (es : List FoundEntry) (n : ℕ) → fixed_at (map (with_blank_variables p) es) n ≡ found_at es n
+blank_fixed p [] n = refl
+blank_fixed p (e ∷ es) zero = refl
+blank_fixed p (e ∷ es) (suc n) = blank_fixed p es n
+
+pub read_found : (job : Job) (number : ℕ) (r back : Course) → back ≡ read job number r → AreFound (resolved_for (question_for job number)) back.entries
+read_found job number r back is = λ n.
+    ap (λ (c : Course). fixed_at c.entries n) is
+    ∙ blank_fixed job.program (found_for job number).entries n
+    ∙ ap (λ (all : Resolved). found_at all.entries n) (sym (resolved_is job number))
+
+pub asked_read : (a : Asking) (job : Job) (number : ℕ) (r back : Course) → question_of a ≡ question_for job number → back ≡ read job number r → AreAsked (Some a) back.entries
+asked_read a job number r back asks is = λ b e.
+    let same : a ≡ b = cc in
+    subst (λ (q : Question). AreFound (resolved_for q) back.entries) (sym asks ∙ ap question_of same) (read_found job number r back is)
+
+-- what is known of the entries of an earlier run
+
+pub earlier_alike : (asked : Option Asking) (entries : List Entry) (kept : Option KeptResolution) (alike : Alike) (is : Resolved) → AreAsked asked entries → IsAbout kept asked → ((was : Question) → IsKept kept was → IsAlike alike (resolved_for was) is) → AreAlike alike entries is
+earlier_alike None entries kept alike is found about known = absurd about
+earlier_alike (Some a) entries kept alike is found about known = λ n stays.
+    found a refl n ∙ known (question_of a) about n stays
+
+pub alike_read : (alike : Alike) (entries : List Entry) (job : Job) (number : ℕ) (r back : Course) → AreAlike alike entries (resolved_for (question_for job number)) → back ≡ read job number r → (n : ℕ) → Stays alike n → fixed_at entries n ≡ fixed_at back.entries n
+alike_read alike entries job number r back known is = λ n stays. known n stays ∙ sym (read_found job number r back is n)
+
+pub stays_known : (alike : Alike) (n : ℕ) → Stays alike n → IsTrue (is_known alike)
+stays_known Alikes.Unknown n stays = absurd stays
+stays_known Alikes.All n stays = refl
+stays_known (Alikes.AllBut k) n stays = refl
+
+-- what is kept and about this question, after it became that of another one, if anything is known then
+pub kept_alike : (alike : Alike) (was before after asked : Question) → before ≡ was → (IsTrue (is_known alike) → after ≡ asked) → IsAlike alike (resolved_for before) (resolved_for after) → IsAlike alike (resolved_for was) (resolved_for asked)
+kept_alike alike was before after asked same known h = λ n stays.
+    ap (λ (q : Question). found_at (resolved_for q).entries n) (sym same)
+    ∙ h n stays
+    ∙ ap (λ (q : Question). found_at (resolved_for q).entries n) (known (stays_known alike n stays))

@@ -1,0 +1,58 @@
+-- What is known of the entries that READ found, held against those of the run before.
+use Rattle.std.specs.Prelude.{◌≡◌, ◌≢◌, ℕ, Bool, true, false, ⊤, List, map, Option, Some, None}
+use Rattle.std.specs.Option.{ForSome}
+use Rattle.bt_actions.specs.declared.entry.Entry.{Entry}
+use Rattle.bt_actions.specs.World.{no_variables}
+use Rattle.bt_resolve.specs.declared.entry.Entry.{Entry as FoundEntry}
+use Rattle.bt_resolve.specs.declared.entry.Resolved.{Resolved}
+use Rattle.bt_resolve.specs.declared.question.Question.{Question}
+use Rattle.bt_resolve.specs.declared.seen_edit.SeenEdit.{SeenEdit}
+use Rattle.bt_resolve.specs.declared.seen_edit.SeenEdit.TheVariants.{Same, Other}
+use Rattle.bt_resolve.specs.inner.Kept.{resolved_for}
+use Rattle.bt_run.specs.declared.alike.Alike.{Alike}
+use Rattle.bt_run.specs.declared.alike.Alike.TheVariants.{Unknown, All, AllBut}
+use Rattle.bt_run.specs.declared.asking.Asking.{Asking}
+use Rattle.bt_run.specs.inner.Asked.{question_of}
+use Rattle.bt_run.specs.inner.Earlier.{fixed_at}
+
+-- an entry that was found, as a style begins with it
+abbrev pub found_fixed : FoundEntry → Entry
+found_fixed e =
+    record { key = e.key; kind = e.kind; function = e.function; fields = e.fields; variables = no_variables }
+
+-- the same of the entry at a place
+abbrev pub found_at : List FoundEntry → ℕ → Entry
+found_at es n = fixed_at (map found_fixed es) n
+
+-- These entries are those that were found, but for their variables.
+abbrev pub AreFound : Resolved → List Entry → Type 0
+AreFound all entries = (n : ℕ) → fixed_at entries n ≡ found_at all.entries n
+
+-- They are those that were found for a question, if it is known.
+abbrev pub AreAsked : Option Asking → List Entry → Type 0
+AreAsked asked entries = ForSome asked (λ a. AreFound (resolved_for (question_of a)) entries)
+
+-- whether something is known
+abbrev pub is_known : Alike → Bool
+is_known Unknown = false
+is_known All = true
+is_known (AllBut k) = true
+
+-- The entry at a place is known to be the same.
+abbrev pub Stays : Alike → ℕ → Type 0
+Stays Unknown n = ⊥
+Stays All n = ⊤
+Stays (AllBut k) n = n ≢ k
+
+-- Where it says so, two answers have the same entry.
+abbrev pub IsAlike : Alike → Resolved → Resolved → Type 0
+IsAlike alike was is = (n : ℕ) → Stays alike n → found_at was.entries n ≡ found_at is.entries n
+
+-- what an edit leaves
+abbrev pub alike_after : SeenEdit → Alike
+alike_after Same = All
+alike_after (Other k e) = AllBut k
+
+-- Where it says so, entries are those that were found, but for their variables.
+abbrev pub AreAlike : Alike → List Entry → Resolved → Type 0
+AreAlike alike entries all = (n : ℕ) → Stays alike n → fixed_at entries n ≡ found_at all.entries n
