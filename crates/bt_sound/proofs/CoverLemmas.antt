@@ -99,7 +99,7 @@ each_in R f g (x ∷ xs) (y ∷ ys) (v ∷ vs) e h =
     let i = and_parts (f x y) (pairs_all f xs ys) e in
     (g x y v i.0 h.0, each_in R f g xs ys vs i.1 h.1)
 
-variables_in : (k l : KnownVariables) (v : Variables) → variables_within k l ≡ true → VariablesFit k v → VariablesFit l v
+pub variables_in : (k l : KnownVariables) (v : Variables) → variables_within k l ≡ true → VariablesFit k v → VariablesFit l v
 variables_in k l v e h =
     let i = and_parts (pairs_all range_within k.numbers l.numbers) (pairs_all may_within k.texts l.texts) e in
     (each_in IsIn range_within range_in k.numbers l.numbers v.numbers i.0 h.0, each_in TextFits may_within text_in k.texts l.texts v.texts i.1 h.1)

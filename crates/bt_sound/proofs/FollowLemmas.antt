@@ -1,6 +1,6 @@
 -- What the code finds follows by the rules.
-use Rattle.std.proofs.Common.{◌≡◌, ℕ, ℤ, zero, suc, ◌+◌, ◌<◌, ◌≤◌, Bool, true, false, ◌&&◌, ◌||◌, List, [], ◌∷◌, ◌++◌, map, drop, take, length, get_or, Option, Some, None, inl, inr, refl, sym, subst, ap, ◌∙◌, arith, true≢false, Vec, Global}
-use Rattle.std.specs.Prelude.{is_none, slice_index_or}
+use Rattle.std.proofs.Common.{◌≡◌, ℕ, ℤ, ◌+◌, ◌<◌, ◌≤◌, Bool, true, false, ◌&&◌, ◌||◌, List, [], ◌∷◌, ◌++◌, map, drop, take, length, get_or, Option, Some, None, inl, inr, refl, sym, subst, ap, ◌∙◌, true≢false, Vec, Global}
+use Rattle.std.specs.Prelude.{is_none}
 use Rattle.std.specs.List.{list_all, list_any}
 use Rattle.std.proofs.lemmas.Bool.{and_parts}
 use Rattle.std.proofs.lemmas.List.{drop_more, drop_all, map-append, take_more, take_all}
@@ -21,19 +21,20 @@ use Rattle.bt_actions.specs.View.{code_seen}
 use Rattle.bt_actions.specs.World.{World}
 use Rattle.bt_machine.proofs.LoopLemmas.{call_seen}
 use Rattle.bt_machine.specs.Eval.{act, code_body, default_type, eval_within, function_body}
-use Rattle.bt_sound.specs.Known.{Range, May, Known, Number, Text, Run, KnownEntry, State, holding, exactly}
+use Rattle.bt_sound.specs.Known.{Range, May, Known, Number, Text, Run, KnownVariables, KnownEntry, State, holding, exactly}
 use Rattle.bt_sound.specs.Fits.{Among}
 use Rattle.bt_sound.specs.Transfer.{stack_after}
 use Rattle.bt_sound.specs.Reading.{pushing, upto_zero, above_zero, is_open, field_read, own_number_read, own_text_read, global_number_read, global_text_read, entry_text_read, doubled, assigning}
 use Rattle.bt_sound.specs.Holds.{Leads, Does, ForEach, Covers, literal, Turns, DefaultLeads}
-use Rattle.bt_sound.specs.Below.{is_within, is_covered}
-use Rattle.bt_sound.specs.Sound.{Promises, before_step, IsChecked, IsCheckedAction}
+use Rattle.bt_sound.specs.Below.{variables_within, is_within, is_covered}
+use Rattle.bt_sound.specs.Sound.{Promises}
+use Rattle.bt_sound.specs.Checked.{first_known, before_step, IsChecked, AreChecked}
 use Rattle.bt_sound.specs.declared.state.State.{State as HeldState}
 use Rattle.bt_sound.specs.Seen.{state_seen, states_seen}
-use Rattle.bt_sound.specs.Follows.{is_bare, some_if, Follows, Acts, Makes, Pushes, Covered, Chooses, Loops, Splits, SplitsOff, Turned, FollowsTypes, Continues, AreChecked, StepIsChecked}
+use Rattle.bt_sound.specs.Follows.{is_bare, some_if, Follows, Acts, Makes, Pushes, Covered, Chooses, Loops, Splits, SplitsOff, Turned, FollowsTypes, Continues, StepLeads, GlobalsWithin, CommandsContinue, CommandsLead, CommandLeads}
 use Rattle.bt_sound.proofs.CoverLemmas.{covered_in}
 use Rattle.bt_sound.proofs.Rules.{end_more, lead_more, lead_end, lead_then, does_number, does_words, does_quote, does_braces, does_field, does_own_number, does_own_text, does_global_number, does_global_text, does_call, does_basic, does_assign, does_double, does_cite, does_type, does_if, does_while, does_call_type}
-use Rattle.bt_sound.proofs.Steps.{checked_promises}
+use Rattle.bt_sound.proofs.Runs.{checked_promises}
 
 -- what holds of each
 
@@ -335,28 +336,27 @@ module _ (p : Program) (types : List ℕ) where
 
   -- commands
 
-  pub step_checked : (s : State) (t : Target) (ss ts : List State) → ss ≡ s ∷ [] → Acts p types (Called t) ss ts → ForEach (λ s. s.stack ≡ []) ts → StepIsChecked p types s t
-  step_checked s t ss ts q a b =
-      record { after = ts; leads = subst (λ ss. Leads p types (Then (Called t) End) ss ts) q (follows_name t ss ts a).leads; empty = b }
+  pub step_leads : (s : State) (t : Target) (ss ts : List State) → ss ≡ s ∷ [] → Acts p types (Called t) ss ts → ForEach (λ s. s.stack ≡ []) ts → StepLeads p types s t ts
+  step_leads s t ss ts q a b =
+      record { leads = subst (λ ss. Leads p types (Then (Called t) End) ss ts) q (follows_name t ss ts a).leads; bare = b }
 
-  pub call_checked : (own : Bool) (s : State) (t : Target) → s ≡ before_step p own → StepIsChecked p types s t → IsChecked p types own t
-  call_checked own s t q h =
-      record { after = h.after; leads = subst (λ s. Leads p types (Then (Called t) End) (s ∷ []) h.after) q h.leads; empty = h.empty }
+  pub call_checked : (own : Bool) (s : State) (t : Target) (k l : KnownVariables) (ts : List State) → s ≡ before_step p own k → StepLeads p types s t ts → GlobalsWithin ts l → IsChecked p types own t k l
+  call_checked own s t k l ts q h g =
+      record { states = ts; leads = subst (λ s. Leads p types (Then (Called t) End) (s ∷ []) ts) q h.leads; bare = h.bare; within = g.within }
 
-  pub none_checked : AreChecked p types []
-  none_checked = record { each = tt }
+  pub command_start : (cs : List Command) (k : KnownVariables) → CommandsContinue p types cs cs k k
+  command_start cs k = record { continues = λ h. h }
 
-  pub one_more_checked : (cs : List Command) (c : Command) → AreChecked p types cs → IsCheckedAction p types c.action → AreChecked p types (cs ++ c ∷ [])
-  one_more_checked cs c h i = record { each = each_more (λ c. IsCheckedAction p types c.action) cs c h.each i }
+  pub command_more : (cs : List Command) (n : ℕ) (c : Command) (whole : List Command) (start now after : KnownVariables) → n < length cs → CommandLeads p types (get_or cs n c).action now after → CommandsContinue p types (drop n cs) whole now start → CommandsContinue p types (drop (n + 1) cs) whole after start
+  command_more cs n c whole start now after h l g =
+      record { continues = λ r. g.continues (subst (λ ds. AreChecked p types ds now) (sym (drop_more cs n c h)) (after, l.checked, r)) }
 
-  each_at : {A : Type 0} (P : A → Type 0) (xs : List A) (k : ℕ) (x : A) → ForEach P xs → k < length xs → P (slice_index_or xs k x)
-  each_at P [] k x h i = absurd (omega arith)
-  each_at P (y ∷ xs) zero x h i = h.0
-  each_at P (y ∷ xs) (suc k) x h i = each_at P xs k x h.1 (omega arith)
+  pub command_end : (cs : List Command) (n : ℕ) (whole : List Command) (start now : KnownVariables) → length cs ≤ n → CommandsContinue p types (drop n cs) whole now start → CommandsLead p types whole start
+  command_end cs n whole start now h g =
+      record { checked = g.continues (subst (λ ds. AreChecked p types ds now) (sym (drop_all n cs h)) tt) }
 
-  pub all_checked : AreChecked p types p.commands → Promises p types
-  all_checked h =
-      checked_promises p types (λ c i. subst (λ (c : Command). IsCheckedAction p types c.action) i.2 (each_at (λ (c : Command). IsCheckedAction p types c.action) p.commands i.0 c h.each i.1))
+  pub all_checked : (start : KnownVariables) → variables_within (first_known p) start ≡ true → CommandsLead p types p.commands start → Promises p types
+  all_checked start b h = checked_promises p types (record { start = start; begins = b; checked = h.checked })
 
 -- the states of the code
 
@@ -386,10 +386,6 @@ each_type p types ns k d s ss out more new h i j a f =
     (subst (λ ts. FollowsTypes p types (take k ns ++ get_or ns k d ∷ []) (state_seen s) ts) (sym (both_seen out more new i))
     (one_more_type p types (take k ns) (get_or ns k d) (state_seen s) (states_seen ss) (states_seen out) (states_seen more) a j f))
 
-pub each_command : (p : Program) (types : List ℕ) (cs : List Command) (k : ℕ) (d : Command) → k < length cs → AreChecked p types (take k cs) → IsCheckedAction p types (get_or cs k d).action → AreChecked p types (take (k + 1) cs)
-each_command p types cs k d h a i =
-    subst (AreChecked p types) (sym (take_more cs k d h)) (one_more_checked p types (take k cs) (get_or cs k d) a i)
-
 pub bare_states : (ss : List HeldState) → list_all (λ s. is_bare (state_seen s)) ss ≡ true → ForEach (λ s. s.stack ≡ []) (states_seen ss)
 bare_states [] e = tt
 bare_states (s ∷ ss) e =
@@ -399,6 +395,15 @@ bare_states (s ∷ ss) e =
     bare_is : (ks : List Known) → elim ks [ [] ↦ true | k ∷ ks ↦ false ] ≡ true → ks ≡ []
     bare_is [] e = refl
     bare_is (k ∷ ks) e = absurd (true≢false (sym e))
+
+all_within : (ss : List HeldState) (k : KnownVariables) → list_all (λ s. variables_within (state_seen s).globals k) ss ≡ true → ForEach (λ s. variables_within s.globals k ≡ true) (states_seen ss)
+all_within [] k e = tt
+all_within (s ∷ ss) k e =
+    let i = and_parts (variables_within (state_seen s).globals k) (list_all (λ s. variables_within (state_seen s).globals k) ss) e in
+    (i.0, all_within ss k i.1)
+
+pub globals_within : (ss : List HeldState) (k : KnownVariables) → list_all (λ s. variables_within (state_seen s).globals k) ss ≡ true → GlobalsWithin (states_seen ss) k
+globals_within ss k e = record { within = all_within ss k e }
 
 any_seen : (s : State) (ts : List HeldState) → list_any (λ t. is_within s (state_seen t)) ts ≡ list_any (is_within s) (states_seen ts)
 any_seen s [] = refl
@@ -426,9 +431,6 @@ all_split states goes ends k h a =
 
 pub all_types : (p : Program) (types ns : List ℕ) (s : State) (ts : List State) (k : ℕ) → length ns ≤ k → FollowsTypes p types (take k ns) s ts → FollowsTypes p types ns s ts
 all_types p types ns s ts k h a = subst (λ l. FollowsTypes p types l s ts) (take_all k ns h) a
-
-pub all_commands : (p : Program) (types : List ℕ) (cs : List Command) (k : ℕ) → length cs ≤ k → AreChecked p types (take k cs) → AreChecked p types cs
-all_commands p types cs k h a = subst (AreChecked p types) (take_all k cs h) a
 
 pub chosen_states : (p : Program) (types : List ℕ) (s : State) (c d : Code) (above upto : List State) (out more new : List HeldState) → new ≡ out ++ more → Chooses s c d above upto → Follows p types (code_body c) above (states_seen out) → Follows p types (code_body d) upto (states_seen more) → Acts p types (Called (Builtin builtin.If)) (s ∷ []) (states_seen new)
 chosen_states p types s c d above upto out more new i h f g =

@@ -10,7 +10,8 @@ pub mod Assignments
 pub mod Beyond
 pub mod Rules
 pub mod AllRules
-pub mod Steps
 pub mod CoverLemmas
+pub mod Steps
+pub mod Runs
 pub mod FollowLemmas
 mod rows

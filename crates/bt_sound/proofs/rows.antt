@@ -1,3 +1,4 @@
 -- Worked values of the definitions.
 mod ExcludedRows
 mod KnownRows
+mod RunRows

@@ -1,15 +1,17 @@
 -- What the code finds: states that follow one another. The names of `Holds` as records, each over whole lists of states.
 use Rattle.std.specs.Prelude.{◌≡◌, ℕ, Bool, true, false, List, [], ◌∷◌, ◌++◌}
+use Rattle.bt_style.specs.declared.style.Action.{Action}
 use Rattle.bt_style.specs.declared.style.Command.{Command}
 use Rattle.bt_style.specs.declared.style.Target.{Target}
 use Rattle.bt_style.specs.Tree.{Element, Body, Called, End, Then}
 use Rattle.bt_style.specs.Program.{Program}
 use Rattle.bt_actions.specs.Item.{Code}
 use Rattle.bt_machine.specs.Eval.{code_body, default_type, function_body}
-use Rattle.bt_sound.specs.Known.{Range, Known, Number, Run, State, holding}
+use Rattle.bt_sound.specs.Known.{Range, Known, Number, Run, KnownVariables, State, holding}
 use Rattle.bt_sound.specs.Reading.{pushing, upto_zero, above_zero, is_open}
 use Rattle.bt_sound.specs.Holds.{Leads, Does, ForEach, Covers, Turns, DefaultLeads}
-use Rattle.bt_sound.specs.Sound.{IsCheckedAction}
+use Rattle.bt_sound.specs.Below.{variables_within}
+use Rattle.bt_sound.specs.Checked.{AreChecked, IsCheckedAction}
 
 -- a state, if something is so
 abbrev pub some_if : Bool → State → List State
@@ -79,16 +81,27 @@ pub record FollowsTypes (p : Program) (types ns : List ℕ) (s : State) (ts : Li
   pub default : DefaultLeads p types (default_type p.functions) s ts
   pub each : ForEach (λ n. Leads p types (function_body p.functions n) (s ∷ []) ts) ns
 
--- the steps of commands are checked
-pub record AreChecked (p : Program) (types : List ℕ) (cs : List Command) : Type 0 where
-  pub each : ForEach (λ c. IsCheckedAction p types c.action) cs
-
--- a name is called in a state, and leaves nothing on the stack
-pub record StepIsChecked (p : Program) (types : List ℕ) (s : State) (t : Target) : Type 0 where
-  pub after : List State
+-- a name is called in a state, leads to others, and leaves nothing on the stack
+pub record StepLeads (p : Program) (types : List ℕ) (s : State) (t : Target) (after : List State) : Type 0 where
   pub leads : Leads p types (Then (Called t) End) (s ∷ []) after
-  pub empty : ForEach (λ s. s.stack ≡ []) after
+  pub bare : ForEach (λ s. s.stack ≡ []) after
+
+-- no more is known of the globals than each of these states says
+pub record GlobalsWithin (ss : List State) (k : KnownVariables) : Type 0 where
+  pub within : ForEach (λ s. variables_within s.globals k ≡ true) ss
 
 -- what follows from here on, follows the whole
 pub record Continues (p : Program) (types : List ℕ) (rest whole : Body) (now start : List State) : Type 0 where
   pub continues : (ts : List State) → Leads p types rest now ts → Leads p types whole start ts
+
+-- commands that are checked from here on are checked from the first
+pub record CommandsContinue (p : Program) (types : List ℕ) (rest whole : List Command) (now start : KnownVariables) : Type 0 where
+  pub continues : AreChecked p types rest now → AreChecked p types whole start
+
+-- commands are checked
+pub record CommandsLead (p : Program) (types : List ℕ) (cs : List Command) (start : KnownVariables) : Type 0 where
+  pub checked : AreChecked p types cs start
+
+-- a command is checked
+pub record CommandLeads (p : Program) (types : List ℕ) (a : Action) (before after : KnownVariables) : Type 0 where
+  pub checked : IsCheckedAction p types a before after

@@ -7,5 +7,6 @@ pub mod Holds
 pub mod Rules
 pub mod Sound
 pub mod Below
+pub mod Checked
 pub mod Follows
 pub mod Seen

@@ -1,19 +1,31 @@
--- What a style promises whose steps are checked: no step of any run gives an excluded message before an overflow.
-use Rattle.std.specs.Prelude.{◌≡◌, ℕ, Bool, true, false, List, [], ◌∷◌, length, replicate, Option, Some, None, Contains, if◌then◌else◌}
-use Rattle.bt_style.specs.declared.style.Target.{Target}
+-- What a sound style promises: no run of it gives an excluded message before an overflow.
+use Rattle.std.specs.Prelude.{◌≡◌, ℕ, ℤ, pos, true, List, [], ◌∷◌, ◌++◌, map, length, codes, Option, Some, None, bytes_eq, if◌then◌else◌}
 use Rattle.bt_style.specs.declared.style.Action.{Action}
 use Rattle.bt_style.specs.declared.style.Action.TheVariants.{Execute, Iterate, Reverse}
 use Rattle.bt_style.specs.declared.style.Command.{Command}
-use Rattle.bt_style.specs.Tree.{Called, End, Then}
 use Rattle.bt_style.specs.Program.{Program}
 use Rattle.bt_actions.specs.declared.entry.Entry.{Entry}
 use Rattle.bt_actions.specs.declared.entry.Variables.{Variables}
+use Rattle.bt_log.specs.declared.message.Message.{Message}
 use Rattle.bt_machine.specs.declared.input.Input.{Input}
 use Rattle.bt_machine.specs.Step.{step_in}
 use Rattle.bt_sound.specs.Excluded.{is_clean}
-use Rattle.bt_sound.specs.Known.{KnownVariables, KnownEntry, State, any_field, any_text, any_number}
 use Rattle.bt_sound.specs.Fits.{is_named}
-use Rattle.bt_sound.specs.Holds.{ForEach, Leads}
+
+-- Globals
+
+-- the value of a global number when a run begins
+abbrev pub first_number : List ℕ → ℤ
+first_number name =
+    if bytes_eq name (codes "entry.max$") then pos 250
+    else if bytes_eq name (codes "global.max$") then pos 20000
+    else pos 0
+
+-- the globals when a run begins, as many as the style declares
+abbrev pub first_globals : Program → Variables
+first_globals p = record { numbers = map first_number p.global_numbers; texts = map (λ name. []) p.global_texts }
+
+-- Entries
 
 -- variables of these names
 abbrev pub AreOf : List (List ℕ) → List (List ℕ) → Variables → Type 0
@@ -29,53 +41,43 @@ abbrev pub IsOfSome : Program → List ℕ → Option Entry → Type 0
 IsOfSome p types None = ⊥
 IsOfSome p types (Some e) = IsOf p types e
 
--- The command runs this step: EXECUTE for no entry, ITERATE and REVERSE for some entry, with any values of the variables,
--- any held line and any preamble.
+-- Runs
+
+-- The command runs this step: EXECUTE for no entry, ITERATE and REVERSE for some entry, with any values of its fields and
+-- variables, any held line and any preamble.
 abbrev pub Runs : Program → List ℕ → Action → Input → Type 0
 Runs p types (Execute t) i = (i.target ≡ t) × (i.entry ≡ None)
 Runs p types (Iterate t) i = (i.target ≡ t) × IsOfSome p types i.entry
 Runs p types (Reverse t) i = (i.target ≡ t) × IsOfSome p types i.entry
 Runs p types _ i = ⊥
 
--- No step that a command of the style runs gives an excluded message before an overflow, where the entries have only
--- these types. A run may reach fewer of these steps.
+abbrev pub AllRun : Program → List ℕ → Action → List Input → Type 0
+AllRun p types a [] = Unit {0}
+AllRun p types a (i ∷ is) = Runs p types a i × AllRun p types a is
+
+-- the steps of a command: EXECUTE runs exactly one, ITERATE and REVERSE any number, and the other commands none
+abbrev pub AreStepsOf : Program → List ℕ → Action → List Input → Type 0
+AreStepsOf p types (Execute t) is = (i : Input) × (is ≡ i ∷ []) × Runs p types (Execute t) i
+AreStepsOf p types a is = AllRun p types a is
+
+-- the steps of commands in order: those of the first, then those of the others
+abbrev pub AreStepsInOrder : Program → List ℕ → List Command → List Input → Type 0
+AreStepsInOrder p types [] is = is ≡ []
+AreStepsInOrder p types (c ∷ cs) is =
+    (first : List Input) × (others : List Input) × (is ≡ first ++ others) × AreStepsOf p types c.action first ×
+    AreStepsInOrder p types cs others
+
+-- The messages of steps, one after the other: each is given the globals that the one before it left, and the first is
+-- given these. After a step that stops the run, no other is made.
+abbrev pub messages_from : Program → Variables → List Input → List Message
+messages_from p globals [] = []
+messages_from p globals (i ∷ is) =
+    let left = step_in p (record i { globals = globals }) in
+    left.world.messages ++ (if left.stopped then [] else messages_from p left.world.globals is)
+
+-- No run of the style gives an excluded message before an overflow, where the entries have only these types. The runs are
+-- those over databases, and more: an entry may come to a step with any variables, any number of times, in any order.
 abbrev pub Promises : Program → List ℕ → Type 0
 Promises p types =
-    (c : Command) → Contains p.commands c → (i : Input) → AreOf p.global_numbers p.global_texts i.globals →
-    Runs p types c.action i → is_clean (step_in p i).world.messages ≡ true
-
--- what is known before a step: nothing but how many variables there are
-
-abbrev pub unknown_variables : List (List ℕ) → List (List ℕ) → KnownVariables
-unknown_variables numbers texts =
-    record { numbers = replicate (length numbers) any_number; texts = replicate (length texts) any_text }
-
-abbrev pub unknown_entry : Program → KnownEntry
-unknown_entry p =
-    record { fields = replicate (length p.fields) any_field; variables = unknown_variables p.entry_numbers p.entry_texts }
-
--- with an entry or without
-abbrev pub before_step : Program → Bool → State
-before_step p own =
-    record {
-      stack = [];
-      entry = if own then Some (unknown_entry p) else None;
-      globals = unknown_variables p.global_numbers p.global_texts;
-    }
-
--- a name is checked, with an entry or without: its call leaves nothing on the stack
-pub record IsChecked (p : Program) (types : List ℕ) (own : Bool) (t : Target) : Type 0 where
-  pub after : List State
-  pub leads : Leads p types (Then (Called t) End) (before_step p own ∷ []) after
-  pub empty : ForEach (λ s. s.stack ≡ []) after
-
--- a command is checked
-abbrev pub IsCheckedAction : Program → List ℕ → Action → Type 0
-IsCheckedAction p types (Execute t) = IsChecked p types false t
-IsCheckedAction p types (Iterate t) = IsChecked p types true t
-IsCheckedAction p types (Reverse t) = IsChecked p types true t
-IsCheckedAction p types _ = Unit {0}
-
--- each command of a style is checked
-abbrev pub IsCheckedStyle : Program → List ℕ → Type 0
-IsCheckedStyle p types = (c : Command) → Contains p.commands c → IsCheckedAction p types c.action
+    (steps : List Input) → AreStepsInOrder p types p.commands steps →
+    is_clean (messages_from p (first_globals p) steps) ≡ true

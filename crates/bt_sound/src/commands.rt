@@ -3,37 +3,28 @@
 ghost use Rattle.std.specs.Prelude.{◌≡◌, IfOk, IsTrue, true, false};
 ghost use Rattle.std.specs.List.{list_all};
 ghost use Rattle.bt_style.specs.Program.{program_of};
-ghost use Rattle.bt_sound.specs.Follows.{AreChecked, StepIsChecked, is_bare};
-ghost use Rattle.bt_sound.specs.Seen.{state_seen};
-ghost use Rattle.bt_sound.specs.Sound.{IsCheckedAction, Promises, before_step, unknown_entry, unknown_variables};
+ghost use Rattle.bt_sound.specs.Checked.{IsChecked, IsCheckedOften, before_step, unknown_entry};
+ghost use Rattle.bt_sound.specs.Follows.{CommandLeads, CommandsLead, StepLeads, is_bare};
+ghost use Rattle.bt_sound.specs.Seen.{state_seen, states_seen};
+ghost use Rattle.bt_sound.specs.Sound.{Promises};
 
 use crate::following::{DEPTH, Follower};
+use crate::globals::{
+    Globals, are_globals_within, globals_of, is_kept, start, unknown_variables, widened,
+};
 use crate::may::May;
-use crate::range::Range;
 use crate::state::{KnownEntry, KnownVariables, State};
 use crate::stop::Stop;
 use bt_style::{Action, Command, Style, Target};
-use bt_text::{Bytes, Sequence};
+use bt_text::Sequence;
 use std::alloc::{AllocError, Global};
 
 /// How many fields, or variables of a kind, a style may have here: lists of them are gone over by recursion.
 const MOST_NAMES: usize = 1000;
 
-/// Nothing is known of these variables.
-fn unknown_variables(
-    alloc: Global,
-    numbers: &Sequence<Bytes>,
-    texts: &Sequence<Bytes>,
-) -> Result<KnownVariables, AllocError>
-    ensures { IfOk result (λ variables. variables ≡ unknown_variables numbers.now texts.now) }
-{
-    let numbers = vec![in alloc; Range::any(); numbers.len()]?;
-    let texts = vec![in alloc; May::any_text(); texts.len()]?;
-    Ok(KnownVariables {
-        numbers: Sequence::from_vec(numbers),
-        texts: Sequence::from_vec(texts),
-    })
-}
+/// How often the steps of ITERATE or REVERSE are followed until they leave what is known of the global variables before
+/// them. Each round widens what is known of some variable, and real styles need two or three.
+const MOST_ROUNDS: usize = 20;
 
 /// Nothing is known of an entry.
 fn unknown_entry(alloc: Global, style: &Style) -> Result<KnownEntry, AllocError>
@@ -48,10 +39,14 @@ fn unknown_entry(alloc: Global, style: &Style) -> Result<KnownEntry, AllocError>
 }
 
 /// What is known before a step without an entry.
-fn before_execute<'a>(alloc: Global, style: &Style) -> Result<State<'a>, AllocError>
-    ensures { IfOk result (λ state. state_seen state ≡ before_step (program_of style.now) false) }
+fn before_execute<'a>(
+    alloc: Global,
+    style: &Style,
+    globals: &KnownVariables,
+) -> Result<State<'a>, AllocError>
+    ensures { IfOk result (λ state. state_seen state ≡ before_step (program_of style.now) false globals.now) }
 {
-    let globals = unknown_variables(alloc, &style.global_numbers, &style.global_texts)?;
+    let globals = globals.copied(alloc)?;
     Ok(State {
         stack: Vec::new(alloc),
         entry: None,
@@ -60,10 +55,14 @@ fn before_execute<'a>(alloc: Global, style: &Style) -> Result<State<'a>, AllocEr
 }
 
 /// What is known before a step of an entry.
-fn before_iterate<'a>(alloc: Global, style: &Style) -> Result<State<'a>, AllocError>
-    ensures { IfOk result (λ state. state_seen state ≡ before_step (program_of style.now) true) }
+fn before_iterate<'a>(
+    alloc: Global,
+    style: &Style,
+    globals: &KnownVariables,
+) -> Result<State<'a>, AllocError>
+    ensures { IfOk result (λ state. state_seen state ≡ before_step (program_of style.now) true globals.now) }
 {
-    let globals = unknown_variables(alloc, &style.global_numbers, &style.global_texts)?;
+    let globals = globals.copied(alloc)?;
     let entry = unknown_entry(alloc, style)?;
     Ok(State {
         stack: Vec::new(alloc),
@@ -90,65 +89,125 @@ fn are_bare(states: &[State]) -> bool
 
 impl<'a> Follower<'a> {
     /// Follows the call of a name from this state, and refuses it if it leaves something on the stack.
-    fn step(&self, work: &mut u64, before: State<'a>, name: Target) -> Result<(), Stop>
-        ensures { IfOk result (λ _. StepIsChecked (program_of self.now.style.now) self.now.types.now (state_seen before.entry) name) }
+    fn step(&self, work: &mut u64, before: State<'a>, name: Target) -> Result<Vec<State<'a>>, Stop>
+        ensures { IfOk result (λ after. StepLeads (program_of self.now.style.now) self.now.types.now (state_seen before.entry)
+            name (states_seen after.items)) }
     {
         let mut states = Vec::new(self.alloc);
         states.push(before)?;
         let after = self.call(work, name, states, DEPTH)?;
         if are_bare(after.as_slice()) {
-            Ok(())
+            Ok(after)
         } else {
             Err(Stop::Refused)
         }
     }
 
-    /// Follows the steps of a command.
-    fn command(&self, work: &mut u64, command: &Command) -> Result<(), Stop>
-        ensures { IfOk result (λ _. IsCheckedAction (program_of self.now.style.now) self.now.types.now command.now.action) }
-    {
-        match command.action {
-            Action::Execute(name) => {
-                let before = before_execute(self.alloc, self.style)?;
-                self.step(work, before, name)?;
-                Ok(())
-            }
-            Action::Iterate(name) => {
-                let before = before_iterate(self.alloc, self.style)?;
-                self.step(work, before, name)?;
-                Ok(())
-            }
-            Action::Reverse(name) => {
-                let before = before_iterate(self.alloc, self.style)?;
-                self.step(work, before, name)?;
-                Ok(())
-            }
-            _ => Ok(()),
+    /// What is kept of the global variables after a step without an entry.
+    fn kept(
+        &self,
+        globals: &KnownVariables,
+        states: &[State<'a>],
+    ) -> Result<KnownVariables, AllocError> {
+        match self.globals {
+            Globals::Forgotten => globals.copied(self.alloc),
+            Globals::Tracked => match globals_of(self.alloc, states)? {
+                Some(after) => Ok(after),
+                None => globals.copied(self.alloc),
+            },
         }
     }
 
-    /// Follows the steps of all commands.
-    fn commands(&self, work: &mut u64) -> Result<(), Stop>
-        ensures { IfOk result (λ _. AreChecked (program_of self.now.style.now) self.now.types.now self.now.style.now.commands) }
+    /// Follows the step of EXECUTE: what is known of the global variables after it.
+    fn execute(
+        &self,
+        work: &mut u64,
+        name: Target,
+        globals: &KnownVariables,
+    ) -> Result<KnownVariables, Stop>
+        ensures { IfOk result (λ after. IsChecked (program_of self.now.style.now) self.now.types.now false name globals.now after) }
     {
+        let before = before_execute(self.alloc, self.style, globals)?;
+        let states = self.step(work, before, name)?;
+        let after = self.kept(globals, states.as_slice())?;
+        if are_globals_within(states.as_slice(), &after) {
+            Ok(after)
+        } else {
+            Err(Stop::Refused)
+        }
+    }
+
+    /// Follows the steps of ITERATE and REVERSE, any number: what is known of the global variables before and after each.
+    fn iterate(
+        &self,
+        work: &mut u64,
+        name: Target,
+        globals: &KnownVariables,
+    ) -> Result<KnownVariables, Stop>
+        ensures { IfOk result (λ after. IsCheckedOften (program_of self.now.style.now) self.now.types.now name globals.now after) }
+    {
+        let mut now = globals.copied(self.alloc)?;
+        'rounds: for _ in 0..MOST_ROUNDS {
+            let before = before_iterate(self.alloc, self.style, &now)?;
+            let states = self.step(work, before, name)?;
+            if is_kept(globals, states.as_slice(), &now) {
+                return Ok(now);
+            }
+            now = widened(self.alloc, &now, states.as_slice())?;
+        }
+        Err(Stop::Refused)
+    }
+
+    /// Follows the steps of a command: what is known of the global variables after them.
+    fn command(
+        &self,
+        work: &mut u64,
+        command: &Command,
+        globals: KnownVariables,
+    ) -> Result<KnownVariables, Stop>
+        ensures { IfOk result (λ after. CommandLeads (program_of self.now.style.now) self.now.types.now command.now.action globals after) }
+    {
+        match command.action {
+            Action::Execute(name) => {
+                let after = self.execute(work, name, &globals)?;
+                Ok(after)
+            }
+            Action::Iterate(name) => {
+                let after = self.iterate(work, name, &globals)?;
+                Ok(after)
+            }
+            Action::Reverse(name) => {
+                let after = self.iterate(work, name, &globals)?;
+                Ok(after)
+            }
+            _ => Ok(globals),
+        }
+    }
+
+    /// Follows the steps of all commands in order.
+    fn commands(&self, work: &mut u64, start: KnownVariables) -> Result<(), Stop>
+        ensures { IfOk result (λ _. CommandsLead (program_of self.now.style.now) self.now.types.now self.now.style.now.commands start) }
+    {
+        let mut globals = start;
         'commands: for command in self.style.commands.as_slice() {
-            self.command(work, command)?;
+            globals = self.command(work, command, globals)?;
         }
         Ok(())
     }
 }
 
-/// Whether a style may be accepted: no step of it gives an excluded message before an overflow, if each entry's type is
+/// Whether a style may be accepted: no run of it gives an excluded message before an overflow, if each entry's type is
 /// one of these functions, or none.
 ///
-/// `apart` names fields and variables by which states stay apart: any answer is right with any of them, but some styles
-/// are accepted only with the right ones.
+/// `apart` names fields and variables by which states stay apart, and `globals` says what is known of the global
+/// variables before a step. Any answer is right with any of them, but some styles are accepted only with the right ones.
 /// `work` is how many elements may be followed, each from one state: what is left of it afterwards
 /// stays in it. If it isn't enough, the style isn't accepted.
 pub fn accepts(
     alloc: Global,
     style: &Style,
     types: &[usize],
+    globals: Globals,
     apart: &[Target],
     work: &mut u64,
 ) -> Result<bool, AllocError>
@@ -162,8 +221,12 @@ pub fn accepts(
         style,
         types,
         apart,
+        globals,
     };
-    match follower.commands(work) {
+    let Some(start) = start(alloc, style, globals)? else {
+        return Ok(false);
+    };
+    match follower.commands(work, start) {
         Ok(()) => Ok(true),
         Err(Stop::Refused) => Ok(false),
         Err(Stop::OutOfMemory) => Err(AllocError),

@@ -14,6 +14,7 @@ ghost use Rattle.bt_machine.specs.Eval.{code_body};
 ghost use Rattle.bt_sound.specs.Follows.{Acts, Follows, FollowsTypes, Turned};
 ghost use Rattle.bt_sound.specs.Seen.{state_seen, states_seen};
 
+use crate::globals::Globals;
 use crate::joining::{merged, widen_all};
 use crate::parts::{
     Branch, Loop, Parts, all_copied, all_pushed, body_of, branch_of, constant, default_type_of,
@@ -41,6 +42,7 @@ pub struct Follower<'a> {
     pub types: &'a [usize],
     /// The fields and variables by which states stay apart.
     pub apart: &'a [Target],
+    pub globals: Globals,
 }
 
 /// One turn of a loop: the states in which it comes back, and those in which it ends.

@@ -11,6 +11,7 @@ use crate::may::May;
 use crate::range::Range;
 use crate::state::{KnownEntry, KnownVariables, State};
 use crate::within::{are_knowns_within, is_covered, is_known_within};
+use bt_actions::Code;
 use bt_style::Target;
 use bt_text::Sequence;
 use std::alloc::{AllocError, Global};
@@ -35,7 +36,8 @@ fn joined_texts(alloc: Global, ours: &[May], theirs: &[May]) -> Result<Sequence<
     Ok(Sequence::from_vec(joined))
 }
 
-fn joined_variables(
+/// What both say of variables.
+pub fn joined_variables(
     alloc: Global,
     ours: &KnownVariables,
     theirs: &KnownVariables,
@@ -231,6 +233,19 @@ pub fn widen_all<'a>(
     Ok(())
 }
 
+/// Whether the first state's stack has a function in braces. No such state counts as within another.
+fn has_block(states: &[State]) -> bool {
+    match states {
+        [first, ..] => {
+            first
+                .stack
+                .iter()
+                .any(|known| matches!(known, Known::Run(Code::Block(_))))
+        }
+        [] => false,
+    }
+}
+
 /// The states joined, where the result covers them; the given ones else.
 pub fn merged<'a>(
     alloc: Global,
@@ -242,11 +257,15 @@ pub fn merged<'a>(
     if states.len() < 2 {
         return Ok(states);
     }
+    if has_block(states.as_slice()) {
+        return Ok(states);
+    }
     let mut joined = Vec::new(alloc);
     join_all(alloc, states.as_slice(), &mut joined, apart)?;
-    if is_covered(states.as_slice(), joined.as_slice()) {
-        Ok(joined)
-    } else {
-        Ok(states)
+    if joined.len() < states.len() {
+        if is_covered(states.as_slice(), joined.as_slice()) {
+            return Ok(joined);
+        }
     }
+    Ok(states)
 }

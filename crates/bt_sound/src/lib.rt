@@ -3,12 +3,14 @@
 
 ghost use Rattle.bt_style.specs.Program.{Program};
 ghost use Rattle.bt_sound.specs.Rules.{Rules};
-ghost use Rattle.bt_sound.specs.Sound.{IsCheckedStyle, Promises};
+ghost use Rattle.bt_sound.specs.Checked.{IsCheckedStyle};
+ghost use Rattle.bt_sound.specs.Sound.{Promises};
 ghost use Rattle.std.specs.Prelude.{ℕ, List};
 
 mod assigning;
 mod commands;
 mod following;
+mod globals;
 mod joining;
 mod known;
 mod may;
@@ -23,6 +25,7 @@ mod transfer;
 mod within;
 
 pub use commands::accepts;
+pub use globals::Globals;
 pub use search::is_sound;
 
 /// Each rule is right: a body that it checks gives no excluded message before an overflow.
@@ -30,7 +33,7 @@ pub fn rules_hold()
     ensures { (p : Program) (types : List ℕ) → Rules p types }
 {}
 
-/// No step of a style whose commands are checked gives an excluded message before an overflow.
+/// No run of a style whose commands are checked gives an excluded message before an overflow.
 pub fn checked_styles_keep_their_promise()
     ensures { (p : Program) (types : List ℕ) → IsCheckedStyle p types → Promises p types }
 {}

@@ -7,6 +7,7 @@ ghost use Rattle.bt_style.specs.Program.{program_of};
 ghost use Rattle.bt_sound.specs.Sound.{Promises};
 
 use crate::commands::accepts;
+use crate::globals::Globals;
 use bt_style::{Style, Target};
 use std::alloc::{AllocError, Global};
 
@@ -31,11 +32,30 @@ fn candidates(alloc: Global, style: &Style) -> Result<Vec<Target>, AllocError> {
     Ok(names)
 }
 
-/// Whether a style is sound: no step of it gives an excluded message before an overflow, if each entry's type is one of
+/// Whether the style is accepted with one of these names, by which states stay apart.
+fn accepts_with_one(
+    alloc: Global,
+    style: &Style,
+    types: &[usize],
+    globals: Globals,
+    names: &[Target],
+    work: &mut u64,
+) -> Result<bool, AllocError>
+    ensures { IfOk result (λ yes. IsTrue yes → Promises (program_of style.now) types.now) }
+{
+    for name in names {
+        if accepts(alloc, style, types, globals, &[*name], work)? {
+            return Ok(true);
+        }
+    }
+    Ok(false)
+}
+
+/// Whether a style is sound: no run of it gives an excluded message before an overflow, if each entry's type is one of
 /// these functions, or none. If not, nothing is known. All tries together take at most so much work.
 ///
-/// Most styles that are sound need no search. Some keep in a variable whether a field was there; they are accepted if the
-/// states in which it was stay apart from the others.
+/// Most styles that are sound need no search. Some need to know what an earlier step left in a global variable. Some keep
+/// in a variable whether a field was there; they are accepted if the states in which it was stay apart from the others.
 pub fn is_sound(
     alloc: Global,
     style: &Style,
@@ -44,14 +64,29 @@ pub fn is_sound(
 ) -> Result<bool, AllocError>
     ensures { IfOk result (λ yes. IsTrue yes → Promises (program_of style.now) types.now) }
 {
-    if accepts(alloc, style, types, &[], &mut work)? {
+    if accepts(alloc, style, types, Globals::Forgotten, &[], &mut work)? {
+        return Ok(true);
+    }
+    if accepts(alloc, style, types, Globals::Tracked, &[], &mut work)? {
         return Ok(true);
     }
     let names = candidates(alloc, style)?;
-    for name in &names {
-        if accepts(alloc, style, types, &[*name], &mut work)? {
-            return Ok(true);
-        }
+    if accepts_with_one(
+        alloc,
+        style,
+        types,
+        Globals::Forgotten,
+        names.as_slice(),
+        &mut work,
+    )? {
+        return Ok(true);
     }
-    Ok(false)
+    accepts_with_one(
+        alloc,
+        style,
+        types,
+        Globals::Tracked,
+        names.as_slice(),
+        &mut work,
+    )
 }

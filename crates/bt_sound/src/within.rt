@@ -73,7 +73,7 @@ fn are_texts_within(ours: &[May], theirs: &[May]) -> bool
     }
 }
 
-fn are_variables_within(ours: &KnownVariables, theirs: &KnownVariables) -> bool
+pub fn are_variables_within(ours: &KnownVariables, theirs: &KnownVariables) -> bool
     ensures { result ≡ variables_within ours.now theirs.now }
 {
     are_ranges_within(ours.numbers.as_slice(), theirs.numbers.as_slice())

@@ -1,0 +1,2 @@
+pub mod FieldCounts
+pub mod Linked
