@@ -7,7 +7,8 @@
 -- Each paper has one server. A file's paper is that of its `% !TEX root`, else the newest .aux file that names a database:
 -- in the file's folder, in an output folder of it, or in the folder above. g:bibtex_lsp_job names another job, and
 -- g:bibtex_lsp_program is the program, if it isn't bibtex-lsp on the PATH. :BibtexBibliography opens a window with the
--- bibliography, which follows each change.
+-- bibliography, which follows each change. In it, gd goes to the field that a byte comes from, and gy to the word of the
+-- style that wrote it. vim.lsp.codelens.refresh() shows what a run made of each entry, or of each function of the style.
 
 local clients = {}
 local windows = {}
@@ -78,6 +79,17 @@ local function show(client)
   end)
 end
 
+-- Goes to where the byte under the cursor comes from: the `field`, or the style's `word`.
+local function go(client, what)
+  local at = vim.lsp.util.make_position_params(0, client.offset_encoding).position
+  client.request('bibtex/origin', { position = at }, function(_, origin)
+    local place = type(origin) == 'table' and origin[what]
+    if type(place) ~= 'table' then return vim.notify('bibtex-lsp: no ' .. what .. ' is known for this place') end
+    vim.cmd('wincmd p')
+    vim.lsp.util.jump_to_location(place, client.offset_encoding)
+  end)
+end
+
 local function attach()
   local folder, job, output = paper()
   job = vim.g.bibtex_lsp_job or job
@@ -109,6 +121,8 @@ vim.api.nvim_create_user_command('BibtexBibliography', function()
       windows[client.id] = vim.fn.bufnr('$')
       vim.bo[windows[client.id]].buftype = 'nofile'
       vim.bo[windows[client.id]].filetype = 'tex'
+      vim.keymap.set('n', 'gd', function() go(client, 'field') end, { buffer = windows[client.id] })
+      vim.keymap.set('n', 'gy', function() go(client, 'word') end, { buffer = windows[client.id] })
       return show(client)
     end
   end

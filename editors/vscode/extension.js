@@ -1,5 +1,5 @@
-// Starts bibtex-lsp for the files of a paper, and shows its answers: messages, hover, definition, completion, symbols, and the
-// bibliography in a document that follows each letter. It uses nothing but VS Code and Node, so there is no build step.
+// Starts bibtex-lsp for the files of a paper, and shows its answers: messages, hover, definition, completion, symbols, code
+// lenses, and the bibliography in a document that follows each letter. It uses nothing but VS Code and Node, so there is no build step.
 //
 // Each folder of a paper has one server. The folder is that of the file's `% !TEX root`, else the file's own, else the one
 // above, if an .aux file there (or in an output folder of it) names a database.
@@ -180,8 +180,18 @@ class Bibliography {
 
   changed(server) { this.events.fire(this.uri(server)); }
 
+  server(uri) { return [...servers.values()].find(server => this.uri(server).toString() === uri.toString()); }
+
+  // Where the byte at a position comes from: the `field`, or the style's `word`.
+  async origin(document, position, what) {
+    const server = this.server(document.uri);
+    const answer = server && await server.ask('bibtex/origin', { position }).catch(() => null);
+    const place = answer && answer[what];
+    return place && new vscode.Location(vscode.Uri.parse(place.uri), rangeOf(place.range));
+  }
+
   async provideTextDocumentContent(uri) {
-    const server = [...servers.values()].find(server => this.uri(server).toString() === uri.toString());
+    const server = this.server(uri);
     if (!server) return '';
     const { text } = await server.ask('bibtex/bbl', {});
     if (text) server.last = text;
@@ -237,6 +247,18 @@ function activate(context) {
       async provideDefinition(document, position) {
         const answer = await askAt(document, position, 'textDocument/definition');
         return answer && [].concat(answer).map(one => new vscode.Location(vscode.Uri.parse(one.uri), rangeOf(one.range)));
+      },
+    }),
+    vscode.languages.registerDefinitionProvider({ scheme: 'bibtex-bibliography' }, {
+      provideDefinition: (document, position) => shown.origin(document, position, 'field'),
+    }),
+    vscode.languages.registerTypeDefinitionProvider({ scheme: 'bibtex-bibliography' }, {
+      provideTypeDefinition: (document, position) => shown.origin(document, position, 'word'),
+    }),
+    vscode.languages.registerCodeLensProvider(selector, {
+      async provideCodeLenses(document) {
+        const answer = await askAt(document, undefined, 'textDocument/codeLens');
+        return (answer || []).map(one => new vscode.CodeLens(rangeOf(one.range), one.command));
       },
     }),
     vscode.languages.registerCompletionItemProvider(selector, {

@@ -22,11 +22,13 @@ const vscode = {
   MarkdownString: class { constructor(value) { this.value = value; } },
   Location: class { constructor(uri, range) { Object.assign(this, { uri, range }); } },
   CompletionItem: class { constructor(label, kind) { Object.assign(this, { label, kind }); } },
+  CodeLens: class { constructor(range, command) { Object.assign(this, { range, command }); } },
   DocumentSymbol: class { constructor(name, detail, kind, range) { Object.assign(this, { name, detail, kind, range }); } },
   languages: {
     setLanguageConfiguration: (_, rules) => { providers.rules = rules; return { dispose() {} }; },
     createDiagnosticCollection: () => ({ set: (uri, list) => published.set(uri.toString(), list), delete: uri => published.delete(uri.toString()), dispose() {} }),
-    registerHoverProvider: (_, p) => { providers.hover = p; }, registerDefinitionProvider: (_, p) => { providers.definition = p; },
+    registerHoverProvider: (_, p) => { providers.hover = p; }, registerDefinitionProvider: (s, p) => { providers[s.scheme ? 'field' : 'definition'] = p; },
+    registerTypeDefinitionProvider: (_, p) => { providers.word = p; }, registerCodeLensProvider: (_, p) => { providers.lenses = p; },
     registerCompletionItemProvider: (_, p) => { providers.completion = p; }, registerDocumentSymbolProvider: (_, p) => { providers.symbols = p; },
   },
   workspace: {
@@ -92,6 +94,14 @@ async function wait(holds) {
   const uri = await commands['bibtexLsp.showBibliography']();
   const text = await providers.bibliography.provideTextDocumentContent(uri);
   check('the bibliography', text.includes('\\bibitem[vNM44]{neumann:games}'), [uri, text]);
+  const line_of = (whole, words) => whole.slice(0, whole.indexOf(words)).split('\n').length - 1;
+  const byte = { line: line_of(text, 'Theory of Games'), character: text.split('\n')[line_of(text, 'Theory of Games')].indexOf('Games') };
+  const field = await providers.field.provideDefinition({ uri }, byte);
+  check('the field of a byte', field && field.uri.fsPath === document.uri.fsPath && field.range.start.line === line_of(document.text, 'Games and'), field);
+  const word = await providers.word.provideTypeDefinition({ uri }, byte);
+  check('the word that wrote it', word && word.uri.fsPath.endsWith('labels.bst'), word);
+  const lenses = await providers.lenses.provideCodeLenses(document);
+  check('code lenses', lenses.some(one => one.command.title.startsWith('lines ')), lenses);
   const style = new Document('labels.bst', 'bst');
   handlers.open(style);
   await providers.hover.provideHover(style, { line: 0, character: 0 });

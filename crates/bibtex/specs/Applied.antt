@@ -9,15 +9,15 @@ use Rattle.bibtex.specs.Edit.{Edit, write, splice, remove, root_name, min_crossr
 use Rattle.bibtex.specs.declared.state.State.{State}
 use Rattle.bibtex.specs.Present.{place_of_file, with_text, is_root_name}
 
--- how many bytes a text may have
+-- the greatest number of bytes of a text
 abbrev pub file_size_limit : ℕ
 file_size_limit = 1048576
 
--- how many files there may be
+-- the greatest number of files
 abbrev pub file_count_limit : ℕ
 file_count_limit = 64
 
--- Refusals, each the first whose condition holds
+-- Refusals: the first reason that holds
 
 -- the reason to refuse a text of this length under a name
 abbrev pub write_refusal : List File → List ℕ → ℕ → Option Refusal
@@ -27,7 +27,7 @@ write_refusal files name size =
     else if is_none (place_of_file name files) && nat_le file_count_limit (length files) then Some TooManyFiles
     else None
 
--- the reason to refuse this number of bytes in the place of those of a text from one place up to another
+-- the reason to refuse a splice of a text that brings this number of bytes
 abbrev pub range_refusal : List ℕ → ℕ → ℕ → ℕ → Option Refusal
 range_refusal text start end size =
     if nat_lt end start || nat_lt (length text) end then Some RangeOutside
@@ -63,22 +63,22 @@ changed (remove name) s = record s { texts = filter (λ f. not (bytes_eq f.name 
 changed (root_name name) s = record s { root = name }
 changed (min_crossrefs n) s = record s { min = n }
 
--- the state after an edit, or the first refusal whose condition holds
+-- the state after an edit, or the first reason to refuse it
 abbrev pub applied : Edit → State → Result State Refusal
 applied e s = elim (refusal_of e (length (bytes_of e)) s) [ None ↦ Ok (changed e s) | Some refusal ↦ Err refusal ]
 
--- What answers an edit of which this is applied: each refusal where it is that refusal, and out of memory only where
--- there is no other.
+-- How an edit with this outcome is answered: with the same refusal, if the outcome is one; else it may only run out of
+-- memory.
 abbrev pub IsAnswer : {A : Type 0} → Result State Refusal → Result A Refusal → Type 0
 IsAnswer (Ok s) result = IfErr result (λ refusal. refusal ≡ OutOfMemory)
 IsAnswer (Err refusal) result = result ≡ Err refusal
 
--- what answers a new session, where this says whether its root name is one
+-- how a new session is answered, given whether its root name is one
 abbrev pub IsNew : {A : Type 0} → Bool → Result A Refusal → Type 0
 IsNew true result = IfErr result (λ refusal. refusal ≡ OutOfMemory)
 IsNew false result = IfErr result (λ refusal. refusal ≡ BadName) × IsErr result
 
--- What is said of it, and what stays
+-- After a refusal
 
 -- the number of a refusal
 abbrev pub code_of : Refusal → ℕ
@@ -94,7 +94,7 @@ abbrev pub state_or : State → Result State Refusal → State
 state_or old (Ok state) = state
 state_or old (Err refusal) = old
 
--- what becomes of an edit whose outcome is this, where the truth value says whether it is out of memory
+-- the outcome of an edit for which memory may run out: then an accepted edit is refused
 abbrev pub unless_out_of_memory : Bool → Result State Refusal → Result State Refusal
 unless_out_of_memory false made = made
 unless_out_of_memory true (Ok state) = Err OutOfMemory

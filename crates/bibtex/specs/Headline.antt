@@ -7,7 +7,7 @@ use Rattle.bibtex.specs.declared.state.State.{State}
 use Rattle.bibtex.specs.Present.{reported}
 use Rattle.bibtex.specs.Applied.{applied, IsAnswer}
 
--- the state after an edit that was answered: what the edit makes of it where it was accepted, else the state as it was
+-- the state after an edit with this answer: the new state if it was accepted, else the old one
 abbrev pub after_answer : Result Report Refusal → Result State Refusal → State → State
 after_answer (Ok report) (Ok new) s = new
 after_answer _ _ s = s
@@ -27,7 +27,7 @@ ReportsInTurn (e ∷ es) (a ∷ rest) s =
     IfOk a (λ report. report ≡ reported s (after_answer a (applied e s) s))
     × ReportsInTurn es rest (after_answer a (applied e s) s)
 
--- the present state is the result of the accepted edits
+-- the state after edits with these answers: the result of the accepted ones
 abbrev pub after_answers : List Edit → List (Result Report Refusal) → State → State
 after_answers (e ∷ es) (a ∷ rest) s = after_answers es rest (after_answer a (applied e s) s)
 after_answers _ _ s = s

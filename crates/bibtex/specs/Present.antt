@@ -14,17 +14,17 @@ use Rattle.bibtex.specs.declared.state.State.{State}
 abbrev pub EachOnce : List File → Type 0
 EachOnce files = IsDistinct bytes_eq (map (λ (f : File). f.name) files)
 
--- which of some files has a name
+-- the place of the file with this name
 abbrev pub place_of_file : List ℕ → List File → Option ℕ
 place_of_file name files = position (λ f. bytes_eq f.name name) files
 
--- the texts with one in the place of that of its name, or after the others where none has it
+-- the texts with this one, which replaces the text of its name, or comes last if the name is new
 abbrev pub with_text : List ℕ → List ℕ → List File → List File
 with_text name text files =
     let file : File = record { name = name; text = text } in
     elim (place_of_file name files) [ None ↦ files ++ file ∷ [] | Some n ↦ slice_set files n file ]
 
--- a root name: with .aux after it it is a file's name
+-- whether a name can be a root name: with .aux after it, it is a file's name
 abbrev pub is_root_name : List ℕ → Bool
 is_root_name root = is_file_name root && nat_le (length root) 60
 
@@ -36,9 +36,9 @@ no_texts root min = record { texts = []; root = root; min = min }
 abbrev pub shown : State → Meaning
 shown s = meaning s.texts s.root s.min
 
--- What must be carried out to go from one state to another: the steps of the new state's run that have none of the same
--- command and key in the old state's run which agrees with it in all that it may come to. It is all steps where the
--- texts of the two runs' styles differ, or one has no style. Both runs are runs from scratch.
+-- The work of an edit from one state to another: those steps of the new state's run that agree with no step of the old
+-- state's run (same command, same key, equal values of everything that they can reach). If the texts of the two styles
+-- differ, or one run has no style, it is all steps. Both runs are runs from scratch.
 abbrev pub work : State → State → List Step
 work old new = run_work (style_text old.texts old.root) (trace old.texts old.root old.min) new.texts new.root new.min
 
@@ -48,8 +48,8 @@ abbrev pub reported : State → State → Report
 reported old new =
     report_after (style_text old.texts old.root) (trace old.texts old.root old.min) new.texts new.root new.min
 
--- What a session keeps to: each name stands once among its texts, and beside its state it keeps what the state means,
--- the text of its style, and the steps of its run.
+-- The invariant of a session: each name has one text, and beside the state it keeps what the state means, the text of
+-- its style, and the steps of its run.
 pub record Keeps (s : State) (m : Meaning) (text : Option (List ℕ)) (steps : List Step) : Type 0 where
   pub once : EachOnce s.texts
   pub is_meaning : m ≡ shown s

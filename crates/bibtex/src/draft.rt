@@ -36,8 +36,8 @@ impl Draft {
     ghost use Rattle.bibtex.specs.Edit.{edit_of};
     ghost use Rattle.bibtex.specs.Applied.{applied, IsAnswer, IsNew};
 
-    /// A state without files, whose run begins at the root name followed by `.aux`. The errors are `BadName`, exactly
-    /// where the root isn't a file name of at most 60 bytes, and `OutOfMemory`.
+    /// A state without files, whose run begins at the root name followed by `.aux`. The errors are `BadName`, exactly if
+    /// the root isn't a file name of at most 60 bytes, and `OutOfMemory`.
     pub fn new(alloc: Global, root: &[u8], min: u32) -> Result<Draft, Refusal>
         ensures ok { IfOk result (λ draft. draft ≡ no_texts root.now min) }
         ensures refused { IsNew (is_root_name root.now) result }

@@ -9,20 +9,20 @@ use thiserror::Error;
 /// An edit of the present state. It borrows the names and bytes that it brings.
 #[derive(Clone, Copy, Debug)]
 pub enum Edit<'a> {
-    /// The name of a file and its bytes: a new text, or one in the place of the present one of that name.
+    /// The name of a file and its bytes: a new text, or one that replaces the present text of that name.
     Write(&'a [u8], &'a [u8]),
-    /// The name of a file, and bytes that take the place of its bytes from one place, counted from 0, up to another.
+    /// The name of a file, and bytes that replace its bytes from one place, counted from 0, up to another.
     Splice(&'a [u8], usize, usize, &'a [u8]),
-    /// The name of a file that is taken away.
+    /// The name of a file that is removed.
     Remove(&'a [u8]),
     /// The root name: the run begins at the file of this name followed by `.aux`.
     Root(&'a [u8]),
-    /// How many entries have to refer to an uncited one for it to be listed.
+    /// How many entries must refer to an uncited one before it is listed.
     MinCrossrefs(u32),
 }
 
 impl<'a> Edit<'a> {
-    /// The bytes that the edit brings; none where it brings no text.
+    /// The bytes that the edit brings; none if it brings no text.
     pub fn bytes(self) -> &'a [u8]
         ensures { result.now ≡ bytes_of (edit_of self.entry) }
     {
@@ -57,9 +57,9 @@ pub enum Refusal {
     RangeOutside,
     /// The text would have more than 1,048,576 bytes.
     FileTooLarge,
-    /// The name is new, and 64 files are there.
+    /// The name is new, and there are 64 files already.
     TooManyFiles,
-    /// There was no room.
+    /// Memory ran out.
     OutOfMemory,
 }
 

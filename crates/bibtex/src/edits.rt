@@ -9,12 +9,12 @@ use crate::session::Session;
 use bt_run::Report;
 use std::alloc::{AllocError, Global};
 
-/// Carries out edits in order, and answers what each reported, or why it was refused. The one error is that there is no
-/// room for the answers; then nothing is changed.
+/// Makes edits in order, and returns what each reported, or why it was refused. The only error is that there is no
+/// memory for the answers; then nothing is changed.
 ///
-/// This is the whole promise in one sentence: after any list of edits the session's state, of which `bbl`, `blg`,
-/// `status` and the rest show the meaning from scratch, is the result of the accepted edits, and a refused one, for
-/// lack of memory too, changes nothing.
+/// With the contracts of `bbl`, `blg` and `status`, which show the meaning of the state from scratch, this is the whole
+/// promise: after any list of edits, the state is the result of the accepted ones, and a refused edit changes nothing,
+/// even if it was refused for out of memory.
 pub fn edit_all(
     alloc: Global,
     session: &mut Session,

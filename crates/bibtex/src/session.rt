@@ -17,8 +17,7 @@ use std::marker::Model;
 use std::mem;
 
 /// A session over the texts of `.aux`, `.bib` and `.bst` files. Contracts see its present state: the texts by name, the
-/// root name and min-crossrefs. What else it keeps is what these mean, the steps of their run, and what its
-/// texts were read as.
+/// root name and min-crossrefs. It also keeps what these mean, the steps of their run, and what was read from the texts.
 #[derive(Drop)]
 pub struct Session {
     alloc: Global,
@@ -49,8 +48,8 @@ impl Session {
     ghost use Rattle.bt_run.specs.Meaning.{trace};
     ghost use Rattle.bibtex.specs.EntryText.{entry_text};
 
-    /// A session without files, whose run begins at the root name followed by `.aux`. The errors are `BadName`, exactly
-    /// where the root isn't a file name of at most 60 bytes, and `OutOfMemory`.
+    /// A session without files, whose run begins at the root name followed by `.aux`. The errors are `BadName`, exactly if
+    /// the root isn't a file name of at most 60 bytes, and `OutOfMemory`.
     pub fn new(alloc: Global, root: &[u8], min: u32) -> Result<Session, Refusal>
         ensures ok { IfOk result (λ session. session ≡ no_texts root.now min) }
         ensures refused { IsNew (is_root_name root.now) result }
@@ -88,8 +87,8 @@ impl Session {
         })
     }
 
-    /// The first reason to refuse an edit that brings `size` bytes, whatever bytes it has in hand; out of memory is none.
-    /// It takes no memory.
+    /// The first reason to refuse an edit that brings `size` bytes; its own bytes don't count, nor does out of memory. It
+    /// allocates nothing.
     pub fn refusal(&self, edit: Edit<'_>, size: usize) -> Option<Refusal>
         ensures { result ≡ refusal_of (edit_of edit.entry) size self.now }
     {
@@ -103,9 +102,9 @@ impl Session {
         readings.resolution = mem::replace(&mut self.readings.resolution, None);
     }
 
-    /// Goes over to a state, over what was read before: all that it means is made beside what is kept, which is
-    /// then replaced. Only the resolution isn't kept twice: the run edits it in place. It is right about its own
-    /// question, so after out of memory it may be left out.
+    /// Goes to a state, using what was read before: everything that the state means is made beside what is kept, and then
+    /// replaces it. Only the resolution isn't kept twice: the run edits it in place. After out of memory the session has
+    /// none, which it may, because a resolution is only right about its own question.
     fn go_to(&mut self, state: State, readings: Readings) -> Result<Report, Refusal>
         requires { EachOnce state.texts }
         ensures ok { IfOk result (λ _. self.new ≡ state) }
@@ -135,9 +134,8 @@ impl Session {
         Ok(report)
     }
 
-    /// Carries out an edit and reports what it did: how many steps had to be carried out, how many were taken over from
-    /// the run before, and what the former cost. On a refusal nothing is changed. Refusals are tested in the order of
-    /// their cases, out of memory last.
+    /// Makes an edit and reports its work: how many steps ran, how many were reused from the run before, and what the former
+    /// cost. A refusal changes nothing. Refusals are tested in the order of their cases, out of memory last.
     pub fn edit(&mut self, edit: Edit<'_>) -> Result<Report, Refusal>
         ensures ok { IfOk result (λ _. applied (edit_of edit.entry) self.old ≡ Ok self.new) }
         ensures report { IfOk result (λ report. report ≡ reported self.old self.new) }
@@ -181,7 +179,7 @@ impl Session {
         self.answers.messages.as_slice()
     }
 
-    /// 0 where the run was clean, 1 after warnings, 2 after errors, 3 after a fatal error.
+    /// 0 for a clean run, 1 after warnings, 2 after errors, 3 after a fatal error.
     pub fn status(&self) -> u8
         ensures { result ≡ (shown self.now).status }
     {
@@ -203,7 +201,19 @@ impl Session {
         entry_text(self.alloc, self.kept.steps.as_slice(), key)
     }
 
-    /// The present text of a name, if there is one. Each name stands once among the present texts.
+    /// The steps of the run.
+    pub fn kept(&self) -> &Kept
+        ensures { result.now.steps ≡ trace self.now.texts self.now.root self.now.min }
+    {
+        &self.kept
+    }
+
+    /// What the texts were read as.
+    pub fn readings(&self) -> &Readings {
+        &self.readings
+    }
+
+    /// The present text of a name, if there is one. Each name has one text.
     pub fn file(&self, name: &[u8]) -> Option<&[u8]>
         ensures once { EachOnce self.now.texts }
         ensures text { option_map (λ text. text.now) result ≡ text_of self.now.texts name.now }

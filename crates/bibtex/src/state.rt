@@ -13,8 +13,8 @@ use bt_job::{File, text_of};
 use bt_text::{Bytes, Sequence, Shared};
 use std::alloc::AllocError;
 
-/// What a session is about: the present texts, each under its name, the root name, and how many entries have to refer
-/// to an uncited one for it to be listed.
+/// What a session is about: the present texts, each under its name, the root name, and how many entries must refer to
+/// an uncited one before it is listed.
 #[derive(Drop)]
 pub struct State {
     pub texts: Sequence<File>,
@@ -33,7 +33,7 @@ impl State {
         })
     }
 
-    /// The first reason to refuse an edit that brings `size` bytes, whatever bytes it has in hand.
+    /// The first reason to refuse an edit that brings `size` bytes; its own bytes don't count.
     pub fn refusal(&self, edit: Edit<'_>, size: usize) -> Option<Refusal>
         ensures { result ≡ refusal_of (edit_of edit.entry) size self.now }
     {
@@ -47,8 +47,8 @@ impl State {
         }
     }
 
-    /// The state with bytes in the place of the bytes `start..end` of a text, which is read again where it is known as
-    /// a database.
+    /// The state with other bytes in place of the bytes `start..end` of a text, which is re-read if it is known as a
+    /// database.
     #[tactic(auto, using(crate::proofs::SessionLemmas::replaced_is_splice))]
     fn spliced(
         &self,
@@ -101,8 +101,8 @@ impl State {
         }
     }
 
-    /// The state after an edit, made beside this one, with which it shares all that the edit leaves. Refusals are
-    /// tested in the order of their cases, out of memory last. A known database that is spliced is read again.
+    /// The state after an edit, made beside this one, with which it shares everything that stays. Refusals are tested in
+    /// the order of their cases, out of memory last. A known database that is spliced is re-read.
     pub fn after(&self, edit: Edit<'_>, reread: &mut Reread<'_>) -> Result<State, Refusal>
         ensures ok { IfOk result (λ state. applied (edit_of edit.entry) self.now ≡ Ok state) }
         ensures refused { IsAnswer (applied (edit_of edit.entry) self.now) result }

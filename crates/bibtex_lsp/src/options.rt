@@ -3,17 +3,17 @@
 use bt_paper::{Options, with_slash};
 use std::alloc::{AllocError, Global};
 
-/// What the words of a command line come to.
+/// What the words of a command line mean.
 #[derive(Drop)]
 pub enum Request {
     Serve(Options),
     Help,
     Version,
-    /// A word is no option.
+    /// A word isn't an option.
     Unknown,
 }
 
-/// What these words ask for, of which the first is the program's name. The one error is out of memory.
+/// What these words ask for, the first of which is the program's name. The only error is out of memory.
 pub fn parse(alloc: Global, words: &[String]) -> Result<Request, AllocError> {
     let mut job = String::new(alloc);
     let mut folders = Vec::new(alloc);

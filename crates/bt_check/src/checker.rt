@@ -10,6 +10,7 @@ use crate::signature::takes;
 use crate::splitting::Split;
 use crate::state::State;
 use crate::values::{Node, Value, Values, ZERO};
+use crate::watching::Watch;
 use bt_style::{Builtin, Style, Target};
 use bt_text::Bytes;
 use bt_words::Program;
@@ -32,6 +33,7 @@ pub struct Checker<'a> {
     /// The calls that are being evaluated.
     pub calls: Vec<Call>,
     pub step: Step,
+    pub watch: Watch,
 }
 
 /// The arguments of a built-in function, from the lowest on.
@@ -88,6 +90,7 @@ impl<'a> Checker<'a> {
         facts: &Facts,
     ) -> Result<(), AllocError> {
         self.quiet_count = self.quiet_count.saturating_add(1);
+        self.watch_fault(kind);
         if self.is_quiet || self.faults.len() >= MOST_FAULTS || self.is_told(kind) {
             return Ok(());
         }
@@ -155,6 +158,7 @@ impl<'a> Checker<'a> {
         value: Value,
         wanted: Kinds,
     ) -> Result<bool, AllocError> {
+        self.watch_argument(&state.facts, value, wanted)?;
         match self.values.split(&state.facts, value, wanted)? {
             Split::Right => Ok(true),
             Split::Wrong => {

@@ -33,7 +33,8 @@ impl<'a> Checker<'a> {
             return Ok(states);
         }
         let program: &'a Program = self.program;
-        for word in program.body(body) {
+        for (number, word) in program.body(body).iter().enumerate() {
+            self.watch_word(body, number, states.as_slice())?;
             let mut next = Vec::new(self.alloc);
             for state in states {
                 self.word(*word, state, &mut next, depth - 1)?;

@@ -23,8 +23,11 @@ mod steps;
 mod telling;
 mod types;
 mod values;
+mod watching;
 
 pub use fault::{Call, Condition, Fault, FaultKind, FieldState, Step};
 pub use hints::{Hint, Rule, lint};
+pub use kinds::Kinds;
 pub use steps::{Findings, check};
 pub use telling::{decimal, field_name, function_name};
+pub use watching::{Lying, Spot, Watched, watch_function};

@@ -174,6 +174,11 @@ impl<'a> Checker<'a> {
             self.tell_outside(b"call.type$", &state.facts)?;
             return Ok(false);
         }
+        if self.watch.is_alone {
+            // The functions of the types that databases name aren't known.
+            self.give_up();
+            return Ok(false);
+        }
         if self.is_in_type() {
             self.tell(
                 FaultKind::Recursion,

@@ -7,6 +7,7 @@ use crate::fault::{Call, Fault, FaultKind, Step, kinds_words};
 use crate::state::State;
 use crate::types::{Catalogue, all_words};
 use crate::values::{EMPTY, Node, Value, Values, ZERO};
+use crate::watching::Watch;
 use bt_style::{Action, Builtin, Command, Style, Target};
 use bt_words::{Act, Program};
 use std::alloc::{AllocError, Global};
@@ -46,6 +47,7 @@ impl<'a> Checker<'a> {
                 is_of_entries: false,
                 entry_type: None,
             },
+            watch: Watch::nothing(alloc),
         })
     }
 
@@ -98,7 +100,7 @@ impl<'a> Checker<'a> {
         Ok(variables)
     }
 
-    fn first_state(&mut self, constants: &[Option<Value>]) -> Result<State, AllocError> {
+    pub fn first_state(&mut self, constants: &[Option<Value>]) -> Result<State, AllocError> {
         let variables = self.first_variables(constants)?;
         let facts = self.first_facts()?;
         Ok(State {

@@ -10,7 +10,6 @@ use Rattle.bt_lsp.specs.declared.methods.Request.{Request}
 use Rattle.bt_lsp.specs.declared.methods.Notice.TheVariants.{Changed, Other}
 use Rattle.bt_lsp.specs.Methods.{request_of}
 use Rattle.bt_lsp.specs.Words.{counting_of}
-use Rattle.bt_lsp.specs.Answering.{answered}
 use Rattle.bt_lsp.proofs.PlainLemmas.{carried_notes}
 use Rattle.bt_documents.specs.Documents.{AreGiven, any_behind, Follows}
 use Rattle.bt_documents.proofs.DocumentLemmas.{given_same}
@@ -23,7 +22,7 @@ use Rattle.bt_lsp.specs.Parameters.{text_at, offers_bytes}
 use Rattle.bt_lsp.specs.Announcing.{announced_by}
 use Rattle.bt_lsp.specs.Shapes.{capabilities}
 use Rattle.bt_lsp.specs.Shown.{Shown}
-use Rattle.bt_lsp.specs.Desk.{Begins, IsBegun, TakenOrLost, Tells, Carried, IsOutcome, owes, SettledIf, Answered}
+use Rattle.bt_lsp.specs.Desk.{Begins, IsBegun, TakenOrLost, Tells, Carried, IsFoundOutcome, owes, SettledIf, Answered}
 
 -- a notification that the desk takes
 pub carried : {P : Type 0} (text : P → List ℕ → Option (List ℕ)) (shown : P → Shown) (d next mid e : Server P) (notice : Notice) (m : Data) (told : List Data) (behind : Bool) →
@@ -99,10 +98,9 @@ deferred {P} text shown d next e m told taken first took none told_it =
 -- a request that was answered
 pub answered_so : {P : Type 0} (begins : Begins P) (text : P → List ℕ → Option (List ℕ)) (shown : P → Shown) (d mid e : Server P) (method : List ℕ) (request : Request) (m : Data) (outcome : Result Data RpcError)
     (told : List Data) → SettledIf text shown (owes d.phase d.pending) d m told mid → request ≡ request_of method →
-    IsOutcome begins m (λ r. answered (counting_of mid.counts_bytes) (shown mid.paper) mid.documents r m) mid.phase request mid outcome e → Answered begins text shown d method m outcome told e
+    IsFoundOutcome begins shown mid request m outcome e → Answered begins text shown d method m outcome told e
 answered_so {P} begins text shown d mid e method request m outcome told first is how =
-    let query : Request → Result Data RpcError = λ r. answered (counting_of mid.counts_bytes) (shown mid.paper) mid.documents r m in
-    record { settled = mid; told_first = first; answer = inl (subst (λ r. IsOutcome begins m query mid.phase r mid outcome e) is how) }
+    record { settled = mid; told_first = first; answer = inl (subst (λ r. IsFoundOutcome begins shown mid r m outcome e) is how) }
 
 -- a request for whose answer there was no memory
 pub answered_late : {P : Type 0} (begins : Begins P) (text : P → List ℕ → Option (List ℕ)) (shown : P → Shown) (d mid e : Server P) (method : List ℕ) (m : Data) (outcome : Result Data RpcError)

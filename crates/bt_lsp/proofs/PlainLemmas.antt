@@ -20,17 +20,25 @@ use Rattle.bt_diagnostics.specs.declared.diagnostic.Diagnostic.{Diagnostic}
 use Rattle.bt_lsp.specs.declared.methods.Notice.{Notice}
 use Rattle.bt_lsp.specs.declared.methods.Notice.TheVariants.{Opened, Changed, Closed, Saved, Exit, Other}
 use Rattle.bt_lsp.specs.declared.methods.Request.{Request}
-use Rattle.bt_lsp.specs.declared.methods.Request.TheVariants.{Initialize, Shutdown, AtCursor, OfDocument, OfPaper, Unknown}
+use Rattle.bt_lsp.specs.declared.methods.Request.TheVariants.{Initialize, Shutdown, AtCursor, OfDocument, OfPaper, OfRun, Unknown}
 use Rattle.bt_lsp.specs.declared.methods.CursorQuery.{CursorQuery}
 use Rattle.bt_lsp.specs.declared.methods.CursorQuery.TheVariants.{Hover, Definition, References, Rename, NameRange, Completion}
 use Rattle.bt_lsp.specs.declared.methods.DocumentQuery.{DocumentQuery}
 use Rattle.bt_lsp.specs.declared.methods.DocumentQuery.TheVariants.{Outline, Folds, Format, Actions, Links}
 use Rattle.bt_lsp.specs.declared.methods.PaperQuery.{PaperQuery}
 use Rattle.bt_lsp.specs.declared.methods.PaperQuery.TheVariants.{Bibliography, Log, Status, Symbols}
+use Rattle.bt_lsp.specs.declared.methods.RunQuery.{RunQuery}
+use Rattle.bt_lsp.specs.declared.methods.RunQuery.TheVariants.{Lenses}
+use Rattle.bt_lsp.specs.declared.methods.RunQuery.TheVariants as queries
+use Rattle.bt_lsp.specs.declared.found.Found.{Found}
+use Rattle.bt_lenses.specs.declared.origin.Origin.{Origin}
+use Rattle.bt_lenses.specs.declared.origin.FileLine.{FileLine}
+use Rattle.bt_lsp.specs.Lensing.{lens_value, line_or_null, origin_value}
 use Rattle.bt_lsp.specs.declared.server.Phase.{Phase}
 use Rattle.bt_lsp.specs.declared.server.Phase.TheVariants.{New, Ready, ShutDown}
 use Rattle.bt_lsp.specs.declared.server.Server.{Server}
 use Rattle.bt_lsp.specs.Shown.{Shown}
+use Rattle.bt_lsp.specs.Words.{counting_of}
 use Rattle.bt_lsp.specs.Shapes.{range_of, location, diagnostic, published, shown_text, shown_status}
 use Rattle.bt_lsp.specs.declared.announcing.Announced.{Announced}
 use Rattle.bt_lsp.specs.Announcing.{with_announced}
@@ -44,6 +52,7 @@ use Rattle.bt_lsp.specs.Hover.{key_at, word_of, hover_lines}
 use Rattle.bt_lsp.specs.Mentioning.{mention_at}
 use Rattle.bt_lsp.specs.References.{macro_at}
 use Rattle.bt_lsp.specs.Renaming.{mention_range}
+use Rattle.bt_shapes.proofs.PlainLists.{all_mapped}
 use Rattle.bt_lsp.proofs.PlainLists.{IsPlainData, items_plain, all_both, none_or, some_or_null, if_plain, either_outcome}
 use Rattle.bt_lsp.proofs.FeaturePlain.{OptionIsPlain, macro_plain, references_plain, renamed_plain, range_plain, folds_plain, found_symbols_plain, macros_plain, fields_plain, types_plain, links_plain, formatted_plain, actions_plain, hints_plain}
 use Rattle.bt_lsp.specs.Finding.{place_in, location_in, or_else, found_in, found_at}
@@ -56,12 +65,12 @@ use Rattle.bt_mentions.specs.Databases.{part}
 use Rattle.bt_lsp.specs.Completing.{macro_candidates, offer_at, start_or, present_in, offers, offers_around, database_at, completion_at}
 use Rattle.bt_lsp.specs.Types.{type_candidates}
 use Rattle.bt_lsp.specs.Outline.{symbol_at, symbol_of, symbols_in, symbols_of}
-use Rattle.bt_lsp.specs.Answering.{text_answer_at, answer_at, text_answer_of, answer_of, paper_answer, at_place, at_document, answered}
+use Rattle.bt_lsp.specs.Answering.{text_answer_at, answer_at, text_answer_of, answer_of, paper_answer, run_answer, at_place, at_document, answered}
 use Rattle.bt_lsp.specs.Styles.{style_answer_at, style_answer_of, with_style_hints}
 use Rattle.bt_lsp.proofs.StylePlain.{style_at_plain, style_of_plain, style_hints_plain}
 use Rattle.bt_shapes.proofs.PlainLists.{more_plain}
 use Rattle.bt_style_findings.specs.declared.checked.Checked.{Checked}
-use Rattle.bt_lsp.specs.Desk.{Begins, IsOutcome, Tells, Carried}
+use Rattle.bt_lsp.specs.Desk.{Begins, IsOutcome, IsFoundOutcome, Tells, Carried}
 
 -- ---- notes
 
@@ -218,13 +227,13 @@ text_at_plain c shown docs NameRange d at m =
     either_outcome (nat_lt 1073741824 (length d.text)) (Ok null) (mention_range shown.files docs c d (mention_at d at)) refl (range_plain shown.files docs c d (mention_at d at))
 text_at_plain c shown docs Completion d at m = completion_plain shown.files d at
 
-at_plain : (c : Counting) (shown : Shown) (docs : List Document) (query : CursorQuery) (d : Document) (at : Position) (m : Data) → IsPlainData (answer_at c shown docs query d at m)
-at_plain c shown docs query d at m =
-    either_outcome (is_style d.name) (Ok (style_answer_at query d at m)) (text_answer_at c shown docs query d at m) (style_at_plain query d at m) (text_at_plain c shown docs query d at m)
+at_plain : (found : Found) (c : Counting) (shown : Shown) (docs : List Document) (query : CursorQuery) (d : Document) (at : Position) (m : Data) → IsPlainData (answer_at found c shown docs query d at m)
+at_plain found c shown docs query d at m =
+    either_outcome (is_style d.name) (Ok (style_answer_at found.notes query d at m)) (text_answer_at c shown docs query d at m) (style_at_plain found.notes query d at m) (text_at_plain c shown docs query d at m)
 
-place_plain : (c : Counting) (shown : Shown) (docs : List Document) (query : CursorQuery) (m : Data) (place : Option (Document × Position)) → IsPlainData (at_place c shown docs query m place)
-place_plain c shown docs query m None = tt
-place_plain c shown docs query m (Some place) = at_plain c shown docs query place.0 place.1 m
+place_plain : (found : Found) (c : Counting) (shown : Shown) (docs : List Document) (query : CursorQuery) (m : Data) (place : Option (Document × Position)) → IsPlainData (at_place found c shown docs query m place)
+place_plain found c shown docs query m None = tt
+place_plain found c shown docs query m (Some place) = at_plain found c shown docs query place.0 place.1 m
 
 text_of_plain : (shown : Shown) (query : DocumentQuery) (d : Document) (m : Data) → has_float (text_answer_of shown query d m) ≡ false
 text_of_plain shown Outline d m = symbols_plain d
@@ -246,14 +255,27 @@ paper_plain c shown docs Log m = refl
 paper_plain c shown docs Status m = refl
 paper_plain c shown docs Symbols m = found_symbols_plain shown.files docs c m
 
+line_plain : (at : Option FileLine) → has_float (line_or_null at) ≡ false
+line_plain None = refl
+line_plain (Some at) = refl
+
+origin_plain : (origin : Option Origin) → has_float (origin_value origin) ≡ false
+origin_plain None = refl
+origin_plain (Some origin) = rw (line_plain origin.field) (rw (line_plain origin.word) refl)
+
+run_plain : (found : Found) (query : RunQuery) → has_float (run_answer found query) ≡ false
+run_plain found Lenses = items_plain (map lens_value found.lenses) (all_mapped lens_value (λ lens. refl) found.lenses)
+run_plain found queries.Origin = origin_plain found.origin
+
 -- the outcome of a request that changes nothing
-pub answered_plain : (c : Counting) (shown : Shown) (docs : List Document) (request : Request) (m : Data) → IsPlainData (answered c shown docs request m)
-answered_plain c shown docs Initialize m = tt
-answered_plain c shown docs Shutdown m = tt
-answered_plain c shown docs (AtCursor query) m = place_plain c shown docs query m (place_of docs m)
-answered_plain c shown docs (OfDocument query) m = document_plain shown query m (document_of docs m)
-answered_plain c shown docs (OfPaper query) m = paper_plain c shown docs query m
-answered_plain c shown docs Unknown m = tt
+pub answered_plain : (found : Found) (c : Counting) (shown : Shown) (docs : List Document) (request : Request) (m : Data) → IsPlainData (answered found c shown docs request m)
+answered_plain found c shown docs Initialize m = tt
+answered_plain found c shown docs Shutdown m = tt
+answered_plain found c shown docs (AtCursor query) m = place_plain found c shown docs query m (place_of docs m)
+answered_plain found c shown docs (OfDocument query) m = document_plain shown query m (document_of docs m)
+answered_plain found c shown docs (OfPaper query) m = paper_plain c shown docs query m
+answered_plain found c shown docs (OfRun query) m = run_plain found query
+answered_plain found c shown docs Unknown m = tt
 
 plain_from : (q : Result Data RpcError) (o : Result Value RpcError) → outcome_of o ≡ q → IsPlainData q → IsPlain o
 plain_from q (Ok v) e p = subst IsPlainData (sym e) p
@@ -267,6 +289,7 @@ outcome_plain begins m query New Shutdown d e o p h = plain_from _ o h.0 tt
 outcome_plain begins m query New (AtCursor q) d e o p h = plain_from _ o h.0 tt
 outcome_plain begins m query New (OfDocument q) d e o p h = plain_from _ o h.0 tt
 outcome_plain begins m query New (OfPaper q) d e o p h = plain_from _ o h.0 tt
+outcome_plain begins m query New (OfRun q) d e o p h = plain_from _ o h.0 tt
 outcome_plain begins m query New Unknown d e o p h = plain_from _ o h.0 tt
 outcome_plain begins m query ShutDown request d e o p h = plain_from _ o h.0 tt
 outcome_plain begins m query Ready Shutdown d e o p h = plain_from _ o h.0 refl
@@ -274,4 +297,12 @@ outcome_plain begins m query Ready Initialize d e o p h = plain_from _ o h.0 (p 
 outcome_plain begins m query Ready (AtCursor q) d e o p h = plain_from _ o h.0 (p (AtCursor q))
 outcome_plain begins m query Ready (OfDocument q) d e o p h = plain_from _ o h.0 (p (OfDocument q))
 outcome_plain begins m query Ready (OfPaper q) d e o p h = plain_from _ o h.0 (p (OfPaper q))
+outcome_plain begins m query Ready (OfRun q) d e o p h = plain_from _ o h.0 (p (OfRun q))
 outcome_plain begins m query Ready Unknown d e o p h = plain_from _ o h.0 (p Unknown)
+
+-- the same, by what is found out for it
+pub by_found_plain : {P : Type 0} (begins : Begins P) (shown : P → Shown) (request : Request) (m : Data) (d e : Server P) (o : Result Value RpcError) →
+    IsFoundOutcome begins shown d request m (outcome_of o) e → IsPlain o
+by_found_plain begins shown request m d e o h =
+    let units = counting_of d.counts_bytes in
+    outcome_plain begins m (λ r. answered h.0 units (shown d.paper) d.documents r m) d.phase request d e o (λ r. answered_plain h.0 units (shown d.paper) d.documents r m) h.1

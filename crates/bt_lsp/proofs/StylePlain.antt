@@ -28,18 +28,18 @@ renamed_plain : (c : Counting) (uri words : List ℕ) (at : Position) (new : Opt
 renamed_plain c uri words at None = refl
 renamed_plain c uri words at (Some new) = rename_plain c uri words at new
 
-said_at_plain : (query : CursorQuery) (c : Counting) (uri words : List ℕ) (at : Position) (m : Data) → has_float (said_at query c uri words at m) ≡ false
-said_at_plain Hover c uri words at m = hover_plain c words at
-said_at_plain Definition c uri words at m = definition_plain c uri words at
-said_at_plain References c uri words at m = references_plain c uri words at
-said_at_plain Rename c uri words at m = renamed_plain c uri words at (text_at (codes "/params/newName") m)
-said_at_plain NameRange c uri words at m = renamed_range_plain c words at
-said_at_plain Completion c uri words at m = completion_plain c words at
+said_at_plain : (notes : List ℕ) (query : CursorQuery) (c : Counting) (uri words : List ℕ) (at : Position) (m : Data) → has_float (said_at notes query c uri words at m) ≡ false
+said_at_plain notes Hover c uri words at m = hover_plain c words at notes
+said_at_plain notes Definition c uri words at m = definition_plain c uri words at
+said_at_plain notes References c uri words at m = references_plain c uri words at
+said_at_plain notes Rename c uri words at m = renamed_plain c uri words at (text_at (codes "/params/newName") m)
+said_at_plain notes NameRange c uri words at m = renamed_range_plain c words at
+said_at_plain notes Completion c uri words at m = completion_plain c words at
 
-pub style_at_plain : (query : CursorQuery) (d : Document) (at : Position) (m : Data) → has_float (style_answer_at query d at m) ≡ false
-style_at_plain query d at m =
-    none_or (nat_lt 1073741824 (length d.text)) (said_at query d.counting d.name d.text at m)
-    (said_at_plain query d.counting d.name d.text at m)
+pub style_at_plain : (notes : List ℕ) (query : CursorQuery) (d : Document) (at : Position) (m : Data) → has_float (style_answer_at notes query d at m) ≡ false
+style_at_plain notes query d at m =
+    none_or (nat_lt 1073741824 (length d.text)) (said_at notes query d.counting d.name d.text at m)
+    (said_at_plain notes query d.counting d.name d.text at m)
 
 said_of_plain : (query : DocumentQuery) (c : Counting) (words : List ℕ) → has_float (said_of query c words) ≡ false
 said_of_plain Outline c words = symbols_plain c words

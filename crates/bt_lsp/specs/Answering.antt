@@ -7,13 +7,16 @@ use Rattle.bt_documents.specs.declared.document.Document.{Document}
 use Rattle.bt_rpc.specs.declared.answers.RpcError.{RpcError}
 use Rattle.bt_rpc.specs.declared.answers.RpcError.TheVariants.{InvalidRequest, InvalidParams, MethodNotFound}
 use Rattle.bt_lsp.specs.declared.methods.Request.{Request}
-use Rattle.bt_lsp.specs.declared.methods.Request.TheVariants.{Initialize, Shutdown, AtCursor, OfDocument, OfPaper, Unknown}
+use Rattle.bt_lsp.specs.declared.methods.Request.TheVariants.{Initialize, Shutdown, AtCursor, OfDocument, OfPaper, OfRun, Unknown}
 use Rattle.bt_lsp.specs.declared.methods.CursorQuery.{CursorQuery}
 use Rattle.bt_lsp.specs.declared.methods.CursorQuery.TheVariants.{Hover, Definition, References, Rename, NameRange, Completion}
 use Rattle.bt_lsp.specs.declared.methods.DocumentQuery.{DocumentQuery}
 use Rattle.bt_lsp.specs.declared.methods.DocumentQuery.TheVariants.{Outline, Folds, Format, Actions, Links}
 use Rattle.bt_lsp.specs.declared.methods.PaperQuery.{PaperQuery}
 use Rattle.bt_lsp.specs.declared.methods.PaperQuery.TheVariants.{Bibliography, Log, Status, Symbols}
+use Rattle.bt_lsp.specs.declared.methods.RunQuery.{RunQuery}
+use Rattle.bt_lsp.specs.declared.methods.RunQuery.TheVariants.{Lenses, Origin}
+use Rattle.bt_lsp.specs.declared.found.Found.{Found}
 use Rattle.bt_lsp.specs.Shown.{Shown}
 use Rattle.bt_lsp.specs.Parameters.{place_of, document_of, text_at}
 use Rattle.bt_lsp.specs.Shapes.{shown_text, shown_status}
@@ -30,6 +33,7 @@ use Rattle.bt_lsp.specs.Actions.{actions}
 use Rattle.bt_lsp.specs.Entries.{is_style}
 use Rattle.bt_lsp.specs.Links.{links_of}
 use Rattle.bt_lsp.specs.Styles.{style_answer_at, style_answer_of}
+use Rattle.bt_lsp.specs.Lensing.{lens_values, origin_value}
 
 -- the outcome at a position of a document that is no style
 abbrev pub text_answer_at : Counting → Shown → List Document → CursorQuery → Document → Position → Data → Result Data RpcError
@@ -41,9 +45,9 @@ text_answer_at c shown docs NameRange d at m = name_range_at shown.files docs c 
 text_answer_at c shown docs Completion d at m = Ok (completion_at shown.files d at)
 
 -- the outcome at a position of a document
-abbrev pub answer_at : Counting → Shown → List Document → CursorQuery → Document → Position → Data → Result Data RpcError
-answer_at c shown docs query d at m =
-    if is_style d.name then Ok (style_answer_at query d at m) else text_answer_at c shown docs query d at m
+abbrev pub answer_at : Found → Counting → Shown → List Document → CursorQuery → Document → Position → Data → Result Data RpcError
+answer_at found c shown docs query d at m =
+    if is_style d.name then Ok (style_answer_at found.notes query d at m) else text_answer_at c shown docs query d at m
 
 -- the answer for a document that is no style
 abbrev pub text_answer_of : Shown → DocumentQuery → Document → Data → Data
@@ -65,20 +69,27 @@ paper_answer c shown docs Status m = shown_status shown.status
 paper_answer c shown docs Symbols m = symbols shown.files docs c m
 
 -- the outcome at a place, if the message has one
-abbrev pub at_place : Counting → Shown → List Document → CursorQuery → Data → Option (Document × Position) → Result Data RpcError
-at_place c shown docs query m None = Err InvalidParams
-at_place c shown docs query m (Some place) = answer_at c shown docs query place.0 place.1 m
+abbrev pub at_place : Found → Counting → Shown → List Document → CursorQuery → Data → Option (Document × Position) → Result Data RpcError
+at_place found c shown docs query m None = Err InvalidParams
+at_place found c shown docs query m (Some place) = answer_at found c shown docs query place.0 place.1 m
 
 -- the answer for a document, if the message names one that is open
 abbrev pub at_document : Shown → DocumentQuery → Data → Option Document → Result Data RpcError
 at_document shown query m None = Err InvalidParams
 at_document shown query m (Some d) = Ok (answer_of shown query d m)
 
--- the outcome of a request that changes nothing; the counting is for texts that no document holds open
-abbrev pub answered : Counting → Shown → List Document → Request → Data → Result Data RpcError
-answered c shown docs (AtCursor query) m = at_place c shown docs query m (place_of docs m)
-answered c shown docs (OfDocument query) m = at_document shown query m (document_of docs m)
-answered c shown docs (OfPaper query) m = Ok (paper_answer c shown docs query m)
-answered c shown docs Initialize m = Err InvalidRequest
-answered c shown docs Shutdown m = Err InvalidRequest
-answered c shown docs Unknown m = Err MethodNotFound
+-- the answer about the run, by what was found out for it
+abbrev pub run_answer : Found → RunQuery → Data
+run_answer found Lenses = lens_values found.lenses
+run_answer found Origin = origin_value found.origin
+
+-- The outcome of a request that changes nothing, by what was found out for it. The counting is for texts that no document
+-- holds open.
+abbrev pub answered : Found → Counting → Shown → List Document → Request → Data → Result Data RpcError
+answered found c shown docs (AtCursor query) m = at_place found c shown docs query m (place_of docs m)
+answered found c shown docs (OfDocument query) m = at_document shown query m (document_of docs m)
+answered found c shown docs (OfPaper query) m = Ok (paper_answer c shown docs query m)
+answered found c shown docs (OfRun query) m = Ok (run_answer found query)
+answered found c shown docs Initialize m = Err InvalidRequest
+answered found c shown docs Shutdown m = Err InvalidRequest
+answered found c shown docs Unknown m = Err MethodNotFound

@@ -5,9 +5,10 @@ use Rattle.bt_rpc.specs.declared.answers.RpcError.{RpcError}
 use Rattle.bt_rpc.specs.declared.answers.RpcError.TheVariants.{InvalidRequest, InternalError, ServerNotInitialized}
 use Rattle.bt_documents.specs.Documents.{AreGiven, any_behind, Follows}
 use Rattle.bt_lsp.specs.declared.methods.Request.{Request}
-use Rattle.bt_lsp.specs.declared.methods.Request.TheVariants.{Initialize, Shutdown, AtCursor, OfDocument, OfPaper, Unknown}
+use Rattle.bt_lsp.specs.declared.methods.Request.TheVariants.{Initialize, Shutdown, AtCursor, OfDocument, OfPaper, OfRun, Unknown}
 use Rattle.bt_lsp.specs.declared.methods.Notice.{Notice}
 use Rattle.bt_lsp.specs.declared.methods.Notice.TheVariants.{Opened, Changed, Closed, Saved, Exit, Other}
+use Rattle.bt_lsp.specs.declared.found.Found.{Found}
 use Rattle.bt_lsp.specs.declared.server.Phase.{Phase}
 use Rattle.bt_lsp.specs.declared.server.Phase.TheVariants.{New, Ready, ShutDown}
 use Rattle.bt_lsp.specs.declared.server.Duty.{Duty}
@@ -70,6 +71,7 @@ IsOutcome begins m query New Shutdown d outcome e = (outcome ≡ Err ServerNotIn
 IsOutcome begins m query New (AtCursor q) d outcome e = (outcome ≡ Err ServerNotInitialized) × (e ≡ d)
 IsOutcome begins m query New (OfDocument q) d outcome e = (outcome ≡ Err ServerNotInitialized) × (e ≡ d)
 IsOutcome begins m query New (OfPaper q) d outcome e = (outcome ≡ Err ServerNotInitialized) × (e ≡ d)
+IsOutcome begins m query New (OfRun q) d outcome e = (outcome ≡ Err ServerNotInitialized) × (e ≡ d)
 IsOutcome begins m query New Unknown d outcome e = (outcome ≡ Err ServerNotInitialized) × (e ≡ d)
 IsOutcome begins m query ShutDown request d outcome e = (outcome ≡ Err InvalidRequest) × (e ≡ d)
 IsOutcome begins m query Ready Shutdown d outcome e = (outcome ≡ Ok null) × (e ≡ record d { phase = ShutDown })
@@ -77,6 +79,7 @@ IsOutcome begins m query Ready Initialize d outcome e = (outcome ≡ query Initi
 IsOutcome begins m query Ready (AtCursor q) d outcome e = (outcome ≡ query (AtCursor q)) × (e ≡ d)
 IsOutcome begins m query Ready (OfDocument q) d outcome e = (outcome ≡ query (OfDocument q)) × (e ≡ d)
 IsOutcome begins m query Ready (OfPaper q) d outcome e = (outcome ≡ query (OfPaper q)) × (e ≡ d)
+IsOutcome begins m query Ready (OfRun q) d outcome e = (outcome ≡ query (OfRun q)) × (e ≡ d)
 IsOutcome begins m query Ready Unknown d outcome e = (outcome ≡ query Unknown) × (e ≡ d)
 
 -- What the editor is told: warnings if a message was lost or memory ran out for a text, and the diagnostics of each open
@@ -129,13 +132,20 @@ abbrev pub SettledIf : {P : Type 0} → (P → List ℕ → Option (List ℕ)) �
 SettledIf text shown false d m told e = (told ≡ []) × (e ≡ d)
 SettledIf text shown true d m told e = Carried text shown d Other m told e
 
--- A request: the news is told, and then it is answered. If there is no memory for the answer, that is the answer.
+-- the outcome of a request, by what is found out for it
+abbrev pub IsFoundOutcome : {P : Type 0} → Begins P → (P → Shown) → Server P → Request → Data → Result Data RpcError → Server P →
+    Type 0
+IsFoundOutcome begins shown d request m outcome e =
+    (found : Found) × IsOutcome begins m (λ r. answered found (counting_of d.counts_bytes) (shown d.paper) d.documents r m)
+    d.phase request d outcome e
+
+-- A request: the news is told, and then it is answered, by what is found out for it. If there is no memory for the answer,
+-- that is the answer.
 pub record Answered {P : Type 0} (begins : Begins P) (text : P → List ℕ → Option (List ℕ)) (shown : P → Shown) (d : Server P)
     (method : List ℕ) (m : Data) (outcome : Result Data RpcError) (told : List Data) (e : Server P) : Type 0 where
   pub settled : Server P
   pub told_first : SettledIf text shown (owes d.phase d.pending) d m told settled
-  pub answer : IsOutcome begins m (λ r. answered (counting_of settled.counts_bytes) (shown settled.paper) settled.documents r m)
-      settled.phase (request_of method) settled outcome e ⊎ ((outcome ≡ Err InternalError) × (e ≡ settled))
+  pub answer : IsFoundOutcome begins shown settled (request_of method) m outcome e ⊎ ((outcome ≡ Err InternalError) × (e ≡ settled))
 
 -- a notification by what the desk does with it
 abbrev pub ByDuty : {P : Type 0} → (P → List ℕ → Option (List ℕ)) → (P → Shown) → Duty → Server P → Notice → Data →

@@ -1,4 +1,5 @@
 pub mod Methods
+pub mod Lensing
 pub mod Parameters
 pub mod Words
 pub mod Changes

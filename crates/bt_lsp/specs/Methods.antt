@@ -1,10 +1,11 @@
 -- The methods that the desk knows.
 use Rattle.std.specs.Prelude.{ℕ, Bool, true, false, List, codes, bytes_eq, if◌then◌else◌}
 use Rattle.bt_lsp.specs.declared.methods.Request.{Request}
-use Rattle.bt_lsp.specs.declared.methods.Request.TheVariants.{Initialize, Shutdown, AtCursor, OfDocument, OfPaper, Unknown}
+use Rattle.bt_lsp.specs.declared.methods.Request.TheVariants.{Initialize, Shutdown, AtCursor, OfDocument, OfPaper, OfRun, Unknown}
 use Rattle.bt_lsp.specs.declared.methods.CursorQuery.TheVariants.{Hover, Definition, References, Rename, NameRange, Completion}
 use Rattle.bt_lsp.specs.declared.methods.DocumentQuery.TheVariants.{Outline, Folds, Format, Actions, Links}
 use Rattle.bt_lsp.specs.declared.methods.PaperQuery.TheVariants.{Bibliography, Log, Status, Symbols}
+use Rattle.bt_lsp.specs.declared.methods.RunQuery.TheVariants.{Lenses, Origin}
 use Rattle.bt_lsp.specs.declared.methods.Notice.{Notice}
 use Rattle.bt_lsp.specs.declared.methods.Notice.TheVariants.{Opened, Changed, Closed, Saved, Exit, Other}
 
@@ -27,7 +28,9 @@ request_of method =
     (if bytes_eq method (codes "bibtex/bbl") then OfPaper Bibliography else
     (if bytes_eq method (codes "bibtex/log") then OfPaper Log else
     (if bytes_eq method (codes "bibtex/status") then OfPaper Status else
-    (if bytes_eq method (codes "workspace/symbol") then OfPaper Symbols else Unknown))))))))))))))))
+    (if bytes_eq method (codes "workspace/symbol") then OfPaper Symbols else
+    (if bytes_eq method (codes "textDocument/codeLens") then OfRun Lenses else
+    (if bytes_eq method (codes "bibtex/origin") then OfRun Origin else Unknown))))))))))))))))))
 
 -- the notification of a method
 abbrev pub notice_of : List ℕ → Notice

@@ -57,17 +57,21 @@ sync_options =
     object (member (codes "change") (number (unsigned 2)) (member (codes "openClose") (boolean true)
     (member (codes "save") (boolean true) no_members)))
 
+-- how links and lenses are sent
+abbrev pub whole_options : Data
+whole_options = object (member (codes "resolveProvider") (boolean false) no_members)
+
 -- what the server can do
-abbrev pub abilities : List ℕ → Data → Data → Data → Data
-abilities encoding completion rename sync =
-    object (member (codes "codeActionProvider") (boolean true) (member (codes "completionProvider") completion
-    (member (codes "definitionProvider") (boolean true) (member (codes "documentFormattingProvider") (boolean true)
-    (member (codes "documentLinkProvider") (object (member (codes "resolveProvider") (boolean false) no_members))
+abbrev pub abilities : List ℕ → Data → Data → Data → Data → Data → Data
+abilities encoding completion rename sync links lenses =
+    object (member (codes "codeActionProvider") (boolean true) (member (codes "codeLensProvider") lenses
+    (member (codes "completionProvider") completion (member (codes "definitionProvider") (boolean true)
+    (member (codes "documentFormattingProvider") (boolean true) (member (codes "documentLinkProvider") links
     (member (codes "documentSymbolProvider") (boolean true) (member (codes "foldingRangeProvider") (boolean true)
     (member (codes "hoverProvider") (boolean true) (member (codes "positionEncoding") (string encoding)
     (member (codes "referencesProvider") (boolean true) (member (codes "renameProvider") rename
     (member (codes "textDocumentSync") sync (member (codes "workspaceSymbolProvider") (boolean true)
-    no_members)))))))))))))
+    no_members))))))))))))))
 
 -- the units in which positions count
 abbrev pub encoding_of : Bool → List ℕ
@@ -77,5 +81,5 @@ encoding_of counts_bytes = if counts_bytes then codes "utf-8" else codes "utf-16
 abbrev pub capabilities : Bool → Data
 capabilities counts_bytes =
     object (member (codes "capabilities")
-    (abilities (encoding_of counts_bytes) completion_options rename_options sync_options)
+    (abilities (encoding_of counts_bytes) completion_options rename_options sync_options whole_options whole_options)
     (member (codes "serverInfo") (object (member (codes "name") (string (codes "bibtex-lsp")) no_members)) no_members))

@@ -26,19 +26,19 @@ abbrev pub style_renamed : Counting → List ℕ → List ℕ → Position → O
 style_renamed c uri words at None = null
 style_renamed c uri words at (Some new) = rename_at c uri words at new
 
--- what is said of a position of a style's text
-abbrev pub said_at : CursorQuery → Counting → List ℕ → List ℕ → Position → Data → Data
-said_at Hover c uri words at m = hover_at c words at
-said_at Definition c uri words at m = definition_at c uri words at
-said_at References c uri words at m = references_at c uri words at
-said_at Rename c uri words at m = style_renamed c uri words at (text_at (codes "/params/newName") m)
-said_at NameRange c uri words at m = renamed_range_at c words at
-said_at Completion c uri words at m = completion_at c words at
+-- What is said of a position of a style's text. The notes are what was found out about the stack there.
+abbrev pub said_at : List ℕ → CursorQuery → Counting → List ℕ → List ℕ → Position → Data → Data
+said_at notes Hover c uri words at m = hover_at c words at notes
+said_at notes Definition c uri words at m = definition_at c uri words at
+said_at notes References c uri words at m = references_at c uri words at
+said_at notes Rename c uri words at m = style_renamed c uri words at (text_at (codes "/params/newName") m)
+said_at notes NameRange c uri words at m = renamed_range_at c words at
+said_at notes Completion c uri words at m = completion_at c words at
 
 -- the answer at a position of a style of at most 1 GiB
-abbrev pub style_answer_at : CursorQuery → Document → Position → Data → Data
-style_answer_at query d at m = if nat_lt 1073741824 (length d.text) then null
-    else said_at query d.counting d.name d.text at m
+abbrev pub style_answer_at : List ℕ → CursorQuery → Document → Position → Data → Data
+style_answer_at notes query d at m = if nat_lt 1073741824 (length d.text) then null
+    else said_at notes query d.counting d.name d.text at m
 
 -- what is said of a style's text
 abbrev pub said_of : DocumentQuery → Counting → List ℕ → Data

@@ -3,7 +3,7 @@
 ghost use Rattle.std.specs.Prelude.{◌≡◌, IfOk};
 ghost use Rattle.serde_json.specs.View.{view};
 ghost use Rattle.bt_talk.specs.Replies.{outcome_of};
-ghost use Rattle.bt_lsp.specs.Answering.{text_answer_at, answer_at, text_answer_of, answer_of, paper_answer, answered};
+ghost use Rattle.bt_lsp.specs.Answering.{text_answer_at, answer_at, text_answer_of, answer_of, paper_answer, run_answer, answered};
 
 use crate::actions::actions;
 use crate::completing::completion_at;
@@ -12,9 +12,11 @@ use crate::entries::is_style;
 use crate::finding::definition_at;
 use crate::folding::folds_of;
 use crate::formatting::formatted;
+use crate::found::Found;
 use crate::hover::hover_at;
+use crate::lensing::{lens_values, origin_value};
 use crate::links::links_of;
-use crate::methods::{CursorQuery, DocumentQuery, PaperQuery, Request};
+use crate::methods::{CursorQuery, DocumentQuery, PaperQuery, Request, RunQuery};
 use crate::outline::symbols_of;
 use crate::paper::Paper;
 use crate::parameters::{document_of, place_of, text_at};
@@ -76,6 +78,7 @@ fn text_answer_of<P: Paper>(
 
 fn answer_at<P: Paper>(
     alloc: Global,
+    found: &Found,
     paper: &P,
     editor: &Editor<'_>,
     query: CursorQuery,
@@ -83,11 +86,12 @@ fn answer_at<P: Paper>(
     at: Position,
     message: &Value,
 ) -> Result<Result<Value, RpcError>, AllocError>
-    ensures { IfOk result (λ o. outcome_of o ≡ answer_at editor.now.counting (P.shown paper.now) editor.now.documents.now query
+    ensures { IfOk result (λ o. outcome_of o ≡ answer_at found.now editor.now.counting (P.shown paper.now) editor.now.documents.now query
         document.now at (view message.now)) }
 {
     if is_style(document.name.as_slice()) {
-        Ok(Ok(style_answer_at(alloc, query, document, at, message)?))
+        let notes = found.notes.as_slice();
+        Ok(Ok(style_answer_at(alloc, notes, query, document, at, message)?))
     } else {
         text_answer_at(alloc, paper, editor, query, document, at, message)
     }
@@ -127,9 +131,21 @@ fn paper_answer<P: Paper>(
     }
 }
 
-/// The outcome of a request that changes nothing. `counting` is for texts that no document holds open.
+/// The answer about the run, by what was found out for it.
+fn run_answer(alloc: Global, found: &Found, query: RunQuery) -> Result<Value, AllocError>
+    ensures { IfOk result (λ v. view v ≡ run_answer found.now query) }
+{
+    match query {
+        RunQuery::Lenses => lens_values(alloc, found.lenses.as_slice()),
+        RunQuery::Origin => origin_value(alloc, found.origin.as_ref()),
+    }
+}
+
+/// The outcome of a request that changes nothing, by what was found out for it. `counting` is for texts that no document
+/// holds open.
 pub fn answered<P: Paper>(
     alloc: Global,
+    found: &Found,
     counting: Counting,
     paper: &P,
     documents: &[Document],
@@ -137,7 +153,7 @@ pub fn answered<P: Paper>(
     message: &Value,
 ) -> Result<Result<Value, RpcError>, AllocError>
     ensures { IfOk result (λ outcome. outcome_of outcome ≡
-        answered counting (P.shown paper.now) documents.now request (view message.now)) }
+        answered found.now counting (P.shown paper.now) documents.now request (view message.now)) }
 {
     let editor = Editor {
         documents,
@@ -145,7 +161,9 @@ pub fn answered<P: Paper>(
     };
     match request {
         Request::AtCursor(query) => match place_of(documents, message) {
-            Some(place) => answer_at(alloc, paper, &editor, query, place.0, place.1, message),
+            Some((document, at)) => {
+                answer_at(alloc, found, paper, &editor, query, document, at, message)
+            }
             None => Ok(Err(RpcError::InvalidParams)),
         },
         Request::OfDocument(query) => match document_of(documents, message) {
@@ -153,6 +171,7 @@ pub fn answered<P: Paper>(
             None => Ok(Err(RpcError::InvalidParams)),
         },
         Request::OfPaper(query) => Ok(Ok(paper_answer(alloc, paper, &editor, query, message)?)),
+        Request::OfRun(query) => Ok(Ok(run_answer(alloc, found, query)?)),
         Request::Initialize | Request::Shutdown => Ok(Err(RpcError::InvalidRequest)),
         Request::Unknown => Ok(Err(RpcError::MethodNotFound)),
     }

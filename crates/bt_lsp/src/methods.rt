@@ -11,6 +11,7 @@ pub enum Request {
     AtCursor(CursorQuery),
     OfDocument(DocumentQuery),
     OfPaper(PaperQuery),
+    OfRun(RunQuery),
     Unknown,
 }
 
@@ -43,6 +44,13 @@ pub enum PaperQuery {
     Log,
     Status,
     Symbols,
+}
+
+/// What is asked of the run's marked bytes.
+#[derive(Clone, Copy)]
+pub enum RunQuery {
+    Lenses,
+    Origin,
 }
 
 /// A notification by its method.
@@ -91,6 +99,8 @@ pub fn request_of(method: &str) -> Request
         "bibtex/log" => Request::OfPaper(PaperQuery::Log),
         "bibtex/status" => Request::OfPaper(PaperQuery::Status),
         "workspace/symbol" => Request::OfPaper(PaperQuery::Symbols),
+        "textDocument/codeLens" => Request::OfRun(RunQuery::Lenses),
+        "bibtex/origin" => Request::OfRun(RunQuery::Origin),
         _ => Request::Unknown,
     }
 }

@@ -1,8 +1,9 @@
 //! What the desk asks of a paper.
 
 use bt_documents::{Document, Files};
+use bt_lenses::{Lens, Origin};
 use bt_log::Message;
-use bt_text::Bytes;
+use bt_text::{Bytes, Sequence};
 use std::alloc::{AllocError, Global};
 
 /// A paper: a job with its files, each known to the editor by its URI, and the run over their present texts.
@@ -43,6 +44,17 @@ pub trait Paper: Files {
 
     fn status(&self) -> u8
         ensures { result ≡ (shown self.now).status };
+
+    /// What stands over lines of the file at a URI.
+    fn lenses(&self, alloc: Global, uri: &[u8]) -> Result<Sequence<Lens>, AllocError>;
+
+    /// Where the byte at this line and column of the bibliography comes from, both from 0. Its files are URIs.
+    fn origin(
+        &self,
+        alloc: Global,
+        line: usize,
+        column: usize,
+    ) -> Result<Option<Origin>, AllocError>;
 
     /// Whether a text that the editor opens has its file in Latin-1 on disk. No letter is lost then.
     fn is_latin(&self, alloc: Global, uri: &str, text: &str) -> Result<bool, AllocError>

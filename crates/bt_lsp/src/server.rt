@@ -3,7 +3,7 @@
 ghost use Rattle.std.specs.Prelude.{◌≡◌, map, IfOk, OnErr};
 ghost use Rattle.serde_json.specs.View.{view};
 ghost use Rattle.bt_talk.specs.Replies.{outcome_of};
-ghost use Rattle.bt_lsp.specs.Desk.{duty_of, IsBegun, IsOutcome, owes, SettledIf};
+ghost use Rattle.bt_lsp.specs.Desk.{duty_of, IsBegun, IsOutcome, IsFoundOutcome, owes, SettledIf};
 ghost use Rattle.bt_lsp.specs.Answering.{answered};
 ghost use Rattle.bt_lsp.specs.Parameters.{offers_bytes};
 ghost use Rattle.bt_lsp.specs.Words.{counting_of};
@@ -11,6 +11,7 @@ ghost use Rattle.bt_lsp.specs.Words.{counting_of};
 use crate::announcing::{Announced, announced_by};
 use crate::answering::answered;
 use crate::carrying::{carry, take_up};
+use crate::found::{Found, found_for};
 use crate::methods::{Notice, Request, notice_of, request_of};
 use crate::paper::Paper;
 use crate::parameters::{has_word_at, text_at};
@@ -138,14 +139,15 @@ fn begin<P: Paper>(
     Ok(Ok(answer))
 }
 
-fn outcome_for<P: Paper>(
+fn outcome_by<P: Paper>(
     alloc: Global,
+    found: &Found,
     server: &mut Server<P>,
     request: Request,
     message: &Value,
 ) -> Result<Result<Value, RpcError>, AllocError>
     ensures ok { IfOk result (λ outcome. IsOutcome P.begins (view message.now)
-        (λ r. answered (counting_of server.old.counts_bytes) (P.shown server.old.paper) server.old.documents r (view message.now))
+        (λ r. answered found.now (counting_of server.old.counts_bytes) (P.shown server.old.paper) server.old.documents r (view message.now))
         server.old.phase request server.old (outcome_of outcome) server.new) }
     ensures err { OnErr result (server.new ≡ server.old) }
 {
@@ -160,6 +162,7 @@ fn outcome_for<P: Paper>(
         (Phase::Ready, query) => {
             answered(
                 alloc,
+                found,
                 counting_of(server.counts_bytes),
                 &server.paper,
                 server.documents.as_slice(),
@@ -168,6 +171,23 @@ fn outcome_for<P: Paper>(
             )
         }
     }
+}
+
+/// The outcome of a request, by what is found out for it.
+fn outcome_for<P: Paper>(
+    alloc: Global,
+    server: &mut Server<P>,
+    request: Request,
+    message: &Value,
+) -> Result<Result<Value, RpcError>, AllocError>
+    ensures ok { IfOk result (λ outcome. IsFoundOutcome P.begins P.shown server.old request (view message.now)
+        (outcome_of outcome) server.new) }
+    ensures err { OnErr result (server.new ≡ server.old) }
+{
+    let counting = counting_of(server.counts_bytes);
+    let documents = server.documents.as_slice();
+    let found = found_for(alloc, counting, &server.paper, documents, request, message)?;
+    outcome_by(alloc, &found, server, request, message)
 }
 
 fn owes(phase: Phase, pending: bool) -> bool

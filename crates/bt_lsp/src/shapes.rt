@@ -2,7 +2,7 @@
 
 ghost use Rattle.std.specs.Prelude.{◌≡◌, map, IfOk};
 ghost use Rattle.serde_json.specs.View.{view};
-ghost use Rattle.bt_lsp.specs.Shapes.{diagnostic, published_params, published, hover, shown_text, shown_status, completion_options, rename_options, sync_options, abilities, encoding_of, capabilities};
+ghost use Rattle.bt_lsp.specs.Shapes.{diagnostic, published_params, published, hover, shown_text, shown_status, completion_options, rename_options, sync_options, whole_options, abilities, encoding_of, capabilities};
 
 use crate::words::{is_utf8, shown};
 use bt_diagnostics::Diagnostic;
@@ -92,14 +92,24 @@ fn sync_options(alloc: Global) -> Result<Value, AllocError>
     json!(in alloc; {"openClose": true, "change": 2, "save": true})
 }
 
+/// How links and lenses are sent: whole, so that the editor asks for no more of them.
+fn whole_options(alloc: Global) -> Result<Value, AllocError>
+    ensures { IfOk result (λ v. view v ≡ whole_options) }
+{
+    json!(in alloc; {"resolveProvider": false})
+}
+
 fn abilities(
     alloc: Global,
     encoding: &str,
     completion: Value,
     rename: Value,
     sync: Value,
+    links: Value,
+    lenses: Value,
 ) -> Result<Value, AllocError>
-    ensures { IfOk result (λ v. view v ≡ abilities encoding.now (view completion) (view rename) (view sync)) }
+    ensures { IfOk result (λ v. view v ≡ abilities encoding.now (view completion) (view rename) (view sync)
+        (view links) (view lenses)) }
 {
     json!(in alloc; {
         "positionEncoding": encoding,
@@ -110,11 +120,12 @@ fn abilities(
         "referencesProvider": true,
         "renameProvider": rename,
         "documentSymbolProvider": true,
-        "documentLinkProvider": {"resolveProvider": false},
+        "documentLinkProvider": links,
         "foldingRangeProvider": true,
         "documentFormattingProvider": true,
         "codeActionProvider": true,
-        "workspaceSymbolProvider": true
+        "workspaceSymbolProvider": true,
+        "codeLensProvider": lenses
     })
 }
 
@@ -131,6 +142,9 @@ pub fn capabilities(alloc: Global, counts_bytes: bool) -> Result<Value, AllocErr
     let completion = completion_options(alloc)?;
     let rename = rename_options(alloc)?;
     let sync = sync_options(alloc)?;
-    let able = abilities(alloc, encoding_of(counts_bytes), completion, rename, sync)?;
+    let links = whole_options(alloc)?;
+    let lenses = whole_options(alloc)?;
+    let encoding = encoding_of(counts_bytes);
+    let able = abilities(alloc, encoding, completion, rename, sync, links, lenses)?;
     json!(in alloc; {"capabilities": able, "serverInfo": {"name": "bibtex-lsp"}})
 }

@@ -51,18 +51,20 @@ fn style_renamed(
     }
 }
 
+/// What is said of a position. The notes are what was found out about the stack there.
 fn said_at(
     alloc: Global,
+    notes: &[u8],
     query: CursorQuery,
     style: &ShownStyle<'_>,
     at: Position,
     message: &Value,
 ) -> Result<Value, AllocError>
-    ensures { IfOk result (λ v. view v ≡ said_at query style.now.counting style.now.uri.now
+    ensures { IfOk result (λ v. view v ≡ said_at notes.now query style.now.counting style.now.uri.now
         style.now.text.now at (view message.now)) }
 {
     match query {
-        CursorQuery::Hover => style.hover_at(alloc, at),
+        CursorQuery::Hover => style.hover_at(alloc, at, notes),
         CursorQuery::Definition => style.definition_at(alloc, at),
         CursorQuery::References => style.references_at(alloc, at),
         CursorQuery::Rename => {
@@ -76,17 +78,18 @@ fn said_at(
 /// The answer at a position of a style.
 pub fn style_answer_at(
     alloc: Global,
+    notes: &[u8],
     query: CursorQuery,
     document: &Document,
     at: Position,
     message: &Value,
 ) -> Result<Value, AllocError>
-    ensures { IfOk result (λ v. view v ≡ style_answer_at query document.now at (view message.now)) }
+    ensures { IfOk result (λ v. view v ≡ style_answer_at notes.now query document.now at (view message.now)) }
 {
     if document.text.as_slice().len() > SHOWN_BYTES {
         return Ok(Value::Null);
     }
-    said_at(alloc, query, &shown_style(document), at, message)
+    said_at(alloc, notes, query, &shown_style(document), at, message)
 }
 
 fn said_of(alloc: Global, query: DocumentQuery, style: &ShownStyle<'_>) -> Result<Value, AllocError>

@@ -12,6 +12,7 @@ mod folders;
 mod giving;
 mod known;
 mod library;
+mod looking;
 mod open_files;
 mod session_paper;
 

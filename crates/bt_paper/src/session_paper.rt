@@ -11,9 +11,11 @@ use crate::folders::{Folder, path_of};
 use crate::giving::{give, taken};
 use crate::known::{Known, name_of};
 use crate::library::Library;
+use crate::looking::{lenses_at, origin_of};
 use crate::open_files::{add, is_among, reread};
 use bibtex::Session;
 use bt_documents::{Document, Files, Written};
+use bt_lenses::{Lens, Origin};
 use bt_log::Message;
 use bt_lsp::{Paper, fits_latin};
 use bt_text::{Bytes, Sequence};
@@ -210,6 +212,25 @@ impl<L: Library> Paper for SessionPaper<L> {
         match &self.session {
             Some(session) => session.status(),
             None => 0,
+        }
+    }
+
+    fn lenses(&self, alloc: Global, uri: &[u8]) -> Result<Sequence<Lens>, AllocError> {
+        match &self.session {
+            Some(session) => lenses_at(alloc, session, self.known.as_slice(), uri),
+            None => Ok(Sequence::new(alloc)),
+        }
+    }
+
+    fn origin(
+        &self,
+        alloc: Global,
+        line: usize,
+        column: usize,
+    ) -> Result<Option<Origin>, AllocError> {
+        match &self.session {
+            Some(session) => origin_of(alloc, session, self.known.as_slice(), line, column),
+            None => Ok(None),
         }
     }
 

@@ -24,6 +24,7 @@ use Rattle.bt_style_text.specs.Outline.{symbols_of}
 use Rattle.bt_style_text.specs.Completing.{offer_at, offered}
 use Rattle.bt_style_text.specs.Renaming.{rename}
 use Rattle.bt_style_text.specs.Hover.{hover_of}
+use Rattle.bt_effects.specs.Words.{with_notes}
 use Rattle.bt_style_answers.specs.References.{mark_location, maybe_location, definition_at, references_at}
 use Rattle.bt_style_answers.specs.Hovering.{shown_words, hover_at}
 use Rattle.bt_style_answers.specs.Outline.{symbol_of, symbols_in}
@@ -53,8 +54,8 @@ words_plain : (words : List ℕ) → has_float (shown_words words) ≡ false
 words_plain [] = refl
 words_plain (b ∷ words) = refl
 
-pub hover_plain : (c : Counting) (words : List ℕ) (at : Position) → has_float (hover_at c words at) ≡ false
-hover_plain c words at = words_plain (hover_of words (marks_of words) (offset_of c at words))
+pub hover_plain : (c : Counting) (words : List ℕ) (at : Position) (notes : List ℕ) → has_float (hover_at c words at notes) ≡ false
+hover_plain c words at notes = words_plain (with_notes (hover_of words (marks_of words) (offset_of c at words)) notes)
 
 -- ---- symbols and folds
 

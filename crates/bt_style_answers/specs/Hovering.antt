@@ -6,6 +6,7 @@ use Rattle.bt_positions.specs.declared.counting.Counting.{Counting}
 use Rattle.bt_positions.specs.declared.indexed_text.Position.{Position}
 use Rattle.bt_style_text.specs.Marks.{marks_of}
 use Rattle.bt_style_text.specs.Hover.{hover_of}
+use Rattle.bt_effects.specs.Words.{with_notes}
 use Rattle.bt_shapes.specs.Shapes.{text}
 
 -- words in Markdown
@@ -18,6 +19,6 @@ abbrev pub shown_words : List ℕ → Data
 shown_words [] = null
 shown_words (b ∷ words) = markdown (b ∷ words)
 
--- what is shown of the name at a position; null if there is nothing to say
-abbrev pub hover_at : Counting → List ℕ → Position → Data
-hover_at c words at = shown_words (hover_of words (marks_of words) (offset_of c at words))
+-- what is shown of the name at a position, and the notes below; null if there is nothing to say
+abbrev pub hover_at : Counting → List ℕ → Position → List ℕ → Data
+hover_at c words at notes = shown_words (with_notes (hover_of words (marks_of words) (offset_of c at words)) notes)

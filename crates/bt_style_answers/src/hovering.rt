@@ -5,6 +5,7 @@ ghost use Rattle.serde_json.specs.View.{view};
 ghost use Rattle.bt_style_answers.specs.Hovering.{markdown, shown_words, hover_at};
 
 use crate::shown_style::ShownStyle;
+use bt_effects::with_notes;
 use bt_positions::Position;
 use bt_shapes::shown;
 use bt_style_text::{hover_of, marks_of};
@@ -29,14 +30,15 @@ fn shown_words(alloc: Global, words: &[u8]) -> Result<Value, AllocError>
 }
 
 impl ShownStyle<'_> {
-    /// What is shown of the name at a position; null if there is nothing to say.
-    pub fn hover_at(&self, alloc: Global, at: Position) -> Result<Value, AllocError>
-        ensures { IfOk result (λ v. view v ≡ hover_at self.now.counting self.now.text.now at) }
+    /// What is shown of the name at a position, and the notes below; null if there is nothing to say.
+    pub fn hover_at(&self, alloc: Global, at: Position, notes: &[u8]) -> Result<Value, AllocError>
+        ensures { IfOk result (λ v. view v ≡ hover_at self.now.counting self.now.text.now at notes.now) }
     {
         let text = self.text.as_slice();
         let place = self.text.offset_of(self.counting, at);
         let marks = marks_of(alloc, text)?;
-        let words = hover_of(alloc, text, marks.as_slice(), place)?;
+        let said = hover_of(alloc, text, marks.as_slice(), place)?;
+        let words = with_notes(alloc, said.as_slice(), notes)?;
         let value = shown_words(alloc, words.as_slice())?;
         Ok(value)
     }

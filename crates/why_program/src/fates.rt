@@ -1,97 +1,11 @@
-//! What became of an entry's fields.
+//! What became of an entry's fields, in the report.
 
 use crate::options::Format;
-use crate::places::PlacedField;
 use crate::report::Report;
-use crate::sources::decimal;
-use bt_bib::Entry;
-use bt_text::eq_ignore_ascii_case;
-use bt_why::{Rerun, Written};
+use bt_origins::{Fate, decimal};
 use std::alloc::AllocError;
 
-/// What becomes of a field.
-#[derive(Clone, Copy, PartialEq, Eq)]
-pub enum Fate {
-    Written,
-    /// A step read it, and no byte of it was written.
-    Read,
-    NeverRead,
-}
-
 impl<'a> Report<'a> {
-    /// Whether a byte of a line comes from a field of an entry.
-    fn is_from(&self, line: &[Written], key: &[u8], name: &[u8]) -> Result<bool, AllocError> {
-        let mut last = None;
-        for written in line {
-            let mark = written.marked.mark;
-            if last != Some(mark) && self.sources.is_from(mark, key, name)? {
-                return Ok(true);
-            }
-            last = Some(mark);
-        }
-        Ok(false)
-    }
-
-    fn is_written(&self, key: &[u8], name: &[u8]) -> Result<bool, AllocError> {
-        for step in &self.sources.explained.steps {
-            for line in &step.left.lines {
-                if self.is_from(line.as_slice(), key, name)? {
-                    return Ok(true);
-                }
-            }
-        }
-        Ok(false)
-    }
-
-    /// Whether a step pushed a field.
-    fn has_read(&self, step: &Rerun, name: &[u8]) -> bool {
-        step.left.fields.iter().any(|field| eq_ignore_ascii_case(
-            self.sources.field_name(*field),
-            name,
-        ))
-    }
-
-    fn is_read(&self, key: &[u8], name: &[u8]) -> Result<bool, AllocError> {
-        let sources = self.sources;
-        for (number, step) in sources.explained.steps.iter().enumerate() {
-            if self.has_read(step, name)
-                && let Some(own) = sources.key(number)
-                && sources.has_from(own, name, key)?
-            {
-                return Ok(true);
-            }
-        }
-        Ok(false)
-    }
-
-    fn fate(&self, key: &[u8], name: &[u8]) -> Result<Fate, AllocError> {
-        if self.is_written(key, name)? {
-            Ok(Fate::Written)
-        } else if self.is_read(key, name)? {
-            Ok(Fate::Read)
-        } else {
-            Ok(Fate::NeverRead)
-        }
-    }
-
-    /// The entry's fields of a fate.
-    fn fields_of(&self, key: &[u8], fate: Fate) -> Result<Vec<PlacedField<'a>>, AllocError> {
-        let mut fields = Vec::new(self.sources.alloc);
-        let Some(place) = self.sources.places.entry(key)? else {
-            return Ok(fields);
-        };
-        let entry: &'a Entry = place.entry;
-        for field in entry.fields.as_slice() {
-            let name = field.name.as_slice();
-            if let Some(placed) = place.field(name)
-                && self.fate(key, name)? == fate
-            {
-                fields.push(placed)?;
-            }
-        }
-        Ok(fields)
-    }
-
     fn add_fates(
         &mut self,
         key: &[u8],
@@ -99,7 +13,7 @@ impl<'a> Report<'a> {
         heading: &'static [u8],
     ) -> Result<(), AllocError> {
         let mut between: &'static [u8] = heading;
-        for placed in self.fields_of(key, fate)? {
+        for placed in self.sources.fields_of(key, fate)? {
             let name = placed.field.name.as_slice();
             if self.format == Format::Json {
                 self.add_json_fate(name, placed.file, placed.line, fate)?;

@@ -1,9 +1,8 @@
 //! The report as JSON, an object a line.
 
-use crate::fates::Fate;
 use crate::report::Report;
-use crate::sources::decimal;
 use bt_log::{Message, Said};
+use bt_origins::{Fate, decimal};
 use bt_text::Bytes;
 use bt_why::{Mark, Piece, Site, Source, Written, line_bytes};
 use std::alloc::AllocError;

@@ -1,22 +1,18 @@
 //! The program `bibtex-why`, which says where the lines of a bibliography come from.
 #![tactic(auto)]
 
-mod explained;
 mod fates;
 mod json;
 mod options;
-mod places;
 mod report;
-mod sources;
 
-use crate::explained::{Difference, Explained, explain};
 use crate::options::{Options, Question, Request, parse};
-use crate::places::Places;
 use crate::report::Report;
-use crate::sources::Sources;
-use bt_job::{File, text_of};
-use bt_log::{FileNote, Message, Said};
-use bt_run::{Run, database_of};
+use bt_job::File;
+use bt_origins::{
+    Difference, Explained, NamedText, Places, Sources, explain, places_of, style_named, text_named,
+};
+use bt_run::Run;
 use bt_search::{FILES_WANTED, Script, Search, words};
 use bt_style::{Style, StyleRefusal, read_style};
 use bt_text::Bytes;
@@ -53,40 +49,16 @@ which fields aren't in the bibliography. Without LINE or KEY it shows all lines.
 Exit status: 0 if the place was explained, 1 if there is no such line or entry, 2 if the job can't
 be run or explained, or if the command line is wrong.";
 
-/// The name and the number of a database that a message is about.
-fn database_in(message: &Message) -> Option<&[u8]> {
-    match &message.said {
-        Said::OfFile {
-            note: FileNote::DatabaseFile(_),
-            file,
-        } => Some(file.as_slice()),
-        _ => None,
+/// The job's files by their names.
+fn named<'a>(alloc: Global, files: &'a [File]) -> Result<Vec<NamedText<'a>>, AllocError> {
+    let mut all = Vec::new(alloc);
+    for file in files {
+        all.push(NamedText {
+            name: file.name.as_slice(),
+            text: file.text.as_slice(),
+        })?;
     }
-}
-
-fn style_in(message: &Message) -> Option<&[u8]> {
-    match &message.said {
-        Said::OfFile {
-            note: FileNote::StyleFile,
-            file,
-        } => Some(file.as_slice()),
-        _ => None,
-    }
-}
-
-/// The places of all entries in the databases, in the order in which the run read them.
-fn places_of<'a>(alloc: Global, files: &'a [File], run: &'a Run) -> Result<Places<'a>, AllocError> {
-    let mut places = Places::new(alloc);
-    let databases = run.readings.databases.as_slice();
-    for message in run.answers.messages.as_slice() {
-        if let Some(name) = database_in(message)
-            && let Some(text) = text_of(files, name)
-            && let Some(database) = database_of(databases, text)
-        {
-            places.add(name, &*database.items)?;
-        }
-    }
-    Ok(places)
+    Ok(all)
 }
 
 /// A run, and its style with the name of its file.
@@ -198,7 +170,7 @@ fn answer_with(
 ) -> Result<Printed, AllocError> {
     let sources = Sources {
         alloc,
-        run: styled.run,
+        kept: &styled.run.kept,
         style: styled.style,
         style_name: styled.name,
         explained,
@@ -214,7 +186,14 @@ fn explain_with(
     places: &Places<'_>,
     options: Options<'_>,
 ) -> Result<Printed, AllocError> {
-    match explain(alloc, styled.style, program, styled.run)? {
+    let run = styled.run;
+    match explain(
+        alloc,
+        styled.style,
+        program,
+        &run.kept,
+        run.answers.bbl.as_slice(),
+    )? {
         Ok(explained) => answer_with(alloc, styled, &explained, places, options),
         Err(difference) => differs(alloc, difference),
     }
@@ -222,7 +201,7 @@ fn explain_with(
 
 fn explain_run(
     alloc: Global,
-    files: &[File],
+    files: &[NamedText<'_>],
     run: &Run,
     style: &Style,
     name: &[u8],
@@ -231,7 +210,8 @@ fn explain_run(
 ) -> Result<Printed, AllocError> {
     let styled = Styled { run, style, name };
     let program = Program::of(alloc, style, text)?;
-    let places = places_of(alloc, files, run)?;
+    let messages = run.answers.messages.as_slice();
+    let places = places_of(alloc, files, messages, run.readings.databases.as_slice())?;
     explain_with(alloc, styled, &program, &places, options)
 }
 
@@ -242,10 +222,12 @@ fn explain_job(
     run: &Run,
     options: Options<'_>,
 ) -> Result<Option<Printed>, AllocError> {
-    let Some(name) = run.answers.messages.as_slice().iter().find_map(style_in) else {
+    let files = named(alloc, files)?;
+    let files = files.as_slice();
+    let Some(name) = style_named(run.answers.messages.as_slice()) else {
         return Ok(None);
     };
-    let Some(text) = text_of(files, name) else {
+    let Some(text) = text_named(files, name) else {
         return Ok(None);
     };
     match read_style(alloc, text) {

@@ -1,10 +1,9 @@
 //! The report for people.
 
-use crate::explained::Explained;
 use crate::options::Format;
-use crate::sources::{Sources, decimal};
 use bt_bib::Entry;
 use bt_log::{Message, Rank, Said};
+use bt_origins::{Explained, Sources, decimal};
 use bt_run::Step;
 use bt_style::{Builtin, Target};
 use bt_text::Bytes;

@@ -9,13 +9,13 @@ use Rattle.bibtex.specs.declared.edit.Refusal.{Refusal}
 use Rattle.bibtex.specs.Headline.{AnswersInTurn, ReportsInTurn, after_answers}
 use Rattle.bibtex.specs.laws.Order.{AreAlike, ComeToTheSame}
 
--- Where each name stands once among the texts of a state, it does so after each edit.
+-- If each name has one text in a state, it has one after each edit.
 abbrev pub NamesStandOnce : Type 0
 NamesStandOnce = (e : Edit) (s t : State) → EachOnce s.texts → applied e s ≡ Ok t → EachOnce t.texts
 
--- The order in which the present texts were first written is never seen. Two states with the same texts in
--- whatever order mean the same, an edit between two such pairs reports the same, and each list of edits may be
--- answered in the one as in the other, and leaves states with the same texts again.
+-- The order in which the present texts were first written is never seen. Two states with the same texts, in whatever
+-- order, mean the same. An edit reports the same in both, each list of edits can be answered in one as in the other,
+-- and afterwards both have the same texts again.
 pub record OrderIsNeverSeen : Type 0 where
   pub shown : (s t : State) → AreAlike s t → shown s ≡ shown t
   pub reported : (s t s' t' : State) → AreAlike s t → AreAlike s' t' → reported s s' ≡ reported t t'

@@ -1,8 +1,6 @@
 use Rattle.std.proofs.Common.{refl}
 use Rattle.serde_json.specs.View.{view}
-use Rattle.bt_lsp.specs.Answering.{answered}
-use Rattle.bt_lsp.specs.Words.{counting_of}
-use Rattle.bt_lsp.proofs.PlainLemmas.{answered_plain, outcome_plain}
+use Rattle.bt_lsp.proofs.PlainLemmas.{by_found_plain}
 use Rattle.bt_lsp.proofs.CarriedLemmas.{answered_so, answered_late, settled_notes}
 use Rattle.bt_lsp.proofs.server.ServerDesk.answer.Goals as goal
 
@@ -12,12 +10,7 @@ returns-in-Ok-clause-ok g c =
 
 pub returns-in-Ok-clause-plain : goal.returns-in-Ok-clause-plain
 returns-in-Ok-clause-plain g c =
-    let d = c.settle-notes.new.server in
-    let m = view c.args.message.now in
-    let shown = g.P.Paper.shown d.paper in
-    let units = counting_of d.counts_bytes in
-    outcome_plain g.P.Paper.begins m (λ r. answered units shown d.documents r m) d.phase c.request_of.result d c.outcome_for.new.server c.in-Ok.outcome
-    (λ r. answered_plain units shown d.documents r m) c.in-Ok.ensures.ok
+    by_found_plain g.P.Paper.begins g.P.Paper.shown c.request_of.result (view c.args.message.now) c.settle-notes.new.server c.outcome_for.new.server c.in-Ok.outcome c.in-Ok.ensures.ok
 
 pub returns-in-Ok-clause-notes : goal.returns-in-Ok-clause-notes
 returns-in-Ok-clause-notes g c = settled_notes _ _ _ _ _ _ _ c.settle-notes.ensures

@@ -1,8 +1,8 @@
 //! Marks in words.
 
-use crate::explained::{Explained, line_of};
+use crate::explained::{Explained, line_of, place_of};
 use crate::places::{PlacedField, Places};
-use bt_run::{Run, Step};
+use bt_run::{Kept, Step};
 use bt_style::{Action, Builtin, Style};
 use bt_text::{Bytes, Shared, eq_ignore_ascii_case};
 use bt_why::{Mark, Site, Source};
@@ -17,7 +17,7 @@ pub fn decimal(alloc: Global, number: usize) -> Result<Bytes, AllocError> {
 #[derive(Clone, Copy)]
 pub struct Sources<'a> {
     pub alloc: Global,
-    pub run: &'a Run,
+    pub kept: &'a Kept,
     pub style: &'a Style,
     /// The name of the style's file.
     pub style_name: &'a [u8],
@@ -34,7 +34,7 @@ fn is_key(own: Option<&[u8]>, key: &[u8]) -> bool {
 
 impl<'a> Sources<'a> {
     pub fn step(self, number: usize) -> Option<&'a Step> {
-        let steps: &'a [Shared<Step>] = self.run.kept.steps.as_slice();
+        let steps: &'a [Shared<Step>] = self.kept.steps.as_slice();
         Some(&**steps.get(number)?)
     }
 
@@ -47,6 +47,11 @@ impl<'a> Sources<'a> {
         }
     }
 
+    /// The place in the list of a step's entry.
+    pub fn entry_place(self, step: usize) -> Option<usize> {
+        place_of(self.kept, step)
+    }
+
     /// Whether a step is for the entry with this key.
     pub fn is_of(self, step: usize, key: &[u8]) -> bool {
         match self.key(step) {
@@ -57,8 +62,7 @@ impl<'a> Sources<'a> {
 
     /// Whether the list has an entry of this key.
     pub fn has_key(self, key: &[u8]) -> bool {
-        let run: &'a Run = self.run;
-        run.kept
+        self.kept
             .entries
             .as_slice()
             .iter()

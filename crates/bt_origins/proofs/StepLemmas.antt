@@ -8,7 +8,7 @@ use Rattle.bt_run.specs.Steps.{StepsAre}
 use Rattle.bt_run.specs.Work.{IsStep}
 use Rattle.bt_why.specs.declared.rerun.Rerun.{Rerun}
 use Rattle.bt_why.specs.Erased.{Effect, rerun_effect}
-use Rattle.why_program.specs.Steps.{AreMeant, effect_in, step_effect}
+use Rattle.bt_origins.specs.Steps.{AreMeant, effect_in, step_effect}
 
 steps_meant : (p : Program) (steps : List Step) → All (IsStep p) steps →
     map step_effect steps ≡ map (λ (s : Step). effect_in p s.input) steps

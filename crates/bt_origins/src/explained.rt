@@ -1,11 +1,11 @@
 //! The marked run of a job, held against the run that wrote the bibliography.
 
 ghost use Rattle.std.specs.Prelude.{◌≡◌, ◌++◌, ◌∷◌, [], map, IfOk, IsNone};
+ghost use Rattle.bt_origins.specs.Steps.{AreMeant, step_effect};
 ghost use Rattle.bt_why.specs.Erased.{rerun_effect, steps_bytes};
 ghost use Rattle.bt_why.specs.Named.{AllRight};
-ghost use Rattle.why_program.specs.Steps.{AreMeant, step_effect};
 
-use bt_run::{Run, Step};
+use bt_run::{Kept, Step};
 use bt_style::Style;
 use bt_text::Shared;
 use bt_why::{Given, Line, Machine, Rerun, are_lines_of, are_right};
@@ -39,12 +39,12 @@ impl<'a> Explained<'a> {
         alloc: Global,
         style: &'a Style,
         program: &'a Program,
-        run: &'a Run,
+        kept: &'a Kept,
     ) -> Result<Explained<'a>, AllocError>
         ensures { IfOk result (λ explained. explained.steps.items ≡ []) }
     {
         Ok(Explained {
-            machine: Machine::new(alloc, style, program, run.kept.entries.as_slice())?,
+            machine: Machine::new(alloc, style, program, kept.entries.as_slice())?,
             steps: Vec::new(alloc),
         })
     }
@@ -53,14 +53,14 @@ impl<'a> Explained<'a> {
     fn rerun(
         &mut self,
         number: usize,
-        run: &'a Run,
+        kept: &'a Kept,
         step: &'a Step,
     ) -> Result<Option<Rerun>, AllocError>
         ensures { self.new.steps ≡ self.old.steps }
     {
         let given = Given {
             target: step.input.target,
-            entry: place_of(run, number),
+            entry: place_of(kept, number),
             line: line_of(self.machine.style, step.command),
             preamble: step.input.preamble.as_slice(),
         };
@@ -75,13 +75,13 @@ impl<'a> Explained<'a> {
     fn step(
         &mut self,
         number: usize,
-        run: &'a Run,
+        kept: &'a Kept,
         step: &'a Step,
     ) -> Result<Option<Difference>, AllocError>
         ensures { IfOk result (λ difference. IsNone difference →
             map rerun_effect self.new.steps.items ≡ map rerun_effect self.old.steps.items ++ step_effect step.now ∷ []) }
     {
-        let Some(rerun) = self.rerun(number, run, step)? else {
+        let Some(rerun) = self.rerun(number, kept, step)? else {
             return Ok(Some(Difference::TooMuch));
         };
         if !rerun.is_outcome(self.machine.alloc, &step.outcome, step.cost)? {
@@ -103,9 +103,9 @@ impl<'a> Explained<'a> {
     }
 }
 
-/// The place of a step's entry.
-fn place_of(run: &Run, step: usize) -> Option<usize> {
-    *run.kept.places.as_slice().get(step)?
+/// The place in the list of a step's entry.
+pub fn place_of(kept: &Kept, step: usize) -> Option<usize> {
+    *kept.places.as_slice().get(step)?
 }
 
 /// The line of a command.
@@ -121,15 +121,15 @@ fn explain_steps<'a>(
     alloc: Global,
     style: &'a Style,
     program: &'a Program,
-    run: &'a Run,
+    kept: &'a Kept,
 ) -> Result<Result<Explained<'a>, Difference>, AllocError>
     ensures { IfOk result (λ told. IfOk told (λ explained.
-        map rerun_effect explained.steps.items ≡ map step_effect run.now.kept.steps)) }
+        map rerun_effect explained.steps.items ≡ map step_effect kept.now.steps)) }
 {
-    let steps: &'a [Shared<Step>] = run.kept.steps.as_slice();
-    let mut explained = Explained::new(alloc, style, program, run)?;
+    let steps: &'a [Shared<Step>] = kept.steps.as_slice();
+    let mut explained = Explained::new(alloc, style, program, kept)?;
     'steps: for (number, step) in steps.iter().enumerate() {
-        if let Some(difference) = explained.step(number, run, step)? {
+        if let Some(difference) = explained.step(number, kept, step)? {
             return Ok(Err(difference));
         }
     }
@@ -155,29 +155,29 @@ fn find_difference(
     Ok(None)
 }
 
-/// Explains a run. Without marks, what its marked run left and cost is, step by step, what the run left and cost, and so
-/// what the definition of a step gives; its lines are the bibliography, byte for byte. Each byte is the one that its mark
-/// names.
+/// Explains a run by the steps that it kept, and its bibliography. Without marks, what its marked run left and cost is,
+/// step by step, what the run left and cost, and so what the definition of a step gives; its lines are the bibliography,
+/// byte for byte. Each byte is the one that its mark names.
 pub fn explain<'a>(
     alloc: Global,
     style: &'a Style,
     program: &'a Program,
-    run: &'a Run,
+    kept: &'a Kept,
+    bbl: &[u8],
 ) -> Result<Result<Explained<'a>, Difference>, AllocError>
     ensures steps { IfOk result (λ told. IfOk told (λ explained.
-        map rerun_effect explained.steps.items ≡ map step_effect run.now.kept.steps)) }
+        map rerun_effect explained.steps.items ≡ map step_effect kept.now.steps)) }
     ensures meaning { IfOk result (λ told. IfOk told (λ explained.
-        AreMeant run.now.kept.text run.now.kept.steps explained.steps.items)) }
-    ensures lines { IfOk result (λ told. IfOk told (λ explained.
-        steps_bytes explained.steps.items ≡ run.now.answers.bbl)) }
+        AreMeant kept.now.text kept.now.steps explained.steps.items)) }
+    ensures lines { IfOk result (λ told. IfOk told (λ explained. steps_bytes explained.steps.items ≡ bbl.now)) }
     ensures bytes { IfOk result (λ told. IfOk told (λ explained.
         AllRight explained.machine explained.steps.items)) }
 {
-    let explained = match explain_steps(alloc, style, program, run)? {
+    let explained = match explain_steps(alloc, style, program, kept)? {
         Ok(explained) => explained,
         Err(difference) => return Ok(Err(difference)),
     };
-    match find_difference(alloc, &explained, run.answers.bbl.as_slice())? {
+    match find_difference(alloc, &explained, bbl)? {
         Some(difference) => Ok(Err(difference)),
         None => Ok(Ok(explained)),
     }

@@ -1,0 +1,123 @@
+//! Over a function of a style: how many pieces of the bibliography were pushed while it ran, and in how many entries.
+
+use crate::ran::Lens;
+use bt_origins::{Sources, decimal};
+use bt_text::{Bytes, Sequence};
+use bt_why::{Piece, pieces};
+use bt_words::Program;
+use indexmap::IndexSet;
+use std::alloc::AllocError;
+
+/// What a function wrote.
+#[derive(Drop)]
+struct Share {
+    pieces: usize,
+    /// The number of the last piece that was counted: a function that calls itself through others counts once.
+    last: usize,
+    /// The places of the entries in the list.
+    entries: IndexSet<usize>,
+}
+
+fn shares_of(sources: Sources<'_>, program: &Program) -> Result<Vec<Share>, AllocError> {
+    let mut shares = Vec::new(sources.alloc);
+    for _ in 0..program.function_count {
+        shares.push(Share {
+            pieces: 0,
+            last: 0,
+            entries: IndexSet::new(sources.alloc),
+        })?;
+    }
+    Ok(shares)
+}
+
+impl Share {
+    fn count(&mut self, number: usize, entry: Option<usize>) -> Result<(), AllocError> {
+        if self.last == number {
+            return Ok(());
+        }
+        self.last = number;
+        self.pieces = self.pieces.saturating_add(1);
+        if let Some(entry) = entry {
+            self.entries.insert_full(entry)?;
+        }
+        Ok(())
+    }
+}
+
+/// Counts a piece for each function that ran when it was pushed. Pieces are numbered from 1.
+fn count_piece(
+    sources: Sources<'_>,
+    shares: &mut Vec<Share>,
+    number: usize,
+    piece: Piece,
+) -> Result<(), AllocError> {
+    let Some(mark) = sources.mark(piece.mark) else {
+        return Ok(());
+    };
+    let entry = match sources.step_of(mark.site) {
+        Some(step) => sources.entry_place(step),
+        None => None,
+    };
+    for (function, _) in sources.calls(mark.site)? {
+        if let Some(share) = shares.get_mut(function) {
+            share.count(number, entry)?;
+        }
+    }
+    Ok(())
+}
+
+fn counted(sources: Sources<'_>, program: &Program) -> Result<Vec<Share>, AllocError> {
+    let mut shares = shares_of(sources, program)?;
+    let mut number = 0usize;
+    for line in &sources.explained.lines()? {
+        let marks = &sources.explained.machine.marks;
+        for piece in pieces(sources.alloc, marks, line.as_slice(), false)? {
+            number = number.saturating_add(1);
+            count_piece(sources, &mut shares, number, piece)?;
+        }
+    }
+    Ok(shares)
+}
+
+/// Appends a number and what is counted.
+fn add_count(
+    sources: Sources<'_>,
+    words: &mut Bytes,
+    count: usize,
+    one: &'static [u8],
+    many: &'static [u8],
+) -> Result<(), AllocError> {
+    let number = decimal(sources.alloc, count)?;
+    words.append(number.as_slice())?;
+    words.append(if count == 1 { one } else { many })
+}
+
+fn words_of(sources: Sources<'_>, share: &Share) -> Result<Bytes, AllocError> {
+    let mut words = Bytes::copied(sources.alloc, b"writes ")?;
+    add_count(sources, &mut words, share.pieces, b" piece", b" pieces")?;
+    let entries = share.entries.len();
+    if entries > 0 {
+        words.append(b" in ")?;
+        add_count(sources, &mut words, entries, b" entry", b" entries")?;
+    }
+    Ok(words)
+}
+
+/// Over each function that wrote something.
+pub fn function_lenses(
+    sources: Sources<'_>,
+    program: &Program,
+) -> Result<Sequence<Lens>, AllocError> {
+    let mut lenses = Sequence::new(sources.alloc);
+    let shares = counted(sources, program)?;
+    for (function, share) in shares.iter().enumerate() {
+        let line = program.lines.get(function).copied().unwrap_or(0);
+        if share.pieces > 0 {
+            lenses.push(Lens {
+                line: line.saturating_sub(1),
+                words: words_of(sources, share)?,
+            })?;
+        }
+    }
+    Ok(lenses)
+}
